@@ -1,0 +1,45 @@
+-- The advice that goes with each outcome of a message.
+use Rattle.std.specs.Prelude.{Option, Some, None, option_map}
+use Rattle.bx_advice.specs.declared.error.Error.{Error}
+use Rattle.bx_advice.specs.declared.error.Error.TheVariants.{UnknownMetaChannel, SecondHandshake, UnsupportedVersion, NoSupportedConnectionType, TooManySessions, NoClientId, UnknownClient, UnknownConnectionType, InvalidChannel, InvalidPattern, TooManyPatterns, SubscriptionDenied, MissingSubscription, MissingData, SupersededConnect, QueueOverflow}
+use Rattle.bx_advice.specs.declared.config.Config.{Config}
+use Rattle.bx_advice.specs.declared.advice.Advice.{Advice}
+use Rattle.bx_advice.specs.declared.advice.Reconnect.{Reconnect}
+use Rattle.bx_advice.specs.declared.advice.Reconnect.TheVariants.{Retry, Handshake, Never}
+use Rattle.bx_advice.specs.declared.advice.Case.{Case}
+use Rattle.bx_advice.specs.declared.advice.Case.TheVariants.{Opened, Connected, Disconnected, Done, Failed}
+
+-- connect again
+abbrev pub retry : Config → Advice
+retry c = record { interval = c.interval; reconnect = Retry; timeout = Some c.timeout }
+
+-- do this in place of a connect
+abbrev pub instead : Config → Reconnect → Advice
+instead c reconnect = record { interval = c.interval; reconnect = reconnect; timeout = None }
+
+-- After an error: a new handshake where the session is gone, can't go on or found no room; nothing more where this client can't be served; else no advice.
+abbrev pub reconnect_of : Error → Option Reconnect
+reconnect_of UnknownMetaChannel = None
+reconnect_of SecondHandshake = None
+reconnect_of UnsupportedVersion = Some Never
+reconnect_of NoSupportedConnectionType = Some Never
+reconnect_of TooManySessions = Some Handshake
+reconnect_of NoClientId = Some Handshake
+reconnect_of UnknownClient = Some Handshake
+reconnect_of UnknownConnectionType = None
+reconnect_of InvalidChannel = None
+reconnect_of InvalidPattern = None
+reconnect_of TooManyPatterns = None
+reconnect_of SubscriptionDenied = None
+reconnect_of MissingSubscription = None
+reconnect_of MissingData = None
+reconnect_of SupersededConnect = None
+reconnect_of QueueOverflow = Some Handshake
+
+-- the advice that goes with each case
+abbrev pub advice_of : Config → Case → Option Advice
+advice_of c Opened = Some (retry c)
+advice_of c Connected = Some (retry c)
+advice_of c Disconnected = Some (instead c Never)
+advice_of c Done = None
+advice_of c (Failed error) = option_map (instead c) (reconnect_of error)

@@ -1,0 +1,91 @@
+ghost use Rattle.std.specs.Prelude.{◌≡◌, ◌≤◌, ◌↔◌, IsSome, IfSome};
+
+/// The most bytes that the body of a request, or its query, may have.
+pub const BODY_LIMIT: usize = 1_048_576;
+
+/// The most shards that sessions may be placed in.
+pub const MAX_SHARDS: usize = 64;
+
+/// The greatest moment, in milliseconds, that a request or a tick may have: 2^62.
+pub const MAX_MOMENT: u64 = 4_611_686_018_427_387_904;
+
+/// The most entries that the list of entries may have: 2^62.
+pub const MAX_LENGTH: u64 = 4_611_686_018_427_387_904;
+
+/// The server's limits, which [`STANDARD_LIMITS`] sets.
+#[derive(Clone, Copy, Debug, PartialEq, Eq)]
+pub struct Limits {
+    /// The most events that may wait for a session, given ones that are not acknowledged included.
+    pub events: usize,
+    /// The most patterns that may be in force for a session.
+    pub patterns: usize,
+    /// The most events that one connect is given.
+    pub batch: usize,
+    /// The most sessions that may be live.
+    pub sessions: usize,
+    /// The most texts that the `subscription` of one message may have.
+    pub texts: usize,
+}
+
+/// The limits of this server.
+pub const STANDARD_LIMITS: Limits = Limits {
+    events: 1024,
+    patterns: 1024,
+    batch: 256,
+    sessions: 65_536,
+    texts: 64,
+};
+
+/// How the server is run. Times are in milliseconds.
+#[derive(Clone, Copy, Debug)]
+pub struct Config {
+    /// Into how many shards the sessions are placed: 1 to [`MAX_SHARDS`].
+    pub shards: usize,
+    /// How long a connect may be held, and the advised timeout.
+    pub timeout: u32,
+    /// The advised interval between connects.
+    pub interval: u32,
+    /// How long a session lives after its last accepted message and that message's hold.
+    pub max_interval: u32,
+    pub limits: Limits,
+    pub ghost some_shard: { 1 ≤ shards },
+    pub ghost shards_in_range: { shards ≤ 64 },
+}
+
+impl Config {
+    /// The configuration with these settings and the standard limits; none where `shards` is not 1
+    /// to [`MAX_SHARDS`].
+    pub fn new(shards: usize, timeout: u32, interval: u32, max_interval: u32) -> Option<Config>
+        ensures valid { IsSome result ↔ ((1 ≤ shards) × (shards ≤ 64)) }
+        ensures shards { IfSome result (λ c. c.shards ≡ shards) }
+        ensures times { IfSome result (λ c.
+            (c.timeout ≡ timeout) × (c.interval ≡ interval) × (c.max_interval ≡ max_interval)) }
+        ensures limits { IfSome result (λ c. c.limits ≡ STANDARD_LIMITS) }
+    {
+        if shards == 0 || shards > MAX_SHARDS {
+            return None;
+        }
+        Some(Config {
+            shards,
+            timeout,
+            interval,
+            max_interval,
+            limits: STANDARD_LIMITS,
+        })
+    }
+}
+
+#[cfg(test)]
+mod tests {
+    use super::*;
+    use std::test::Fail;
+
+    #[test]
+    fn shards_are_1_to_64(rt: HostRuntime) -> Result<(), Fail> {
+        for (shards, is_valid) in [(0, false), (1, true), (64, true), (65, false)] {
+            let config = Config::new(shards, 30_000, 0, 10_000);
+            assert_eq!(rt; config.is_some(), is_valid, "{shards} shards");
+        }
+        Ok(())
+    }
+}

@@ -1,0 +1,11 @@
+//! The server's limits and configuration, the errors that a reply can carry, and the advice that
+//! goes with each outcome.
+#![tactic(auto)]
+
+mod advice;
+mod config;
+mod error;
+
+pub use advice::{Advice, Case, Reconnect, advice_for};
+pub use config::{BODY_LIMIT, Config, Limits, MAX_LENGTH, MAX_MOMENT, MAX_SHARDS, STANDARD_LIMITS};
+pub use error::Error;

@@ -1,0 +1,30 @@
+/// What a message is for, by its channel: one of the five meta messages of Bayeux 1.0, a publish, or
+/// a message to a meta channel that is not known. It names the column of the table of members that
+/// a reply has.
+#[derive(Clone, Copy, Debug, PartialEq, Eq)]
+pub enum Column {
+    Handshake,
+    Connect,
+    Subscribe,
+    Unsubscribe,
+    Disconnect,
+    /// A message to a channel outside `/meta/`.
+    Publish,
+    /// A message to another channel that begins with `/meta/`.
+    UnknownMeta,
+}
+
+impl Column {
+    /// The column of a message to this channel, which need not read as a channel name.
+    pub fn of(channel: &str) -> Column {
+        match channel {
+            "/meta/handshake" => Column::Handshake,
+            "/meta/connect" => Column::Connect,
+            "/meta/subscribe" => Column::Subscribe,
+            "/meta/unsubscribe" => Column::Unsubscribe,
+            "/meta/disconnect" => Column::Disconnect,
+            _ if channel.starts_with("/meta/") => Column::UnknownMeta,
+            _ => Column::Publish,
+        }
+    }
+}

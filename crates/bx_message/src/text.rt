@@ -1,0 +1,97 @@
+//! Texts that messages, events and replies share.
+ghost use Rattle.std.specs.Prelude.{◌≡◌, IfOk, string_bytes};
+
+use std::alloc::{AllocError, Global};
+use std::marker::Model;
+use std::sync::ArcStr;
+
+/// A text. Contracts see it as its bytes, which are UTF-8. A clone shares them.
+#[derive(Drop)]
+pub struct Text {
+    text: ArcStr,
+}
+
+impl Model for Text {
+    ghost use Rattle.std.specs.Prelude.{List, ℕ};
+    ghost use Rattle.std.specs.Arc.{arc_str_bytes};
+
+    ghost Value = { List ℕ };
+
+    ghost view = { λ t. arc_str_bytes t.text };
+}
+
+impl Text {
+    /// A copy of `text`.
+    pub fn new(alloc: Global, text: &str) -> Result<Text, AllocError>
+        ensures { IfOk result (λ t. t ≡ text.now) }
+    {
+        let text = ArcStr::from_str(alloc, text)?;
+        Ok(Text { text })
+    }
+
+    /// The text that `text` has, without a copy.
+    pub fn from_string(text: String) -> Result<Text, AllocError>
+        ensures { IfOk result (λ t. t ≡ string_bytes text) }
+    {
+        let text = ArcStr::from_string(text)?;
+        Ok(Text { text })
+    }
+
+    /// The text itself.
+    pub fn as_str(&self) -> &str
+        ensures { result.now ≡ self.now }
+    {
+        self.text.as_str()
+    }
+}
+
+impl Clone for Text {
+    ghost is_clone = { λ old copy. copy ≡ old };
+
+    fn clone(&self) -> Result<Text, AllocError> {
+        let text = self.text.clone()?;
+        Ok(Text { text })
+    }
+}
+
+/// A JSON value as its sender wrote it, byte for byte. Contracts see it as its bytes. A clone shares
+/// them.
+#[derive(Drop)]
+pub struct RawJson {
+    text: ArcStr,
+}
+
+impl Model for RawJson {
+    ghost use Rattle.std.specs.Prelude.{List, ℕ};
+    ghost use Rattle.std.specs.Arc.{arc_str_bytes};
+
+    ghost Value = { List ℕ };
+
+    ghost view = { λ t. arc_str_bytes t.text };
+}
+
+impl RawJson {
+    /// A copy of `json`, the text of a JSON value.
+    pub fn new(alloc: Global, json: &str) -> Result<RawJson, AllocError>
+        ensures { IfOk result (λ t. t ≡ json.now) }
+    {
+        let text = ArcStr::from_str(alloc, json)?;
+        Ok(RawJson { text })
+    }
+
+    /// The sender's text.
+    pub fn as_str(&self) -> &str
+        ensures { result.now ≡ self.now }
+    {
+        self.text.as_str()
+    }
+}
+
+impl Clone for RawJson {
+    ghost is_clone = { λ old copy. copy ≡ old };
+
+    fn clone(&self) -> Result<RawJson, AllocError> {
+        let text = self.text.clone()?;
+        Ok(RawJson { text })
+    }
+}
