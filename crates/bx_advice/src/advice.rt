@@ -63,10 +63,8 @@ fn reconnect_after(error: Error) -> Option<Reconnect>
     ensures { result ≡ reconnect_of error }
 {
     match error {
-        Error::NoClientId
-        | Error::UnknownClient
-        | Error::QueueOverflow
-        | Error::TooManySessions => Some(Reconnect::Handshake),
+        Error::NoClientId | Error::UnknownClient | Error::QueueOverflow | Error::TooManySessions =>
+            Some(Reconnect::Handshake),
         Error::UnsupportedVersion | Error::NoSupportedConnectionType => Some(Reconnect::Never),
         _ => None,
     }

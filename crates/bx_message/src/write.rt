@@ -10,6 +10,7 @@ use std::alloc::{AllocError, Global};
 
 // Both are this server's, in every reply to a handshake. (Bayeux 1.0, section 4.1.2.)
 const SUPPORTED_TYPES: &str = "[\"long-polling\",\"callback-polling\"]";
+
 const VERSION: &str = "1.0";
 
 /// A reply as a JSON object: the members `advice`, `channel`, `clientId`, `error`, `ext`, `id`,

@@ -1,0 +1,115 @@
+//! A run of the server over a script.
+ghost use Rattle.std.specs.Prelude.{◌≤◌};
+
+use crate::line::{LineBuffer, Step};
+use crate::reply::{Outcome, answer};
+use bx_advice::Config;
+use bx_world::World;
+use std::alloc::{AllocError, AllocFailed, Global};
+use std::fmt;
+use std::io;
+use std::io::{BufRead, ErrorKind, Write};
+
+/// How often it is read at most: 2^40 times.
+const MAX_READS: u64 = 1_099_511_627_776;
+
+/// Why a run ended early. What was written then is how the right output begins.
+#[derive(Clone, Copy, Debug, PartialEq, Eq)]
+pub enum ReplayFault {
+    /// Memory was refused.
+    Memory,
+    /// A read failed.
+    Read,
+    /// A write failed.
+    Write,
+}
+
+/// Writes what the server answers to each line that it reads, numbered from 1.
+pub fn replay<R: BufRead, W: Write>(
+    alloc: Global,
+    config: Config,
+    _workers: usize,
+    reader: &mut R,
+    writer: &mut W,
+) -> Result<(), ReplayFault>
+    requires some_worker { 1 ≤ _workers }
+    requires workers_in_range { _workers ≤ 16 }
+{
+    let mut world = World::new(alloc, config);
+    let mut buffer = LineBuffer::new(alloc);
+    let mut number = 0u64;
+    for _ in 0..MAX_READS {
+        match buffer
+            .read_step(reader)
+            .map_err(|error| ReplayFault::of_read(&error))?
+        {
+            Step::More => {}
+            Step::Complete => {
+                number = number.saturating_add(1);
+                let outcome = answer(alloc, &mut world, buffer.line())?;
+                write_outcome(writer, number, &outcome)
+                    .map_err(|error| ReplayFault::of_write(&error))?;
+                buffer.clear();
+            }
+            Step::End => {
+                return writer
+                    .flush()
+                    .map_err(|error| ReplayFault::of_write(&error));
+            }
+        }
+    }
+    Err(ReplayFault::Read)
+}
+
+fn write_outcome<W: Write>(writer: &mut W, number: u64, outcome: &Outcome) -> io::Result<()> {
+    match outcome {
+        Outcome::Bad => writeln!(writer, "{number} bad"),
+        Outcome::Refused(status) => writeln!(writer, "{number} {status}"),
+        Outcome::Response(body) => {
+            write!(writer, "{number} 200 ")?;
+            writer.write_all(body.as_slice())?;
+            writer.write_all(b"\n")
+        }
+    }
+}
+
+impl ReplayFault {
+    /// What a failed read comes to.
+    pub fn of_read(error: &io::Error) -> ReplayFault {
+        match error.kind() {
+            ErrorKind::OutOfMemory => ReplayFault::Memory,
+            _ => ReplayFault::Read,
+        }
+    }
+
+    /// What a failed write comes to.
+    pub fn of_write(error: &io::Error) -> ReplayFault {
+        match error.kind() {
+            ErrorKind::OutOfMemory => ReplayFault::Memory,
+            _ => ReplayFault::Write,
+        }
+    }
+}
+
+impl fmt::Display for ReplayFault {
+    fn fmt<W: fmt::Write>(&self, f: &mut fmt::Formatter<W>) -> fmt::Result {
+        let text = match self {
+            ReplayFault::Memory => "out of memory",
+            ReplayFault::Read => "read fault",
+            ReplayFault::Write => "write fault",
+        };
+        f.write_str(text)
+    }
+}
+
+impl From<AllocError> for ReplayFault {
+    fn from(_error: AllocError) -> ReplayFault {
+        ReplayFault::Memory
+    }
+}
+
+impl<T: Drop> From<AllocFailed<T>> for ReplayFault {
+    fn from(_error: AllocFailed<T>) -> ReplayFault {
+        ReplayFault::Memory
+    }
+}

@@ -1,0 +1,77 @@
+-- How far the parts of a JSON text reach, on its bytes. What is no JSON text is cut too, to no purpose.
+use Rattle.std.specs.Prelude.{◌≡◌, ◌≤◌, length, ℕ, ◌+◌, ◌-◌, ◌==◌, ◌||◌, List, [], ◌∷◌, take, drop, Bool, false, not, cond, Option, Some, None, option_map, option_and_then}
+use Rattle.std.specs.List.{prefix_len}
+use Rattle.std.specs.Str.{IsCharBoundary}
+use Rattle.json.specs.Word.{is_operator, is_space}
+use Rattle.json.specs.Lex.{in_string}
+use Rattle.json.specs.Align.{span}
+use Rattle.json.specs.Ascii as ascii
+
+-- without the white space in front
+abbrev pub past_blank : List ℕ → List ℕ
+past_blank t = drop (prefix_len is_space t) t
+
+abbrev pub is_word_byte : ℕ → Bool
+is_word_byte x = not (is_operator x || is_space x)
+
+abbrev pub opens : ℕ → Bool
+opens x = (x == ascii.open_brace) || (x == ascii.open_bracket)
+
+abbrev pub closes : ℕ → Bool
+closes x = (x == ascii.close_brace) || (x == ascii.close_bracket)
+
+pub data Scan : Type 0 where
+  outside : Scan
+  quoted : Scan
+  escaped : Scan
+
+-- how many bytes reach up to and with the bracket that closes what was opened before them, with `depth` more brackets open
+unfoldable pub nest_len : Scan → ℕ → List ℕ → ℕ
+nest_len m depth [] = 0
+nest_len outside depth (x ∷ xs) =
+    1 + cond (x == ascii.quote) (nest_len quoted depth xs) (cond (opens x) (nest_len outside (depth + 1) xs) (cond (closes x) (cond (depth == 0) 0 (nest_len outside (depth - 1) xs)) (nest_len outside depth xs)))
+nest_len quoted depth (x ∷ xs) = 1 + cond (x == ascii.quote) (nest_len outside depth xs) (cond (x == ascii.backslash) (nest_len escaped depth xs) (nest_len quoted depth xs))
+nest_len escaped depth (x ∷ xs) = 1 + nest_len quoted depth xs
+
+-- how long the value is that a text begins with: a string, an array or an object, or a number or a literal
+unfoldable pub value_len : List ℕ → ℕ
+value_len [] = 0
+value_len (x ∷ xs) = cond (x == ascii.quote) (1 + span in_string xs) (cond (opens x) (1 + nest_len outside 0 xs) (prefix_len is_word_byte (x ∷ xs)))
+
+-- ---- taking a text apart, from its front on; each pair ends with what is left
+
+abbrev pub begins_with : ℕ → List ℕ → Bool
+begins_with b [] = false
+begins_with b (x ∷ xs) = x == b
+
+-- what follows the byte b, where a text begins with it
+unfoldable pub after_first : ℕ → List ℕ → Option (List ℕ)
+after_first b t = cond (begins_with b t) (Some (drop 1 t)) None
+
+-- what follows the byte b, where it is next after white space
+abbrev pub past_byte : ℕ → List ℕ → Option (List ℕ)
+past_byte b t = after_first b (past_blank t)
+
+-- the value that is next after white space
+unfoldable pub split_value : List ℕ → Option (List ℕ × List ℕ)
+split_value t = cond (value_len (past_blank t) == 0) None (Some (take (value_len (past_blank t)) (past_blank t), drop (value_len (past_blank t)) (past_blank t)))
+
+-- a key, with its quotes, and the text of its value
+abbrev pub Member : Type 0
+Member = List ℕ × List ℕ
+
+abbrev pub with_value : List ℕ → Option (List ℕ × List ℕ) → Option (Member × List ℕ)
+with_value key v = option_map (λ p. ((key, p.0), p.1)) v
+
+abbrev pub after_key : List ℕ × List ℕ → Option (Member × List ℕ)
+after_key p = cond (begins_with ascii.quote p.0) (option_and_then (λ r. with_value p.0 (split_value r)) (past_byte ascii.colon p.1)) None
+
+-- the member that is next after white space
+unfoldable pub split_member : List ℕ → Option (Member × List ℕ)
+split_member t = option_and_then after_key (split_value t)
+
+-- what is left of a text is its back
+pub record IsRest (rest text : List ℕ) : Type 0 where
+  pub within : length rest ≤ length text
+  pub same : rest ≡ drop (length text - length rest) text
+  pub boundary : IsCharBoundary text (length text - length rest)

@@ -1,0 +1,4 @@
+pub mod Bodies
+pub mod Cut
+pub mod Views
+pub mod Strings

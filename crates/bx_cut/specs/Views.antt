@@ -1,0 +1,7 @@
+-- What the types of the code stand for.
+use Rattle.std.specs.Prelude.{ℕ, List}
+use Rattle.bx_cut.specs.Cut as cut
+use Rattle.bx_cut.specs.declared.split.Member.{Member}
+
+abbrev pub member_view : Member → cut.Member
+member_view m = (m.key.now, m.value.now)

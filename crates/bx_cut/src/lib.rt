@@ -1,0 +1,17 @@
+//! Cutting request bodies into messages, and messages into members, without copying a byte.
+#![tactic(auto)]
+
+mod bodies;
+mod document;
+mod error;
+mod scan;
+mod split;
+mod string;
+#[cfg(test)]
+mod tests;
+
+pub use bodies::Bodies;
+pub use document::{Document, MAX_MESSAGES, Piece};
+pub use error::CutError;
+pub use split::{Elements, elements_of, member_of};
+pub use string::{spells, text_of};

@@ -1,0 +1,110 @@
+// Taking a text apart, from its front on.
+ghost use Rattle.std.specs.Prelude.{◌≡◌, ◌<◌, length, option_map, IfSome};
+ghost use Rattle.bx_cut.specs.Cut.{past_blank, past_byte, split_value, split_member, IsRest};
+ghost use Rattle.bx_cut.specs.Views.{member_view};
+
+use crate::scan::{after_first, begins_with, blank_len, value_len};
+use crate::string::spells;
+
+// A member of an object, as its text has it.
+#[derive(Clone, Copy, Debug, Drop)]
+pub(crate) struct Member<'a> {
+    // With its quotes.
+    pub(crate) key: &'a str,
+    pub(crate) value: &'a str,
+}
+
+pub(crate) fn past_blank(text: &str) -> &str
+    ensures value { result.now ≡ past_blank text.now }
+    ensures rest { IsRest result.now text.now }
+{
+    text.split_at(blank_len(text)).1
+}
+
+// What follows `byte`, where it is next after white space.
+pub(crate) fn past(text: &str, byte: u8) -> Option<&str>
+    requires { byte < 128 }
+    ensures value { option_map (λ rest. rest.now) result ≡ past_byte byte text.now }
+    ensures rest { IfSome result (λ rest. IsRest rest.now text.now) }
+    ensures shorter { IfSome result (λ rest. length rest.now < length text.now) }
+{
+    after_first(past_blank(text), byte)
+}
+
+// The value that is next after white space, and what follows it.
+#[tactic(auto, unfolding(crate::specs::Cut::split_value))]
+fn split_value(text: &str) -> Option<(&str, &str)>
+    ensures value { option_map (λ parts. (parts.0.now, parts.1.now)) result
+        ≡ split_value text.now }
+    ensures rest { IfSome result (λ parts. IsRest parts.1.now text.now) }
+    ensures shorter { IfSome result (λ parts. length parts.1.now < length text.now) }
+{
+    let text = past_blank(text);
+    let len = value_len(text);
+    if len == 0 {
+        None
+    } else {
+        Some(text.split_at(len))
+    }
+}
+
+// The member that is next after white space, and what follows it.
+#[tactic(auto, unfolding(crate::specs::Cut::split_member))]
+pub(crate) fn split_member(text: &str) -> Option<(Member<'_>, &str)>
+    ensures value { option_map (λ parts. (member_view parts.0, parts.1.now)) result
+        ≡ split_member text.now }
+    ensures rest { IfSome result (λ parts. IsRest parts.1.now text.now) }
+    ensures shorter { IfSome result (λ parts. length parts.1.now < length text.now) }
+{
+    let (key, rest) = split_value(text)?;
+    if !begins_with(key, b'"') {
+        return None;
+    }
+    let (value, rest) = split_value(past(rest, b':')?)?;
+    Some((Member { key, value }, rest))
+}
+
+/// The text of the value of the last member of `object` whose key, unescaped, is `name`. `object`
+/// is the text of a JSON value, as `Piece::member` gives it; none is found in what is no object.
+pub fn member_of<'a>(object: &'a str, name: &str) -> Option<&'a str> {
+    let mut rest = past(object, b'{')?;
+    let mut found = None;
+    while let Some((member, after)) = split_member(rest) {
+        if spells(member.key, name) {
+            found = Some(member.value);
+        }
+        let Some(next) = past(after, b',') else {
+            break;
+        };
+        rest = next;
+    }
+    found
+}
+
+/// The texts of an array's elements, in order, with no white space round them.
+#[derive(Clone, Copy, Debug, Drop)]
+pub struct Elements<'a> {
+    rest: &'a str,
+}
+
+/// The elements of `array`, the text of a JSON value, in order; none of what is no array.
+pub fn elements_of(array: &str) -> Elements<'_> {
+    Elements {
+        rest: past(array, b'[').unwrap_or(""),
+    }
+}
+
+impl<'a> Iterator for Elements<'a> {
+    type Item = &'a str;
+
+    ghost use Rattle.std.specs.Prelude.{length};
+    ghost use Rattle.std.specs.Iterator.{at_most};
+
+    ghost remaining = { λ s. at_most (length s.rest.now) };
+
+    fn next(&mut self) -> Option<&'a str> {
+        let (element, after) = split_value(self.rest)?;
+        self.rest = past(after, b',').unwrap_or("");
+        Some(element)
+    }
+}

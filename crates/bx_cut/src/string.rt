@@ -1,0 +1,156 @@
+// What a JSON string spells.
+ghost use Rattle.std.specs.Prelude.{◌≡◌, ◌+◌, ◌-◌, ◌<◌, ◌≤◌, length, slice_index, IfSome};
+ghost use Rattle.bx_cut.specs.Strings.{IsShorter};
+
+use crate::scan::{after_first, begins_with, plain_len};
+use std::alloc::{AllocError, Global};
+
+// What follows the plain bytes of a string.
+enum Part<'a> {
+    End,
+    // A character that an escape stands for, and what follows the escape.
+    Escape(char, &'a str),
+    Fault,
+}
+
+// The number that the four hexadecimal digits from `at` on spell.
+fn unit_at(text: &[u8], at: usize) -> Option<u32>
+    requires { at + 4 ≤ length text.now }
+    ensures bound { IfSome result (λ unit. unit < 65536) }
+    ensures ascii { IfSome result (λ _. slice_index text.now (at + 3) < 128) }
+{
+    let a = digit(text[at])?;
+    let b = digit(text[at + 1])?;
+    let c = digit(text[at + 2])?;
+    let d = digit(text[at + 3])?;
+    Some(a * 4096 + b * 256 + c * 16 + d)
+}
+
+fn digit(byte: u8) -> Option<u32>
+    ensures { IfSome result (λ digit. (digit < 16) × (byte < 128)) }
+{
+    (byte as char).to_digit(16)
+}
+
+fn short_escape(letter: u8) -> Option<char>
+    ensures { IfSome result (λ _. letter < 128) }
+{
+    match letter {
+        b'"' | b'\\' | b'/' => Some(letter as char),
+        b'b' => Some('\u{8}'),
+        b'f' => Some('\u{c}'),
+        b'n' => Some('\n'),
+        b'r' => Some('\r'),
+        b't' => Some('\t'),
+        _ => None,
+    }
+}
+
+// The character that a high surrogate and the escape in front of `text` make.
+fn with_low_half(high: u32, text: &[u8]) -> Option<char>
+    requires high { (0xd800 ≤ high) × (high < 0xdc00) }
+    requires long { 6 ≤ length text.now }
+    ensures ascii { IfSome result (λ _. slice_index text.now 5 < 128) }
+{
+    if text[0] != b'\\' || text[1] != b'u' {
+        return None;
+    }
+    let low = unit_at(text, 2)?;
+    if low < 0xdc00 || low >= 0xe000 {
+        return None;
+    }
+    char::from_u32(0x10000 + (high - 0xd800) * 1024 + (low - 0xdc00))
+}
+
+// The character that a backslash and the front of `text` stand for, and how long that front is.
+fn escape(text: &[u8]) -> Option<(char, usize)>
+    ensures { IfSome result (λ e. (0 < e.1) × (e.1 ≤ length text.now) × (slice_index text.now (e.1 - 1) < 128)) }
+{
+    if text.is_empty() {
+        return None;
+    }
+    if text[0] != b'u' {
+        return Some((short_escape(text[0])?, 1));
+    }
+    if text.len() < 5 {
+        return None;
+    }
+    let unit = unit_at(text, 1)?;
+    if unit < 0xd800 || unit >= 0xdc00 {
+        return Some((char::from_u32(unit)?, 5));
+    }
+    if text.len() < 11 {
+        return None;
+    }
+    Some((with_low_half(unit, &text[5..])?, 11))
+}
+
+fn next_part(text: &str) -> Part<'_>
+    ensures { IsShorter result text.now }
+{
+    if begins_with(text, b'"') {
+        return Part::End;
+    }
+    let Some(rest) = after_first(text, b'\\') else {
+        return Part::Fault;
+    };
+    match escape(rest.as_bytes()) {
+        Some((c, len)) => Part::Escape(c, rest.split_at(len).1),
+        None => Part::Fault,
+    }
+}
+
+// What follows `front` in `text`, where it begins with it.
+fn without<'a>(text: &'a [u8], front: &[u8]) -> Option<&'a [u8]> {
+    if text.starts_with(front) {
+        Some(&text[front.len()..])
+    } else {
+        None
+    }
+}
+
+/// Whether the JSON value is the string that spells `text`. It takes no memory.
+pub fn spells(value: &str, text: &str) -> bool {
+    let Some(mut rest) = after_first(value, b'"') else {
+        return false;
+    };
+    let mut wanted = text.as_bytes();
+    loop {
+        let (run, after) = rest.split_at(plain_len(rest));
+        let Some(left) = without(wanted, run.as_bytes()) else {
+            return false;
+        };
+        match next_part(after) {
+            Part::End => return left.is_empty(),
+            Part::Escape(c, next) => {
+                let mut buffer = [0; 4];
+                let Some(left) = without(left, c.encode_utf8(&mut buffer).as_bytes()) else {
+                    return false;
+                };
+                wanted = left;
+                rest = next;
+            }
+            Part::Fault => return false,
+        }
+    }
+}
+
+/// The unescaped text of a JSON value that is a string, and none of any other.
+pub fn text_of(alloc: Global, value: &str) -> Result<Option<String>, AllocError> {
+    let mut text = String::new(alloc);
+    let Some(mut rest) = after_first(value, b'"') else {
+        return Ok(None);
+    };
+    loop {
+        let (run, after) = rest.split_at(plain_len(rest));
+        text.push_str(run)?;
+        match next_part(after) {
+            Part::End => return Ok(Some(text)),
+            Part::Escape(c, next) => {
+                text.push(c)?;
+                rest = next;
+            }
+            Part::Fault => return Ok(None),
+        }
+    }
+}

@@ -1,0 +1,26 @@
+-- In which shard a session stands, by its number and the number of shards.
+use Rattle.std.specs.Prelude.{ℕ, ◌%◌, ◌<◌, ◌≤◌, List, [], ◌∷◌, length, slice_index}
+use Rattle.std.proofs.Common.{arith}
+use Rattle.std.proofs.Math.Nat.{mod-lt}
+
+-- sessions in turn
+abbrev pub by_remainder : ℕ → ℕ → ℕ
+by_remainder number shards = number % shards
+
+-- all sessions in the first shard
+abbrev pub all_first : ℕ → ℕ → ℕ
+all_first number shards = 0
+
+-- sessions by a table, over and over; with an empty one all stand in the first shard
+abbrev pub by_table : List ℕ → ℕ → ℕ → ℕ
+by_table [] number shards = 0
+by_table (x ∷ xs) number shards = slice_index (x ∷ xs) (number % length (x ∷ xs)) % shards
+
+-- ---- each names one of the shards
+
+pub by_remainder-below : (number shards : ℕ) → 1 ≤ shards → by_remainder number shards < shards
+by_remainder-below number shards some = mod-lt number (omega arith)
+
+pub by_table-below : (table : List ℕ) (number shards : ℕ) → 1 ≤ shards → by_table table number shards < shards
+by_table-below [] number shards some = omega arith
+by_table-below (x ∷ xs) number shards some = mod-lt (slice_index (x ∷ xs) (number % length (x ∷ xs))) (omega arith)

@@ -1,0 +1,66 @@
+use bx_message::{RawJson, Reply, Sequence, SharedEvent, Text};
+
+/// What the message or the tick at a place of the list came to.
+#[derive(Drop)]
+pub enum Kind {
+    /// An accepted handshake; `ack` says whether it turned acknowledgement on.
+    Opened {
+        session: u64,
+        ack: bool,
+    },
+    /// An accepted connect, with what its reply repeats, the number that it acknowledges, and how long
+    /// it may be held, in milliseconds.
+    Connect {
+        session: u64,
+        client: Text,
+        id: Option<RawJson>,
+        acked: Option<u64>,
+        hold: u64,
+    },
+    /// An accepted publish, to a service channel too.
+    Publish(SharedEvent),
+    /// An accepted disconnect.
+    Disconnect {
+        session: u64,
+    },
+    /// A refused message.
+    Refused,
+    /// A tick, with the numbers of the sessions that it closes, ascending.
+    Tick(Sequence<u64>),
+}
+
+/// An element of the list that orders everything.
+#[derive(Drop)]
+pub struct Entry {
+    /// Its place, counted from 0.
+    pub place: u64,
+    /// The greatest moment that was handed in so far, in milliseconds.
+    pub moment: u64,
+    pub kind: Kind,
+}
+
+/// The entries of one admission.
+#[derive(Drop)]
+pub struct Batch {
+    /// The place of its first entry.
+    pub first: u64,
+    pub entries: Sequence<Entry>,
+}
+
+/// Where the answer to a connect is filed.
+#[derive(Clone, Copy, Debug, PartialEq, Eq)]
+pub struct Ticket {
+    /// The connect's place in the list.
+    pub place: u64,
+    /// The shard of its session.
+    pub shard: usize,
+}
+
+/// How a message is answered.
+#[derive(Drop)]
+pub enum Slot {
+    /// At once, by this reply.
+    Ready(Reply),
+    /// A connect, whose answer is filed under this ticket.
+    Waiting(Ticket),
+}

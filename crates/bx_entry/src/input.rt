@@ -1,0 +1,46 @@
+use bx_cut::Bodies;
+
+/// A request as it came in.
+#[derive(Drop)]
+pub struct Arrival {
+    /// In milliseconds.
+    pub moment: u64,
+    /// 128 bits for the client id of a session that it opens.
+    pub nonce: u128,
+    /// Its documents.
+    pub bodies: Bodies,
+}
+
+/// What is handed in: a request, or a tick of the clock.
+#[derive(Drop)]
+pub enum Input {
+    Post(Arrival),
+    /// The tick's moment, in milliseconds.
+    Tick(u64),
+}
+
+/// Why the documents of a request are not read as messages. The variants stand in the order in which
+/// they are looked for, each over all documents of the request.
+#[derive(Clone, Copy, Debug, PartialEq, Eq, PartialOrd, Ord)]
+pub enum BodyFault {
+    /// Some document is no JSON text.
+    NotJson,
+    /// Some document is neither an object nor an array, or is an array with an element that is no
+    /// object.
+    NotObject,
+    /// The documents together have more messages than a request may have.
+    TooMany,
+    /// Some message has no `channel` that is a text.
+    NoChannel,
+}
+
+/// Why a request or a tick is not admitted. Nothing is changed then.
+#[derive(Clone, Copy, Debug, PartialEq, Eq)]
+pub enum Refusal {
+    /// The request's documents are not read as messages.
+    Body(BodyFault),
+    /// The moment is above the greatest that is taken.
+    BadMoment,
+    /// The list would pass the greatest length that it may have.
+    Ended,
+}

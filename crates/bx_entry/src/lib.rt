@@ -1,0 +1,12 @@
+//! What is handed in, the list of entries that it becomes, and where sessions are placed.
+#![tactic(auto)]
+
+mod entry;
+mod input;
+mod placing;
+mod read;
+
+pub use entry::{Batch, Entry, Kind, Slot, Ticket};
+pub use input::{Arrival, BodyFault, Input, Refusal};
+pub use placing::{AllFirst, ByRemainder, ByTable, Placing};
+pub use read::{ReadFault, read_messages};
