@@ -30,7 +30,7 @@ pub enum Reconnect {
     Never,
 }
 
-/// A reply's advice; times are in milliseconds. (Bayeux 1.0, section 3.4; that `timeout` stands in
+/// A reply's advice; times are in milliseconds. (Bayeux 1.0, the field `advice`; that `timeout` stands in
 /// each advice to connect again, and in no other, is this server's choice.)
 #[derive(Clone, Copy, Debug, PartialEq, Eq)]
 pub struct Advice {

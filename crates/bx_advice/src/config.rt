@@ -1,4 +1,4 @@
-ghost use Rattle.std.specs.Prelude.{◌≡◌, ◌≤◌, ◌↔◌, IsSome, IfSome};
+ghost use Rattle.std.specs.Prelude.{◌≤◌};
 
 /// The most bytes that the body of a request, or its query, may have.
 pub const BODY_LIMIT: usize = 1_048_576;
@@ -53,6 +53,9 @@ pub struct Config {
 }
 
 impl Config {
+    ghost use Rattle.std.specs.Prelude.{◌≡◌, ◌≤◌, ◌↔◌, IsSome, IfSome};
+    ghost use Rattle.bx_advice.specs.Limits.{standard_limits};
+
     /// The configuration with these settings and the standard limits; none where `shards` is not 1
     /// to [`MAX_SHARDS`].
     pub fn new(shards: usize, timeout: u32, interval: u32, max_interval: u32) -> Option<Config>
@@ -60,7 +63,7 @@ impl Config {
         ensures shards { IfSome result (λ c. c.shards ≡ shards) }
         ensures times { IfSome result (λ c.
             (c.timeout ≡ timeout) × (c.interval ≡ interval) × (c.max_interval ≡ max_interval)) }
-        ensures limits { IfSome result (λ c. c.limits ≡ STANDARD_LIMITS) }
+        ensures limits { IfSome result (λ c. c.limits ≡ standard_limits) }
     {
         if shards == 0 || shards > MAX_SHARDS {
             return None;

@@ -5,7 +5,7 @@ use std::fmt;
 
 /// Why a message was refused, or a connect ended without a success. The variants stand in the order
 /// in which a message is tested; the first that holds is answered. The last two are given to
-/// connects that were accepted. (Bayeux 1.0, section 3.5, leaves codes and texts open: these are
+/// connects that were accepted. (Bayeux 1.0, the field `error`, leaves codes and texts open: these are
 /// this server's choice.)
 #[derive(Clone, Copy, Debug, PartialEq, Eq, Hash)]
 pub enum Error {

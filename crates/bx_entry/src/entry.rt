@@ -1,13 +1,11 @@
 use bx_message::{RawJson, Reply, Sequence, SharedEvent, Text};
+use bx_names::Pattern;
 
 /// What the message or the tick at a place of the list came to.
 #[derive(Drop)]
 pub enum Kind {
     /// An accepted handshake; `ack` says whether it turned acknowledgement on.
-    Opened {
-        session: u64,
-        ack: bool,
-    },
+    Opened { session: u64, ack: bool },
     /// An accepted connect, with what its reply repeats, the number that it acknowledges, and how long
     /// it may be held, in milliseconds.
     Connect {
@@ -17,12 +15,20 @@ pub enum Kind {
         acked: Option<u64>,
         hold: u64,
     },
+    /// An accepted subscription, with its patterns but those of service channels.
+    Subscribe {
+        session: u64,
+        patterns: Sequence<Pattern>,
+    },
+    /// An accepted unsubscription, with its patterns but those of service channels.
+    Unsubscribe {
+        session: u64,
+        patterns: Sequence<Pattern>,
+    },
     /// An accepted publish, to a service channel too.
     Publish(SharedEvent),
     /// An accepted disconnect.
-    Disconnect {
-        session: u64,
-    },
+    Disconnect { session: u64 },
     /// A refused message.
     Refused,
     /// A tick, with the numbers of the sessions that it closes, ascending.

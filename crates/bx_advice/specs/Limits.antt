@@ -1,0 +1,16 @@
+-- The server's limits.
+use Rattle.std.specs.Prelude.{ℕ}
+use Rattle.bx_advice.specs.declared.config.Limits.{Limits}
+use Rattle.bx_advice.specs.declared.config.TheConstants.{MAX_MOMENT, MAX_LENGTH}
+
+-- the greatest moment that is taken
+abbrev pub greatest_moment : ℕ
+greatest_moment = MAX_MOMENT
+
+-- how many elements the list may have
+abbrev pub greatest_length : ℕ
+greatest_length = MAX_LENGTH
+
+-- the limits of this server
+abbrev pub standard_limits : Limits
+standard_limits = record { events = 1024; patterns = 1024; batch = 256; sessions = 65536; texts = 64 }

@@ -1,0 +1,32 @@
+-- What is handed in once its documents are read, and why it is not admitted.
+use Rattle.std.specs.Prelude.{ℕ, ◌+◌, List, [], ◌∷◌, length, nat_lt, Option, Some}
+use Rattle.bx_names.specs.Faults.{first_case}
+use Rattle.bx_advice.specs.Limits.{greatest_moment, greatest_length}
+use Rattle.bx_message.specs.declared.message.Message.{Message}
+use Rattle.bx_entry.specs.Listing.{Listed, request}
+use Rattle.bx_entry.specs.Listing as messages
+use Rattle.bx_entry.specs.declared.input.BodyFault.{BodyFault}
+use Rattle.bx_entry.specs.declared.input.Refusal.{Refusal}
+use Rattle.bx_entry.specs.declared.input.Refusal.TheVariants.{Body, BadMoment, Ended}
+
+-- a request with its messages, one whose body can't be read, or a tick
+pub data ReadInput : Type 0 where
+  Request : (moment : ℕ) → (nonce : ℕ) → (messages : List Message) → ReadInput
+  Unread : (fault : BodyFault) → ReadInput
+  Tick : (moment : ℕ) → ReadInput
+
+-- what an input would add to the list
+abbrev pub added_by : ReadInput → List Listed
+added_by (Request moment nonce ms) = request moment nonce ms
+added_by (Unread fault) = []
+added_by (Tick moment) = messages.Tick moment ∷ []
+
+-- moments and the list have an end
+abbrev pub refused_beyond : ℕ → ℕ → Option Refusal
+refused_beyond moment end = first_case ((nat_lt greatest_moment moment, BadMoment) ∷ (nat_lt greatest_length end, Ended) ∷ [])
+
+-- the refusal of an input, where the list has this length
+abbrev pub refusal_of : ℕ → ReadInput → Option Refusal
+refusal_of len (Request moment nonce ms) = refused_beyond moment (len + length ms)
+refusal_of len (Unread fault) = Some (Body fault)
+refusal_of len (Tick moment) = refused_beyond moment (len + 1)

@@ -1,0 +1,313 @@
+-- Who is live: the sessions, their ids and due moments, which message is refused and why, and the entry at each place.
+use Rattle.std.specs.Prelude.{ℕ, zero, suc, ◌+◌, ◌/◌, ◌%◌, ◌==◌, ◌&&◌, ◌||◌, not, min, max, Bool, true, false, List, [], ◌∷◌, ◌++◌, length, map, filter, find, fold, nat_lt, nat_le, nat_eq, codes, if◌then◌else◌, Option, Some, None, is_some, is_none, unwrap_or, option_map}
+use Rattle.std.specs.List.{list_any, starts_with}
+use Rattle.std.specs.Str.{bytes_eq}
+use Rattle.std.specs.Char.{digit_char}
+use Rattle.bx_names.specs.Faults.{first_case, name_fault, pattern_fault}
+use Rattle.bx_names.specs.Globs.{Glob, glob_of}
+use Rattle.bx_names.specs.Segments.{segments}
+use Rattle.bx_names.specs.Kinds.{is_meta, is_service}
+use Rattle.bx_message.specs.declared.message.Message.{Message}
+use Rattle.bx_message.specs.declared.message.TextMember.{TextMember}
+use Rattle.bx_message.specs.declared.message.TextMember.TheVariants.{Absent, NotText, Text}
+use Rattle.bx_message.specs.declared.message.AckMember.{AckMember}
+use Rattle.bx_message.specs.declared.message.AckMember.TheVariants.{NoAck, AckTrue, AckNumber}
+use Rattle.bx_message.specs.declared.column.Column.{Column}
+use Rattle.bx_message.specs.Columns.{column_of, is_connect}
+use Rattle.bx_entry.specs.Listing.{Posted, Listed, Post}
+use Rattle.bx_entry.specs.Listing as messages
+use Rattle.bx_advice.specs.declared.error.Error.{Error}
+use Rattle.bx_advice.specs.declared.error.Error.TheVariants.{UnknownMetaChannel, SecondHandshake, UnsupportedVersion, NoSupportedConnectionType, TooManySessions, NoClientId, UnknownClient, UnknownConnectionType, InvalidChannel, InvalidPattern, TooManyPatterns, SubscriptionDenied, MissingSubscription, MissingData}
+use Rattle.bx_advice.specs.declared.config.Config.{Config}
+use Rattle.bx_advice.specs.declared.advice.Case.{Case}
+use Rattle.bx_advice.specs.declared.advice.Case.TheVariants.{Done, Failed}
+use Rattle.bx_advice.specs.declared.advice.Case.TheVariants as advice
+use Rattle.bx_message.specs.declared.event.Event.{Event}
+use Rattle.bx_message.specs.declared.reply.AckReply.{AckReply}
+use Rattle.bx_message.specs.declared.reply.Reply.{Reply}
+use Rattle.bx_message.specs.Replies.{reply_to}
+use Rattle.bx_message.specs.declared.reply.AckReply.TheVariants as replies
+use Rattle.bx_entry.specs.declared.entry.Entry.{Entry}
+use Rattle.bx_entry.specs.declared.entry.Kind.{Kind}
+use Rattle.bx_entry.specs.declared.entry.Kind.TheVariants.{Opened, Connect, Subscribe, Unsubscribe, Publish, Disconnect, Refused, Tick}
+
+-- ---- the state
+
+-- a session that was opened: its id, whether acknowledgement is on, when it is due, and whether it is still live
+pub record Registered : Type 0 where
+  pub number : ℕ
+  pub client : List ℕ
+  pub ack : Bool
+  pub due : ℕ
+  pub live : Bool
+
+-- how the element at a place is answered: at once by this reply, later as a connect of this session, or not at all
+pub data PlaceSlot : Type 0 where
+  Ready : (reply : Reply) → PlaceSlot
+  Waiting : (session : ℕ) → PlaceSlot
+  NoSlot : PlaceSlot
+
+-- what was found at a place: its entry, the session whose accepted message stands there, if any, the hold granted to it, and its slot
+pub record Judged : Type 0 where
+  pub entry : Entry
+  pub sender : Option ℕ
+  pub hold : ℕ
+  pub slot : PlaceSlot
+
+-- the greatest moment so far, the sessions that were ever opened in the order of their numbers, and what was found at each place
+pub record Registry : Type 0 where
+  pub clock : ℕ
+  pub sessions : List Registered
+  pub judged : List Judged
+
+-- nothing was opened and nothing found
+abbrev pub empty_registry : Registry
+empty_registry = record { clock = 0; sessions = []; judged = [] }
+
+-- ---- ids
+
+-- the last `width` hexadecimal digits of n, lower case
+abbrev pub hex_digits : ℕ → ℕ → List ℕ
+hex_digits zero n = []
+hex_digits (suc width) n = hex_digits width (n / 16) ++ digit_char (n % 16) ∷ []
+
+-- 32 digits of the nonce and 16 of the session's number
+abbrev pub client_id : ℕ → ℕ → List ℕ
+client_id nonce number = hex_digits 32 nonce ++ hex_digits 16 number
+
+-- ---- who is live
+
+-- the live session with this id
+abbrev pub live_with_id : List Registered → List ℕ → Option Registered
+live_with_id sessions client = find (λ r. r.live && bytes_eq r.client client) sessions
+
+-- how many sessions are live
+abbrev pub count_live : List Registered → ℕ
+count_live sessions = length (filter (λ r. r.live) sessions)
+
+-- the live session that the client id names
+abbrev pub sender_of : List Registered → TextMember → Option Registered
+sender_of sessions Absent = None
+sender_of sessions NotText = None
+sender_of sessions (Text client) = live_with_id sessions client
+
+-- ---- refusals
+
+-- whether a member is a text
+abbrev pub is_text : TextMember → Bool
+is_text Absent = false
+is_text NotText = false
+is_text (Text text) = true
+
+-- the text `1`, or one that begins with `1.`
+abbrev pub is_version : TextMember → Bool
+is_version Absent = false
+is_version NotText = false
+is_version (Text text) = bytes_eq text (codes "1") || starts_with nat_eq text (codes "1.")
+
+-- whether a text names one of the two supported connection types
+abbrev pub is_polling : List ℕ → Bool
+is_polling text = bytes_eq text (codes "long-polling") || bytes_eq text (codes "callback-polling")
+
+-- a connect's type is one of the two, or absent
+abbrev pub is_connection : TextMember → Bool
+is_connection Absent = true
+is_connection NotText = false
+is_connection (Text text) = is_polling text
+
+abbrev pub handshake_cases : Config → List Registered → Posted → List (Bool × Error)
+handshake_cases config sessions p =
+    (p.second, SecondHandshake)
+    ∷ (not (is_version p.message.version), UnsupportedVersion)
+    ∷ (not (list_any is_polling p.message.supported), NoSupportedConnectionType)
+    ∷ (nat_le config.limits.sessions (count_live sessions), TooManySessions)
+    ∷ []
+
+-- what refuses any other message, but for one to an unknown meta channel, by its sender
+abbrev pub client_cases : List Registered → Message → List (Bool × Error)
+client_cases sessions m =
+    (not (is_text m.client), NoClientId)
+    ∷ (is_none (sender_of sessions m.client), UnknownClient)
+    ∷ []
+
+-- what else refuses a connect
+abbrev pub connect_cases : Message → List (Bool × Error)
+connect_cases m = (not (is_connection m.connection), UnknownConnectionType) ∷ []
+
+-- what else refuses a subscription or an unsubscription
+abbrev pub subscription_cases : Config → Message → List (Bool × Error)
+subscription_cases config m =
+    (list_any (λ text. is_some (pattern_fault text)) m.texts, InvalidPattern)
+    ∷ (nat_lt config.limits.texts (length m.texts), TooManyPatterns)
+    ∷ (list_any is_meta m.texts, SubscriptionDenied)
+    ∷ (not m.listed, MissingSubscription)
+    ∷ []
+
+-- what else refuses a publish
+abbrev pub publish_cases : Message → List (Bool × Error)
+publish_cases m =
+    (is_some (name_fault m.channel), InvalidChannel)
+    ∷ (is_none m.payload, MissingData)
+    ∷ []
+
+-- the cases that can hold for a message of this column, in the order of the errors
+abbrev pub cases_of : Config → List Registered → Posted → Column → List (Bool × Error)
+cases_of config sessions p Column.Handshake = handshake_cases config sessions p
+cases_of config sessions p Column.Connect = client_cases sessions p.message ++ connect_cases p.message
+cases_of config sessions p Column.Subscribe = client_cases sessions p.message ++ subscription_cases config p.message
+cases_of config sessions p Column.Unsubscribe = client_cases sessions p.message ++ subscription_cases config p.message
+cases_of config sessions p Column.Disconnect = client_cases sessions p.message
+cases_of config sessions p Column.Publish = client_cases sessions p.message ++ publish_cases p.message
+cases_of config sessions p Column.UnknownMeta = (true, UnknownMetaChannel) ∷ []
+
+-- the first case that holds refuses the message
+abbrev pub refusal : Config → List Registered → Posted → Option Error
+refusal config sessions p = first_case (cases_of config sessions p (column_of p.message.channel))
+
+-- ---- accepted messages
+
+-- how long a connect may be held: only a request's sole message is
+abbrev pub hold_of : Config → Posted → ℕ
+hold_of config p = if p.sole && is_connect p.message then min config.timeout (unwrap_or p.message.timeout config.timeout) else 0
+
+-- an accepted message of a session moves its due moment on, never back
+abbrev pub extended : ℕ → ℕ → List Registered → List Registered
+extended number due sessions = map (λ (r : Registered). if r.number == number then record r { due = max r.due due } else r) sessions
+
+-- the sessions when this one is closed
+abbrev pub closed : ℕ → List Registered → List Registered
+closed number sessions = map (λ (r : Registered). if r.number == number then record r { live = false } else r) sessions
+
+-- a tick closes each live session whose due moment has passed
+abbrev pub is_overdue : ℕ → Registered → Bool
+is_overdue moment r = r.live && nat_lt r.due moment
+
+-- the sessions after a tick
+abbrev pub swept : ℕ → List Registered → List Registered
+swept moment sessions = map (λ (r : Registered). if is_overdue moment r then record r { live = false } else r) sessions
+
+-- the numbers of the sessions that a tick closes, ascending
+abbrev pub overdue : ℕ → List Registered → List ℕ
+overdue moment sessions = map (λ (r : Registered). r.number) (filter (is_overdue moment) sessions)
+
+-- whether a handshake turns acknowledgement on
+abbrev pub is_ack : AckMember → Bool
+is_ack NoAck = false
+is_ack AckTrue = true
+is_ack (AckNumber number) = false
+
+-- the number that a connect acknowledges
+abbrev pub acked_by : AckMember → Option ℕ
+acked_by NoAck = None
+acked_by AckTrue = None
+acked_by (AckNumber number) = Some number
+
+-- a subscription's patterns, without those of service channels
+abbrev pub patterns_of : Message → List Glob
+patterns_of m = map (λ text. glob_of (segments text)) (filter (λ text. not (is_service text)) m.texts)
+
+-- the event of a publish, without the publisher's id
+abbrev pub event_of : Message → Event
+event_of m = record { channel = m.channel; payload = unwrap_or m.payload []; id = m.id }
+
+-- ---- one element after another
+
+-- this found at the next place
+abbrev pub found_at : Registry → ℕ → Kind → Option ℕ → ℕ → PlaceSlot → Judged
+found_at r moment kind sender hold slot = record { entry = record { place = length r.judged; moment = moment; kind = kind }; sender = sender; hold = hold; slot = slot }
+
+-- the registry with one more place
+abbrev pub noted : Registry → ℕ → List Registered → Kind → Option ℕ → ℕ → PlaceSlot → Registry
+noted r moment sessions kind sender hold slot = record { clock = moment; sessions = sessions; judged = r.judged ++ found_at r moment kind sender hold slot ∷ [] }
+
+-- a refused message changes nothing but the list
+abbrev pub refused : Config → Registry → ℕ → Posted → Error → Option Registered → Registry
+refused config r moment p error sender =
+    noted r moment r.sessions Refused None 0
+    (Ready (reply_to config (column_of p.message.channel) p.message (option_map (λ (s : Registered). s.client) sender) (Failed error) replies.NoAck))
+
+-- a new session, under the next number
+abbrev pub opened : Config → Registry → ℕ → Posted → ℕ → Bool → Registry
+opened config r moment p number ack =
+    noted r moment
+    (r.sessions ++ record { number = number; client = client_id p.nonce number; ack = ack; due = moment + config.max_interval; live = true } ∷ [])
+    (Opened number ack) (Some number) 0
+    (Ready (reply_to config Column.Handshake p.message (Some (client_id p.nonce number)) advice.Opened (if ack then replies.AckTrue else replies.NoAck)))
+
+-- the entry's kind for an accepted message of a live session (no such message is a handshake or to an unknown meta channel)
+abbrev pub kind_for : Column → Posted → Registered → ℕ → Kind
+kind_for Column.Handshake p s hold = Refused
+kind_for Column.Connect p s hold = Connect s.number s.client p.message.id (acked_by p.message.ack) hold
+kind_for Column.Subscribe p s hold = Subscribe s.number (patterns_of p.message)
+kind_for Column.Unsubscribe p s hold = Unsubscribe s.number (patterns_of p.message)
+kind_for Column.Disconnect p s hold = Disconnect s.number
+kind_for Column.Publish p s hold = Publish (event_of p.message)
+kind_for Column.UnknownMeta p s hold = Refused
+
+-- connects wait for their answer, every other message has its success at once
+abbrev pub slot_for : Config → Column → Posted → Registered → PlaceSlot
+slot_for config Column.Connect p s = Waiting s.number
+slot_for config Column.Handshake p s = Ready (reply_to config Column.Handshake p.message (Some s.client) Done replies.NoAck)
+slot_for config Column.Subscribe p s = Ready (reply_to config Column.Subscribe p.message (Some s.client) Done replies.NoAck)
+slot_for config Column.Unsubscribe p s = Ready (reply_to config Column.Unsubscribe p.message (Some s.client) Done replies.NoAck)
+slot_for config Column.Disconnect p s = Ready (reply_to config Column.Disconnect p.message (Some s.client) Done replies.NoAck)
+slot_for config Column.Publish p s = Ready (reply_to config Column.Publish p.message (Some s.client) Done replies.NoAck)
+slot_for config Column.UnknownMeta p s = Ready (reply_to config Column.UnknownMeta p.message (Some s.client) Done replies.NoAck)
+
+-- a disconnect ends its session
+abbrev pub left_by : Column → ℕ → List Registered → List Registered
+left_by Column.Handshake number sessions = sessions
+left_by Column.Connect number sessions = sessions
+left_by Column.Subscribe number sessions = sessions
+left_by Column.Unsubscribe number sessions = sessions
+left_by Column.Disconnect number sessions = closed number sessions
+left_by Column.Publish number sessions = sessions
+left_by Column.UnknownMeta number sessions = sessions
+
+-- an accepted message of a live session
+abbrev pub served : Config → Registry → ℕ → Posted → Column → Registered → ℕ → Registry
+served config r moment p column s hold =
+    noted r moment
+    (left_by column s.number (extended s.number (moment + hold + config.max_interval) r.sessions))
+    (kind_for column p s hold) (Some s.number) hold
+    (slot_for config column p s)
+
+-- an accepted message: a handshake has no session yet, every other has one
+abbrev pub accepted : Config → Registry → ℕ → Posted → Option Registered → Registry
+accepted config r moment p None = opened config r moment p (length r.sessions + 1) (is_ack p.message.ack)
+accepted config r moment p (Some s) = served config r moment p (column_of p.message.channel) s (hold_of config p)
+
+-- a message is refused or accepted
+abbrev pub judged_by : Config → Registry → ℕ → Posted → Option Registered → Option Error → Registry
+judged_by config r moment p sender (Some error) = refused config r moment p error sender
+judged_by config r moment p sender None = accepted config r moment p sender
+
+-- the session that a message names; a handshake names none
+abbrev pub named_by : List Registered → Column → Message → Option Registered
+named_by sessions Column.Handshake m = None
+named_by sessions Column.Connect m = sender_of sessions m.client
+named_by sessions Column.Subscribe m = sender_of sessions m.client
+named_by sessions Column.Unsubscribe m = sender_of sessions m.client
+named_by sessions Column.Disconnect m = sender_of sessions m.client
+named_by sessions Column.Publish m = sender_of sessions m.client
+named_by sessions Column.UnknownMeta m = None
+
+-- what is found of the next element: it has the greatest moment so far, and is judged by the sessions before it
+abbrev pub judge : Config → Registry → Listed → Registry
+judge config r (Post p) =
+    judged_by config r (max r.clock p.moment) p (named_by r.sessions (column_of p.message.channel) p.message) (refusal config r.sessions p)
+judge config r (messages.Tick moment) =
+    let now = max r.clock moment in
+    noted r now (swept now r.sessions) (Tick (overdue now r.sessions)) None 0 NoSlot
+
+-- the registry after the whole list
+abbrev pub registry : Config → List Listed → Registry
+registry config list = fold (judge config) empty_registry list
+
+-- the entries of the list
+abbrev pub entries_of : Registry → List Entry
+entries_of r = map (λ (j : Judged). j.entry) r.judged
+
+-- the entries of a list
+abbrev pub entries : Config → List Listed → List Entry
+entries config list = entries_of (registry config list)

@@ -1,0 +1,288 @@
+-- One session, over the whole list of entries: its patterns, its events, what of them was given and acknowledged, its held connect and its answers.
+use Rattle.std.specs.Prelude.{ℕ, ◌+◌, ◌-◌, ◌==◌, ◌&&◌, ◌||◌, not, min, Bool, true, false, List, [], ◌∷◌, ◌++◌, length, take, drop, filter, fold, nat_lt, nat_le, if◌then◌else◌, Option, Some, None}
+use Rattle.std.specs.List.{list_any}
+use Rattle.bx_names.specs.Globs.{Glob, same_glob, any_matches}
+use Rattle.bx_names.specs.Segments.{segments}
+use Rattle.bx_names.specs.Kinds.{is_broadcast}
+use Rattle.bx_advice.specs.declared.error.Error.TheVariants.{SupersededConnect, QueueOverflow}
+use Rattle.bx_advice.specs.declared.config.Config.{Config}
+use Rattle.bx_advice.specs.declared.advice.Case.{Case}
+use Rattle.bx_advice.specs.declared.advice.Case.TheVariants.{Opened, Connected, Disconnected, Done, Failed}
+use Rattle.bx_message.specs.declared.event.Event.{Event}
+use Rattle.bx_message.specs.declared.reply.Reply.{Reply}
+use Rattle.bx_message.specs.declared.reply.AckReply.{AckReply}
+use Rattle.bx_message.specs.declared.reply.AckReply.TheVariants.{NoAck, AckNumber}
+use Rattle.bx_message.specs.Replies.{connect_reply}
+use Rattle.bx_entry.specs.declared.entry.Entry.{Entry}
+use Rattle.bx_entry.specs.declared.entry.Kind.{Kind}
+use Rattle.bx_entry.specs.declared.entry.Kind.TheVariants.{Connect, Subscribe, Unsubscribe, Publish, Disconnect, Refused, Tick}
+use Rattle.bx_entry.specs.declared.entry.Kind.TheVariants as entries
+
+-- ---- the state
+
+-- an event with the place of its publish, so that two publishes of equal data are two
+pub record Publication : Type 0 where
+  pub place : ℕ
+  pub event : Event
+
+-- a connect that is to be answered
+pub record Pending : Type 0 where
+  pub place : ℕ
+  pub client : List ℕ
+  pub id : Option (List ℕ)
+  pub moment : ℕ
+  pub hold : ℕ
+
+-- the answer to the connect that stands at `connect`, given at `place`
+pub record Filed : Type 0 where
+  pub connect : ℕ
+  pub place : ℕ
+  pub publications : List Publication
+  pub reply : Reply
+
+-- not opened yet, live, or closed for good
+pub data Stage : Type 0 where
+  Unopened : Stage
+  Live : Stage
+  Closed : Stage
+
+-- `patterns` are those in force; `events` are all that the session was ever to get, in the order of their places.
+-- Of the events the first `done` are given for good; the next `out` are the outstanding batch; `num` is the number of the last batch formed.
+-- `answers` are all so far, in the order in which they were given.
+pub record Session : Type 0 where
+  pub number : ℕ
+  pub stage : Stage
+  pub ack : Bool
+  pub patterns : List Glob
+  pub events : List Publication
+  pub done : ℕ
+  pub out : ℕ
+  pub num : ℕ
+  pub held : Option Pending
+  pub overflow : Bool
+  pub answers : List Filed
+
+-- nothing is known of a session before it is opened
+abbrev pub unopened : ℕ → Session
+unopened number = record { number = number; stage = Unopened; ack = false; patterns = []; events = []; done = 0; out = 0; num = 0; held = None; overflow = false; answers = [] }
+
+-- whether the session is live
+abbrev pub is_live : Stage → Bool
+is_live Unopened = false
+is_live Live = true
+is_live Closed = false
+
+-- how many events wait or are outstanding
+abbrev pub pending_count : Session → ℕ
+pending_count s = length s.events - s.done
+
+-- the events that wait or are outstanding; an overflow drops them
+abbrev pub queue : Session → List Publication
+queue s = if s.overflow then [] else drop s.done s.events
+
+-- the outstanding batch
+abbrev pub batch : Session → List Publication
+batch s = take s.out (queue s)
+
+-- ---- answers
+
+-- a connect's success in an acknowledging session carries the number of the last batch formed
+abbrev pub ack_for : Session → Case → AckReply
+ack_for s Opened = NoAck
+ack_for s Connected = if s.ack then AckNumber s.num else NoAck
+ack_for s Disconnected = if s.ack then AckNumber s.num else NoAck
+ack_for s Done = NoAck
+ack_for s (Failed error) = NoAck
+
+-- the answer to a connect at this place
+abbrev pub filing : Config → Pending → ℕ → List Publication → Case → Session → Filed
+filing config p place given case s = record { connect = p.place; place = place; publications = given; reply = connect_reply config p.client p.id case (ack_for s case) }
+
+-- the connect is answered at this place, with these events
+abbrev pub answered : Config → Pending → ℕ → List Publication → Case → Session → Session
+answered config p place given case s = record s { answers = s.answers ++ filing config p place given case s ∷ [] }
+
+-- no connect is held any longer
+abbrev pub unheld : Session → Session
+unheld s = record s { held = None }
+
+-- this held connect, if there is one, is answered without events
+abbrev pub released_from : Config → ℕ → Case → Session → Option Pending → Session
+released_from config place case s None = s
+released_from config place case s (Some p) = answered config p place [] case (unheld s)
+
+-- so is the connect that the session holds
+abbrev pub released : Config → ℕ → Case → Session → Session
+released config place case s = released_from config place case s s.held
+
+-- ---- a connect
+
+-- the outstanding batch is given for good
+abbrev pub cleared : Session → Session
+cleared s = record s { done = s.done + s.out; out = 0 }
+
+-- a number at or above that of the last batch acknowledges all that was given
+abbrev pub acknowledged : Option ℕ → Session → Session
+acknowledged None s = s
+acknowledged (Some n) s = if s.ack && nat_le s.num n then cleared s else s
+
+-- how many events a connect is given where none are outstanding: as many as wait, up to the limit of a batch
+abbrev pub portion : Config → Session → ℕ
+portion config s = min config.limits.batch (pending_count s)
+
+-- so many events become the next batch
+abbrev pub with_batch : ℕ → Session → Session
+with_batch count s = record s { out = count; num = s.num + 1 }
+
+-- an acknowledging session with no outstanding batch forms the next one, where events wait
+abbrev pub formed : Config → Session → Session
+formed config s = if (s.out == 0) && nat_lt 0 (portion config s) then with_batch (portion config s) s else s
+
+-- so many events are given for good at once
+abbrev pub forgotten : ℕ → Session → Session
+forgotten count s = record s { done = s.done + count }
+
+-- a plain session's events are forgotten once they are given
+abbrev pub gives : Config → Session → Session
+gives config s = if s.ack then formed config s else forgotten (portion config s) s
+
+-- what a connect is given
+abbrev pub given : Config → Session → List Publication
+given config s = if s.ack then batch (formed config s) else take (portion config s) (queue s)
+
+-- the connect is held
+abbrev pub holding : Pending → Session → Session
+holding p s = record s { held = Some p }
+
+-- a connect with nothing to give is held, if it may be
+abbrev pub idle : Config → Pending → Session → Session
+idle config p s = if p.hold == 0 then answered config p p.place [] Connected s else holding p s
+
+-- a connect is answered at once where there is something to give
+abbrev pub answered_or_held : Config → Pending → Session → Session
+answered_or_held config p s =
+    if length (given config s) == 0 then idle config p s
+    else answered config p p.place (given config s) Connected (gives config s)
+
+-- A connect ends the one that was held. After an overflow it is refused; else it acknowledges first and is given events afterwards.
+abbrev pub connected : Config → Pending → Option ℕ → Session → Session
+connected config p acked s =
+    if s.overflow then answered config p p.place [] (Failed QueueOverflow) (released config p.place (Failed SupersededConnect) s)
+    else answered_or_held config p (acknowledged acked (released config p.place (Failed SupersededConnect) s))
+
+-- ---- patterns
+
+-- whether the pattern is one of these
+abbrev pub in_force : List Glob → Glob → Bool
+in_force patterns p = list_any (same_glob p) patterns
+
+-- a pattern that is in force already changes nothing
+abbrev pub with_pattern : List Glob → Glob → List Glob
+with_pattern patterns p = if in_force patterns p then patterns else patterns ++ p ∷ []
+
+-- a pattern that isn't in force changes nothing
+abbrev pub without_pattern : List Glob → Glob → List Glob
+without_pattern patterns p = filter (λ q. not (same_glob p q)) patterns
+
+-- a session with more patterns in force than the limit overflows
+abbrev pub subscribed : Config → List Glob → Session → Session
+subscribed config ps s =
+    let patterns = fold with_pattern s.patterns ps in
+    record s { patterns = patterns; overflow = s.overflow || nat_lt config.limits.patterns (length patterns) }
+
+-- these patterns are no longer in force
+abbrev pub unsubscribed : List Glob → Session → Session
+unsubscribed ps s = record s { patterns = fold without_pattern s.patterns ps }
+
+-- ---- events
+
+-- a publish to a broadcast channel that some pattern of a live session matches
+abbrev pub is_hit : Session → Event → Bool
+is_hit s e = is_live s.stage && not s.overflow && is_broadcast e.channel && any_matches s.patterns (segments e.channel)
+
+-- a hit is an event of the session where the queue has room
+abbrev pub has_room : Config → Session → Bool
+has_room config s = nat_lt (pending_count s) config.limits.events
+
+-- one event is given to a held connect: as a batch, or for good
+abbrev pub gives_one : Session → Session
+gives_one s = if s.ack then with_batch 1 s else forgotten 1 s
+
+-- the event is given to the connect that is held, if there is one
+abbrev pub delivered_to : Config → Publication → Session → Option Pending → Session
+delivered_to config e s None = s
+delivered_to config e s (Some p) = answered config p e.place (e ∷ []) Connected (gives_one (unheld s))
+
+-- the event is the session's last
+abbrev pub with_event : Publication → Session → Session
+with_event e s = record s { events = s.events ++ e ∷ [] }
+
+-- one more event of the session
+abbrev pub delivered : Config → Publication → Session → Session
+delivered config e s = delivered_to config e (with_event e s) s.held
+
+-- the session overflows
+abbrev pub overflowed : Session → Session
+overflowed s = record s { overflow = true }
+
+-- a hit that finds the queue full makes the session overflow
+abbrev pub published : Config → Publication → Session → Session
+published config e s =
+    if is_hit s e.event then (if has_room config s then delivered config e s else overflowed s) else s
+
+-- ---- the ends
+
+-- a tick at or past the deadline of this hold, if there is one, ends it
+abbrev pub expired_from : Config → ℕ → ℕ → Session → Option Pending → Session
+expired_from config place moment s None = s
+expired_from config place moment s (Some p) = if nat_le (p.moment + p.hold) moment then released config place Connected s else s
+
+-- so with the hold of the session
+abbrev pub expired : Config → ℕ → ℕ → Session → Session
+expired config place moment s = expired_from config place moment s s.held
+
+-- a session that was closed, or not opened yet, stays so
+abbrev pub stage_after : Stage → Stage
+stage_after Unopened = Unopened
+stage_after Live = Closed
+stage_after Closed = Closed
+
+-- a live session is closed
+abbrev pub ended : Session → Session
+ended s = record s { stage = stage_after s.stage }
+
+-- a tick closes the sessions that it names
+abbrev pub closed_by : List ℕ → Session → Session
+closed_by numbers s = if list_any (λ n. n == s.number) numbers then ended s else s
+
+-- a disconnect ends a hold with success, and the session
+abbrev pub disconnected : Config → ℕ → Session → Session
+disconnected config place s = ended (released config place Disconnected s)
+
+-- a session is opened once
+abbrev pub begun : Bool → Session → Stage → Session
+begun ack s Unopened = record s { stage = Live; ack = ack }
+begun ack s Live = s
+begun ack s Closed = s
+
+-- ---- one entry after another
+
+-- what an entry of this kind does to the session
+abbrev pub step_by : Config → ℕ → ℕ → Session → Kind → Session
+step_by config place moment s (entries.Opened n ack) = if n == s.number then begun ack s s.stage else s
+step_by config place moment s (Connect n client id acked hold) =
+    if n == s.number then connected config (record { place = place; client = client; id = id; moment = moment; hold = hold }) acked s else s
+step_by config place moment s (Subscribe n ps) = if n == s.number then subscribed config ps s else s
+step_by config place moment s (Unsubscribe n ps) = if n == s.number then unsubscribed ps s else s
+step_by config place moment s (Publish e) = published config (record { place = place; event = e }) s
+step_by config place moment s (Disconnect n) = if n == s.number then disconnected config place s else s
+step_by config place moment s Refused = s
+step_by config place moment s (Tick numbers) = closed_by numbers (expired config place moment s)
+
+-- what an entry does to the session
+abbrev pub step : Config → Session → Entry → Session
+step config s e = step_by config e.place e.moment s e.kind
+
+-- the session of this number after the entries
+abbrev pub session : Config → ℕ → List Entry → Session
+session config number es = fold (step config) (unopened number) es

@@ -1,0 +1,146 @@
+-- The worked runs, computed.
+use Rattle.std.specs.Prelude.{refl}
+use Rattle.std.specs.Fmt.{digits}
+use Rattle.json.specs.Print.{escape_byte}
+use Rattle.bx_laws.specs.Worked.{NamesRead, PatternsRead, StarsMatch, DoubleStarsMatch, AllMatch, PlainMatch, RefusedHandshake, HeldThenGiven, HandshakeWithId, NothingPosted, NoNumber, BatchesRepeat, GreatNumber, MatchedTwice, HoldRunsOut, SessionExpires, GoneWithinARequest, NotSole, Superseded, SupersededHeld, MomentsRise, TwoHandshakes, HoldEndsWithSession, EventIsBatch, EventIsBatchHeld, FullQueue, QueueWithRoom, FullWithBatch, HeldThroughOverflow, LengthsRead, EachRefusal, ServicePublish, HoldExtends, OverflowAt1025, FourFullBatches, HandshakeText, RefusedText, BatchText, CallbackExample, EmptyCallback, Unreadable, SenderBytes, UnknownType, ManyPatterns, DeliveryText}
+
+pub names_read : NamesRead
+names_read = refl
+
+pub lengths_read : LengthsRead
+lengths_read = refl
+
+pub patterns_read : PatternsRead
+patterns_read = refl
+
+pub stars_match : StarsMatch
+stars_match = refl
+
+pub double_stars_match : DoubleStarsMatch
+double_stars_match = refl
+
+pub all_match : AllMatch
+all_match = refl
+
+pub plain_match : PlainMatch
+plain_match = refl
+
+pub handshake_with_id : HandshakeWithId
+handshake_with_id = refl
+
+pub refused_handshake : RefusedHandshake
+refused_handshake = refl
+
+pub two_handshakes : TwoHandshakes
+two_handshakes = refl
+
+pub nothing_posted : NothingPosted
+nothing_posted = refl
+
+pub unreadable : Unreadable
+unreadable = refl
+
+pub held_then_given : HeldThenGiven
+held_then_given = refl
+
+pub matched_twice : MatchedTwice
+matched_twice = refl
+
+pub service_publish : ServicePublish
+service_publish = refl
+
+pub sender_bytes : SenderBytes
+sender_bytes = refl
+
+pub no_number : NoNumber
+no_number = refl
+
+pub batches_repeat : BatchesRepeat
+batches_repeat = refl
+
+pub great_number : GreatNumber
+great_number = refl
+
+pub event_is_batch : EventIsBatch
+event_is_batch = refl
+
+pub event_is_batch_held : EventIsBatchHeld
+event_is_batch_held = refl
+
+pub hold_runs_out : HoldRunsOut
+hold_runs_out = refl
+
+pub not_sole : NotSole
+not_sole = refl
+
+pub superseded : Superseded
+superseded = refl
+
+pub superseded_held : SupersededHeld
+superseded_held = refl
+
+pub hold_ends_with_session : HoldEndsWithSession
+hold_ends_with_session = refl
+
+pub hold_extends : HoldExtends
+hold_extends = refl
+
+pub moments_rise : MomentsRise
+moments_rise = refl
+
+pub session_expires : SessionExpires
+session_expires = refl
+
+pub gone_within_a_request : GoneWithinARequest
+gone_within_a_request = refl
+
+pub each_refusal : EachRefusal
+each_refusal = refl
+
+pub unknown_type : UnknownType
+unknown_type = refl
+
+pub many_patterns : ManyPatterns
+many_patterns = refl
+
+pub full_queue : FullQueue
+full_queue = refl
+
+pub queue_with_room : QueueWithRoom
+queue_with_room = refl
+
+pub full_with_batch : FullWithBatch
+full_with_batch = refl
+
+pub held_through_overflow : HeldThroughOverflow
+held_through_overflow = refl
+
+pub overflow_at_1025 : OverflowAt1025
+overflow_at_1025 = refl
+
+pub four_full_batches : FourFullBatches
+four_full_batches = refl
+
+pub handshake_text : HandshakeText
+unfolding digits escape_byte
+handshake_text = refl
+
+pub refused_text : RefusedText
+unfolding digits escape_byte
+refused_text = refl
+
+pub batch_text : BatchText
+unfolding digits escape_byte
+batch_text = refl
+
+pub delivery_text : DeliveryText
+unfolding digits escape_byte
+delivery_text = refl
+
+pub callback_example : CallbackExample
+unfolding digits escape_byte
+callback_example = refl
+
+pub empty_callback : EmptyCallback
+unfolding digits escape_byte
+empty_callback = refl

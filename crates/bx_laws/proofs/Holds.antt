@@ -1,0 +1,123 @@
+-- A held connect stays held until the first entry that ends it, and is answered there.
+use Rattle.std.proofs.Common.{◌≡◌, ℕ, ◌+◌, Bool, true, false, cond, ◌&&◌, Option, Some, List, [], ◌∷◌, ◌++◌, fold, nat_le, ◌==◌, refl, sym, ap, ◌∙◌, subst, append_assoc}
+use Rattle.std.proofs.lemmas.Bool.{cond_both, cond-true, cond-false, and_parts}
+use Rattle.std.specs.List.{list_any}
+use Rattle.bx_advice.specs.declared.config.Config.{Config}
+use Rattle.bx_advice.specs.declared.advice.Case.{Case}
+use Rattle.bx_advice.specs.declared.advice.Case.TheVariants.{Connected, Disconnected, Failed}
+use Rattle.bx_advice.specs.declared.error.Error.TheVariants.{SupersededConnect}
+use Rattle.bx_entry.specs.declared.entry.Entry.{Entry}
+use Rattle.bx_entry.specs.declared.entry.Kind.{Kind}
+use Rattle.bx_entry.specs.declared.entry.Kind.TheVariants.{Connect, Subscribe, Unsubscribe, Publish, Disconnect, Refused, Tick}
+use Rattle.bx_entry.specs.declared.entry.Kind.TheVariants as entries
+use Rattle.bx_entry.specs.Sessions.{Session, Publication, Pending, Filed, Stage, Unopened, Live, Closed, filing, unheld, released_from, released, connected, subscribed, unsubscribed, with_batch, forgotten, gives_one, with_event, delivered_to, delivered, overflowed, is_hit, has_room, published, expired_from, expired, ended, closed_by, disconnected, begun, step_by, step}
+use Rattle.bx_laws.specs.Readings.{ends_by, AnsweredAt, HeldReading, EndingReading}
+use Rattle.bx_laws.proofs.Keeps.{Keeps, freed_k}
+
+-- ---- what doesn't end it
+
+begun_held : (ack : Bool) (s : Session) (stage : Stage) → (begun ack s stage).held ≡ s.held
+begun_held ack s Unopened = refl
+begun_held ack s Live = refl
+begun_held ack s Closed = refl
+
+either_held : (b : Bool) (t s : Session) (p : Option Pending) → t.held ≡ p → s.held ≡ p → (cond b t s).held ≡ p
+either_held b t s p h g = cond_both b t s (λ (u : Session). u.held ≡ p) (λ e. h) (λ e. g)
+
+not_taken : (b : Bool) (t s : Session) (p : Option Pending) → b ≡ false → s.held ≡ p → (cond b t s).held ≡ p
+not_taken b t s p e g = ap (λ (u : Session). u.held) (cond-false b t s e) ∙ g
+
+published_held : (config : Config) (e : Publication) (s : Session) (p : Option Pending) → (is_hit s e.event && has_room config s) ≡ false → s.held ≡ p → (published config e s).held ≡ p
+published_held config e s p n h =
+    cond_both (is_hit s e.event) (cond (has_room config s) (delivered config e s) (overflowed s)) s (λ (u : Session). u.held ≡ p)
+    (λ a. not_taken (has_room config s) (delivered config e s) (overflowed s) p (sym (ap (λ b. b && has_room config s) a) ∙ n) h)
+    (λ a. h)
+
+expired_held : (config : Config) (place moment : ℕ) (s : Session) (p : Pending) → nat_le (p.moment + p.hold) moment ≡ false → s.held ≡ Some p → (expired config place moment s).held ≡ Some p
+expired_held config place moment s p n h =
+    ap (λ (o : Option Pending). (expired_from config place moment s o).held) h ∙ not_taken (nat_le (p.moment + p.hold) moment) (released config place Connected s) s (Some p) n h
+
+closed_by_held : (numbers : List ℕ) (s : Session) → (closed_by numbers s).held ≡ s.held
+closed_by_held numbers s = either_held (list_any (λ n. n == s.number) numbers) (ended s) s s.held refl refl
+
+step_by_held : (config : Config) (place moment : ℕ) (s : Session) (p : Pending) (k : Kind) → s.held ≡ Some p → ends_by config s p moment k ≡ false → (step_by config place moment s k).held ≡ Some p
+step_by_held config place moment s p (entries.Opened n ack) h e = either_held (n == s.number) (begun ack s s.stage) s (Some p) (begun_held ack s s.stage ∙ h) h
+step_by_held config place moment s p (Connect n client id acked hold) h e =
+    let q : Pending = record { place = place; client = client; id = id; moment = moment; hold = hold } in not_taken (n == s.number) (connected config q acked s) s (Some p) e h
+step_by_held config place moment s p (Subscribe n ps) h e = either_held (n == s.number) (subscribed config ps s) s (Some p) h h
+step_by_held config place moment s p (Unsubscribe n ps) h e = either_held (n == s.number) (unsubscribed ps s) s (Some p) h h
+step_by_held config place moment s p (Publish v) h e = published_held config (record { place = place; event = v }) s (Some p) e h
+step_by_held config place moment s p (Disconnect n) h e = not_taken (n == s.number) (disconnected config place s) s (Some p) e h
+step_by_held config place moment s p Refused h e = h
+step_by_held config place moment s p (Tick numbers) h e = closed_by_held numbers (expired config place moment s) ∙ expired_held config place moment s p e h
+
+pub held_reading : HeldReading
+held_reading config s p [] h n = h
+held_reading config s p (e ∷ es) h n = held_reading config (step config s e) p es (step_by_held config e.place e.moment s p e.kind h n.0) n.1
+
+-- ---- what ends it
+
+released_here : (config : Config) (place : ℕ) (case : Case) (s : Session) (p : Pending) → s.held ≡ Some p → AnsweredAt p place s (released config place case s)
+released_here config place case s p h =
+    subst (λ (o : Option Pending). AnsweredAt p place s (released_from config place case s o)) (sym h)
+    (record { answer = filing config p place [] case (unheld s); others = []; answers = refl; connect = refl; place = refl })
+
+answered_then : (p : Pending) (now : ℕ) (s t u : Session) → AnsweredAt p now s t → Keeps t u → AnsweredAt p now s u
+answered_then p now s t u a k = record {
+  answer = a.answer;
+  others = a.others ++ k.more;
+  answers = k.answers ∙ ap (λ (fs : List Filed). fs ++ k.more) a.answers ∙ append_assoc s.answers (a.answer ∷ a.others) k.more;
+  connect = a.connect;
+  place = a.place;
+}
+
+connected_here : (config : Config) (q : Pending) (acked : Option ℕ) (s : Session) (p : Pending) → s.held ≡ Some p → AnsweredAt p q.place s (connected config q acked s)
+connected_here config q acked s p h = answered_then p q.place s (released config q.place (Failed SupersededConnect) s) (connected config q acked s) (released_here config q.place (Failed SupersededConnect) s p h) (freed_k config q acked s)
+
+one_answers : (s : Session) → (gives_one s).answers ≡ s.answers
+one_answers s = cond_both s.ack (with_batch 1 s) (forgotten 1 s) (λ (u : Session). u.answers ≡ s.answers) (λ h. refl) (λ h. refl)
+
+delivered_here : (config : Config) (e : Publication) (s : Session) (p : Pending) → s.held ≡ Some p → AnsweredAt p e.place s (delivered config e s)
+delivered_here config e s p h =
+    subst (λ (o : Option Pending). AnsweredAt p e.place s (delivered_to config e (with_event e s) o)) (sym h)
+    (record {
+      answer = filing config p e.place (e ∷ []) Connected (gives_one (unheld (with_event e s)));
+      others = [];
+      answers = ap (λ (fs : List Filed). fs ++ filing config p e.place (e ∷ []) Connected (gives_one (unheld (with_event e s))) ∷ []) (one_answers (unheld (with_event e s)));
+      connect = refl;
+      place = refl;
+    })
+
+published_here : (config : Config) (e : Publication) (s : Session) (p : Pending) → s.held ≡ Some p → (is_hit s e.event && has_room config s) ≡ true → AnsweredAt p e.place s (published config e s)
+published_here config e s p h n =
+    let a = and_parts (is_hit s e.event) (has_room config s) n in
+    subst (AnsweredAt p e.place s) (sym (cond-true (is_hit s e.event) (cond (has_room config s) (delivered config e s) (overflowed s)) s a.0 ∙ cond-true (has_room config s) (delivered config e s) (overflowed s) a.1))
+    (delivered_here config e s p h)
+
+ended_here : (p : Pending) (now : ℕ) (s t : Session) → AnsweredAt p now s t → AnsweredAt p now s (ended t)
+ended_here p now s t a = record { answer = a.answer; others = a.others; answers = a.answers; connect = a.connect; place = a.place }
+
+closed_by_here : (p : Pending) (now : ℕ) (numbers : List ℕ) (s t : Session) → AnsweredAt p now s t → AnsweredAt p now s (closed_by numbers t)
+closed_by_here p now numbers s t a = cond_both (list_any (λ n. n == t.number) numbers) (ended t) t (AnsweredAt p now s) (λ h. ended_here p now s t a) (λ h. a)
+
+expired_here : (config : Config) (place moment : ℕ) (s : Session) (p : Pending) → s.held ≡ Some p → nat_le (p.moment + p.hold) moment ≡ true → AnsweredAt p place s (expired config place moment s)
+expired_here config place moment s p h n =
+    subst (λ (o : Option Pending). AnsweredAt p place s (expired_from config place moment s o)) (sym h)
+    (subst (AnsweredAt p place s) (sym (cond-true (nat_le (p.moment + p.hold) moment) (released config place Connected s) s n)) (released_here config place Connected s p h))
+
+taken_here : (p : Pending) (now : ℕ) (b : Bool) (s t : Session) → b ≡ true → AnsweredAt p now s t → AnsweredAt p now s (cond b t s)
+taken_here p now b s t e a = subst (AnsweredAt p now s) (sym (cond-true b t s e)) a
+
+step_by_here : (config : Config) (place moment : ℕ) (s : Session) (p : Pending) (k : Kind) → s.held ≡ Some p → ends_by config s p moment k ≡ true → AnsweredAt p place s (step_by config place moment s k)
+step_by_here config place moment s p (entries.Opened n ack) h e = cc
+step_by_here config place moment s p (Connect n client id acked hold) h e =
+    let q : Pending = record { place = place; client = client; id = id; moment = moment; hold = hold } in taken_here p place (n == s.number) s (connected config q acked s) e (connected_here config q acked s p h)
+step_by_here config place moment s p (Subscribe n ps) h e = cc
+step_by_here config place moment s p (Unsubscribe n ps) h e = cc
+step_by_here config place moment s p (Publish v) h e = published_here config (record { place = place; event = v }) s p h e
+step_by_here config place moment s p (Disconnect n) h e = taken_here p place (n == s.number) s (disconnected config place s) e (ended_here p place s (released config place Disconnected s) (released_here config place Disconnected s p h))
+step_by_here config place moment s p Refused h e = cc
+step_by_here config place moment s p (Tick numbers) h e = closed_by_here p place numbers s (expired config place moment s) (expired_here config place moment s p h e)
+
+pub ending_reading : EndingReading
+ending_reading config s p es e h n d = step_by_here config e.place e.moment (fold (step config) s es) p e.kind (held_reading config s p es h n) d

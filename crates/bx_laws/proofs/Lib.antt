@@ -1,0 +1,16 @@
+pub mod Counts
+pub mod Done
+pub mod Moves
+pub mod Runs
+pub mod Batches
+pub mod Places
+pub mod Lists
+pub mod Rising
+pub mod Once
+pub mod Keeps
+pub mod Stages
+pub mod Holds
+pub mod Forces
+pub mod Dues
+pub mod Lives
+pub mod Computed

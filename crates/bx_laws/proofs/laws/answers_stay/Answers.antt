@@ -1,0 +1,5 @@
+use Rattle.bx_laws.proofs.Lists.{answers_stay}
+use Rattle.bx_laws.proofs.laws.answers_stay.Goals as goal
+
+pub returns : goal.returns
+returns c = answers_stay

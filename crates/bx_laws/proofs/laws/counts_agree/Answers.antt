@@ -1,0 +1,5 @@
+use Rattle.bx_laws.proofs.Counts.{counts_agree}
+use Rattle.bx_laws.proofs.laws.counts_agree.Goals as goal
+
+pub returns : goal.returns
+returns c = counts_agree

@@ -1,0 +1,5 @@
+use Rattle.bx_laws.proofs.Done.{done_never_falls}
+use Rattle.bx_laws.proofs.laws.done_never_falls.Goals as goal
+
+pub returns : goal.returns
+returns c = done_never_falls

@@ -1,0 +1,5 @@
+use Rattle.bx_laws.proofs.Dues.{due_reading}
+use Rattle.bx_laws.proofs.laws.due_reading.Goals as goal
+
+pub returns : goal.returns
+returns c = due_reading

@@ -1,0 +1,5 @@
+use Rattle.bx_laws.proofs.Lists.{entries_in_order}
+use Rattle.bx_laws.proofs.laws.entries_in_order.Goals as goal
+
+pub returns : goal.returns
+returns c = entries_in_order

@@ -1,0 +1,5 @@
+use Rattle.bx_laws.proofs.Keeps.{queue_bounded}
+use Rattle.bx_laws.proofs.laws.queue_bounded.Goals as goal
+
+pub returns : goal.returns
+returns c = queue_bounded

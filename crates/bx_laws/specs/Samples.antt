@@ -1,0 +1,184 @@
+-- Messages and replies that the worked runs are made of.
+use Rattle.std.specs.Prelude.{ℕ, ◌≡◌, replicate, flat_map, drop, Bool, true, false, List, [], ◌∷◌, ◌++◌, map, codes, refl, Option, Some, None, Ok, Err}
+use Rattle.std.proofs.Common.{lit≤}
+use Rattle.bx_names.specs.Globs.{matches, glob_of}
+use Rattle.bx_names.specs.Segments.{segments}
+use Rattle.bx_names.specs.Faults.{name_fault, pattern_fault}
+use Rattle.bx_names.specs.declared.error.NameError.TheVariants.{NoSlash, EmptySegment, BadByte, Wild, TooLong, TooDeep}
+use Rattle.bx_message.specs.declared.message.Message.{Message}
+use Rattle.bx_message.specs.declared.message.TextMember.TheVariants.{Absent, Text}
+use Rattle.bx_message.specs.declared.message.AckMember.TheVariants.{NoAck, AckTrue, AckNumber}
+use Rattle.bx_message.specs.declared.column.Column.{Column}
+use Rattle.bx_advice.specs.declared.error.Error.{Error}
+use Rattle.bx_advice.specs.declared.error.Error.TheVariants.{UnknownMetaChannel, UnsupportedVersion, SecondHandshake, NoClientId, UnknownClient, InvalidChannel, SubscriptionDenied, MissingSubscription, MissingData, SupersededConnect, QueueOverflow}
+use Rattle.bx_advice.specs.declared.config.Config.{Config}
+use Rattle.bx_advice.specs.Advice.{advice_of}
+use Rattle.bx_advice.specs.Limits.{standard_limits}
+use Rattle.bx_advice.specs.declared.advice.Case.{Case}
+use Rattle.bx_advice.specs.declared.advice.Case.TheVariants.{Opened, Connected, Disconnected, Done, Failed}
+use Rattle.bx_message.specs.declared.reply.Reply.{Reply}
+use Rattle.bx_message.specs.declared.reply.Item.{Item}
+use Rattle.bx_message.specs.declared.reply.Item.TheVariants.{EventItem, ReplyItem}
+use Rattle.bx_message.specs.declared.reply.AckReply.{AckReply}
+use Rattle.bx_entry.specs.Registry.{client_id}
+use Rattle.bx_entry.specs.Inputs.{ReadInput, Request, Tick}
+use Rattle.bx_entry.specs.declared.input.Refusal.TheVariants.{BadMoment}
+use Rattle.bx_entry.specs.Runs.{Out, outs, held}
+use Rattle.bx_entry.specs.declared.input.Refusal.{Refusal}
+use Rattle.bx_message.specs.Texts.{body_text, callback_text}
+use Rattle.std.specs.Prelude.{Result}
+use Rattle.std.specs.List.{join_with_byte}
+use Rattle.bx_entry.specs.declared.input.Refusal.TheVariants.{Body}
+use Rattle.bx_entry.specs.declared.input.BodyFault.TheVariants.{NotJson}
+use Rattle.bx_entry.specs.Inputs.{Unread}
+use Rattle.bx_advice.specs.declared.error.Error.TheVariants.{UnknownConnectionType, InvalidPattern, TooManyPatterns}
+
+-- ---- messages
+
+abbrev pub blank : List ℕ → Message
+blank channel = record { channel = channel; id = None; client = Absent; version = Absent; supported = []; connection = Absent; subscription = None; texts = []; listed = false; payload = None; ack = NoAck; timeout = None }
+
+-- the id of session k, where nonces are 0
+abbrev pub id_of : ℕ → List ℕ
+id_of k = client_id 0 k
+
+abbrev pub of_session : List ℕ → ℕ → Message
+of_session channel k = record (blank channel) { client = Text (id_of k) }
+
+abbrev pub versioned : List ℕ → Message
+versioned version = record (blank (codes "/meta/handshake")) { version = Text version; supported = codes "long-polling" ∷ [] }
+
+abbrev pub handshake : Message
+handshake = versioned (codes "1.0")
+
+abbrev pub ack_handshake : Message
+ack_handshake = record handshake { ack = AckTrue }
+
+abbrev pub connect : ℕ → Message
+connect k = record (of_session (codes "/meta/connect") k) { connection = Text (codes "long-polling") }
+
+-- a connect that isn't held
+abbrev pub connect_now : ℕ → Message
+connect_now k = record (connect k) { timeout = Some 0 }
+
+abbrev pub ack_connect : ℕ → ℕ → Message
+ack_connect k n = record (connect k) { ack = AckNumber n }
+
+abbrev pub ack_connect_now : ℕ → ℕ → Message
+ack_connect_now k n = record (ack_connect k n) { timeout = Some 0 }
+
+-- a text as JSON, where it needs no escape
+abbrev pub in_quotes : List ℕ → List ℕ
+in_quotes text = 34 ∷ (text ++ 34 ∷ [])
+
+abbrev pub on_pattern : List ℕ → ℕ → List ℕ → Message
+on_pattern channel k pattern = record (of_session channel k) { subscription = Some (in_quotes pattern); texts = pattern ∷ []; listed = true }
+
+abbrev pub subscribe : ℕ → List ℕ → Message
+subscribe = on_pattern (codes "/meta/subscribe")
+
+abbrev pub unsubscribe : ℕ → List ℕ → Message
+unsubscribe = on_pattern (codes "/meta/unsubscribe")
+
+abbrev pub disconnect : ℕ → Message
+disconnect = of_session (codes "/meta/disconnect")
+
+abbrev pub publish : ℕ → List ℕ → List ℕ → Message
+publish k channel payload = record (of_session channel k) { payload = Some payload }
+
+-- a request, with nonce 0
+abbrev pub post : ℕ → List Message → ReadInput
+post moment ms = Request moment 0 ms
+
+-- ---- replies
+
+abbrev pub standard : Config
+standard = record { shards = 2; timeout = 30000; interval = 0; max_interval = 10000; limits = standard_limits; some_shard = lit≤ tt; shards_in_range = lit≤ tt }
+
+abbrev pub reply : Column → List ℕ → Option (List ℕ) → Case → AckReply → Reply
+reply column channel client case ack = record { column = column; channel = channel; client = client; id = None; subscription = None; case = case; advice = advice_of standard case; ack = ack }
+
+abbrev pub handshaken : ℕ → Item
+handshaken k = ReplyItem (reply Column.Handshake (codes "/meta/handshake") (Some (id_of k)) Opened AckReply.NoAck)
+
+abbrev pub ack_handshaken : ℕ → Item
+ack_handshaken k = ReplyItem (reply Column.Handshake (codes "/meta/handshake") (Some (id_of k)) Opened AckReply.AckTrue)
+
+abbrev pub connected_as : ℕ → Case → AckReply → Item
+connected_as k case ack = ReplyItem (reply Column.Connect (codes "/meta/connect") (Some (id_of k)) case ack)
+
+abbrev pub connected : ℕ → Item
+connected k = connected_as k Connected AckReply.NoAck
+
+abbrev pub ack_connected : ℕ → ℕ → Item
+ack_connected k n = connected_as k Connected (AckReply.AckNumber n)
+
+abbrev pub subscribed : ℕ → List ℕ → Item
+subscribed k pattern = ReplyItem (record (reply Column.Subscribe (codes "/meta/subscribe") (Some (id_of k)) Done AckReply.NoAck) { subscription = Some (in_quotes pattern) })
+
+abbrev pub unsubscribed : ℕ → List ℕ → Item
+unsubscribed k pattern = ReplyItem (record (reply Column.Unsubscribe (codes "/meta/unsubscribe") (Some (id_of k)) Done AckReply.NoAck) { subscription = Some (in_quotes pattern) })
+
+abbrev pub disconnected : ℕ → Item
+disconnected k = ReplyItem (reply Column.Disconnect (codes "/meta/disconnect") (Some (id_of k)) Done AckReply.NoAck)
+
+abbrev pub published : List ℕ → Item
+published channel = ReplyItem (reply Column.Publish channel None Done AckReply.NoAck)
+
+abbrev pub unknown_client : Column → List ℕ → Item
+unknown_client column channel = ReplyItem (reply column channel None (Failed UnknownClient) AckReply.NoAck)
+
+abbrev pub event : List ℕ → List ℕ → Item
+event channel payload = EventItem (record { channel = channel; payload = payload; id = None })
+
+abbrev pub out : ℕ → List Item → Out
+out input items = record { input = input; result = Ok items }
+
+-- a subscription with these patterns
+abbrev pub listing : List (List ℕ) → List ℕ
+listing patterns = 91 ∷ (join_with_byte 44 (map in_quotes patterns) ++ 93 ∷ [])
+
+abbrev pub subscribe_all : ℕ → List (List ℕ) → Message
+subscribe_all k patterns = record (of_session (codes "/meta/subscribe") k) { subscription = Some (listing patterns); texts = patterns; listed = true }
+
+abbrev pub subscribed_all : ℕ → List (List ℕ) → Case → Item
+subscribed_all k patterns case = ReplyItem (record (reply Column.Subscribe (codes "/meta/subscribe") (Some (id_of k)) case AckReply.NoAck) { subscription = Some (listing patterns) })
+
+-- whether the pattern matches each of the names
+abbrev pub match_all : List ℕ → List (List ℕ) → List Bool
+match_all pattern names = map (λ name. matches (glob_of (segments pattern)) (segments name)) names
+
+abbrev pub two_connects : List ReadInput
+two_connects = post 0 (handshake ∷ []) ∷ post 1 (connect 1 ∷ []) ∷ post 2 (connect 1 ∷ []) ∷ []
+
+abbrev pub held_with_ack : List ReadInput
+held_with_ack =
+    post 0 (ack_handshake ∷ []) ∷ post 0 (handshake ∷ []) ∷ post 0 (subscribe 1 (codes "/a/**") ∷ []) ∷ post 1 (ack_connect 1 0 ∷ [])
+    ∷ post 2 (publish 2 (codes "/a/b/c") (codes "[1, 2]") ∷ []) ∷ post 3 (ack_connect 1 0 ∷ []) ∷ post 4 (ack_connect 1 1 ∷ []) ∷ []
+
+-- a configuration with room for so many events and patterns
+abbrev pub small : ℕ → ℕ → Config
+small events patterns = record standard { limits = record standard_limits { events = events; patterns = patterns } }
+
+abbrev pub failed : Column → List ℕ → Option (List ℕ) → Error → Item
+failed column channel client error = ReplyItem (reply column channel client (Failed error) AckReply.NoAck)
+
+-- 256 publishes in a request
+abbrev pub many : ReadInput
+many = post 0 (replicate 256 (publish 1 (codes "/a/b") (codes "1")))
+
+abbrev pub four_batches : List ReadInput
+four_batches = post 0 (handshake ∷ []) ∷ post 0 (subscribe 1 (codes "/a/b") ∷ []) ∷ many ∷ many ∷ many ∷ many ∷ []
+
+abbrev pub full_batch : List Item
+full_batch = replicate 256 (event (codes "/a/b") (codes "1")) ++ connected 1 ∷ []
+
+-- ---- texts
+
+-- the body of a response, or the empty text of a refusal
+abbrev pub text_by : Result (List Item) Refusal → List ℕ
+text_by (Ok items) = body_text items
+text_by (Err refusal) = []
+
+abbrev pub texts : Config → List ReadInput → List (List ℕ)
+texts config inputs = map (λ (o : Out). text_by o.result) (outs config inputs)

@@ -1,0 +1,383 @@
+-- Worked runs: inputs as messages, and the outs that they give.
+use Rattle.std.specs.Prelude.{ℕ, ◌≡◌, replicate, flat_map, drop, Bool, true, false, List, [], ◌∷◌, ◌++◌, map, codes, refl, Option, Some, None, Ok, Err}
+use Rattle.std.proofs.Common.{lit≤}
+use Rattle.bx_names.specs.Globs.{matches, glob_of}
+use Rattle.bx_names.specs.Segments.{segments}
+use Rattle.bx_names.specs.Faults.{name_fault, pattern_fault}
+use Rattle.bx_names.specs.declared.error.NameError.TheVariants.{NoSlash, EmptySegment, BadByte, Wild, TooLong, TooDeep}
+use Rattle.bx_message.specs.declared.message.Message.{Message}
+use Rattle.bx_message.specs.declared.message.TextMember.TheVariants.{Absent, Text}
+use Rattle.bx_message.specs.declared.message.AckMember.TheVariants.{NoAck, AckTrue, AckNumber}
+use Rattle.bx_message.specs.declared.column.Column.{Column}
+use Rattle.bx_advice.specs.declared.error.Error.{Error}
+use Rattle.bx_advice.specs.declared.error.Error.TheVariants.{UnknownMetaChannel, UnsupportedVersion, SecondHandshake, NoClientId, UnknownClient, InvalidChannel, SubscriptionDenied, MissingSubscription, MissingData, SupersededConnect, QueueOverflow}
+use Rattle.bx_advice.specs.declared.config.Config.{Config}
+use Rattle.bx_advice.specs.Advice.{advice_of}
+use Rattle.bx_advice.specs.Limits.{standard_limits}
+use Rattle.bx_advice.specs.declared.advice.Case.{Case}
+use Rattle.bx_advice.specs.declared.advice.Case.TheVariants.{Opened, Connected, Disconnected, Done, Failed}
+use Rattle.bx_message.specs.declared.reply.Reply.{Reply}
+use Rattle.bx_message.specs.declared.reply.Item.{Item}
+use Rattle.bx_message.specs.declared.reply.Item.TheVariants.{EventItem, ReplyItem}
+use Rattle.bx_message.specs.declared.reply.AckReply.{AckReply}
+use Rattle.bx_entry.specs.Registry.{client_id}
+use Rattle.bx_entry.specs.Inputs.{ReadInput, Request, Tick}
+use Rattle.bx_entry.specs.declared.input.Refusal.TheVariants.{BadMoment}
+use Rattle.bx_entry.specs.Runs.{Out, outs, held}
+use Rattle.std.specs.List.{join_with_byte}
+use Rattle.bx_entry.specs.declared.input.Refusal.TheVariants.{Body}
+use Rattle.bx_entry.specs.declared.input.BodyFault.TheVariants.{NotJson}
+use Rattle.bx_entry.specs.Inputs.{Unread}
+use Rattle.bx_advice.specs.declared.error.Error.TheVariants.{UnknownConnectionType, InvalidPattern, TooManyPatterns}
+use Rattle.bx_message.specs.Texts.{body_text, callback_text}
+use Rattle.bx_entry.specs.declared.input.Refusal.{Refusal}
+use Rattle.std.specs.Prelude.{Result}
+use Rattle.bx_entry.specs.Runs.{outs, held}
+use Rattle.bx_laws.specs.Samples.{blank, id_of, of_session, versioned, handshake, ack_handshake, connect, connect_now, ack_connect, ack_connect_now, in_quotes, on_pattern, subscribe, unsubscribe, disconnect, publish, post, standard, reply, handshaken, ack_handshaken, connected_as, connected, ack_connected, subscribed, unsubscribed, disconnected, published, unknown_client, event, out, listing, subscribe_all, subscribed_all, match_all, two_connects, held_with_ack, small, failed, many, four_batches, full_batch, text_by, texts}
+
+-- ---- which texts read as names and patterns, and what patterns match
+
+abbrev pub NamesRead : Type 0
+NamesRead =
+    name_fault (codes "/a/b") ∷ name_fault (codes "/meta") ∷ name_fault [] ∷ name_fault (codes "a") ∷ name_fault (codes "/") ∷ name_fault (codes "/a//b") ∷ name_fault (codes "/a/") ∷ name_fault (codes "/a b") ∷ name_fault (codes "/a/*") ∷ []
+    ≡ None ∷ None ∷ Some NoSlash ∷ Some NoSlash ∷ Some EmptySegment ∷ Some EmptySegment ∷ Some EmptySegment ∷ Some BadByte ∷ Some Wild ∷ []
+
+abbrev pub LengthsRead : Type 0
+LengthsRead =
+    name_fault (47 ∷ replicate 255 97) ∷ name_fault (47 ∷ replicate 256 97) ∷ name_fault (flat_map (λ x. x ∷ 97 ∷ []) (replicate 32 47)) ∷ name_fault (flat_map (λ x. x ∷ 97 ∷ []) (replicate 33 47)) ∷ []
+    ≡ None ∷ Some TooLong ∷ None ∷ Some TooDeep ∷ []
+
+abbrev pub PatternsRead : Type 0
+PatternsRead =
+    pattern_fault (codes "/a/b") ∷ pattern_fault (codes "/a/*") ∷ pattern_fault (codes "/a/**") ∷ pattern_fault (codes "/*") ∷ pattern_fault (codes "/**") ∷ pattern_fault (codes "/*/b") ∷ pattern_fault (codes "/a*") ∷ pattern_fault (codes "/***") ∷ []
+    ≡ None ∷ None ∷ None ∷ None ∷ None ∷ Some Wild ∷ Some Wild ∷ Some Wild ∷ []
+
+abbrev pub StarsMatch : Type 0
+StarsMatch =
+    match_all (codes "/foo/*") (codes "/foo/bar" ∷ codes "/foo" ∷ codes "/foobar" ∷ codes "/foo/bar/boo" ∷ []) ≡ true ∷ false ∷ false ∷ false ∷ []
+
+abbrev pub DoubleStarsMatch : Type 0
+DoubleStarsMatch =
+    match_all (codes "/foo/**") (codes "/foo/bar" ∷ codes "/foo/bar/boo" ∷ codes "/foo" ∷ codes "/foobar/x" ∷ []) ≡ true ∷ true ∷ false ∷ false ∷ []
+
+abbrev pub AllMatch : Type 0
+AllMatch =
+    match_all (codes "/**") (codes "/a" ∷ codes "/a/b" ∷ []) ≡ true ∷ true ∷ []
+
+abbrev pub PlainMatch : Type 0
+PlainMatch =
+    match_all (codes "/a") (codes "/a" ∷ codes "/a/b" ∷ []) ≡ true ∷ false ∷ []
+
+-- ---- handshakes, accepted and refused
+
+-- a first handshake, with an id that is repeated
+abbrev pub HandshakeWithId : Type 0
+HandshakeWithId =
+    outs standard (post 0 (record handshake { id = Some (codes "\"1\"") } ∷ []) ∷ [])
+    ≡ out 0 (ReplyItem (record (reply Column.Handshake (codes "/meta/handshake") (Some (id_of 1)) Opened AckReply.NoAck) { id = Some (codes "\"1\"") }) ∷ []) ∷ []
+
+-- a version that isn't accepted takes no number
+abbrev pub RefusedHandshake : Type 0
+RefusedHandshake =
+    outs standard (post 0 (versioned (codes "2.0") ∷ []) ∷ post 0 (handshake ∷ []) ∷ [])
+    ≡ out 0 (ReplyItem (reply Column.Handshake (codes "/meta/handshake") None (Failed UnsupportedVersion) AckReply.NoAck) ∷ [])
+    ∷ out 1 (handshaken 1 ∷ []) ∷ []
+
+-- the second handshake of a request takes no number
+abbrev pub TwoHandshakes : Type 0
+TwoHandshakes =
+    outs standard (post 0 (handshake ∷ handshake ∷ []) ∷ post 0 (handshake ∷ []) ∷ [])
+    ≡ out 0 (handshaken 1 ∷ ReplyItem (reply Column.Handshake (codes "/meta/handshake") None (Failed SecondHandshake) AckReply.NoAck) ∷ [])
+    ∷ out 1 (handshaken 2 ∷ []) ∷ []
+
+-- an empty array is answered by an empty array
+abbrev pub NothingPosted : Type 0
+NothingPosted =
+    outs standard (post 0 [] ∷ []) ≡ out 0 [] ∷ []
+
+-- a body that can't be read changes nothing: the next handshake has the first number
+abbrev pub Unreadable : Type 0
+Unreadable =
+    outs standard (Unread NotJson ∷ post 0 (handshake ∷ []) ∷ [])
+    ≡ record { input = 0; result = Err (Body NotJson) } ∷ out 1 (handshaken 1 ∷ []) ∷ []
+
+-- ---- events and the connects that get them
+
+-- an event ends a hold
+abbrev pub HeldThenGiven : Type 0
+HeldThenGiven =
+    outs standard (
+    post 0 (handshake ∷ []) ∷ post 0 (handshake ∷ []) ∷ post 0 (subscribe 1 (codes "/a/*") ∷ [])
+    ∷ post 10 (connect 1 ∷ []) ∷ post 20 (publish 2 (codes "/a/b") (codes "7") ∷ []) ∷ [])
+    ≡ out 0 (handshaken 1 ∷ []) ∷ out 1 (handshaken 2 ∷ []) ∷ out 2 (subscribed 1 (codes "/a/*") ∷ [])
+    ∷ out 3 (event (codes "/a/b") (codes "7") ∷ connected 1 ∷ []) ∷ out 4 (published (codes "/a/b") ∷ []) ∷ []
+
+-- two patterns that match one name give the event once; `/a/**` doesn't match `/a`
+abbrev pub MatchedTwice : Type 0
+MatchedTwice =
+    outs standard (
+    post 0 (handshake ∷ [])
+    ∷ post 0 (subscribe 1 (codes "/a/*") ∷ subscribe 1 (codes "/a/**") ∷ publish 1 (codes "/a/b") (codes "1") ∷ publish 1 (codes "/a") (codes "2") ∷ [])
+    ∷ post 0 (connect_now 1 ∷ []) ∷ [])
+    ≡ out 0 (handshaken 1 ∷ [])
+    ∷ out 1 (subscribed 1 (codes "/a/*") ∷ subscribed 1 (codes "/a/**") ∷ published (codes "/a/b") ∷ published (codes "/a") ∷ [])
+    ∷ out 2 (event (codes "/a/b") (codes "1") ∷ connected 1 ∷ []) ∷ []
+
+-- a publish to a service channel succeeds and goes to no one, though a pattern matches
+abbrev pub ServicePublish : Type 0
+ServicePublish =
+    outs standard (post 0 (handshake ∷ []) ∷ post 0 (subscribe 1 (codes "/**") ∷ publish 1 (codes "/service/x") (codes "1") ∷ []) ∷ post 0 (connect_now 1 ∷ []) ∷ [])
+    ≡ out 0 (handshaken 1 ∷ []) ∷ out 1 (subscribed 1 (codes "/**") ∷ published (codes "/service/x") ∷ []) ∷ out 2 (connected 1 ∷ []) ∷ []
+
+-- data and id are repeated as the sender wrote them
+abbrev pub SenderBytes : Type 0
+SenderBytes =
+    outs standard (post 0 (handshake ∷ []) ∷ post 0 (subscribe 1 (codes "/a/b") ∷ []) ∷ post 0 (record (publish 1 (codes "/a/b") (codes "{\"a\" : 1.50}")) { id = Some (codes "\"q\"") } ∷ []) ∷ post 0 (connect_now 1 ∷ []) ∷ [])
+    ≡ out 0 (handshaken 1 ∷ []) ∷ out 1 (subscribed 1 (codes "/a/b") ∷ [])
+    ∷ out 2 (ReplyItem (record (reply Column.Publish (codes "/a/b") None Done AckReply.NoAck) { id = Some (codes "\"q\"") }) ∷ [])
+    ∷ out 3 (EventItem (record { channel = codes "/a/b"; payload = codes "{\"a\" : 1.50}"; id = Some (codes "\"q\"") }) ∷ connected 1 ∷ []) ∷ []
+
+-- ---- batches, until they are acknowledged
+
+-- an acknowledgement that is no number acknowledges nothing
+abbrev pub NoNumber : Type 0
+NoNumber =
+    outs standard (post 0 (ack_handshake ∷ []) ∷ post 0 (record (connect_now 1) { ack = NoAck } ∷ []) ∷ [])
+    ≡ out 0 (ack_handshaken 1 ∷ []) ∷ out 1 (ack_connected 1 0 ∷ []) ∷ []
+
+-- an outstanding batch is given again, with no later event in it, until its number is acknowledged
+abbrev pub BatchesRepeat : Type 0
+BatchesRepeat =
+    outs standard (
+    post 0 (ack_handshake ∷ [])
+    ∷ post 0 (subscribe 1 (codes "/a/*") ∷ publish 1 (codes "/a/x") (codes "1") ∷ [])
+    ∷ post 1 (ack_connect_now 1 0 ∷ [])
+    ∷ post 2 (publish 1 (codes "/a/y") (codes "2") ∷ publish 1 (codes "/a/z") (codes "3") ∷ [])
+    ∷ post 3 (ack_connect_now 1 0 ∷ [])
+    ∷ post 4 (unsubscribe 1 (codes "/a/*") ∷ [])
+    ∷ post 5 (ack_connect_now 1 0 ∷ [])
+    ∷ post 6 (ack_connect_now 1 1 ∷ [])
+    ∷ post 7 (ack_connect_now 1 2 ∷ []) ∷ [])
+    ≡ out 0 (ack_handshaken 1 ∷ [])
+    ∷ out 1 (subscribed 1 (codes "/a/*") ∷ published (codes "/a/x") ∷ [])
+    ∷ out 2 (event (codes "/a/x") (codes "1") ∷ ack_connected 1 1 ∷ [])
+    ∷ out 3 (published (codes "/a/y") ∷ published (codes "/a/z") ∷ [])
+    ∷ out 4 (event (codes "/a/x") (codes "1") ∷ ack_connected 1 1 ∷ [])
+    ∷ out 5 (unsubscribed 1 (codes "/a/*") ∷ [])
+    ∷ out 6 (event (codes "/a/x") (codes "1") ∷ ack_connected 1 1 ∷ [])
+    ∷ out 7 (event (codes "/a/y") (codes "2") ∷ event (codes "/a/z") (codes "3") ∷ ack_connected 1 2 ∷ [])
+    ∷ out 8 (ack_connected 1 2 ∷ []) ∷ []
+
+-- a number above the last acknowledges all that was given, however often it is sent
+abbrev pub GreatNumber : Type 0
+GreatNumber =
+    outs standard (
+    post 0 (ack_handshake ∷ [])
+    ∷ post 0 (subscribe 1 (codes "/a/*") ∷ publish 1 (codes "/a/x") (codes "1") ∷ [])
+    ∷ post 1 (ack_connect_now 1 0 ∷ [])
+    ∷ post 2 (publish 1 (codes "/a/y") (codes "2") ∷ [])
+    ∷ post 3 (ack_connect_now 1 18446744073709551615 ∷ [])
+    ∷ post 4 (ack_connect_now 1 18446744073709551615 ∷ []) ∷ [])
+    ≡ out 0 (ack_handshaken 1 ∷ [])
+    ∷ out 1 (subscribed 1 (codes "/a/*") ∷ published (codes "/a/x") ∷ [])
+    ∷ out 2 (event (codes "/a/x") (codes "1") ∷ ack_connected 1 1 ∷ [])
+    ∷ out 3 (published (codes "/a/y") ∷ [])
+    ∷ out 4 (event (codes "/a/y") (codes "2") ∷ ack_connected 1 2 ∷ [])
+    ∷ out 5 (ack_connected 1 2 ∷ []) ∷ []
+
+-- the event that ends an acknowledging session's hold is a batch, which is given again until it is acknowledged
+abbrev pub EventIsBatch : Type 0
+EventIsBatch =
+    outs standard held_with_ack
+    ≡ out 0 (ack_handshaken 1 ∷ []) ∷ out 1 (handshaken 2 ∷ []) ∷ out 2 (subscribed 1 (codes "/a/**") ∷ [])
+    ∷ out 3 (event (codes "/a/b/c") (codes "[1, 2]") ∷ ack_connected 1 1 ∷ []) ∷ out 4 (published (codes "/a/b/c") ∷ [])
+    ∷ out 5 (event (codes "/a/b/c") (codes "[1, 2]") ∷ ack_connected 1 1 ∷ []) ∷ []
+
+abbrev pub EventIsBatchHeld : Type 0
+EventIsBatchHeld =
+    held standard held_with_ack ≡ 6 ∷ []
+
+-- ---- held connects, and what ends them
+
+-- a tick at its deadline ends a hold, one before it doesn't
+abbrev pub HoldRunsOut : Type 0
+HoldRunsOut =
+    outs standard (post 0 (handshake ∷ []) ∷ post 0 (connect 1 ∷ []) ∷ Tick 29999 ∷ Tick 30000 ∷ [])
+    ≡ out 0 (handshaken 1 ∷ []) ∷ out 2 [] ∷ out 1 (connected 1 ∷ []) ∷ out 3 [] ∷ []
+
+-- a connect beside another message isn't held
+abbrev pub NotSole : Type 0
+NotSole =
+    outs standard (post 0 (handshake ∷ []) ∷ post 1 (connect 1 ∷ connect 1 ∷ []) ∷ [])
+    ≡ out 0 (handshaken 1 ∷ []) ∷ out 1 (connected 1 ∷ connected 1 ∷ []) ∷ []
+
+-- a newer connect ends the one before it, and is held itself
+abbrev pub Superseded : Type 0
+Superseded =
+    outs standard two_connects
+    ≡ out 0 (handshaken 1 ∷ []) ∷ out 1 (connected_as 1 (Failed SupersededConnect) AckReply.NoAck ∷ []) ∷ []
+
+abbrev pub SupersededHeld : Type 0
+SupersededHeld =
+    held standard two_connects ≡ 2 ∷ []
+
+-- a disconnect ends a hold with success and the advice not to come again
+abbrev pub HoldEndsWithSession : Type 0
+HoldEndsWithSession =
+    outs standard (post 0 (handshake ∷ []) ∷ post 1 (connect 1 ∷ []) ∷ post 2 (disconnect 1 ∷ []) ∷ [])
+    ≡ out 0 (handshaken 1 ∷ []) ∷ out 1 (connected_as 1 Disconnected AckReply.NoAck ∷ []) ∷ out 2 (disconnected 1 ∷ []) ∷ []
+
+-- a hold extends the due moment, whether or not it was used to its end
+abbrev pub HoldExtends : Type 0
+HoldExtends =
+    outs standard (
+    post 0 (handshake ∷ []) ∷ post 0 (subscribe 1 (codes "/a/b") ∷ []) ∷ post 0 (connect 1 ∷ []) ∷ post 100 (publish 1 (codes "/a/b") (codes "1") ∷ []) ∷ Tick 40000
+    ∷ post 40000 (publish 1 (codes "/a/b") (codes "2") ∷ []) ∷ Tick 50000 ∷ Tick 50001 ∷ post 50001 (connect_now 1 ∷ []) ∷ [])
+    ≡ out 0 (handshaken 1 ∷ []) ∷ out 1 (subscribed 1 (codes "/a/b") ∷ []) ∷ out 2 (event (codes "/a/b") (codes "1") ∷ connected 1 ∷ []) ∷ out 3 (published (codes "/a/b") ∷ []) ∷ out 4 []
+    ∷ out 5 (published (codes "/a/b") ∷ []) ∷ out 6 [] ∷ out 7 [] ∷ out 8 (unknown_client Column.Connect (codes "/meta/connect") ∷ []) ∷ []
+
+-- moments count as the greatest so far: a deadline, and the end of moments
+abbrev pub MomentsRise : Type 0
+MomentsRise =
+    outs standard (
+    post 9 (handshake ∷ []) ∷ post 5 (connect 1 ∷ []) ∷ Tick 30005 ∷ Tick 30009 ∷ Tick 4611686018427387905 ∷ post 30009 (disconnect 1 ∷ []) ∷ [])
+    ≡ out 0 (handshaken 1 ∷ []) ∷ out 2 [] ∷ out 1 (connected 1 ∷ []) ∷ out 3 [] ∷ record { input = 4; result = Err BadMoment } ∷ out 5 (disconnected 1 ∷ []) ∷ []
+
+-- ---- sessions that end
+
+-- a tick past its due moment closes a session, one at it doesn't
+abbrev pub SessionExpires : Type 0
+SessionExpires =
+    outs standard (
+    post 0 (handshake ∷ []) ∷ post 5 (handshake ∷ []) ∷ post 5 (subscribe 2 (codes "/a/*") ∷ []) ∷ Tick 10000 ∷ Tick 10001
+    ∷ post 10001 (publish 1 (codes "/a/b") (codes "1") ∷ []) ∷ post 10001 (connect_now 2 ∷ []) ∷ [])
+    ≡ out 0 (handshaken 1 ∷ []) ∷ out 1 (handshaken 2 ∷ []) ∷ out 2 (subscribed 2 (codes "/a/*") ∷ []) ∷ out 3 [] ∷ out 4 []
+    ∷ out 5 (unknown_client Column.Publish (codes "/a/b") ∷ []) ∷ out 6 (connected 2 ∷ []) ∷ []
+
+-- a message behind its session's disconnect comes too late
+abbrev pub GoneWithinARequest : Type 0
+GoneWithinARequest =
+    outs standard (post 0 (handshake ∷ []) ∷ post 1 (disconnect 1 ∷ publish 1 (codes "/a/b") (codes "1") ∷ []) ∷ [])
+    ≡ out 0 (handshaken 1 ∷ []) ∷ out 1 (disconnected 1 ∷ unknown_client Column.Publish (codes "/a/b") ∷ []) ∷ []
+
+-- ---- refused messages
+
+abbrev pub EachRefusal : Type 0
+EachRefusal =
+    outs standard (post 0 (handshake ∷ []) ∷ post 0 (
+    blank (codes "/meta/ping") ∷ blank (codes "/meta/connect") ∷ record (blank (codes "/meta/disconnect")) { client = Text (codes "nobody") }
+    ∷ subscribe 1 (codes "/meta/*") ∷ subscribe 1 (codes "/service/x") ∷ of_session (codes "/meta/subscribe") 1
+    ∷ publish 1 (codes "/a/*") (codes "1") ∷ of_session (codes "/a") 1 ∷ []) ∷ [])
+    ≡ out 0 (handshaken 1 ∷ [])
+    ∷ out 1 (failed Column.UnknownMeta (codes "/meta/ping") None UnknownMetaChannel
+    ∷ failed Column.Connect (codes "/meta/connect") None NoClientId
+    ∷ failed Column.Disconnect (codes "/meta/disconnect") None UnknownClient
+    ∷ ReplyItem (record (reply Column.Subscribe (codes "/meta/subscribe") (Some (id_of 1)) (Failed SubscriptionDenied) AckReply.NoAck) { subscription = Some (in_quotes (codes "/meta/*")) })
+    ∷ subscribed 1 (codes "/service/x")
+    ∷ failed Column.Subscribe (codes "/meta/subscribe") (Some (id_of 1)) MissingSubscription
+    ∷ failed Column.Publish (codes "/a/*") None InvalidChannel
+    ∷ failed Column.Publish (codes "/a") None MissingData ∷ []) ∷ []
+
+-- a connection type that isn't served is refused
+abbrev pub UnknownType : Type 0
+UnknownType =
+    drop 1 (outs standard (post 0 (handshake ∷ []) ∷ post 1 (record (connect 1) { connection = Text (codes "websocket") } ∷ []) ∷ []))
+    ≡ out 1 (failed Column.Connect (codes "/meta/connect") (Some (id_of 1)) UnknownConnectionType ∷ []) ∷ []
+
+-- 64 patterns are accepted, 65 are not; one that reads as no pattern is told first, one of a meta channel later
+abbrev pub ManyPatterns : Type 0
+ManyPatterns =
+    drop 1 (outs standard (post 0 (handshake ∷ []) ∷ post 0 (
+        subscribe_all 1 (replicate 64 (codes "/a/b")) ∷ subscribe_all 1 (codes "/meta/*" ∷ replicate 64 (codes "/a/b")) ∷ subscribe_all 1 (replicate 64 (codes "/a/b") ++ codes "a" ∷ []) ∷ []) ∷ []))
+    ≡ out 1 (subscribed_all 1 (replicate 64 (codes "/a/b")) Done ∷ subscribed_all 1 (codes "/meta/*" ∷ replicate 64 (codes "/a/b")) (Failed TooManyPatterns)
+        ∷ subscribed_all 1 (replicate 64 (codes "/a/b") ++ codes "a" ∷ []) (Failed InvalidPattern) ∷ []) ∷ []
+
+-- ---- queues and patterns at their limits
+
+-- a third event overflows a queue of two: the events are dropped, connects are refused, publishes are served
+abbrev pub FullQueue : Type 0
+FullQueue =
+    outs (small 2 8) (
+    post 0 (handshake ∷ []) ∷ post 0 (subscribe 1 (codes "/a/b") ∷ publish 1 (codes "/a/b") (codes "1") ∷ publish 1 (codes "/a/b") (codes "2") ∷ [])
+    ∷ post 0 (publish 1 (codes "/a/b") (codes "3") ∷ []) ∷ post 0 (connect_now 1 ∷ []) ∷ post 0 (publish 1 (codes "/a/b") (codes "4") ∷ []) ∷ [])
+    ≡ out 0 (handshaken 1 ∷ []) ∷ out 1 (subscribed 1 (codes "/a/b") ∷ published (codes "/a/b") ∷ published (codes "/a/b") ∷ []) ∷ out 2 (published (codes "/a/b") ∷ [])
+    ∷ out 3 (connected_as 1 (Failed QueueOverflow) AckReply.NoAck ∷ []) ∷ out 4 (published (codes "/a/b") ∷ []) ∷ []
+
+-- two events fit
+abbrev pub QueueWithRoom : Type 0
+QueueWithRoom =
+    outs (small 2 8) (
+    post 0 (handshake ∷ []) ∷ post 0 (subscribe 1 (codes "/a/b") ∷ publish 1 (codes "/a/b") (codes "1") ∷ publish 1 (codes "/a/b") (codes "2") ∷ [])
+    ∷ post 0 (connect_now 1 ∷ []) ∷ [])
+    ≡ out 0 (handshaken 1 ∷ []) ∷ out 1 (subscribed 1 (codes "/a/b") ∷ published (codes "/a/b") ∷ published (codes "/a/b") ∷ [])
+    ∷ out 2 (event (codes "/a/b") (codes "1") ∷ event (codes "/a/b") (codes "2") ∷ connected 1 ∷ []) ∷ []
+
+-- the outstanding batch counts towards the limit, so a connect that would acknowledge it comes too late
+abbrev pub FullWithBatch : Type 0
+FullWithBatch =
+    outs (small 2 8) (
+    post 0 (ack_handshake ∷ []) ∷ post 0 (subscribe 1 (codes "/a/b") ∷ publish 1 (codes "/a/b") (codes "1") ∷ []) ∷ post 0 (ack_connect_now 1 0 ∷ [])
+    ∷ post 0 (publish 1 (codes "/a/b") (codes "2") ∷ publish 1 (codes "/a/b") (codes "3") ∷ []) ∷ post 0 (ack_connect_now 1 1 ∷ []) ∷ [])
+    ≡ out 0 (ack_handshaken 1 ∷ []) ∷ out 1 (subscribed 1 (codes "/a/b") ∷ published (codes "/a/b") ∷ [])
+    ∷ out 2 (event (codes "/a/b") (codes "1") ∷ ack_connected 1 1 ∷ []) ∷ out 3 (published (codes "/a/b") ∷ published (codes "/a/b") ∷ [])
+    ∷ out 4 (connected_as 1 (Failed QueueOverflow) AckReply.NoAck ∷ []) ∷ []
+
+-- a held connect outlives an overflow by patterns: a tick at its deadline answers it, and the next connect is refused
+abbrev pub HeldThroughOverflow : Type 0
+HeldThroughOverflow =
+    outs (small 8 1) (
+    post 0 (handshake ∷ []) ∷ post 0 (subscribe 1 (codes "/a/b") ∷ []) ∷ post 0 (connect 1 ∷ []) ∷ post 0 (subscribe 1 (codes "/a/c") ∷ [])
+    ∷ post 0 (publish 1 (codes "/a/b") (codes "1") ∷ []) ∷ Tick 30000 ∷ post 30000 (connect 1 ∷ []) ∷ [])
+    ≡ out 0 (handshaken 1 ∷ []) ∷ out 1 (subscribed 1 (codes "/a/b") ∷ []) ∷ out 3 (subscribed 1 (codes "/a/c") ∷ []) ∷ out 4 (published (codes "/a/b") ∷ [])
+    ∷ out 2 (connected 1 ∷ []) ∷ out 5 [] ∷ out 6 (connected_as 1 (Failed QueueOverflow) AckReply.NoAck ∷ []) ∷ []
+
+-- one event more than 1,024 overflows the session
+abbrev pub OverflowAt1025 : Type 0
+OverflowAt1025 =
+    drop 6 (outs standard (four_batches ++ post 0 (publish 1 (codes "/a/b") (codes "1") ∷ []) ∷ post 0 (connect_now 1 ∷ []) ∷ post 0 (publish 1 (codes "/a/b") (codes "1") ∷ []) ∷ []))
+    ≡ out 6 (published (codes "/a/b") ∷ []) ∷ out 7 (connected_as 1 (Failed QueueOverflow) AckReply.NoAck ∷ []) ∷ out 8 (published (codes "/a/b") ∷ []) ∷ []
+
+-- 1,024 events are given by four connects
+abbrev pub FourFullBatches : Type 0
+FourFullBatches =
+    drop 6 (outs standard (four_batches ++ post 0 (connect_now 1 ∷ []) ∷ post 0 (connect_now 1 ∷ []) ∷ post 0 (connect_now 1 ∷ []) ∷ post 0 (connect_now 1 ∷ []) ∷ post 0 (connect_now 1 ∷ []) ∷ []))
+    ≡ out 6 full_batch ∷ out 7 full_batch ∷ out 8 full_batch ∷ out 9 full_batch ∷ out 10 (connected 1 ∷ []) ∷ []
+
+-- ---- responses down to their bytes
+
+abbrev pub HandshakeText : Type 0
+HandshakeText =
+    texts standard (post 0 (record handshake { id = Some (codes "\"1\"") } ∷ []) ∷ [])
+    ≡ codes "[{\"advice\":{\"interval\":0,\"reconnect\":\"retry\",\"timeout\":30000},\"channel\":\"/meta/handshake\",\"clientId\":\"000000000000000000000000000000000000000000000001\",\"id\":\"1\",\"successful\":true,\"supportedConnectionTypes\":[\"long-polling\",\"callback-polling\"],\"version\":\"1.0\"}]" ∷ []
+
+abbrev pub RefusedText : Type 0
+RefusedText =
+    texts standard (post 0 (versioned (codes "2.0") ∷ []) ∷ [])
+    ≡ codes "[{\"advice\":{\"interval\":0,\"reconnect\":\"none\"},\"channel\":\"/meta/handshake\",\"error\":\"400::Unsupported version\",\"successful\":false,\"supportedConnectionTypes\":[\"long-polling\",\"callback-polling\"],\"version\":\"1.0\"}]" ∷ []
+
+abbrev pub BatchText : Type 0
+BatchText =
+    texts standard (
+    post 0 (ack_handshake ∷ []) ∷ post 0 (subscribe 1 (codes "/a/*") ∷ publish 1 (codes "/a/x") (codes "[1, 2]") ∷ []) ∷ post 1 (ack_connect_now 1 0 ∷ []) ∷ [])
+    ≡ codes "[{\"advice\":{\"interval\":0,\"reconnect\":\"retry\",\"timeout\":30000},\"channel\":\"/meta/handshake\",\"clientId\":\"000000000000000000000000000000000000000000000001\",\"ext\":{\"ack\":true},\"successful\":true,\"supportedConnectionTypes\":[\"long-polling\",\"callback-polling\"],\"version\":\"1.0\"}]"
+    ∷ codes "[{\"channel\":\"/meta/subscribe\",\"clientId\":\"000000000000000000000000000000000000000000000001\",\"subscription\":\"/a/*\",\"successful\":true},{\"channel\":\"/a/x\",\"successful\":true}]"
+    ∷ codes "[{\"channel\":\"/a/x\",\"data\":[1, 2]},{\"advice\":{\"interval\":0,\"reconnect\":\"retry\",\"timeout\":30000},\"channel\":\"/meta/connect\",\"clientId\":\"000000000000000000000000000000000000000000000001\",\"ext\":{\"ack\":1},\"successful\":true}]"
+    ∷ []
+
+-- an event before the reply of the held connect that it ends, and the publish's reply behind
+abbrev pub DeliveryText : Type 0
+DeliveryText =
+    drop 3 (texts standard (
+    post 0 (handshake ∷ []) ∷ post 0 (handshake ∷ []) ∷ post 0 (subscribe 1 (codes "/a/*") ∷ []) ∷ post 10 (connect 1 ∷ []) ∷ post 20 (publish 2 (codes "/a/b") (codes "7") ∷ []) ∷ []))
+    ≡ codes "[{\"channel\":\"/a/b\",\"data\":7},{\"advice\":{\"interval\":0,\"reconnect\":\"retry\",\"timeout\":30000},\"channel\":\"/meta/connect\",\"clientId\":\"000000000000000000000000000000000000000000000001\",\"successful\":true}]"
+    ∷ codes "[{\"channel\":\"/a/b\",\"successful\":true}]" ∷ []
+
+-- a line separator in an event's data is written as an escape in a callback's body
+abbrev pub CallbackExample : Type 0
+CallbackExample =
+    callback_text (codes "cb.x") (EventItem (record { channel = codes "/a/b"; payload = codes "\"x" ++ (226 ∷ 128 ∷ 168 ∷ codes "y\""); id = Some (codes "7") }) ∷ [])
+    ≡ codes "cb.x([{\"channel\":\"/a/b\",\"data\":\"x\\u2028y\",\"id\":7}])"
+
+abbrev pub EmptyCallback : Type 0
+EmptyCallback =
+    callback_text (codes "jsonpcallback") [] ≡ codes "jsonpcallback([])"

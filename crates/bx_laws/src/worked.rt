@@ -1,0 +1,92 @@
+//! Worked runs of the definitions, each computed by the prover.
+ghost use Rattle.bx_laws.specs.Worked.{NamesRead, LengthsRead, PatternsRead, StarsMatch, DoubleStarsMatch, AllMatch, PlainMatch, HandshakeWithId, RefusedHandshake, TwoHandshakes, NothingPosted, Unreadable, HeldThenGiven, MatchedTwice, ServicePublish, SenderBytes, NoNumber, BatchesRepeat, GreatNumber, EventIsBatch, EventIsBatchHeld, HoldRunsOut, NotSole, Superseded, SupersededHeld, HoldEndsWithSession, HoldExtends, MomentsRise, SessionExpires, GoneWithinARequest, EachRefusal, UnknownType, ManyPatterns, FullQueue, QueueWithRoom, FullWithBatch, HeldThroughOverflow, OverflowAt1025, FourFullBatches, HandshakeText, RefusedText, BatchText, DeliveryText, CallbackExample, EmptyCallback};
+
+/// Which texts read as names and patterns, and what patterns match.
+pub fn channels()
+    ensures names_read { NamesRead }
+    ensures lengths_read { LengthsRead }
+    ensures patterns_read { PatternsRead }
+    ensures stars_match { StarsMatch }
+    ensures double_stars_match { DoubleStarsMatch }
+    ensures all_match { AllMatch }
+    ensures plain_match { PlainMatch }
+{
+}
+
+/// Handshakes, accepted and refused.
+pub fn handshakes()
+    ensures handshake_with_id { HandshakeWithId }
+    ensures refused_handshake { RefusedHandshake }
+    ensures two_handshakes { TwoHandshakes }
+    ensures nothing_posted { NothingPosted }
+    ensures unreadable { Unreadable }
+{
+}
+
+/// Events and the connects that get them.
+pub fn deliveries()
+    ensures held_then_given { HeldThenGiven }
+    ensures matched_twice { MatchedTwice }
+    ensures service_publish { ServicePublish }
+    ensures sender_bytes { SenderBytes }
+{
+}
+
+/// Batches, until they are acknowledged.
+pub fn acknowledgements()
+    ensures no_number { NoNumber }
+    ensures batches_repeat { BatchesRepeat }
+    ensures great_number { GreatNumber }
+    ensures event_is_batch { EventIsBatch }
+    ensures event_is_batch_held { EventIsBatchHeld }
+{
+}
+
+/// Held connects, and what ends them.
+pub fn held_connects()
+    ensures hold_runs_out { HoldRunsOut }
+    ensures not_sole { NotSole }
+    ensures superseded { Superseded }
+    ensures superseded_held { SupersededHeld }
+    ensures hold_ends_with_session { HoldEndsWithSession }
+    ensures hold_extends { HoldExtends }
+    ensures moments_rise { MomentsRise }
+{
+}
+
+/// Sessions that end.
+pub fn endings()
+    ensures session_expires { SessionExpires }
+    ensures gone_within_a_request { GoneWithinARequest }
+{
+}
+
+/// Refused messages.
+pub fn refusals()
+    ensures each_refusal { EachRefusal }
+    ensures unknown_type { UnknownType }
+    ensures many_patterns { ManyPatterns }
+{
+}
+
+/// Queues and patterns at their limits.
+pub fn overflows()
+    ensures full_queue { FullQueue }
+    ensures queue_with_room { QueueWithRoom }
+    ensures full_with_batch { FullWithBatch }
+    ensures held_through_overflow { HeldThroughOverflow }
+    ensures overflow_at_1025 { OverflowAt1025 }
+    ensures four_full_batches { FourFullBatches }
+{
+}
+
+/// Responses down to their bytes.
+pub fn response_texts()
+    ensures handshake_text { HandshakeText }
+    ensures refused_text { RefusedText }
+    ensures batch_text { BatchText }
+    ensures delivery_text { DeliveryText }
+    ensures callback_example { CallbackExample }
+    ensures empty_callback { EmptyCallback }
+{
+}

@@ -1,0 +1,56 @@
+-- What a reply repeats of its message, and what it tells the client.
+use Rattle.std.specs.Prelude.{ℕ, List, codes, Option, Some, None}
+use Rattle.bx_advice.specs.declared.config.Config.{Config}
+use Rattle.bx_advice.specs.declared.advice.Case.{Case}
+use Rattle.bx_advice.specs.Advice.{advice_of}
+use Rattle.bx_message.specs.declared.message.Message.{Message}
+use Rattle.bx_message.specs.declared.column.Column.{Column}
+use Rattle.bx_message.specs.declared.column.Column.TheVariants.{Handshake, Connect, Subscribe, Unsubscribe, Disconnect, Publish, UnknownMeta}
+use Rattle.bx_message.specs.declared.reply.AckReply.{AckReply}
+use Rattle.bx_message.specs.declared.reply.Reply.{Reply}
+
+-- the reply to a message of this column carries the client id, where its session is known
+abbrev pub client_for : Column → Option (List ℕ) → Option (List ℕ)
+client_for Handshake client = client
+client_for Connect client = client
+client_for Subscribe client = client
+client_for Unsubscribe client = client
+client_for Disconnect client = client
+client_for Publish client = None
+client_for UnknownMeta client = None
+
+-- subscriptions and unsubscriptions repeat the member, in a refusal too
+abbrev pub subscription_for : Column → Option (List ℕ) → Option (List ℕ)
+subscription_for Handshake subscription = None
+subscription_for Connect subscription = None
+subscription_for Subscribe subscription = subscription
+subscription_for Unsubscribe subscription = subscription
+subscription_for Disconnect subscription = None
+subscription_for Publish subscription = None
+subscription_for UnknownMeta subscription = None
+
+-- the reply to a message that is answered at its own place; the client id is that of its session, or none
+abbrev pub reply_to : Config → Column → Message → Option (List ℕ) → Case → AckReply → Reply
+reply_to config column m client case ack = record {
+  column = column;
+  channel = m.channel;
+  client = client_for column client;
+  id = m.id;
+  subscription = subscription_for column m.subscription;
+  case = case;
+  advice = advice_of config case;
+  ack = ack;
+}
+
+-- the reply to a connect, whenever it is answered
+abbrev pub connect_reply : Config → List ℕ → Option (List ℕ) → Case → AckReply → Reply
+connect_reply config client id case ack = record {
+  column = Connect;
+  channel = codes "/meta/connect";
+  client = Some client;
+  id = id;
+  subscription = None;
+  case = case;
+  advice = advice_of config case;
+  ack = ack;
+}

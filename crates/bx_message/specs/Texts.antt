@@ -1,0 +1,157 @@
+-- The text of a reply, of an event, of a response's array and of a callback's body: compact JSON, members in ascending byte order of their names.
+use Rattle.std.specs.Prelude.{ℕ, List, [], ◌∷◌, ◌++◌, map, drop, nat_eq, codes, decimal, if◌then◌else◌, Option, Some, None}
+use Rattle.std.specs.List.{join_with_byte, starts_with}
+use Rattle.json.specs.Print.{quoted}
+use Rattle.bx_advice.specs.Errors.{error_text}
+use Rattle.bx_advice.specs.declared.advice.Advice.{Advice}
+use Rattle.bx_advice.specs.declared.advice.Reconnect.{Reconnect}
+use Rattle.bx_advice.specs.declared.advice.Reconnect.TheVariants.{Retry, Handshake, Never}
+use Rattle.bx_advice.specs.declared.advice.Case.{Case}
+use Rattle.bx_advice.specs.declared.advice.Case.TheVariants.{Opened, Connected, Disconnected, Done, Failed}
+use Rattle.bx_message.specs.declared.column.Column.{Column}
+use Rattle.bx_message.specs.declared.event.Event.{Event}
+use Rattle.bx_message.specs.declared.reply.Reply.{Reply}
+use Rattle.bx_message.specs.declared.reply.Item.{Item}
+use Rattle.bx_message.specs.declared.reply.Item.TheVariants.{EventItem, ReplyItem}
+use Rattle.bx_message.specs.declared.reply.AckReply.{AckReply}
+use Rattle.bx_message.specs.declared.reply.AckReply.TheVariants.{NoAck, AckTrue, AckNumber}
+
+-- a member: its name as JSON writes it, and the text of its value
+abbrev pub member : List ℕ → List ℕ → List ℕ
+member name value = quoted name ++ (58 ∷ value)
+
+-- an object with these members
+abbrev pub object : List (List ℕ) → List ℕ
+object members = 123 ∷ (join_with_byte 44 members ++ 125 ∷ [])
+
+-- an array of these values
+abbrev pub array : List (List ℕ) → List ℕ
+array values = 91 ∷ (join_with_byte 44 values ++ 93 ∷ [])
+
+-- a member whose value is the sender's bytes, where there are any
+abbrev pub raw_member : List ℕ → Option (List ℕ) → List (List ℕ)
+raw_member name None = []
+raw_member name (Some value) = member name value ∷ []
+
+-- a member whose value is a text, where there is one
+abbrev pub text_member : List ℕ → Option (List ℕ) → List (List ℕ)
+text_member name None = []
+text_member name (Some text) = member name (quoted text) ∷ []
+
+-- a member whose value is a number, where there is one
+abbrev pub number_member : List ℕ → Option ℕ → List (List ℕ)
+number_member name None = []
+number_member name (Some n) = member name (decimal n) ∷ []
+
+-- the word for what a client is to do
+abbrev pub reconnect_text : Reconnect → List ℕ
+reconnect_text Retry = codes "retry"
+reconnect_text Handshake = codes "handshake"
+reconnect_text Never = codes "none"
+
+-- an advice as an object
+abbrev pub advice_text : Advice → List ℕ
+advice_text a = object (
+    member (codes "interval") (decimal a.interval)
+    ∷ member (codes "reconnect") (quoted (reconnect_text a.reconnect))
+    ∷ number_member (codes "timeout") a.timeout)
+
+-- the advice, where there is one
+abbrev pub advice_member : Option Advice → List (List ℕ)
+advice_member None = []
+advice_member (Some a) = member (codes "advice") (advice_text a) ∷ []
+
+-- the extension's member, where it is carried
+abbrev pub ack_member : AckReply → List (List ℕ)
+ack_member NoAck = []
+ack_member AckTrue = member (codes "ext") (object (member (codes "ack") (codes "true") ∷ [])) ∷ []
+ack_member (AckNumber n) = member (codes "ext") (object (member (codes "ack") (decimal n) ∷ [])) ∷ []
+
+-- the error, where there is one
+abbrev pub error_member : Case → List (List ℕ)
+error_member Opened = []
+error_member Connected = []
+error_member Disconnected = []
+error_member Done = []
+error_member (Failed error) = member (codes "error") (quoted (error_text error)) ∷ []
+
+-- `true` unless there is an error
+abbrev pub success_text : Case → List ℕ
+success_text Opened = codes "true"
+success_text Connected = codes "true"
+success_text Disconnected = codes "true"
+success_text Done = codes "true"
+success_text (Failed error) = codes "false"
+
+-- only replies to handshakes carry the types and the version, and they carry them always
+abbrev pub types_member : Column → List (List ℕ)
+types_member Column.Handshake = member (codes "supportedConnectionTypes") (array (quoted (codes "long-polling") ∷ quoted (codes "callback-polling") ∷ [])) ∷ []
+types_member Column.Connect = []
+types_member Column.Subscribe = []
+types_member Column.Unsubscribe = []
+types_member Column.Disconnect = []
+types_member Column.Publish = []
+types_member Column.UnknownMeta = []
+
+-- the protocol's version
+abbrev pub version_member : Column → List (List ℕ)
+version_member Column.Handshake = member (codes "version") (quoted (codes "1.0")) ∷ []
+version_member Column.Connect = []
+version_member Column.Subscribe = []
+version_member Column.Unsubscribe = []
+version_member Column.Disconnect = []
+version_member Column.Publish = []
+version_member Column.UnknownMeta = []
+
+-- a reply, its members in order
+abbrev pub reply_text : Reply → List ℕ
+reply_text r = object (
+    advice_member r.advice
+    ++ text_member (codes "channel") (Some r.channel)
+    ++ text_member (codes "clientId") r.client
+    ++ error_member r.case
+    ++ ack_member r.ack
+    ++ raw_member (codes "id") r.id
+    ++ raw_member (codes "subscription") r.subscription
+    ++ raw_member (codes "successful") (Some (success_text r.case))
+    ++ types_member r.column
+    ++ version_member r.column)
+
+-- an event, its members in order
+abbrev pub event_text : Event → List ℕ
+event_text e = object (
+    text_member (codes "channel") (Some e.channel)
+    ++ raw_member (codes "data") (Some e.payload)
+    ++ raw_member (codes "id") e.id)
+
+-- an event or a reply
+abbrev pub item_text : Item → List ℕ
+item_text (EventItem e) = event_text e
+item_text (ReplyItem r) = reply_text r
+
+-- a response: one array
+abbrev pub body_text : List Item → List ℕ
+body_text items = array (map item_text items)
+
+-- U+2028, in UTF-8
+abbrev pub line_separator : List ℕ
+line_separator = 226 ∷ 128 ∷ 168 ∷ []
+
+-- U+2029, in UTF-8
+abbrev pub paragraph_separator : List ℕ
+paragraph_separator = 226 ∷ 128 ∷ 169 ∷ []
+
+-- a text in which only its beginning can still hold one of the two: there it is written as an escape
+abbrev pub guarded : List ℕ → List ℕ
+guarded xs =
+    if starts_with nat_eq xs line_separator then codes "\\u2028" ++ drop 3 xs
+    else (if starts_with nat_eq xs paragraph_separator then codes "\\u2029" ++ drop 3 xs else xs)
+
+-- the text as a script may hold it
+abbrev pub script_safe : List ℕ → List ℕ
+script_safe [] = []
+script_safe (x ∷ xs) = guarded (x ∷ script_safe xs)
+
+-- a callback's body: the name, and the array in parentheses
+abbrev pub callback_text : List ℕ → List Item → List ℕ
+callback_text name items = name ++ (40 ∷ (script_safe (body_text items) ++ 41 ∷ []))

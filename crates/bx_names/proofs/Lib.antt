@@ -1,0 +1,5 @@
+pub mod PathLemmas
+pub mod GlobLemmas
+pub mod FaultLemmas
+pub mod WalkLemmas
+pub mod MatchLemmas

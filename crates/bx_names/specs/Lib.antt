@@ -1,0 +1,4 @@
+pub mod Segments
+pub mod Globs
+pub mod Faults
+pub mod Kinds

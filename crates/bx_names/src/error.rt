@@ -1,0 +1,49 @@
+ghost use Rattle.std.specs.Prelude.{◌≡◌};
+ghost use Rattle.bx_names.specs.declared.error.NameError.TheVariants.{Memory};
+
+use std::alloc::AllocError;
+use std::error::Error;
+use std::fmt;
+
+/// Why a text does not read as a channel name or a pattern. Of several faults the first in this order is told.
+#[derive(Clone, Copy, Debug, PartialEq, Eq, Hash)]
+pub enum NameError {
+    /// The text does not begin with a slash.
+    NoSlash,
+    /// A segment has no byte: two slashes stand side by side, or the last byte is one.
+    EmptySegment,
+    /// A byte is below 0x21, or is 0x7F (this server's choice).
+    BadByte,
+    /// A star stands in a name, or in a pattern elsewhere than as its last segment `*` or `**`.
+    Wild,
+    /// The text has more than `MAX_NAME_BYTES` bytes.
+    TooLong,
+    /// The text has more than `MAX_NAME_SEGMENTS` segments.
+    TooDeep,
+    /// There was no memory for a copy of the text.
+    Memory,
+}
+
+impl fmt::Display for NameError {
+    fn fmt<W: fmt::Write>(&self, f: &mut fmt::Formatter<W>) -> fmt::Result {
+        f.write_str(match self {
+            NameError::NoSlash => "the name does not begin with a slash",
+            NameError::EmptySegment => "the name has an empty segment",
+            NameError::BadByte => "the name has a control byte or a space",
+            NameError::Wild => "the name has a star out of place",
+            NameError::TooLong => "the name has too many bytes",
+            NameError::TooDeep => "the name has too many segments",
+            NameError::Memory => "out of memory",
+        })
+    }
+}
+
+impl Error for NameError {}
+
+impl From<AllocError> for NameError {
+    ghost from_gives = { λ _ e. e ≡ Memory };
+
+    fn from(_refused: AllocError) -> NameError {
+        NameError::Memory
+    }
+}

@@ -1,0 +1,29 @@
+//! Channel names and patterns of Bayeux 1.0: what reads as one, what kind a channel is, and which pattern matches which name.
+#![tactic(auto)]
+
+mod error;
+mod fault;
+mod kind;
+mod laws;
+mod limits;
+mod matching;
+mod name;
+mod pattern;
+mod segments;
+mod tail;
+#[cfg(test)]
+mod tests;
+
+pub use error::NameError;
+pub use fault::{name_fault, pattern_fault};
+pub use kind::{ChannelKind, kind_of};
+pub use laws::{
+    double_star_matches_any_longer_name, exact_pattern_matches_one_name, name_reads_back,
+    pattern_reads_back, star_matches_one_more_segment, stars_differ_on_depth,
+};
+pub use limits::{MAX_NAME_BYTES, MAX_NAME_SEGMENTS};
+pub use matching::matches;
+pub use name::ChannelName;
+pub use pattern::Pattern;
+pub use segments::Segments;
+pub use tail::Tail;

@@ -1,0 +1,137 @@
+ghost use Rattle.std.specs.Prelude.{◌≡◌, ◌<◌, ◌≤◌, ◌↔◌, None, IsTrue, length, slice_get, IfOk, IfSome, OnOk, IsOkUnless};
+ghost use Rattle.bx_names.specs.Segments.{path_of, segments};
+ghost use Rattle.bx_names.specs.Faults.{name_fault, read_name};
+ghost use Rattle.bx_names.specs.Kinds.{kind_of};
+
+use crate::error::NameError;
+use crate::fault::name_fault;
+use crate::kind::{ChannelKind, kind_of};
+use crate::limits::MAX_NAME_SEGMENTS;
+use crate::segments::{Segments, segments_of};
+use std::alloc::{AllocError, Global};
+use std::hash::{Hash, Hasher};
+use std::marker::Model;
+
+/// The name of a channel, as `/a/b`: an absolute path of segments. Contracts see the list of its segments, each as its bytes.
+#[derive(Debug, Drop)]
+pub struct ChannelName {
+    text: String,
+}
+
+impl Model for ChannelName {
+    ghost use Rattle.std.specs.Prelude.{◌≡◌, ℕ, List, None, string_bytes};
+    ghost use Rattle.bx_names.specs.Segments.{segments};
+    ghost use Rattle.bx_names.specs.Faults.{name_fault};
+
+    ghost Value = { List (List ℕ) };
+
+    ghost view = { λ name. segments (string_bytes name.text) };
+
+    ghost invariant = { λ name. name_fault (string_bytes name.text) ≡ None };
+}
+
+impl ChannelName {
+    /// Reads a text as a channel name and keeps a copy of it.
+    ///
+    /// A text with a fault is refused with its first one, in the order of `NameError`; `Memory` comes only at a text without one.
+    pub fn read(alloc: Global, text: &str) -> Result<ChannelName, NameError>
+        ensures valid { OnOk result (name_fault text.now ≡ None) }
+        ensures segments { IfOk result (λ name. name ≡ segments text.now) }
+        ensures fault { IfSome (name_fault text.now) (λ fault. result ≡ Err fault) }
+        ensures memory { name_fault text.now ≡ None → IsOkUnless result NameError.Memory }
+        ensures memory_alone { result ≡ Err NameError.Memory → name_fault text.now ≡ None }
+    {
+        match name_fault(text) {
+            Some(fault) => Err(fault),
+            None => Ok(ChannelName {
+                text: String::from_str(alloc, text)?,
+            }),
+        }
+    }
+
+    /// The text of the name.
+    pub fn as_str(&self) -> &str
+        ensures text { result.now ≡ path_of self.now }
+        ensures reads_back { read_name result.now ≡ Ok self.now }
+    {
+        self.text.as_str()
+    }
+
+    /// The kind of the channel.
+    pub fn kind(&self) -> ChannelKind
+        ensures { result ≡ kind_of (path_of self.now) }
+    {
+        kind_of(self.as_str())
+    }
+
+    /// The segments, from the first on.
+    pub fn segments(&self) -> Segments<'_>
+        ensures segments { result ≡ self.now }
+        ensures limit { length self.now ≤ MAX_NAME_SEGMENTS }
+    {
+        segments_of(self.text.as_str())
+    }
+
+    /// How many segments there are.
+    pub fn segment_count(&self) -> usize
+        ensures { result ≡ length self.now }
+    {
+        self.segments().count()
+    }
+
+    /// The segment at place `k`, counted from 0.
+    pub fn segment(&self, k: usize) -> &str
+        requires { k < length self.now }
+        ensures { slice_get self.now k ≡ Some result.now }
+    {
+        self.segments().nth(k).unwrap()
+    }
+}
+
+impl PartialEq for ChannelName {
+    ghost use Rattle.std.specs.Cmp.{decided, partial_equiv_from_equiv};
+    ghost use Rattle.bx_names.specs.Globs.{same_segments, same_segments-decides};
+
+    ghost eq = { same_segments };
+
+    ghost laws = { partial_equiv_from_equiv (decided same_segments same_segments-decides) };
+
+    fn eq(&self, other: &ChannelName) -> bool
+        ensures same { IsTrue result ↔ (self.now ≡ other.now) }
+        ensures test { result ≡ same_segments self.now other.now }
+    {
+        self.text == other.text
+    }
+}
+
+impl Eq for ChannelName {
+    ghost use Rattle.std.specs.Cmp.{decided};
+    ghost use Rattle.bx_names.specs.Globs.{same_segments, same_segments-decides};
+
+    ghost laws = { decided same_segments same_segments-decides };
+}
+
+impl Hash for ChannelName {
+    ghost use Rattle.std.specs.Hash as fed;
+    ghost use Rattle.std.proofs.Common.{ap};
+    ghost use Rattle.bx_names.specs.Segments.{path_of};
+    ghost use Rattle.bx_names.specs.Globs.{same_segments-decides};
+
+    ghost hash_input = { λ name. fed.str (path_of name) };
+
+    ghost respects_eq = { λ m n same. ap (λ r. fed.str (path_of r)) ((same_segments-decides m n).0 same) };
+
+    fn hash<H: Hasher>(&self, state: &mut H) {
+        self.as_str().hash(state);
+    }
+}
+
+impl Clone for ChannelName {
+    ghost is_clone = { λ name copy. copy ≡ name };
+
+    fn clone(&self) -> Result<ChannelName, AllocError> {
+        Ok(ChannelName {
+            text: self.text.clone()?,
+        })
+    }
+}

@@ -1,0 +1,158 @@
+ghost use Rattle.std.specs.Prelude.{◌≡◌, ◌<◌, ◌≤◌, ◌↔◌, None, IsTrue, length, slice_get, IfOk, IfSome, OnOk, IsOkUnless};
+ghost use Rattle.bx_names.specs.Segments.{is_path, segments};
+ghost use Rattle.bx_names.specs.Globs.{glob_of, glob_text, same_glob};
+ghost use Rattle.bx_names.specs.Faults.{pattern_fault, read_pattern};
+ghost use Rattle.bx_names.specs.Kinds.{kind_of};
+
+use crate::error::NameError;
+use crate::fault::{pattern_fault, split_tail};
+use crate::kind::{ChannelKind, kind_of};
+use crate::limits::MAX_NAME_SEGMENTS;
+use crate::segments::{Segments, segments_of};
+use crate::tail::Tail;
+use std::alloc::{AllocError, Global};
+use std::hash::{Hash, Hasher};
+use std::marker::Model;
+
+/// A pattern of channel names: a name, as `/a/b`, or one whose last segment is `*` or `**` (Bayeux 1.0, channel globbing).
+///
+/// Contracts see its own segments, without the wild one, and what it has behind them.
+#[derive(Debug, Drop)]
+pub struct Pattern {
+    text: String,
+}
+
+impl Model for Pattern {
+    ghost use Rattle.std.specs.Prelude.{◌≡◌, None, string_bytes};
+    ghost use Rattle.bx_names.specs.Segments.{segments};
+    ghost use Rattle.bx_names.specs.Globs.{Glob, glob_of};
+    ghost use Rattle.bx_names.specs.Faults.{pattern_fault};
+
+    ghost Value = { Glob };
+
+    ghost view = { λ pattern. glob_of (segments (string_bytes pattern.text)) };
+
+    ghost invariant = { λ pattern. pattern_fault (string_bytes pattern.text) ≡ None };
+}
+
+impl Pattern {
+    /// Reads a text as a pattern and keeps a copy of it.
+    ///
+    /// A text with a fault is refused with its first one, in the order of `NameError`; `Memory` comes only at a text without one.
+    pub fn read(alloc: Global, text: &str) -> Result<Pattern, NameError>
+        ensures valid { OnOk result (pattern_fault text.now ≡ None) }
+        ensures pattern { IfOk result (λ pattern. pattern ≡ glob_of (segments text.now)) }
+        ensures fault { IfSome (pattern_fault text.now) (λ fault. result ≡ Err fault) }
+        ensures memory { pattern_fault text.now ≡ None → IsOkUnless result NameError.Memory }
+        ensures memory_alone { result ≡ Err NameError.Memory → pattern_fault text.now ≡ None }
+    {
+        match pattern_fault(text) {
+            Some(fault) => Err(fault),
+            None => Ok(Pattern {
+                text: String::from_str(alloc, text)?,
+            }),
+        }
+    }
+
+    /// The text of the pattern.
+    pub fn as_str(&self) -> &str
+        ensures text { result.now ≡ glob_text self.now }
+        ensures reads_back { read_pattern result.now ≡ Ok self.now }
+    {
+        self.text.as_str()
+    }
+
+    /// The kind of channels that the pattern is about, judged by how its text begins.
+    pub fn kind(&self) -> ChannelKind
+        ensures { result ≡ kind_of (glob_text self.now) }
+    {
+        kind_of(self.as_str())
+    }
+
+    /// The text of the pattern's own segments, which is empty where there are none, and what stands behind them.
+    pub(crate) fn split(&self) -> (&str, Tail)
+        ensures path { IsTrue (is_path result.0.now) }
+        ensures own { segments result.0.now ≡ self.now.segments }
+        ensures tail { result.1 ≡ self.now.tail }
+        ensures limit { length self.now.segments ≤ MAX_NAME_SEGMENTS }
+    {
+        split_tail(self.text.as_str())
+    }
+
+    /// What the pattern has behind its own segments.
+    pub fn tail(&self) -> Tail
+        ensures { result ≡ self.now.tail }
+    {
+        self.split().1
+    }
+
+    /// The pattern's own segments, without the wild one, from the first on.
+    pub fn segments(&self) -> Segments<'_>
+        ensures segments { result ≡ self.now.segments }
+        ensures limit { length self.now.segments ≤ MAX_NAME_SEGMENTS }
+    {
+        segments_of(self.split().0)
+    }
+
+    /// How many segments of its own the pattern has, the wild one not counted.
+    pub fn segment_count(&self) -> usize
+        ensures { result ≡ length self.now.segments }
+    {
+        self.segments().count()
+    }
+
+    /// The pattern's own segment at place `k`, counted from 0.
+    pub fn segment(&self, k: usize) -> &str
+        requires { k < length self.now.segments }
+        ensures { slice_get self.now.segments k ≡ Some result.now }
+    {
+        self.segments().nth(k).unwrap()
+    }
+}
+
+impl PartialEq for Pattern {
+    ghost use Rattle.std.specs.Cmp.{decided, partial_equiv_from_equiv};
+    ghost use Rattle.bx_names.specs.Globs.{same_glob, same_glob-decides};
+
+    ghost eq = { same_glob };
+
+    ghost laws = { partial_equiv_from_equiv (decided same_glob same_glob-decides) };
+
+    fn eq(&self, other: &Pattern) -> bool
+        ensures same { IsTrue result ↔ (self.now ≡ other.now) }
+        ensures test { result ≡ same_glob self.now other.now }
+    {
+        self.text == other.text
+    }
+}
+
+impl Eq for Pattern {
+    ghost use Rattle.std.specs.Cmp.{decided};
+    ghost use Rattle.bx_names.specs.Globs.{same_glob, same_glob-decides};
+
+    ghost laws = { decided same_glob same_glob-decides };
+}
+
+impl Hash for Pattern {
+    ghost use Rattle.std.specs.Hash as fed;
+    ghost use Rattle.std.proofs.Common.{ap};
+    ghost use Rattle.bx_names.specs.Globs.{glob_text, same_glob-decides};
+
+    ghost hash_input = { λ pattern. fed.str (glob_text pattern) };
+
+    ghost respects_eq = { λ p q same. ap (λ r. fed.str (glob_text r)) ((same_glob-decides p q).0 same) };
+
+    fn hash<H: Hasher>(&self, state: &mut H) {
+        self.as_str().hash(state);
+    }
+}
+
+impl Clone for Pattern {
+    ghost is_clone = { λ pattern copy. copy ≡ pattern };
+
+    fn clone(&self) -> Result<Pattern, AllocError> {
+        Ok(Pattern {
+            text: self.text.clone()?,
+        })
+    }
+}
