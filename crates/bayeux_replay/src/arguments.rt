@@ -2,8 +2,7 @@
 ghost use Rattle.std.specs.Prelude.{◌≤◌};
 
 use bx_advice::Config;
-use std::env;
-use std::io;
+use std::{env, io};
 
 /// What standard error says of bad arguments.
 pub const USAGE: &str = "usage: bayeux_replay shards workers timeout interval max_interval";
@@ -44,7 +43,9 @@ pub fn read(rt: &HostRuntime) -> io::Result<Option<Arguments>> {
     Ok(arguments_of(numbers))
 }
 
-fn arguments_of([shards, workers, timeout, interval, max_interval]: [u64; COUNT]) -> Option<Arguments> {
+fn arguments_of(
+    [shards, workers, timeout, interval, max_interval]: [u64; COUNT],
+) -> Option<Arguments> {
     let config = Config::new(
         usize::try_from(shards).ok()?,
         u32::try_from(timeout).ok()?,

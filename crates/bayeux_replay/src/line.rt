@@ -2,9 +2,8 @@
 use crate::arguments::number_of;
 use bx_advice::BODY_LIMIT;
 use std::alloc::Global;
-use std::io;
 use std::io::{BufRead, Read};
-use std::str;
+use std::{io, str};
 
 /// How many bytes of a line are kept. A request of more is too large by any line's head: at most 20
 /// digits behind a zero, a letter, two spaces.
@@ -62,7 +61,11 @@ impl LineBuffer {
             return Ok(Step::Complete);
         }
         if count < room {
-            let step = if self.bytes.is_empty() { Step::End } else { Step::Complete };
+            let step = if self.bytes.is_empty() {
+                Step::End
+            } else {
+                Step::Complete
+            };
             return Ok(step);
         }
         if self.drop_zeros() {

@@ -31,10 +31,12 @@ fn main(rt: HostRuntime) -> ExitCode {
 
 fn run(rt: &HostRuntime, arguments: Arguments) -> Result<(), ReplayFault> {
     let alloc = rt.alloc();
-    let mut reader =
-        BufReader::new(alloc, rt.reader()).map_err(|error| ReplayFault::of_read(&error))?;
-    let mut writer =
-        BufWriter::new(alloc, io::writer(rt)).map_err(|error| ReplayFault::of_write(&error))?;
+    let mut reader = BufReader::new(alloc, rt.reader()).map_err(|error| ReplayFault::of_read(
+        &error,
+    ))?;
+    let mut writer = BufWriter::new(alloc, io::writer(rt)).map_err(|error| ReplayFault::of_write(
+        &error,
+    ))?;
     let Arguments { config, workers } = arguments;
     script::replay(alloc, config, workers, &mut reader, &mut writer)
 }

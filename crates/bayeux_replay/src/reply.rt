@@ -5,7 +5,7 @@ use bx_advice::BODY_LIMIT;
 use bx_cut::Bodies;
 use bx_entry::{Arrival, Refusal, Slot};
 use bx_message::{Item, body_text};
-use bx_world::{Admitted, AdmissionFault, World};
+use bx_world::{AdmissionFault, Admitted, World};
 use std::alloc::{AllocError, Global};
 
 /// The answer to a line.

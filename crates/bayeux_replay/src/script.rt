@@ -6,9 +6,8 @@ use crate::reply::{Outcome, answer};
 use bx_advice::Config;
 use bx_world::World;
 use std::alloc::{AllocError, AllocFailed, Global};
-use std::fmt;
-use std::io;
 use std::io::{BufRead, ErrorKind, Write};
+use std::{fmt, io};
 
 /// How often it is read at most: 2^40 times.
 const MAX_READS: u64 = 1_099_511_627_776;
@@ -47,8 +46,9 @@ pub fn replay<R: BufRead, W: Write>(
             Step::Complete => {
                 number = number.saturating_add(1);
                 let outcome = answer(alloc, &mut world, buffer.line())?;
-                write_outcome(writer, number, &outcome)
-                    .map_err(|error| ReplayFault::of_write(&error))?;
+                write_outcome(writer, number, &outcome).map_err(|error| ReplayFault::of_write(
+                    &error,
+                ))?;
                 buffer.clear();
             }
             Step::End => {

@@ -21,11 +21,7 @@ const RUNS: [(&str, &str, &str); 14] = [
         "0 P [{\"channel\":\"/meta/handshake\",\"version\":\"1.0\",\"supportedConnectionTypes\":[\"long-polling\"],\"id\":\"1\"}]\n",
         "1 200 [{\"advice\":{\"interval\":0,\"reconnect\":\"retry\",\"timeout\":30000},\"channel\":\"/meta/handshake\",\"clientId\":\"000000000000000000000000000000000000000000000001\",\"id\":\"1\",\"successful\":true,\"supportedConnectionTypes\":[\"long-polling\",\"callback-polling\"],\"version\":\"1.0\"}]\n",
     ),
-    (
-        "an empty array",
-        "0 P []\n",
-        "1 200 []\n",
-    ),
+    ("an empty array", "0 P []\n", "1 200 []\n"),
     (
         "an unsupported version takes no number",
         "0 P [{\"channel\":\"/meta/handshake\",\"version\":\"2.0\",\"supportedConnectionTypes\":[\"long-polling\"]}]\n0 P [{\"channel\":\"/meta/handshake\",\"version\":\"1.0\",\"supportedConnectionTypes\":[\"long-polling\"]}]\n",

@@ -1,5 +1,4 @@
 -- What the types of the code stand for.
-use Rattle.std.specs.Prelude.{ℕ, List}
 use Rattle.bx_cut.specs.Cut as cut
 use Rattle.bx_cut.specs.declared.split.Member.{Member}
 

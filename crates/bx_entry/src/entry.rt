@@ -5,7 +5,10 @@ use bx_names::Pattern;
 #[derive(Drop)]
 pub enum Kind {
     /// An accepted handshake; `ack` says whether it turned acknowledgement on.
-    Opened { session: u64, ack: bool },
+    Opened {
+        session: u64,
+        ack: bool,
+    },
     /// An accepted connect, with what its reply repeats, the number that it acknowledges, and how long
     /// it may be held, in milliseconds.
     Connect {
@@ -28,7 +31,9 @@ pub enum Kind {
     /// An accepted publish, to a service channel too.
     Publish(SharedEvent),
     /// An accepted disconnect.
-    Disconnect { session: u64 },
+    Disconnect {
+        session: u64,
+    },
     /// A refused message.
     Refused,
     /// A tick, with the numbers of the sessions that it closes, ascending.

@@ -288,9 +288,9 @@ UnknownType =
 abbrev pub ManyPatterns : Type 0
 ManyPatterns =
     drop 1 (outs standard (post 0 (handshake ∷ []) ∷ post 0 (
-        subscribe_all 1 (replicate 64 (codes "/a/b")) ∷ subscribe_all 1 (codes "/meta/*" ∷ replicate 64 (codes "/a/b")) ∷ subscribe_all 1 (replicate 64 (codes "/a/b") ++ codes "a" ∷ []) ∷ []) ∷ []))
+    subscribe_all 1 (replicate 64 (codes "/a/b")) ∷ subscribe_all 1 (codes "/meta/*" ∷ replicate 64 (codes "/a/b")) ∷ subscribe_all 1 (replicate 64 (codes "/a/b") ++ codes "a" ∷ []) ∷ []) ∷ []))
     ≡ out 1 (subscribed_all 1 (replicate 64 (codes "/a/b")) Done ∷ subscribed_all 1 (codes "/meta/*" ∷ replicate 64 (codes "/a/b")) (Failed TooManyPatterns)
-        ∷ subscribed_all 1 (replicate 64 (codes "/a/b") ++ codes "a" ∷ []) (Failed InvalidPattern) ∷ []) ∷ []
+    ∷ subscribed_all 1 (replicate 64 (codes "/a/b") ++ codes "a" ∷ []) (Failed InvalidPattern) ∷ []) ∷ []
 
 -- ---- queues and patterns at their limits
 

@@ -10,8 +10,7 @@ pub fn channels()
     ensures double_stars_match { DoubleStarsMatch }
     ensures all_match { AllMatch }
     ensures plain_match { PlainMatch }
-{
-}
+{}
 
 /// Handshakes, accepted and refused.
 pub fn handshakes()
@@ -20,8 +19,7 @@ pub fn handshakes()
     ensures two_handshakes { TwoHandshakes }
     ensures nothing_posted { NothingPosted }
     ensures unreadable { Unreadable }
-{
-}
+{}
 
 /// Events and the connects that get them.
 pub fn deliveries()
@@ -29,8 +27,7 @@ pub fn deliveries()
     ensures matched_twice { MatchedTwice }
     ensures service_publish { ServicePublish }
     ensures sender_bytes { SenderBytes }
-{
-}
+{}
 
 /// Batches, until they are acknowledged.
 pub fn acknowledgements()
@@ -39,8 +36,7 @@ pub fn acknowledgements()
     ensures great_number { GreatNumber }
     ensures event_is_batch { EventIsBatch }
     ensures event_is_batch_held { EventIsBatchHeld }
-{
-}
+{}
 
 /// Held connects, and what ends them.
 pub fn held_connects()
@@ -51,23 +47,20 @@ pub fn held_connects()
     ensures hold_ends_with_session { HoldEndsWithSession }
     ensures hold_extends { HoldExtends }
     ensures moments_rise { MomentsRise }
-{
-}
+{}
 
 /// Sessions that end.
 pub fn endings()
     ensures session_expires { SessionExpires }
     ensures gone_within_a_request { GoneWithinARequest }
-{
-}
+{}
 
 /// Refused messages.
 pub fn refusals()
     ensures each_refusal { EachRefusal }
     ensures unknown_type { UnknownType }
     ensures many_patterns { ManyPatterns }
-{
-}
+{}
 
 /// Queues and patterns at their limits.
 pub fn overflows()
@@ -77,8 +70,7 @@ pub fn overflows()
     ensures held_through_overflow { HeldThroughOverflow }
     ensures overflow_at_1025 { OverflowAt1025 }
     ensures four_full_batches { FourFullBatches }
-{
-}
+{}
 
 /// Responses down to their bytes.
 pub fn response_texts()
@@ -88,5 +80,4 @@ pub fn response_texts()
     ensures delivery_text { DeliveryText }
     ensures callback_example { CallbackExample }
     ensures empty_callback { EmptyCallback }
-{
-}
+{}

@@ -2,7 +2,7 @@
 use crate::world::World;
 use bx_advice::{Case, Config, Error, advice_for};
 use bx_entry::Slot;
-use bx_message::{AckReply, Column, Message, Reply, TextMember, Text};
+use bx_message::{AckReply, Column, Message, Reply, Text, TextMember};
 use std::alloc::{AllocError, AllocFailed, Global};
 
 /// What a request changes of the live sessions.
@@ -61,7 +61,9 @@ impl<'a> Draft<'a> {
                 reply_to(&self.world.config, Column::UnknownMeta, message, None, case)?
             }
         };
-        self.slots.push(Slot::Ready(reply)).map_err(AllocError::from)
+        self.slots
+            .push(Slot::Ready(reply))
+            .map_err(AllocError::from)
     }
 
     fn handshake(&mut self, alloc: Global, message: &Message) -> Result<Reply, AllocError> {
@@ -69,12 +71,24 @@ impl<'a> Draft<'a> {
         let refusal = self.handshake_refusal(message);
         self.handshake_met = true;
         if let Some(error) = refusal {
-            return reply_to(config, Column::Handshake, message, None, Case::Failed(error));
+            return reply_to(
+                config,
+                Column::Handshake,
+                message,
+                None,
+                Case::Failed(error),
+            );
         }
         let number = self.world.opened.saturating_add(1);
         let client = client_id(alloc, self.nonce, number)?;
         self.change.opened = Some((number, client.clone()?));
-        reply_to(config, Column::Handshake, message, Some(client), Case::Opened)
+        reply_to(
+            config,
+            Column::Handshake,
+            message,
+            Some(client),
+            Case::Opened,
+        )
     }
 
     // The first reason that holds.
@@ -97,14 +111,26 @@ impl<'a> Draft<'a> {
         let column = Column::Disconnect;
         let client = match &message.client {
             TextMember::Text(client) => client,
-            _ => return reply_to(config, column, message, None, Case::Failed(Error::NoClientId)),
+            _ => return reply_to(
+                config,
+                column,
+                message,
+                None,
+                Case::Failed(Error::NoClientId),
+            ),
         };
         match self.live_with_id(client.as_str()) {
             Some(number) => {
                 self.change.closed.push(number)?;
                 reply_to(config, column, message, Some(client.clone()?), Case::Done)
             }
-            None => reply_to(config, column, message, None, Case::Failed(Error::UnknownClient)),
+            None => reply_to(
+                config,
+                column,
+                message,
+                None,
+                Case::Failed(Error::UnknownClient),
+            ),
         }
     }
 
@@ -152,7 +178,10 @@ fn is_version(version: &TextMember) -> bool {
 
 // Whether a connection type is one of the two that are served.
 fn is_polling(connection_type: &Text) -> bool {
-    matches!(connection_type.as_str(), "long-polling" | "callback-polling")
+    matches!(
+        connection_type.as_str(),
+        "long-polling" | "callback-polling"
+    )
 }
 
 // The reply to a message that is answered at its own place; the client id is that of its session.

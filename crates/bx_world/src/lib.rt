@@ -4,4 +4,4 @@
 mod judge;
 mod world;
 
-pub use world::{Admitted, AdmissionFault, World};
+pub use world::{AdmissionFault, Admitted, World};

@@ -1,5 +1,4 @@
 use Rattle.bx_cut.proofs.Reach.{IsRest-of}
-use Rattle.bx_cut.specs.Cut.{IsRest}
 use Rattle.bx_cut.proofs.document.split_object.Goals as goal
 
 pub split_at-requires : goal.split_at-requires
