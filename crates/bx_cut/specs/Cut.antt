@@ -1,5 +1,5 @@
 -- How far the parts of a JSON text reach, on its bytes. What is no JSON text is cut too, to no purpose.
-use Rattle.std.specs.Prelude.{◌≡◌, ◌≤◌, length, ℕ, ◌+◌, ◌-◌, ◌==◌, ◌||◌, List, [], ◌∷◌, take, drop, Bool, false, not, cond, Option, Some, None, option_map, option_and_then}
+use Rattle.std.specs.Prelude.{◌≡◌, ◌≤◌, ℕ, zero, suc, ◌+◌, ◌-◌, ◌==◌, ◌||◌, List, [], ◌∷◌, length, take, drop, Bool, false, not, cond, Option, Some, None, option_map, option_and_then}
 use Rattle.std.specs.List.{prefix_len}
 use Rattle.std.specs.Str.{IsCharBoundary}
 use Rattle.json.specs.Word.{is_operator, is_space}
@@ -75,3 +75,22 @@ pub record IsRest (rest text : List ℕ) : Type 0 where
   pub within : length rest ≤ length text
   pub same : rest ≡ drop (length text - length rest) text
   pub boundary : IsCharBoundary text (length text - length rest)
+
+-- ---- what commas separate
+
+-- With what is left: after a thing that no comma follows, and before what is no such thing. The number bounds the turns; the text's length is always enough.
+module _ {A : Type 0} (split : List ℕ → Option (A × List ℕ)) where
+  abbrev pub then_more : (List ℕ → List A × List ℕ) → List ℕ → Option (List ℕ) → List A × List ℕ
+  then_more more t None = ([], t)
+  then_more more t (Some r) = more r
+
+  abbrev pub first_and_more : (List ℕ → List A × List ℕ) → List ℕ → Option (A × List ℕ) → List A × List ℕ
+  first_and_more more t None = ([], t)
+  first_and_more more t (Some p) = (p.0 ∷ (then_more more p.1 (past_byte ascii.comma p.1)).0, (then_more more p.1 (past_byte ascii.comma p.1)).1)
+
+  unfoldable pub separated : ℕ → List ℕ → List A × List ℕ
+  separated zero t = ([], t)
+  separated (suc n) t = first_and_more (separated n) t (split t)
+
+  abbrev pub listed : List ℕ → List A × List ℕ
+  listed t = separated (length t) t

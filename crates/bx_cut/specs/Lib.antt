@@ -1,4 +1,6 @@
 pub mod Bodies
 pub mod Cut
-pub mod Views
+pub mod Faults
+pub mod Pieces
 pub mod Strings
+pub mod Views

@@ -1,9 +1,25 @@
 -- What a JSON string spells.
-use Rattle.std.specs.Prelude.{ℕ, ◌<◌, List, length, ⊤}
+use Rattle.std.specs.Prelude.{◌≡◌, ℕ, ◌<◌, ◌≤◌, ◌-◌, List, [], length, drop, slice_index, Option, Some, None, option_and_then, MatchOption}
+use Rattle.std.specs.Char.{encode_utf8}
+use Rattle.json.specs.Text.{Within, content, plain, prepend}
+use Rattle.json.specs.Ascii as ascii
+use Rattle.bx_cut.specs.Cut.{after_first}
 use Rattle.bx_cut.specs.declared.string.Part.{Part}
 use Rattle.bx_cut.specs.declared.string.Part.TheVariants.{End, Escape, Fault}
 
-abbrev pub IsShorter : Part → List ℕ → Type 0
-IsShorter End text = ⊤
-IsShorter (Escape c rest) text = length rest.now < length text
-IsShorter Fault text = ⊤
+-- the text that a JSON value spells, where it is a string
+abbrev pub spelled : List ℕ → Option (List ℕ)
+spelled value = option_and_then (content plain) (after_first ascii.quote value)
+
+-- what a string's text goes on with; the rest is for private clauses
+
+-- of the text within a string, the character r.0 is next and takes r.1 bytes, of which the last is ASCII
+abbrev pub Unescapes : Within → List ℕ → Option (ℕ × ℕ) → Type 0
+Unescapes within text r =
+    MatchOption r (content within text ≡ None)
+    (λ e. (content within text ≡ prepend (encode_utf8 e.0) (content plain (drop e.1 text))) × (0 < e.1) × (e.1 ≤ length text) × (slice_index text (e.1 - 1) < 128))
+
+abbrev pub IsPart : Part → List ℕ → Type 0
+IsPart End text = content plain text ≡ Some []
+IsPart (Escape c rest) text = (content plain text ≡ prepend (encode_utf8 c) (content plain rest.now)) × (length rest.now < length text)
+IsPart Fault text = content plain text ≡ None

@@ -1,5 +1,12 @@
-ghost use Rattle.std.specs.Prelude.{◌≡◌, ◌<◌, ◌≤◌, length, IfOk, IfSome};
-ghost use Rattle.bx_cut.specs.Cut.{IsRest};
+ghost use Rattle.std.specs.Prelude.{◌≡◌, ◌≢◌, ◌<◌, ◌≤◌, length, map, option_map, is_some, IfOk, IfErr, OnOk, IfSome, Some, None};
+ghost use Rattle.std.specs.List.{list_all};
+ghost use Rattle.serde_json.specs.Find.{as_object};
+ghost use Rattle.serde_json.specs.Read.{read};
+ghost use Rattle.serde_json.specs.View.{view};
+ghost use Rattle.bx_cut.specs.Cut.{IsRest, listed, split_member};
+ghost use Rattle.bx_cut.specs.Faults.{fault, value_fault};
+ghost use Rattle.bx_cut.specs.Pieces.{last_member, pieces, split_object};
+ghost use Rattle.bx_cut.specs.Views.{member_view};
 
 use crate::error::CutError;
 use crate::scan::after_first;
@@ -7,27 +14,51 @@ use crate::split::{Member, past, past_blank, split_member};
 use crate::string::spells;
 use serde_json::Value;
 use std::alloc::{AllocError, Global};
+use std::marker::Model;
 
 /// How many messages a document may have (this server's choice).
 pub const MAX_MESSAGES: usize = 256;
 
-/// A body that is JSON, cut into its messages. It borrows the body.
+/// A body that is JSON, cut into its messages. It borrows the body. A contract sees the list of
+/// the messages.
 #[derive(Debug, Drop)]
 pub struct Document<'a> {
     pieces: Vec<Piece<'a>>,
 }
 
-/// A message: the slice of the body that is one JSON object, with no white space round it.
+/// A message: the slice of the body that is one JSON object, with no white space round it. A
+/// contract sees its text, and its members as pairs of a key, with its quotes, and a value's text.
 #[derive(Debug, Drop)]
 pub struct Piece<'a> {
     text: &'a str,
     members: Vec<Member<'a>>,
 }
 
+impl<'a> Model for Piece<'a> {
+    ghost use Rattle.std.specs.Prelude.{ℕ, List, map};
+    ghost use Rattle.bx_cut.specs.Views.{member_view};
+
+    ghost Value = { List ℕ × List (List ℕ × List ℕ) };
+
+    ghost view = { λ piece. (piece.text.now, map member_view piece.members.items) };
+}
+
+impl<'a> Model for Document<'a> {
+    ghost use Rattle.std.specs.Prelude.{ℕ, List};
+
+    ghost Value = { List (List ℕ × List (List ℕ × List ℕ)) };
+
+    ghost view = { λ document. document.pieces.items };
+}
+
 impl<'a> Document<'a> {
     /// Cuts a body into its one object, or into the objects of its array. `NotJson` comes before
     /// `NotObject`, and that before `TooMany`.
-    pub fn read(alloc: Global, body: &'a [u8]) -> Result<Document<'a>, CutError> {
+    pub fn read(alloc: Global, body: &'a [u8]) -> Result<Document<'a>, CutError>
+        ensures ok { OnOk result (fault body.now ≡ None) }
+        ensures fault { IfErr result (λ e. e ≢ CutError.Memory → fault body.now ≡ Some e) }
+        ensures pieces { IfOk result (λ document. document ≡ pieces body.now) }
+    {
         let Ok(text) = std::str::from_utf8(body) else {
             return Err(CutError::NotJson);
         };
@@ -38,20 +69,26 @@ impl<'a> Document<'a> {
     }
 
     /// The messages, in order.
-    pub fn pieces(&self) -> &[Piece<'a>] {
+    pub fn pieces(&self) -> &[Piece<'a>]
+        ensures { result.now ≡ self.now }
+    {
         &self.pieces
     }
 }
 
 impl<'a> Piece<'a> {
     /// The object's text.
-    pub fn text(&self) -> &'a str {
+    pub fn text(&self) -> &'a str
+        ensures { result.now ≡ self.now.0 }
+    {
         self.text
     }
 
     /// The text of the value of the last member whose key, unescaped, is `name`. It takes no
     /// memory.
-    pub fn member(&self, name: &str) -> Option<&'a str> {
+    pub fn member(&self, name: &str) -> Option<&'a str>
+        ensures { option_map (λ value. value.now) result ≡ last_member name.now self.now.1 }
+    {
         let mut found = None;
         for member in &self.members {
             if spells(member.key, name) {
@@ -63,28 +100,41 @@ impl<'a> Piece<'a> {
 }
 
 // Whether the text is a value that may be cut.
-fn check(alloc: Global, text: &str) -> Result<(), CutError> {
+fn check(alloc: Global, text: &str) -> Result<(), CutError>
+    ensures ok { OnOk result (value_fault (read text.now) ≡ None) }
+    ensures fault { IfErr result (λ e. e ≢ CutError.Memory
+        → value_fault (read text.now) ≡ Some e) }
+{
     let value = match Value::from_str(alloc, text) {
         Ok(value) => value,
         Err(error) if error.is_memory() => return Err(CutError::Memory),
         Err(_) => return Err(CutError::NotJson),
     };
-    match &value {
-        Value::Object(_) => Ok(()),
-        Value::Array(items) => {
-            if !items.iter().all(|item| item.is_object()) {
-                Err(CutError::NotObject)
-            } else if items.len() > MAX_MESSAGES {
-                Err(CutError::TooMany)
-            } else {
-                Ok(())
-            }
-        }
-        _ => Err(CutError::NotObject),
+    if value.is_object() {
+        return Ok(());
     }
+    let Some(items) = value.as_array() else {
+        return Err(CutError::NotObject);
+    };
+    if !are_objects(items) {
+        return Err(CutError::NotObject);
+    }
+    if items.len() > MAX_MESSAGES {
+        return Err(CutError::TooMany);
+    }
+    Ok(())
 }
 
-fn cut(alloc: Global, text: &str) -> Result<Vec<Piece<'_>>, AllocError> {
+fn are_objects(items: &[Value]) -> bool
+    ensures { result ≡ list_all (λ item. is_some (as_object (view item))) items.now }
+{
+    items.iter().all(|item| item.is_object())
+}
+
+// The messages of a text that is a value which may be cut.
+fn cut(alloc: Global, text: &str) -> Result<Vec<Piece<'_>>, AllocError>
+    ensures { IfOk result (λ found. found.items ≡ pieces text.now) }
+{
     let mut pieces = Vec::new(alloc);
     let Some(mut rest) = past(text, b'[') else {
         if let Some((piece, _)) = split_object(alloc, text)? {
@@ -95,7 +145,7 @@ fn cut(alloc: Global, text: &str) -> Result<Vec<Piece<'_>>, AllocError> {
     while let Some((piece, after)) = split_object(alloc, rest)? {
         pieces.push(piece)?;
         let Some(next) = past(after, b',') else {
-            break;
+            return Ok(pieces);
         };
         rest = next;
     }
@@ -107,7 +157,8 @@ fn split_object<'a>(
     alloc: Global,
     text: &'a str,
 ) -> Result<Option<(Piece<'a>, &'a str)>, AllocError>
-    ensures { IfOk result (λ parts. IfSome parts (λ p. length p.1.now < length text.now)) }
+    ensures value { IfOk result (λ parts. option_map (λ p. (p.0, p.1.now)) parts ≡ split_object text.now) }
+    ensures shorter { IfOk result (λ parts. IfSome parts (λ p. length p.1.now < length text.now)) }
 {
     let text = past_blank(text);
     let Some(inside) = after_first(text, b'{') else {
@@ -123,7 +174,9 @@ fn split_object<'a>(
 
 // The members up to the end of an object, and what follows them.
 fn split_members<'a>(alloc: Global, text: &'a str) -> Result<(Vec<Member<'a>>, &'a str), AllocError>
-    ensures { IfOk result (λ parts. IsRest parts.1.now text.now) }
+    ensures value { IfOk result (λ parts. (map member_view parts.0.items, parts.1.now)
+        ≡ listed split_member text.now) }
+    ensures rest { IfOk result (λ parts. IsRest parts.1.now text.now) }
 {
     let mut members = Vec::new(alloc);
     let mut rest = text;

@@ -1,10 +1,13 @@
 // Taking a text apart, from its front on.
 ghost use Rattle.std.specs.Prelude.{◌≡◌, ◌<◌, length, option_map, IfSome};
 ghost use Rattle.bx_cut.specs.Cut.{past_blank, past_byte, split_value, split_member, IsRest};
+ghost use Rattle.bx_cut.specs.Pieces.{elements, member_text};
 ghost use Rattle.bx_cut.specs.Views.{member_view};
+ghost use Rattle.std.specs.Iterator.{YieldsFirstRef, item_count};
 
 use crate::scan::{after_first, begins_with, blank_len, value_len};
 use crate::string::spells;
+use std::marker::Model;
 
 // A member of an object, as its text has it.
 #[derive(Clone, Copy, Debug, Drop)]
@@ -66,7 +69,9 @@ pub(crate) fn split_member(text: &str) -> Option<(Member<'_>, &str)>
 
 /// The text of the value of the last member of `object` whose key, unescaped, is `name`. `object`
 /// is the text of a JSON value, as `Piece::member` gives it; none is found in what is no object.
-pub fn member_of<'a>(object: &'a str, name: &str) -> Option<&'a str> {
+pub fn member_of<'a>(object: &'a str, name: &str) -> Option<&'a str>
+    ensures { option_map (λ value. value.now) result ≡ member_text name.now object.now }
+{
     let mut rest = past(object, b'{')?;
     let mut found = None;
     while let Some((member, after)) = split_member(rest) {
@@ -74,21 +79,33 @@ pub fn member_of<'a>(object: &'a str, name: &str) -> Option<&'a str> {
             found = Some(member.value);
         }
         let Some(next) = past(after, b',') else {
-            break;
+            return found;
         };
         rest = next;
     }
     found
 }
 
-/// The texts of an array's elements, in order, with no white space round them.
-#[derive(Clone, Copy, Debug, Drop)]
+/// The texts of an array's elements, in order, with no white space round them. A contract sees the
+/// list of those that are left.
+#[derive(Debug, Drop)]
 pub struct Elements<'a> {
     rest: &'a str,
 }
 
+impl<'a> Model for Elements<'a> {
+    ghost use Rattle.std.specs.Prelude.{ℕ, List};
+    ghost use Rattle.bx_cut.specs.Cut.{split_value, listed};
+
+    ghost Value = { List (List ℕ) };
+
+    ghost view = { λ elements. (listed split_value elements.rest.now).0 };
+}
+
 /// The elements of `array`, the text of a JSON value, in order; none of what is no array.
-pub fn elements_of(array: &str) -> Elements<'_> {
+pub fn elements_of(array: &str) -> Elements<'_>
+    ensures { result ≡ elements array.now }
+{
     Elements {
         rest: past(array, b'[').unwrap_or(""),
     }
@@ -97,10 +114,9 @@ pub fn elements_of(array: &str) -> Elements<'_> {
 impl<'a> Iterator for Elements<'a> {
     type Item = &'a str;
 
-    ghost use Rattle.std.specs.Prelude.{length};
-    ghost use Rattle.std.specs.Iterator.{at_most};
+    ghost next_gives = { YieldsFirstRef (λ elements. elements) };
 
-    ghost remaining = { λ s. at_most (length s.rest.now) };
+    ghost remaining = { item_count (λ elements. elements) };
 
     fn next(&mut self) -> Option<&'a str> {
         let (element, after) = split_value(self.rest)?;

@@ -1,6 +1,10 @@
 // What a JSON string spells.
-ghost use Rattle.std.specs.Prelude.{◌≡◌, ◌+◌, ◌-◌, ◌<◌, ◌≤◌, length, slice_index, IfSome};
-ghost use Rattle.bx_cut.specs.Strings.{IsShorter};
+ghost use Rattle.std.specs.Prelude.{◌≡◌, ◌≢◌, ◌↔◌, ℕ, ◌+◌, ◌<◌, ◌≤◌, List, ◌++◌, length, drop, slice_index, Some, None, option_map, string_bytes, IsTrue, IfOk, IfSome, SomeIff, MatchOption};
+ghost use Rattle.std.specs.List.{prefix_len};
+ghost use Rattle.std.specs.Char.{digit_value, encode_utf8};
+ghost use Rattle.json.specs.Text.{code_unit, short_escape, content, plain, prepend, after_backslash, after_high};
+ghost use Rattle.json.specs.Run.{is_plain};
+ghost use Rattle.bx_cut.specs.Strings.{spelled, IsPart, Unescapes};
 
 use crate::scan::{after_first, begins_with, plain_len};
 use std::alloc::{AllocError, Global};
@@ -14,8 +18,11 @@ enum Part<'a> {
 }
 
 // The number that the four hexadecimal digits from `at` on spell.
+#[tactic(auto, unfolding(json::specs::Text::code_unit))]
 fn unit_at(text: &[u8], at: usize) -> Option<u32>
     requires { at + 4 ≤ length text.now }
+    ensures value { result
+        ≡ code_unit (slice_index text.now at) (slice_index text.now (at + 1)) (slice_index text.now (at + 2)) (slice_index text.now (at + 3)) }
     ensures bound { IfSome result (λ unit. unit < 65536) }
     ensures ascii { IfSome result (λ _. slice_index text.now (at + 3) < 128) }
 {
@@ -27,13 +34,16 @@ fn unit_at(text: &[u8], at: usize) -> Option<u32>
 }
 
 fn digit(byte: u8) -> Option<u32>
-    ensures { IfSome result (λ digit. (digit < 16) × (byte < 128)) }
+    ensures value { SomeIff result (digit_value byte < 16) (digit_value byte) }
+    ensures ascii { IfSome result (λ _. byte < 128) }
 {
     (byte as char).to_digit(16)
 }
 
+#[tactic(auto, unfolding(json::specs::Text::short_escape))]
 fn short_escape(letter: u8) -> Option<char>
-    ensures { IfSome result (λ _. letter < 128) }
+    ensures value { result ≡ short_escape letter }
+    ensures ascii { IfSome result (λ c. (c < 128) × (letter < 128)) }
 {
     match letter {
         b'"' | b'\\' | b'/' => Some(letter as char),
@@ -50,6 +60,9 @@ fn short_escape(letter: u8) -> Option<char>
 fn with_low_half(high: u32, text: &[u8]) -> Option<char>
     requires high { (0xd800 ≤ high) × (high < 0xdc00) }
     requires long { 6 ≤ length text.now }
+    ensures value { MatchOption result (content (after_high high) text.now ≡ None)
+        (λ c. content (after_high high) text.now
+        ≡ prepend (encode_utf8 c) (content plain (drop 6 text.now))) }
     ensures ascii { IfSome result (λ _. slice_index text.now 5 < 128) }
 {
     if text[0] != b'\\' || text[1] != b'u' {
@@ -64,7 +77,7 @@ fn with_low_half(high: u32, text: &[u8]) -> Option<char>
 
 // The character that a backslash and the front of `text` stand for, and how long that front is.
 fn escape(text: &[u8]) -> Option<(char, usize)>
-    ensures { IfSome result (λ e. (0 < e.1) × (e.1 ≤ length text.now) × (slice_index text.now (e.1 - 1) < 128)) }
+    ensures { Unescapes after_backslash text.now result }
 {
     if text.is_empty() {
         return None;
@@ -86,7 +99,8 @@ fn escape(text: &[u8]) -> Option<(char, usize)>
 }
 
 fn next_part(text: &str) -> Part<'_>
-    ensures { IsShorter result text.now }
+    requires { prefix_len is_plain text.now ≡ 0 }
+    ensures { IsPart result text.now }
 {
     if begins_with(text, b'"') {
         return Part::End;
@@ -101,7 +115,10 @@ fn next_part(text: &str) -> Part<'_>
 }
 
 // What follows `front` in `text`, where it begins with it.
-fn without<'a>(text: &'a [u8], front: &[u8]) -> Option<&'a [u8]> {
+fn without<'a>(text: &'a [u8], front: &[u8]) -> Option<&'a [u8]>
+    ensures { MatchOption result ((rest : List ℕ) → text.now ≢ front.now ++ rest)
+        (λ rest. text.now ≡ front.now ++ rest.now) }
+{
     if text.starts_with(front) {
         Some(&text[front.len()..])
     } else {
@@ -110,7 +127,9 @@ fn without<'a>(text: &'a [u8], front: &[u8]) -> Option<&'a [u8]> {
 }
 
 /// Whether the JSON value is the string that spells `text`. It takes no memory.
-pub fn spells(value: &str, text: &str) -> bool {
+pub fn spells(value: &str, text: &str) -> bool
+    ensures { IsTrue result ↔ (spelled value.now ≡ Some text.now) }
+{
     let Some(mut rest) = after_first(value, b'"') else {
         return false;
     };
@@ -136,7 +155,9 @@ pub fn spells(value: &str, text: &str) -> bool {
 }
 
 /// The unescaped text of a JSON value that is a string, and none of any other.
-pub fn text_of(alloc: Global, value: &str) -> Result<Option<String>, AllocError> {
+pub fn text_of(alloc: Global, value: &str) -> Result<Option<String>, AllocError>
+    ensures { IfOk result (λ text. option_map string_bytes text ≡ spelled value.now) }
+{
     let mut text = String::new(alloc);
     let Some(mut rest) = after_first(value, b'"') else {
         return Ok(None);

@@ -5,3 +5,4 @@ pub mod Sessions
 pub mod Answers
 pub mod Inputs
 pub mod Runs
+pub mod Requests

@@ -1,8 +1,16 @@
 //! Reading the messages of a request.
+ghost use Rattle.std.specs.Prelude.{◌≡◌, ◌++◌, ◌<◌, IfOk, IfErr, OnOk, IsErrOf, map, length, nat_lt, Some, None, Ok, Err, option_map};
+ghost use Rattle.std.specs.List.{list_any};
+ghost use Rattle.bx_cut.specs.Bodies.{texts_of};
+ghost use Rattle.bx_cut.specs.declared.document.TheConstants.{MAX_MESSAGES};
+ghost use Rattle.bx_entry.specs.declared.input.BodyFault.{BodyFault};
+ghost use Rattle.bx_entry.specs.declared.read.ReadFault.TheVariants.{Memory};
+ghost use Rattle.bx_entry.specs.Requests.{all_messages, cut_fault, cut_of, is_not_json, is_not_object, is_too_many, messages_of, objects_in, objects_of, request_messages};
+
 use crate::input::BodyFault;
 use bx_cut::{Bodies, CutError, Document, MAX_MESSAGES};
 use bx_message::{Message, MessageError};
-use std::alloc::{AllocError, Global};
+use std::alloc::{AllocError, AllocFailed, Global};
 
 /// Why a request's messages were not read.
 #[derive(Clone, Copy, Debug, PartialEq, Eq)]
@@ -13,76 +21,154 @@ pub enum ReadFault {
     Memory,
 }
 
+// A document, or what is wrong with it.
+type Cut<'a> = Result<Document<'a>, CutError>;
+
 /// The messages of all documents in order, or the first of the faults that holds for any of them.
-pub fn read_messages(alloc: Global, bodies: &Bodies) -> Result<Vec<Message>, ReadFault> {
-    let documents = read_documents(alloc, bodies)?;
-    let count = documents.iter().fold(
-        0usize,
-        |count, document| count.saturating_add(document.pieces().len()),
-    );
-    if count > MAX_MESSAGES {
-        return Err(ReadFault::Body(BodyFault::TooMany));
+pub fn read_messages(alloc: Global, bodies: &Bodies) -> Result<Vec<Message>, ReadFault>
+    ensures messages { IfOk result (λ ms. request_messages (texts_of bodies.now) ≡ Ok ms.items) }
+    ensures fault { (fault : BodyFault) → IsErrOf result (ReadFault.Body fault)
+        → request_messages (texts_of bodies.now) ≡ Err fault }
+{
+    let cuts = cut_all(alloc, bodies)?;
+    messages_in(alloc, cuts.as_slice())
+}
+
+// Every document is cut, since the faults are ordered over all of them.
+fn cut_all<'a>(alloc: Global, bodies: &'a Bodies) -> Result<Vec<Cut<'a>>, AllocError>
+    ensures { IfOk result (λ cuts. cuts.items ≡ map cut_of (texts_of bodies.now)) }
+{
+    let mut cuts = Vec::with_capacity(alloc, bodies.len())?;
+    for i in 0..bodies.len() {
+        match Document::read(alloc, bodies.get(i)) {
+            Err(CutError::Memory) => return Err(AllocError),
+            cut => cuts.push(cut)?,
+        }
     }
-    let mut messages = Vec::with_capacity(alloc, count)?;
-    for document in &documents {
-        for piece in document.pieces() {
-            messages.push(Message::read(alloc, piece)?)?;
+    Ok(cuts)
+}
+
+fn messages_in(alloc: Global, cuts: &[Cut<'_>]) -> Result<Vec<Message>, ReadFault>
+    ensures messages { IfOk result (λ ms. messages_of cuts.now ≡ Ok ms.items) }
+    ensures fault { (fault : BodyFault) → IsErrOf result (ReadFault.Body fault)
+        → messages_of cuts.now ≡ Err fault }
+{
+    if let Some(fault) = fault_in(cuts) {
+        return Err(ReadFault::Body(fault));
+    }
+    match read_all(alloc, cuts) {
+        Ok(messages) => Ok(messages),
+        Err(MessageError::NoChannel) => Err(ReadFault::Body(BodyFault::NoChannel)),
+        Err(MessageError::Memory) => Err(ReadFault::Memory),
+    }
+}
+
+// What is wrong with the documents, besides messages without a channel.
+fn fault_in(cuts: &[Cut<'_>]) -> Option<BodyFault>
+    ensures { result ≡ cut_fault cuts.now }
+{
+    if has_not_json(cuts) {
+        Some(BodyFault::NotJson)
+    } else if has_not_object(cuts) {
+        Some(BodyFault::NotObject)
+    } else if has_too_many(cuts) | are_too_many(cuts) {
+        Some(BodyFault::TooMany)
+    } else {
+        None
+    }
+}
+
+fn has_not_json(cuts: &[Cut<'_>]) -> bool
+    ensures { result ≡ list_any is_not_json cuts.now }
+{
+    cuts.iter().any(|cut| matches!(cut, Err(CutError::NotJson)))
+}
+
+fn has_not_object(cuts: &[Cut<'_>]) -> bool
+    ensures { result ≡ list_any is_not_object cuts.now }
+{
+    cuts.iter()
+        .any(|cut| matches!(cut, Err(CutError::NotObject)))
+}
+
+fn has_too_many(cuts: &[Cut<'_>]) -> bool
+    ensures { result ≡ list_any is_too_many cuts.now }
+{
+    cuts.iter().any(|cut| matches!(cut, Err(CutError::TooMany)))
+}
+
+// Whether the documents together have more messages than a request may have.
+fn are_too_many(cuts: &[Cut<'_>]) -> bool
+    ensures { result ≡ nat_lt MAX_MESSAGES (length (objects_of cuts.now)) }
+{
+    let mut room = MAX_MESSAGES;
+    for cut in cuts {
+        if let Ok(document) = cut {
+            let count = document.pieces().len();
+            if count > room {
+                return true;
+            }
+            room -= count;
+        }
+    }
+    false
+}
+
+fn read_all(alloc: Global, cuts: &[Cut<'_>]) -> Result<Vec<Message>, MessageError>
+    ensures messages { IfOk result (λ ms. all_messages (objects_of cuts.now) ≡ Some ms.items) }
+    ensures no_channel { IsErrOf result MessageError.NoChannel
+        → all_messages (objects_of cuts.now) ≡ None }
+{
+    let mut messages = Vec::new(alloc);
+    for cut in cuts {
+        if let Err(error) = read_cut(alloc, cut, &mut messages) {
+            return Err(error);
         }
     }
     Ok(messages)
 }
 
-// All documents are looked at, since the faults are ordered over all of them.
-fn read_documents(alloc: Global, bodies: &Bodies) -> Result<Vec<Document<'_>>, ReadFault> {
-    let mut documents = Vec::with_capacity(alloc, bodies.len())?;
-    let mut first_fault = None;
-    for i in 0..bodies.len() {
-        match Document::read(alloc, bodies.get(i)) {
-            Ok(document) => documents.push(document)?,
-            Err(error) => first_fault = Some(earlier(first_fault, fault_of(error)?)),
-        }
-    }
-    match first_fault {
-        Some(fault) => Err(ReadFault::Body(fault)),
-        None => Ok(documents),
+// Adds the messages of a document that has no fault.
+fn read_cut(alloc: Global, cut: &Cut<'_>, messages: &mut Vec<Message>) -> Result<(), MessageError>
+    ensures added { OnOk result (option_map (λ ms. messages.old.items ++ ms)
+        (all_messages (objects_in cut.now)) ≡ Some messages.new.items) }
+    ensures no_channel { IsErrOf result MessageError.NoChannel
+        → all_messages (objects_in cut.now) ≡ None }
+{
+    match cut {
+        Ok(document) => read_document(alloc, document, messages),
+        Err(_) => Ok(()),
     }
 }
 
-// The one that is looked for first.
-fn earlier(found: Option<BodyFault>, fault: BodyFault) -> BodyFault {
-    match found {
-        Some(found) if found < fault => found,
-        _ => fault,
+// Adds a document's messages.
+fn read_document(
+    alloc: Global,
+    document: &Document<'_>,
+    messages: &mut Vec<Message>,
+) -> Result<(), MessageError>
+    ensures added { OnOk result (option_map (λ ms. messages.old.items ++ ms) (all_messages document.now)
+        ≡ Some messages.new.items) }
+    ensures no_channel { IsErrOf result MessageError.NoChannel → all_messages document.now ≡ None }
+{
+    for piece in document.pieces() {
+        messages.push(Message::read(alloc, piece)?)?;
     }
-}
-
-// What is wrong with a document, unless memory was refused.
-fn fault_of(error: CutError) -> Result<BodyFault, ReadFault> {
-    match error {
-        CutError::NotJson => Ok(BodyFault::NotJson),
-        CutError::NotObject => Ok(BodyFault::NotObject),
-        CutError::TooMany => Ok(BodyFault::TooMany),
-        CutError::Memory => Err(ReadFault::Memory),
-    }
+    Ok(())
 }
 
 impl From<AllocError> for ReadFault {
+    ghost from_gives = { λ _ fault. fault ≡ Memory };
+
     fn from(_error: AllocError) -> ReadFault {
         ReadFault::Memory
     }
 }
 
-impl<T: Drop> From<std::alloc::AllocFailed<T>> for ReadFault {
-    fn from(_error: std::alloc::AllocFailed<T>) -> ReadFault {
-        ReadFault::Memory
-    }
-}
+impl<T: Drop> From<AllocFailed<T>> for ReadFault {
+    ghost from_gives = { λ _ fault. fault ≡ Memory };
 
-impl From<MessageError> for ReadFault {
-    fn from(error: MessageError) -> ReadFault {
-        match error {
-            MessageError::NoChannel => ReadFault::Body(BodyFault::NoChannel),
-            MessageError::Memory => ReadFault::Memory,
-        }
+    fn from(_error: AllocFailed<T>) -> ReadFault {
+        ReadFault::Memory
     }
 }

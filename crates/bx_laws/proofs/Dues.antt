@@ -113,15 +113,15 @@ abbrev SenderBelow : ℕ → Option ℕ → Type 0
 SenderBelow n None = Unit {0}
 SenderBelow n (Some m) = m < n
 
-abbrev EachJudged : (Judged → Type 0) → List Judged → Type 0
+abbrev pub EachJudged : (Judged → Type 0) → List Judged → Type 0
 EachJudged P [] = Unit {0}
 EachJudged P (j ∷ js) = P j × EachJudged P js
 
-each_judged_push : (P : Judged → Type 0) (js : List Judged) (j : Judged) → EachJudged P js → P j → EachJudged P (js ++ j ∷ [])
+pub each_judged_push : (P : Judged → Type 0) (js : List Judged) (j : Judged) → EachJudged P js → P j → EachJudged P (js ++ j ∷ [])
 each_judged_push P [] j d h = (h, tt)
 each_judged_push P (i ∷ js) j d h = (d.0, each_judged_push P js j d.1 h)
 
-each_judged_map : (P Q : Judged → Type 0) (js : List Judged) → ((j : Judged) → P j → Q j) → EachJudged P js → EachJudged Q js
+pub each_judged_map : (P Q : Judged → Type 0) (js : List Judged) → ((j : Judged) → P j → Q j) → EachJudged P js → EachJudged Q js
 each_judged_map P Q [] h d = tt
 each_judged_map P Q (j ∷ js) h d = (h j d.0, each_judged_map P Q js h d.1)
 

@@ -6,7 +6,6 @@ use Rattle.bx_advice.specs.declared.config.Config.{Config}
 use Rattle.bx_advice.specs.declared.advice.Case.{Case}
 use Rattle.bx_advice.specs.declared.advice.Case.TheVariants.{Connected, Disconnected, Failed}
 use Rattle.bx_advice.specs.declared.error.Error.TheVariants.{SupersededConnect}
-use Rattle.bx_entry.specs.declared.entry.Entry.{Entry}
 use Rattle.bx_entry.specs.declared.entry.Kind.{Kind}
 use Rattle.bx_entry.specs.declared.entry.Kind.TheVariants.{Connect, Subscribe, Unsubscribe, Publish, Disconnect, Refused, Tick}
 use Rattle.bx_entry.specs.declared.entry.Kind.TheVariants as entries

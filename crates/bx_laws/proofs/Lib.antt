@@ -14,3 +14,10 @@ pub mod Forces
 pub mod Dues
 pub mod Lives
 pub mod Computed
+pub mod Gained
+pub mod Given
+pub mod Wholes
+pub mod Kept
+pub mod Takes
+pub mod Files
+pub mod Senders

@@ -122,6 +122,13 @@ answer_more config xs ys place a room e =
     ∙ answer_at_more config (entries_of r) (map entry_of j.more) place (slice_get r.judged place) (slice_get t.judged place) a room
     (λ k g. ap (λ (js : List Judged). slice_get js place) j.judged ∙ slice_get_more r.judged j.more place k g) e
 
+-- what was found at a place is found there over a longer list
+pub judged_more : (config : Config) (xs ys : List Listed) (place : ℕ) (j : Judged) → slice_get (registry config xs).judged place ≡ Some j → slice_get (registry config (xs ++ ys)).judged place ≡ Some j
+judged_more config xs ys place k e =
+    let r : Registry = registry config xs in
+    let j : Judges (length ys) (registry config xs) (registry config (xs ++ ys)) = subst (Judges (length ys) (registry config xs)) (sym (fold-append (judge config) empty_registry xs ys)) (judges config (registry config xs) ys) in
+    ap (λ (js : List Judged). slice_get js place) j.judged ∙ slice_get_more r.judged j.more place k e
+
 -- ---- an answer over a shorter list
 
 pub find_true : (test : Filed → Bool) (fs : List Filed) (f : Filed) → find test fs ≡ Some f → test f ≡ true
@@ -134,7 +141,7 @@ places_above : (first n : ℕ) (es : List Entry) → first ≤ n → PlacesFrom 
 places_above first n [] h d = tt
 places_above first n (e ∷ es) h d = (omega (arith, d.0), places_above first (n + 1) es (omega arith) d.1)
 
-judged_length : (config : Config) (xs : List Listed) → length (registry config xs).judged ≡ length xs
+pub judged_length : (config : Config) (xs : List Listed) → length (registry config xs).judged ≡ length xs
 judged_length config xs = let j : Judges (length xs) empty_registry (registry config xs) = judges config empty_registry xs in ap length j.judged ∙ j.many
 
 entries_length : (config : Config) (xs : List Listed) → length (entries_of (registry config xs)) ≡ length xs
@@ -233,6 +240,15 @@ answer_front config list place a room e =
     answer_less config xs ys place a room l (ap (λ (zs : List Listed). answer config zs place) whole ∙ e))
     (λ h. ap (λ (zs : List Listed). answer config zs place) (take_all (a.place + 1) list (omega (arith, h))) ∙ e)
     (cases_lt a.place (length list))
+
+-- an answer below a place is the answer over the list up to there
+pub answer_within : (config : Config) (list : List Listed) (n place : ℕ) (a : PlacedAnswer) → 0 < config.limits.batch → a.place < n → answer config list place ≡ Some a → answer config (take n list) place ≡ Some a
+answer_within config list n place a room l e =
+    let whole : take n list ++ drop n list ≡ list = take-append-drop n list in
+    ⊎_elim
+    (λ h. answer_less config (take n list) (drop n list) place a room h (ap (λ (zs : List Listed). answer config zs place) whole ∙ e))
+    (λ h. ap (λ (zs : List Listed). answer config zs place) (take_all n list (omega (arith, h, length-take n list))) ∙ e)
+    (cases_lt a.place (length (take n list)))
 
 pub answers_stay : AnswersStay
 answers_stay config list other place a room e same =

@@ -5,34 +5,31 @@ use Rattle.std.proofs.lemmas.List.Sums.{fold-append}
 use Rattle.bx_advice.specs.declared.config.Config.{Config}
 use Rattle.bx_entry.specs.declared.entry.Entry.{Entry}
 use Rattle.bx_entry.specs.Sessions.{Session, Publication, step, session, unopened}
+use Rattle.bx_laws.specs.Events.{Rising}
 use Rattle.bx_laws.specs.Laws.{InStep, EachOf, AllBelow, PlacesFrom, Slice, GivesFrom, GivesLater, NoEventTwice}
 use Rattle.bx_laws.proofs.Counts.{stays_in_step, unopened_in_step}
 use Rattle.bx_laws.proofs.Moves.{Moved, LaterAt, step_moved, each_map}
 use Rattle.bx_laws.proofs.Runs.{never_given_again}
 
-abbrev Rising : List Publication → Type 0
-Rising [] = Unit {0}
-Rising (p ∷ ps) = EachOf (λ q. p.place < q.place) ps × Rising ps
-
 -- rising, and all below a place
-record RisingBelow (n : ℕ) (events : List Publication) : Type 0 where
-  rising : Rising events
-  below : EachOf (λ p. p.place < n) events
+pub record RisingBelow (n : ℕ) (events : List Publication) : Type 0 where
+  pub rising : Rising events
+  pub below : EachOf (λ p. p.place < n) events
 
-each_of_map : (P Q : Publication → Type 0) (ps : List Publication) → ((p : Publication) → P p → Q p) → EachOf P ps → EachOf Q ps
+pub each_of_map : (P Q : Publication → Type 0) (ps : List Publication) → ((p : Publication) → P p → Q p) → EachOf P ps → EachOf Q ps
 each_of_map P Q [] h d = tt
 each_of_map P Q (p ∷ ps) h d = (h p d.0, each_of_map P Q ps h d.1)
 
-each_of_push : (P : Publication → Type 0) (ps : List Publication) (q : Publication) → EachOf P ps → P q → EachOf P (ps ++ q ∷ [])
+pub each_of_push : (P : Publication → Type 0) (ps : List Publication) (q : Publication) → EachOf P ps → P q → EachOf P (ps ++ q ∷ [])
 each_of_push P [] q d h = (h, tt)
 each_of_push P (p ∷ ps) q d h = (d.0, each_of_push P ps q d.1 h)
 
-each_of_take : (P : Publication → Type 0) (n : ℕ) (ps : List Publication) → EachOf P ps → EachOf P (take n ps)
+pub each_of_take : (P : Publication → Type 0) (n : ℕ) (ps : List Publication) → EachOf P ps → EachOf P (take n ps)
 each_of_take P zero ps d = tt
 each_of_take P (suc n) [] d = tt
 each_of_take P (suc n) (p ∷ ps) d = (d.0, each_of_take P n ps d.1)
 
-each_of_drop : (P : Publication → Type 0) (n : ℕ) (ps : List Publication) → EachOf P ps → EachOf P (drop n ps)
+pub each_of_drop : (P : Publication → Type 0) (n : ℕ) (ps : List Publication) → EachOf P ps → EachOf P (drop n ps)
 each_of_drop P zero ps d = d
 each_of_drop P (suc n) [] d = tt
 each_of_drop P (suc n) (p ∷ ps) d = each_of_drop P n ps d.1
@@ -41,7 +38,7 @@ rising_push : (ps : List Publication) (q : Publication) → Rising ps → EachOf
 rising_push [] q r d = (tt, tt)
 rising_push (p ∷ ps) q r d = (each_of_push (λ x. p.place < x.place) ps q r.0 d.0, rising_push ps q r.1 d.1)
 
-rising_later : (n : ℕ) (events later : List Publication) → LaterAt n later → RisingBelow n events → RisingBelow (n + 1) (events ++ later)
+pub rising_later : (n : ℕ) (events later : List Publication) → LaterAt n later → RisingBelow n events → RisingBelow (n + 1) (events ++ later)
 rising_later n events [] l r = subst (RisingBelow (n + 1)) (sym (append-nil events)) (record { rising = r.rising; below = each_of_map (λ p. p.place < n) (λ p. p.place < n + 1) events (λ p h. omega (arith, h)) r.below })
 rising_later n events (e ∷ []) l r = record {
   rising = rising_push events e r.rising (each_of_map (λ p. p.place < n) (λ p. p.place < e.place) events (λ p h. omega (arith, h, l)) r.below);

@@ -2,3 +2,8 @@ pub mod Samples
 pub mod Worked
 pub mod Laws
 pub mod Readings
+pub mod Events
+pub mod Outs
+pub mod Keeping
+pub mod Shards
+pub mod Schedules

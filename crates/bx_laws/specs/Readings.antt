@@ -165,6 +165,13 @@ DueReading = (config : Config) (list : List Listed) → EachSession (λ r. r.due
 abbrev pub SameLive : Type 0
 SameLive = (config : Config) (list : List Listed) → EachSession (λ r. r.live ≡ unclosed r.number (since_opening r.number (entries_of (registry config list)))) (registry config list).sessions
 
+-- An accepted message of a session, other than the handshake that opens it, stands where the session is live: by the entries before it
+-- the session was opened and not closed since. So a publish is accepted from a live session only.
+abbrev pub AcceptedWhileLive : Type 0
+AcceptedWhileLive = (config : Config) (list : List Listed) (before : List Judged) (j : Judged) (behind : List Judged) (number : ℕ) →
+    (registry config list).judged ≡ before ++ j ∷ behind → j.sender ≡ Some number → opens_by number j.entry.kind ≡ false →
+    unclosed number (since_opening number (map (λ (i : Judged). i.entry) before)) ≡ true
+
 -- the moment of an entry is the greatest that was handed in so far
 abbrev pub moment_of : Listed → ℕ
 moment_of (messages.Post p) = p.moment

@@ -1,37 +1,30 @@
 -- Messages and replies that the worked runs are made of.
-use Rattle.std.specs.Prelude.{ℕ, ◌≡◌, replicate, flat_map, drop, Bool, true, false, List, [], ◌∷◌, ◌++◌, map, codes, refl, Option, Some, None, Ok, Err}
+use Rattle.std.specs.Prelude.{ℕ, replicate, Bool, true, false, List, [], ◌∷◌, ◌++◌, map, codes, Option, Some, None, Ok, Err}
 use Rattle.std.proofs.Common.{lit≤}
 use Rattle.bx_names.specs.Globs.{matches, glob_of}
 use Rattle.bx_names.specs.Segments.{segments}
-use Rattle.bx_names.specs.Faults.{name_fault, pattern_fault}
-use Rattle.bx_names.specs.declared.error.NameError.TheVariants.{NoSlash, EmptySegment, BadByte, Wild, TooLong, TooDeep}
 use Rattle.bx_message.specs.declared.message.Message.{Message}
 use Rattle.bx_message.specs.declared.message.TextMember.TheVariants.{Absent, Text}
 use Rattle.bx_message.specs.declared.message.AckMember.TheVariants.{NoAck, AckTrue, AckNumber}
 use Rattle.bx_message.specs.declared.column.Column.{Column}
 use Rattle.bx_advice.specs.declared.error.Error.{Error}
-use Rattle.bx_advice.specs.declared.error.Error.TheVariants.{UnknownMetaChannel, UnsupportedVersion, SecondHandshake, NoClientId, UnknownClient, InvalidChannel, SubscriptionDenied, MissingSubscription, MissingData, SupersededConnect, QueueOverflow}
+use Rattle.bx_advice.specs.declared.error.Error.TheVariants.{UnknownClient}
 use Rattle.bx_advice.specs.declared.config.Config.{Config}
 use Rattle.bx_advice.specs.Advice.{advice_of}
 use Rattle.bx_advice.specs.Limits.{standard_limits}
 use Rattle.bx_advice.specs.declared.advice.Case.{Case}
-use Rattle.bx_advice.specs.declared.advice.Case.TheVariants.{Opened, Connected, Disconnected, Done, Failed}
+use Rattle.bx_advice.specs.declared.advice.Case.TheVariants.{Opened, Connected, Done, Failed}
 use Rattle.bx_message.specs.declared.reply.Reply.{Reply}
 use Rattle.bx_message.specs.declared.reply.Item.{Item}
 use Rattle.bx_message.specs.declared.reply.Item.TheVariants.{EventItem, ReplyItem}
 use Rattle.bx_message.specs.declared.reply.AckReply.{AckReply}
 use Rattle.bx_entry.specs.Registry.{client_id}
-use Rattle.bx_entry.specs.Inputs.{ReadInput, Request, Tick}
-use Rattle.bx_entry.specs.declared.input.Refusal.TheVariants.{BadMoment}
-use Rattle.bx_entry.specs.Runs.{Out, outs, held}
+use Rattle.bx_entry.specs.Inputs.{ReadInput, Request}
+use Rattle.bx_entry.specs.Runs.{Out, outs}
 use Rattle.bx_entry.specs.declared.input.Refusal.{Refusal}
-use Rattle.bx_message.specs.Texts.{body_text, callback_text}
+use Rattle.bx_message.specs.Texts.{body_text}
 use Rattle.std.specs.Prelude.{Result}
 use Rattle.std.specs.List.{join_with_byte}
-use Rattle.bx_entry.specs.declared.input.Refusal.TheVariants.{Body}
-use Rattle.bx_entry.specs.declared.input.BodyFault.TheVariants.{NotJson}
-use Rattle.bx_entry.specs.Inputs.{Unread}
-use Rattle.bx_advice.specs.declared.error.Error.TheVariants.{UnknownConnectionType, InvalidPattern, TooManyPatterns}
 
 -- ---- messages
 

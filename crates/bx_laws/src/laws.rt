@@ -1,6 +1,10 @@
 //! Laws that hold for every configuration and every list.
 ghost use Rattle.bx_laws.specs.Laws.{DoneNeverFalls, CountsAgree, EntriesInOrder, AnswersStay, BatchRepeats, NeverGivenAgain, NoEventTwice, GivenOnce};
-ghost use Rattle.bx_laws.specs.Readings.{LiveReading, InForceReading, HeldReading, EndingReading, OverflowReading, QueueBounded, DueReading, ClockReading, SameLive};
+ghost use Rattle.bx_laws.specs.Readings.{LiveReading, InForceReading, HeldReading, EndingReading, OverflowReading, QueueBounded, DueReading, ClockReading, SameLive, AcceptedWhileLive};
+ghost use Rattle.bx_laws.specs.Events.{EventsWerePublished, PublishesAreEvents, EventsRise, GivenWasPublished};
+ghost use Rattle.bx_laws.specs.Outs.{OutsGrow};
+ghost use Rattle.bx_laws.specs.Keeping.{KeptSteps, KeptRuns, KeptInBounds};
+ghost use Rattle.bx_laws.specs.Schedules.{TakesAreAnswers, AnswersAreFiled, NoneTakenTwice};
 
 /// What was given for good stays given for good.
 pub fn done_never_falls()
@@ -85,4 +89,64 @@ pub fn clock_reading()
 /// Who is live by the registry is live by the entries.
 pub fn same_live()
     ensures { SameLive }
+{}
+
+/// Each event of a session is an accepted publish that the session gets: live, within its limits, with a pattern in force that matches.
+pub fn events_were_published()
+    ensures { EventsWerePublished }
+{}
+
+/// Each such publish is an event of the session, behind those of the publishes before it.
+pub fn publishes_are_events()
+    ensures { PublishesAreEvents }
+{}
+
+/// A session's events stand at strictly rising places, so each publish is one event at most.
+pub fn events_rise()
+    ensures { EventsRise }
+{}
+
+/// Each event in an answer is that of an accepted publish of the list, byte for byte, which the session got at its place.
+pub fn given_was_published()
+    ensures { GivenWasPublished }
+{}
+
+/// What is given after more inputs begins with what was given after fewer.
+pub fn outs_grow()
+    ensures { OutsGrow }
+{}
+
+/// A step on what is kept of a session agrees with the step on the whole session, and gives the same answers.
+pub fn kept_steps()
+    ensures { KeptSteps }
+{}
+
+/// So do all steps, one after another, from a session that isn't opened yet.
+pub fn kept_runs()
+    ensures { KeptRuns }
+{}
+
+/// Whatever the schedule, each answer that is taken is what one thread gives.
+pub fn takes_are_answers()
+    ensures { TakesAreAnswers }
+{}
+
+/// An answer whose place a shard has passed is filed there until it is taken.
+pub fn answers_are_filed()
+    ensures { AnswersAreFiled }
+{}
+
+/// Whatever the schedule, no answer is taken twice.
+pub fn none_taken_twice()
+    ensures { NoneTakenTwice }
+{}
+
+/// An accepted message, but for a handshake, stands where its session is live.
+pub fn accepted_while_live()
+    ensures { AcceptedWhileLive }
+{}
+
+/// What is kept stays within its limits, and a held connect's queue is empty.
+pub fn kept_in_bounds()
+    ensures { KeptInBounds }
 {}

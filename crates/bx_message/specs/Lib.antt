@@ -1,3 +1,5 @@
 pub mod Columns
 pub mod Replies
 pub mod Texts
+pub mod Objects
+pub mod Fields

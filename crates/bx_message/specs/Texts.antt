@@ -49,12 +49,16 @@ reconnect_text Retry = codes "retry"
 reconnect_text Handshake = codes "handshake"
 reconnect_text Never = codes "none"
 
--- an advice as an object
-abbrev pub advice_text : Advice → List ℕ
-advice_text a = object (
+-- the members of an advice, in order
+abbrev pub advice_members : Advice → List (List ℕ)
+advice_members a =
     member (codes "interval") (decimal a.interval)
     ∷ member (codes "reconnect") (quoted (reconnect_text a.reconnect))
-    ∷ number_member (codes "timeout") a.timeout)
+    ∷ number_member (codes "timeout") a.timeout
+
+-- an advice
+abbrev pub advice_text : Advice → List ℕ
+advice_text a = object (advice_members a)
 
 -- the advice, where there is one
 abbrev pub advice_member : Option Advice → List (List ℕ)
@@ -103,9 +107,13 @@ version_member Column.Disconnect = []
 version_member Column.Publish = []
 version_member Column.UnknownMeta = []
 
--- a reply, its members in order
-abbrev pub reply_text : Reply → List ℕ
-reply_text r = object (
+-- what only replies to handshakes carry
+abbrev pub handshake_members : Column → List (List ℕ)
+handshake_members column = types_member column ++ version_member column
+
+-- the members of a reply, in order
+abbrev pub reply_members : Reply → List (List ℕ)
+reply_members r =
     advice_member r.advice
     ++ text_member (codes "channel") (Some r.channel)
     ++ text_member (codes "clientId") r.client
@@ -114,15 +122,22 @@ reply_text r = object (
     ++ raw_member (codes "id") r.id
     ++ raw_member (codes "subscription") r.subscription
     ++ raw_member (codes "successful") (Some (success_text r.case))
-    ++ types_member r.column
-    ++ version_member r.column)
+    ++ handshake_members r.column
 
--- an event, its members in order
-abbrev pub event_text : Event → List ℕ
-event_text e = object (
+-- a reply
+abbrev pub reply_text : Reply → List ℕ
+reply_text r = object (reply_members r)
+
+-- the members of an event, in order
+abbrev pub event_members : Event → List (List ℕ)
+event_members e =
     text_member (codes "channel") (Some e.channel)
     ++ raw_member (codes "data") (Some e.payload)
-    ++ raw_member (codes "id") e.id)
+    ++ raw_member (codes "id") e.id
+
+-- an event
+abbrev pub event_text : Event → List ℕ
+event_text e = object (event_members e)
 
 -- an event or a reply
 abbrev pub item_text : Item → List ℕ

@@ -1,3 +1,8 @@
+ghost use Rattle.std.specs.Prelude.{◌≡◌};
+ghost use Rattle.bx_message.specs.Columns.{column_of};
+
+use bx_names::{ChannelKind, kind_of};
+
 /// What a message is for, by its channel: one of the five meta messages of Bayeux 1.0, a publish, or
 /// a message to a meta channel that is not known. It names the column of the table of members that
 /// a reply has.
@@ -16,15 +21,19 @@ pub enum Column {
 
 impl Column {
     /// The column of a message to this channel, which need not read as a channel name.
-    pub fn of(channel: &str) -> Column {
+    pub fn of(channel: &str) -> Column
+        ensures { result ≡ column_of channel.now }
+    {
         match channel {
             "/meta/handshake" => Column::Handshake,
             "/meta/connect" => Column::Connect,
             "/meta/subscribe" => Column::Subscribe,
             "/meta/unsubscribe" => Column::Unsubscribe,
             "/meta/disconnect" => Column::Disconnect,
-            _ if channel.starts_with("/meta/") => Column::UnknownMeta,
-            _ => Column::Publish,
+            _ => match kind_of(channel) {
+                ChannelKind::Meta => Column::UnknownMeta,
+                _ => Column::Publish,
+            },
         }
     }
 }

@@ -8,6 +8,8 @@ mod object;
 mod read;
 mod reply;
 mod sequence;
+#[cfg(test)]
+mod tests;
 mod text;
 mod write;
 

@@ -1,4 +1,10 @@
 //! Reading a message from a document's piece.
+ghost use Rattle.std.specs.Prelude.{◌≡◌, IfOk, IfErr, Some, None, codes, option_map, option_and_then};
+ghost use Rattle.std.specs.List.{list_all};
+ghost use Rattle.bx_cut.specs.Pieces.{last_member, elements};
+ghost use Rattle.bx_message.specs.declared.read.MessageError.TheVariants.{Memory};
+ghost use Rattle.bx_message.specs.Fields.{message_in, fields_of, text_field, id_field, listed_texts, subscribed_texts, is_listed, texts_among, is_text, nested_in, ack_field, number_of, begins, begins_text_or_number, is_array};
+
 use crate::message::{AckMember, Message, TextMember};
 use crate::sequence::Sequence;
 use crate::text::{RawJson, Text};
@@ -16,36 +22,51 @@ pub enum MessageError {
 
 impl Message {
     /// The message that a piece is. It owns copies of its texts.
-    pub fn read(alloc: Global, piece: &Piece<'_>) -> Result<Message, MessageError> {
-        let TextMember::Text(channel) = text_member(alloc, piece, "channel")? else {
-            return Err(MessageError::NoChannel);
-        };
-        let (texts, listed) = subscription_texts(alloc, piece.member("subscription"))?;
-        Ok(Message {
-            channel,
-            id: id_member(alloc, piece)?,
-            client: text_member(alloc, piece, "clientId")?,
-            version: text_member(alloc, piece, "version")?,
-            supported: texts_of(alloc, piece.member("supportedConnectionTypes"))?,
-            connection: text_member(alloc, piece, "connectionType")?,
-            subscription: raw_member(alloc, piece, "subscription")?,
-            texts,
-            listed,
-            payload: raw_member(alloc, piece, "data")?,
-            ack: ack_member(piece),
-            timeout: nested_member(piece, "advice", "timeout").and_then(number_of),
-        })
+    pub fn read(alloc: Global, piece: &Piece<'_>) -> Result<Message, MessageError>
+        ensures fields { IfOk result (λ m. message_in piece.now.1 ≡ Some m) }
+        ensures no_channel { IfErr result
+            (λ e. e ≡ MessageError.NoChannel → message_in piece.now.1 ≡ None) }
+    {
+        match text_member(alloc, piece, "channel")? {
+            TextMember::Text(channel) => Ok(read_fields(alloc, piece, channel)?),
+            _ => Err(MessageError::NoChannel),
+        }
     }
 }
 
-fn raw_member(alloc: Global, piece: &Piece<'_>, name: &str) -> Result<Option<RawJson>, AllocError> {
-    match piece.member(name) {
+fn read_fields(alloc: Global, piece: &Piece<'_>, channel: Text) -> Result<Message, AllocError>
+    ensures { IfOk result (λ m. m ≡ fields_of piece.now.1 channel) }
+{
+    let subscription = piece.member("subscription");
+    let (texts, listed) = subscription_texts(alloc, subscription)?;
+    Ok(Message {
+        channel,
+        id: id_member(alloc, piece)?,
+        client: text_member(alloc, piece, "clientId")?,
+        version: text_member(alloc, piece, "version")?,
+        supported: listed_texts(alloc, piece.member("supportedConnectionTypes"))?,
+        connection: text_member(alloc, piece, "connectionType")?,
+        subscription: copy_of(alloc, subscription)?,
+        texts,
+        listed,
+        payload: copy_of(alloc, piece.member("data"))?,
+        ack: ack_member(piece),
+        timeout: timeout_member(piece),
+    })
+}
+
+fn copy_of(alloc: Global, json: Option<&str>) -> Result<Option<RawJson>, AllocError>
+    ensures { IfOk result (λ copy. copy ≡ option_map (λ t. t.now) json.entry) }
+{
+    match json {
         Some(json) => Ok(Some(RawJson::new(alloc, json)?)),
         None => Ok(None),
     }
 }
 
-fn text_member(alloc: Global, piece: &Piece<'_>, name: &str) -> Result<TextMember, AllocError> {
+fn text_member(alloc: Global, piece: &Piece<'_>, name: &str) -> Result<TextMember, AllocError>
+    ensures { IfOk result (λ m. m ≡ text_field (last_member name.now piece.now.1)) }
+{
     let Some(json) = piece.member(name) else {
         return Ok(TextMember::Absent);
     };
@@ -55,29 +76,51 @@ fn text_member(alloc: Global, piece: &Piece<'_>, name: &str) -> Result<TextMembe
     }
 }
 
-// An `id` is repeated where it is a JSON text or number, which begins with a quotation mark, a sign
-// or a digit.
-fn id_member(alloc: Global, piece: &Piece<'_>) -> Result<Option<RawJson>, AllocError> {
+// An `id` is repeated where it is a JSON text or number.
+fn id_member(alloc: Global, piece: &Piece<'_>) -> Result<Option<RawJson>, AllocError>
+    ensures { IfOk result (λ id. id ≡ id_field (last_member (codes "id") piece.now.1)) }
+{
     match piece.member("id") {
-        Some(json)
-            if json.starts_with(['"', '-']) || json.starts_with(|c: char| c.is_ascii_digit()) => {
-            Ok(Some(RawJson::new(alloc, json)?))
-        }
+        Some(json) if is_text_or_number(json) => Ok(Some(RawJson::new(alloc, json)?)),
         _ => Ok(None),
     }
 }
 
-// The texts among the elements of an array; none where the value is no array.
-fn texts_of(alloc: Global, array: Option<&str>) -> Result<Sequence<Text>, AllocError> {
-    let mut texts = Sequence::new(alloc);
-    if let Some(array) = array {
-        add_texts(alloc, &mut texts, array)?;
+// Told by the first byte: a quotation mark, a sign or a digit.
+fn is_text_or_number(json: &str) -> bool
+    ensures { result ≡ begins begins_text_or_number json.now }
+{
+    match json.as_bytes().first() {
+        Some(byte) => *byte == b'"' || *byte == b'-' || byte.is_ascii_digit(),
+        None => false,
     }
-    Ok(texts)
 }
 
-// Adds the texts among the elements of an array, and says whether all elements are texts.
-fn add_texts(alloc: Global, texts: &mut Sequence<Text>, array: &str) -> Result<bool, AllocError> {
+fn is_array(json: &str) -> bool
+    ensures { result ≡ is_array json.now }
+{
+    match json.as_bytes().first() {
+        Some(byte) => *byte == b'[',
+        None => false,
+    }
+}
+
+// The texts among the elements of an array; none where the value is no array.
+fn listed_texts(alloc: Global, array: Option<&str>) -> Result<Sequence<Text>, AllocError>
+    ensures { IfOk result (λ texts. texts ≡ listed_texts (option_map (λ t. t.now) array.entry)) }
+{
+    match array {
+        Some(array) => Ok(texts_among(alloc, array)?.0),
+        None => Ok(Sequence::new(alloc)),
+    }
+}
+
+// The texts among the elements of an array, and whether all elements are texts.
+fn texts_among(alloc: Global, array: &str) -> Result<(Sequence<Text>, bool), AllocError>
+    ensures texts { IfOk result (λ r. r.0 ≡ texts_among (elements array.now)) }
+    ensures all { IfOk result (λ r. r.1 ≡ list_all is_text (elements array.now)) }
+{
+    let mut texts = Sequence::new(alloc);
     let mut all_texts = true;
     for element in elements_of(array) {
         match text_of(alloc, element)? {
@@ -85,14 +128,19 @@ fn add_texts(alloc: Global, texts: &mut Sequence<Text>, array: &str) -> Result<b
             None => all_texts = false,
         }
     }
-    Ok(all_texts)
+    Ok((texts, all_texts))
 }
 
 // The texts of a subscription, and whether it is a text or an array of nothing but texts.
 fn subscription_texts(
     alloc: Global,
     subscription: Option<&str>,
-) -> Result<(Sequence<Text>, bool), AllocError> {
+) -> Result<(Sequence<Text>, bool), AllocError>
+    ensures texts { IfOk result
+        (λ r. r.0 ≡ subscribed_texts (option_map (λ t. t.now) subscription.entry)) }
+    ensures listed { IfOk result
+        (λ r. r.1 ≡ is_listed (option_map (λ t. t.now) subscription.entry)) }
+{
     let mut texts = Sequence::new(alloc);
     let Some(json) = subscription else {
         return Ok((texts, false));
@@ -101,40 +149,60 @@ fn subscription_texts(
         texts.push(Text::from_string(text)?)?;
         return Ok((texts, true));
     }
-    let all_texts = add_texts(alloc, &mut texts, json)?;
-    Ok((texts, json.starts_with('[') && all_texts))
+    let (texts, all_texts) = texts_among(alloc, json)?;
+    Ok((texts, is_array(json) && all_texts))
 }
 
 // A member of a member that is an object.
-fn nested_member<'a>(piece: &Piece<'a>, outer: &str, inner: &str) -> Option<&'a str> {
+fn nested_member<'a>(piece: &Piece<'a>, outer: &str, inner: &str) -> Option<&'a str>
+    ensures { option_map (λ t. t.now) result ≡ nested_in outer.now inner.now piece.now.1 }
+{
     member_of(piece.member(outer)?, inner)
 }
 
 // (The acknowledgement extension of CometD.)
-fn ack_member(piece: &Piece<'_>) -> AckMember {
+fn ack_member(piece: &Piece<'_>) -> AckMember
+    ensures { result ≡ ack_field (nested_in (codes "ext") (codes "ack") piece.now.1) }
+{
     match nested_member(piece, "ext", "ack") {
         Some("true") => AckMember::AckTrue,
-        Some(json) => number_of(json).map_or(AckMember::NoAck, AckMember::AckNumber),
+        Some(json) => match number_of(json) {
+            Some(number) => AckMember::AckNumber(number),
+            None => AckMember::NoAck,
+        },
         None => AckMember::NoAck,
     }
 }
 
+// (Bayeux 1.0, section 3.4.)
+fn timeout_member(piece: &Piece<'_>) -> Option<u64>
+    ensures { result ≡ option_and_then number_of
+        (nested_in (codes "advice") (codes "timeout") piece.now.1) }
+{
+    number_of(nested_member(piece, "advice", "timeout")?)
+}
+
 // The number that digits alone say, at most 2^64-1; no sign, point or exponent counts.
-fn number_of(json: &str) -> Option<u64> {
-    if json.bytes().all(|byte| byte.is_ascii_digit()) {
-        json.parse().ok()
-    } else {
-        None
+fn number_of(json: &str) -> Option<u64>
+    ensures { result ≡ number_of json.now }
+{
+    match json.as_bytes().first() {
+        Some(byte) if byte.is_ascii_digit() => json.parse().ok(),
+        _ => None,
     }
 }
 
 impl From<AllocError> for MessageError {
+    ghost from_gives = { λ _ e. e ≡ Memory };
+
     fn from(_error: AllocError) -> MessageError {
         MessageError::Memory
     }
 }
 
 impl<T: Drop> From<AllocFailed<T>> for MessageError {
+    ghost from_gives = { λ _ e. e ≡ Memory };
+
     fn from(_error: AllocFailed<T>) -> MessageError {
         MessageError::Memory
     }

@@ -1,8 +1,14 @@
+ghost use Rattle.std.specs.Prelude.{◌≡◌, IfOk};
+ghost use Rattle.std.specs.Option.{option_copied};
+ghost use Rattle.bx_message.specs.Replies.{reply_to, connect_reply, client_for, subscription_for};
+
 use crate::column::Column;
 use crate::event::SharedEvent;
+use crate::message::Message;
 use crate::sequence::Sequence;
 use crate::text::{RawJson, Text};
-use bx_advice::{Advice, Case};
+use bx_advice::{Advice, Case, Config, advice_for};
+use std::alloc::{AllocError, Global};
 
 /// What `ack` of a reply's `ext` carries. (The acknowledgement extension of CometD.)
 #[derive(Clone, Copy, Debug, PartialEq, Eq)]
@@ -30,6 +36,101 @@ pub struct Reply {
     pub case: Case,
     pub advice: Option<Advice>,
     pub ack: AckReply,
+}
+
+impl Reply {
+    /// The reply to a message of this column that is answered at its own place. `client` is the id
+    /// of its session, where that is known: replies to the five meta messages carry it, and no
+    /// others. Replies to subscriptions and unsubscriptions repeat `subscription`, refusals too.
+    /// (Bayeux 1.0, sections 4 and 5.)
+    pub fn to_message(
+        config: &Config,
+        column: Column,
+        message: &Message,
+        client: Option<&Text>,
+        case: Case,
+        ack: AckReply,
+    ) -> Result<Reply, AllocError>
+        ensures { IfOk result (λ r.
+            r ≡ reply_to config.now column message.now (option_copied client.entry) case ack) }
+    {
+        Ok(Reply {
+            column,
+            channel: message.channel.clone()?,
+            client: client_of(column, client)?,
+            id: share_json(message.id.as_ref())?,
+            subscription: subscription_of(column, message.subscription.as_ref())?,
+            case,
+            advice: advice_for(case, config),
+            ack,
+        })
+    }
+
+    /// The reply to a connect, whenever it is answered: `client` is its session's id, and `id` the
+    /// connect's. (Bayeux 1.0, section 4.2.2.)
+    pub fn to_connect(
+        alloc: Global,
+        config: &Config,
+        client: &Text,
+        id: Option<&RawJson>,
+        case: Case,
+        ack: AckReply,
+    ) -> Result<Reply, AllocError>
+        ensures { IfOk result (λ r.
+            r ≡ connect_reply config.now client.now (option_copied id.entry) case ack) }
+    {
+        Ok(Reply {
+            column: Column::Connect,
+            channel: Text::new(alloc, "/meta/connect")?,
+            client: Some(client.clone()?),
+            id: share_json(id)?,
+            subscription: None,
+            case,
+            advice: advice_for(case, config),
+            ack,
+        })
+    }
+}
+
+// The client id that a reply of this column carries.
+fn client_of(column: Column, client: Option<&Text>) -> Result<Option<Text>, AllocError>
+    ensures { IfOk result (λ c. c ≡ client_for column (option_copied client.entry)) }
+{
+    match column {
+        Column::Publish | Column::UnknownMeta => Ok(None),
+        _ => share_text(client),
+    }
+}
+
+// The subscription that a reply of this column repeats.
+fn subscription_of(
+    column: Column,
+    subscription: Option<&RawJson>,
+) -> Result<Option<RawJson>, AllocError>
+    ensures { IfOk result (λ s. s ≡ subscription_for column (option_copied subscription.entry)) }
+{
+    match column {
+        Column::Subscribe | Column::Unsubscribe => share_json(subscription),
+        _ => Ok(None),
+    }
+}
+
+fn share_text(text: Option<&Text>) -> Result<Option<Text>, AllocError>
+    ensures { IfOk result (λ shared. shared ≡ option_copied text.entry) }
+{
+    match text {
+        Some(text) => Ok(Some(text.clone()?)),
+        None => Ok(None),
+    }
+}
+
+fn share_json(json: Option<&RawJson>) -> Result<Option<RawJson>, AllocError>
+    ensures { IfOk result (λ shared. shared ≡ option_copied json.entry) }
+{
+    match json {
+        Some(json) => Ok(Some(json.clone()?)),
+        None => Ok(None),
+    }
 }
 
 /// What a connect is answered with: the events that it is given, and its reply.

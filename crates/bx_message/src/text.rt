@@ -58,7 +58,7 @@ impl Clone for Text {
 /// them.
 #[derive(Drop)]
 pub struct RawJson {
-    text: ArcStr,
+    json: ArcStr,
 }
 
 impl Model for RawJson {
@@ -67,23 +67,23 @@ impl Model for RawJson {
 
     ghost Value = { List ℕ };
 
-    ghost view = { λ t. arc_str_bytes t.text };
+    ghost view = { λ j. arc_str_bytes j.json };
 }
 
 impl RawJson {
     /// A copy of `json`, the text of a JSON value.
     pub fn new(alloc: Global, json: &str) -> Result<RawJson, AllocError>
-        ensures { IfOk result (λ t. t ≡ json.now) }
+        ensures { IfOk result (λ j. j ≡ json.now) }
     {
-        let text = ArcStr::from_str(alloc, json)?;
-        Ok(RawJson { text })
+        let json = ArcStr::from_str(alloc, json)?;
+        Ok(RawJson { json })
     }
 
     /// The sender's text.
     pub fn as_str(&self) -> &str
         ensures { result.now ≡ self.now }
     {
-        self.text.as_str()
+        self.json.as_str()
     }
 }
 
@@ -91,7 +91,7 @@ impl Clone for RawJson {
     ghost is_clone = { λ old copy. copy ≡ old };
 
     fn clone(&self) -> Result<RawJson, AllocError> {
-        let text = self.text.clone()?;
-        Ok(RawJson { text })
+        let json = self.json.clone()?;
+        Ok(RawJson { json })
     }
 }

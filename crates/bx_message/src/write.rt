@@ -1,32 +1,46 @@
 //! The text of a reply, an event and a response: compact JSON, with the members of each object in
 //! ascending byte order of their names.
+ghost use Rattle.std.specs.Prelude.{◌≡◌, ◌++◌, IfOk, Some};
+ghost use Rattle.bx_message.specs.Objects.{with_members};
+ghost use Rattle.bx_message.specs.Texts.{reply_text, event_text, body_text, item_text, reconnect_text, success_text, raw_member, text_member, number_member, advice_member, error_member, ack_member, handshake_members};
+
 use crate::column::Column;
 use crate::event::Event;
 use crate::object::ObjectWriter;
 use crate::reply::{AckReply, Item, Reply};
-use crate::text::RawJson;
+use crate::text::{RawJson, Text};
 use bx_advice::{Advice, Case, Reconnect};
 use std::alloc::{AllocError, Global};
 
-// Both are this server's, in every reply to a handshake. (Bayeux 1.0, handshake response.)
+// Both are this server's, in every reply to a handshake. (Bayeux 1.0, section 4.1.2.)
 const SUPPORTED_TYPES: &str = "[\"long-polling\",\"callback-polling\"]";
-
 const VERSION: &str = "1.0";
+
+// Room for a reply and for an event without the texts that they repeat: their longest advice, error
+// and numbers, and the names of all members.
+const REPLY_ROOM: usize = 384;
+const EVENT_ROOM: usize = 64;
 
 /// A reply as a JSON object: the members `advice`, `channel`, `clientId`, `error`, `ext`, `id`,
 /// `subscription`, `successful`, `supportedConnectionTypes` and `version`, of those that it carries.
-pub fn reply_text(alloc: Global, reply: &Reply) -> Result<Vec<u8>, AllocError> {
-    write_reply(Vec::new(alloc), reply)
+pub fn reply_text(alloc: Global, reply: &Reply) -> Result<Vec<u8>, AllocError>
+    ensures { IfOk result (λ out. out.items ≡ reply_text reply.now) }
+{
+    write_reply(Vec::with_capacity(alloc, reply_room(reply))?, reply)
 }
 
 /// An event as a JSON object: the members `channel`, `data` and, where it has one, `id`.
-pub fn event_text(alloc: Global, event: &Event) -> Result<Vec<u8>, AllocError> {
-    write_event(Vec::new(alloc), event)
+pub fn event_text(alloc: Global, event: &Event) -> Result<Vec<u8>, AllocError>
+    ensures { IfOk result (λ out. out.items ≡ event_text event.now) }
+{
+    write_event(Vec::with_capacity(alloc, event_room(event))?, event)
 }
 
 /// A response: the array of these items in order.
-pub fn body_text(alloc: Global, items: &[Item]) -> Result<Vec<u8>, AllocError> {
-    let mut out = Vec::new(alloc);
+pub fn body_text(alloc: Global, items: &[Item]) -> Result<Vec<u8>, AllocError>
+    ensures { IfOk result (λ out. out.items ≡ body_text items.now) }
+{
+    let mut out = Vec::with_capacity(alloc, body_room(items))?;
     out.push(b'[')?;
     for (i, item) in items.iter().enumerate() {
         if i > 0 {
@@ -38,40 +52,75 @@ pub fn body_text(alloc: Global, items: &[Item]) -> Result<Vec<u8>, AllocError> {
     Ok(out)
 }
 
-fn write_item(out: Vec<u8>, item: &Item) -> Result<Vec<u8>, AllocError> {
+// Enough room for the text of most values is asked for at once; escapes can want more.
+fn body_room(items: &[Item]) -> usize {
+    let mut room = 2usize;
+    for item in items {
+        let item_room = match item {
+            Item::EventItem(event) => event_room(event.event()),
+            Item::ReplyItem(reply) => reply_room(reply),
+        };
+        room = room.saturating_add(item_room);
+    }
+    room
+}
+
+fn event_room(event: &Event) -> usize {
+    EVENT_ROOM
+        .saturating_add(event.channel.as_str().len())
+        .saturating_add(event.payload.as_str().len())
+        .saturating_add(raw_len(&event.id))
+}
+
+fn reply_room(reply: &Reply) -> usize {
+    let client_len = match &reply.client {
+        Some(client) => client.as_str().len(),
+        None => 0,
+    };
+    REPLY_ROOM
+        .saturating_add(reply.channel.as_str().len())
+        .saturating_add(client_len)
+        .saturating_add(raw_len(&reply.id))
+        .saturating_add(raw_len(&reply.subscription))
+}
+
+fn raw_len(json: &Option<RawJson>) -> usize {
+    match json {
+        Some(json) => json.as_str().len(),
+        None => 0,
+    }
+}
+
+fn write_item(out: Vec<u8>, item: &Item) -> Result<Vec<u8>, AllocError>
+    ensures { IfOk result (λ text. text.items ≡ out.items ++ item_text item.now) }
+{
     match item {
         Item::EventItem(event) => write_event(out, event.event()),
         Item::ReplyItem(reply) => write_reply(out, reply),
     }
 }
 
-fn write_event(out: Vec<u8>, event: &Event) -> Result<Vec<u8>, AllocError> {
-    let object = ObjectWriter::begin(out)?
-        .text("channel", event.channel.as_str())?
-        .raw("data", event.payload.as_str())?;
+fn write_event(out: Vec<u8>, event: &Event) -> Result<Vec<u8>, AllocError>
+    ensures { IfOk result (λ text. text.items ≡ out.items ++ event_text event.now) }
+{
+    let object = ObjectWriter::begin(out)?;
+    let object = object.text("channel", event.channel.as_str())?;
+    let object = object.raw("data", event.payload.as_str())?;
     write_raw(object, "id", &event.id)?.end()
 }
 
-fn write_reply(out: Vec<u8>, reply: &Reply) -> Result<Vec<u8>, AllocError> {
-    let mut object = ObjectWriter::begin(out)?;
-    if let Some(advice) = reply.advice {
-        object = write_advice(object, advice)?;
-    }
-    object = object.text("channel", reply.channel.as_str())?;
-    if let Some(client) = &reply.client {
-        object = object.text("clientId", client.as_str())?;
-    }
-    let is_successful = match reply.case {
-        Case::Failed(error) => {
-            object = object.text("error", error.text())?;
-            "false"
-        }
-        _ => "true",
-    };
-    object = write_ack(object, reply.ack)?;
-    object = write_raw(object, "id", &reply.id)?;
-    object = write_raw(object, "subscription", &reply.subscription)?;
-    object = object.raw("successful", is_successful)?;
+fn write_reply(out: Vec<u8>, reply: &Reply) -> Result<Vec<u8>, AllocError>
+    ensures { IfOk result (λ text. text.items ≡ out.items ++ reply_text reply.now) }
+{
+    let object = ObjectWriter::begin(out)?;
+    let object = write_advice(object, reply.advice)?;
+    let object = object.text("channel", reply.channel.as_str())?;
+    let object = write_text(object, "clientId", &reply.client)?;
+    let object = write_error(object, reply.case)?;
+    let object = write_ack(object, reply.ack)?;
+    let object = write_raw(object, "id", &reply.id)?;
+    let object = write_raw(object, "subscription", &reply.subscription)?;
+    let object = object.raw("successful", success_text(reply.case))?;
     write_handshake(object, reply.column)?.end()
 }
 
@@ -80,25 +129,60 @@ fn write_raw(
     object: ObjectWriter,
     name: &str,
     json: &Option<RawJson>,
-) -> Result<ObjectWriter, AllocError> {
+) -> Result<ObjectWriter, AllocError>
+    ensures { IfOk result (λ o. o ≡ with_members object (raw_member name.now json.now)) }
+{
     match json {
         Some(json) => object.raw(name, json.as_str()),
         None => Ok(object),
     }
 }
 
-fn write_advice(object: ObjectWriter, advice: Advice) -> Result<ObjectWriter, AllocError> {
-    let mut inner = ObjectWriter::begin(object.name("advice")?)?
-        .number("interval", u64::from(advice.interval))?
-        .text("reconnect", reconnect_text(advice.reconnect))?;
-    if let Some(timeout) = advice.timeout {
-        inner = inner.number("timeout", u64::from(timeout))?;
+// A member that is a text, where there is one.
+fn write_text(
+    object: ObjectWriter,
+    name: &str,
+    text: &Option<Text>,
+) -> Result<ObjectWriter, AllocError>
+    ensures { IfOk result (λ o. o ≡ with_members object (text_member name.now text.now)) }
+{
+    match text {
+        Some(text) => object.text(name, text.as_str()),
+        None => Ok(object),
     }
+}
+
+fn write_advice(object: ObjectWriter, advice: Option<Advice>) -> Result<ObjectWriter, AllocError>
+    ensures { IfOk result (λ o. o ≡ with_members object (advice_member advice)) }
+{
+    let Some(advice) = advice else {
+        return Ok(object);
+    };
+    let inner = ObjectWriter::begin(object.name("advice")?)?;
+    let inner = inner.number("interval", u64::from(advice.interval))?;
+    let inner = inner.text("reconnect", reconnect_text(advice.reconnect))?;
+    let inner = write_number(inner, "timeout", advice.timeout)?;
     Ok(ObjectWriter::resume(inner.end()?))
 }
 
-// (Bayeux 1.0, the advice field `reconnect`.)
-fn reconnect_text(reconnect: Reconnect) -> &'static str {
+// A member that is a number, where there is one.
+fn write_number(
+    object: ObjectWriter,
+    name: &str,
+    number: Option<u32>,
+) -> Result<ObjectWriter, AllocError>
+    ensures { IfOk result (λ o. o ≡ with_members object (number_member name.now number)) }
+{
+    match number {
+        Some(number) => object.number(name, u64::from(number)),
+        None => Ok(object),
+    }
+}
+
+// (Bayeux 1.0, section 3.4.1.)
+fn reconnect_text(reconnect: Reconnect) -> &'static str
+    ensures { result.now ≡ reconnect_text reconnect }
+{
     match reconnect {
         Reconnect::Retry => "retry",
         Reconnect::Handshake => "handshake",
@@ -106,20 +190,43 @@ fn reconnect_text(reconnect: Reconnect) -> &'static str {
     }
 }
 
+fn write_error(object: ObjectWriter, case: Case) -> Result<ObjectWriter, AllocError>
+    ensures { IfOk result (λ o. o ≡ with_members object (error_member case)) }
+{
+    match case {
+        Case::Failed(error) => object.text("error", error.text()),
+        _ => Ok(object),
+    }
+}
+
+fn success_text(case: Case) -> &'static str
+    ensures { result.now ≡ success_text case }
+{
+    match case {
+        Case::Failed(_) => "false",
+        _ => "true",
+    }
+}
+
 // (The acknowledgement extension of CometD.)
-fn write_ack(object: ObjectWriter, ack: AckReply) -> Result<ObjectWriter, AllocError> {
+fn write_ack(object: ObjectWriter, ack: AckReply) -> Result<ObjectWriter, AllocError>
+    ensures { IfOk result (λ o. o ≡ with_members object (ack_member ack)) }
+{
     match ack {
         AckReply::NoAck => Ok(object),
         AckReply::AckTrue => object.raw("ext", "{\"ack\":true}"),
         AckReply::AckNumber(number) => {
-            let inner = ObjectWriter::begin(object.name("ext")?)?.number("ack", number)?;
+            let inner = ObjectWriter::begin(object.name("ext")?)?;
+            let inner = inner.number("ack", number)?;
             Ok(ObjectWriter::resume(inner.end()?))
         }
     }
 }
 
 // What every reply to a handshake carries, a refusal too.
-fn write_handshake(object: ObjectWriter, column: Column) -> Result<ObjectWriter, AllocError> {
+fn write_handshake(object: ObjectWriter, column: Column) -> Result<ObjectWriter, AllocError>
+    ensures { IfOk result (λ o. o ≡ with_members object (handshake_members column)) }
+{
     match column {
         Column::Handshake => object
             .raw("supportedConnectionTypes", SUPPORTED_TYPES)?

@@ -1,11 +1,13 @@
 -- What follows where a text has no fault.
-use Rattle.std.proofs.Common.{◌≡◌, ℕ, ◌≤◌, Bool, true, false, not, cond, ltb, IsTrue, Option, Some, None, Ok, List, length, arith, refl}
+use Rattle.std.proofs.Common.{◌≡◌, ℕ, ◌≤◌, Bool, true, false, not, cond, ltb, IsTrue, Option, Some, None, Ok, List, length, arith, refl, ap, ◌∙◌}
 use Rattle.std.proofs.lemmas.Bool.Decides.{nat_tests}
 use Rattle.std.specs.List.{list_any}
 use Rattle.bx_names.specs.Segments.{segments, is_absolute, is_empty, is_path}
-use Rattle.bx_names.specs.Faults.{path_fault, name_fault, read_by, read_name, has_bad_byte, has_star}
+use Rattle.bx_names.specs.Faults.{path_fault, name_fault, read_by, read_name, read_pattern, has_bad_byte, has_star}
 use Rattle.bx_names.specs.declared.error.NameError.{NameError}
+use Rattle.bx_names.specs.declared.tail.Tail.TheVariants.{Exact}
 use Rattle.bx_names.proofs.PathLemmas.{path_from_absolute}
+use Rattle.bx_names.proofs.GlobLemmas.{glob_of-plain}
 use Rattle.bx_names.specs.declared.error.NameError.TheVariants.{NoSlash, EmptySegment, BadByte, Wild, TooLong, TooDeep}
 
 -- where a table of cases holds none, its first does not hold, nor does any after it
@@ -18,6 +20,14 @@ pub record IsSound (text : List ℕ) : Type 0 where
   pub absolute : IsTrue (is_absolute text)
   pub short : length text ≤ 256
   pub shallow : length (segments text) ≤ 32
+
+-- nor does it hold a star where none may stand
+pub starless : (text : List ℕ) (own : List (List ℕ)) → path_fault text own ≡ None → list_any has_star own ≡ false
+starless text own h =
+    let a = past_case (not (is_absolute text)) NoSlash _ h in
+    let b = past_case (list_any is_empty (segments text)) EmptySegment _ a.1 in
+    let c = past_case (list_any has_bad_byte (segments text)) BadByte _ b.1 in
+    (past_case (list_any has_star own) Wild _ c.1).0
 
 not_false : (b : Bool) → not b ≡ false → b ≡ true
 not_false true h = refl
@@ -50,3 +60,12 @@ pub name_text : (text : List ℕ) (name : List (List ℕ)) → read_name text �
 name_text text name h =
     let read = read_by-ok (name_fault text) (segments text) name h in
     record { path = path_from_absolute text (sound_text text (segments text) read.0).absolute; is = read.1 }
+
+-- what reads as a name reads as a pattern without a wild segment
+pub name_as_pattern : (text : List ℕ) (name : List (List ℕ)) → read_name text ≡ Ok name → read_pattern text ≡ Ok (record { segments = name; tail = Exact })
+name_as_pattern text name h =
+    let read = read_by-ok (name_fault text) (segments text) name h in
+    let plain = glob_of-plain (segments text) (starless text (segments text) read.0) in
+    ap (λ glob. read_by (path_fault text glob.segments) glob) plain
+    ∙ ap (λ fault. read_by fault (record { segments = segments text; tail = Exact })) read.0
+    ∙ ap (λ ss. Ok (record { segments = ss; tail = Exact })) read.1

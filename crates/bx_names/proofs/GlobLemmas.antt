@@ -1,6 +1,10 @@
 -- What the segments of a text make of its pattern, and which names it then matches.
 use Rattle.std.proofs.Common.{◌≡◌, ◌≢◌, ℕ, ◌-◌, ◌<◌, Bool, true, false, IsTrue, List, [], ◌∷◌, ◌++◌, length, take, cond, refl, sym, ap, ◌∙◌, arith, append-nil, codes}
 use Rattle.std.specs.Bool.{Decides}
+use Rattle.std.specs.Prelude.{◌||◌}
+use Rattle.std.specs.List.{list_any}
+use Rattle.std.proofs.lemmas.Bool.{false≢true}
+use Rattle.bx_names.specs.Faults.{has_star}
 use Rattle.std.specs.Str.{bytes_eq}
 use Rattle.std.proofs.lemmas.Grind.{common_steps}
 use Rattle.std.proofs.lemmas.Slice.Eq.{bytes_eq-Decides}
@@ -97,3 +101,22 @@ texts-decide s t p q same is s_path t_path s_is t_is =
       λ h. sym s_is ∙ ap (λ text. glob_of (segments text)) (by.0 (sym is ∙ h)) ∙ t_is,
       λ h. is ∙ by.1 (sym (glob_text_back s s_path) ∙ ap glob_text (s_is ∙ h ∙ sym t_is) ∙ glob_text_back t t_path),
     )
+
+-- ---- a pattern without a star
+
+or_none : (a b : Bool) → (a || b) ≡ false → (a ≡ false) × (b ≡ false)
+or_none true b h = (cc, cc)
+or_none false b h = (refl, h)
+
+no_star_in_last : (ss : List (List ℕ)) → list_any has_star ss ≡ false → has_star (last_segment ss) ≡ false
+no_star_in_last [] none = refl
+no_star_in_last (s ∷ []) none = (or_none (has_star s) false none).0
+no_star_in_last (s ∷ t ∷ ts) none = no_star_in_last (t ∷ ts) ((or_none (has_star s) (list_any has_star (t ∷ ts)) none).1)
+
+pub glob_of-plain : (ss : List (List ℕ)) → list_any has_star ss ≡ false → glob_of ss ≡ record { segments = ss; tail = Exact }
+glob_of-plain ss none =
+    let last = last_segment ss in
+    let plain = no_star_in_last ss none in
+    glob_exact_by ss (bytes_eq last (codes "*")) (bytes_eq last (codes "**"))
+    (λ h. false≢true (sym plain ∙ ap has_star ((bytes_eq-Decides last (codes "*")).0 h)))
+    (λ h. false≢true (sym plain ∙ ap has_star ((bytes_eq-Decides last (codes "**")).0 h)))

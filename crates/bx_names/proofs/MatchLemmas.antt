@@ -11,7 +11,8 @@ use Rattle.std.specs.List.{onto_first}
 use Rattle.std.specs.Option.{option_eq}
 use Rattle.std.proofs.lemmas.Bool.{false≢true}
 use Rattle.bx_names.specs.Segments.{is_slash, parts, segments, is_absolute, is_path, path_of}
-use Rattle.bx_names.specs.Globs.{same_segments, same_segments-decides, matches_by}
+use Rattle.bx_names.specs.Globs.{same_segments, matches_by}
+use Rattle.bx_names.specs.Equality.{same_segments-decides}
 use Rattle.bx_names.specs.declared.tail.Tail.{Tail}
 use Rattle.bx_names.specs.declared.tail.Tail.TheVariants.{Exact, One, Many}
 use Rattle.bx_names.proofs.PathLemmas.{segments-append, path_of-append, path_of-segments, parts_some, slash-is}

@@ -1,4 +1,5 @@
 pub mod Segments
 pub mod Globs
+pub mod Equality
 pub mod Faults
 pub mod Kinds

@@ -8,7 +8,8 @@ use crate::error::NameError;
 use crate::limits::{MAX_NAME_BYTES, MAX_NAME_SEGMENTS};
 use crate::tail::Tail;
 
-/// Why a text is no channel name: its first fault in the order of `NameError`, or `None` where it is one. It takes no memory.
+/// Why a text is no channel name: its first fault in the order of `NameError`, or `None` where it is one.
+/// It takes no memory.
 pub fn name_fault(text: &str) -> Option<NameError>
     ensures fault { result ≡ name_fault text.now }
     ensures never_memory { result ≢ Some NameError.Memory }
@@ -16,7 +17,8 @@ pub fn name_fault(text: &str) -> Option<NameError>
     path_fault(text, text)
 }
 
-/// Why a text is no pattern: its first fault in the order of `NameError`, or `None` where it is one. It takes no memory.
+/// Why a text is no pattern: its first fault in the order of `NameError`, or `None` where it is one.
+/// It takes no memory.
 pub fn pattern_fault(text: &str) -> Option<NameError>
     ensures fault { result ≡ pattern_fault text.now }
     ensures never_memory { result ≢ Some NameError.Memory }

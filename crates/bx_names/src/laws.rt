@@ -37,6 +37,13 @@ pub fn stars_differ_on_depth(one: &Pattern, many: &Pattern, name: &ChannelName)
         ↔ (IsTrue (matches many.now name.now) × (length name.now ≡ length many.now.segments + 1)) }
 {}
 
+/// A channel name is a pattern too, one without a wild segment.
+pub fn name_reads_as_pattern(name: &ChannelName)
+    ensures { read_pattern (path_of name.now) ≡ Ok (record { segments = name.now; tail = Exact }) }
+{
+    let _text = name.as_str();
+}
+
 /// The text of a name, its segments led by a slash each, reads back as that name.
 pub fn name_reads_back(name: &ChannelName)
     ensures { read_name (path_of name.now) ≡ Ok name.now }

@@ -1,4 +1,5 @@
-//! Channel names and patterns of Bayeux 1.0: what reads as one, what kind a channel is, and which pattern matches which name.
+//! Channel names and patterns of Bayeux 1.0: what reads as one, what kind a channel is, and which pattern
+//! matches which name.
 #![tactic(auto)]
 
 mod error;
@@ -18,8 +19,8 @@ pub use error::NameError;
 pub use fault::{name_fault, pattern_fault};
 pub use kind::{ChannelKind, kind_of};
 pub use laws::{
-    double_star_matches_any_longer_name, exact_pattern_matches_one_name, name_reads_back,
-    pattern_reads_back, star_matches_one_more_segment, stars_differ_on_depth,
+    double_star_matches_any_longer_name, exact_pattern_matches_one_name, name_reads_as_pattern,
+    name_reads_back, pattern_reads_back, star_matches_one_more_segment, stars_differ_on_depth,
 };
 pub use limits::{MAX_NAME_BYTES, MAX_NAME_SEGMENTS};
 pub use matching::matches;

@@ -6,8 +6,10 @@ use crate::name::ChannelName;
 use crate::pattern::Pattern;
 use crate::tail::Tail;
 
-/// Whether the pattern matches the name (Bayeux 1.0, channel globbing): a pattern without a wild segment matches the name that equals it,
-/// one that ends in `*` each name with exactly one more segment, one that ends in `**` each name with one more or several.
+/// Whether the pattern matches the name (Bayeux 1.0, channel globbing).
+///
+/// A pattern without a wild segment matches the name that equals it, one that ends in `*` each name with its own segments
+/// and exactly one more, one that ends in `**` each name with its own segments and one more or several.
 pub fn matches(pattern: &Pattern, name: &ChannelName) -> bool
     ensures { result ≡ matches pattern.now name.now }
 {

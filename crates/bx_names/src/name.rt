@@ -12,7 +12,9 @@ use std::alloc::{AllocError, Global};
 use std::hash::{Hash, Hasher};
 use std::marker::Model;
 
-/// The name of a channel, as `/a/b`: an absolute path of segments. Contracts see the list of its segments, each as its bytes.
+/// The name of a channel, as `/a/b`: an absolute path of segments (Bayeux 1.0, channel names).
+///
+/// Contracts see the list of its segments, each as its bytes.
 #[derive(Debug, Drop)]
 pub struct ChannelName {
     text: String,
@@ -33,7 +35,8 @@ impl Model for ChannelName {
 impl ChannelName {
     /// Reads a text as a channel name and keeps a copy of it.
     ///
-    /// A text with a fault is refused with its first one, in the order of `NameError`; `Memory` comes only at a text without one.
+    /// A text with a fault is refused with its first one, in the order of `NameError`. `Memory` comes only at a
+    /// text without a fault.
     pub fn read(alloc: Global, text: &str) -> Result<ChannelName, NameError>
         ensures valid { OnOk result (name_fault text.now ≡ None) }
         ensures segments { IfOk result (λ name. name ≡ segments text.now) }
@@ -90,7 +93,8 @@ impl ChannelName {
 
 impl PartialEq for ChannelName {
     ghost use Rattle.std.specs.Cmp.{decided, partial_equiv_from_equiv};
-    ghost use Rattle.bx_names.specs.Globs.{same_segments, same_segments-decides};
+    ghost use Rattle.bx_names.specs.Globs.{same_segments};
+    ghost use Rattle.bx_names.specs.Equality.{same_segments-decides};
 
     ghost eq = { same_segments };
 
@@ -106,7 +110,8 @@ impl PartialEq for ChannelName {
 
 impl Eq for ChannelName {
     ghost use Rattle.std.specs.Cmp.{decided};
-    ghost use Rattle.bx_names.specs.Globs.{same_segments, same_segments-decides};
+    ghost use Rattle.bx_names.specs.Globs.{same_segments};
+    ghost use Rattle.bx_names.specs.Equality.{same_segments-decides};
 
     ghost laws = { decided same_segments same_segments-decides };
 }
@@ -115,7 +120,7 @@ impl Hash for ChannelName {
     ghost use Rattle.std.specs.Hash as fed;
     ghost use Rattle.std.proofs.Common.{ap};
     ghost use Rattle.bx_names.specs.Segments.{path_of};
-    ghost use Rattle.bx_names.specs.Globs.{same_segments-decides};
+    ghost use Rattle.bx_names.specs.Equality.{same_segments-decides};
 
     ghost hash_input = { λ name. fed.str (path_of name) };
 

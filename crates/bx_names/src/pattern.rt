@@ -38,7 +38,8 @@ impl Model for Pattern {
 impl Pattern {
     /// Reads a text as a pattern and keeps a copy of it.
     ///
-    /// A text with a fault is refused with its first one, in the order of `NameError`; `Memory` comes only at a text without one.
+    /// A text with a fault is refused with its first one, in the order of `NameError`. `Memory` comes only at a
+    /// text without a fault.
     pub fn read(alloc: Global, text: &str) -> Result<Pattern, NameError>
         ensures valid { OnOk result (pattern_fault text.now ≡ None) }
         ensures pattern { IfOk result (λ pattern. pattern ≡ glob_of (segments text.now)) }
@@ -112,7 +113,8 @@ impl Pattern {
 
 impl PartialEq for Pattern {
     ghost use Rattle.std.specs.Cmp.{decided, partial_equiv_from_equiv};
-    ghost use Rattle.bx_names.specs.Globs.{same_glob, same_glob-decides};
+    ghost use Rattle.bx_names.specs.Globs.{same_glob};
+    ghost use Rattle.bx_names.specs.Equality.{same_glob-decides};
 
     ghost eq = { same_glob };
 
@@ -128,7 +130,8 @@ impl PartialEq for Pattern {
 
 impl Eq for Pattern {
     ghost use Rattle.std.specs.Cmp.{decided};
-    ghost use Rattle.bx_names.specs.Globs.{same_glob, same_glob-decides};
+    ghost use Rattle.bx_names.specs.Globs.{same_glob};
+    ghost use Rattle.bx_names.specs.Equality.{same_glob-decides};
 
     ghost laws = { decided same_glob same_glob-decides };
 }
@@ -136,7 +139,8 @@ impl Eq for Pattern {
 impl Hash for Pattern {
     ghost use Rattle.std.specs.Hash as fed;
     ghost use Rattle.std.proofs.Common.{ap};
-    ghost use Rattle.bx_names.specs.Globs.{glob_text, same_glob-decides};
+    ghost use Rattle.bx_names.specs.Globs.{glob_text};
+    ghost use Rattle.bx_names.specs.Equality.{same_glob-decides};
 
     ghost hash_input = { λ pattern. fed.str (glob_text pattern) };
 

@@ -1,6 +1,6 @@
 //! The answers to a request's messages, before anything is changed.
 use crate::world::World;
-use bx_advice::{Case, Config, Error, advice_for};
+use bx_advice::{Case, Error};
 use bx_entry::Slot;
 use bx_message::{AckReply, Column, Message, Reply, Text, TextMember};
 use std::alloc::{AllocError, AllocFailed, Global};
@@ -56,39 +56,22 @@ impl<'a> Draft<'a> {
         let reply = match Column::of(message.channel.as_str()) {
             Column::Handshake => self.handshake(alloc, message)?,
             Column::Disconnect => self.disconnect(message)?,
-            _ => {
-                let case = Case::Failed(Error::UnknownMetaChannel);
-                reply_to(&self.world.config, Column::UnknownMeta, message, None, case)?
-            }
+            _ => self.refusal(Column::UnknownMeta, message, Error::UnknownMetaChannel)?,
         };
-        self.slots
-            .push(Slot::Ready(reply))
-            .map_err(AllocError::from)
+        self.slots.push(Slot::Ready(reply)).map_err(AllocError::from)
     }
 
     fn handshake(&mut self, alloc: Global, message: &Message) -> Result<Reply, AllocError> {
-        let config = &self.world.config;
         let refusal = self.handshake_refusal(message);
         self.handshake_met = true;
         if let Some(error) = refusal {
-            return reply_to(
-                config,
-                Column::Handshake,
-                message,
-                None,
-                Case::Failed(error),
-            );
+            return self.refusal(Column::Handshake, message, error);
         }
         let number = self.world.opened.saturating_add(1);
         let client = client_id(alloc, self.nonce, number)?;
-        self.change.opened = Some((number, client.clone()?));
-        reply_to(
-            config,
-            Column::Handshake,
-            message,
-            Some(client),
-            Case::Opened,
-        )
+        let reply = self.success(Column::Handshake, message, &client, Case::Opened)?;
+        self.change.opened = Some((number, client));
+        Ok(reply)
     }
 
     // The first reason that holds.
@@ -107,31 +90,33 @@ impl<'a> Draft<'a> {
     }
 
     fn disconnect(&mut self, message: &Message) -> Result<Reply, AllocError> {
-        let config = &self.world.config;
         let column = Column::Disconnect;
-        let client = match &message.client {
-            TextMember::Text(client) => client,
-            _ => return reply_to(
-                config,
-                column,
-                message,
-                None,
-                Case::Failed(Error::NoClientId),
-            ),
+        let TextMember::Text(client) = &message.client else {
+            return self.refusal(column, message, Error::NoClientId);
         };
-        match self.live_with_id(client.as_str()) {
-            Some(number) => {
-                self.change.closed.push(number)?;
-                reply_to(config, column, message, Some(client.clone()?), Case::Done)
-            }
-            None => reply_to(
-                config,
-                column,
-                message,
-                None,
-                Case::Failed(Error::UnknownClient),
-            ),
-        }
+        let Some(number) = self.live_with_id(client.as_str()) else {
+            return self.refusal(column, message, Error::UnknownClient);
+        };
+        self.change.closed.push(number)?;
+        self.success(column, message, client, Case::Done)
+    }
+
+    // The reply to a message whose session was not found.
+    fn refusal(&self, column: Column, message: &Message, error: Error) -> Result<Reply, AllocError> {
+        let case = Case::Failed(error);
+        Reply::to_message(&self.world.config, column, message, None, case, AckReply::NoAck)
+    }
+
+    // The reply to a message of the session with this client id.
+    fn success(
+        &self,
+        column: Column,
+        message: &Message,
+        client: &Text,
+        case: Case,
+    ) -> Result<Reply, AllocError> {
+        let client = Some(client);
+        Reply::to_message(&self.world.config, column, message, client, case, AckReply::NoAck)
     }
 
     // How many sessions are live behind the messages that were judged.
@@ -182,28 +167,4 @@ fn is_polling(connection_type: &Text) -> bool {
         connection_type.as_str(),
         "long-polling" | "callback-polling"
     )
-}
-
-// The reply to a message that is answered at its own place; the client id is that of its session.
-fn reply_to(
-    config: &Config,
-    column: Column,
-    message: &Message,
-    client: Option<Text>,
-    case: Case,
-) -> Result<Reply, AllocError> {
-    let id = match &message.id {
-        Some(id) => Some(id.clone()?),
-        None => None,
-    };
-    Ok(Reply {
-        column,
-        channel: message.channel.clone()?,
-        client,
-        id,
-        subscription: None,
-        case,
-        advice: advice_for(case, config),
-        ack: AckReply::NoAck,
-    })
 }

@@ -1,7 +1,8 @@
 use Rattle.std.proofs.Common.{◌≡◌, string_bytes}
 use Rattle.std.specs.Bool.{Decides, one_answer}
 use Rattle.bx_names.specs.Segments.{segments}
-use Rattle.bx_names.specs.Globs.{same_segments, same_segments-decides}
+use Rattle.bx_names.specs.Globs.{same_segments}
+use Rattle.bx_names.specs.Equality.{same_segments-decides}
 use Rattle.bx_names.proofs.PathLemmas.{path_from_absolute, texts-decide}
 use Rattle.bx_names.proofs.FaultLemmas.{sound_text}
 use Rattle.bx_names.proofs.name.ChannelNamePartialEq.eq.Goals as goal

@@ -1,0 +1,39 @@
+//! The bodies that are cut.
+use std::alloc::{AllocError, Global};
+
+const MEGABYTE: usize = 1_048_576;
+
+/// A body of about 1 MB with 256 publishes.
+pub fn many(alloc: Global) -> Result<Vec<u8>, AllocError> {
+    let mut body = Vec::with_capacity(alloc, MEGABYTE)?;
+    body.push(b'[')?;
+    for i in 0..256u32 {
+        if i > 0 {
+            body.push(b',')?;
+        }
+        add_message(&mut body, 3_900)?;
+    }
+    body.push(b']')?;
+    Ok(body)
+}
+
+/// A body of about 1 MB with one publish.
+pub fn one(alloc: Global) -> Result<Vec<u8>, AllocError> {
+    let mut body = Vec::with_capacity(alloc, MEGABYTE)?;
+    body.push(b'[')?;
+    add_message(&mut body, MEGABYTE - 200)?;
+    body.push(b']')?;
+    Ok(body)
+}
+
+// A publish whose data has so many bytes, or a few more: an array of short texts, numbers and objects.
+fn add_message(body: &mut Vec<u8>, size: usize) -> Result<(), AllocError> {
+    body.extend_from_slice(b"{\"channel\":\"/stock/GOOG\",\"clientId\":\"")?;
+    body.extend_from_slice(b"000000000000000000000000000000000000000000000001")?;
+    body.extend_from_slice(b"\",\"id\":\"17\",\"data\":[0")?;
+    let part = b",{\"symbol\":\"GOOG\",\"price\":1234.5},\"up \\\"and\\\" away\",[1,2,3],null".as_slice();
+    for _ in 0..size / part.len() {
+        body.extend_from_slice(part)?;
+    }
+    body.extend_from_slice(b"]}")
+}

@@ -1,0 +1,36 @@
+//! Workloads to be timed. With no argument it lists them.
+#![tactic(auto)]
+
+mod inputs;
+mod workloads;
+
+use anyhow::Result;
+use std::env;
+
+const LIST: &str = "\
+check-many   serde_json checks a body of 1 MB with 256 messages, 20 times
+cut-many     the same body is cut into messages and ten members of each are looked up, 20 times
+check-one    serde_json checks a body of 1 MB with one message, 20 times
+cut-one      the same body is cut, and ten members are looked up, 20 times
+value-texts  serde_json writes an array of 100,000 replies and events from a value
+item-texts   the same array is written from replies and events";
+
+fn main(rt: HostRuntime) -> Result<()> {
+    let alloc = rt.alloc();
+    match env::args(&rt)?.nth(1) {
+        None => rt.println(LIST)?,
+        Some(name) => {
+            let total = match name.as_str() {
+                "check-many" => workloads::check(alloc, inputs::many(alloc)?.as_slice())?,
+                "cut-many" => workloads::cut(alloc, inputs::many(alloc)?.as_slice())?,
+                "check-one" => workloads::check(alloc, inputs::one(alloc)?.as_slice())?,
+                "cut-one" => workloads::cut(alloc, inputs::one(alloc)?.as_slice())?,
+                "value-texts" => workloads::value_texts(alloc)?,
+                "item-texts" => workloads::item_texts(alloc)?,
+                _ => 0,
+            };
+            println!(rt; "{total}")?;
+        }
+    }
+    Ok(())
+}

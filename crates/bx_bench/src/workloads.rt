@@ -1,0 +1,94 @@
+//! What is timed. Each answers a number that rests on all of its work.
+use anyhow::{Result, anyhow};
+use bx_advice::{Case, Config};
+use bx_cut::Document;
+use bx_message::{AckReply, Event, Item, RawJson, Reply, SharedEvent, Text, body_text};
+use serde_json::Value;
+use std::alloc::Global;
+use std::str;
+
+const CUT_RUNS: usize = 20;
+
+// Of 1,000 replies and events each.
+const TEXT_RUNS: usize = 100;
+
+const MEMBERS: [&str; 10] = [
+    "channel",
+    "id",
+    "clientId",
+    "version",
+    "supportedConnectionTypes",
+    "connectionType",
+    "subscription",
+    "data",
+    "ext",
+    "advice",
+];
+
+/// `serde_json` reads the body as a value.
+pub fn check(alloc: Global, body: &[u8]) -> Result<usize> {
+    let mut total = 0usize;
+    for _ in 0..CUT_RUNS {
+        let text = str::from_utf8(body)?;
+        let value = Value::from_str(alloc, text)?;
+        total = total.saturating_add(value.as_array().map_or(0, |items| items.len()));
+    }
+    Ok(total)
+}
+
+/// The body is cut into messages, and ten members of each are looked up.
+pub fn cut(alloc: Global, body: &[u8]) -> Result<usize> {
+    let mut total = 0usize;
+    for _ in 0..CUT_RUNS {
+        let document = Document::read(alloc, body).map_err(|_| anyhow!("not cut"))?;
+        for piece in document.pieces() {
+            for name in MEMBERS {
+                total = total.saturating_add(piece.member(name).map_or(0, |text| text.len()));
+            }
+        }
+    }
+    Ok(total)
+}
+
+/// `serde_json` writes 1,000 events and replies, 100 times.
+pub fn value_texts(alloc: Global) -> Result<usize> {
+    let text = body_text(alloc, items(alloc)?.as_slice())?;
+    let value = Value::from_str(alloc, str::from_utf8(text.as_slice())?)?;
+    let mut total = 0usize;
+    for _ in 0..TEXT_RUNS {
+        total = total.saturating_add(value.to_string(alloc)?.len());
+    }
+    Ok(total)
+}
+
+/// The same is written from events and replies.
+pub fn item_texts(alloc: Global) -> Result<usize> {
+    let items = items(alloc)?;
+    let mut total = 0usize;
+    for _ in 0..TEXT_RUNS {
+        total = total.saturating_add(body_text(alloc, items.as_slice())?.len());
+    }
+    Ok(total)
+}
+
+// 1,000 times an event and the reply to the connect that it is given to.
+fn items(alloc: Global) -> Result<Vec<Item>> {
+    let config = Config::new(1, 30_000, 0, 10_000).ok_or(anyhow!("no configuration"))?;
+    let client = Text::new(alloc, "000000000000000000000000000000000000000000000001")?;
+    let event = SharedEvent::new(
+        alloc,
+        Event {
+            channel: Text::new(alloc, "/stock/GOOG")?,
+            payload: RawJson::new(alloc, "{\"symbol\":\"GOOG\",\"price\":1234.5}")?,
+            id: None,
+        },
+    )?;
+    let mut items = Vec::with_capacity(alloc, 2_000)?;
+    for _ in 0..1_000 {
+        items.push(Item::EventItem(event.clone()?))?;
+        let ack = AckReply::AckNumber(7);
+        let reply = Reply::to_connect(alloc, &config, &client, None, Case::Connected, ack)?;
+        items.push(Item::ReplyItem(reply))?;
+    }
+    Ok(items)
+}

@@ -1,0 +1,63 @@
+-- Which values may be cut, told from the values that were read.
+use Rattle.std.proofs.Common.{◌≡◌, ℕ, suc, ◌<◌, ◌≤◌, Bool, true, false, cond, ◌&&◌, nat_lt, List, [], ◌∷◌, length, Option, Some, None, is_some, refl, sym, ap, ◌∙◌}
+use Rattle.std.proofs.lemmas.Bool.{lt-ltb, le-ltb}
+use Rattle.std.proofs.lemmas.Str.{is_utf8-from_IsUtf8, IsUtf8-from_is_utf8}
+use Rattle.std.specs.List.{list_all}
+use Rattle.std.specs.Str.{IsUtf8, is_utf8}
+use Rattle.serde_json.specs.Read.{read}
+use Rattle.serde_json.specs.Data.{Data}
+use Rattle.serde_json.specs.Events.{items_len}
+use Rattle.serde_json.specs.Find.{as_array, as_object}
+use Rattle.serde_json.specs.View.{view, items_view}
+use Rattle.serde_json.specs.declared.value.Value.{Value}
+use Rattle.bx_cut.specs.Faults.{all_objects, array_fault, value_fault, fault}
+use Rattle.bx_cut.specs.declared.error.CutError.TheVariants.{NotJson, NotObject, TooMany}
+
+abbrev pub is_object : Value → Bool
+is_object v = is_some (as_object (view v))
+
+pub all_objects-view : (vs : List Value) → list_all is_object vs ≡ all_objects (items_view vs)
+all_objects-view [] = refl
+all_objects-view (v ∷ vs) = ap (λ b. is_object v && b) (all_objects-view vs)
+
+pub items_len-view : (vs : List Value) → items_len (items_view vs) ≡ length vs
+items_len-view [] = refl
+items_len-view (v ∷ vs) = ap suc (items_len-view vs)
+
+module _ (o : Option Data) (d : Data) (is : o ≡ Some d) where
+  pub object_passes : is_some (as_object d) ≡ true → value_fault o ≡ None
+  object_passes h = ap value_fault is ∙ ap (λ b. cond b None (array_fault (as_array d))) h
+
+  module _ (none : is_some (as_object d) ≡ false) where
+    pub no_array : None ≡ as_array d → value_fault o ≡ Some NotObject
+    no_array e = ap value_fault is ∙ ap (λ b. cond b None (array_fault (as_array d))) none ∙ ap array_fault (sym e)
+
+    module _ (vs : List Value) (there : Some (items_view vs) ≡ as_array d) where
+      in_array : value_fault o ≡ array_fault (Some (items_view vs))
+      in_array = ap value_fault is ∙ ap (λ b. cond b None (array_fault (as_array d))) none ∙ ap array_fault (sym there)
+
+      pub other_item : list_all is_object vs ≡ false → value_fault o ≡ Some NotObject
+      other_item h = in_array ∙ ap (λ b. cond b (cond (nat_lt 256 (items_len (items_view vs))) (Some TooMany) None) (Some NotObject)) (sym (all_objects-view vs) ∙ h)
+
+      all_pass : list_all is_object vs ≡ true → value_fault o ≡ cond (nat_lt 256 (length vs)) (Some TooMany) None
+      all_pass h =
+          in_array ∙ ap (λ b. cond b (cond (nat_lt 256 (items_len (items_view vs))) (Some TooMany) None) (Some NotObject)) (sym (all_objects-view vs) ∙ h)
+          ∙ ap (λ n. cond (nat_lt 256 n) (Some TooMany) None) (items_len-view vs)
+
+      pub too_many : list_all is_object vs ≡ true → 256 < length vs → value_fault o ≡ Some TooMany
+      too_many h l = all_pass h ∙ ap (λ b. cond b (Some TooMany) None) (lt-ltb 256 (length vs) l)
+
+      pub within : list_all is_object vs ≡ true → length vs ≤ 256 → value_fault o ≡ None
+      within h l = all_pass h ∙ ap (λ b. cond b (Some TooMany) None) (le-ltb 256 (length vs) l)
+
+pub fault-text : (body : List ℕ) → IsUtf8 body → fault body ≡ value_fault (read body)
+unfolding fault
+fault-text body u = ap (λ b. cond b (value_fault (read body)) (Some NotJson)) (is_utf8-from_IsUtf8 body u)
+
+pub fault-no_text : (body : List ℕ) → (IsUtf8 body → ⊥) → fault body ≡ Some NotJson
+unfolding fault
+fault-no_text body n = ap (λ b. cond b (value_fault (read body)) (Some NotJson)) (is_false (is_utf8 body) (IsUtf8-from_is_utf8 body))
+  where
+    is_false : (b : Bool) → (b ≡ true → IsUtf8 body) → b ≡ false
+    is_false true f = absurd (n (f refl))
+    is_false false f = refl

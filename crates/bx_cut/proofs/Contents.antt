@@ -1,0 +1,188 @@
+-- The content of a string, a part at a time.
+use Rattle.std.proofs.Common.{◌≡◌, ℕ, suc, ◌+◌, ◌<◌, ◌≤◌, Bool, true, false, cond, ◌&&◌, ◌==◌, nat_lt, List, [], ◌∷◌, ◌++◌, length, take, drop, get_or, Option, Some, None, option_and_then, refl, sym, ap, ◌∙◌, subst, arith}
+use Rattle.std.proofs.lemmas.List.{append_assoc, append-nil, length-append}
+use Rattle.std.proofs.lemmas.Bool.{or_parts, not-true, eqb-true, false≢true, ne_eqb}
+use Rattle.std.specs.Prelude.{not, ◌||◌, IsTrue}
+use Rattle.std.specs.List.{prefix_len}
+use Rattle.std.specs.Char.{encode_utf8}
+use Rattle.json.specs.Text.{code_unit, short_escape, is_high_surrogate, is_low_surrogate, surrogate_pair, plain, after_backslash, after_u, after_high, prepend, content}
+use Rattle.json.specs.Run.{is_plain}
+use Rattle.bx_cut.specs.Cut.{begins_with, after_first}
+
+pub after_backslash-nil : (t : List ℕ) → length t ≡ 0 → content after_backslash t ≡ None
+unfolding content
+after_backslash-nil [] h = refl
+after_backslash-nil (x ∷ xs) h = let no : ⊥ = omega arith in absurd no
+
+pub after_backslash-at : (t : List ℕ) → 0 < length t → content after_backslash t
+    ≡ cond (get_or t 0 0 == 117) (content after_u (drop 1 t)) (option_and_then (λ c. prepend (c ∷ []) (content plain (drop 1 t))) (short_escape (get_or t 0 0)))
+unfolding content
+after_backslash-at [] h = let no : ⊥ = omega arith in absurd no
+after_backslash-at (x ∷ xs) h = refl
+
+-- what follows `\u` in a text that begins with the `u`
+pub unit-short : (t : List ℕ) → length t < 5 → content after_u (drop 1 t) ≡ None
+unfolding content
+unit-short [] h = refl
+unit-short (u ∷ []) h = refl
+unit-short (u ∷ a ∷ []) h = refl
+unit-short (u ∷ a ∷ b ∷ []) h = refl
+unit-short (u ∷ a ∷ b ∷ c ∷ []) h = refl
+unit-short (u ∷ a ∷ b ∷ c ∷ d ∷ xs) h = let no : ⊥ = omega arith in absurd no
+
+abbrev pub unit_within : List ℕ → ℕ → Option ℕ
+unit_within t i = code_unit (get_or t i 0) (get_or t (i + 1) 0) (get_or t (i + 2) 0) (get_or t (i + 3) 0)
+
+pub unit-at : (t : List ℕ) → 5 ≤ length t → content after_u (drop 1 t)
+    ≡ option_and_then (λ u. cond (is_high_surrogate u) (content (after_high u) (drop 5 t)) (cond (is_low_surrogate u) None (prepend (encode_utf8 u) (content plain (drop 5 t))))) (unit_within t 1)
+unfolding content
+unit-at [] h = let no : ⊥ = omega arith in absurd no
+unit-at (u ∷ []) h = let no : ⊥ = omega arith in absurd no
+unit-at (u ∷ a ∷ []) h = let no : ⊥ = omega arith in absurd no
+unit-at (u ∷ a ∷ b ∷ []) h = let no : ⊥ = omega arith in absurd no
+unit-at (u ∷ a ∷ b ∷ c ∷ []) h = let no : ⊥ = omega arith in absurd no
+unit-at (u ∷ a ∷ b ∷ c ∷ d ∷ xs) h = refl
+
+pub high-short : (high : ℕ) (t : List ℕ) → length t < 6 → content (after_high high) t ≡ None
+unfolding content
+high-short high [] h = refl
+high-short high (s ∷ []) h = refl
+high-short high (s ∷ u ∷ []) h = refl
+high-short high (s ∷ u ∷ a ∷ []) h = refl
+high-short high (s ∷ u ∷ a ∷ b ∷ []) h = refl
+high-short high (s ∷ u ∷ a ∷ b ∷ c ∷ []) h = refl
+high-short high (s ∷ u ∷ a ∷ b ∷ c ∷ d ∷ xs) h = let no : ⊥ = omega arith in absurd no
+
+pub high-at : (high : ℕ) (t : List ℕ) → 6 ≤ length t → content (after_high high) t
+    ≡ cond ((get_or t 0 0 == 92) && (get_or t 1 0 == 117)) (option_and_then (λ l. cond (is_low_surrogate l) (prepend (encode_utf8 (surrogate_pair high l)) (content plain (drop 6 t))) None) (unit_within t 2)) None
+unfolding content
+high-at high [] h = let no : ⊥ = omega arith in absurd no
+high-at high (s ∷ []) h = let no : ⊥ = omega arith in absurd no
+high-at high (s ∷ u ∷ []) h = let no : ⊥ = omega arith in absurd no
+high-at high (s ∷ u ∷ a ∷ []) h = let no : ⊥ = omega arith in absurd no
+high-at high (s ∷ u ∷ a ∷ b ∷ []) h = let no : ⊥ = omega arith in absurd no
+high-at high (s ∷ u ∷ a ∷ b ∷ c ∷ []) h = let no : ⊥ = omega arith in absurd no
+high-at high (s ∷ u ∷ a ∷ b ∷ c ∷ d ∷ xs) h = refl
+
+pub prepend-prepend : (a b : List ℕ) (r : Option (List ℕ)) → prepend a (prepend b r) ≡ prepend (a ++ b) r
+prepend-prepend a b None = refl
+prepend-prepend a b (Some s) = ap Some (sym (append_assoc a b s))
+
+pub prepend-nil : (r : Option (List ℕ)) → prepend [] r ≡ r
+prepend-nil None = refl
+prepend-nil (Some s) = refl
+
+-- plain bytes stand for themselves
+pub content-run : (xs : List ℕ) → content plain xs ≡ prepend (take (prefix_len is_plain xs) xs) (content plain (drop (prefix_len is_plain xs) xs))
+unfolding content
+content-run [] = sym (prepend-nil _)
+content-run (x ∷ xs) = by_test (is_plain x) refl (content-run xs)
+  where
+    by_test : (p : Bool) → p ≡ is_plain x → content plain xs ≡ prepend (take (prefix_len is_plain xs) xs) (content plain (drop (prefix_len is_plain xs) xs))
+        → content plain (x ∷ xs) ≡ prepend (take (cond p (1 + prefix_len is_plain xs) 0) (x ∷ xs)) (content plain (drop (cond p (1 + prefix_len is_plain xs) 0) (x ∷ xs)))
+    by_test false e ih = sym (prepend-nil _)
+    by_test true e ih =
+        let n = prefix_len is_plain xs in
+        let next : suc n ≡ 1 + n = omega arith in
+        let none = or_parts ((x == 34) || (x == 92)) (nat_lt x 32) (not-true _ (sym e)) in
+        let tests = or_parts (x == 34) (x == 92) none.0 in
+        (λ i. cond (tests.0 i) (Some []) (cond (tests.1 i) (content after_backslash xs) (cond (none.1 i) None (prepend (x ∷ []) (ih i)))))
+        ∙ prepend-prepend (x ∷ []) (take n xs) (content plain (drop n xs)) ∙ ap (λ k. prepend (take k (x ∷ xs)) (content plain (drop k (x ∷ xs)))) next
+
+-- what stands after the plain bytes is none
+pub plain-none : (t : List ℕ) → prefix_len is_plain (drop (prefix_len is_plain t) t) ≡ 0
+plain-none [] = refl
+plain-none (x ∷ xs) = by_test (is_plain x) refl (plain-none xs)
+  where
+    by_test : (p : Bool) → p ≡ is_plain x → prefix_len is_plain (drop (prefix_len is_plain xs) xs) ≡ 0 → prefix_len is_plain (drop (cond p (1 + prefix_len is_plain xs) 0) (x ∷ xs)) ≡ 0
+    by_test true e ih = let next : suc (prefix_len is_plain xs) ≡ 1 + prefix_len is_plain xs = omega arith in subst (λ (k : ℕ). prefix_len is_plain (drop k (x ∷ xs)) ≡ 0) next ih
+    by_test false e ih = ap (λ b. cond b (1 + prefix_len is_plain xs) 0) (sym e)
+
+-- ---- where no plain byte is next
+
+pub at-quote : (t : List ℕ) → begins_with 34 t ≡ true → content plain t ≡ Some []
+unfolding content
+at-quote [] h = cc
+at-quote (x ∷ xs) h = ap (λ b. cond b (Some []) (cond (x == 92) (content after_backslash xs) (cond (nat_lt x 32) None (prepend (x ∷ []) (content plain xs))))) h
+
+pub at-backslash : (t r : List ℕ) → Some r ≡ after_first 92 t → content plain t ≡ content after_backslash r
+unfolding content after_first
+at-backslash [] r h = cc
+at-backslash (x ∷ xs) r h = by_test (x == 92) refl h
+  where
+    by_test : (b : Bool) → (x == 92) ≡ b → Some r ≡ cond b (Some xs) None → content plain (x ∷ xs) ≡ content after_backslash r
+    by_test true e h =
+        let is : x ≡ 92 = eqb-true x 92 e in
+        let same : r ≡ xs = cc in
+        ap (λ y. content plain (y ∷ xs)) is ∙ ap (content after_backslash) (sym same)
+    by_test false e h = cc
+
+pub at-fault : (t : List ℕ) → prefix_len is_plain t ≡ 0 → begins_with 34 t ≡ false → None ≡ after_first 92 t → content plain t ≡ None
+unfolding content after_first
+at-fault [] z q h = refl
+at-fault (x ∷ xs) z q h = by_tests (x == 34) (x == 92) (nat_lt x 32) q h z
+  where
+    by_tests : (a b c : Bool) → a ≡ false → None ≡ cond b (Some xs) None → cond (not ((a || b) || c)) (1 + prefix_len is_plain xs) 0 ≡ 0
+        → cond a (Some []) (cond b (content after_backslash xs) (cond c None (prepend (x ∷ []) (content plain xs)))) ≡ None
+    by_tests true b c q h z = cc
+    by_tests false true c q h z = cc
+    by_tests false false true q h z = refl
+    by_tests false false false q h z = let no : ⊥ = omega (arith, z) in absurd no
+
+pub after-run : (t front run after : List ℕ) (n : ℕ) (o : Option (List ℕ)) → n ≡ prefix_len is_plain t → run ≡ take n t → after ≡ drop n t → o ≡ prepend front (content plain t) → o ≡ prepend (front ++ run) (content plain after)
+after-run t front run after n o e f g h =
+    let there : content plain t ≡ prepend (take n t) (content plain (drop n t)) = rw e (content-run t) in
+    let both = h ∙ ap (prepend front) there ∙ prepend-prepend front (take n t) (content plain (drop n t)) in
+    rw (f, g) both
+
+pub after-end : (front text : List ℕ) (o : Option (List ℕ)) → content plain text ≡ Some [] → o ≡ prepend front (content plain text) → o ≡ Some front
+after-end front text o e h = h ∙ ap (prepend front) e ∙ ap Some (append-nil front)
+
+pub after-escape : (front text rest : List ℕ) (c : ℕ) (o : Option (List ℕ)) → content plain text ≡ prepend (encode_utf8 c) (content plain rest) → o ≡ prepend front (content plain text) → o ≡ prepend (front ++ encode_utf8 c) (content plain rest)
+after-escape front text rest c o e h = h ∙ ap (prepend front) e ∙ prepend-prepend front (encode_utf8 c) (content plain rest)
+
+pub after-fault : (front text : List ℕ) (o : Option (List ℕ)) → content plain text ≡ None → o ≡ prepend front (content plain text) → o ≡ None
+after-fault front text o e h = h ∙ ap (prepend front) e
+
+-- ---- beside a text that is wanted
+
+abbrev pub wanted_of : Option (List ℕ) → List ℕ
+wanted_of None = []
+wanted_of (Some s) = s
+
+-- no text that begins otherwise is spelled
+pub not-spelled : (text done wanted part : List ℕ) (o rest : Option (List ℕ)) → text ≡ done ++ wanted → ((s : List ℕ) → wanted ≡ part ++ s → ⊥) → o ≡ prepend (done ++ part) rest → o ≡ Some text → ⊥
+not-spelled text done wanted part o None t none h e = let no : None ≡ Some text = sym h ∙ e in cc
+not-spelled text done wanted part o (Some s) t none h e =
+    let both : Some ((done ++ part) ++ s) ≡ Some text = sym h ∙ e in
+    let same : (done ++ part) ++ s ≡ text = ap wanted_of both in
+    none s (append_cancel done wanted (part ++ s) (sym t ∙ sym same ∙ append_assoc done part s))
+  where
+    append_cancel : (xs ys zs : List ℕ) → xs ++ ys ≡ xs ++ zs → ys ≡ zs
+    append_cancel [] ys zs e = e
+    append_cancel (x ∷ xs) ys zs e = append_cancel xs ys zs (ap (drop 1) e)
+
+pub never : {P : Type 0} → (P → ⊥) → (IsTrue false → P) × (P → IsTrue false)
+never n = (λ f. absurd (false≢true f), λ p. absurd (n p))
+
+not_some : (text : List ℕ) (o : Option (List ℕ)) → o ≡ None → o ≡ Some text → ⊥
+not_some text o e h = let no : None ≡ Some text = sym e ∙ h in cc
+
+pub fault-not-spelled : (text : List ℕ) (o : Option (List ℕ)) → o ≡ None → (IsTrue false → o ≡ Some text) × (o ≡ Some text → IsTrue false)
+fault-not-spelled text o e = never (not_some text o e)
+
+-- the string ends: what is wanted has to end too
+pub end-spelled : (text done wanted run left : List ℕ) (o : Option (List ℕ)) (b : Bool) → text ≡ done ++ wanted → wanted ≡ run ++ left → o ≡ Some (done ++ run) → b ≡ (length left == 0)
+    → (IsTrue b → o ≡ Some text) × (o ≡ Some text → IsTrue b)
+end-spelled text done wanted run [] o b t w h e =
+    let same : text ≡ done ++ run = t ∙ ap (λ x. done ++ x) (w ∙ append-nil run) in
+    (λ y. h ∙ ap Some (sym same), λ y. e)
+end-spelled text done wanted run (x ∷ xs) o b t w h e =
+    let some : (length (x ∷ xs) == 0) ≡ false = ne_eqb (length (x ∷ xs)) 0 (λ z. omega (arith, z)) in (
+      λ y. absurd (false≢true (sym some ∙ sym e ∙ y)),
+      λ y.
+          let both : Some (done ++ run) ≡ Some text = sym h ∙ y in
+          let same : done ++ run ≡ text = ap wanted_of both in
+          let whole : text ≡ done ++ (run ++ (x ∷ xs)) = t ∙ ap (λ z. done ++ z) w in
+          let no : ⊥ = omega (arith, ap length same, ap length whole, length-append done run, length-append done (run ++ (x ∷ xs)), length-append run (x ∷ xs)) in absurd no,
+    )

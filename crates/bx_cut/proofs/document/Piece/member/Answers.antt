@@ -1,0 +1,39 @@
+use Rattle.std.proofs.Common.{◌≡◌, ℕ, ◌+◌, cond, List, [], ◌∷◌, ◌++◌, Bool, Some, option_map, map, take, get_or, sym, ap, ◌∙◌, arith}
+use Rattle.std.proofs.lemmas.List.{map-append, take_more, take_all}
+use Rattle.std.specs.Borrow.{Bor}
+use Rattle.bx_cut.specs.Pieces.{Object, last_member}
+use Rattle.bx_cut.specs.Views.{member_view}
+use Rattle.bx_cut.specs.declared.split.Member as code
+use Rattle.bx_cut.proofs.Names.{one_more}
+use Rattle.bx_cut.proofs.document.Piece.member.Goals as goal
+use Rattle.bx_cut.proofs.document.Piece.member.Goals.{then-spells, else-spells}
+
+abbrev nothing : Bor (List ℕ)
+nothing = record { ref_ptr = (0, 0); now = [] }
+
+abbrev no_member : code.Member
+no_member = record { key = nothing; value = nothing }
+
+pub loop-member-preserved : goal.loop-member-preserved
+loop-member-preserved c =
+    let items = c.deref-member-items.result.now in
+    let i = c.loop-member.member-index in
+    let m = member_view (get_or items i no_member) in
+    let seen = map member_view (take i items) in
+    let before = option_map (λ (x : Bor (List ℕ)). x.now) c.loop-member.found in
+    let after = option_map (λ (x : Bor (List ℕ)). x.now) c.if-spells.found in
+    let step : after ≡ cond c.spells.result (Some m.1) before =
+    elim c.if-spells.branch [
+      | then-spells w ↦ ap (option_map (λ (x : Bor (List ℕ)). x.now)) w.found-is ∙ ap (λ (b : Bool). cond b (Some m.1) before) (sym w.if-spells.true)
+      | else-spells w ↦ ap (option_map (λ (x : Bor (List ℕ)). x.now)) w.found-is ∙ ap (λ (b : Bool). cond b (Some m.1) before) (sym w.if-spells.false)
+    ] in
+    let taken : map member_view (take (i + 1) items) ≡ seen ++ m ∷ [] =
+    ap (map member_view) (take_more items i no_member (omega arith)) ∙ map-append member_view (take i items) (get_or items i no_member ∷ []) in
+    one_more c.args.name.now seen m before after c.spells.result c.spells.ensures c.loop-member.invariant step ∙ ap (last_member c.args.name.now) (sym taken)
+
+pub returns : goal.returns
+returns c =
+    let items = c.deref-member-items.result.now in
+    let whole = take_all c.loop-member.member-index items (omega arith) in
+    let members = ap (map member_view) (whole ∙ c.deref-member-items.ensures.value) ∙ ap (λ (o : Object). o.1) c.self.view_is in
+    c.loop-member.invariant ∙ ap (last_member c.args.name.now) members

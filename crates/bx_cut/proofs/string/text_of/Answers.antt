@@ -1,0 +1,42 @@
+use Rattle.std.proofs.Common.{◌≡◌, ◌++◌, Some, string_bytes, sym, ap, ◌∙◌, rules}
+use Rattle.std.specs.Char.{encode_utf8}
+use Rattle.bx_cut.specs.Strings.{spelled}
+use Rattle.bx_cut.proofs.Contents.{plain-none, after-run, after-end, after-escape, after-fault}
+use Rattle.bx_cut.proofs.string.text_of.Goals as goal
+
+pub next_part-requires : goal.next_part-requires
+next_part-requires c =
+    let t = c.loop-text.rest.now in
+    rw (c.split_at.ensures.back, c.plain_len.ensures.value) (plain-none t)
+
+pub returns-in-End : goal.returns-in-End
+returns-in-End c =
+    let t = c.loop-text.rest.now in
+    let o = spelled c.args.value.now in
+    let run = c.split_at.result.0.now in
+    let after = c.split_at.result.1.now in
+    let front = string_bytes c.loop-text.text ++ run in
+    let ran = after-run t (string_bytes c.loop-text.text) run after c.plain_len.result o c.plain_len.ensures.value c.split_at.ensures.front c.split_at.ensures.back c.loop-text.invariant.1 in
+    ap Some c.in_ok-push_str.ensures.bytes ∙ sym (after-end front after o c.in-End.ensures ran)
+
+pub loop-text-preserved : goal.loop-text-preserved
+loop-text-preserved c =
+    let t = c.loop-text.rest.now in
+    let o = spelled c.args.value.now in
+    let run = c.split_at.result.0.now in
+    let after = c.split_at.result.1.now in
+    let front = string_bytes c.loop-text.text ++ run in
+    let ran = after-run t (string_bytes c.loop-text.text) run after c.plain_len.result o c.plain_len.ensures.value c.split_at.ensures.front c.split_at.ensures.back c.loop-text.invariant.1 in
+    let more = after-escape front after c.in-Escape.next.now c.in-Escape.c o c.in-Escape.ensures.0 ran in
+    let bytes : string_bytes c.push.new.self ≡ front ++ encode_utf8 c.in-Escape.c = rw (← c.in_ok-push_str.ensures.bytes) c.in_ok-push-in-Escape.ensures.bytes in
+    (search rules, rw bytes more)
+
+pub returns-in-Fault : goal.returns-in-Fault
+returns-in-Fault c =
+    let t = c.loop-text.rest.now in
+    let o = spelled c.args.value.now in
+    let run = c.split_at.result.0.now in
+    let after = c.split_at.result.1.now in
+    let front = string_bytes c.loop-text.text ++ run in
+    let ran = after-run t (string_bytes c.loop-text.text) run after c.plain_len.result o c.plain_len.ensures.value c.split_at.ensures.front c.split_at.ensures.back c.loop-text.invariant.1 in
+    sym (after-fault front after o c.in-Fault.ensures ran)

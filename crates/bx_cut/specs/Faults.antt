@@ -1,0 +1,27 @@
+-- Which bodies are not cut, and why.
+use Rattle.std.specs.Prelude.{ℕ, List, Bool, true, cond, ◌&&◌, nat_lt, is_some, Option, Some, None}
+use Rattle.std.specs.Str.{is_utf8}
+use Rattle.serde_json.specs.Data.{Data, Items, no_items, item}
+use Rattle.serde_json.specs.Events.{items_len}
+use Rattle.serde_json.specs.Find.{as_array, as_object}
+use Rattle.serde_json.specs.Read.{read}
+use Rattle.bx_cut.specs.declared.document.TheConstants.{MAX_MESSAGES}
+use Rattle.bx_cut.specs.declared.error.CutError.{CutError}
+use Rattle.bx_cut.specs.declared.error.CutError.TheVariants.{NotJson, NotObject, TooMany}
+
+abbrev pub all_objects : Items → Bool
+all_objects no_items = true
+all_objects (item d ds) = is_some (as_object d) && all_objects ds
+
+-- an array's, or that of what is none
+abbrev pub array_fault : Option Items → Option CutError
+array_fault None = Some NotObject
+array_fault (Some ds) = cond (all_objects ds) (cond (nat_lt MAX_MESSAGES (items_len ds)) (Some TooMany) None) (Some NotObject)
+
+abbrev pub value_fault : Option Data → Option CutError
+value_fault None = Some NotJson
+value_fault (Some d) = cond (is_some (as_object d)) None (array_fault (as_array d))
+
+-- the first fault of a body, where it has one
+unfoldable pub fault : List ℕ → Option CutError
+fault body = cond (is_utf8 body) (value_fault (read body)) (Some NotJson)

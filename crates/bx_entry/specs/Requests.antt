@@ -1,0 +1,91 @@
+-- The messages of a request's documents, or why they can't be read.
+use Rattle.std.specs.Prelude.{ℕ, ◌||◌, Bool, true, false, List, [], ◌∷◌, ◌++◌, length, map, flat_map, nat_lt, Option, Some, None, option_map, option_and_then, Result, Ok, Err}
+use Rattle.std.specs.List.{list_any}
+use Rattle.bx_names.specs.Faults.{first_case}
+use Rattle.bx_cut.specs.declared.error.CutError.{CutError}
+use Rattle.bx_cut.specs.declared.error.CutError.TheVariants as cuts
+use Rattle.bx_cut.specs.declared.document.TheConstants.{MAX_MESSAGES}
+use Rattle.bx_cut.specs.Faults.{fault}
+use Rattle.bx_cut.specs.Pieces.{Object, pieces}
+use Rattle.bx_message.specs.declared.message.Message.{Message}
+use Rattle.bx_message.specs.Fields.{message_in}
+use Rattle.bx_entry.specs.declared.input.BodyFault.{BodyFault}
+use Rattle.bx_entry.specs.declared.input.BodyFault.TheVariants.{NotJson, NotObject, TooMany, NoChannel}
+
+-- ---- documents
+
+-- the messages' objects of a document, or its fault
+abbrev pub Cut : Type 0
+Cut = Result (List Object) CutError
+
+-- the fault, where there is one
+abbrev pub cut_by : Option CutError → List Object → Cut
+cut_by None objects = Ok objects
+cut_by (Some e) objects = Err e
+
+-- a document as it is cut
+abbrev pub cut_of : List ℕ → Cut
+cut_of document = cut_by (fault document) (pieces document)
+
+abbrev pub is_not_json : Cut → Bool
+is_not_json (Ok objects) = false
+is_not_json (Err cuts.NotJson) = true
+is_not_json (Err cuts.NotObject) = false
+is_not_json (Err cuts.TooMany) = false
+is_not_json (Err cuts.Memory) = false
+
+abbrev pub is_not_object : Cut → Bool
+is_not_object (Ok objects) = false
+is_not_object (Err cuts.NotJson) = false
+is_not_object (Err cuts.NotObject) = true
+is_not_object (Err cuts.TooMany) = false
+is_not_object (Err cuts.Memory) = false
+
+abbrev pub is_too_many : Cut → Bool
+is_too_many (Ok objects) = false
+is_too_many (Err cuts.NotJson) = false
+is_too_many (Err cuts.NotObject) = false
+is_too_many (Err cuts.TooMany) = true
+is_too_many (Err cuts.Memory) = false
+
+-- the objects of a document without a fault
+abbrev pub objects_in : Cut → List Object
+objects_in (Ok objects) = objects
+objects_in (Err e) = []
+
+-- those of all documents, in order
+abbrev pub objects_of : List Cut → List Object
+objects_of cs = flat_map objects_in cs
+
+-- ---- a request
+
+-- what is wrong with the documents as they are cut: the first of these that holds for any of them, the number of messages counted over all
+abbrev pub cut_fault : List Cut → Option BodyFault
+cut_fault cs = first_case (
+    (list_any is_not_json cs, NotJson)
+    ∷ (list_any is_not_object cs, NotObject)
+    ∷ (list_any is_too_many cs || nat_lt MAX_MESSAGES (length (objects_of cs)), TooMany)
+    ∷ [])
+
+-- the messages that these objects are, where each has a channel
+abbrev pub all_messages : List Object → Option (List Message)
+all_messages [] = Some []
+all_messages (o ∷ os) = option_and_then (λ m. option_map (λ ms. m ∷ ms) (all_messages os)) (message_in o.1)
+
+-- or that some has none
+abbrev pub with_channels : Option (List Message) → Result (List Message) BodyFault
+with_channels None = Err NoChannel
+with_channels (Some ms) = Ok ms
+
+-- the messages, unless there is a fault
+abbrev pub messages_by : List Cut → Option BodyFault → Result (List Message) BodyFault
+messages_by cs None = with_channels (all_messages (objects_of cs))
+messages_by cs (Some f) = Err f
+
+-- what documents as they are cut are read as
+abbrev pub messages_of : List Cut → Result (List Message) BodyFault
+messages_of cs = messages_by cs (cut_fault cs)
+
+-- the messages of all documents in order, or the first fault
+abbrev pub request_messages : List (List ℕ) → Result (List Message) BodyFault
+request_messages documents = messages_of (map cut_of documents)

@@ -1,0 +1,91 @@
+-- Objects and arrays that are written piece by piece, and what they are when they are ended.
+use Rattle.std.proofs.Common.{◌≡◌, ℕ, ◌+◌, ◌<◌, List, [], ◌∷◌, ◌++◌, length, take, map, get_or, refl, sym, ap, ◌∙◌, arith, append_assoc}
+use Rattle.std.specs.List.{join_with_byte}
+use Rattle.std.proofs.lemmas.List.{append-nil, take_more, map-append, length-map, length-take-le}
+use Rattle.json.specs.Token.{key, string, number}
+use Rattle.json.specs.Print.{print, print_from, quoted}
+use Rattle.bx_message.specs.Objects.{OpenObject, opened, resumed, with_name, with_member, with_members, closed}
+use Rattle.bx_message.specs.Texts.{member, object}
+
+-- ---- one token
+
+pub print-key : (name : List ℕ) → print (key name ∷ []) ≡ quoted name ++ 58 ∷ []
+unfolding print_from
+print-key name = append-nil (quoted name ++ 58 ∷ [])
+
+pub print-string : (text : List ℕ) → print (string text ∷ []) ≡ quoted text
+unfolding print_from
+print-string text = append-nil (quoted text)
+
+pub print-number : (digits : List ℕ) → print (number digits ∷ []) ≡ digits
+unfolding print_from
+print-number digits = append-nil digits
+
+-- ---- members
+
+-- a value behind its name
+pub with_name-value : (o : OpenObject) (name value : List ℕ) → with_name o name ++ value ≡ (with_member o (member name value)).text
+with_name-value o name value = simp append_assoc
+
+pub resumed-with_name : (o : OpenObject) (name value : List ℕ) → resumed (with_name o name ++ value) ≡ with_member o (member name value)
+resumed-with_name o name value = ap resumed (with_name-value o name value)
+
+pub with_members-append : (o : OpenObject) (xs ys : List (List ℕ)) → with_members o (xs ++ ys) ≡ with_members (with_members o xs) ys
+with_members-append o [] ys = refl
+with_members-append o (x ∷ xs) ys = with_members-append (with_member o x) xs ys
+
+-- members with a comma in front of each
+abbrev after_commas : List (List ℕ) → List ℕ
+after_commas [] = []
+after_commas (m ∷ ms) = 44 ∷ (m ++ after_commas ms)
+
+joined : (m : List ℕ) (ms : List (List ℕ)) → join_with_byte 44 (m ∷ ms) ≡ m ++ after_commas ms
+joined m [] = sym (append-nil m)
+joined m (n ∷ ms) = ap (λ t. m ++ (44 ∷ t)) (joined n ms)
+
+text-with_members : (before : List ℕ) (ms : List (List ℕ)) → (with_members (resumed before) ms).text ≡ before ++ after_commas ms
+text-with_members before [] = sym (append-nil before)
+text-with_members before (m ∷ ms) = text-with_members (before ++ (44 ∷ m)) ms ∙ append_assoc before (44 ∷ m) (after_commas ms)
+
+-- what is opened, filled and ended is the object
+pub closed-with_members : (before : List ℕ) (ms : List (List ℕ)) → closed (with_members (opened before) ms) ≡ before ++ object ms
+closed-with_members before [] = append_assoc before (123 ∷ []) (125 ∷ [])
+closed-with_members before (m ∷ ms) =
+    rw (text-with_members ((before ++ 123 ∷ []) ++ m) ms, joined m ms) (simp append_assoc)
+
+-- an object that began behind these bytes has these members so far
+pub record Holds (before : List ℕ) (members : List (List ℕ)) (o : OpenObject) : Type 0 where
+  pub same : o ≡ with_members (opened before) members
+
+pub none_yet : {before : List ℕ} {o : OpenObject} → o ≡ opened before → Holds before [] o
+none_yet e = record { same = e }
+
+pub adding : {before : List ℕ} {members : List (List ℕ)} {o p : OpenObject} (more : List (List ℕ)) → Holds before members o → p ≡ with_members o more → Holds before (members ++ more) p
+adding {before} {members} {o} {p} more h e =
+    record { same = e ∙ (ap (λ (q : OpenObject). with_members q more) h.same ∙ sym (with_members-append (opened before) members more)) }
+
+pub closed-holds : {before : List ℕ} {members : List (List ℕ)} {o : OpenObject} → Holds before members o → closed o ≡ before ++ object members
+closed-holds {before} {members} h = ap closed h.same ∙ closed-with_members before members
+
+-- ---- the values of an array
+
+pub joined-push : (values : List (List ℕ)) (value : List ℕ) → 0 < length values → join_with_byte 44 (values ++ value ∷ []) ≡ join_with_byte 44 values ++ (44 ∷ value)
+joined-push [] value h = absurd (omega arith)
+joined-push (v ∷ []) value h = refl
+joined-push (v ∷ w ∷ vs) value h =
+    ap (λ t. v ++ (44 ∷ t)) (joined-push (w ∷ vs) value (omega arith)) ∙ sym (append_assoc v (44 ∷ join_with_byte 44 (w ∷ vs)) (44 ∷ value))
+
+-- one more value of a list
+values-more : {X : Type 0} (f : X → List ℕ) (xs : List X) (i : ℕ) (x : X) → i < length xs → x ≡ get_or xs i x → map f (take (i + 1) xs) ≡ map f (take i xs) ++ f x ∷ []
+values-more f xs i x h e =
+    rw (take_more xs i x h, map-append) (ap (λ y. map f (take i xs) ++ f y ∷ []) (sym e))
+
+pub array-first : {X : Type 0} (f : X → List ℕ) (xs : List X) (i : ℕ) (x : X) (before : List ℕ) → i ≡ 0 → i < length xs → x ≡ get_or xs i x → before ≡ 91 ∷ join_with_byte 44 (map f (take i xs)) → before ++ f x ≡ 91 ∷ join_with_byte 44 (map f (take (i + 1) xs))
+array-first f xs i x before none h e b = rw (values-more f xs i x h e, b, none) refl
+
+pub array-more : {X : Type 0} (f : X → List ℕ) (xs : List X) (i : ℕ) (x : X) (before : List ℕ) → 0 < i → i < length xs → x ≡ get_or xs i x → before ≡ 91 ∷ join_with_byte 44 (map f (take i xs)) → (before ++ 44 ∷ []) ++ f x ≡ 91 ∷ join_with_byte 44 (map f (take (i + 1) xs))
+array-more f xs i x before some h e b =
+    let values = map f (take i xs) in
+    let len : length values ≡ i = length-map (take i xs) f ∙ length-take-le i xs (omega arith) in
+    let pushed = joined-push values (f x) (omega arith) in
+    rw (values-more f xs i x h e, b, pushed) (simp append_assoc)
