@@ -1,5 +1,6 @@
 -- The server's limits.
-use Rattle.std.specs.Prelude.{ℕ}
+use Rattle.std.specs.Prelude.{ℕ, ◌≡◌}
+use Rattle.std.proofs.Common.{lit≤}
 use Rattle.bx_advice.specs.declared.config.Limits.{Limits}
 use Rattle.bx_advice.specs.declared.config.TheConstants.{MAX_MOMENT, MAX_LENGTH}
 
@@ -13,4 +14,12 @@ greatest_length = MAX_LENGTH
 
 -- the limits of this server
 abbrev pub standard_limits : Limits
-standard_limits = record { events = 1024; patterns = 1024; batch = 256; sessions = 65536; texts = 64 }
+standard_limits = record { events = 1024; patterns = 1024; batch = 256; sessions = 65536; texts = 64; some_batch = lit≤ tt }
+
+-- the limits are those of this server
+pub record IsStandard (limits : Limits) : Type 0 where
+  pub events : limits.events ≡ standard_limits.events
+  pub patterns : limits.patterns ≡ standard_limits.patterns
+  pub batch : limits.batch ≡ standard_limits.batch
+  pub sessions : limits.sessions ≡ standard_limits.sessions
+  pub texts : limits.texts ≡ standard_limits.texts

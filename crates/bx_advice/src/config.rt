@@ -13,7 +13,7 @@ pub const MAX_MOMENT: u64 = 4_611_686_018_427_387_904;
 pub const MAX_LENGTH: u64 = 4_611_686_018_427_387_904;
 
 /// The server's limits, which [`STANDARD_LIMITS`] sets.
-#[derive(Clone, Copy, Debug, PartialEq, Eq)]
+#[derive(Clone, Copy, Debug)]
 pub struct Limits {
     /// The most events that may wait for a session, given ones that are not acknowledged included.
     pub events: usize,
@@ -25,6 +25,7 @@ pub struct Limits {
     pub sessions: usize,
     /// The most texts that the `subscription` of one message may have.
     pub texts: usize,
+    pub ghost some_batch: { 1 ≤ batch },
 }
 
 /// The limits of this server.
@@ -54,7 +55,7 @@ pub struct Config {
 
 impl Config {
     ghost use Rattle.std.specs.Prelude.{◌≡◌, ◌≤◌, ◌↔◌, IsSome, IfSome};
-    ghost use Rattle.bx_advice.specs.Limits.{standard_limits};
+    ghost use Rattle.bx_advice.specs.Limits.{IsStandard};
 
     /// The configuration with these settings and the standard limits; none where `shards` is not 1
     /// to [`MAX_SHARDS`].
@@ -63,7 +64,7 @@ impl Config {
         ensures shards { IfSome result (λ c. c.shards ≡ shards) }
         ensures times { IfSome result (λ c.
             (c.timeout ≡ timeout) × (c.interval ≡ interval) × (c.max_interval ≡ max_interval)) }
-        ensures limits { IfSome result (λ c. c.limits ≡ standard_limits) }
+        ensures limits { IfSome result (λ c. IsStandard c.limits) }
     {
         if shards == 0 || shards > MAX_SHARDS {
             return None;

@@ -11,7 +11,7 @@ pub enum CutError {
     /// The bytes are no UTF-8, or no JSON value that `serde_json` reads: it refuses more than 127
     /// levels of arrays and objects, and numbers too large for a float.
     NotJson,
-    /// The value is neither an object nor an array of objects (Bayeux 1.0, section 3: a message is
+    /// The value is neither an object nor an array of objects (Bayeux 1.0, messages: a message is
     /// a JSON object, and a request an array of messages).
     NotObject,
     /// More messages than `MAX_MESSAGES`, this server's choice.

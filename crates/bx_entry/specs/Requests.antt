@@ -9,6 +9,10 @@ use Rattle.bx_cut.specs.Faults.{fault}
 use Rattle.bx_cut.specs.Pieces.{Object, pieces}
 use Rattle.bx_message.specs.declared.message.Message.{Message}
 use Rattle.bx_message.specs.Fields.{message_in}
+use Rattle.bx_cut.specs.Bodies.{texts_of}
+use Rattle.bx_entry.specs.Inputs.{ReadInput, Request, Unread}
+use Rattle.bx_entry.specs.declared.input.Input.{Input}
+use Rattle.bx_entry.specs.declared.input.Input.TheVariants.{Post}
 use Rattle.bx_entry.specs.declared.input.BodyFault.{BodyFault}
 use Rattle.bx_entry.specs.declared.input.BodyFault.TheVariants.{NotJson, NotObject, TooMany, NoChannel}
 
@@ -89,3 +93,15 @@ messages_of cs = messages_by cs (cut_fault cs)
 -- the messages of all documents in order, or the first fault
 abbrev pub request_messages : List (List ℕ) → Result (List Message) BodyFault
 request_messages documents = messages_of (map cut_of documents)
+
+-- ---- an input
+
+-- a request as it is read
+abbrev pub read_by : ℕ → ℕ → Result (List Message) BodyFault → ReadInput
+read_by moment nonce (Ok ms) = Request moment nonce ms
+read_by moment nonce (Err f) = Unread f
+
+-- what is handed in, once its documents are read
+abbrev pub read_input : Input → ReadInput
+read_input (Post a) = read_by a.moment a.nonce (request_messages (texts_of a.bodies))
+read_input (Input.Tick moment) = ReadInput.Tick moment

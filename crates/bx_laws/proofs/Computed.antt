@@ -2,7 +2,7 @@
 use Rattle.std.specs.Prelude.{refl}
 use Rattle.std.specs.Fmt.{digits}
 use Rattle.json.specs.Print.{escape_byte}
-use Rattle.bx_laws.specs.Worked.{NamesRead, PatternsRead, StarsMatch, DoubleStarsMatch, AllMatch, PlainMatch, RefusedHandshake, HeldThenGiven, HandshakeWithId, NothingPosted, NoNumber, BatchesRepeat, GreatNumber, MatchedTwice, HoldRunsOut, SessionExpires, GoneWithinARequest, NotSole, Superseded, SupersededHeld, MomentsRise, TwoHandshakes, HoldEndsWithSession, EventIsBatch, EventIsBatchHeld, FullQueue, QueueWithRoom, FullWithBatch, HeldThroughOverflow, LengthsRead, EachRefusal, ServicePublish, HoldExtends, OverflowAt1025, FourFullBatches, HandshakeText, RefusedText, BatchText, CallbackExample, EmptyCallback, Unreadable, SenderBytes, UnknownType, ManyPatterns, DeliveryText}
+use Rattle.bx_laws.specs.Worked.{NamesRead, PatternsRead, StarsMatch, DoubleStarsMatch, AllMatch, PlainMatch, RefusedHandshake, HeldThenGiven, HandshakeWithId, NothingPosted, NoNumber, BatchesRepeat, GreatNumber, MatchedTwice, HoldRunsOut, SessionExpires, GoneWithinARequest, NotSole, Superseded, SupersededHeld, MomentsRise, TwoHandshakes, HoldEndsWithSession, EventIsBatch, EventIsBatchHeld, FullQueue, QueueWithRoom, FullWithBatch, HeldThroughOverflow, LengthsRead, EachRefusal, ServicePublish, HoldExtends, OverflowAt1025, FourFullBatches, HandshakeText, RefusedText, BatchText, CallbackExample, EmptyCallback, Unreadable, SenderBytes, UnknownType, ManyPatterns, DeliveryText, GoneText, SupersededText, OverflowText, SecondText, EndedText, RefusalsText, RefusedMovesClock, EmptyKeepsClock, RefusedKeepsDue, HoldBeforeEnd, EndedWithNumber, SupersededWithoutNumber, MixedArrays, FullServer, OverflowOutlivesPatterns, ServicePatternsAside}
 
 pub names_read : NamesRead
 names_read = refl
@@ -144,3 +144,57 @@ callback_example = refl
 pub empty_callback : EmptyCallback
 unfolding digits escape_byte
 empty_callback = refl
+
+pub gone_text : GoneText
+unfolding digits escape_byte
+gone_text = refl
+
+pub superseded_text : SupersededText
+unfolding digits escape_byte
+superseded_text = refl
+
+pub overflow_text : OverflowText
+unfolding digits escape_byte
+overflow_text = refl
+
+pub second_text : SecondText
+unfolding digits escape_byte
+second_text = refl
+
+pub ended_text : EndedText
+unfolding digits escape_byte
+ended_text = refl
+
+pub refusals_text : RefusalsText
+unfolding digits escape_byte
+refusals_text = refl
+
+pub refused_moves_clock : RefusedMovesClock
+refused_moves_clock = refl
+
+pub empty_keeps_clock : EmptyKeepsClock
+empty_keeps_clock = refl
+
+pub refused_keeps_due : RefusedKeepsDue
+refused_keeps_due = refl
+
+pub hold_before_end : HoldBeforeEnd
+hold_before_end = refl
+
+pub ended_with_number : EndedWithNumber
+ended_with_number = refl
+
+pub superseded_without_number : SupersededWithoutNumber
+superseded_without_number = refl
+
+pub mixed_arrays : MixedArrays
+mixed_arrays = refl
+
+pub full_server : FullServer
+full_server = refl
+
+pub overflow_outlives_patterns : OverflowOutlivesPatterns
+overflow_outlives_patterns = refl
+
+pub service_patterns_aside : ServicePatternsAside
+service_patterns_aside = refl

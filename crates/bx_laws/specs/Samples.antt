@@ -175,3 +175,23 @@ text_by (Err refusal) = []
 
 abbrev pub texts : Config → List ReadInput → List (List ℕ)
 texts config inputs = map (λ (o : Out). text_by o.result) (outs config inputs)
+
+-- ---- more messages
+
+-- one message for each of several refusals
+abbrev pub refused_messages : List ReadInput
+refused_messages = post 0 (handshake ∷ []) ∷ post 0 (
+    blank (codes "/meta/ping") ∷ blank (codes "/meta/connect") ∷ record (blank (codes "/meta/disconnect")) { client = Text (codes "nobody") }
+    ∷ subscribe 1 (codes "/meta/*") ∷ subscribe 1 (codes "/service/x") ∷ of_session (codes "/meta/subscribe") 1
+    ∷ publish 1 (codes "/a/*") (codes "1") ∷ of_session (codes "/a") 1 ∷ []) ∷ []
+
+-- a subscription of this text and something else beside it
+abbrev pub mixed : List ℕ → Message
+mixed text = record (subscribe 1 text) { listed = false }
+
+abbrev pub mixed_failed : List ℕ → Error → Item
+mixed_failed text error = ReplyItem (record (reply Column.Subscribe (codes "/meta/subscribe") (Some (id_of 1)) (Failed error) AckReply.NoAck) { subscription = Some (in_quotes text) })
+
+-- a configuration with room for so many sessions
+abbrev pub crowded : ℕ → Config
+crowded room = record standard { limits = record standard_limits { sessions = room } }

@@ -18,7 +18,8 @@ use Rattle.bx_entry.specs.Inputs.{Unread}
 use Rattle.bx_advice.specs.declared.error.Error.TheVariants.{UnknownConnectionType, InvalidPattern, TooManyPatterns}
 use Rattle.bx_message.specs.Texts.{callback_text}
 use Rattle.bx_entry.specs.Runs.{outs, held}
-use Rattle.bx_laws.specs.Samples.{blank, id_of, of_session, versioned, handshake, ack_handshake, connect, connect_now, ack_connect_now, in_quotes, subscribe, unsubscribe, disconnect, publish, post, standard, reply, handshaken, ack_handshaken, connected_as, connected, ack_connected, subscribed, unsubscribed, disconnected, published, unknown_client, event, out, subscribe_all, subscribed_all, match_all, two_connects, held_with_ack, small, failed, four_batches, full_batch, texts}
+use Rattle.bx_laws.specs.Samples.{ack_connect, blank, id_of, of_session, versioned, handshake, ack_handshake, connect, connect_now, ack_connect_now, in_quotes, subscribe, unsubscribe, disconnect, publish, post, standard, reply, handshaken, ack_handshaken, connected_as, connected, ack_connected, subscribed, unsubscribed, disconnected, published, unknown_client, event, out, subscribe_all, subscribed_all, match_all, two_connects, held_with_ack, small, failed, four_batches, full_batch, texts, refused_messages, mixed, mixed_failed, crowded}
+use Rattle.bx_advice.specs.declared.error.Error.TheVariants.{TooManySessions}
 
 -- ---- which texts read as names and patterns, and what patterns match
 
@@ -249,10 +250,7 @@ GoneWithinARequest =
 
 abbrev pub EachRefusal : Type 0
 EachRefusal =
-    outs standard (post 0 (handshake ∷ []) ∷ post 0 (
-    blank (codes "/meta/ping") ∷ blank (codes "/meta/connect") ∷ record (blank (codes "/meta/disconnect")) { client = Text (codes "nobody") }
-    ∷ subscribe 1 (codes "/meta/*") ∷ subscribe 1 (codes "/service/x") ∷ of_session (codes "/meta/subscribe") 1
-    ∷ publish 1 (codes "/a/*") (codes "1") ∷ of_session (codes "/a") 1 ∷ []) ∷ [])
+    outs standard refused_messages
     ≡ out 0 (handshaken 1 ∷ [])
     ∷ out 1 (failed Column.UnknownMeta (codes "/meta/ping") None UnknownMetaChannel
     ∷ failed Column.Connect (codes "/meta/connect") None NoClientId
@@ -366,3 +364,101 @@ CallbackExample =
 abbrev pub EmptyCallback : Type 0
 EmptyCallback =
     callback_text (codes "jsonpcallback") [] ≡ codes "jsonpcallback([])"
+
+-- ---- what is easily mistaken
+
+-- a message behind its session's disconnect, in bytes
+abbrev pub GoneText : Type 0
+GoneText =
+    drop 1 (texts standard (post 0 (handshake ∷ []) ∷ post 1 (disconnect 1 ∷ publish 1 (codes "/a/b") (codes "1") ∷ []) ∷ []))
+    ≡ codes "[{\"channel\":\"/meta/disconnect\",\"clientId\":\"000000000000000000000000000000000000000000000001\",\"successful\":true},{\"advice\":{\"interval\":0,\"reconnect\":\"handshake\"},\"channel\":\"/a/b\",\"error\":\"402::Unknown client\",\"successful\":false}]" ∷ []
+
+-- a newer connect ends the one before it, in bytes
+abbrev pub SupersededText : Type 0
+SupersededText =
+    drop 1 (texts standard two_connects)
+    ≡ codes "[{\"channel\":\"/meta/connect\",\"clientId\":\"000000000000000000000000000000000000000000000001\",\"error\":\"408::Superseded connect\",\"successful\":false}]" ∷ []
+
+-- a connect after an overflow, in bytes
+abbrev pub OverflowText : Type 0
+OverflowText =
+    drop 3 (texts (small 2 8) (post 0 (handshake ∷ []) ∷ post 0 (subscribe 1 (codes "/a/b") ∷ []) ∷ post 0 (replicate 3 (publish 1 (codes "/a/b") (codes "1"))) ∷ post 0 (connect_now 1 ∷ []) ∷ []))
+    ≡ codes "[{\"advice\":{\"interval\":0,\"reconnect\":\"handshake\"},\"channel\":\"/meta/connect\",\"clientId\":\"000000000000000000000000000000000000000000000001\",\"error\":\"413::Queue overflow\",\"successful\":false}]" ∷ []
+
+-- a second handshake, in bytes
+abbrev pub SecondText : Type 0
+SecondText =
+    texts standard (post 0 (handshake ∷ handshake ∷ []) ∷ [])
+    ≡ codes "[{\"advice\":{\"interval\":0,\"reconnect\":\"retry\",\"timeout\":30000},\"channel\":\"/meta/handshake\",\"clientId\":\"000000000000000000000000000000000000000000000001\",\"successful\":true,\"supportedConnectionTypes\":[\"long-polling\",\"callback-polling\"],\"version\":\"1.0\"},{\"channel\":\"/meta/handshake\",\"error\":\"400::Second handshake\",\"successful\":false,\"supportedConnectionTypes\":[\"long-polling\",\"callback-polling\"],\"version\":\"1.0\"}]" ∷ []
+
+-- a disconnect ends a hold, in bytes
+abbrev pub EndedText : Type 0
+EndedText =
+    drop 1 (texts standard (post 0 (handshake ∷ []) ∷ post 1 (connect 1 ∷ []) ∷ post 2 (disconnect 1 ∷ []) ∷ []))
+    ≡ codes "[{\"advice\":{\"interval\":0,\"reconnect\":\"none\"},\"channel\":\"/meta/connect\",\"clientId\":\"000000000000000000000000000000000000000000000001\",\"successful\":true}]" ∷ codes "[{\"channel\":\"/meta/disconnect\",\"clientId\":\"000000000000000000000000000000000000000000000001\",\"successful\":true}]" ∷ []
+
+-- one message for each of several refusals, in bytes
+abbrev pub RefusalsText : Type 0
+RefusalsText =
+    drop 1 (texts standard refused_messages)
+    ≡ codes "[{\"channel\":\"/meta/ping\",\"error\":\"404::Unknown meta channel\",\"successful\":false},{\"advice\":{\"interval\":0,\"reconnect\":\"handshake\"},\"channel\":\"/meta/connect\",\"error\":\"401::No client id\",\"successful\":false},{\"advice\":{\"interval\":0,\"reconnect\":\"handshake\"},\"channel\":\"/meta/disconnect\",\"error\":\"402::Unknown client\",\"successful\":false},{\"channel\":\"/meta/subscribe\",\"clientId\":\"000000000000000000000000000000000000000000000001\",\"error\":\"403::Subscription denied\",\"subscription\":\"/meta/*\",\"successful\":false},{\"channel\":\"/meta/subscribe\",\"clientId\":\"000000000000000000000000000000000000000000000001\",\"subscription\":\"/service/x\",\"successful\":true},{\"channel\":\"/meta/subscribe\",\"clientId\":\"000000000000000000000000000000000000000000000001\",\"error\":\"400::Missing subscription\",\"successful\":false},{\"channel\":\"/a/*\",\"error\":\"400::Invalid channel\",\"successful\":false},{\"channel\":\"/a\",\"error\":\"400::Missing data\",\"successful\":false}]" ∷ []
+
+-- a refused message moves the clock
+abbrev pub RefusedMovesClock : Type 0
+RefusedMovesClock =
+    drop 2 (outs standard (post 0 (handshake ∷ []) ∷ post 20000 (blank (codes "/meta/ping") ∷ []) ∷ Tick 5 ∷ post 5 (connect_now 1 ∷ []) ∷ []))
+    ≡ out 2 [] ∷ out 3 (unknown_client Column.Connect (codes "/meta/connect") ∷ []) ∷ []
+
+-- an empty request doesn't, nor one that can't be read
+abbrev pub EmptyKeepsClock : Type 0
+EmptyKeepsClock =
+    drop 1 (outs standard (post 0 (handshake ∷ []) ∷ post 20000 [] ∷ Unread NotJson ∷ Tick 5 ∷ post 5 (connect_now 1 ∷ []) ∷ []))
+    ≡ out 1 [] ∷ record { input = 2; result = Err (Body NotJson) } ∷ out 3 [] ∷ out 4 (connected 1 ∷ []) ∷ []
+
+-- a refused message doesn't put off the end of its session
+abbrev pub RefusedKeepsDue : Type 0
+RefusedKeepsDue =
+    drop 2 (outs standard (post 0 (handshake ∷ []) ∷ post 9000 (record (connect 1) { connection = Text (codes "websocket") } ∷ []) ∷ Tick 10001 ∷ post 10001 (connect_now 1 ∷ []) ∷ []))
+    ≡ out 2 [] ∷ out 3 (unknown_client Column.Connect (codes "/meta/connect") ∷ []) ∷ []
+
+-- a tick past both the deadline and the due moment answers the hold, and then closes
+abbrev pub HoldBeforeEnd : Type 0
+HoldBeforeEnd =
+    drop 1 (outs standard (post 0 (handshake ∷ []) ∷ post 1 (connect 1 ∷ []) ∷ Tick 50000 ∷ post 50000 (connect_now 1 ∷ []) ∷ []))
+    ≡ out 1 (connected 1 ∷ []) ∷ out 2 [] ∷ out 3 (unknown_client Column.Connect (codes "/meta/connect") ∷ []) ∷ []
+
+-- a hold of an acknowledging session that a disconnect ends has the number
+abbrev pub EndedWithNumber : Type 0
+EndedWithNumber =
+    drop 1 (outs standard (post 0 (ack_handshake ∷ []) ∷ post 1 (ack_connect 1 0 ∷ []) ∷ post 2 (disconnect 1 ∷ []) ∷ []))
+    ≡ out 1 (connected_as 1 Disconnected (AckReply.AckNumber 0) ∷ []) ∷ out 2 (disconnected 1 ∷ []) ∷ []
+
+-- one that a newer connect ends hasn't
+abbrev pub SupersededWithoutNumber : Type 0
+SupersededWithoutNumber =
+    drop 1 (outs standard (post 0 (ack_handshake ∷ []) ∷ post 1 (ack_connect 1 0 ∷ []) ∷ post 2 (ack_connect_now 1 0 ∷ []) ∷ []))
+    ≡ out 1 (connected_as 1 (Failed SupersededConnect) AckReply.NoAck ∷ []) ∷ out 2 (ack_connected 1 0 ∷ []) ∷ []
+
+-- texts beside something else are judged first
+abbrev pub MixedArrays : Type 0
+MixedArrays =
+    drop 1 (outs standard (post 0 (handshake ∷ []) ∷ post 0 (mixed (codes "a") ∷ mixed (codes "/meta/x") ∷ mixed (codes "/x") ∷ []) ∷ []))
+    ≡ out 1 (mixed_failed (codes "a") InvalidPattern ∷ mixed_failed (codes "/meta/x") SubscriptionDenied ∷ mixed_failed (codes "/x") MissingSubscription ∷ []) ∷ []
+
+-- a disconnect before it makes room for a handshake
+abbrev pub FullServer : Type 0
+FullServer =
+    outs (crowded 1) (post 0 (handshake ∷ []) ∷ post 0 (handshake ∷ []) ∷ post 0 (disconnect 1 ∷ handshake ∷ []) ∷ [])
+    ≡ out 0 (handshaken 1 ∷ []) ∷ out 1 (failed Column.Handshake (codes "/meta/handshake") None TooManySessions ∷ []) ∷ out 2 (disconnected 1 ∷ handshaken 2 ∷ []) ∷ []
+
+-- unsubscribing doesn't end an overflow
+abbrev pub OverflowOutlivesPatterns : Type 0
+OverflowOutlivesPatterns =
+    drop 3 (outs (small 8 1) (post 0 (handshake ∷ []) ∷ post 0 (subscribe 1 (codes "/a/b") ∷ subscribe 1 (codes "/c") ∷ []) ∷ post 0 (unsubscribe 1 (codes "/a/b") ∷ unsubscribe 1 (codes "/c") ∷ []) ∷ post 0 (connect_now 1 ∷ []) ∷ []))
+    ≡ out 3 (connected_as 1 (Failed QueueOverflow) AckReply.NoAck ∷ []) ∷ []
+
+-- patterns of service channels don't count
+abbrev pub ServicePatternsAside : Type 0
+ServicePatternsAside =
+    drop 2 (outs (small 8 1) (post 0 (handshake ∷ []) ∷ post 0 (subscribe 1 (codes "/a/b") ∷ subscribe 1 (codes "/service/x") ∷ []) ∷ post 0 (connect_now 1 ∷ []) ∷ []))
+    ≡ out 2 (connected 1 ∷ []) ∷ []

@@ -1,5 +1,5 @@
 //! Worked runs of the definitions, each computed by the prover.
-ghost use Rattle.bx_laws.specs.Worked.{NamesRead, LengthsRead, PatternsRead, StarsMatch, DoubleStarsMatch, AllMatch, PlainMatch, HandshakeWithId, RefusedHandshake, TwoHandshakes, NothingPosted, Unreadable, HeldThenGiven, MatchedTwice, ServicePublish, SenderBytes, NoNumber, BatchesRepeat, GreatNumber, EventIsBatch, EventIsBatchHeld, HoldRunsOut, NotSole, Superseded, SupersededHeld, HoldEndsWithSession, HoldExtends, MomentsRise, SessionExpires, GoneWithinARequest, EachRefusal, UnknownType, ManyPatterns, FullQueue, QueueWithRoom, FullWithBatch, HeldThroughOverflow, OverflowAt1025, FourFullBatches, HandshakeText, RefusedText, BatchText, DeliveryText, CallbackExample, EmptyCallback};
+ghost use Rattle.bx_laws.specs.Worked.{NamesRead, LengthsRead, PatternsRead, StarsMatch, DoubleStarsMatch, AllMatch, PlainMatch, HandshakeWithId, RefusedHandshake, TwoHandshakes, NothingPosted, Unreadable, HeldThenGiven, MatchedTwice, ServicePublish, SenderBytes, NoNumber, BatchesRepeat, GreatNumber, EventIsBatch, EventIsBatchHeld, HoldRunsOut, NotSole, Superseded, SupersededHeld, HoldEndsWithSession, HoldExtends, MomentsRise, SessionExpires, GoneWithinARequest, EachRefusal, UnknownType, ManyPatterns, FullQueue, QueueWithRoom, FullWithBatch, HeldThroughOverflow, OverflowAt1025, FourFullBatches, HandshakeText, RefusedText, BatchText, DeliveryText, CallbackExample, EmptyCallback, GoneText, SupersededText, OverflowText, SecondText, EndedText, RefusalsText, RefusedMovesClock, EmptyKeepsClock, RefusedKeepsDue, HoldBeforeEnd, EndedWithNumber, SupersededWithoutNumber, MixedArrays, FullServer, OverflowOutlivesPatterns, ServicePatternsAside};
 
 /// Which texts read as names and patterns, and what patterns match.
 pub fn channels()
@@ -47,12 +47,18 @@ pub fn held_connects()
     ensures hold_ends_with_session { HoldEndsWithSession }
     ensures hold_extends { HoldExtends }
     ensures moments_rise { MomentsRise }
+    ensures ended_with_number { EndedWithNumber }
+    ensures superseded_without_number { SupersededWithoutNumber }
 {}
 
 /// Sessions that end.
 pub fn endings()
     ensures session_expires { SessionExpires }
     ensures gone_within_a_request { GoneWithinARequest }
+    ensures refused_moves_clock { RefusedMovesClock }
+    ensures empty_keeps_clock { EmptyKeepsClock }
+    ensures refused_keeps_due { RefusedKeepsDue }
+    ensures hold_before_end { HoldBeforeEnd }
 {}
 
 /// Refused messages.
@@ -60,6 +66,8 @@ pub fn refusals()
     ensures each_refusal { EachRefusal }
     ensures unknown_type { UnknownType }
     ensures many_patterns { ManyPatterns }
+    ensures mixed_arrays { MixedArrays }
+    ensures full_server { FullServer }
 {}
 
 /// Queues and patterns at their limits.
@@ -70,6 +78,8 @@ pub fn overflows()
     ensures held_through_overflow { HeldThroughOverflow }
     ensures overflow_at_1025 { OverflowAt1025 }
     ensures four_full_batches { FourFullBatches }
+    ensures overflow_outlives_patterns { OverflowOutlivesPatterns }
+    ensures service_patterns_aside { ServicePatternsAside }
 {}
 
 /// Responses down to their bytes.
@@ -80,4 +90,10 @@ pub fn response_texts()
     ensures delivery_text { DeliveryText }
     ensures callback_example { CallbackExample }
     ensures empty_callback { EmptyCallback }
+    ensures gone_text { GoneText }
+    ensures superseded_text { SupersededText }
+    ensures overflow_text { OverflowText }
+    ensures second_text { SecondText }
+    ensures ended_text { EndedText }
+    ensures refusals_text { RefusalsText }
 {}

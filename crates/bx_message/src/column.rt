@@ -4,8 +4,8 @@ ghost use Rattle.bx_message.specs.Columns.{column_of};
 use bx_names::{ChannelKind, kind_of};
 
 /// What a message is for, by its channel: one of the five meta messages of Bayeux 1.0, a publish, or
-/// a message to a meta channel that is not known. It names the column of the table of members that
-/// a reply has.
+/// a message to a meta channel that is not known. A reply carries the members that its column has
+/// (`docs/MODEL.md`).
 #[derive(Clone, Copy, Debug, PartialEq, Eq)]
 pub enum Column {
     Handshake,

@@ -5,7 +5,7 @@ use std::alloc::{AllocError, Global};
 use std::marker::Model;
 use std::sync::Arc;
 
-/// A publish as it is delivered. (Bayeux 1.0, section 5.2, without the publisher's client id.)
+/// A publish as it is delivered. (Bayeux 1.0, delivery of events, without the publisher's client id.)
 #[derive(Drop)]
 pub struct Event {
     pub channel: Text,

@@ -24,7 +24,7 @@ pub enum AckMember {
 }
 
 /// A message's fields after reading. Of several members of one name the last counts, and members
-/// that are not named here are ignored. (Bayeux 1.0, section 3, and the acknowledgement extension of
+/// that are not named here are ignored. (Bayeux 1.0, message fields, and the acknowledgement extension of
 /// CometD.)
 #[derive(Drop)]
 pub struct Message {

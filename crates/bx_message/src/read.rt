@@ -174,7 +174,7 @@ fn ack_member(piece: &Piece<'_>) -> AckMember
     }
 }
 
-// (Bayeux 1.0, section 3.4.)
+// (Bayeux 1.0, the field `advice`.)
 fn timeout_member(piece: &Piece<'_>) -> Option<u64>
     ensures { result ≡ option_and_then number_of
         (nested_in (codes "advice") (codes "timeout") piece.now.1) }

@@ -42,7 +42,7 @@ impl Reply {
     /// The reply to a message of this column that is answered at its own place. `client` is the id
     /// of its session, where that is known: replies to the five meta messages carry it, and no
     /// others. Replies to subscriptions and unsubscriptions repeat `subscription`, refusals too.
-    /// (Bayeux 1.0, sections 4 and 5.)
+    /// (Bayeux 1.0, the responses of meta messages and of publish.)
     pub fn to_message(
         config: &Config,
         column: Column,
@@ -67,7 +67,7 @@ impl Reply {
     }
 
     /// The reply to a connect, whenever it is answered: `client` is its session's id, and `id` the
-    /// connect's. (Bayeux 1.0, section 4.2.2.)
+    /// connect's. (Bayeux 1.0, connect response.)
     pub fn to_connect(
         alloc: Global,
         config: &Config,

@@ -12,7 +12,7 @@ use crate::text::{RawJson, Text};
 use bx_advice::{Advice, Case, Reconnect};
 use std::alloc::{AllocError, Global};
 
-// Both are this server's, in every reply to a handshake. (Bayeux 1.0, section 4.1.2.)
+// Both are this server's, in every reply to a handshake. (Bayeux 1.0, handshake response.)
 const SUPPORTED_TYPES: &str = "[\"long-polling\",\"callback-polling\"]";
 const VERSION: &str = "1.0";
 
@@ -179,7 +179,7 @@ fn write_number(
     }
 }
 
-// (Bayeux 1.0, section 3.4.1.)
+// (Bayeux 1.0, the advice field `reconnect`.)
 fn reconnect_text(reconnect: Reconnect) -> &'static str
     ensures { result.now ≡ reconnect_text reconnect }
 {

@@ -1,5 +1,5 @@
 -- Each run is computed.
-use Rattle.bx_laws.proofs.Computed.{hold_runs_out, not_sole, superseded, superseded_held, hold_ends_with_session, hold_extends, moments_rise}
+use Rattle.bx_laws.proofs.Computed.{hold_runs_out, not_sole, superseded, superseded_held, hold_ends_with_session, hold_extends, moments_rise, ended_with_number, superseded_without_number}
 use Rattle.bx_laws.proofs.worked.held_connects.Goals as goal
 
 pub returns-clause-hold_runs_out : goal.returns-clause-hold_runs_out
@@ -22,3 +22,9 @@ returns-clause-hold_extends c = hold_extends
 
 pub returns-clause-moments_rise : goal.returns-clause-moments_rise
 returns-clause-moments_rise c = moments_rise
+
+pub returns-clause-ended_with_number : goal.returns-clause-ended_with_number
+returns-clause-ended_with_number c = ended_with_number
+
+pub returns-clause-superseded_without_number : goal.returns-clause-superseded_without_number
+returns-clause-superseded_without_number c = superseded_without_number
