@@ -20,6 +20,8 @@ use Rattle.bx_message.specs.Texts.{callback_text}
 use Rattle.bx_entry.specs.Runs.{outs, held}
 use Rattle.bx_laws.specs.Samples.{ack_connect, blank, id_of, of_session, versioned, handshake, ack_handshake, connect, connect_now, ack_connect_now, in_quotes, subscribe, unsubscribe, disconnect, publish, post, standard, reply, handshaken, ack_handshaken, connected_as, connected, ack_connected, subscribed, unsubscribed, disconnected, published, unknown_client, event, out, subscribe_all, subscribed_all, match_all, two_connects, held_with_ack, small, failed, four_batches, full_batch, texts, refused_messages, mixed, mixed_failed, crowded}
 use Rattle.bx_advice.specs.declared.error.Error.TheVariants.{TooManySessions}
+use Rattle.std.specs.Prelude.{◌++◌, map}
+use Rattle.bx_entry.specs.Replay.{lines_of, line_of, body_taken, Bad, Turned, Handed, Resharded, inputs_from, printed}
 
 -- ---- which texts read as names and patterns, and what patterns match
 
@@ -462,3 +464,24 @@ abbrev pub ServicePatternsAside : Type 0
 ServicePatternsAside =
     drop 2 (outs (small 8 1) (post 0 (handshake ∷ []) ∷ post 0 (subscribe 1 (codes "/a/b") ∷ subscribe 1 (codes "/service/x") ∷ []) ∷ post 0 (connect_now 1 ∷ []) ∷ []))
     ≡ out 2 (connected 1 ∷ []) ∷ []
+
+-- ---- scripts
+
+-- lines end at line feeds, and a last one without one counts
+abbrev pub ScriptLines : Type 0
+ScriptLines =
+    lines_of (codes "a" ++ 10 ∷ 10 ∷ codes "b") ∷ lines_of (codes "a" ++ 10 ∷ []) ∷ lines_of [] ∷ []
+    ≡ (codes "a" ∷ [] ∷ codes "b" ∷ []) ∷ (codes "a" ∷ []) ∷ [] ∷ []
+
+-- a tick, and lines of no known form
+abbrev pub LineForms : Type 0
+LineForms =
+    map (line_of body_taken) (codes "007 T" ∷ codes "7 T " ∷ codes "x" ∷ codes "0 P" ∷ codes "18446744073709551616 T" ∷ codes "0 S 64" ∷ codes "0 S 65" ∷ [] ∷ [])
+    ≡ Handed None (Tick 7) ∷ Bad ∷ Bad ∷ Bad ∷ Bad ∷ Resharded ∷ Bad ∷ Bad ∷ []
+
+-- what lines print: an answer comes with the line that gives it, and the lines that are held come last
+abbrev pub ScriptPrinted : Type 0
+ScriptPrinted =
+    (let ls = Handed None (post 0 (handshake ∷ [])) ∷ Bad ∷ Handed None (post 0 (connect 1 ∷ [])) ∷ Turned 413 ∷ Handed None (Tick 30000) ∷ Handed None (post 30000 (connect 1 ∷ [])) ∷ [] in
+    printed standard (inputs_from 1 ls) ls)
+    ≡ (codes "1 200 [{\"advice\":{\"interval\":0,\"reconnect\":\"retry\",\"timeout\":30000},\"channel\":\"/meta/handshake\",\"clientId\":\"000000000000000000000000000000000000000000000001\",\"successful\":true,\"supportedConnectionTypes\":[\"long-polling\",\"callback-polling\"],\"version\":\"1.0\"}]" ++ 10 ∷ []) ++ (codes "2 bad" ++ 10 ∷ []) ++ (codes "4 413" ++ 10 ∷ []) ++ (codes "3 200 [{\"advice\":{\"interval\":0,\"reconnect\":\"retry\",\"timeout\":30000},\"channel\":\"/meta/connect\",\"clientId\":\"000000000000000000000000000000000000000000000001\",\"successful\":true}]" ++ 10 ∷ []) ++ (codes "6 held" ++ 10 ∷ [])

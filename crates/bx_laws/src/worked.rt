@@ -1,5 +1,5 @@
 //! Worked runs of the definitions, each computed by the prover.
-ghost use Rattle.bx_laws.specs.Worked.{NamesRead, LengthsRead, PatternsRead, StarsMatch, DoubleStarsMatch, AllMatch, PlainMatch, HandshakeWithId, RefusedHandshake, TwoHandshakes, NothingPosted, Unreadable, HeldThenGiven, MatchedTwice, ServicePublish, SenderBytes, NoNumber, BatchesRepeat, GreatNumber, EventIsBatch, EventIsBatchHeld, HoldRunsOut, NotSole, Superseded, SupersededHeld, HoldEndsWithSession, HoldExtends, MomentsRise, SessionExpires, GoneWithinARequest, EachRefusal, UnknownType, ManyPatterns, FullQueue, QueueWithRoom, FullWithBatch, HeldThroughOverflow, OverflowAt1025, FourFullBatches, HandshakeText, RefusedText, BatchText, DeliveryText, CallbackExample, EmptyCallback, GoneText, SupersededText, OverflowText, SecondText, EndedText, RefusalsText, RefusedMovesClock, EmptyKeepsClock, RefusedKeepsDue, HoldBeforeEnd, EndedWithNumber, SupersededWithoutNumber, MixedArrays, FullServer, OverflowOutlivesPatterns, ServicePatternsAside};
+ghost use Rattle.bx_laws.specs.Worked.{NamesRead, LengthsRead, PatternsRead, StarsMatch, DoubleStarsMatch, AllMatch, PlainMatch, HandshakeWithId, RefusedHandshake, TwoHandshakes, NothingPosted, Unreadable, HeldThenGiven, MatchedTwice, ServicePublish, SenderBytes, NoNumber, BatchesRepeat, GreatNumber, EventIsBatch, EventIsBatchHeld, HoldRunsOut, NotSole, Superseded, SupersededHeld, HoldEndsWithSession, HoldExtends, MomentsRise, SessionExpires, GoneWithinARequest, EachRefusal, UnknownType, ManyPatterns, FullQueue, QueueWithRoom, FullWithBatch, HeldThroughOverflow, OverflowAt1025, FourFullBatches, HandshakeText, RefusedText, BatchText, DeliveryText, CallbackExample, EmptyCallback, GoneText, SupersededText, OverflowText, SecondText, EndedText, RefusalsText, RefusedMovesClock, EmptyKeepsClock, RefusedKeepsDue, HoldBeforeEnd, EndedWithNumber, SupersededWithoutNumber, MixedArrays, FullServer, OverflowOutlivesPatterns, ServicePatternsAside, ScriptLines, LineForms, ScriptPrinted};
 
 /// Which texts read as names and patterns, and what patterns match.
 pub fn channels()
@@ -96,4 +96,11 @@ pub fn response_texts()
     ensures second_text { SecondText }
     ensures ended_text { EndedText }
     ensures refusals_text { RefusalsText }
+{}
+
+/// Scripts: their lines, what a line says, and what lines print.
+pub fn scripts()
+    ensures script_lines { ScriptLines }
+    ensures line_forms { LineForms }
+    ensures script_printed { ScriptPrinted }
 {}

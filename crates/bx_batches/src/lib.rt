@@ -1,0 +1,8 @@
+//! The events that wait for one session, and the batches that they are given in.
+#![tactic(auto)]
+
+#[cfg(test)]
+mod tests;
+mod window;
+
+pub use window::{Given, PushError, Window};

@@ -1,0 +1,147 @@
+-- What a replay prints for a script, from the script's bytes to what is printed.
+use Rattle.std.specs.Prelude.{ℕ, ◌+◌, ◌==◌, ◌&&◌, Bool, true, false, List, [], ◌∷◌, ◌++◌, length, map, filter, flat_map, drop, nat_lt, nat_eq, nat_le, is_some, codes, decimal, if◌then◌else◌, Option, Some, None, option_map, unwrap_or, slice_get, Result, Ok, Err}
+use Rattle.std.specs.List.{starts_with, slice_split, before_first, after_first}
+use Rattle.std.specs.Str.{bytes_eq}
+use Rattle.bx_advice.specs.declared.config.Config.{Config}
+use Rattle.bx_advice.specs.declared.config.TheConstants.{BODY_LIMIT}
+use Rattle.bx_message.specs.declared.reply.Item.{Item}
+use Rattle.bx_message.specs.Fields.{number_of}
+use Rattle.bx_message.specs.Texts.{body_text, callback_text}
+use Rattle.bx_entry.specs.declared.input.Refusal.{Refusal}
+use Rattle.bx_entry.specs.declared.input.Refusal.TheVariants.{Body, BadMoment, Ended}
+use Rattle.bx_entry.specs.Inputs.{ReadInput, Request, Unread, Tick}
+use Rattle.bx_entry.specs.Requests.{request_messages, read_by}
+use Rattle.bx_entry.specs.Runs.{Out, Whole, wholes, whole_at, held}
+
+-- ---- lines
+
+abbrev pub is_newline : ℕ → Bool
+is_newline byte = byte == 10
+
+abbrev pub is_space : ℕ → Bool
+is_space byte = byte == 32
+
+-- what stands behind the last newline is a line where it isn't empty
+abbrev pub without_empty_end : List (List ℕ) → List (List ℕ)
+without_empty_end [] = []
+without_empty_end ([] ∷ []) = []
+without_empty_end ((x ∷ xs) ∷ []) = (x ∷ xs) ∷ []
+without_empty_end (part ∷ next ∷ parts) = part ∷ without_empty_end (next ∷ parts)
+
+abbrev pub lines_of : List ℕ → List (List ℕ)
+lines_of script = without_empty_end (slice_split is_newline script)
+
+-- ---- what a line says
+
+-- how a transport takes a body or a query: it refuses it with a status, or hands on its documents, and the name of the callback that asks for them
+pub data Taken : Type 0 where
+  Refused : (status : ℕ) → Taken
+  Documents : (callback : Option (List ℕ)) → (documents : List (List ℕ)) → Taken
+
+-- a body is one document, where it isn't too large
+abbrev pub body_taken : List ℕ → Taken
+body_taken body = if nat_lt BODY_LIMIT (length body) then Refused 413 else Documents None (body ∷ [])
+
+-- a line of another form, one that its transport refuses, an input with the name of its callback, or a change of the number of shards, which is no input
+pub data Line : Type 0 where
+  Bad : Line
+  Turned : (status : ℕ) → Line
+  Handed : (callback : Option (List ℕ)) → (input : ReadInput) → Line
+  Resharded : Line
+
+-- the documents of a request, with nonce 0
+abbrev pub handed_by : ℕ → Taken → Line
+handed_by moment (Refused status) = Turned status
+handed_by moment (Documents callback documents) = Handed callback (read_by moment 0 (request_messages documents))
+
+-- a number of shards
+abbrev pub reshards : Option ℕ → Line
+reshards None = Bad
+reshards (Some shards) = if nat_lt 0 shards && nat_le shards 64 then Resharded else Bad
+
+-- what follows a line's moment, where `query_taken` says how queries are taken
+abbrev pub command : (List ℕ → Taken) → ℕ → List ℕ → Line
+command query_taken moment rest =
+    if bytes_eq rest (codes "T") then Handed None (Tick moment)
+    else (if starts_with nat_eq rest (codes "P ") then handed_by moment (body_taken (drop 2 rest))
+    else (if starts_with nat_eq rest (codes "G ") then handed_by moment (query_taken (drop 2 rest))
+    else (if starts_with nat_eq rest (codes "S ") then reshards (number_of (drop 2 rest)) else Bad)))
+
+-- digits that fit 64 bits come first
+abbrev pub line_by : (List ℕ → Taken) → Option ℕ → List ℕ → Line
+line_by query_taken None rest = Bad
+line_by query_taken (Some moment) rest = command query_taken moment rest
+
+-- a moment, a space and a command
+abbrev pub line_of : (List ℕ → Taken) → List ℕ → Line
+line_of query_taken text = line_by query_taken (number_of (before_first is_space text)) (after_first is_space text)
+
+-- ---- inputs
+
+-- an input with the number of its line and the name of its callback
+pub record Numbered : Type 0 where
+  pub line : ℕ
+  pub callback : Option (List ℕ)
+  pub input : ReadInput
+
+-- the inputs among lines, which are counted from `number`
+abbrev pub inputs_from : ℕ → List Line → List Numbered
+inputs_from number [] = []
+inputs_from number (Bad ∷ ls) = inputs_from (number + 1) ls
+inputs_from number (Turned status ∷ ls) = inputs_from (number + 1) ls
+inputs_from number (Handed callback input ∷ ls) = record { line = number; callback = callback; input = input } ∷ inputs_from (number + 1) ls
+inputs_from number (Resharded ∷ ls) = inputs_from (number + 1) ls
+
+-- ---- what is printed
+
+abbrev pub line_text : ℕ → List ℕ → List ℕ
+line_text number text = decimal number ++ (32 ∷ (text ++ 10 ∷ []))
+
+abbrev pub refusal_status : Refusal → ℕ
+refusal_status (Body fault) = 400
+refusal_status BadMoment = 400
+refusal_status Ended = 503
+
+-- a response's body: the array, or the callback that gets it
+abbrev pub response_text : Option (List ℕ) → List Item → List ℕ
+response_text None items = body_text items
+response_text (Some name) items = callback_text name items
+
+-- what an input prints once it is whole; a tick that is taken prints nothing
+abbrev pub result_text : Numbered → ReadInput → Result (List Item) Refusal → List ℕ
+result_text n input (Err refusal) = line_text n.line (decimal (refusal_status refusal))
+result_text n (Request moment nonce ms) (Ok items) = line_text n.line (codes "200 " ++ response_text n.callback items)
+result_text n (Unread fault) (Ok items) = []
+result_text n (Tick moment) (Ok items) = []
+
+-- an out, by the input that it belongs to
+abbrev pub out_by : Out → Option Numbered → List ℕ
+out_by o None = []
+out_by o (Some n) = result_text n n.input o.result
+
+-- the outs that become whole at the input of this index
+abbrev pub outs_at : List Whole → List Numbered → ℕ → List ℕ
+outs_at ws numbered index = flat_map (λ (o : Out). out_by o (slice_get numbered o.input)) (whole_at index ws)
+
+-- what the lines print, one after another; `index` counts the inputs before them
+abbrev pub printed_from : List Whole → List Numbered → ℕ → ℕ → List Line → List ℕ
+printed_from ws numbered number index [] = []
+printed_from ws numbered number index (Bad ∷ ls) = line_text number (codes "bad") ++ printed_from ws numbered (number + 1) index ls
+printed_from ws numbered number index (Turned status ∷ ls) = line_text number (decimal status) ++ printed_from ws numbered (number + 1) index ls
+printed_from ws numbered number index (Handed callback input ∷ ls) = outs_at ws numbered index ++ printed_from ws numbered (number + 1) (index + 1) ls
+printed_from ws numbered number index (Resharded ∷ ls) = printed_from ws numbered (number + 1) index ls
+
+-- an input that isn't whole at the end
+abbrev pub held_text : Option Numbered → List ℕ
+held_text None = []
+held_text (Some n) = line_text n.line (codes "held")
+
+abbrev pub printed : Config → List Numbered → List Line → List ℕ
+printed config numbered ls =
+    let inputs = map (λ (n : Numbered). n.input) numbered in
+    printed_from (wholes config inputs) numbered 1 0 ls ++ flat_map (λ index. held_text (slice_get numbered index)) (held config inputs)
+
+-- what the lines print in order, and then the lines that are held
+abbrev pub replay_text : Config → (List ℕ → Taken) → List ℕ → List ℕ
+replay_text config query_taken script =
+    let ls = map (line_of query_taken) (lines_of script) in printed config (inputs_from 1 ls) ls
