@@ -1,6 +1,11 @@
 -- Objects and arrays that are written piece by piece, and what they are when they are ended.
 use Rattle.std.proofs.Common.{◌≡◌, ℕ, ◌+◌, ◌<◌, List, [], ◌∷◌, ◌++◌, length, take, map, get_or, refl, sym, ap, ◌∙◌, arith, append_assoc}
-use Rattle.std.specs.List.{join_with_byte}
+use Rattle.std.proofs.Common.{◌≤◌, Bool, true, false, not, ◌&&◌, ◌||◌, ◌==◌, nat_lt, eq-eqb}
+use Rattle.std.proofs.lemmas.Bool.{true≢false, ltb-false}
+use Rattle.std.specs.List.{join_with_byte, list_all}
+use Rattle.json.specs.Run.{is_plain}
+use Rattle.json.specs.Print.{escape, escape_byte}
+use Rattle.json.proofs.Printed.Strings.{escape_byte_plain}
 use Rattle.std.proofs.lemmas.List.{append-nil, take_more, map-append, length-map, length-take-le}
 use Rattle.json.specs.Token.{key, string, number}
 use Rattle.json.specs.Print.{print, print_from, quoted}
@@ -89,3 +94,34 @@ array-more f xs i x before some h e b =
     let len : length values ≡ i = length-map (take i xs) f ∙ length-take-le i xs (omega arith) in
     let pushed = joined-push values (f x) (omega arith) in
     rw (values-more f xs i x h e, b, pushed) (simp append_assoc)
+
+-- ---- texts that need no escape
+
+both_true : (a b : Bool) → (a && b) ≡ true → (a ≡ true) × (b ≡ true)
+both_true true b e = (refl, e)
+both_true false b e = cc
+
+not_stop : (a b c : Bool) → not (a || b || c) ≡ true → (a ≡ false) × (b ≡ false) × (c ≡ false)
+not_stop true b c e = cc
+not_stop false true c e = cc
+not_stop false false true e = cc
+not_stop false false false e = (refl, refl, refl)
+
+plain_byte : (x : ℕ) → is_plain x ≡ true → escape_byte x ≡ x ∷ []
+plain_byte x e =
+    let parts = not_stop (x == 34) (x == 92) (nat_lt x 32) e in
+    escape_byte_plain x (λ is. true≢false (sym (eq-eqb x 34 is) ∙ parts.0)) (λ is. true≢false (sym (eq-eqb x 92 is) ∙ parts.1)) (ltb-false x 32 parts.2)
+
+pub escape-plain : (s : List ℕ) → list_all is_plain s ≡ true → escape s ≡ s
+escape-plain [] e = refl
+escape-plain (x ∷ xs) e =
+    let parts = both_true (is_plain x) (list_all is_plain xs) e in
+    ap (λ t. t ++ escape xs) (plain_byte x parts.0) ∙ ap (λ t. x ∷ t) (escape-plain xs parts.1)
+
+pub quoted_plain : (s : List ℕ) → list_all is_plain s ≡ true → quoted s ≡ 34 ∷ (s ++ 34 ∷ [])
+quoted_plain s e = ap (λ t. 34 ∷ (t ++ 34 ∷ [])) (escape-plain s e)
+
+-- such a text between quotation marks, behind others
+pub plain_pushed : (out s : List ℕ) → list_all is_plain s ≡ true → ((out ++ 34 ∷ []) ++ s) ++ 34 ∷ [] ≡ out ++ quoted s
+plain_pushed out s e =
+    append_assoc (out ++ 34 ∷ []) s (34 ∷ []) ∙ append_assoc out (34 ∷ []) (s ++ 34 ∷ []) ∙ ap (λ t. out ++ t) (sym (quoted_plain s e))

@@ -1,9 +1,12 @@
 //! A JSON object that is written member by member.
-ghost use Rattle.std.specs.Prelude.{◌≡◌, [], ◌∷◌, ◌++◌, IfOk, decimal};
+ghost use Rattle.std.specs.Prelude.{◌≡◌, [], ◌∷◌, ◌++◌, IfOk, decimal, true};
+ghost use Rattle.std.specs.List.{list_all};
+ghost use Rattle.json.specs.Run.{is_plain};
 ghost use Rattle.json.specs.Print.{quoted};
 ghost use Rattle.bx_message.specs.Objects.{opened, closed, resumed, with_name, with_member};
 ghost use Rattle.bx_message.specs.Texts.{member};
 
+use itoa::Buffer;
 use json::Writer;
 use std::alloc::AllocError;
 use std::marker::Model;
@@ -96,12 +99,44 @@ impl ObjectWriter {
 fn push_key(out: Vec<u8>, name: &str) -> Result<Vec<u8>, AllocError>
     ensures { IfOk result (λ text. text.items ≡ out.items ++ (quoted name.now ++ 58 ∷ [])) }
 {
-    let mut writer = Writer::new(out);
-    writer.key(name)?;
-    Ok(writer.into_inner())
+    let mut text = push_text(out, name)?;
+    text.push(b':')?;
+    Ok(text)
 }
 
 fn push_text(out: Vec<u8>, value: &str) -> Result<Vec<u8>, AllocError>
+    ensures { IfOk result (λ text. text.items ≡ out.items ++ quoted value.now) }
+{
+    if is_plain(value) {
+        push_plain(out, value)
+    } else {
+        push_escaped(out, value)
+    }
+}
+
+// Whether a text stands for itself between quotation marks.
+fn is_plain(text: &str) -> bool
+    ensures { result ≡ list_all is_plain text.now }
+{
+    text.as_bytes()
+        .iter()
+        .all(|byte| *byte != b'"' && *byte != b'\\' && *byte >= b' ')
+}
+
+#[tactic(auto, using(crate::proofs::ObjectLemmas::plain_pushed))]
+fn push_plain(mut out: Vec<u8>, value: &str) -> Result<Vec<u8>, AllocError>
+    requires { list_all is_plain value.now ≡ true }
+    ensures { IfOk result (λ text. text.items ≡ out.items ++ quoted value.now) }
+{
+    out.push(b'"')?;
+    out.extend_from_slice(value.as_bytes())?;
+    out.push(b'"')?;
+    Ok(out)
+}
+
+// The kit's writer makes sure of its room each time that it is given a buffer, which costs more than
+// most texts.
+fn push_escaped(out: Vec<u8>, value: &str) -> Result<Vec<u8>, AllocError>
     ensures { IfOk result (λ text. text.items ≡ out.items ++ quoted value.now) }
 {
     let mut writer = Writer::new(out);
@@ -109,10 +144,10 @@ fn push_text(out: Vec<u8>, value: &str) -> Result<Vec<u8>, AllocError>
     Ok(writer.into_inner())
 }
 
-fn push_number(out: Vec<u8>, n: u64) -> Result<Vec<u8>, AllocError>
+fn push_number(mut out: Vec<u8>, n: u64) -> Result<Vec<u8>, AllocError>
     ensures { IfOk result (λ text. text.items ≡ out.items ++ decimal n) }
 {
-    let mut writer = Writer::new(out);
-    writer.u64(n)?;
-    Ok(writer.into_inner())
+    let mut buffer = Buffer::new();
+    out.extend_from_slice(buffer.format(n).as_bytes())?;
+    Ok(out)
 }

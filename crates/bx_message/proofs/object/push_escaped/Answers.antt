@@ -1,6 +1,6 @@
 use Rattle.std.proofs.Common.{refl}
 use Rattle.bx_message.proofs.ObjectLemmas.{print-string}
-use Rattle.bx_message.proofs.object.push_text.Goals as goal
+use Rattle.bx_message.proofs.object.push_escaped.Goals as goal
 
 pub returns : goal.returns
 returns c =

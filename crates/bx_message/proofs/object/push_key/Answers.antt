@@ -1,7 +1,0 @@
-use Rattle.std.proofs.Common.{refl}
-use Rattle.bx_message.proofs.ObjectLemmas.{print-key}
-use Rattle.bx_message.proofs.object.push_key.Goals as goal
-
-pub returns : goal.returns
-returns c =
-    rw (c.into_inner.ensures.items, c.in_ok-key.ensures.room.0, c.in_ok-key.ensures.ok, c.new-writer.ensures.before, c.new-writer.ensures.tokens, print-key) refl

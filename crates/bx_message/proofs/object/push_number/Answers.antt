@@ -1,7 +1,0 @@
-use Rattle.std.proofs.Common.{refl}
-use Rattle.bx_message.proofs.ObjectLemmas.{print-number}
-use Rattle.bx_message.proofs.object.push_number.Goals as goal
-
-pub returns : goal.returns
-returns c =
-    rw (c.into_inner.ensures.items, c.in_ok-u64.ensures.room.0, c.in_ok-u64.ensures.ok, c.new-writer.ensures.before, c.new-writer.ensures.tokens, print-number) refl
