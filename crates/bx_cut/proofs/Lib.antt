@@ -1,6 +1,16 @@
 pub mod Reach
+pub mod Readings
+pub mod Seen
+pub mod Slices
+pub mod Values
+pub mod Words
+pub mod Bytes
 pub mod Checks
 pub mod Contents
 pub mod Lists
+pub mod Insides
+pub mod Laws
+pub mod Local
 pub mod Names
+pub mod Nested
 pub mod Objects

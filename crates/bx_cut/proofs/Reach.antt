@@ -129,6 +129,9 @@ ends_len : (t : List ℕ) (n : ℕ) → EndsWell t n → n ≤ length t
 ends_len t n (inl e) = omega arith
 ends_len t n (inr e) = omega (arith, e.1, e.2)
 
+pub span_le : (xs : List ℕ) → span in_string xs ≤ length xs
+span_le xs = ends_len xs (span in_string xs) (ends_string false xs)
+
 prefix_len_le : (p : ℕ → Bool) (t : List ℕ) → prefix_len p t ≤ length t
 prefix_len_le p [] = omega arith
 prefix_len_le p (x ∷ xs) = by_test (p x) (prefix_len_le p xs)

@@ -4,3 +4,4 @@ pub mod Faults
 pub mod Pieces
 pub mod Strings
 pub mod Views
+pub mod Laws

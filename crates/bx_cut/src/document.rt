@@ -1,10 +1,12 @@
 ghost use Rattle.std.specs.Prelude.{◌≡◌, ◌≢◌, ◌<◌, ◌≤◌, length, map, option_map, is_some, IfOk, IfErr, OnOk, IfSome, Some, None};
 ghost use Rattle.std.specs.List.{list_all};
+ghost use Rattle.serde_json.specs.Data.{Data};
 ghost use Rattle.serde_json.specs.Find.{as_object};
 ghost use Rattle.serde_json.specs.Read.{read};
 ghost use Rattle.serde_json.specs.View.{view};
 ghost use Rattle.bx_cut.specs.Cut.{IsRest, listed, split_member};
 ghost use Rattle.bx_cut.specs.Faults.{fault, value_fault};
+ghost use Rattle.bx_cut.specs.Laws.{ArePiecesOf, LieIn};
 ghost use Rattle.bx_cut.specs.Pieces.{last_member, pieces, split_object};
 ghost use Rattle.bx_cut.specs.Views.{member_view};
 
@@ -58,6 +60,11 @@ impl<'a> Document<'a> {
         ensures ok { OnOk result (fault body.now ≡ None) }
         ensures fault { IfErr result (λ e. e ≢ CutError.Memory → fault body.now ≡ Some e) }
         ensures pieces { IfOk result (λ document. document ≡ pieces body.now) }
+
+        // Each piece reads as its element, and what `member` finds as what `get` finds in that.
+        ensures reads { IfOk result (λ document. (d : Data) → read body.now ≡ Some d
+            → ArePiecesOf document d) }
+        ensures order { IfOk result (λ document. LieIn document body.now) }
     {
         let Ok(text) = std::str::from_utf8(body) else {
             return Err(CutError::NotJson);

@@ -1,9 +1,13 @@
 // Taking a text apart, from its front on.
-ghost use Rattle.std.specs.Prelude.{◌≡◌, ◌<◌, length, option_map, IfSome};
+ghost use Rattle.std.specs.Prelude.{◌≡◌, ◌<◌, length, Some, option_map, option_and_then, IsSome, IfSome};
+ghost use Rattle.std.specs.Iterator.{YieldsFirstRef, item_count};
+ghost use Rattle.serde_json.specs.Data.{Data};
+ghost use Rattle.serde_json.specs.Find.{get};
+ghost use Rattle.serde_json.specs.Read.{read};
 ghost use Rattle.bx_cut.specs.Cut.{past_blank, past_byte, split_value, split_member, IsRest};
+ghost use Rattle.bx_cut.specs.Laws.{IsBare, AreElementsOf};
 ghost use Rattle.bx_cut.specs.Pieces.{elements, member_text};
 ghost use Rattle.bx_cut.specs.Views.{member_view};
-ghost use Rattle.std.specs.Iterator.{YieldsFirstRef, item_count};
 
 use crate::scan::{after_first, begins_with, blank_len, value_len};
 use crate::string::spells;
@@ -70,7 +74,10 @@ pub(crate) fn split_member(text: &str) -> Option<(Member<'_>, &str)>
 /// The text of the value of the last member of `object` whose key, unescaped, is `name`. `object`
 /// is the text of a JSON value, as `Piece::member` gives it; none is found in what is no object.
 pub fn member_of<'a>(object: &'a str, name: &str) -> Option<&'a str>
-    ensures { option_map (λ value. value.now) result ≡ member_text name.now object.now }
+    ensures value { option_map (λ value. value.now) result ≡ member_text name.now object.now }
+    ensures reads { (d : Data) → read object.now ≡ Some d
+        → option_and_then read (option_map (λ value. value.now) result) ≡ get name.now d }
+    ensures bare { IsSome (read object.now) → IfSome result (λ value. IsBare value.now) }
 {
     let mut rest = past(object, b'{')?;
     let mut found = None;
@@ -104,7 +111,8 @@ impl<'a> Model for Elements<'a> {
 
 /// The elements of `array`, the text of a JSON value, in order; none of what is no array.
 pub fn elements_of(array: &str) -> Elements<'_>
-    ensures { result ≡ elements array.now }
+    ensures value { result ≡ elements array.now }
+    ensures reads { (d : Data) → read array.now ≡ Some d → AreElementsOf result d }
 {
     Elements {
         rest: past(array, b'[').unwrap_or(""),

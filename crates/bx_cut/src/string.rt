@@ -4,6 +4,10 @@ ghost use Rattle.std.specs.List.{prefix_len};
 ghost use Rattle.std.specs.Char.{digit_value, encode_utf8};
 ghost use Rattle.json.specs.Text.{code_unit, short_escape, content, plain, prepend, after_backslash, after_high};
 ghost use Rattle.json.specs.Run.{is_plain};
+ghost use Rattle.serde_json.specs.Data.{Data};
+ghost use Rattle.serde_json.specs.Find.{as_str};
+ghost use Rattle.serde_json.specs.Read.{read};
+ghost use Rattle.bx_cut.specs.Laws.{IsBare};
 ghost use Rattle.bx_cut.specs.Strings.{spelled, IsPart, Unescapes};
 
 use crate::scan::{after_first, begins_with, plain_len};
@@ -128,7 +132,9 @@ fn without<'a>(text: &'a [u8], front: &[u8]) -> Option<&'a [u8]>
 
 /// Whether the JSON value is the string that spells `text`. It takes no memory.
 pub fn spells(value: &str, text: &str) -> bool
-    ensures { IsTrue result ↔ (spelled value.now ≡ Some text.now) }
+    ensures value { IsTrue result ↔ (spelled value.now ≡ Some text.now) }
+    ensures reads { (d : Data) → read value.now ≡ Some d → IsBare value.now
+        → IsTrue result ↔ (as_str d ≡ Some text.now) }
 {
     let Some(mut rest) = after_first(value, b'"') else {
         return false;
@@ -156,7 +162,9 @@ pub fn spells(value: &str, text: &str) -> bool
 
 /// The unescaped text of a JSON value that is a string, and none of any other.
 pub fn text_of(alloc: Global, value: &str) -> Result<Option<String>, AllocError>
-    ensures { IfOk result (λ text. option_map string_bytes text ≡ spelled value.now) }
+    ensures value { IfOk result (λ text. option_map string_bytes text ≡ spelled value.now) }
+    ensures reads { IfOk result (λ text. (d : Data) → read value.now ≡ Some d → IsBare value.now
+        → option_map string_bytes text ≡ as_str d) }
 {
     let mut text = String::new(alloc);
     let Some(mut rest) = after_first(value, b'"') else {

@@ -1,15 +1,17 @@
-use Rattle.std.proofs.Common.{◌≡◌, ◌++◌, sym, ap, ◌∙◌, rules}
+use Rattle.std.proofs.Common.{false, None, option_and_then, ◌≡◌, ◌++◌, sym, ap, ◌∙◌, rules}
 use Rattle.std.proofs.lemmas.List.{append_assoc}
 use Rattle.std.specs.Char.{encode_utf8}
 use Rattle.bx_cut.specs.Strings.{spelled}
 use Rattle.bx_cut.proofs.Contents.{not-spelled, plain-none, after-run, after-end, after-escape, after-fault, never, fault-not-spelled, end-spelled}
+use Rattle.json.specs.Text.{content, plain}
+use Rattle.bx_cut.proofs.Insides.{spells_reads}
 use Rattle.bx_cut.proofs.string.spells.Goals as goal
 
 pub next_part-requires : goal.next_part-requires
 next_part-requires c = rw (c.split_at.ensures.back, c.plain_len.ensures.value) (plain-none c.loop-left.rest.now)
 
-pub returns-in_default-without : goal.returns-in_default-without
-returns-in_default-without c =
+pub returns-in_default-without-clause-value : goal.returns-in_default-without-clause-value
+returns-in_default-without-clause-value c =
     let t = c.loop-left.rest.now in
     let text = c.args.text.now in
     let wanted = c.loop-left.wanted.now in
@@ -20,8 +22,8 @@ returns-in_default-without c =
     let ran = after-run t done.0 run after c.plain_len.result o c.plain_len.ensures.value (c.as_bytes.ensures.value ∙ c.split_at.ensures.front) c.split_at.ensures.back done.2 in
     never (not-spelled text done.0 wanted run o _ done.1 c.in_default-without.ensures ran)
 
-pub returns-in-End : goal.returns-in-End
-returns-in-End c =
+pub returns-in-End-clause-value : goal.returns-in-End-clause-value
+returns-in-End-clause-value c =
     let t = c.loop-left.rest.now in
     let text = c.args.text.now in
     let wanted = c.loop-left.wanted.now in
@@ -32,8 +34,8 @@ returns-in-End c =
     let ran = after-run t done.0 run after c.plain_len.result o c.plain_len.ensures.value (c.as_bytes.ensures.value ∙ c.split_at.ensures.front) c.split_at.ensures.back done.2 in
     end-spelled text done.0 wanted run c.in-Some-without.left.now o c.is_empty.result done.1 c.in-Some-without.ensures (after-end (done.0 ++ run) after o c.in-End.ensures ran) c.is_empty.ensures
 
-pub returns-in_default-without-2 : goal.returns-in_default-without-2
-returns-in_default-without-2 c =
+pub returns-in_default-without-2-clause-value : goal.returns-in_default-without-2-clause-value
+returns-in_default-without-2-clause-value c =
     let t = c.loop-left.rest.now in
     let text = c.args.text.now in
     let wanted = c.loop-left.wanted.now in
@@ -63,8 +65,8 @@ loop-left-preserved c =
     let next : c.in-Some-without.left.now ≡ encode_utf8 c.in-Escape.c ++ c.in-Some-without-2.left.now = rw encoded at c.in-Some-without-2.ensures in
     (search rules, ((done.0 ++ run) ++ encode_utf8 c.in-Escape.c, so_far ∙ ap (λ x. (done.0 ++ run) ++ x) next ∙ sym (append_assoc (done.0 ++ run) _ _), more))
 
-pub returns-in-Fault : goal.returns-in-Fault
-returns-in-Fault c =
+pub returns-in-Fault-clause-value : goal.returns-in-Fault-clause-value
+returns-in-Fault-clause-value c =
     let t = c.loop-left.rest.now in
     let text = c.args.text.now in
     let wanted = c.loop-left.wanted.now in
@@ -74,3 +76,20 @@ returns-in-Fault c =
     let done = c.loop-left.invariant.1 in
     let ran = after-run t done.0 run after c.plain_len.result o c.plain_len.ensures.value (c.as_bytes.ensures.value ∙ c.split_at.ensures.front) c.split_at.ensures.back done.2 in
     fault-not-spelled text o (after-fault (done.0 ++ run) after o c.in-Fault.ensures ran)
+
+pub returns-in_default-without-2-clause-reads : goal.returns-in_default-without-2-clause-reads
+returns-in_default-without-2-clause-reads c d r bare = spells_reads c.args.value.now d r bare c.args.text.now false (returns-in_default-without-2-clause-value c)
+
+pub returns-in_default-without-clause-reads : goal.returns-in_default-without-clause-reads
+returns-in_default-without-clause-reads c d r bare = spells_reads c.args.value.now d r bare c.args.text.now false (returns-in_default-without-clause-value c)
+
+pub returns-in-End-clause-reads : goal.returns-in-End-clause-reads
+returns-in-End-clause-reads c d r bare = spells_reads c.args.value.now d r bare c.args.text.now c.is_empty.result (returns-in-End-clause-value c)
+
+pub returns-in-Fault-clause-reads : goal.returns-in-Fault-clause-reads
+returns-in-Fault-clause-reads c d r bare = spells_reads c.args.value.now d r bare c.args.text.now false (returns-in-Fault-clause-value c)
+
+pub returns-in_default-clause-reads : goal.returns-in_default-clause-reads
+returns-in_default-clause-reads c d r bare =
+    let none : spelled c.args.value.now ≡ None = ap (option_and_then (content plain)) (sym c.in_default.ensures.value) in
+    spells_reads c.args.value.now d r bare c.args.text.now false (fault-not-spelled c.args.text.now (spelled c.args.value.now) none)

@@ -1,7 +1,9 @@
-use Rattle.std.proofs.Common.{◌≡◌, ◌++◌, Some, string_bytes, sym, ap, ◌∙◌, rules}
+use Rattle.std.proofs.Common.{option_and_then, None, ◌≡◌, ◌++◌, Some, string_bytes, sym, ap, ◌∙◌, rules}
 use Rattle.std.specs.Char.{encode_utf8}
 use Rattle.bx_cut.specs.Strings.{spelled}
 use Rattle.bx_cut.proofs.Contents.{plain-none, after-run, after-end, after-escape, after-fault}
+use Rattle.json.specs.Text.{content, plain}
+use Rattle.bx_cut.proofs.Insides.{text_is}
 use Rattle.bx_cut.proofs.string.text_of.Goals as goal
 
 pub next_part-requires : goal.next_part-requires
@@ -9,8 +11,8 @@ next_part-requires c =
     let t = c.loop-text.rest.now in
     rw (c.split_at.ensures.back, c.plain_len.ensures.value) (plain-none t)
 
-pub returns-in-End : goal.returns-in-End
-returns-in-End c =
+pub returns-in-End-clause-value : goal.returns-in-End-clause-value
+returns-in-End-clause-value c =
     let t = c.loop-text.rest.now in
     let o = spelled c.args.value.now in
     let run = c.split_at.result.0.now in
@@ -31,8 +33,8 @@ loop-text-preserved c =
     let bytes : string_bytes c.push.new.self ≡ front ++ encode_utf8 c.in-Escape.c = rw (← c.in_ok-push_str.ensures.bytes) c.in_ok-push-in-Escape.ensures.bytes in
     (search rules, rw bytes more)
 
-pub returns-in-Fault : goal.returns-in-Fault
-returns-in-Fault c =
+pub returns-in-Fault-clause-value : goal.returns-in-Fault-clause-value
+returns-in-Fault-clause-value c =
     let t = c.loop-text.rest.now in
     let o = spelled c.args.value.now in
     let run = c.split_at.result.0.now in
@@ -40,3 +42,12 @@ returns-in-Fault c =
     let front = string_bytes c.loop-text.text ++ run in
     let ran = after-run t (string_bytes c.loop-text.text) run after c.plain_len.result o c.plain_len.ensures.value c.split_at.ensures.front c.split_at.ensures.back c.loop-text.invariant.1 in
     sym (after-fault front after o c.in-Fault.ensures ran)
+
+pub returns-in-End-clause-reads : goal.returns-in-End-clause-reads
+returns-in-End-clause-reads c d r bare = text_is c.args.value.now d r bare (Some (string_bytes c.push_str.new.self)) (returns-in-End-clause-value c)
+
+pub returns-in-Fault-clause-reads : goal.returns-in-Fault-clause-reads
+returns-in-Fault-clause-reads c d r bare = text_is c.args.value.now d r bare None (returns-in-Fault-clause-value c)
+
+pub returns-in_default-clause-reads : goal.returns-in_default-clause-reads
+returns-in_default-clause-reads c d r bare = text_is c.args.value.now d r bare None (ap (option_and_then (content plain)) c.in_default.ensures.value)

@@ -29,7 +29,7 @@ loop-member-preserved c =
     ] in
     let taken : map member_view (take (i + 1) items) ≡ seen ++ m ∷ [] =
     ap (map member_view) (take_more items i no_member (omega arith)) ∙ map-append member_view (take i items) (get_or items i no_member ∷ []) in
-    one_more c.args.name.now seen m before after c.spells.result c.spells.ensures c.loop-member.invariant step ∙ ap (last_member c.args.name.now) (sym taken)
+    one_more c.args.name.now seen m before after c.spells.result c.spells.ensures.value c.loop-member.invariant step ∙ ap (last_member c.args.name.now) (sym taken)
 
 pub returns : goal.returns
 returns c =

@@ -1,0 +1,564 @@
+-- Arrays and objects within a text, level by level.
+use Rattle.std.proofs.Common.{◌≡◌, ℕ, ◌+◌, ◌-◌, ◌<◌, Bool, true, false, cond, ◌==◌, List, [], ◌∷◌, ◌++◌, length, take, drop, Option, Some, None, option_and_then, refl, sym, ap, ◌∙◌, subst, arith}
+use Rattle.std.proofs.lemmas.Bool.{false≢true, ne_eqb}
+use Rattle.std.proofs.lemmas.List.{append_assoc, length-append, take_at, drop_at}
+use Rattle.json.specs.Token.{Token, begin_object, end_object, begin_array, end_array, key, string, number, boolean, null, bad}
+use Rattle.json.specs.Text.{content, plain}
+use Rattle.json.specs.Word.{ends_word, word}
+use Rattle.json.specs.Json.{Json, Items, no_items, item, Members, no_members, member}
+use Rattle.json.specs.Json as json
+use Rattle.json.specs.Tree.{json_tokens, items_tokens, members_tokens, HasNumbers, ItemsHaveNumbers, MembersHaveNumbers}
+use Rattle.json.specs.Lex.{Lexeme, token, comma, colon, Class, between, in_word, in_string, lex_byte, lex, string_token, fresh, after_value, after_comma, begins_colon, place_token, punctuate}
+use Rattle.bx_cut.specs.Cut.{past_blank, past_byte, after_first, begins_with, outside, nest_len, value_len, split_value, split_member, after_key, with_value, Member, then_more, first_and_more, listed}
+use Rattle.bx_cut.proofs.Lists.{turn, listed-none, Shortens-split_value, Shortens-split_member}
+use Rattle.json.specs.Align.{span}
+use Rattle.bx_cut.proofs.Bytes.{byte_cases, BeginsFull, past-full, past-lex, blanks, Blank-blanks, split_blanks}
+use Rattle.bx_cut.proofs.Seen.{start, SeenMark, Matches, seen, past_string, IsWord, is_word}
+use Rattle.bx_cut.proofs.Values.{Quote, quote, quote_at, Fits, Text, Found, find_string, find_number, find_true, find_false, find_null}
+
+-- ---- what a text is, by its first token, after a value
+
+abbrev pub SeenComma : List ℕ → List Token → Type 0
+SeenComma t ts = (xs : List ℕ) × (past_blank t ≡ 44 ∷ xs) × (punctuate after_comma (lex between xs) ≡ ts)
+
+abbrev pub Next : List ℕ → List Token → Type 0
+Next t [] = Unit {0}
+Next t (begin_object ∷ rest) = SeenComma t (begin_object ∷ rest)
+Next t (end_object ∷ rest) = SeenMark 125 after_value t rest
+Next t (begin_array ∷ rest) = SeenComma t (begin_array ∷ rest)
+Next t (end_array ∷ rest) = SeenMark 93 after_value t rest
+Next t (key s ∷ rest) = SeenComma t (key s ∷ rest)
+Next t (string s ∷ rest) = SeenComma t (string s ∷ rest)
+Next t (number s ∷ rest) = SeenComma t (number s ∷ rest)
+Next t (boolean v ∷ rest) = SeenComma t (boolean v ∷ rest)
+Next t (null ∷ rest) = SeenComma t (null ∷ rest)
+Next t (bad ∷ rest) = Unit {0}
+
+after_the_comma : (t xs : List ℕ) → past_blank t ≡ 44 ∷ xs → (ts : List Token) → punctuate after_comma (lex between xs) ≡ ts → Matches false xs ts → Next t ts
+after_the_comma t xs e [] h m = tt
+after_the_comma t xs e (begin_object ∷ rest) h m = (xs, e, h)
+after_the_comma t xs e (end_object ∷ rest) h m = absurd (false≢true m.0)
+after_the_comma t xs e (begin_array ∷ rest) h m = (xs, e, h)
+after_the_comma t xs e (end_array ∷ rest) h m = absurd (false≢true m.0)
+after_the_comma t xs e (key s ∷ rest) h m = (xs, e, h)
+after_the_comma t xs e (string s ∷ rest) h m = (xs, e, h)
+after_the_comma t xs e (number s ∷ rest) h m = (xs, e, h)
+after_the_comma t xs e (boolean v ∷ rest) h m = (xs, e, h)
+after_the_comma t xs e (null ∷ rest) h m = (xs, e, h)
+after_the_comma t xs e (bad ∷ rest) h m = tt
+
+text_refused : (t : List ℕ) (o : Option (List ℕ)) (ls : List Lexeme) (c : Bool) → Next t (place_token after_value (string_token o) c (λ next. punctuate next ls))
+text_refused t None ls c = tt
+text_refused t (Some s) ls true = tt
+text_refused t (Some s) ls false = tt
+
+word_refused : (t : List ℕ) (k : Token) (ls : List Lexeme) (c : Bool) → IsWord k → Next t (place_token after_value k c (λ next. punctuate next ls))
+word_refused t begin_object ls c f = absurd f
+word_refused t end_object ls c f = absurd f
+word_refused t begin_array ls c f = absurd f
+word_refused t end_array ls c f = absurd f
+word_refused t (key s) ls c f = absurd f
+word_refused t (string s) ls c f = absurd f
+word_refused t (number s) ls c f = tt
+word_refused t (boolean v) ls c f = tt
+word_refused t null ls c f = tt
+word_refused t bad ls c f = tt
+
+pub next : (t : List ℕ) → Next t (punctuate after_value (lex between t))
+unfolding lex punctuate
+next t = subst (λ (ls : List Lexeme). Next t (punctuate after_value ls)) (sym (past-lex t)) (go (past_blank t) refl (past-full t))
+  where
+    go : (u : List ℕ) → past_blank t ≡ u → BeginsFull u → Next t (punctuate after_value (lex between u))
+    go [] e f = tt
+    go (x ∷ xs) e f =
+        byte_cases (λ (y : ℕ). past_blank t ≡ y ∷ xs → Next t (punctuate after_value (lex between (y ∷ xs)))) (λ e. text_refused t (content plain xs) (lex in_string xs) (begins_colon (lex in_string xs))) (λ e. tt) (λ e. tt) (λ e. (xs, e, refl)) (λ e. tt) (λ e. (xs, e, refl))
+        (λ e. tt) (λ e. after_the_comma t xs e (punctuate after_comma (lex between xs)) refl (seen false xs))
+        (λ y o e. subst (λ (c : Class). Next t (punctuate after_value (lex_byte between c y xs (λ m. lex m xs)))) (sym o.class_is) (word_refused t (word (y ∷ xs)) (lex in_word xs) (begins_colon (lex in_word xs)) (is_word (y ∷ xs)))) x f e
+
+-- ---- passing over a text, and up to a closing bracket
+
+abbrev pub Passing : List ℕ → Type 0
+Passing v = (depth : ℕ) (z : List ℕ) → nest_len outside depth (v ++ z) ≡ length v + nest_len outside depth z
+
+pub record Closing (v : List ℕ) : Type 0 where
+  pub ends : (z : List ℕ) → nest_len outside 0 (v ++ z) ≡ length v
+  pub nests : (depth : ℕ) (z : List ℕ) → nest_len outside (depth + 1) (v ++ z) ≡ length v + nest_len outside depth z
+
+closing_after : (a v : List ℕ) → Passing a → Closing v → Closing (a ++ v)
+closing_after a v p c = record {
+  ends = λ z. ap (nest_len outside 0) (append_assoc a v z) ∙ p 0 (v ++ z) ∙ omega (arith, c.ends z, length-append a v);
+  nests = λ depth z. ap (nest_len outside (depth + 1)) (append_assoc a v z) ∙ p (depth + 1) (v ++ z) ∙ omega (arith, c.nests depth z, length-append a v);
+}
+
+mark_closing : (c : ℕ) (v : List ℕ) → ((depth : ℕ) (z : List ℕ) → nest_len outside depth (c ∷ z) ≡ 1 + nest_len outside depth z) → Closing v → Closing (c ∷ v)
+mark_closing c v p h = record { ends = λ z. omega (arith, p 0 (v ++ z), h.ends z); nests = λ depth z. omega (arith, p (depth + 1) (v ++ z), h.nests depth z) }
+
+comma_closing : (v : List ℕ) → Closing v → Closing (44 ∷ v)
+unfolding nest_len
+comma_closing v = mark_closing 44 v (λ depth z. refl)
+
+colon_closing : (v : List ℕ) → Closing v → Closing (58 ∷ v)
+unfolding nest_len
+colon_closing v = mark_closing 58 v (λ depth z. refl)
+
+closes_one : (depth n : ℕ) (z : List ℕ) → 1 + cond ((depth + 1) == 0) 0 (nest_len outside (depth + 1 - 1) z) ≡ 1 + nest_len outside depth z
+closes_one depth n z =
+    let some : ((depth + 1) == 0) ≡ false = ne_eqb (depth + 1) 0 (λ e. omega (arith, e)) in
+    let less : depth + 1 - 1 ≡ depth = omega arith in
+    ap (λ (b : Bool). 1 + cond b 0 (nest_len outside (depth + 1 - 1) z)) some ∙ ap (λ (k : ℕ). 1 + nest_len outside k z) less
+
+bracket_closing : Closing (93 ∷ [])
+unfolding nest_len
+bracket_closing = record { ends = λ z. refl; nests = λ depth z. closes_one depth 0 z }
+
+brace_closing : Closing (125 ∷ [])
+unfolding nest_len
+brace_closing = record { ends = λ z. refl; nests = λ depth z. closes_one depth 0 z }
+
+three : (a b c z : List ℕ) → (a ++ (b ++ c)) ++ z ≡ a ++ (b ++ (c ++ z))
+three a b c z = append_assoc a (b ++ c) z ∙ ap (λ (x : List ℕ). a ++ x) (append_assoc b c z)
+
+-- the value that stands in front is split off
+split_text : (u v z : List ℕ) → past_blank u ≡ v ++ z → value_len (v ++ z) ≡ length v → 0 < length v → Some (v, z) ≡ split_value u
+unfolding split_value
+split_text u v z e n h =
+    let len : value_len (past_blank u) ≡ length v = ap value_len e ∙ n in
+    let some : (value_len (past_blank u) == 0) ≡ false = ne_eqb (value_len (past_blank u)) 0 (λ f. omega (arith, len, f, h)) in
+    let front : take (value_len (past_blank u)) (past_blank u) ≡ v = ap (take (value_len (past_blank u))) e ∙ take_at v z (value_len (past_blank u)) (sym len) in
+    let back : drop (value_len (past_blank u)) (past_blank u) ≡ z = ap (drop (value_len (past_blank u))) e ∙ drop_at v z (value_len (past_blank u)) (sym len) in
+    let parts : List ℕ × List ℕ = (take (value_len (past_blank u)) (past_blank u), drop (value_len (past_blank u)) (past_blank u)) in
+    sym (ap (λ (b : Bool). cond b None (Some parts)) some ∙ (λ i. Some (front i, back i)))
+
+-- ---- the elements of an array
+
+abbrev pub EachText : List (List ℕ) → Items → Type 0
+EachText [] no_items = Unit {0}
+EachText [] (item j js) = ⊥
+EachText (v ∷ vs) no_items = ⊥
+EachText (v ∷ vs) (item j js) = Text v (json_tokens j) × EachText vs js
+
+pub record ItemsText (b : Bool) (v : List ℕ) (js : Items) : Type 0 where
+  pub closing : Closing v
+  pub reads : (z : List ℕ) → punctuate (start b) (lex between (v ++ z)) ≡ items_tokens js ++ punctuate after_value (lex between z)
+  pub texts : List (List ℕ)
+  pub each : EachText texts js
+  pub last : List ℕ
+  pub list : (z : List ℕ) → listed split_value (v ++ z) ≡ (texts, last ++ z)
+  pub shut : (z : List ℕ) → past_byte 93 (last ++ z) ≡ Some z
+
+pub record ItemsAfter (v : List ℕ) (js : Items) : Type 0 where
+  pub closing : Closing v
+  pub reads : (z : List ℕ) → punctuate after_value (lex between (v ++ z)) ≡ items_tokens js ++ punctuate after_value (lex between z)
+  pub fits : (z : List ℕ) → Fits (v ++ z)
+  pub texts : List (List ℕ)
+  pub each : EachText texts js
+  pub last : List ℕ
+  pub more : (z : List ℕ) → then_more split_value (listed split_value) (v ++ z) (past_byte 44 (v ++ z)) ≡ (texts, last ++ z)
+  pub shut : (z : List ℕ) → past_byte 93 (last ++ z) ≡ Some z
+
+pub record FoundItems (b : Bool) (t : List ℕ) (js : Items) (rest : List Token) : Type 0 where
+  pub v : List ℕ
+  pub r : List ℕ
+  pub front : t ≡ v ++ r
+  pub text : ItemsText b v js
+  pub left : punctuate after_value (lex between r) ≡ rest
+
+pub record FoundAfter (t : List ℕ) (js : Items) (rest : List Token) : Type 0 where
+  pub v : List ℕ
+  pub r : List ℕ
+  pub front : t ≡ v ++ r
+  pub text : ItemsAfter v js
+  pub left : punctuate after_value (lex between r) ≡ rest
+
+some_items : (b : Bool) (t : List ℕ) (j : Json) (js : Items) (mid rest : List Token) (f : Found t (json_tokens j) mid) → FoundAfter f.r js rest → FoundItems b t (item j js) rest
+some_items b t j js mid rest f a =
+    let w = blanks t in
+    let blank = Blank-blanks t in
+    let v = w ++ (f.v ++ a.v) in
+    let past : (z : List ℕ) → past_blank (v ++ z) ≡ f.v ++ (a.v ++ z) = λ z. ap past_blank (three w f.v a.v z) ∙ blank.passed (f.v ++ (a.v ++ z)) ∙ f.text.full (a.v ++ z) in
+    record {
+      v = v;
+      r = a.r;
+      front = split_blanks t ∙ ap (λ (x : List ℕ). w ++ x) (f.front ∙ ap (λ (x : List ℕ). f.v ++ x) a.front) ∙ sym (three w f.v a.v a.r);
+      text = record {
+        closing = closing_after w (f.v ++ a.v) blank.nests (closing_after f.v a.v f.text.nests a.text.closing);
+        reads = λ z.
+            ap (λ (x : List ℕ). punctuate (start b) (lex between x)) (three w f.v a.v z) ∙ ap (punctuate (start b)) (blank.lexes (f.v ++ (a.v ++ z))) ∙ f.text.reads b (a.v ++ z) (a.text.fits z)
+            ∙ ap (λ (x : List Token). json_tokens j ++ x) (a.text.reads z) ∙ sym (append_assoc (json_tokens j) (items_tokens js) (punctuate after_value (lex between z)));
+        texts = f.v ∷ a.text.texts;
+        each = (f.text, a.text.each);
+        last = a.text.last;
+        list = λ z.
+            let cut = split_text (v ++ z) f.v (a.v ++ z) (past z) (f.text.long (a.v ++ z) (a.text.fits z)) f.text.some in
+            turn split_value Shortens-split_value (v ++ z) ∙ ap (first_and_more split_value (listed split_value) (v ++ z)) (sym cut) ∙ ap (λ (q : List (List ℕ) × List ℕ). (f.v ∷ q.0, q.1)) (a.text.more z);
+        shut = a.text.shut;
+      };
+      left = a.left;
+    }
+
+no_bracket_value : (z : List ℕ) → value_len (93 ∷ z) ≡ 0
+unfolding value_len
+no_bracket_value z = refl
+
+no_brace_value : (z : List ℕ) → value_len (125 ∷ z) ≡ 0
+unfolding value_len
+no_brace_value z = refl
+
+no_split : (u z : List ℕ) → past_blank u ≡ z → value_len z ≡ 0 → None ≡ split_value u
+unfolding split_value
+no_split u z e n =
+    let zero_len : (value_len (past_blank u) == 0) ≡ true = ap (λ (k : ℕ). k == 0) (ap value_len e ∙ n) in
+    sym (ap (λ (b : Bool). cond b None (Some (take (value_len (past_blank u)) (past_blank u), drop (value_len (past_blank u)) (past_blank u)))) zero_len)
+
+pub found_first : (c : ℕ) (u z : List ℕ) → past_blank u ≡ c ∷ z → (c == c) ≡ true → past_byte c u ≡ Some z
+unfolding after_first
+found_first c u z e t = ap (λ (x : List ℕ). after_first c x) e ∙ ap (λ (b : Bool). cond b (Some z) None) t
+
+pub other_first : (c d : ℕ) (u z : List ℕ) → past_blank u ≡ d ∷ z → (d == c) ≡ false → past_byte c u ≡ None
+unfolding after_first
+other_first c d u z e t = ap (λ (x : List ℕ). after_first c x) e ∙ ap (λ (b : Bool). cond b (Some z) None) t
+
+module _ (t xs : List ℕ) (rest : List Token) where
+  past_mark : (c : ℕ) (z : List ℕ) → past_blank (c ∷ z) ≡ c ∷ z → past_blank ((blanks t ++ c ∷ []) ++ z) ≡ c ∷ z
+  past_mark c z f = ap past_blank (append_assoc (blanks t) (c ∷ []) z) ∙ (Blank-blanks t).passed (c ∷ z) ∙ f
+
+  mark_front : (c : ℕ) → past_blank t ≡ c ∷ xs → t ≡ (blanks t ++ c ∷ []) ++ xs
+  mark_front c e = split_blanks t ∙ ap (λ (x : List ℕ). blanks t ++ x) e ∙ sym (append_assoc (blanks t) (c ∷ []) xs)
+
+  no_more_items : past_blank t ≡ 93 ∷ xs → punctuate after_value (lex between xs) ≡ rest → FoundItems true t no_items rest
+  unfolding lex punctuate
+  no_more_items e l =
+      let v = blanks t ++ 93 ∷ [] in
+      record {
+        v = v;
+        r = xs;
+        front = mark_front 93 e;
+        text = record {
+          closing = closing_after (blanks t) (93 ∷ []) (Blank-blanks t).nests bracket_closing;
+          reads = λ z. ap (λ (x : List ℕ). punctuate fresh (lex between x)) (append_assoc (blanks t) (93 ∷ []) z) ∙ ap (punctuate fresh) ((Blank-blanks t).lexes (93 ∷ z));
+          texts = [];
+          each = tt;
+          last = v;
+          list = λ z. listed-none split_value Shortens-split_value (v ++ z) (no_split (v ++ z) (93 ∷ z) (past_mark 93 z refl) (no_bracket_value z));
+          shut = λ z. found_first 93 (v ++ z) z (past_mark 93 z refl) refl;
+        };
+        left = l;
+      }
+
+  items_over : past_blank t ≡ 93 ∷ xs → punctuate after_value (lex between xs) ≡ rest → FoundAfter t no_items rest
+  unfolding lex punctuate
+  items_over e l =
+      let v = blanks t ++ 93 ∷ [] in
+      let lexed : (z : List ℕ) → lex between (v ++ z) ≡ token end_array ∷ lex between z = λ z. ap (lex between) (append_assoc (blanks t) (93 ∷ []) z) ∙ (Blank-blanks t).lexes (93 ∷ z) in
+      record {
+        v = v;
+        r = xs;
+        front = mark_front 93 e;
+        text = record {
+          closing = closing_after (blanks t) (93 ∷ []) (Blank-blanks t).nests bracket_closing;
+          reads = λ z. ap (punctuate after_value) (lexed z);
+          fits = λ z. (ap ends_word (append_assoc (blanks t) (93 ∷ []) z) ∙ (Blank-blanks t).ends (93 ∷ z) refl, ap begins_colon (lexed z));
+          texts = [];
+          each = tt;
+          last = v;
+          more = λ z. ap (then_more split_value (listed split_value) (v ++ z)) (other_first 44 93 (v ++ z) z (past_mark 93 z refl) refl);
+          shut = λ z. found_first 93 (v ++ z) z (past_mark 93 z refl) refl;
+        };
+        left = l;
+      }
+
+  more_items : (js : Items) → past_blank t ≡ 44 ∷ xs → FoundItems false xs js rest → FoundAfter t js rest
+  unfolding lex punctuate
+  more_items js e f =
+      let v = blanks t ++ 44 ∷ f.v in
+      let lexed : (z : List ℕ) → lex between (v ++ z) ≡ comma ∷ lex between (f.v ++ z) = λ z. ap (lex between) (append_assoc (blanks t) (44 ∷ f.v) z) ∙ (Blank-blanks t).lexes (44 ∷ (f.v ++ z)) in
+      let past : (z : List ℕ) → past_blank (v ++ z) ≡ 44 ∷ (f.v ++ z) = λ z. ap past_blank (append_assoc (blanks t) (44 ∷ f.v) z) ∙ (Blank-blanks t).passed (44 ∷ (f.v ++ z)) in
+      record {
+        v = v;
+        r = f.r;
+        front = split_blanks t ∙ ap (λ (x : List ℕ). blanks t ++ x) (e ∙ ap (λ (x : List ℕ). 44 ∷ x) f.front) ∙ sym (append_assoc (blanks t) (44 ∷ f.v) f.r);
+        text = record {
+          closing = closing_after (blanks t) (44 ∷ f.v) (Blank-blanks t).nests (comma_closing f.v f.text.closing);
+          reads = λ z. ap (punctuate after_value) (lexed z) ∙ f.text.reads z;
+          fits = λ z. (ap ends_word (append_assoc (blanks t) (44 ∷ f.v) z) ∙ (Blank-blanks t).ends (44 ∷ (f.v ++ z)) refl, ap begins_colon (lexed z));
+          texts = f.text.texts;
+          each = f.text.each;
+          last = f.text.last;
+          more = λ z. ap (then_more split_value (listed split_value) (v ++ z)) (found_first 44 (v ++ z) (f.v ++ z) (past z) refl) ∙ f.text.list z;
+          shut = f.text.shut;
+        };
+        left = f.left;
+      }
+
+-- ---- the members of an object
+
+abbrev pub IsMember : Member → List ℕ → Json → Type 0
+IsMember m k j = Quote m.0 k × Text m.1 (json_tokens j)
+
+abbrev pub EachMember : List Member → Members → Type 0
+EachMember [] no_members = Unit {0}
+EachMember [] (member k j ms) = ⊥
+EachMember (m ∷ found) no_members = ⊥
+EachMember (m ∷ found) (member k j ms) = IsMember m k j × EachMember found ms
+
+pub record MembersText (b : Bool) (v : List ℕ) (ms : Members) : Type 0 where
+  pub closing : Closing v
+  pub reads : (z : List ℕ) → punctuate (start b) (lex between (v ++ z)) ≡ members_tokens ms ++ punctuate after_value (lex between z)
+  pub found : List Member
+  pub each : EachMember found ms
+  pub last : List ℕ
+  pub list : (z : List ℕ) → listed split_member (v ++ z) ≡ (found, last ++ z)
+  pub shut : (z : List ℕ) → past_byte 125 (last ++ z) ≡ Some z
+
+pub record MembersAfter (v : List ℕ) (ms : Members) : Type 0 where
+  pub closing : Closing v
+  pub reads : (z : List ℕ) → punctuate after_value (lex between (v ++ z)) ≡ members_tokens ms ++ punctuate after_value (lex between z)
+  pub fits : (z : List ℕ) → Fits (v ++ z)
+  pub found : List Member
+  pub each : EachMember found ms
+  pub last : List ℕ
+  pub more : (z : List ℕ) → then_more split_member (listed split_member) (v ++ z) (past_byte 44 (v ++ z)) ≡ (found, last ++ z)
+  pub shut : (z : List ℕ) → past_byte 125 (last ++ z) ≡ Some z
+
+pub record FoundMembers (b : Bool) (t : List ℕ) (ms : Members) (rest : List Token) : Type 0 where
+  pub v : List ℕ
+  pub r : List ℕ
+  pub front : t ≡ v ++ r
+  pub text : MembersText b v ms
+  pub left : punctuate after_value (lex between r) ≡ rest
+
+pub record FoundMembersAfter (t : List ℕ) (ms : Members) (rest : List Token) : Type 0 where
+  pub v : List ℕ
+  pub r : List ℕ
+  pub front : t ≡ v ++ r
+  pub text : MembersAfter v ms
+  pub left : punctuate after_value (lex between r) ≡ rest
+
+no_member : (u : List ℕ) → None ≡ split_value u → None ≡ split_member u
+unfolding split_member
+no_member u e = ap (option_and_then after_key) e
+
+module _ (t xs : List ℕ) (rest : List Token) where
+  no_more_members : past_blank t ≡ 125 ∷ xs → punctuate after_value (lex between xs) ≡ rest → FoundMembers true t no_members rest
+  unfolding lex punctuate
+  no_more_members e l =
+      let v = blanks t ++ 125 ∷ [] in
+      record {
+        v = v;
+        r = xs;
+        front = mark_front t xs rest 125 e;
+        text = record {
+          closing = closing_after (blanks t) (125 ∷ []) (Blank-blanks t).nests brace_closing;
+          reads = λ z. ap (λ (x : List ℕ). punctuate fresh (lex between x)) (append_assoc (blanks t) (125 ∷ []) z) ∙ ap (punctuate fresh) ((Blank-blanks t).lexes (125 ∷ z));
+          found = [];
+          each = tt;
+          last = v;
+          list = λ z. listed-none split_member Shortens-split_member (v ++ z) (no_member (v ++ z) (no_split (v ++ z) (125 ∷ z) (past_mark t xs rest 125 z refl) (no_brace_value z)));
+          shut = λ z. found_first 125 (v ++ z) z (past_mark t xs rest 125 z refl) refl;
+        };
+        left = l;
+      }
+
+  members_over : past_blank t ≡ 125 ∷ xs → punctuate after_value (lex between xs) ≡ rest → FoundMembersAfter t no_members rest
+  unfolding lex punctuate
+  members_over e l =
+      let v = blanks t ++ 125 ∷ [] in
+      let lexed : (z : List ℕ) → lex between (v ++ z) ≡ token end_object ∷ lex between z = λ z. ap (lex between) (append_assoc (blanks t) (125 ∷ []) z) ∙ (Blank-blanks t).lexes (125 ∷ z) in
+      record {
+        v = v;
+        r = xs;
+        front = mark_front t xs rest 125 e;
+        text = record {
+          closing = closing_after (blanks t) (125 ∷ []) (Blank-blanks t).nests brace_closing;
+          reads = λ z. ap (punctuate after_value) (lexed z);
+          fits = λ z. (ap ends_word (append_assoc (blanks t) (125 ∷ []) z) ∙ (Blank-blanks t).ends (125 ∷ z) refl, ap begins_colon (lexed z));
+          found = [];
+          each = tt;
+          last = v;
+          more = λ z. ap (then_more split_member (listed split_member) (v ++ z)) (other_first 44 125 (v ++ z) z (past_mark t xs rest 125 z refl) refl);
+          shut = λ z. found_first 125 (v ++ z) z (past_mark t xs rest 125 z refl) refl;
+        };
+        left = l;
+      }
+
+  more_members : (ms : Members) → past_blank t ≡ 44 ∷ xs → FoundMembers false xs ms rest → FoundMembersAfter t ms rest
+  unfolding lex punctuate
+  more_members ms e f =
+      let v = blanks t ++ 44 ∷ f.v in
+      let lexed : (z : List ℕ) → lex between (v ++ z) ≡ comma ∷ lex between (f.v ++ z) = λ z. ap (lex between) (append_assoc (blanks t) (44 ∷ f.v) z) ∙ (Blank-blanks t).lexes (44 ∷ (f.v ++ z)) in
+      let past : (z : List ℕ) → past_blank (v ++ z) ≡ 44 ∷ (f.v ++ z) = λ z. ap past_blank (append_assoc (blanks t) (44 ∷ f.v) z) ∙ (Blank-blanks t).passed (44 ∷ (f.v ++ z)) in
+      record {
+        v = v;
+        r = f.r;
+        front = split_blanks t ∙ ap (λ (x : List ℕ). blanks t ++ x) (e ∙ ap (λ (x : List ℕ). 44 ∷ x) f.front) ∙ sym (append_assoc (blanks t) (44 ∷ f.v) f.r);
+        text = record {
+          closing = closing_after (blanks t) (44 ∷ f.v) (Blank-blanks t).nests (comma_closing f.v f.text.closing);
+          reads = λ z. ap (punctuate after_value) (lexed z) ∙ f.text.reads z;
+          fits = λ z. (ap ends_word (append_assoc (blanks t) (44 ∷ f.v) z) ∙ (Blank-blanks t).ends (44 ∷ (f.v ++ z)) refl, ap begins_colon (lexed z));
+          found = f.text.found;
+          each = f.text.each;
+          last = f.text.last;
+          more = λ z. ap (then_more split_member (listed split_member) (v ++ z)) (found_first 44 (v ++ z) (f.v ++ z) (past z) refl) ∙ f.text.list z;
+          shut = f.text.shut;
+        };
+        left = f.left;
+      }
+
+six : (a b c : List ℕ) (x : ℕ) (d e f z : List ℕ) → (a ++ (b ++ (c ++ (x ∷ (d ++ (e ++ f)))))) ++ z ≡ a ++ (b ++ (c ++ (x ∷ (d ++ (e ++ (f ++ z))))))
+six a b c x d e f z = simp append_assoc
+
+key_reads : (b : Bool) (k : List ℕ) (ls : List Lexeme) → punctuate (start b) (token (string k) ∷ colon ∷ ls) ≡ key k ∷ punctuate fresh ls
+unfolding punctuate
+key_reads true k ls = refl
+key_reads false k ls = refl
+
+lex_colon : (l : List ℕ) → lex between (58 ∷ l) ≡ colon ∷ lex between l
+unfolding lex
+lex_colon l = refl
+
+split_key : (u k rest more v left : List ℕ) → Some (k, rest) ≡ split_value u → begins_with 34 k ≡ true → Some more ≡ past_byte 58 rest → Some (v, left) ≡ split_value more → Some ((k, v), left) ≡ split_member u
+unfolding split_member
+split_key u k rest more v left a b c d =
+    let after : Member × List ℕ = ((k, v), left) in
+    let value : Some after ≡ with_value k (split_value more) = ap (with_value k) d in
+    let colon_past : with_value k (split_value more) ≡ option_and_then (λ (r : List ℕ). with_value k (split_value r)) (past_byte 58 rest) = ap (option_and_then (λ (r : List ℕ). with_value k (split_value r))) c in
+    let test = ap (λ (t : Bool). cond t (option_and_then (λ (r : List ℕ). with_value k (split_value r)) (past_byte 58 rest)) None) (sym b) in
+    value ∙ colon_past ∙ test ∙ ap (option_and_then after_key) a
+
+module _ (b : Bool) (t : List ℕ) (k : List ℕ) (j : Json) (ms : Members) (mid rest : List Token) (xs ys : List ℕ) (at : past_blank t ≡ 34 ∷ xs) (h : content plain xs ≡ Some k) (col : past_blank (past_string xs) ≡ 58 ∷ ys)
+    (f : Found ys (json_tokens j) mid) (a : FoundMembersAfter f.r ms rest) where
+  some_members : FoundMembers b t (member k j ms) rest
+  some_members =
+      let w = blanks t in
+      let q = quote xs k h in
+      let name = 34 ∷ take (span in_string xs) xs in
+      let w2 = blanks (past_string xs) in
+      let w3 = blanks ys in
+      let v = w ++ (name ++ (w2 ++ (58 ∷ (w3 ++ (f.v ++ a.v))))) in
+      let blank = Blank-blanks t in
+      let blank2 = Blank-blanks (past_string xs) in
+      let blank3 = Blank-blanks ys in
+      let group : (z : List ℕ) → v ++ z ≡ w ++ (name ++ (w2 ++ (58 ∷ (w3 ++ (f.v ++ (a.v ++ z)))))) = λ z. six w name w2 58 w3 f.v a.v z in
+      let past : (z : List ℕ) → past_blank (v ++ z) ≡ name ++ (w2 ++ (58 ∷ (w3 ++ (f.v ++ (a.v ++ z))))) = λ z.
+      ap past_blank (group z) ∙ blank.passed (name ++ (w2 ++ (58 ∷ (w3 ++ (f.v ++ (a.v ++ z)))))) ∙ q.full (w2 ++ (58 ∷ (w3 ++ (f.v ++ (a.v ++ z))))) in
+      record {
+        v = v;
+        r = a.r;
+        front = split_blanks t ∙ ap (λ (x : List ℕ). w ++ x) (at ∙ quote_at xs k h ∙ ap (λ (x : List ℕ). name ++ x) (split_blanks (past_string xs) ∙ ap (λ (x : List ℕ). w2 ++ x) (col ∙ ap (λ (x : List ℕ). 58 ∷ x)
+            (split_blanks ys ∙ ap (λ (x : List ℕ). w3 ++ x) (f.front ∙ ap (λ (x : List ℕ). f.v ++ x) a.front))))) ∙ sym (group a.r);
+        text = record {
+          closing = closing_after w _ blank.nests (closing_after name _ q.nests (closing_after w2 _ blank2.nests (colon_closing _ (closing_after w3 _ blank3.nests (closing_after f.v a.v f.text.nests a.text.closing)))));
+          reads = λ z.
+              let tail = f.v ++ (a.v ++ z) in
+              let lexed : lex between (v ++ z) ≡ token (string k) ∷ colon ∷ lex between tail = ap (lex between) (group z) ∙ blank.lexes (name ++ (w2 ++ (58 ∷ (w3 ++ tail)))) ∙ q.lexes (w2 ++ (58 ∷ (w3 ++ tail)))
+              ∙ ap (λ (l : List Lexeme). token (string k) ∷ l) (blank2.lexes (58 ∷ (w3 ++ tail)) ∙ lex_colon (w3 ++ tail) ∙ ap (λ (l : List Lexeme). colon ∷ l) (blank3.lexes tail)) in
+              ap (punctuate (start b)) lexed ∙ key_reads b k (lex between tail) ∙ ap (λ (l : List Token). key k ∷ l) (f.text.reads true (a.v ++ z) (a.text.fits z) ∙ ap (λ (l : List Token). json_tokens j ++ l) (a.text.reads z)
+              ∙ sym (append_assoc (json_tokens j) (members_tokens ms) (punctuate after_value (lex between z))));
+          found = (name, f.v) ∷ a.text.found;
+          each = ((q, f.text), a.text.each);
+          last = a.text.last;
+          list = λ z.
+              let tail = f.v ++ (a.v ++ z) in
+              let after = w2 ++ (58 ∷ (w3 ++ tail)) in
+              let cut = split_text (v ++ z) name after (past z) (q.long after) q.some in
+              let colon_next = sym (found_first 58 after (w3 ++ tail) (blank2.passed (58 ∷ (w3 ++ tail))) refl) in
+              let value = split_text (w3 ++ tail) f.v (a.v ++ z) (blank3.passed tail ∙ f.text.full (a.v ++ z)) (f.text.long (a.v ++ z) (a.text.fits z)) f.text.some in
+              let p : Member × List ℕ = ((name, f.v), a.v ++ z) in
+              let whole = split_key (v ++ z) name after (w3 ++ tail) f.v (a.v ++ z) cut refl colon_next value in
+              turn split_member Shortens-split_member (v ++ z) ∙ ap (first_and_more split_member (listed split_member) (v ++ z)) (sym whole) ∙ ap (λ (y : List Member × List ℕ). (p.0 ∷ y.0, y.1)) (a.text.more z);
+          shut = a.text.shut;
+        };
+        left = a.left;
+      }
+
+-- ---- arrays and objects as values
+
+pub array_text : (v : List ℕ) (js : Items) → ItemsText true v js → Text (91 ∷ v) (begin_array ∷ items_tokens js)
+unfolding nest_len lex punctuate value_len
+array_text v js x = record {
+  nests = λ depth z. omega (arith, x.closing.nests depth z);
+  reads = λ b z f. opened b z (x.reads z);
+  long = λ z f. ap (λ (n : ℕ). 1 + n) (x.closing.ends z) ∙ omega arith;
+  some = omega arith;
+  full = λ z. refl;
+}
+  where
+    opened : (b : Bool) (z : List ℕ) → punctuate fresh (lex between (v ++ z)) ≡ items_tokens js ++ punctuate after_value (lex between z) → punctuate (start b) (lex between (91 ∷ (v ++ z))) ≡ begin_array ∷ (items_tokens js ++ punctuate after_value (lex between z))
+    opened true z e = ap (λ (l : List Token). begin_array ∷ l) e
+    opened false z e = ap (λ (l : List Token). begin_array ∷ l) e
+
+pub object_text : (v : List ℕ) (ms : Members) → MembersText true v ms → Text (123 ∷ v) (begin_object ∷ members_tokens ms)
+unfolding nest_len lex punctuate value_len
+object_text v ms x = record {
+  nests = λ depth z. omega (arith, x.closing.nests depth z);
+  reads = λ b z f. opened b z (x.reads z);
+  long = λ z f. ap (λ (n : ℕ). 1 + n) (x.closing.ends z) ∙ omega arith;
+  some = omega arith;
+  full = λ z. refl;
+}
+  where
+    opened : (b : Bool) (z : List ℕ) → punctuate fresh (lex between (v ++ z)) ≡ members_tokens ms ++ punctuate after_value (lex between z) → punctuate (start b) (lex between (123 ∷ (v ++ z))) ≡ begin_object ∷ (members_tokens ms ++ punctuate after_value (lex between z))
+    opened true z e = ap (λ (l : List Token). begin_object ∷ l) e
+    opened false z e = ap (λ (l : List Token). begin_object ∷ l) e
+
+array_here : (v r : List ℕ) → Closing v → value_len ((91 ∷ v) ++ r) ≡ length (91 ∷ v)
+unfolding value_len
+array_here v r c = ap (λ (n : ℕ). 1 + n) (c.ends r) ∙ omega arith
+
+object_here : (v r : List ℕ) → Closing v → value_len ((123 ∷ v) ++ r) ≡ length (123 ∷ v)
+unfolding value_len
+object_here v r c = ap (λ (n : ℕ). 1 + n) (c.ends r) ∙ omega arith
+
+found_array : (t xs : List ℕ) (js : Items) (rest : List Token) → past_blank t ≡ 91 ∷ xs → FoundItems true xs js rest → Found t (begin_array ∷ items_tokens js) rest
+found_array t xs js rest e f = record { v = 91 ∷ f.v; r = f.r; front = e ∙ ap (λ (x : List ℕ). 91 ∷ x) f.front; text = array_text f.v js f.text; here = array_here f.v f.r f.text.closing; left = f.left }
+
+found_object : (t xs : List ℕ) (ms : Members) (rest : List Token) → past_blank t ≡ 123 ∷ xs → FoundMembers true xs ms rest → Found t (begin_object ∷ members_tokens ms) rest
+found_object t xs ms rest e f = record { v = 123 ∷ f.v; r = f.r; front = e ∙ ap (λ (x : List ℕ). 123 ∷ x) f.front; text = object_text f.v ms f.text; here = object_here f.v f.r f.text.closing; left = f.left }
+
+-- ---- every value of a text
+
+pub next_comma : (j : Json) (t : List ℕ) (rest : List Token) → Next t (json_tokens j ++ rest) → SeenComma t (json_tokens j ++ rest)
+next_comma json.null t rest h = h
+next_comma (json.boolean b) t rest h = h
+next_comma (json.number s) t rest h = h
+next_comma (json.string s) t rest h = h
+next_comma (json.array js) t rest h = h
+next_comma (json.object ms) t rest h = h
+
+mutual
+  pub find : (j : Json) (b : Bool) (t : List ℕ) (rest : List Token) → HasNumbers j → punctuate (start b) (lex between t) ≡ json_tokens j ++ rest → Found t (json_tokens j) rest
+  find json.null b t rest n e = find_null t rest (subst (Matches b t) e (seen b t))
+  find (json.boolean true) b t rest n e = find_true t rest (subst (Matches b t) e (seen b t))
+  find (json.boolean false) b t rest n e = find_false t rest (subst (Matches b t) e (seen b t))
+  find (json.number s) b t rest n e = find_number t s rest n (subst (Matches b t) e (seen b t))
+  find (json.string s) b t rest n e = find_string b t s rest (subst (Matches b t) e (seen b t))
+  find (json.array js) b t rest n e = let m = subst (Matches b t) e (seen b t) in found_array t m.0 js rest m.1 (find_items js m.0 rest n m.2)
+  find (json.object ms) b t rest n e = let m = subst (Matches b t) e (seen b t) in found_object t m.0 ms rest m.1 (find_members ms m.0 rest n m.2)
+
+  pub find_items : (js : Items) (t : List ℕ) (rest : List Token) → ItemsHaveNumbers js → punctuate fresh (lex between t) ≡ items_tokens js ++ rest → FoundItems true t js rest
+  find_items no_items t rest n e = let m = subst (Matches true t) e (seen true t) in no_more_items t m.1.0 rest m.1.1 m.1.2
+  find_items (item j js) t rest n e =
+      let f = find j true t (items_tokens js ++ rest) n.0 (e ∙ append_assoc (json_tokens j) (items_tokens js) rest) in
+      some_items true t j js (items_tokens js ++ rest) rest f (find_items_after js f.r rest n.1 f.left)
+
+  find_items_after : (js : Items) (t : List ℕ) (rest : List Token) → ItemsHaveNumbers js → punctuate after_value (lex between t) ≡ items_tokens js ++ rest → FoundAfter t js rest
+  find_items_after no_items t rest n e = let m = subst (Next t) e (next t) in items_over t m.0 rest m.1 m.2
+  find_items_after (item j js) t rest n e =
+      let m = next_comma j t (items_tokens js ++ rest) (subst (Next t) (e ∙ append_assoc (json_tokens j) (items_tokens js) rest) (next t)) in
+      let f = find j false m.0 (items_tokens js ++ rest) n.0 m.2 in
+      more_items t m.0 rest (item j js) m.1 (some_items false m.0 j js (items_tokens js ++ rest) rest f (find_items_after js f.r rest n.1 f.left))
+
+  pub find_members : (ms : Members) (t : List ℕ) (rest : List Token) → MembersHaveNumbers ms → punctuate fresh (lex between t) ≡ members_tokens ms ++ rest → FoundMembers true t ms rest
+  find_members no_members t rest n e = let m = subst (Matches true t) e (seen true t) in no_more_members t m.1.0 rest m.1.1 m.1.2
+  find_members (member k j ms) t rest n e =
+      let m = subst (Matches true t) e (seen true t) in
+      let f = find j true m.1 (members_tokens ms ++ rest) n.0 (m.5 ∙ append_assoc (json_tokens j) (members_tokens ms) rest) in
+      some_members true t k j ms (members_tokens ms ++ rest) rest m.0 m.1 m.2 m.3 m.4 f (find_members_after ms f.r rest n.1 f.left)
+
+  find_members_after : (ms : Members) (t : List ℕ) (rest : List Token) → MembersHaveNumbers ms → punctuate after_value (lex between t) ≡ members_tokens ms ++ rest → FoundMembersAfter t ms rest
+  find_members_after no_members t rest n e = let m = subst (Next t) e (next t) in members_over t m.0 rest m.1 m.2
+  find_members_after (member k j ms) t rest n e =
+      let c = subst (Next t) e (next t) in
+      let m = subst (Matches false c.0) c.2 (seen false c.0) in
+      let f = find j true m.1 (members_tokens ms ++ rest) n.0 (m.5 ∙ append_assoc (json_tokens j) (members_tokens ms) rest) in
+      more_members t c.0 rest (member k j ms) c.1 (some_members false c.0 k j ms (members_tokens ms ++ rest) rest m.0 m.1 m.2 m.3 m.4 f (find_members_after ms f.r rest n.1 f.left))

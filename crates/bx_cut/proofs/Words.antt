@@ -1,0 +1,199 @@
+-- The text of a number or a literal: bytes without a meaning of their own, up to the end of the word.
+use Rattle.std.proofs.Common.{◌≡◌, ℕ, suc, ◌+◌, ◌-◌, Bool, true, false, cond, ◌&&◌, ◌||◌, ◌==◌, nat_eq, List, [], ◌∷◌, ◌++◌, length, take, drop, Option, Some, None, option_and_then, refl, sym, ap, ◌∙◌, subst, arith}
+use Rattle.std.proofs.lemmas.Bool.{true≢false, eqb-true}
+use Rattle.std.proofs.lemmas.Bool.Decides.{Decides-eqb}
+use Rattle.std.proofs.lemmas.List.{append_assoc, take-append-drop, length-append, take_at}
+use Rattle.std.proofs.lemmas.Slice.Eq.{starts_is}
+use Rattle.std.specs.Char.{is_ascii_digit}
+use Rattle.std.specs.List.{prefix_len, starts_with}
+use Rattle.std.specs.Prelude.{not}
+use Rattle.json.specs.Token.{Token, begin_object, end_object, begin_array, end_array, key, string, number, boolean, null, bad}
+use Rattle.json.specs.Word.{head, ends_word, after_digits, after_minus, after_sign, after_whole, after_fraction, after_exponent, after_number, number_before, literal, word}
+use Rattle.json.specs.Ascii as ascii
+use Rattle.bx_cut.specs.Cut.{outside, quoted, nest_len, is_word_byte}
+use Rattle.bx_cut.proofs.Bytes.{Other, is_other}
+use Rattle.bx_cut.proofs.Reach.{from_and_then, some_same}
+
+abbrev pub AllOther : List ℕ → Type 0
+AllOther [] = Unit {0}
+AllOther (x ∷ xs) = Other x × AllOther xs
+
+all_both : (xs ys : List ℕ) → AllOther xs → AllOther ys → AllOther (xs ++ ys)
+all_both [] ys h k = k
+all_both (x ∷ xs) ys h k = (h.0, all_both xs ys h.1 k)
+
+pub other_nests : (s : List ℕ) → AllOther s → (depth : ℕ) (z : List ℕ) → nest_len outside depth (s ++ z) ≡ length s + nest_len outside depth z
+unfolding nest_len
+other_nests [] h depth z = omega arith
+other_nests (x ∷ xs) h depth z =
+    let rest = xs ++ z in
+    let step : nest_len outside depth (x ∷ rest) ≡ 1 + nest_len outside depth rest =
+    (λ i. 1 + cond (h.0.quote_not i) (nest_len quoted depth rest) (cond (h.0.opens_not i) (nest_len outside (depth + 1) rest) (cond (h.0.closes_not i) (cond (depth == 0) 0 (nest_len outside (depth - 1) rest)) (nest_len outside depth rest)))) in
+    omega (arith, step, other_nests xs h.1 depth z)
+
+ends_none : (z : List ℕ) → ends_word z ≡ true → prefix_len is_word_byte z ≡ 0
+ends_none [] e = refl
+ends_none (x ∷ xs) e = ap (λ b. cond (not b) (1 + prefix_len is_word_byte xs) 0) e
+
+pub other_len : (s : List ℕ) → AllOther s → (z : List ℕ) → ends_word z ≡ true → prefix_len is_word_byte (s ++ z) ≡ length s
+other_len [] h z e = ends_none z e
+other_len (x ∷ xs) h z e = ap (λ b. cond b (1 + prefix_len is_word_byte (xs ++ z)) 0) h.0.word_byte ∙ omega (arith, other_len xs h.1 z e)
+
+-- ---- what the parts of a number take
+
+pub record Part (t r : List ℕ) : Type 0 where
+  pub taken : List ℕ
+  pub at : t ≡ taken ++ r
+  pub all : AllOther taken
+
+nothing : (t : List ℕ) → Part t t
+nothing t = record { taken = []; at = refl; all = tt }
+
+both : (t u r : List ℕ) → Part t u → Part u r → Part t r
+both t u r p q = record {
+  taken = p.taken ++ q.taken;
+  at = p.at ∙ ap (λ (x : List ℕ). p.taken ++ x) q.at ∙ sym (append_assoc p.taken q.taken r);
+  all = all_both p.taken q.taken p.all q.all;
+}
+
+one : (c : ℕ) → Other c → (t : List ℕ) → (head t == c) ≡ true → Part t (drop 1 t)
+one c o [] h = let e : 32 ≡ c = eqb-true 32 c h in absurd (true≢false (sym (subst Other (sym e) o).word_byte))
+one c o (x ∷ xs) h = let e : x ≡ c = eqb-true x c h in record { taken = x ∷ []; at = refl; all = (subst Other (sym e) o, tt) }
+
+digit_other : (y : ℕ) → is_ascii_digit y ≡ true → Other y
+digit_other y h = is_other y (no 34 refl) (no 92 refl) (no 123 refl) (no 125 refl) (no 91 refl) (no 93 refl) (no 58 refl) (no 44 refl) (no 32 refl) (no 9 refl) (no 10 refl) (no 13 refl)
+  where
+    no : (n : ℕ) → is_ascii_digit n ≡ false → y ≡ n → ⊥
+    no n f e = true≢false (sym h ∙ ap is_ascii_digit e ∙ f)
+
+all_digits : (t : List ℕ) → AllOther (take (prefix_len is_ascii_digit t) t)
+all_digits [] = tt
+all_digits (x ∷ xs) = by_test (is_ascii_digit x) refl (all_digits xs)
+  where
+    by_test : (b : Bool) → is_ascii_digit x ≡ b → AllOther (take (prefix_len is_ascii_digit xs) xs) → AllOther (take (cond b (1 + prefix_len is_ascii_digit xs) 0) (x ∷ xs))
+    by_test true e h =
+        let s : suc (prefix_len is_ascii_digit xs) ≡ 1 + prefix_len is_ascii_digit xs = omega arith in
+        subst (λ (k : ℕ). AllOther (take k (x ∷ xs))) s (digit_other x e, h)
+    by_test false e h = tt
+
+digits : (t r : List ℕ) → Some r ≡ after_digits t → Part t r
+digits t r e = by_test (prefix_len is_ascii_digit t == 0) e
+  where
+    n : ℕ
+    n = prefix_len is_ascii_digit t
+
+    by_test : (b : Bool) → Some r ≡ cond b None (Some (drop (prefix_len is_ascii_digit t) t)) → Part t r
+    by_test true f = cc
+    by_test false f =
+        let same : r ≡ drop (prefix_len is_ascii_digit t) t = cc in
+        record { taken = take (prefix_len is_ascii_digit t) t; at = sym (take-append-drop (prefix_len is_ascii_digit t) t) ∙ ap (λ (x : List ℕ). take (prefix_len is_ascii_digit t) t ++ x) (sym same); all = all_digits t }
+
+minus_other : Other 45
+minus_other = record { class_is = refl; quote_not = refl; opens_not = refl; closes_not = refl; word_byte = refl }
+
+minus : (t : List ℕ) → Part t (after_minus t)
+minus t = by_test (head t == 45) refl
+  where
+    by_test : (b : Bool) → (head t == 45) ≡ b → Part t (cond b (drop 1 t) t)
+    by_test true e = one 45 minus_other t e
+    by_test false e = nothing t
+
+sign : (t : List ℕ) → Part t (after_sign t)
+sign t = by_tests (head t == 45) (head t == 43) refl refl
+  where
+    by_tests : (a b : Bool) → (head t == 45) ≡ a → (head t == 43) ≡ b → Part t (cond (a || b) (drop 1 t) t)
+    by_tests true b e f = one 45 minus_other t e
+    by_tests false true e f = one 43 (record { class_is = refl; quote_not = refl; opens_not = refl; closes_not = refl; word_byte = refl }) t f
+    by_tests false false e f = nothing t
+
+drop_same : (t u r : List ℕ) → Some r ≡ Some u → Part t u → Part t r
+drop_same t u r e p = subst (Part t) (sym (some_same r u e)) p
+
+whole : (t r : List ℕ) → Some r ≡ after_whole t → Part t r
+whole t r e = by_test (head t == 48) refl e
+  where
+    by_test : (b : Bool) → (head t == 48) ≡ b → Some r ≡ cond b (Some (drop 1 t)) (after_digits t) → Part t r
+    by_test true e f = drop_same t (drop 1 t) r f (one 48 (digit_other 48 refl) t e)
+    by_test false e f = digits t r f
+
+fraction : (t r : List ℕ) → Some r ≡ after_fraction t → Part t r
+fraction t r e = by_test (head t == 46) refl e
+  where
+    by_test : (b : Bool) → (head t == 46) ≡ b → Some r ≡ cond b (after_digits (drop 1 t)) (Some t) → Part t r
+    by_test true e f = both t (drop 1 t) r (one 46 (record { class_is = refl; quote_not = refl; opens_not = refl; closes_not = refl; word_byte = refl }) t e) (digits (drop 1 t) r f)
+    by_test false e f = drop_same t t r f (nothing t)
+
+exponent : (t r : List ℕ) → Some r ≡ after_exponent t → Part t r
+exponent t r e = by_tests (head t == 101) (head t == 69) refl refl e
+  where
+    then_digits : Part t (drop 1 t) → Some r ≡ after_digits (after_sign (drop 1 t)) → Part t r
+    then_digits p f = both t (drop 1 t) r p (both (drop 1 t) (after_sign (drop 1 t)) r (sign (drop 1 t)) (digits (after_sign (drop 1 t)) r f))
+
+    by_tests : (a b : Bool) → (head t == 101) ≡ a → (head t == 69) ≡ b → Some r ≡ cond (a || b) (after_digits (after_sign (drop 1 t))) (Some t) → Part t r
+    by_tests true b e f g = then_digits (one 101 (record { class_is = refl; quote_not = refl; opens_not = refl; closes_not = refl; word_byte = refl }) t e) g
+    by_tests false true e f g = then_digits (one 69 (record { class_is = refl; quote_not = refl; opens_not = refl; closes_not = refl; word_byte = refl }) t f) g
+    by_tests false false e f g = drop_same t t r g (nothing t)
+
+pub number_part : (t r : List ℕ) → Some r ≡ after_number t → Part t r
+unfolding after_number
+number_part t r e =
+    let v = from_and_then after_exponent (option_and_then after_fraction (after_whole (after_minus t))) r e in
+    let w = from_and_then after_fraction (after_whole (after_minus t)) v.0 v.1 in
+    both t (after_minus t) r (minus t) (both (after_minus t) w.0 r (whole (after_minus t) w.0 w.1) (both w.0 v.0 r (fraction w.0 v.0 w.2) (exponent v.0 r v.2)))
+
+-- ---- the text of a word
+
+abbrev pub true_text : List ℕ
+true_text = 116 ∷ 114 ∷ 117 ∷ 101 ∷ []
+
+abbrev pub false_text : List ℕ
+false_text = 102 ∷ 97 ∷ 108 ∷ 115 ∷ 101 ∷ []
+
+abbrev pub null_text : List ℕ
+null_text = 110 ∷ 117 ∷ 108 ∷ 108 ∷ []
+
+abbrev pub Ended : List ℕ → List ℕ → Type 0
+Ended s t = (r : List ℕ) × (t ≡ s ++ r) × (ends_word r ≡ true)
+
+abbrev pub WordText : List ℕ → Token → Type 0
+WordText t begin_object = Unit {0}
+WordText t end_object = Unit {0}
+WordText t begin_array = Unit {0}
+WordText t end_array = Unit {0}
+WordText t (key s) = Unit {0}
+WordText t (string s) = Unit {0}
+WordText t (number s) = Ended s t × AllOther s
+WordText t (boolean true) = Ended true_text t
+WordText t (boolean false) = Ended false_text t
+WordText t null = Ended null_text t
+WordText t bad = Unit {0}
+
+either : (t : List ℕ) (b : Bool) (x y : Token) → WordText t x → WordText t y → WordText t (cond b x y)
+either t true x y p q = p
+either t false x y p q = q
+
+named : (t name : List ℕ) (k : Token) → (Ended name t → WordText t k) → WordText t (literal name k t)
+named t name k f = by_tests (starts_with nat_eq t name) (ends_word (drop (length name) t)) refl refl
+  where
+    by_tests : (a b : Bool) → starts_with nat_eq t name ≡ a → ends_word (drop (length name) t) ≡ b → WordText t (cond (a && b) k bad)
+    by_tests true true e g = f (drop (length name) t, (starts_is Decides-eqb t name true (sym e)).0 refl, g)
+    by_tests true false e g = tt
+    by_tests false b e g = tt
+
+numbered : (t : List ℕ) (o : Option (List ℕ)) → o ≡ after_number t → WordText t (number_before t o)
+numbered t None e = tt
+numbered t (Some r) e = by_test (ends_word r) refl
+  where
+    by_test : (b : Bool) → ends_word r ≡ b → WordText t (cond b (number (take (length t - length r) t)) bad)
+    by_test true f =
+        let p = number_part t r e in
+        let long : length p.taken ≡ length t - length r = omega (arith, ap length p.at, length-append p.taken r) in
+        let front : p.taken ≡ take (length t - length r) t = sym (ap (take (length t - length r)) p.at ∙ take_at p.taken r (length t - length r) long) in
+        ((r, p.at ∙ ap (λ (x : List ℕ). x ++ r) front, f), subst AllOther front p.all)
+    by_test false f = tt
+
+pub word_text : (t : List ℕ) → WordText t (word t)
+unfolding word
+word_text t =
+    either t (head t == 116) _ _ (named t ascii.true_text (boolean true) (λ h. h)) (either t (head t == 102) _ _ (named t ascii.false_text (boolean false) (λ h. h))
+    (either t (head t == 110) _ _ (named t ascii.null_text null (λ h. h)) (numbered t (after_number t) refl)))

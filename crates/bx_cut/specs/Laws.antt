@@ -1,0 +1,79 @@
+-- What the messages and the members are, by the grammar that `serde_json` reads.
+use Rattle.std.specs.Prelude.{◌≡◌, ℕ, List, [], ◌∷◌, ◌++◌, length, Some, option_and_then, IfSome, ⊤, ◌⊎◌}
+use Rattle.std.specs.List.{prefix_len}
+use Rattle.json.specs.Word.{is_space}
+use Rattle.serde_json.specs.Data.{Data, null, boolean, number, string, array, object, Items, no_items, item}
+use Rattle.serde_json.specs.Find.{get}
+use Rattle.serde_json.specs.Read.{read}
+use Rattle.bx_cut.specs.Cut.{past_blank}
+use Rattle.bx_cut.specs.Pieces.{Object, members, last_member}
+
+-- no white space stands in front
+abbrev pub IsBare : List ℕ → Type 0
+IsBare t = past_blank t ≡ t
+
+-- the message's text reads as the value, its members are those of its text, and what is found under a name reads as what `get` finds under it
+pub record IsObjectOf (o : Object) (d : Data) : Type 0 where
+  pub reads : read o.0 ≡ Some d
+  pub own : o.1 ≡ members o.0
+  pub finds : (name : List ℕ) → option_and_then read (last_member name o.1) ≡ get name d
+  pub bare : (name : List ℕ) → IfSome (last_member name o.1) IsBare
+
+abbrev pub AreObjectsOf : List Object → Items → Type 0
+AreObjectsOf [] no_items = ⊤
+AreObjectsOf [] (item d ds) = ⊥
+AreObjectsOf (o ∷ os) no_items = ⊥
+AreObjectsOf (o ∷ os) (item d ds) = IsObjectOf o d × AreObjectsOf os ds
+
+abbrev pub IsOnlyObject : List Object → Data → Type 0
+IsOnlyObject [] d = ⊥
+IsOnlyObject (o ∷ []) d = IsObjectOf o d
+IsOnlyObject (o ∷ p ∷ os) d = ⊥
+
+-- one message for each element of the array, in order, or the one object; of another value nothing is said
+abbrev pub ArePiecesOf : List Object → Data → Type 0
+ArePiecesOf os null = ⊤
+ArePiecesOf os (boolean b) = ⊤
+ArePiecesOf os (number n) = ⊤
+ArePiecesOf os (string s) = ⊤
+ArePiecesOf os (array ds) = AreObjectsOf os ds
+ArePiecesOf os (object ms) = IsOnlyObject os (object ms)
+
+-- ---- nested values
+
+abbrev pub AreTextsOf : List (List ℕ) → Items → Type 0
+AreTextsOf [] no_items = ⊤
+AreTextsOf [] (item d ds) = ⊥
+AreTextsOf (v ∷ vs) no_items = ⊥
+AreTextsOf (v ∷ vs) (item d ds) = (read v ≡ Some d) × IsBare v × AreTextsOf vs ds
+
+-- one text for each element of an array, in order; none where the value is no array
+abbrev pub AreElementsOf : List (List ℕ) → Data → Type 0
+AreElementsOf vs null = vs ≡ []
+AreElementsOf vs (boolean b) = vs ≡ []
+AreElementsOf vs (number n) = vs ≡ []
+AreElementsOf vs (string s) = vs ≡ []
+AreElementsOf vs (array ds) = AreTextsOf vs ds
+AreElementsOf vs (object ms) = vs ≡ []
+
+-- ---- where the messages lie
+
+abbrev pub IsBlank : List ℕ → Type 0
+IsBlank w = prefix_len is_space w ≡ length w
+
+-- white space alone stands before each message, and before each but the first one comma as well, with white space on either side of it
+abbrev mutual
+  pub StandsIn : List Object → List ℕ → Type 0
+  StandsIn [] t = ⊤
+  StandsIn (o ∷ os) t = (w : List ℕ) × (rest : List ℕ) × (t ≡ w ++ (o.0 ++ rest)) × IsBlank w × GoesOnIn os rest
+
+  pub GoesOnIn : List Object → List ℕ → Type 0
+  GoesOnIn [] t = ⊤
+  GoesOnIn (o ∷ os) t = (w : List ℕ) × (rest : List ℕ) × (t ≡ w ++ (44 ∷ rest)) × IsBlank w × (v : List ℕ) × (more : List ℕ) × (rest ≡ v ++ (o.0 ++ more)) × IsBlank v × GoesOnIn os more
+
+abbrev pub IsBracketed : List Object → List ℕ → Type 0
+IsBracketed os t = (w : List ℕ) × (rest : List ℕ) × (t ≡ w ++ (91 ∷ rest)) × IsBlank w × StandsIn os rest
+
+-- the messages are slices of the document, in order: inside its brackets, or the one object alone
+abbrev pub LieIn : List Object → List ℕ → Type 0
+LieIn os t = IsBracketed os t ⊎ StandsIn os t
