@@ -31,7 +31,8 @@ fn add_message(body: &mut Vec<u8>, size: usize) -> Result<(), AllocError> {
     body.extend_from_slice(b"{\"channel\":\"/stock/GOOG\",\"clientId\":\"")?;
     body.extend_from_slice(b"000000000000000000000000000000000000000000000001")?;
     body.extend_from_slice(b"\",\"id\":\"17\",\"data\":[0")?;
-    let part = b",{\"symbol\":\"GOOG\",\"price\":1234.5},\"up \\\"and\\\" away\",[1,2,3],null".as_slice();
+    let part =
+        b",{\"symbol\":\"GOOG\",\"price\":1234.5},\"up \\\"and\\\" away\",[1,2,3],null".as_slice();
     for _ in 0..size / part.len() {
         body.extend_from_slice(part)?;
     }

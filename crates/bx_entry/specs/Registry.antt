@@ -19,11 +19,9 @@ use Rattle.bx_entry.specs.Listing as messages
 use Rattle.bx_advice.specs.declared.error.Error.{Error}
 use Rattle.bx_advice.specs.declared.error.Error.TheVariants.{UnknownMetaChannel, SecondHandshake, UnsupportedVersion, NoSupportedConnectionType, TooManySessions, NoClientId, UnknownClient, UnknownConnectionType, InvalidChannel, InvalidPattern, TooManyPatterns, SubscriptionDenied, MissingSubscription, MissingData}
 use Rattle.bx_advice.specs.declared.config.Config.{Config}
-use Rattle.bx_advice.specs.declared.advice.Case.{Case}
 use Rattle.bx_advice.specs.declared.advice.Case.TheVariants.{Done, Failed}
 use Rattle.bx_advice.specs.declared.advice.Case.TheVariants as advice
 use Rattle.bx_message.specs.declared.event.Event.{Event}
-use Rattle.bx_message.specs.declared.reply.AckReply.{AckReply}
 use Rattle.bx_message.specs.declared.reply.Reply.{Reply}
 use Rattle.bx_message.specs.Replies.{reply_to}
 use Rattle.bx_message.specs.declared.reply.AckReply.TheVariants as replies

@@ -113,7 +113,7 @@ judged_at P (i ∷ js) (suc k) j e d = judged_at P js k j e d.1
 -- ---- finding
 
 -- what is found among all is found among those that weren't taken
-find_untaken : (taken : List ℕ) (place : ℕ) (fs : List Filed) → is_taken taken place ≡ false → find (λ (g : Filed). g.connect == place) (filter (λ (g : Filed). not (is_taken taken g.connect)) fs) ≡ find (λ (g : Filed). g.connect == place) fs
+pub find_untaken : (taken : List ℕ) (place : ℕ) (fs : List Filed) → is_taken taken place ≡ false → find (λ (g : Filed). g.connect == place) (filter (λ (g : Filed). not (is_taken taken g.connect)) fs) ≡ find (λ (g : Filed). g.connect == place) fs
 find_untaken taken place [] h = refl
 find_untaken taken place (g ∷ fs) h =
     let test : Filed → Bool = λ f. f.connect == place in

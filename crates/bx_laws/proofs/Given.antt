@@ -49,17 +49,17 @@ kind_of_post Column.Disconnect p s hold h = λ e k. cc
 kind_of_post Column.Publish p s hold h = λ e k. record { message = p; posted = refl; column = h; event = (let same : event_of p.message ≡ e = cc in sym same) }
 kind_of_post Column.UnknownMeta p s hold h = λ e k. cc
 
-record Judged1 (r t : Registry) (x : Listed) : Type 0 where
+record JudgedFrom (r t : Registry) (x : Listed) : Type 0 where
   found : Judged
   judged : t.judged ≡ r.judged ++ found ∷ []
   post : OfPost x found.entry.kind
 
-judged_by_post : (config : Config) (r : Registry) (moment : ℕ) (p : Posted) (sender : Option Registered) (error : Option Error) → Judged1 r (judged_by config r moment p sender error) (Post p)
+judged_by_post : (config : Config) (r : Registry) (moment : ℕ) (p : Posted) (sender : Option Registered) (error : Option Error) → JudgedFrom r (judged_by config r moment p sender error) (Post p)
 judged_by_post config r moment p sender (Some error) = record { found = _; judged = refl; post = λ e k. cc }
 judged_by_post config r moment p None None = record { found = _; judged = refl; post = λ e k. cc }
 judged_by_post config r moment p (Some s) None = record { found = _; judged = refl; post = kind_of_post (column_of p.message.channel) p s (hold_of config p) refl }
 
-judge_post : (config : Config) (r : Registry) (x : Listed) → Judged1 r (judge config r x) x
+judge_post : (config : Config) (r : Registry) (x : Listed) → JudgedFrom r (judge config r x) x
 judge_post config r (Post p) = judged_by_post config r (max r.clock p.moment) p (named_by r.sessions (column_of p.message.channel) p.message) (refusal config r.sessions p)
 judge_post config r (messages.Tick moment) = record { found = _; judged = refl; post = λ e k. cc }
 
@@ -71,7 +71,7 @@ record Paired (xs : List Listed) (r t : Registry) : Type 0 where
 paired : (config : Config) (r : Registry) (xs : List Listed) → Paired xs r (fold (judge config) r xs)
 paired config r [] = record { more = []; judged = sym (append-nil r.judged); pairs = tt }
 paired config r (x ∷ xs) =
-    let one : Judged1 r (judge config r x) x = judge_post config r x in
+    let one : JudgedFrom r (judge config r x) x = judge_post config r x in
     let rest : Paired xs (judge config r x) (fold (judge config) (judge config r x) xs) = paired config (judge config r x) xs in
     record {
       more = one.found ∷ rest.more;

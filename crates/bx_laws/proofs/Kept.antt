@@ -18,7 +18,7 @@ use Rattle.bx_entry.specs.declared.entry.Kind.TheVariants.{Connect, Subscribe, U
 use Rattle.bx_entry.specs.declared.entry.Kind.TheVariants as entries
 use Rattle.bx_entry.specs.Sessions.{Session, Publication, Pending, Filed, Stage, Unopened, Live, Closed, is_live, ack_for, filing, answered, unheld, released_from, released, cleared, acknowledged, portion, queue, batch, with_batch, formed, forgotten, gives, given, holding, idle, answered_or_held, connected, with_pattern, without_pattern, subscribed, unsubscribed, gives_one, with_event, delivered_to, delivered, overflowed, is_hit, has_room, published, expired_from, expired, ended, closed_by, disconnected, begun, step_by, step, unopened, session}
 use Rattle.bx_laws.specs.Laws.{InStep}
-use Rattle.bx_laws.specs.Keeping.{Kept, kept, Turn, ack_given, answered_kept, keeping, unheld_kept, released_from_kept, released_kept, cleared_kept, acknowledged_kept, portion_kept, with_batch_kept, formed_kept, forgotten_kept, gives_kept, given_kept, holding_kept, idle_kept, answered_or_held_kept, acknowledging, connected_kept, overflowed_kept, with_patterns, subscribed_kept, unsubscribed_kept, is_hit_kept, has_room_kept, with_event_kept, gives_one_kept, delivered_to_kept, published_kept, expired_from_kept, expired_kept, ended_kept, closed_by_kept, begun_kept, turn_by, turn, StepsAlike, KeptSteps, kept_run, KeptRuns, InBounds, KeptInBounds}
+use Rattle.bx_laws.specs.Keeping.{Kept, kept, Turn, ack_given, answered_kept, keeping, unheld_kept, released_from_kept, released_kept, cleared_kept, acknowledged_kept, portion_kept, with_batch_kept, formed_kept, forgotten_kept, gives_kept, given_kept, holding_kept, idle_kept, answered_or_held_kept, acknowledging, connected_kept, overflowed_kept, with_patterns, subscribed_kept, unsubscribed_kept, is_hit_kept, has_room_kept, with_event_kept, gives_one_kept, delivered_to_kept, published_kept, expired_from_kept, expired_kept, ended_kept, closed_by_kept, begun_kept, turn_by, turn, StepsAlike, KeptSteps, kept_run, KeptRuns, KeptInBounds}
 use Rattle.bx_laws.proofs.Keeps.{queue_bounded}
 use Rattle.bx_laws.proofs.Counts.{queue_is, released_from_full, acknowledged_full, stays_in_step, all_in_step, unopened_in_step}
 
@@ -43,7 +43,7 @@ record Follows (start : List Filed) (s : Session) (t : Turn) : Type 0 where
   answers : s.answers ≡ start ++ t.answers
 
 -- the same of a session that hasn't overflowed
-record Follows1 (start : List Filed) (s : Session) (t : Turn) : Type 0 where
+record FollowsWhole (start : List Filed) (s : Session) (t : Turn) : Type 0 where
   full : s.overflow ≡ false
   kept : t.kept ≡ whole s
   answers : s.answers ≡ start ++ t.answers
@@ -51,7 +51,7 @@ record Follows1 (start : List Filed) (s : Session) (t : Turn) : Type 0 where
 abbrev at : Kept → List Filed → Turn
 at k a = record { kept = k; answers = a }
 
-follows : (start : List Filed) (s : Session) (t : Turn) → Follows1 start s t → Follows start s t
+follows : (start : List Filed) (s : Session) (t : Turn) → FollowsWhole start s t → Follows start s t
 follows start s t f = record { kept = f.kept ∙ sym (kept_whole s f.full); answers = f.answers }
 
 -- one function after another

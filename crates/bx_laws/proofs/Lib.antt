@@ -21,3 +21,5 @@ pub mod Kept
 pub mod Takes
 pub mod Files
 pub mod Senders
+pub mod Closings
+pub mod Stepping

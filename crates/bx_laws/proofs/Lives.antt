@@ -13,7 +13,7 @@ use Rattle.bx_message.specs.Columns.{column_of}
 use Rattle.bx_entry.specs.Listing as messages
 use Rattle.bx_entry.specs.declared.entry.Entry.{Entry}
 use Rattle.bx_entry.specs.declared.entry.Kind.TheVariants.{Opened, Refused, Tick}
-use Rattle.bx_entry.specs.Registry.{Registry, Registered, Judged, PlaceSlot, Ready, NoSlot, found_at, slot_for, judge, judged_by, refused, opened, served, extended, closed, overdue, is_overdue, named_by, refusal, hold_of, is_ack, client_id, kind_for, empty_registry, entries_of}
+use Rattle.bx_entry.specs.Registry.{Registry, Registered, Judged, PlaceSlot, Ready, NoSlot, found_at, slot_for, judge, judged_by, refused, opened, served, extended, closed, overdue, is_overdue, named_by, refusal, hold_of, is_ack, client_id, kind_for, empty_registry, entries_of, registry}
 use Rattle.bx_message.specs.Replies.{reply_to}
 use Rattle.bx_message.specs.declared.reply.AckReply.TheVariants as replies
 use Rattle.bx_laws.specs.Readings.{opens_by, closes, since_opening, unclosed, EachSession, SameLive}
@@ -233,6 +233,12 @@ judge_agrees config r (messages.Tick moment) a = tick_agrees config r moment a
 run_agrees : (config : Config) (r : Registry) (xs : List Listed) → Agrees r → Agrees (fold (judge config) r xs)
 run_agrees config r [] a = a
 run_agrees config r (x ∷ xs) a = run_agrees config (judge config r x) xs (judge_agrees config r x a)
+
+pub numbered : (config : Config) (list : List Listed) → NumberedFrom 1 (registry config list).sessions
+numbered config list = (run_agrees config empty_registry list (record { numbers = tt; later = λ m k. refl; live = tt })).numbers
+
+pub opened_later : (config : Config) (list : List Listed) (n : ℕ) → length (registry config list).sessions < n → since_opening n (entries_of (registry config list)) ≡ None
+opened_later config list n l = (run_agrees config empty_registry list (record { numbers = tt; later = λ m k. refl; live = tt })).later n l
 
 pub same_live : SameLive
 unfolding reading

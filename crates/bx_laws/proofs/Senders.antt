@@ -43,7 +43,7 @@ named_live rs Column.UnknownMeta m r e = cc
 
 -- ---- one element
 
-abbrev live_by : ℕ → List Entry → Bool
+abbrev pub live_by : ℕ → List Entry → Bool
 live_by number es = unclosed number (since_opening number es)
 
 abbrev Good : List Judged → Judged → Type 0
@@ -62,11 +62,17 @@ judged_by_good config r moment p None None h = record { found = _; judged = refl
     opens number {m = m} s o = let same : m ≡ number = cc in both_ways (m == number) o (eq-eqb m number same)
 judged_by_good config r moment p (Some q) None h = record { found = _; judged = refl; good = λ number s o. (let same : q.number ≡ number = cc in subst (λ (n : ℕ). live_by n (entries_of r) ≡ true) same (h q refl)) }
 
+-- by the entries before it
+pub sender_reads : (config : Config) (ys : List Listed) (p : Posted) (s : Registered) → named_by (registry config ys).sessions (column_of p.message.channel) p.message ≡ Some s → live_by s.number (entries_of (registry config ys)) ≡ true
+sender_reads config ys p s e =
+    let rs : List Registered = (registry config ys).sessions in
+    sym (named_session (λ q. q.live ≡ live_by q.number (entries_of (registry config ys))) rs (column_of p.message.channel) p.message s e (same_live config ys)) ∙ named_live rs (column_of p.message.channel) p.message s e
+
 judge_good : (config : Config) (ys : List Listed) (x : Listed) → FoundGood (registry config ys) (judge config (registry config ys) x)
 judge_good config ys (Post p) =
     let r : Registry = registry config ys in
     judged_by_good config r (max r.clock p.moment) p (named_by r.sessions (column_of p.message.channel) p.message) (refusal config r.sessions p)
-    (λ s e. sym (named_session (λ q. q.live ≡ live_by q.number (entries_of (registry config ys))) r.sessions (column_of p.message.channel) p.message s e (same_live config ys)) ∙ named_live r.sessions (column_of p.message.channel) p.message s e)
+    (λ s e. sender_reads config ys p s e)
 judge_good config ys (messages.Tick moment) = record { found = _; judged = refl; good = λ number s o. cc }
 
 -- ---- all elements

@@ -27,17 +27,17 @@ published_stays config e s =
     (λ g. let k : Keeps (with_event e s) (delivered config e s) = delivered_to_k config e (with_event e s) s.held in record { number = k.number; stage = k.stage }) (λ g. record { number = refl; stage = refl }))
     (λ h. record { number = refl; stage = refl })
 
-stage_of_opening : Stage → Stage
+pub stage_of_opening : Stage → Stage
 stage_of_opening Unopened = Live
 stage_of_opening Live = Live
 stage_of_opening Closed = Closed
 
-abbrev next_by : ℕ → Stage → Kind → Stage
+abbrev pub next_by : ℕ → Stage → Kind → Stage
 next_by number stage k = cond (opens_by number k) (stage_of_opening stage) (cond (closes_by number k) (stage_after stage) stage)
 
-record Next (s : Session) (k : Kind) (t : Session) : Type 0 where
-  number : t.number ≡ s.number
-  stage : t.stage ≡ next_by s.number s.stage k
+pub record Next (s : Session) (k : Kind) (t : Session) : Type 0 where
+  pub number : t.number ≡ s.number
+  pub stage : t.stage ≡ next_by s.number s.stage k
 
 begun_next : (ack : Bool) (s : Session) (stage : Stage) → s.stage ≡ stage → (begun ack s stage).stage ≡ stage_of_opening stage
 unfolding stage_of_opening
@@ -65,7 +65,7 @@ closed_next : (t : Session) (stage : Stage) (b : Bool) → t.stage ≡ stage →
 closed_next t stage true h = ap stage_after h
 closed_next t stage false h = h
 
-step_by_next : (config : Config) (place moment : ℕ) (s : Session) (k : Kind) → Next s k (step_by config place moment s k)
+pub step_by_next : (config : Config) (place moment : ℕ) (s : Session) (k : Kind) → Next s k (step_by config place moment s k)
 step_by_next config place moment s (entries.Opened n ack) = record {
   number = cond_both (n == s.number) (begun ack s s.stage) s (λ (u : Session). u.number ≡ s.number) (λ h. begun_number ack s s.stage) (λ h. refl);
   stage = opened_next n ack s (n == s.number);

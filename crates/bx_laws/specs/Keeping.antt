@@ -254,7 +254,7 @@ pub record StepsAlike (config : Config) (s : Session) (e : Entry) : Type 0 where
   pub state : kept (step config s e) ≡ kept_step config (kept s) e
   pub answers : (step config s e).answers ≡ s.answers ++ kept_answers config (kept s) e
 
--- so it is for every entry behind every others
+-- so it is for every entry, whatever entries stand before it
 abbrev pub KeptSteps : Type 0
 KeptSteps = (config : Config) (number : ℕ) (es : List Entry) (e : Entry) → 0 < config.limits.batch → StepsAlike config (session config number es) e
 

@@ -8,8 +8,8 @@ use Rattle.bx_entry.specs.Listing as messages
 use Rattle.bx_entry.specs.declared.entry.Entry.{Entry}
 use Rattle.bx_entry.specs.declared.entry.Kind.{Kind}
 use Rattle.bx_entry.specs.declared.entry.Kind.TheVariants.{Opened, Connect, Subscribe, Unsubscribe, Publish, Disconnect, Refused, Tick}
-use Rattle.bx_entry.specs.Registry.{Registered, Judged, registry, entries_of}
-use Rattle.bx_entry.specs.Sessions.{Session, Pending, Filed, is_live, is_hit, has_room, pending_count, in_force, with_pattern, step, session}
+use Rattle.bx_entry.specs.Registry.{Registered, Judged, registry, entries_of, entries}
+use Rattle.bx_entry.specs.Sessions.{Session, Pending, Filed, is_live, is_hit, has_room, pending_count, in_force, with_pattern, step, session, Closed}
 
 -- ---- live: opened, and not closed since
 
@@ -171,6 +171,18 @@ abbrev pub AcceptedWhileLive : Type 0
 AcceptedWhileLive = (config : Config) (list : List Listed) (before : List Judged) (j : Judged) (behind : List Judged) (number : ℕ) →
     (registry config list).judged ≡ before ++ j ∷ behind → j.sender ≡ Some number → opens_by number j.entry.kind ≡ false →
     unclosed number (since_opening number (map (λ (i : Judged). i.entry) before)) ≡ true
+
+-- nothing more comes of a session: no connect of it is held, and its events and answers are as they were
+pub record NothingMore (s t : Session) : Type 0 where
+  pub stage : t.stage ≡ Closed
+  pub held : t.held ≡ None
+  pub events : t.events ≡ s.events
+  pub answers : t.answers ≡ s.answers
+
+-- nothing more comes of a closed session, whatever the list goes on with
+abbrev pub ClosedIsOver : Type 0
+ClosedIsOver = (config : Config) (list more : List Listed) (number : ℕ) → (session config number (entries config list)).stage ≡ Closed →
+    NothingMore (session config number (entries config list)) (session config number (entries config (list ++ more)))
 
 -- the moment of an entry is the greatest that was handed in so far
 abbrev pub moment_of : Listed → ℕ

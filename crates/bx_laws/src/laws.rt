@@ -1,10 +1,10 @@
 //! Laws that hold for every configuration and every list.
 ghost use Rattle.bx_laws.specs.Laws.{DoneNeverFalls, CountsAgree, EntriesInOrder, AnswersStay, BatchRepeats, NeverGivenAgain, NoEventTwice, GivenOnce};
-ghost use Rattle.bx_laws.specs.Readings.{LiveReading, InForceReading, HeldReading, EndingReading, OverflowReading, QueueBounded, DueReading, ClockReading, SameLive, AcceptedWhileLive};
+ghost use Rattle.bx_laws.specs.Readings.{LiveReading, InForceReading, HeldReading, EndingReading, OverflowReading, QueueBounded, DueReading, ClockReading, SameLive, AcceptedWhileLive, ClosedIsOver};
 ghost use Rattle.bx_laws.specs.Events.{EventsWerePublished, PublishesAreEvents, EventsRise, GivenWasPublished};
 ghost use Rattle.bx_laws.specs.Outs.{OutsGrow};
 ghost use Rattle.bx_laws.specs.Keeping.{KeptSteps, KeptRuns, KeptInBounds};
-ghost use Rattle.bx_laws.specs.Schedules.{TakesAreAnswers, AnswersAreFiled, NoneTakenTwice};
+ghost use Rattle.bx_laws.specs.Schedules.{TakesAreAnswers, AnswersAreFiled, NoneTakenTwice, ShardsStep, ShardsFile};
 
 /// What was given for good stays given for good.
 pub fn done_never_falls()
@@ -149,4 +149,19 @@ pub fn accepted_while_live()
 /// What is kept stays within its limits, and a held connect's queue is empty.
 pub fn kept_in_bounds()
     ensures { KeptInBounds }
+{}
+
+/// Nothing more comes of a closed session: it holds no connect, and its events and answers stay as they are.
+pub fn closed_is_over()
+    ensures { ClosedIsOver }
+{}
+
+/// The live sessions of a shard after one more entry come of those before it and of that entry alone.
+pub fn shards_step()
+    ensures { ShardsStep }
+{}
+
+/// An answer that wasn't taken is filed after one more entry where it was before, or where a live session of the shard gives it.
+pub fn shards_file()
+    ensures { ShardsFile }
 {}

@@ -122,7 +122,8 @@ fn a_refused_handshake_has_no_client(rt: HostRuntime) -> Result<(), Fail> {
     let ack = AckReply::NoAck;
     let reply = Reply::to_message(&config()?, Column::Handshake, &message, None, case, ack)?;
     let text = reply_text(alloc, &reply)?;
-    let wanted = r#"{"advice":{"interval":0,"reconnect":"none"},"channel":"/meta/handshake","error":"400::Unsupported version","successful":false,"supportedConnectionTypes":["long-polling","callback-polling"],"version":"1.0"}"#;
+    let wanted =
+        r#"{"advice":{"interval":0,"reconnect":"none"},"channel":"/meta/handshake","error":"400::Unsupported version","successful":false,"supportedConnectionTypes":["long-polling","callback-polling"],"version":"1.0"}"#;
     assert_eq!(rt; text.as_slice(), wanted.as_bytes());
     Ok(())
 }
@@ -186,7 +187,8 @@ fn a_body_is_the_array_of_its_items(rt: HostRuntime) -> Result<(), Fail> {
         ack,
     )?))?;
     let text = body_text(alloc, items.as_slice())?;
-    let wanted = r#"[{"channel":"/a/b","data":7},{"channel":"/a/b","data":7},{"advice":{"interval":0,"reconnect":"retry","timeout":30000},"channel":"/meta/connect","clientId":"Z1","ext":{"ack":1},"id":12,"successful":true}]"#;
+    let wanted =
+        r#"[{"channel":"/a/b","data":7},{"channel":"/a/b","data":7},{"advice":{"interval":0,"reconnect":"retry","timeout":30000},"channel":"/meta/connect","clientId":"Z1","ext":{"ack":1},"id":12,"successful":true}]"#;
     assert_eq!(rt; text.as_slice(), wanted.as_bytes());
     Ok(())
 }
@@ -295,7 +297,10 @@ fn members_are_the_fields(rt: HostRuntime) -> Result<(), Fail> {
         ),
         (r#","supportedConnectionTypes":"long-polling""#, "/a"),
         (r#","supportedConnectionTypes":{"a":"b"}"#, "/a"),
-        (r#","connectionType":"websocket""#, "/a connection=websocket"),
+        (
+            r#","connectionType":"websocket""#,
+            "/a connection=websocket",
+        ),
         (r#","connectionType":null"#, "/a connection=?"),
         (
             r#","subscription":"/\u0061""#,
@@ -310,10 +315,7 @@ fn members_are_the_fields(rt: HostRuntime) -> Result<(), Fail> {
             r#","subscription":["/a",1]"#,
             r#"/a subscription=["/a",1] text=/a"#,
         ),
-        (
-            r#","subscription":[["/a"]]"#,
-            r#"/a subscription=[["/a"]]"#,
-        ),
+        (r#","subscription":[["/a"]]"#, r#"/a subscription=[["/a"]]"#),
         (
             r#","subscription":{"a":"/a"}"#,
             r#"/a subscription={"a":"/a"}"#,

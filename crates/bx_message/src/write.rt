@@ -14,11 +14,13 @@ use std::alloc::{AllocError, Global};
 
 // Both are this server's, in every reply to a handshake. (Bayeux 1.0, handshake response.)
 const SUPPORTED_TYPES: &str = "[\"long-polling\",\"callback-polling\"]";
+
 const VERSION: &str = "1.0";
 
 // Room for a reply and for an event without the texts that they repeat: their longest advice, error
 // and numbers, and the names of all members.
 const REPLY_ROOM: usize = 384;
+
 const EVENT_ROOM: usize = 64;
 
 /// A reply as a JSON object: the members `advice`, `channel`, `clientId`, `error`, `ext`, `id`,

@@ -58,7 +58,9 @@ impl<'a> Draft<'a> {
             Column::Disconnect => self.disconnect(message)?,
             _ => self.refusal(Column::UnknownMeta, message, Error::UnknownMetaChannel)?,
         };
-        self.slots.push(Slot::Ready(reply)).map_err(AllocError::from)
+        self.slots
+            .push(Slot::Ready(reply))
+            .map_err(AllocError::from)
     }
 
     fn handshake(&mut self, alloc: Global, message: &Message) -> Result<Reply, AllocError> {
@@ -102,9 +104,21 @@ impl<'a> Draft<'a> {
     }
 
     // The reply to a message whose session was not found.
-    fn refusal(&self, column: Column, message: &Message, error: Error) -> Result<Reply, AllocError> {
+    fn refusal(
+        &self,
+        column: Column,
+        message: &Message,
+        error: Error,
+    ) -> Result<Reply, AllocError> {
         let case = Case::Failed(error);
-        Reply::to_message(&self.world.config, column, message, None, case, AckReply::NoAck)
+        Reply::to_message(
+            &self.world.config,
+            column,
+            message,
+            None,
+            case,
+            AckReply::NoAck,
+        )
     }
 
     // The reply to a message of the session with this client id.
@@ -116,7 +130,14 @@ impl<'a> Draft<'a> {
         case: Case,
     ) -> Result<Reply, AllocError> {
         let client = Some(client);
-        Reply::to_message(&self.world.config, column, message, client, case, AckReply::NoAck)
+        Reply::to_message(
+            &self.world.config,
+            column,
+            message,
+            client,
+            case,
+            AckReply::NoAck,
+        )
     }
 
     // How many sessions are live behind the messages that were judged.
