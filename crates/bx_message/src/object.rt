@@ -49,8 +49,10 @@ impl ObjectWriter {
         Ok(out)
     }
 
-    /// Writes the name of the next member; its value is to follow, and then `resume`.
+    /// Writes the name of the next member, which needs no escape; its value is to follow, and then
+    /// `resume`.
     pub fn name(self, name: &str) -> Result<Vec<u8>, AllocError>
+        requires { list_all is_plain name.now ≡ true }
         ensures { IfOk result (λ out. out.items ≡ with_name self name.now) }
     {
         let ObjectWriter { mut out, is_empty } = self;
@@ -72,6 +74,7 @@ impl ObjectWriter {
 
     /// Adds a member whose value is the text of a JSON value.
     pub fn raw(self, name: &str, json: &str) -> Result<ObjectWriter, AllocError>
+        requires { list_all is_plain name.now ≡ true }
         ensures { IfOk result (λ w. w ≡ with_member self (member name.now json.now)) }
     {
         let mut out = self.name(name)?;
@@ -81,6 +84,7 @@ impl ObjectWriter {
 
     /// Adds a member whose value is a text.
     pub fn text(self, name: &str, text: &str) -> Result<ObjectWriter, AllocError>
+        requires { list_all is_plain name.now ≡ true }
         ensures { IfOk result (λ w. w ≡ with_member self (member name.now (quoted text.now))) }
     {
         let out = push_text(self.name(name)?, text)?;
@@ -89,6 +93,7 @@ impl ObjectWriter {
 
     /// Adds a member whose value is a number.
     pub fn number(self, name: &str, n: u64) -> Result<ObjectWriter, AllocError>
+        requires { list_all is_plain name.now ≡ true }
         ensures { IfOk result (λ w. w ≡ with_member self (member name.now (decimal n))) }
     {
         let out = push_number(self.name(name)?, n)?;
@@ -97,9 +102,10 @@ impl ObjectWriter {
 }
 
 fn push_key(out: Vec<u8>, name: &str) -> Result<Vec<u8>, AllocError>
+    requires { list_all is_plain name.now ≡ true }
     ensures { IfOk result (λ text. text.items ≡ out.items ++ (quoted name.now ++ 58 ∷ [])) }
 {
-    let mut text = push_text(out, name)?;
+    let mut text = push_plain(out, name)?;
     text.push(b':')?;
     Ok(text)
 }

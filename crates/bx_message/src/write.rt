@@ -1,6 +1,8 @@
 //! The text of a reply, an event and a response: compact JSON, with the members of each object in
 //! ascending byte order of their names.
-ghost use Rattle.std.specs.Prelude.{◌≡◌, ◌++◌, IfOk, Some};
+ghost use Rattle.std.specs.Prelude.{◌≡◌, ◌++◌, IfOk, Some, true};
+ghost use Rattle.std.specs.List.{list_all};
+ghost use Rattle.json.specs.Run.{is_plain};
 ghost use Rattle.bx_message.specs.Objects.{with_members};
 ghost use Rattle.bx_message.specs.Texts.{reply_text, event_text, body_text, item_text, reconnect_text, success_text, raw_member, text_member, number_member, advice_member, error_member, ack_member, handshake_members};
 
@@ -132,6 +134,7 @@ fn write_raw(
     name: &str,
     json: &Option<RawJson>,
 ) -> Result<ObjectWriter, AllocError>
+    requires { list_all is_plain name.now ≡ true }
     ensures { IfOk result (λ o. o ≡ with_members object (raw_member name.now json.now)) }
 {
     match json {
@@ -146,6 +149,7 @@ fn write_text(
     name: &str,
     text: &Option<Text>,
 ) -> Result<ObjectWriter, AllocError>
+    requires { list_all is_plain name.now ≡ true }
     ensures { IfOk result (λ o. o ≡ with_members object (text_member name.now text.now)) }
 {
     match text {
@@ -173,6 +177,7 @@ fn write_number(
     name: &str,
     number: Option<u32>,
 ) -> Result<ObjectWriter, AllocError>
+    requires { list_all is_plain name.now ≡ true }
     ensures { IfOk result (λ o. o ≡ with_members object (number_member name.now number)) }
 {
     match number {
