@@ -87,6 +87,7 @@ impl Window {
     pub fn push(&mut self, event: SharedEvent) -> Result<(), PushError>
         ensures ok { OnOk result (self.new.contents ≡ with_event event self.old.contents) }
         ensures overflow { IsErrOf result PushError.Overflow ↔ IsTrue (full self.old.contents) }
+        ensures memory { IsErrOf result PushError.Memory → self.old.spare ≡ 0 }
         ensures err { OnErr result (self.new.contents ≡ self.old.contents) }
     {
         if self.is_full() {
@@ -101,7 +102,9 @@ impl Window {
     /// Makes room for so many more events, so that they can be added without memory.
     pub fn reserve(&mut self, count: usize) -> Result<(), AllocError>
         ensures ok { OnOk result (count ≤ self.new.spare) }
+        ensures refused { OnErr result (self.old.spare < count) }
         ensures same { self.new.contents ≡ self.old.contents }
+        ensures kept { self.old.spare ≤ self.new.spare }
     {
         self.events.reserve(count)
     }
@@ -119,7 +122,8 @@ impl Window {
     /// Takes an acknowledgement: a number at or above that of the last batch gives for good what is
     /// outstanding, a smaller one nothing.
     pub fn acknowledge(&mut self, number: u64)
-        ensures { self.new.contents ≡ acknowledged number self.old.contents }
+        ensures contents { self.new.contents ≡ acknowledged number self.old.contents }
+        ensures spare { self.old.spare ≤ self.new.spare }
     {
         if self.number <= number {
             self.events.drain(..self.out);
@@ -130,8 +134,9 @@ impl Window {
     /// Forms the next batch, where none is outstanding: of the events that wait, at most as many as a batch
     /// may have.
     pub fn give(&mut self)
-        requires { self.old.contents.number + 1 < 2 ^ 64 }
-        ensures { self.new.contents ≡ formed self.old.contents }
+        requires { self.old.contents.out ≡ 0 → self.old.contents.number + 1 < 2 ^ 64 }
+        ensures contents { self.new.contents ≡ formed self.old.contents }
+        ensures spare { self.new.spare ≡ self.old.spare }
     {
         if self.out == 0 {
             self.out = self.batch.min(self.events.len());
@@ -163,6 +168,7 @@ impl Window {
     pub fn forget(&mut self, count: usize)
         requires none_out { self.old.contents.out ≡ 0 }
         ensures forgotten { self.new.contents ≡ forgotten count self.old.contents }
+        ensures spare { self.old.spare ≤ self.new.spare }
     {
         self.events.drain(..count.min(self.events.len()));
     }

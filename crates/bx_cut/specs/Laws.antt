@@ -74,6 +74,6 @@ abbrev mutual
 abbrev pub IsBracketed : List Object → List ℕ → Type 0
 IsBracketed os t = (w : List ℕ) × (rest : List ℕ) × (t ≡ w ++ (91 ∷ rest)) × IsBlank w × StandsIn os rest
 
--- the messages are slices of the document, in order: inside its brackets, or the one object alone
+-- the messages are slices of the document, in order, behind its opening bracket or without one
 abbrev pub LieIn : List Object → List ℕ → Type 0
 LieIn os t = IsBracketed os t ⊎ StandsIn os t

@@ -1,4 +1,4 @@
-//! Cutting request bodies into messages, and messages into members, without copying a byte.
+//! Cutting request bodies into messages, and messages into members, as slices of the body.
 #![tactic(auto)]
 
 mod bodies;

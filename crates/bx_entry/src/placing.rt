@@ -16,7 +16,7 @@ pub trait Placing {
         ensures same { result ≡ place_of self.now number shards }
         ensures below { result < shards };
 
-    ghost is_below: { (placing : Self) (number shards : ℕ) → 1 ≤ shards → place_of placing number shards < shards };
+    ghost is_below: { (placing : Self) (number shards : ℕ) → 1 ≤ shards → shards ≤ 64 → place_of placing number shards < shards };
 }
 
 /// Sessions in turn: the number's remainder by the number of shards.
@@ -26,7 +26,7 @@ pub struct ByRemainder;
 impl Placing for ByRemainder {
     ghost place_of = { λ _ number shards. by_remainder number shards };
 
-    ghost is_below = { λ _ number shards some. by_remainder-below number shards some };
+    ghost is_below = { λ _ number shards some _. by_remainder-below number shards some };
 
     fn place(&self, number: u64, shards: usize) -> usize {
         (number % shards as u64) as usize
@@ -40,7 +40,7 @@ pub struct AllFirst;
 impl Placing for AllFirst {
     ghost place_of = { λ _ number shards. all_first number shards };
 
-    ghost is_below = { λ _ _ _ some. some };
+    ghost is_below = { λ _ _ _ some _. some };
 
     fn place(&self, _number: u64, _shards: usize) -> usize {
         0
@@ -74,7 +74,7 @@ impl ByTable {
 impl Placing for ByTable {
     ghost place_of = { λ table number shards. by_table table number shards };
 
-    ghost is_below = { λ table number shards some. by_table-below table number shards some };
+    ghost is_below = { λ table number shards some _. by_table-below table number shards some };
 
     fn place(&self, number: u64, shards: usize) -> usize {
         if self.table.is_empty() {

@@ -54,8 +54,8 @@ impl Clone for Text {
     }
 }
 
-/// A JSON value as its sender wrote it, byte for byte. Contracts see it as its bytes. A clone shares
-/// them.
+/// A text that its maker says is a JSON value, as the sender wrote it, byte for byte. Contracts see it as
+/// its bytes. A clone shares them.
 #[derive(Drop)]
 pub struct RawJson {
     json: ArcStr,
