@@ -7,3 +7,4 @@ pub mod Inputs
 pub mod Runs
 pub mod Requests
 pub mod Replay
+pub mod Keeping

@@ -1,7 +1,8 @@
 -- One session, over the whole list of entries: its patterns, its events, what of them was given and acknowledged, its held connect and its answers.
 use Rattle.std.specs.Prelude.{ℕ, ◌+◌, ◌-◌, ◌==◌, ◌&&◌, ◌||◌, not, min, Bool, true, false, List, [], ◌∷◌, ◌++◌, length, take, drop, filter, fold, nat_lt, nat_le, if◌then◌else◌, Option, Some, None}
 use Rattle.std.specs.List.{list_any}
-use Rattle.bx_names.specs.Globs.{Glob, same_glob, any_matches}
+use Rattle.bx_names.specs.Globs.{Glob, any_matches}
+use Rattle.bx_names.specs.InForce.{with_pattern, without_pattern}
 use Rattle.bx_names.specs.Segments.{segments}
 use Rattle.bx_names.specs.Kinds.{is_broadcast}
 use Rattle.bx_advice.specs.declared.error.Error.TheVariants.{SupersededConnect, QueueOverflow}
@@ -171,18 +172,6 @@ connected config p acked s =
     else answered_or_held config p (acknowledged acked (released config p.place (Failed SupersededConnect) s))
 
 -- ---- patterns
-
--- whether the pattern is one of these
-abbrev pub in_force : List Glob → Glob → Bool
-in_force patterns p = list_any (same_glob p) patterns
-
--- a pattern that is in force already changes nothing
-abbrev pub with_pattern : List Glob → Glob → List Glob
-with_pattern patterns p = if in_force patterns p then patterns else patterns ++ p ∷ []
-
--- a pattern that isn't in force changes nothing
-abbrev pub without_pattern : List Glob → Glob → List Glob
-without_pattern patterns p = filter (λ q. not (same_glob p q)) patterns
 
 -- a session with more patterns in force than the limit overflows
 abbrev pub subscribed : Config → List Glob → Session → Session

@@ -14,7 +14,8 @@ use Rattle.bx_entry.specs.declared.entry.Entry.{Entry}
 use Rattle.bx_entry.specs.declared.entry.Kind.{Kind}
 use Rattle.bx_entry.specs.declared.entry.Kind.TheVariants.{Connect, Subscribe, Unsubscribe, Publish, Disconnect, Refused, Tick}
 use Rattle.bx_entry.specs.declared.entry.Kind.TheVariants as entries
-use Rattle.bx_entry.specs.Sessions.{Session, Publication, Pending, Stage, Unopened, Live, Closed, connected, in_force, with_pattern, without_pattern, subscribed, unsubscribed, with_event, delivered, overflowed, is_hit, has_room, published, expired, ended, closed_by, disconnected, begun, step_by, step, unopened}
+use Rattle.bx_names.specs.InForce.{in_force, with_pattern, without_pattern}
+use Rattle.bx_entry.specs.Sessions.{Session, Publication, Pending, Stage, Unopened, Live, Closed, connected, subscribed, unsubscribed, with_event, delivered, overflowed, is_hit, has_room, published, expired, ended, closed_by, disconnected, begun, step_by, step, unopened}
 use Rattle.bx_laws.specs.Readings.{mention_by, last_of, InForceReading}
 use Rattle.bx_laws.proofs.Moves.{either}
 use Rattle.bx_laws.proofs.Keeps.{connected_k, delivered_to_k, released_from_k, expired_from_k, or_false, or_true, or_assoc}

@@ -14,7 +14,8 @@ use Rattle.bx_entry.specs.declared.entry.Entry.{Entry}
 use Rattle.bx_entry.specs.declared.entry.Kind.{Kind}
 use Rattle.bx_entry.specs.declared.entry.Kind.TheVariants.{Connect, Subscribe, Unsubscribe, Publish, Disconnect, Refused, Tick}
 use Rattle.bx_entry.specs.declared.entry.Kind.TheVariants as entries
-use Rattle.bx_entry.specs.Sessions.{Session, Publication, Pending, Stage, Unopened, Live, Closed, connected, in_force, subscribed, unsubscribed, with_event, delivered, overflowed, is_live, is_hit, has_room, pending_count, published, expired, ended, closed_by, disconnected, begun, step_by, step, unopened, session}
+use Rattle.bx_names.specs.InForce.{in_force}
+use Rattle.bx_entry.specs.Sessions.{Session, Publication, Pending, Stage, Unopened, Live, Closed, connected, subscribed, unsubscribed, with_event, delivered, overflowed, is_live, is_hit, has_room, pending_count, published, expired, ended, closed_by, disconnected, begun, step_by, step, unopened, session}
 use Rattle.bx_laws.specs.Laws.{EachOf, PlacesFrom}
 use Rattle.bx_laws.specs.Events.{IsEvent, GetsPublish, Rising, EventsWerePublished, PublishesAreEvents, EventsRise}
 use Rattle.bx_laws.proofs.Moves.{LaterAt, either}

@@ -12,7 +12,8 @@ use Rattle.bx_entry.specs.declared.entry.Entry.{Entry}
 use Rattle.bx_entry.specs.declared.entry.Kind.{Kind}
 use Rattle.bx_entry.specs.declared.entry.Kind.TheVariants.{Connect, Subscribe, Unsubscribe, Publish, Disconnect, Refused, Tick}
 use Rattle.bx_entry.specs.declared.entry.Kind.TheVariants as entries
-use Rattle.bx_entry.specs.Sessions.{Session, Publication, Pending, Filed, Stage, Unopened, Live, Closed, filing, answered, unheld, released_from, released, cleared, acknowledged, portion, pending_count, with_batch, formed, forgotten, gives, given, holding, idle, answered_or_held, connected, subscribed, unsubscribed, with_pattern, gives_one, with_event, delivered_to, delivered, overflowed, is_hit, has_room, published, expired_from, expired, ended, closed_by, disconnected, begun, step_by, step, unopened}
+use Rattle.bx_names.specs.InForce.{with_pattern}
+use Rattle.bx_entry.specs.Sessions.{Session, Publication, Pending, Filed, Stage, Unopened, Live, Closed, filing, answered, unheld, released_from, released, cleared, acknowledged, portion, pending_count, with_batch, formed, forgotten, gives, given, holding, idle, answered_or_held, connected, subscribed, unsubscribed, gives_one, with_event, delivered_to, delivered, overflowed, is_hit, has_room, published, expired_from, expired, ended, closed_by, disconnected, begun, step_by, step, unopened}
 use Rattle.bx_laws.specs.Readings.{overfills_by, some_overfills, OverflowReading, QueueBounded}
 use Rattle.bx_laws.proofs.Moves.{either}
 

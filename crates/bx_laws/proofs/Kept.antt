@@ -16,9 +16,10 @@ use Rattle.bx_entry.specs.declared.entry.Entry.{Entry}
 use Rattle.bx_entry.specs.declared.entry.Kind.{Kind}
 use Rattle.bx_entry.specs.declared.entry.Kind.TheVariants.{Connect, Subscribe, Unsubscribe, Publish, Disconnect, Refused, Tick}
 use Rattle.bx_entry.specs.declared.entry.Kind.TheVariants as entries
-use Rattle.bx_entry.specs.Sessions.{Session, Publication, Pending, Filed, Stage, Unopened, Live, Closed, is_live, ack_for, filing, answered, unheld, released_from, released, cleared, acknowledged, portion, queue, batch, with_batch, formed, forgotten, gives, given, holding, idle, answered_or_held, connected, with_pattern, without_pattern, subscribed, unsubscribed, gives_one, with_event, delivered_to, delivered, overflowed, is_hit, has_room, published, expired_from, expired, ended, closed_by, disconnected, begun, step_by, step, unopened, session}
+use Rattle.bx_names.specs.InForce.{with_pattern, without_pattern}
+use Rattle.bx_entry.specs.Sessions.{Session, Publication, Pending, Filed, Stage, Unopened, Live, Closed, is_live, ack_for, filing, answered, unheld, released_from, released, cleared, acknowledged, portion, queue, batch, with_batch, formed, forgotten, gives, given, holding, idle, answered_or_held, connected, subscribed, unsubscribed, gives_one, with_event, delivered_to, delivered, overflowed, is_hit, has_room, published, expired_from, expired, ended, closed_by, disconnected, begun, step_by, step, unopened, session}
 use Rattle.bx_laws.specs.Laws.{InStep}
-use Rattle.bx_laws.specs.Keeping.{Kept, kept, Turn, ack_given, answered_kept, keeping, unheld_kept, released_from_kept, released_kept, cleared_kept, acknowledged_kept, portion_kept, with_batch_kept, formed_kept, forgotten_kept, gives_kept, given_kept, holding_kept, idle_kept, answered_or_held_kept, acknowledging, connected_kept, overflowed_kept, with_patterns, subscribed_kept, unsubscribed_kept, is_hit_kept, has_room_kept, with_event_kept, gives_one_kept, delivered_to_kept, published_kept, expired_from_kept, expired_kept, ended_kept, closed_by_kept, begun_kept, turn_by, turn, StepsAlike, KeptSteps, kept_run, KeptRuns, KeptInBounds}
+use Rattle.bx_entry.specs.Keeping.{Kept, kept, Turn, ack_given, answered_kept, keeping, unheld_kept, released_from_kept, released_kept, cleared_kept, acknowledged_kept, portion_kept, with_batch_kept, formed_kept, forgotten_kept, gives_kept, given_kept, holding_kept, idle_kept, answered_or_held_kept, acknowledging, connected_kept, overflowed_kept, with_patterns, subscribed_kept, unsubscribed_kept, is_hit_kept, has_room_kept, with_event_kept, gives_one_kept, delivered_to_kept, published_kept, expired_from_kept, expired_kept, ended_kept, closed_by_kept, begun_kept, turn_by, turn, StepsAlike, KeptSteps, kept_run, KeptRuns, KeptInBounds}
 use Rattle.bx_laws.proofs.Keeps.{queue_bounded}
 use Rattle.bx_laws.proofs.Counts.{queue_is, released_from_full, acknowledged_full, stays_in_step, all_in_step, unopened_in_step}
 

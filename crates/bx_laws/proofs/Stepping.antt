@@ -17,7 +17,7 @@ use Rattle.bx_entry.specs.declared.entry.Kind.TheVariants.{Opened, Connect, Subs
 use Rattle.bx_entry.specs.Registry.{Registry, Registered, Judged, judge, judged_by, kind_for, left_by, extended, swept, overdue, is_overdue, named_by, refusal, hold_of, registry, empty_registry, entries_of}
 use Rattle.bx_entry.specs.Sessions.{Session, Stage, Unopened, Live, Closed, is_live, stage_after, ended, step_by, step, unopened, session}
 use Rattle.bx_laws.specs.Readings.{opens_by, closes_by, EachSession}
-use Rattle.bx_laws.specs.Keeping.{Kept, kept, kept_step, StepsAlike}
+use Rattle.bx_entry.specs.Keeping.{Kept, kept, kept_step, StepsAlike}
 use Rattle.bx_laws.specs.Shards.{Setup, stands_in}
 use Rattle.bx_laws.specs.Schedules.{opening_by, ShardsStep}
 use Rattle.bx_laws.proofs.Counts.{all_in_step, unopened_in_step}
@@ -33,7 +33,7 @@ use Rattle.std.proofs.lemmas.Grind.{flat_map-append}
 use Rattle.std.proofs.lemmas.List.Folds.{find-append}
 use Rattle.bx_entry.specs.Registry.{Waiting}
 use Rattle.bx_entry.specs.Sessions.{Filed}
-use Rattle.bx_laws.specs.Keeping.{kept_answers}
+use Rattle.bx_entry.specs.Keeping.{kept_answers}
 use Rattle.bx_laws.specs.Shards.{is_taken, shard_at}
 use Rattle.bx_laws.specs.Schedules.{answers_by, ShardsFile}
 use Rattle.bx_laws.proofs.Lists.{find_each, find_true}

@@ -4,6 +4,5 @@ pub mod Laws
 pub mod Readings
 pub mod Events
 pub mod Outs
-pub mod Keeping
 pub mod Shards
 pub mod Schedules

@@ -9,7 +9,8 @@ use Rattle.bx_entry.specs.declared.entry.Entry.{Entry}
 use Rattle.bx_entry.specs.declared.entry.Kind.{Kind}
 use Rattle.bx_entry.specs.declared.entry.Kind.TheVariants.{Opened, Connect, Subscribe, Unsubscribe, Publish, Disconnect, Refused, Tick}
 use Rattle.bx_entry.specs.Registry.{Registered, Judged, registry, entries_of, entries}
-use Rattle.bx_entry.specs.Sessions.{Session, Pending, Filed, is_live, is_hit, has_room, pending_count, in_force, with_pattern, step, session, Closed}
+use Rattle.bx_names.specs.InForce.{in_force, with_pattern}
+use Rattle.bx_entry.specs.Sessions.{Session, Pending, Filed, is_live, is_hit, has_room, pending_count, step, session, Closed}
 
 -- ---- live: opened, and not closed since
 

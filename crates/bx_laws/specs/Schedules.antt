@@ -8,7 +8,7 @@ use Rattle.bx_entry.specs.declared.entry.Kind.{Kind}
 use Rattle.bx_entry.specs.declared.entry.Kind.TheVariants.{Opened, Connect, Subscribe, Unsubscribe, Publish, Disconnect, Refused, Tick}
 use Rattle.bx_entry.specs.Registry.{Judged, Waiting, registry, entries}
 use Rattle.bx_entry.specs.Sessions.{Filed, is_live, unopened}
-use Rattle.bx_laws.specs.Keeping.{Kept, kept, kept_step, kept_answers}
+use Rattle.bx_entry.specs.Keeping.{Kept, kept, kept_step, kept_answers}
 use Rattle.bx_entry.specs.Answers.{PlacedAnswer, answer, answer_of}
 use Rattle.bx_laws.specs.Shards.{Setup, World, new_world, Ticket, Step, Admit, Apply, Take, Output, Admitted, NotAdmitted, Applied, Level, Taken, OutOfMemory, Runs, is_taken, stands_in, shard_at}
 

@@ -9,7 +9,7 @@ use Rattle.bx_entry.specs.declared.input.Refusal.{Refusal}
 use Rattle.bx_entry.specs.Registry.{PlaceSlot, Ready, Waiting, NoSlot, Judged, Registry, Registered, registry, entries_of}
 use Rattle.bx_entry.specs.Sessions.{Session, Filed, session, is_live}
 use Rattle.bx_entry.specs.Answers.{PlacedAnswer, answer_of}
-use Rattle.bx_laws.specs.Keeping.{Kept, kept}
+use Rattle.bx_entry.specs.Keeping.{Kept, kept}
 
 -- ---- placing
 

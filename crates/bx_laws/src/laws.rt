@@ -3,7 +3,7 @@ ghost use Rattle.bx_laws.specs.Laws.{DoneNeverFalls, CountsAgree, EntriesInOrder
 ghost use Rattle.bx_laws.specs.Readings.{LiveReading, InForceReading, HeldReading, EndingReading, OverflowReading, QueueBounded, DueReading, ClockReading, SameLive, AcceptedWhileLive, ClosedIsOver};
 ghost use Rattle.bx_laws.specs.Events.{EventsWerePublished, PublishesAreEvents, EventsRise, GivenWasPublished};
 ghost use Rattle.bx_laws.specs.Outs.{OutsGrow};
-ghost use Rattle.bx_laws.specs.Keeping.{KeptSteps, KeptRuns, KeptInBounds};
+ghost use Rattle.bx_entry.specs.Keeping.{KeptSteps, KeptRuns, KeptInBounds};
 ghost use Rattle.bx_laws.specs.Schedules.{TakesAreAnswers, AnswersAreFiled, NoneTakenTwice, ShardsStep, ShardsFile};
 
 /// What was given for good stays given for good.

@@ -3,3 +3,4 @@ pub mod Globs
 pub mod Equality
 pub mod Faults
 pub mod Kinds
+pub mod InForce

@@ -16,7 +16,8 @@ use Rattle.bx_entry.specs.declared.entry.Entry.{Entry}
 use Rattle.bx_entry.specs.declared.entry.Kind.{Kind}
 use Rattle.bx_entry.specs.declared.entry.Kind.TheVariants.{Connect, Subscribe, Unsubscribe, Publish, Disconnect, Refused, Tick}
 use Rattle.bx_entry.specs.declared.entry.Kind.TheVariants as entries
-use Rattle.bx_entry.specs.Sessions.{Session, Publication, Pending, Filed, Stage, Unopened, Live, Closed, is_live, stage_after, with_pattern, without_pattern, queue, unopened, step, session}
+use Rattle.bx_names.specs.InForce.{with_pattern, without_pattern}
+use Rattle.bx_entry.specs.Sessions.{Session, Publication, Pending, Filed, Stage, Unopened, Live, Closed, is_live, stage_after, queue, unopened, step, session}
 
 -- ---- the state
 
