@@ -11,11 +11,12 @@ use Rattle.serde_json.specs.Data.{Data, null, boolean, number, string, array, ob
 use Rattle.serde_json.specs.Find.{get, as_str}
 use Rattle.serde_json.specs.Read.{number_of, of_json, of_items, of_members, read}
 use Rattle.bx_cut.specs.Cut.{past_blank, past_byte, after_first, Member, split_value, split_member, listed}
-use Rattle.bx_cut.specs.Laws.{IsBare, AreTextsOf, AreElementsOf}
+use Rattle.bx_cut.specs.Laws.{BeginsBare, IsBare, AreTextsOf, AreElementsOf}
 use Rattle.bx_cut.specs.Pieces.{elements, elements_inside, member_text, members, members_inside, last_member}
 use Rattle.bx_cut.specs.Strings.{spelled}
 use Rattle.bx_cut.proofs.Bytes.{Other}
-use Rattle.bx_cut.proofs.Laws.{text_reads, text_bare, members_bare, items_parts, members_found, pick_none}
+use Rattle.bx_cut.proofs.Slices.{text_bare}
+use Rattle.bx_cut.proofs.Laws.{text_reads, members_bare, items_parts, members_found, pick_none}
 use Rattle.bx_cut.proofs.Nested.{EachText, find_items, find_members, found_first, other_first}
 use Rattle.bx_cut.proofs.Reach.{some_same, from_map}
 use Rattle.bx_cut.proofs.Readings.{whole}
@@ -127,7 +128,7 @@ module _ (t : List ℕ) (d : Data) where
 
 -- ---- from what a function found
 
-module _ (value : List ℕ) (d : Data) (r : read value ≡ Some d) (bare : IsBare value) where
+module _ (value : List ℕ) (d : Data) (r : read value ≡ Some d) (bare : BeginsBare value) where
   pub spells_reads : (text : List ℕ) (b : Bool) → (IsTrue b → spelled value ≡ Some text) × (spelled value ≡ Some text → IsTrue b) → (IsTrue b → as_str d ≡ Some text) × (as_str d ≡ Some text → IsTrue b)
   spells_reads text b h = let same = spelled_reads value d r bare in (λ t. sym same ∙ h.0 t, λ e. h.1 (same ∙ e))
 

@@ -1,5 +1,5 @@
 -- The pieces of a document read as its elements.
-use Rattle.std.proofs.Common.{◌≡◌, ℕ, suc, ◌-◌, ◌≤◌, Bool, true, false, cond, ◌&&◌, nat_lt, List, [], ◌∷◌, ◌++◌, length, take, Option, Some, None, is_some, IfSome, option_map, option_and_then, refl, sym, ap, ◌∙◌, subst, arith}
+use Rattle.std.proofs.Common.{◌≡◌, ℕ, suc, ◌-◌, ◌≤◌, Bool, true, false, cond, ◌&&◌, nat_lt, inl, inr, List, [], ◌∷◌, ◌++◌, length, take, Option, Some, None, is_some, IfSome, option_map, option_and_then, refl, sym, ap, ◌∙◌, subst, arith}
 use Rattle.std.proofs.lemmas.Bool.{false≢true}
 use Rattle.std.proofs.lemmas.List.{append-nil, append_assoc, take_at, length-append}
 use Rattle.std.proofs.lemmas.Slice.Eq.{bytes_eq-Decides}
@@ -18,7 +18,7 @@ use Rattle.bx_cut.specs.Cut.{past_blank, past_byte, after_first, Member, split_m
 use Rattle.bx_cut.specs.Faults.{all_objects, value_fault}
 use Rattle.bx_cut.specs.declared.document.TheConstants.{MAX_MESSAGES}
 use Rattle.bx_cut.specs.declared.error.CutError.TheVariants.{NotObject, TooMany}
-use Rattle.bx_cut.specs.Laws.{IsBare, IsObjectOf, AreObjectsOf, IsOnlyObject, ArePiecesOf}
+use Rattle.bx_cut.specs.Laws.{IsBare, IsObjectOf, AreObjectsOf, ArePiecesOf, StandsIn, GoesOnIn, LieIn}
 use Rattle.bx_cut.specs.Pieces.{Object, is_name, later_or, last_member, members, split_object, pieces, pieces_of, only}
 use Rattle.bx_cut.specs.Strings.{spelled}
 use Rattle.bx_cut.proofs.Lists.{turn}
@@ -27,6 +27,8 @@ use Rattle.bx_cut.proofs.Objects.{object-none, object-some, Shortens-split_objec
 use Rattle.bx_cut.proofs.Reach.{some_same, from_map, from_and_then}
 use Rattle.bx_cut.proofs.Readings.{whole, reads_as}
 use Rattle.bx_cut.proofs.Seen.{start, Matches, seen}
+use Rattle.bx_cut.proofs.Bytes.{blanks, split_blanks}
+use Rattle.bx_cut.proofs.Slices.{text_bare, blanks_blank, nothing_left, shut_at, stands_at, goes_on_at}
 use Rattle.bx_cut.proofs.Values.{Text}
 
 -- a value's own bytes have its tokens
@@ -71,9 +73,6 @@ pub pick_none : (o : Option (List ℕ)) → option_and_then read o ≡ pick o No
 pick_none None = refl
 pick_none (Some v) = refl
 
-pub text_bare : (v : List ℕ) (ts : List Token) → Text v ts → IsBare v
-text_bare v ts x = ap past_blank (sym (append-nil v)) ∙ x.full [] ∙ append-nil v
-
 later_bare : (o : Option (List ℕ)) (b : Bool) (v : List ℕ) → IfSome o IsBare → IsBare v → IfSome (later_or o (cond b (Some v) None)) IsBare
 later_bare None true v h k = k
 later_bare None false v h k = tt
@@ -98,6 +97,7 @@ module _ (xs : List ℕ) (ms : json.Members) (rest : List Token) (f : FoundMembe
       let m = from_map object (of_members ms no_members) d (sym e) in
       record {
         reads = text_reads (123 ∷ f.v) (json.object ms) d (object_text f.v ms f.text) (omega arith) e;
+        trim = text_bare (123 ∷ f.v) (json_tokens (json.object ms)) (object_text f.v ms f.text);
         own = own_members;
         bare = λ name. members_bare ms f.text.found name f.text.each;
         finds = λ name. pick_none (last_member name f.text.found) ∙ sym (members_found ms f.text.found name no_members m.0 f.text.each h m.1) ∙ sym (ap (get name) m.2);
@@ -122,11 +122,13 @@ pub record ObjectsAt (t : List ℕ) (ds : Items) : Type 0 where
   pub objects : List Object
   pub each : AreObjectsOf objects ds
   pub list : (listed split_object t).0 ≡ objects
+  pub lie : StandsIn objects t
 
 pub record ObjectsAfter (t : List ℕ) (ds : Items) : Type 0 where
   pub objects : List Object
   pub each : AreObjectsOf objects ds
   pub list : (then_more split_object (listed split_object) t (past_byte 44 t)).0 ≡ objects
+  pub lie : GoesOnIn objects t
 
 and_both : (a b : Bool) → (a && b) ≡ true → (a ≡ true) × (b ≡ true)
 and_both true true e = (refl, refl)
@@ -162,6 +164,7 @@ step_object b t j js d ds rest n h e o s more =
       objects = one ∷ after.objects;
       each = (object_is, after.each);
       list = ap (λ (q : List Object × List ℕ). q.0) (turn split_object Shortens-split_object t ∙ ap (first_and_more split_object (listed split_object) t) (sym cut)) ∙ ap (λ (l : List Object). one ∷ l) after.list;
+      lie = stands_at one after.objects t f.r (seen_here.1 ∙ ap (λ (x : List ℕ). 123 ∷ x) f.front) after.lie;
     }
 
 no_items_left : (ds : Items) → Some ds ≡ of_items json.no_items → AreObjectsOf [] ds
@@ -173,31 +176,32 @@ items_parts j js ds e =
     let more = from_map (item first.0) (of_items js) ds first.2 in
     (first.0, more.0, first.1, more.1, more.2)
 
-objects_after : (js : json.Items) (ds : Items) (t : List ℕ) (rest : List Token) → ItemsHaveNumbers js → items_depth js ≤ 126 → Some ds ≡ of_items js → all_objects ds ≡ true → punctuate after_value (lex between t) ≡ items_tokens js ++ rest → ObjectsAfter t ds
-objects_after json.no_items ds t rest n h e o s =
+objects_after : (js : json.Items) (ds : Items) (t : List ℕ) (rest : List Token) → rest ≡ [] → ItemsHaveNumbers js → items_depth js ≤ 126 → Some ds ≡ of_items js → all_objects ds ≡ true → punctuate after_value (lex between t) ≡ items_tokens js ++ rest → ObjectsAfter t ds
+objects_after json.no_items ds t rest z n h e o s =
     let m = subst (Next t) s (next t) in
-    record { objects = []; each = no_items_left ds e; list = ap (λ (q : Option (List ℕ)). (then_more split_object (listed split_object) t q).0) (other_first 44 93 t m.0 m.1 refl) }
-objects_after (json.item j js) ds t rest n h e o s =
+    record { objects = []; each = no_items_left ds e; list = ap (λ (q : Option (List ℕ)). (then_more split_object (listed split_object) t q).0) (other_first 44 93 t m.0 m.1 refl); lie = shut_at t m.0 m.1 (m.2 ∙ z) }
+objects_after (json.item j js) ds t rest z n h e o s =
     let p = items_parts j js ds e in
     let passes = and_both (is_some (as_object p.0)) (all_objects p.1) (sym (ap all_objects p.4) ∙ o) in
     let m = next_comma j t (items_tokens js ++ rest) (subst (Next t) (s ∙ append_assoc (json_tokens j) (items_tokens js) rest) (next t)) in
-    let inner = step_object false m.0 j js p.0 p.1 rest n.0 (omega arith) p.2 passes.0 m.2 (λ u g. objects_after js p.1 u rest n.1 (omega arith) p.3 passes.1 g) in
+    let inner = step_object false m.0 j js p.0 p.1 rest n.0 (omega arith) p.2 passes.0 m.2 (λ u g. objects_after js p.1 u rest z n.1 (omega arith) p.3 passes.1 g) in
     record {
       objects = inner.objects;
       each = subst (AreObjectsOf inner.objects) (sym p.4) inner.each;
       list = ap (λ (q : Option (List ℕ)). (then_more split_object (listed split_object) t q).0) (found_first 44 t m.0 m.1 refl) ∙ inner.list;
+      lie = goes_on_at inner.objects p.0 p.1 inner.each t m.0 m.1 inner.lie;
     }
 
-objects_at : (js : json.Items) (ds : Items) (t : List ℕ) (rest : List Token) → ItemsHaveNumbers js → items_depth js ≤ 126 → Some ds ≡ of_items js → all_objects ds ≡ true → punctuate fresh (lex between t) ≡ items_tokens js ++ rest → ObjectsAt t ds
-objects_at json.no_items ds t rest n h e o s =
+objects_at : (js : json.Items) (ds : Items) (t : List ℕ) (rest : List Token) → rest ≡ [] → ItemsHaveNumbers js → items_depth js ≤ 126 → Some ds ≡ of_items js → all_objects ds ≡ true → punctuate fresh (lex between t) ≡ items_tokens js ++ rest → ObjectsAt t ds
+objects_at json.no_items ds t rest z n h e o s =
     let m = subst (Matches true t) s (seen true t) in
     let none : None ≡ after_first 123 (past_blank t) = sym (other_first 123 93 t m.1.0 m.1.1 refl) in
-    record { objects = []; each = no_items_left ds e; list = ap (λ (q : List Object × List ℕ). q.0) (turn split_object Shortens-split_object t ∙ ap (first_and_more split_object (listed split_object) t) (sym (object-none t none))) }
-objects_at (json.item j js) ds t rest n h e o s =
+    record { objects = []; each = no_items_left ds e; list = ap (λ (q : List Object × List ℕ). q.0) (turn split_object Shortens-split_object t ∙ ap (first_and_more split_object (listed split_object) t) (sym (object-none t none))); lie = shut_at t m.1.0 m.1.1 (m.1.2 ∙ z) }
+objects_at (json.item j js) ds t rest z n h e o s =
     let p = items_parts j js ds e in
     let passes = and_both (is_some (as_object p.0)) (all_objects p.1) (sym (ap all_objects p.4) ∙ o) in
-    let inner = step_object true t j js p.0 p.1 rest n.0 (omega arith) p.2 passes.0 (s ∙ append_assoc (json_tokens j) (items_tokens js) rest) (λ u g. objects_after js p.1 u rest n.1 (omega arith) p.3 passes.1 g) in
-    record { objects = inner.objects; each = subst (AreObjectsOf inner.objects) (sym p.4) inner.each; list = inner.list }
+    let inner = step_object true t j js p.0 p.1 rest n.0 (omega arith) p.2 passes.0 (s ∙ append_assoc (json_tokens j) (items_tokens js) rest) (λ u g. objects_after js p.1 u rest z n.1 (omega arith) p.3 passes.1 g) in
+    record { objects = inner.objects; each = subst (AreObjectsOf inner.objects) (sym p.4) inner.each; list = inner.list; lie = inner.lie }
 
 -- ---- the whole document
 
@@ -209,7 +213,11 @@ array_json (json.string s) ds e = cc
 array_json (json.array js) ds e = let m = from_map array (of_items js) (array ds) e in let same : ds ≡ m.0 = (let whole_same : array ds ≡ array m.0 = m.2 in cc) in (js, refl, ap Some same ∙ m.1)
 array_json (json.object ms) ds e = let m = from_map object (of_members ms no_members) (array ds) e in let no : array ds ≡ object m.0 = m.2 in cc
 
-pub array_pieces : (text : List ℕ) (ds : Items) → read text ≡ Some (array ds) → all_objects ds ≡ true → AreObjectsOf (pieces text) ds
+-- what the messages read as, and where they stand
+abbrev pub ArePieces : List ℕ → List Object → Data → Type 0
+ArePieces text os d = ArePiecesOf os d × LieIn os text
+
+array_pieces : (text : List ℕ) (ds : Items) → read text ≡ Some (array ds) → all_objects ds ≡ true → ArePieces text (pieces text) (array ds)
 array_pieces text ds e o =
     let w = whole text (array ds) e in
     let is = array_json w.json ds (sym w.data_is) in
@@ -217,10 +225,11 @@ array_pieces text ds e o =
     let numbers : ItemsHaveNumbers js = subst HasNumbers is.1 w.numbers in
     let deep : suc (items_depth js) ≤ 127 = subst (λ (x : json.Json). depth x ≤ 127) is.1 w.shallow in
     let m = subst (Matches true text) (w.tokens_are ∙ ap json_tokens is.1) (seen true text) in
-    let all = objects_at js ds m.0 [] numbers (omega arith) is.2 o (m.2 ∙ sym (append-nil (items_tokens js))) in
-    subst (λ (l : List Object). AreObjectsOf l ds) (sym (ap (pieces_of text) (found_first 91 text m.0 m.1 refl) ∙ all.list)) all.each
+    let all = objects_at js ds m.0 [] refl numbers (omega arith) is.2 o (m.2 ∙ sym (append-nil (items_tokens js))) in
+    let lie : LieIn all.objects text = inl (blanks text, m.0, split_blanks text ∙ ap (λ (x : List ℕ). blanks text ++ x) m.1, blanks_blank text, all.lie) in
+    subst (λ (l : List Object). ArePieces text l (array ds)) (sym (ap (pieces_of text) (found_first 91 text m.0 m.1 refl) ∙ all.list)) (all.each, lie)
 
-pub object_pieces : (text : List ℕ) (dm : Members) → read text ≡ Some (object dm) → IsOnlyObject (pieces text) (object dm)
+object_pieces : (text : List ℕ) (dm : Members) → read text ≡ Some (object dm) → ArePieces text (pieces text) (object dm)
 object_pieces text dm e =
     let w = whole text (object dm) e in
     let is = object_json w.json (object dm) (sym w.data_is) refl in
@@ -232,16 +241,41 @@ object_pieces text dm e =
     let object_is = object_of m.0 ms [] f (object dm) (omega arith) (ap of_json (sym is.1) ∙ w.data_is) in
     let one : Object = (123 ∷ f.v, f.text.found) in
     let cut : pieces text ≡ one ∷ [] = ap (pieces_of text) (other_first 91 123 text m.0 m.1 refl) ∙ ap only (sym (split_found m.0 ms [] f text m.1)) in
-    subst (λ (l : List Object). IsOnlyObject l (object dm)) (sym cut) object_is
+    let at : past_blank text ≡ one.0 ++ f.r = m.1 ∙ ap (λ (x : List ℕ). 123 ∷ x) f.front in
+    let lie : LieIn (one ∷ []) text = inr (blanks text, f.r, split_blanks text ∙ ap (λ (x : List ℕ). blanks text ++ x) at, blanks_blank text, nothing_left f.r f.left) in
+    subst (λ (l : List Object). ArePieces text l (object dm)) (sym cut) (object_is, lie)
 
-pub pieces_read : (text : List ℕ) (d : Data) → read text ≡ Some d → value_fault (read text) ≡ None → ArePiecesOf (pieces text) d
-pieces_read text null e f = tt
-pieces_read text (boolean b) e f = tt
-pieces_read text (number n) e f = tt
-pieces_read text (string s) e f = tt
+pub pieces_read : (text : List ℕ) (d : Data) → read text ≡ Some d → value_fault (read text) ≡ None → ArePieces text (pieces text) d
+pieces_read text null e f = absurd (refused (sym (ap value_fault e) ∙ f))
+  where
+    refused : value_fault (Some null) ≡ None → ⊥
+    refused g = cc
+pieces_read text (boolean b) e f = absurd (refused (sym (ap value_fault e) ∙ f))
+  where
+    refused : value_fault (Some (boolean b)) ≡ None → ⊥
+    refused g = cc
+pieces_read text (number n) e f = absurd (refused (sym (ap value_fault e) ∙ f))
+  where
+    refused : value_fault (Some (number n)) ≡ None → ⊥
+    refused g = cc
+pieces_read text (string s) e f = absurd (refused (sym (ap value_fault e) ∙ f))
+  where
+    refused : value_fault (Some (string s)) ≡ None → ⊥
+    refused g = cc
 pieces_read text (array ds) e f = array_pieces text ds e (passes (all_objects ds) (sym (ap value_fault e) ∙ f))
   where
     passes : (b : Bool) → cond b (cond (nat_lt MAX_MESSAGES (items_len ds)) (Some TooMany) None) (Some NotObject) ≡ None → b ≡ true
     passes true g = refl
     passes false g = cc
 pieces_read text (object ms) e f = object_pieces text ms e
+
+-- so where the messages stand in a text that may be cut
+pub pieces_lie : (text : List ℕ) → value_fault (read text) ≡ None → LieIn (pieces text) text
+pieces_lie text f = go (read text) refl
+  where
+    go : (o : Option Data) → read text ≡ o → LieIn (pieces text) text
+    go (Some d) e = (pieces_read text d e f).1
+    go None e = absurd (refused (sym (ap value_fault e) ∙ f))
+      where
+        refused : value_fault None ≡ None → ⊥
+        refused g = cc

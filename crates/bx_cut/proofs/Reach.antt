@@ -73,64 +73,80 @@ nest-string false depth (x ∷ xs) =
     by_tests after_escape after_plain false true = one_more _ _ _ depth x xs after_escape refl
     by_tests after_escape after_plain false false = one_more _ _ _ depth x xs after_plain refl
 
--- ---- a scan ends where the text does, or after an ASCII byte
+-- ---- a scan ends where the text does, or after a quote or a closing bracket
 
+-- n is where the text ends, or follows a byte of this kind
+abbrev pub EndsBy : (ℕ → Type 0) → List ℕ → ℕ → Type 0
+EndsBy P t n = (n ≡ length t) ⊎ ((k : ℕ) × (n ≡ suc k) × (k < length t) × P (get_or t k 0))
+
+module _ (P : ℕ → Type 0) where
+  ends_one : (x : ℕ) (xs : List ℕ) → P x → EndsBy P (x ∷ xs) 1
+  ends_one x xs h = inr (0, refl, omega arith, h)
+
+  pub ends_more : (x : ℕ) (xs : List ℕ) (n : ℕ) → EndsBy P xs n → EndsBy P (x ∷ xs) (1 + n)
+  ends_more x xs n (inl e) = inl (omega arith)
+  ends_more x xs n (inr e) = inr (suc e.0, omega (arith, e.1), omega (arith, e.2), e.3)
+
+  module _ (at_quote : P 34) (at_close : (x : ℕ) → closes x ≡ true → P x) where
+    pub ends_string : (e : Bool) (xs : List ℕ) → EndsBy P xs (span (mode_of e) xs)
+    unfolding span
+    ends_string true [] = inl refl
+    ends_string false [] = inl refl
+    ends_string true (x ∷ xs) = ends_more x xs _ (ends_string false xs)
+    ends_string false (x ∷ xs) = subst (EndsBy P (x ∷ xs)) (sym (span-cons x xs)) (by_tests (ends_string true xs) (ends_string false xs) (x == 34) (x == 92) (eqb-true x 34))
+      where
+        by_tests : EndsBy P xs (span in_escape xs) → EndsBy P xs (span in_string xs) → (a b : Bool) → (a ≡ true → x ≡ 34) → EndsBy P (x ∷ xs) (cond a 1 (cond b (1 + span in_escape xs) (1 + span in_string xs)))
+        by_tests after_escape after_plain true b q = ends_one x xs (subst P (sym (q refl)) at_quote)
+        by_tests after_escape after_plain false true q = ends_more x xs _ after_escape
+        by_tests after_escape after_plain false false q = ends_more x xs _ after_plain
+
+    pub ends_nested : (m : Scan) (depth : ℕ) (xs : List ℕ) → EndsBy P xs (nest_len m depth xs)
+    unfolding nest_len
+    ends_nested outside depth [] = inl refl
+    ends_nested quoted depth [] = inl refl
+    ends_nested escaped depth [] = inl refl
+    ends_nested escaped depth (x ∷ xs) = ends_more x xs _ (ends_nested quoted depth xs)
+    ends_nested quoted depth (x ∷ xs) = by_tests (ends_nested outside depth xs) (ends_nested escaped depth xs) (ends_nested quoted depth xs) (x == 34) (x == 92)
+      where
+        by_tests : EndsBy P xs (nest_len outside depth xs) → EndsBy P xs (nest_len escaped depth xs) → EndsBy P xs (nest_len quoted depth xs) → (a b : Bool)
+            → EndsBy P (x ∷ xs) (1 + cond a (nest_len outside depth xs) (cond b (nest_len escaped depth xs) (nest_len quoted depth xs)))
+        by_tests f g h true b = ends_more x xs _ f
+        by_tests f g h false true = ends_more x xs _ g
+        by_tests f g h false false = ends_more x xs _ h
+    ends_nested outside depth (x ∷ xs) =
+        by_tests (ends_nested quoted depth xs) (ends_nested outside (depth + 1) xs) (ends_nested outside (depth - 1) xs) (ends_nested outside depth xs) (x == 34) (opens x) (closes x) (depth == 0) (at_close x)
+      where
+        by_tests : EndsBy P xs (nest_len quoted depth xs) → EndsBy P xs (nest_len outside (depth + 1) xs) → EndsBy P xs (nest_len outside (depth - 1) xs) → EndsBy P xs (nest_len outside depth xs)
+            → (a b c d : Bool) → (c ≡ true → P x)
+            → EndsBy P (x ∷ xs) (1 + cond a (nest_len quoted depth xs) (cond b (nest_len outside (depth + 1) xs) (cond c (cond d 0 (nest_len outside (depth - 1) xs)) (nest_len outside depth xs))))
+        by_tests f g h k true b c d q = ends_more x xs _ f
+        by_tests f g h k false true c d q = ends_more x xs _ g
+        by_tests f g h k false false true true q = ends_one x xs (q refl)
+        by_tests f g h k false false true false q = ends_more x xs _ h
+        by_tests f g h k false false false d q = ends_more x xs _ k
+
+  ends_len : (t : List ℕ) (n : ℕ) → EndsBy P t n → n ≤ length t
+  ends_len t n (inl e) = omega arith
+  ends_len t n (inr e) = omega (arith, e.1, e.2)
+
+-- so such a place is a boundary of characters
 abbrev pub EndsWell : List ℕ → ℕ → Type 0
-EndsWell t n = (n ≡ length t) ⊎ ((k : ℕ) × (n ≡ suc k) × (k < length t) × (get_or t k 0 < 128))
-
-ends_one : (x : ℕ) (xs : List ℕ) → x < 128 → EndsWell (x ∷ xs) 1
-ends_one x xs h = inr (0, refl, omega arith, h)
-
-ends_more : (x : ℕ) (xs : List ℕ) (n : ℕ) → EndsWell xs n → EndsWell (x ∷ xs) (1 + n)
-ends_more x xs n (inl e) = inl (omega arith)
-ends_more x xs n (inr e) = inr (suc e.0, omega (arith, e.1), omega (arith, e.2), e.3)
-
-ends_string : (e : Bool) (xs : List ℕ) → EndsWell xs (span (mode_of e) xs)
-unfolding span
-ends_string true [] = inl refl
-ends_string false [] = inl refl
-ends_string true (x ∷ xs) = ends_more x xs _ (ends_string false xs)
-ends_string false (x ∷ xs) = subst (EndsWell (x ∷ xs)) (sym (span-cons x xs)) (by_tests (ends_string true xs) (ends_string false xs) (x == 34) (x == 92) (eqb-true x 34))
-  where
-    by_tests : EndsWell xs (span in_escape xs) → EndsWell xs (span in_string xs) → (a b : Bool) → (a ≡ true → x ≡ 34) → EndsWell (x ∷ xs) (cond a 1 (cond b (1 + span in_escape xs) (1 + span in_string xs)))
-    by_tests after_escape after_plain true b q = ends_one x xs (let e = q refl in omega arith)
-    by_tests after_escape after_plain false true q = ends_more x xs _ after_escape
-    by_tests after_escape after_plain false false q = ends_more x xs _ after_plain
+EndsWell = EndsBy (λ x. x < 128)
 
 closes_ascii : (x : ℕ) → closes x ≡ true → x < 128
 closes_ascii x h = grind (arith, h, common_steps)
 
-ends_nested : (m : Scan) (depth : ℕ) (xs : List ℕ) → EndsWell xs (nest_len m depth xs)
-unfolding nest_len
-ends_nested outside depth [] = inl refl
-ends_nested quoted depth [] = inl refl
-ends_nested escaped depth [] = inl refl
-ends_nested escaped depth (x ∷ xs) = ends_more x xs _ (ends_nested quoted depth xs)
-ends_nested quoted depth (x ∷ xs) = by_tests (ends_nested outside depth xs) (ends_nested escaped depth xs) (ends_nested quoted depth xs) (x == 34) (x == 92)
-  where
-    by_tests : EndsWell xs (nest_len outside depth xs) → EndsWell xs (nest_len escaped depth xs) → EndsWell xs (nest_len quoted depth xs) → (a b : Bool)
-        → EndsWell (x ∷ xs) (1 + cond a (nest_len outside depth xs) (cond b (nest_len escaped depth xs) (nest_len quoted depth xs)))
-    by_tests f g h true b = ends_more x xs _ f
-    by_tests f g h false true = ends_more x xs _ g
-    by_tests f g h false false = ends_more x xs _ h
-ends_nested outside depth (x ∷ xs) =
-    by_tests (ends_nested quoted depth xs) (ends_nested outside (depth + 1) xs) (ends_nested outside (depth - 1) xs) (ends_nested outside depth xs) (x == 34) (opens x) (closes x) (depth == 0) (closes_ascii x)
-  where
-    by_tests : EndsWell xs (nest_len quoted depth xs) → EndsWell xs (nest_len outside (depth + 1) xs) → EndsWell xs (nest_len outside (depth - 1) xs) → EndsWell xs (nest_len outside depth xs)
-        → (a b c d : Bool) → (c ≡ true → x < 128)
-        → EndsWell (x ∷ xs) (1 + cond a (nest_len quoted depth xs) (cond b (nest_len outside (depth + 1) xs) (cond c (cond d 0 (nest_len outside (depth - 1) xs)) (nest_len outside depth xs))))
-    by_tests f g h k true b c d q = ends_more x xs _ f
-    by_tests f g h k false true c d q = ends_more x xs _ g
-    by_tests f g h k false false true true q = ends_one x xs (q refl)
-    by_tests f g h k false false true false q = ends_more x xs _ h
-    by_tests f g h k false false false d q = ends_more x xs _ k
+quote_ascii : 34 < 128
+quote_ascii = omega arith
 
-ends_len : (t : List ℕ) (n : ℕ) → EndsWell t n → n ≤ length t
-ends_len t n (inl e) = omega arith
-ends_len t n (inr e) = omega (arith, e.1, e.2)
+well_string : (xs : List ℕ) → EndsWell xs (span in_string xs)
+well_string xs = ends_string (λ x. x < 128) quote_ascii closes_ascii false xs
+
+well_nested : (xs : List ℕ) → EndsWell xs (nest_len outside 0 xs)
+well_nested xs = ends_nested (λ x. x < 128) quote_ascii closes_ascii outside 0 xs
 
 pub span_le : (xs : List ℕ) → span in_string xs ≤ length xs
-span_le xs = ends_len xs (span in_string xs) (ends_string false xs)
+span_le xs = ends_len (λ x. x < 128) xs (span in_string xs) (well_string xs)
 
 prefix_len_le : (p : ℕ → Bool) (t : List ℕ) → prefix_len p t ≤ length t
 prefix_len_le p [] = omega arith
@@ -148,11 +164,11 @@ ends_boundary t n u (inr e) =
 
 pub string_boundary : (t : List ℕ) → IsUtf8 t → 0 < length t → IsCharBoundary t (1 + span in_string (drop 1 t))
 string_boundary [] u h = let no : ⊥ = omega arith in absurd no
-string_boundary (x ∷ xs) u h = ends_boundary (x ∷ xs) _ u (ends_more x xs _ (ends_string false xs))
+string_boundary (x ∷ xs) u h = ends_boundary (x ∷ xs) _ u (ends_more (λ x. x < 128) x xs _ (well_string xs))
 
 pub nested_boundary : (t : List ℕ) → IsUtf8 t → 0 < length t → IsCharBoundary t (1 + nest_len outside 0 (drop 1 t))
 nested_boundary [] u h = let no : ⊥ = omega arith in absurd no
-nested_boundary (x ∷ xs) u h = ends_boundary (x ∷ xs) _ u (ends_more x xs _ (ends_nested outside 0 xs))
+nested_boundary (x ∷ xs) u h = ends_boundary (x ∷ xs) _ u (ends_more (λ x. x < 128) x xs _ (well_nested xs))
 
 pub value_len-at : (t : List ℕ) → 0 < length t → value_len t ≡ cond (get_or t 0 0 == 34) (1 + span in_string (drop 1 t)) (cond (opens (get_or t 0 0)) (1 + nest_len outside 0 (drop 1 t)) (prefix_len is_word_byte t))
 unfolding value_len
@@ -194,7 +210,7 @@ from_and_then f (Some x) y e = (x, refl, e)
 value_len_le : (t : List ℕ) → value_len t ≤ length t
 unfolding value_len
 value_len_le [] = omega arith
-value_len_le (x ∷ xs) = by_tests (x == 34) (opens x) (ends_len _ _ (ends_string false xs)) (ends_len _ _ (ends_nested outside 0 xs)) (prefix_len_le is_word_byte (x ∷ xs))
+value_len_le (x ∷ xs) = by_tests (x == 34) (opens x) (ends_len (λ x. x < 128) _ _ (well_string xs)) (ends_len (λ x. x < 128) _ _ (well_nested xs)) (prefix_len_le is_word_byte (x ∷ xs))
   where
     by_tests : (a b : Bool) → span in_string xs ≤ length xs → nest_len outside 0 xs ≤ length xs → prefix_len is_word_byte (x ∷ xs) ≤ length (x ∷ xs)
         → cond a (1 + span in_string xs) (cond b (1 + nest_len outside 0 xs) (prefix_len is_word_byte (x ∷ xs))) ≤ length (x ∷ xs)

@@ -1,80 +1,82 @@
--- The messages are slices of the document, in order.
-use Rattle.std.proofs.Common.{◌≡◌, ℕ, zero, suc, ◌+◌, ◌-◌, inl, inr, Bool, true, false, cond, ◌==◌, List, [], ◌∷◌, ◌++◌, length, take, drop, Option, Some, None, option_and_then, refl, sym, ap, ◌∙◌, subst, arith}
-use Rattle.std.proofs.lemmas.Bool.{eqb-true}
-use Rattle.std.proofs.lemmas.List.{append_assoc, take-append-drop, length-append, take_at}
+-- What stands round the values of a text: no value's text ends with white space, and white space alone stands behind the last one.
+use Rattle.std.proofs.Common.{◌≡◌, ℕ, suc, ◌+◌, ◌<◌, ◌≤◌, inl, inr, Bool, true, false, cond, ◌||◌, ◌==◌, List, [], ◌∷◌, ◌++◌, length, take, get_or, refl, sym, ap, ◌∙◌, subst, arith}
+use Rattle.std.proofs.Math.Seq.{get_or-append_seam}
+use Rattle.std.proofs.lemmas.Bool.{false≢true}
+use Rattle.std.proofs.lemmas.List.{append-nil, append_assoc, length-append, length-drop}
+use Rattle.std.proofs.lemmas.List.Sums.{prefix_len_passes}
 use Rattle.std.specs.List.{prefix_len}
-use Rattle.json.specs.Word.{is_space}
-use Rattle.bx_cut.specs.Cut.{past_blank, past_byte, after_first, begins_with, Member, split_value, value_len, after_key, with_value, split_member, first_and_more, then_more, separated, listed}
-use Rattle.bx_cut.specs.Laws.{IsBlank, StandsIn, GoesOnIn, LieIn}
-use Rattle.bx_cut.specs.Pieces.{Object, closed, split_object, pieces_of, pieces, only}
-use Rattle.bx_cut.proofs.Bytes.{blanks, split_blanks}
-use Rattle.bx_cut.proofs.Reach.{some_same, from_cond_none, from_cond_some, from_map, from_and_then}
+use Rattle.std.specs.Prelude.{not}
+use Rattle.json.specs.Align.{span}
+use Rattle.json.specs.Token.{Token, begin_object, end_object, begin_array, end_array, key, string, number, boolean, null, bad}
+use Rattle.json.specs.Text.{content, plain}
+use Rattle.json.specs.Word.{is_operator, is_space, word}
+use Rattle.json.specs.Lex.{Lexeme, token, comma, colon, Class, between, in_word, in_string, lex_byte, lex, string_token, Place, fresh, after_value, after_comma, after_key, begins_colon, may_begin, may_close, if_allowed, place_token, punctuate}
+use Rattle.serde_json.specs.Data.{Items, item}
+use Rattle.bx_cut.specs.Cut.{past_blank, is_word_byte, outside, closes, opens, nest_len, value_len}
+use Rattle.bx_cut.specs.Laws.{BeginsBare, EndsBare, IsBare, IsBlank, IsShut, StandsIn, GoesOnIn, AreObjectsOf}
+use Rattle.bx_cut.specs.Pieces.{Object}
+use Rattle.bx_cut.proofs.Bytes.{byte_cases, space_cases, BeginsFull, past-full, past-lex, blanks, split_blanks}
+use Rattle.bx_cut.proofs.Reach.{EndsBy, ends_more, ends_string, ends_nested}
+use Rattle.bx_cut.proofs.Values.{Fits, Text}
 
--- what is left of a text is its back
-pub record Back (r t : List ℕ) : Type 0 where
-  pub front : List ℕ
-  pub at : t ≡ front ++ r
+-- ---- a value's text ends with no white space
 
-whole_back : (t : List ℕ) → Back t t
-whole_back t = record { front = []; at = refl }
+abbrev NoSpace : ℕ → Type 0
+NoSpace x = is_space x ≡ false
 
-back_of : (r s t : List ℕ) → Back r s → Back s t → Back r t
-back_of r s t p q = record { front = q.front ++ p.front; at = q.at ∙ ap (λ (x : List ℕ). q.front ++ x) p.at ∙ sym (append_assoc q.front p.front r) }
+closes_full : (x : ℕ) → closes x ≡ true → NoSpace x
+closes_full x h = by_test (is_space x) refl
+  where
+    by_test : (b : Bool) → is_space x ≡ b → is_space x ≡ false
+    by_test false e = e
+    by_test true e = absurd (space_cases (λ (y : ℕ). closes y ≡ true → ⊥) (λ c. false≢true c) (λ c. false≢true c) (λ c. false≢true c) (λ c. false≢true c) x e h)
 
-drop_back : (n : ℕ) (t : List ℕ) → Back (drop n t) t
-drop_back n t = record { front = take n t; at = sym (take-append-drop n t) }
+word_full : (x : ℕ) → is_word_byte x ≡ true → NoSpace x
+word_full x h = by_tests (is_operator x) (is_space x) h
+  where
+    by_tests : (a b : Bool) → not (a || b) ≡ true → b ≡ false
+    by_tests true b e = absurd (false≢true e)
+    by_tests false true e = absurd (false≢true e)
+    by_tests false false e = refl
 
-same_back : (r s t : List ℕ) → r ≡ s → Back s t → Back r t
-same_back r s t e p = subst (λ (x : List ℕ). Back x t) (sym e) p
+-- where a value ends within a text, the byte before its end is no white space
+value_ends : (t : List ℕ) (k : ℕ) → value_len t ≡ suc k → suc k < length t → NoSpace (get_or t k 0)
+unfolding value_len
+value_ends [] k e h = let no : ⊥ = omega (arith, h) in absurd no
+value_ends (x ∷ xs) k e h = by_tests (x == 34) (opens x) (ends_more NoSpace x xs _ (ends_string NoSpace refl closes_full false xs)) (ends_more NoSpace x xs _ (ends_nested NoSpace refl closes_full outside 0 xs)) e
+  where
+    ended : (n : ℕ) → n ≡ suc k → EndsBy NoSpace (x ∷ xs) n → NoSpace (get_or (x ∷ xs) k 0)
+    ended n e (inl f) = let no : ⊥ = omega (arith, e, f, h) in absurd no
+    ended n e (inr f) = let same : f.0 ≡ k = omega (arith, e, f.1) in subst (λ (i : ℕ). NoSpace (get_or (x ∷ xs) i 0)) same f.3
 
-first_is : (b : ℕ) (t r : List ℕ) → Some r ≡ after_first b t → t ≡ b ∷ r
-unfolding after_first
-first_is b [] r e = cc
-first_is b (x ∷ xs) r e =
-    let c = from_cond_some r (x == b) (Some xs) e in
-    ap (λ (y : ℕ). y ∷ xs) (eqb-true x b c.0) ∙ ap (λ (l : List ℕ). b ∷ l) (sym (some_same r xs c.1))
+    by_tests : (a b : Bool) → EndsBy NoSpace (x ∷ xs) (1 + span in_string xs) → EndsBy NoSpace (x ∷ xs) (1 + nest_len outside 0 xs)
+        → cond a (1 + span in_string xs) (cond b (1 + nest_len outside 0 xs) (prefix_len is_word_byte (x ∷ xs))) ≡ suc k → NoSpace (get_or (x ∷ xs) k 0)
+    by_tests true b f g e = ended (1 + span in_string xs) e f
+    by_tests false true f g e = ended (1 + nest_len outside 0 xs) e g
+    by_tests false false f g e = word_full (get_or (x ∷ xs) k 0) (prefix_len_passes is_word_byte (x ∷ xs) k 0 (omega (arith, e)))
 
-first_back : (b : ℕ) (t r : List ℕ) → Some r ≡ after_first b t → Back r t
-first_back b t r e = record { front = b ∷ []; at = first_is b t r e }
+comma_fits : Fits (44 ∷ [])
+unfolding lex
+comma_fits = (refl, refl)
 
-byte_back : (b : ℕ) (t r : List ℕ) → Some r ≡ past_byte b t → Back r t
-byte_back b t r e = back_of r (past_blank t) t (first_back b (past_blank t) r e) (drop_back (prefix_len is_space t) t)
+text_ends : (v : List ℕ) (ts : List Token) → Text v ts → EndsBare v
+text_ends v ts x front last same =
+    let whole : v ++ (44 ∷ []) ≡ front ++ (last ∷ (44 ∷ [])) = ap (λ (t : List ℕ). t ++ (44 ∷ [])) same ∙ append_assoc front (last ∷ []) (44 ∷ []) in
+    let long : length v ≡ suc (length front) = omega (arith, ap length same, length-append front (last ∷ [])) in
+    let ends : value_len (v ++ (44 ∷ [])) ≡ suc (length front) = x.long (44 ∷ []) comma_fits ∙ long in
+    let inside : suc (length front) < length (v ++ (44 ∷ [])) = omega (arith, long, length-append v (44 ∷ [])) in
+    let at : get_or (v ++ (44 ∷ [])) (length front) 0 ≡ last = ap (λ (t : List ℕ). get_or t (length front) 0) whole ∙ get_or-append_seam front last (44 ∷ []) 0 in
+    subst NoSpace at (value_ends (v ++ (44 ∷ [])) (length front) ends inside)
 
-value_back : (t : List ℕ) (p : List ℕ × List ℕ) → Some p ≡ split_value t → Back p.1 t
-unfolding split_value
-value_back t p e =
-    let u = past_blank t in
-    let n = value_len u in
-    let parts : List ℕ × List ℕ = (take n u, drop n u) in
-    let c = from_cond_none p (n == 0) (Some parts) e in
-    back_of p.1 u t (same_back p.1 (drop n u) u (ap (λ (q : List ℕ × List ℕ). q.1) (some_same p parts c.1)) (drop_back n u)) (drop_back (prefix_len is_space t) t)
+text_begins : (v : List ℕ) (ts : List Token) → Text v ts → BeginsBare v
+text_begins v ts x = ap past_blank (sym (append-nil v)) ∙ x.full [] ∙ append-nil v
 
-member_back : (t : List ℕ) (p : Member × List ℕ) → Some p ≡ split_member t → Back p.1 t
-unfolding split_member
-member_back t p e =
-    let key = from_and_then after_key (split_value t) p e in
-    let then_value = λ (r : List ℕ). with_value key.0.0 (split_value r) in
-    let quoted = from_cond_some p (begins_with 34 key.0.0) (option_and_then then_value (past_byte 58 key.0.1)) key.2 in
-    let colon = from_and_then then_value (past_byte 58 key.0.1) p quoted.1 in
-    let value = from_map (λ (q : List ℕ × List ℕ). ((key.0.0, q.0), q.1)) (split_value colon.0) p colon.2 in
-    let last = same_back p.1 value.0.1 colon.0 (ap (λ (q : Member × List ℕ). q.1) value.2) (value_back colon.0 value.0 value.1) in
-    back_of p.1 colon.0 t last (back_of colon.0 key.0.1 t (byte_back 58 key.0.1 colon.0 colon.1) (value_back t key.0 key.1))
+pub text_bare : (v : List ℕ) (ts : List Token) → Text v ts → IsBare v
+text_bare v ts x = (text_begins v ts x, text_ends v ts x)
 
-module _ {A : Type 0} (split : List ℕ → Option (A × List ℕ)) (backs : (t : List ℕ) (p : A × List ℕ) → Some p ≡ split t → Back p.1 t) where
-  then_back : (n : ℕ) (t : List ℕ) (o : Option (List ℕ)) → ((r : List ℕ) → Some r ≡ o → Back r t) → ((r : List ℕ) → Back (separated split n r).1 r) → Back (then_more split (separated split n) t o).1 t
-  then_back n t None h k = whole_back t
-  then_back n t (Some r) h k = back_of (separated split n r).1 r t (k r) (h r refl)
+-- ---- white space
 
-  separated_back : (n : ℕ) (t : List ℕ) → Back (separated split n t).1 t
-  unfolding separated
-  separated_back zero t = whole_back t
-  separated_back (suc n) t = go (split t) refl (λ r. separated_back n r)
-    where
-      go : (o : Option (A × List ℕ)) → o ≡ split t → ((r : List ℕ) → Back (separated split n r).1 r) → Back (first_and_more split (separated split n) t o).1 t
-      go None e ih = whole_back t
-      go (Some p) e ih = back_of _ p.1 t (then_back n p.1 (past_byte 44 p.1) (λ r h. byte_back 44 p.1 r h) ih) (backs t p e)
-
-blanks_blank : (t : List ℕ) → IsBlank (blanks t)
+pub blanks_blank : (t : List ℕ) → IsBlank (blanks t)
 blanks_blank [] = refl
 blanks_blank (x ∷ xs) = by_test (is_space x) refl (blanks_blank xs)
   where
@@ -86,44 +88,64 @@ blanks_blank (x ∷ xs) = by_test (is_space x) refl (blanks_blank xs)
         subst (λ (k : ℕ). IsBlank (take k (x ∷ xs))) n both
     by_test false e h = refl
 
-object_at : (t : List ℕ) (p : Object × List ℕ) → Some p ≡ split_object t → past_blank t ≡ p.0.0 ++ p.1
-unfolding split_object
-object_at t p e =
-    let u = past_blank t in
-    let inside = from_and_then (λ (i : List ℕ). closed u (listed split_member i)) (after_first 123 u) p e in
-    let ms = listed split_member inside.0 in
-    let rest = from_map (λ (r : List ℕ). ((take (length u - length r) u, ms.0), r)) (past_byte 125 ms.1) p inside.2 in
-    let left : Back rest.0 u = back_of rest.0 ms.1 u (byte_back 125 ms.1 rest.0 rest.1) (back_of ms.1 inside.0 u (separated_back split_member member_back (length inside.0) inside.0) (first_back 123 u inside.0 inside.1)) in
-    let long : length left.front ≡ length u - length rest.0 = omega (arith, ap length left.at, length-append left.front rest.0) in
-    let text : take (length u - length rest.0) u ≡ left.front = ap (take (length u - length rest.0)) left.at ∙ take_at left.front rest.0 (length u - length rest.0) long in
-    left.at ∙ ap (λ (x : List ℕ). x ++ rest.0) (sym text) ∙ sym (ap (λ (q : Object × List ℕ). q.0.0 ++ q.1) rest.2)
-
-to_goes : (os : List Object) (t w r : List ℕ) → t ≡ w ++ (44 ∷ r) → IsBlank w → StandsIn os r → GoesOnIn os t
-to_goes [] t w r e b s = tt
-to_goes (o ∷ os) t w r e b s = (w, r, e, b, s.0, s.1, s.2, s.3, s.4)
-
-then_stands : (n : ℕ) (t : List ℕ) (o : Option (List ℕ)) → o ≡ past_byte 44 t → ((r : List ℕ) → StandsIn (separated split_object n r).0 r) → GoesOnIn (then_more split_object (separated split_object n) t o).0 t
-then_stands n t None e h = tt
-then_stands n t (Some r) e h =
-    to_goes (separated split_object n r).0 t (blanks t) r (split_blanks t ∙ ap (λ (x : List ℕ). blanks t ++ x) (first_is 44 (past_blank t) r e)) (blanks_blank t) (h r)
-
-stands : (n : ℕ) (t : List ℕ) → StandsIn (separated split_object n t).0 t
-unfolding separated
-stands zero t = tt
-stands (suc n) t = go (split_object t) refl (λ r. stands n r)
+prefix_le : (t : List ℕ) → prefix_len is_space t ≤ length t
+prefix_le [] = omega arith
+prefix_le (x ∷ xs) = by_test (is_space x) (prefix_le xs)
   where
-    go : (o : Option (Object × List ℕ)) → o ≡ split_object t → ((r : List ℕ) → StandsIn (separated split_object n r).0 r) → StandsIn (first_and_more split_object (separated split_object n) t o).0 t
-    go None e ih = tt
-    go (Some p) e ih =
-        (blanks t, p.1, split_blanks t ∙ ap (λ (x : List ℕ). blanks t ++ x) (object_at t p e), blanks_blank t, then_stands n p.1 (past_byte 44 p.1) refl ih)
+    by_test : (b : Bool) → prefix_len is_space xs ≤ length xs → cond b (1 + prefix_len is_space xs) 0 ≤ length (x ∷ xs)
+    by_test true h = omega arith
+    by_test false h = omega arith
 
-only_stands : (t : List ℕ) (o : Option (Object × List ℕ)) → o ≡ split_object t → StandsIn (only o) t
-only_stands t None e = tt
-only_stands t (Some p) e = (blanks t, p.1, split_blanks t ∙ ap (λ (x : List ℕ). blanks t ++ x) (object_at t p e), blanks_blank t, tt)
+past_nothing : (t : List ℕ) → past_blank t ≡ [] → IsBlank t
+past_nothing t e = omega (arith, ap length e, length-drop (prefix_len is_space t) t, prefix_le t)
 
-pub pieces_lie : (text : List ℕ) → LieIn (pieces text) text
-pieces_lie text = go (past_byte 91 text) refl
+-- ---- a text without tokens is white space
+
+allowed : (b : Bool) (t : Token) (k : Place → List Token) (next : Place) → if_allowed b t k next ≡ [] → ⊥
+allowed true t k next e = cc
+allowed false t k next e = cc
+
+placed : (p : Place) (t : Token) (c : Bool) (k : Place → List Token) → place_token p t c k ≡ [] → ⊥
+placed p begin_object c k e = allowed (may_begin p) begin_object k fresh e
+placed p end_object c k e = allowed (may_close p) end_object k after_value e
+placed p begin_array c k e = allowed (may_begin p) begin_array k fresh e
+placed p end_array c k e = allowed (may_close p) end_array k after_value e
+placed p (key s) c k e = cc
+placed p (string s) true k e = allowed (may_begin p) (key s) k after_key e
+placed p (string s) false k e = allowed (may_begin p) (string s) k after_value e
+placed p (number s) c k e = allowed (may_begin p) (number s) k after_value e
+placed p (boolean b) c k e = allowed (may_begin p) (boolean b) k after_value e
+placed p null c k e = allowed (may_begin p) null k after_value e
+placed p bad c k e = cc
+
+after_a_comma : (ls : List Lexeme) → punctuate after_comma ls ≡ [] → ⊥
+unfolding punctuate
+after_a_comma [] e = cc
+after_a_comma (token t ∷ ls) e = placed after_comma t (begins_colon ls) (λ next. punctuate next ls) e
+after_a_comma (comma ∷ ls) e = cc
+after_a_comma (colon ∷ ls) e = cc
+
+pub nothing_left : (t : List ℕ) → punctuate after_value (lex between t) ≡ [] → IsBlank t
+unfolding lex punctuate
+nothing_left t h = go (past_blank t) refl (past-full t) (sym (ap (punctuate after_value) (past-lex t)) ∙ h)
   where
-    go : (o : Option (List ℕ)) → o ≡ past_byte 91 text → LieIn (pieces_of text o) text
-    go None e = inr (only_stands text (split_object text) refl)
-    go (Some r) e = inl (blanks text, r, split_blanks text ∙ ap (λ (x : List ℕ). blanks text ++ x) (first_is 91 (past_blank text) r e), blanks_blank text, stands (length r) r)
+    go : (u : List ℕ) → past_blank t ≡ u → BeginsFull u → punctuate after_value (lex between u) ≡ [] → IsBlank t
+    go [] e f n = past_nothing t e
+    go (x ∷ xs) e f n =
+        absurd (byte_cases (λ (y : ℕ). punctuate after_value (lex between (y ∷ xs)) ≡ [] → ⊥)
+        (λ m. placed after_value (string_token (content plain xs)) (begins_colon (lex in_string xs)) (λ next. punctuate next (lex in_string xs)) m) (λ m. cc) (λ m. cc) (λ m. cc) (λ m. cc) (λ m. cc) (λ m. cc)
+        (λ m. after_a_comma (lex between xs) m)
+        (λ y o. subst (λ (c : Class). punctuate after_value (lex_byte between c y xs (λ m. lex m xs)) ≡ [] → ⊥) (sym o.class_is) (λ m. placed after_value (word (y ∷ xs)) (begins_colon (lex in_word xs)) (λ next. punctuate next (lex in_word xs)) m))
+        x f n)
+
+-- ---- where the messages stand
+
+pub shut_at : (t xs : List ℕ) → past_blank t ≡ 93 ∷ xs → punctuate after_value (lex between xs) ≡ [] → IsShut t
+shut_at t xs e h = (blanks t, xs, split_blanks t ∙ ap (λ (x : List ℕ). blanks t ++ x) e, blanks_blank t, nothing_left xs h)
+
+pub stands_at : (o : Object) (os : List Object) (t r : List ℕ) → past_blank t ≡ o.0 ++ r → GoesOnIn os r → StandsIn (o ∷ os) t
+stands_at o os t r e h = (blanks t, r, split_blanks t ∙ ap (λ (x : List ℕ). blanks t ++ x) e, blanks_blank t, h)
+
+pub goes_on_at : (os : List Object) (d : _) (ds : Items) → AreObjectsOf os (item d ds) → (t r : List ℕ) → past_blank t ≡ 44 ∷ r → StandsIn os r → GoesOnIn os t
+goes_on_at [] d ds a t r e s = absurd a
+goes_on_at (o ∷ os) d ds a t r e s = (blanks t, r, split_blanks t ∙ ap (λ (x : List ℕ). blanks t ++ x) e, blanks_blank t, s.0, s.1, s.2, s.3, s.4)

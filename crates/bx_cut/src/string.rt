@@ -7,7 +7,7 @@ ghost use Rattle.json.specs.Run.{is_plain};
 ghost use Rattle.serde_json.specs.Data.{Data};
 ghost use Rattle.serde_json.specs.Find.{as_str};
 ghost use Rattle.serde_json.specs.Read.{read};
-ghost use Rattle.bx_cut.specs.Laws.{IsBare};
+ghost use Rattle.bx_cut.specs.Laws.{BeginsBare};
 ghost use Rattle.bx_cut.specs.Strings.{spelled, IsPart, Unescapes};
 
 use crate::scan::{after_first, begins_with, plain_len};
@@ -133,7 +133,7 @@ fn without<'a>(text: &'a [u8], front: &[u8]) -> Option<&'a [u8]>
 /// Whether the JSON value is the string that spells `text`. It takes no memory.
 pub fn spells(value: &str, text: &str) -> bool
     ensures value { IsTrue result ↔ (spelled value.now ≡ Some text.now) }
-    ensures reads { (d : Data) → read value.now ≡ Some d → IsBare value.now
+    ensures reads { (d : Data) → read value.now ≡ Some d → BeginsBare value.now
         → IsTrue result ↔ (as_str d ≡ Some text.now) }
 {
     let Some(mut rest) = after_first(value, b'"') else {
@@ -163,7 +163,7 @@ pub fn spells(value: &str, text: &str) -> bool
 /// The unescaped text of a JSON value that is a string, and none of any other.
 pub fn text_of(alloc: Global, value: &str) -> Result<Option<String>, AllocError>
     ensures value { IfOk result (λ text. option_map string_bytes text ≡ spelled value.now) }
-    ensures reads { IfOk result (λ text. (d : Data) → read value.now ≡ Some d → IsBare value.now
+    ensures reads { IfOk result (λ text. (d : Data) → read value.now ≡ Some d → BeginsBare value.now
         → option_map string_bytes text ≡ as_str d) }
 {
     let mut text = String::new(alloc);

@@ -5,8 +5,7 @@ use Rattle.bx_cut.specs.Faults.{fault, value_fault}
 use Rattle.bx_cut.specs.declared.error.CutError.{CutError}
 use Rattle.bx_cut.specs.declared.error.CutError.TheVariants.{Memory}
 use Rattle.bx_cut.proofs.Checks.{fault-text, fault-no_text}
-use Rattle.bx_cut.proofs.Laws.{pieces_read}
-use Rattle.bx_cut.proofs.Slices.{pieces_lie}
+use Rattle.bx_cut.proofs.Laws.{pieces_read, pieces_lie}
 use Rattle.bx_cut.specs.Laws.{ArePiecesOf, LieIn}
 use Rattle.bx_cut.specs.Pieces.{Object}
 use Rattle.bx_cut.proofs.document.Document.read.Goals as goal
@@ -32,9 +31,9 @@ pub returns-clause-reads : goal.returns-clause-reads
 returns-clause-reads c d e =
     let text = c.in-Ok.text.now in
     let same = c.in-Ok.ensures.cases.0 in
-    subst (λ (l : List Object). ArePiecesOf l d) (sym c.in_ok-cut.ensures) (pieces_read text d (ap read same ∙ e) c.in_ok-check.ensures.ok)
+    subst (λ (l : List Object). ArePiecesOf l d) (sym c.in_ok-cut.ensures) (pieces_read text d (ap read same ∙ e) c.in_ok-check.ensures.ok).0
 
 pub returns-clause-order : goal.returns-clause-order
 returns-clause-order c =
     let text = c.in-Ok.text.now in
-    subst (λ (t : List ℕ). LieIn c.in_ok-cut.field-0.items t) c.in-Ok.ensures.cases.0 (subst (λ (l : List Object). LieIn l text) (sym c.in_ok-cut.ensures) (pieces_lie text))
+    subst (λ (t : List ℕ). LieIn c.in_ok-cut.field-0.items t) c.in-Ok.ensures.cases.0 (subst (λ (l : List Object). LieIn l text) (sym c.in_ok-cut.ensures) (pieces_lie text c.in_ok-check.ensures.ok))
