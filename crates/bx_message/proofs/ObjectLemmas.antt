@@ -1,6 +1,6 @@
 -- Objects and arrays that are written piece by piece, and what they are when they are ended.
 use Rattle.std.proofs.Common.{◌≡◌, ℕ, ◌+◌, ◌<◌, List, [], ◌∷◌, ◌++◌, length, take, map, get_or, refl, sym, ap, ◌∙◌, arith, append_assoc}
-use Rattle.std.proofs.Common.{Bool, true, false, not, ◌&&◌, ◌||◌, ◌==◌, nat_lt, eq-eqb}
+use Rattle.std.proofs.Common.{cond, Result, Ok, Err, OnOk, is_ok, Bool, true, false, not, ◌&&◌, ◌||◌, ◌==◌, nat_lt, eq-eqb}
 use Rattle.std.proofs.lemmas.Bool.{true≢false, ltb-false}
 use Rattle.std.specs.List.{join_with_byte, list_all}
 use Rattle.json.specs.Run.{is_plain}
@@ -11,6 +11,9 @@ use Rattle.json.specs.Token.{key, string, number}
 use Rattle.json.specs.Print.{print, print_from, quoted}
 use Rattle.bx_message.specs.Objects.{OpenObject, opened, resumed, with_name, with_member, with_members, closed}
 use Rattle.bx_message.specs.Texts.{member, object}
+use Rattle.bx_advice.specs.Errors.{error_text}
+use Rattle.bx_advice.specs.declared.error.Error.{Error}
+use Rattle.bx_advice.specs.declared.error.Error.TheVariants.{UnknownMetaChannel, SecondHandshake, UnsupportedVersion, NoSupportedConnectionType, TooManySessions, NoClientId, UnknownClient, UnknownConnectionType, InvalidChannel, InvalidPattern, TooManyPatterns, SubscriptionDenied, MissingSubscription, MissingData, SupersededConnect, QueueOverflow}
 
 -- ---- one token
 
@@ -125,3 +128,31 @@ quoted_plain s e = ap (λ t. 34 ∷ (t ++ 34 ∷ [])) (escape-plain s e)
 pub plain_pushed : (out s : List ℕ) → list_all is_plain s ≡ true → ((out ++ 34 ∷ []) ++ s) ++ 34 ∷ [] ≡ out ++ quoted s
 plain_pushed out s e =
     append_assoc (out ++ 34 ∷ []) s (34 ∷ []) ∙ append_assoc out (34 ∷ []) (s ++ 34 ∷ []) ∙ ap (λ t. out ++ t) (sym (quoted_plain s e))
+
+-- ---- the texts of errors
+
+-- none of them needs an escape
+pub error_plain : (error : Error) → list_all is_plain (error_text error) ≡ true
+error_plain UnknownMetaChannel = refl
+error_plain SecondHandshake = refl
+error_plain UnsupportedVersion = refl
+error_plain NoSupportedConnectionType = refl
+error_plain TooManySessions = refl
+error_plain NoClientId = refl
+error_plain UnknownClient = refl
+error_plain UnknownConnectionType = refl
+error_plain InvalidChannel = refl
+error_plain InvalidPattern = refl
+error_plain TooManyPatterns = refl
+error_plain SubscriptionDenied = refl
+error_plain MissingSubscription = refl
+error_plain MissingData = refl
+error_plain SupersededConnect = refl
+error_plain QueueOverflow = refl
+
+-- ---- appending
+
+-- what was appended to a list, where that succeeded
+pub extended : {X E : Type 0} {now more xs : List X} (was : List X) (r : Result (Unit {0}) E) → more ≡ xs → now ≡ cond (is_ok r) (was ++ more) was → OnOk r (now ≡ was ++ xs)
+extended was (Ok u) e h = h ∙ ap (λ t. was ++ t) e
+extended was (Err x) e h = tt

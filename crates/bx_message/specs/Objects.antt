@@ -1,7 +1,9 @@
 -- A JSON object while it is written.
-use Rattle.std.specs.Prelude.{ℕ, List, [], ◌∷◌, ◌++◌, Bool, true, false, if◌then◌else◌, refl}
+use Rattle.std.specs.Prelude.{ℕ, List, [], ◌∷◌, ◌++◌, Bool, true, false, if◌then◌else◌, codes, refl}
 use Rattle.std.specs.Coded.{Coded, code_by, coded×, coded_list, coded_ℕ, coded_bool}
 use Rattle.json.specs.Print.{quoted}
+use Rattle.bx_message.specs.declared.object.Name.{Name}
+use Rattle.bx_message.specs.declared.object.Name.TheVariants.{Ack, Advice, Channel, ClientId, Data, Error, Ext, Id, Interval, Reconnect, Subscription, Successful, SupportedConnectionTypes, Timeout, Version}
 
 -- the bytes so far, and whether no member stands in the object
 pub record OpenObject : Type 0 where
@@ -41,3 +43,21 @@ with_members o (m ∷ ms) = with_members (with_member o m) ms
 -- the bytes with the object's end
 abbrev pub closed : OpenObject → List ℕ
 closed o = o.text ++ 125 ∷ []
+
+-- the text of a name
+abbrev pub name_text : Name → List ℕ
+name_text Ack = codes "ack"
+name_text Advice = codes "advice"
+name_text Channel = codes "channel"
+name_text ClientId = codes "clientId"
+name_text Data = codes "data"
+name_text Error = codes "error"
+name_text Ext = codes "ext"
+name_text Id = codes "id"
+name_text Interval = codes "interval"
+name_text Reconnect = codes "reconnect"
+name_text Subscription = codes "subscription"
+name_text Successful = codes "successful"
+name_text SupportedConnectionTypes = codes "supportedConnectionTypes"
+name_text Timeout = codes "timeout"
+name_text Version = codes "version"

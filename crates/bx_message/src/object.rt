@@ -1,15 +1,62 @@
 //! A JSON object that is written member by member.
-ghost use Rattle.std.specs.Prelude.{◌≡◌, [], ◌∷◌, ◌++◌, IfOk, decimal, true};
+ghost use Rattle.std.specs.Prelude.{◌≡◌, [], ◌∷◌, ◌++◌, IfOk, OnOk, decimal, true};
 ghost use Rattle.std.specs.List.{list_all};
 ghost use Rattle.json.specs.Run.{is_plain};
 ghost use Rattle.json.specs.Print.{quoted};
-ghost use Rattle.bx_message.specs.Objects.{opened, closed, resumed, with_name, with_member};
+ghost use Rattle.bx_message.specs.Objects.{opened, closed, resumed, with_name, with_member, name_text};
 ghost use Rattle.bx_message.specs.Texts.{member};
 
+use crate::text::Text;
 use itoa::Buffer;
 use json::Writer;
 use std::alloc::AllocError;
 use std::marker::Model;
+
+/// A member's name.
+#[derive(Clone, Copy, Debug)]
+pub enum Name {
+    Ack,
+    Advice,
+    Channel,
+    ClientId,
+    Data,
+    Error,
+    Ext,
+    Id,
+    Interval,
+    Reconnect,
+    Subscription,
+    Successful,
+    SupportedConnectionTypes,
+    Timeout,
+    Version,
+}
+
+impl Name {
+    // A comma, the name in quotation marks, and a colon.
+    #[tactic(auto, unfolding(json::specs::Print::escape_byte))]
+    fn lead(self) -> &'static str
+        ensures { result.now ≡ 44 ∷ (quoted (name_text self) ++ 58 ∷ []) }
+    {
+        match self {
+            Name::Ack => ",\"ack\":",
+            Name::Advice => ",\"advice\":",
+            Name::Channel => ",\"channel\":",
+            Name::ClientId => ",\"clientId\":",
+            Name::Data => ",\"data\":",
+            Name::Error => ",\"error\":",
+            Name::Ext => ",\"ext\":",
+            Name::Id => ",\"id\":",
+            Name::Interval => ",\"interval\":",
+            Name::Reconnect => ",\"reconnect\":",
+            Name::Subscription => ",\"subscription\":",
+            Name::Successful => ",\"successful\":",
+            Name::SupportedConnectionTypes => ",\"supportedConnectionTypes\":",
+            Name::Timeout => ",\"timeout\":",
+            Name::Version => ",\"version\":",
+        }
+    }
+}
 
 /// Writes the members of an object, with no white space, behind the text that a buffer holds.
 #[derive(Drop)]
@@ -49,111 +96,102 @@ impl ObjectWriter {
         Ok(out)
     }
 
-    /// Writes the name of the next member, which needs no escape; its value is to follow, and then
-    /// `resume`.
-    pub fn name(self, name: &str) -> Result<Vec<u8>, AllocError>
-        requires { list_all is_plain name.now ≡ true }
-        ensures { IfOk result (λ out. out.items ≡ with_name self name.now) }
+    /// Begins an object that is the value of the next member.
+    pub fn open(&mut self, name: Name) -> Result<(), AllocError>
+        ensures { OnOk result (self.new ≡ opened (with_name self.old (name_text name))) }
     {
-        let ObjectWriter { mut out, is_empty } = self;
-        if !is_empty {
-            out.push(b',')?;
-        }
-        push_key(out, name)
+        self.name(name)?;
+        self.out.push(b'{')?;
+        self.is_empty = true;
+        Ok(())
     }
 
-    /// Goes on behind the value of a member.
-    pub fn resume(out: Vec<u8>) -> ObjectWriter
-        ensures { result ≡ resumed out.items }
+    /// Ends an object that `open` began, and goes on behind it.
+    pub fn close(&mut self) -> Result<(), AllocError>
+        ensures { OnOk result (self.new ≡ resumed (closed self.old)) }
     {
-        ObjectWriter {
-            out,
-            is_empty: false,
-        }
+        self.out.push(b'}')?;
+        self.is_empty = false;
+        Ok(())
     }
 
     /// Adds a member whose value is the text of a JSON value.
-    pub fn raw(self, name: &str, json: &str) -> Result<ObjectWriter, AllocError>
-        requires { list_all is_plain name.now ≡ true }
-        ensures { IfOk result (λ w. w ≡ with_member self (member name.now json.now)) }
+    pub fn raw(&mut self, name: Name, json: &str) -> Result<(), AllocError>
+        ensures { OnOk result (self.new ≡ with_member self.old (member (name_text name) json.now)) }
     {
-        let mut out = self.name(name)?;
-        out.extend_from_slice(json.as_bytes())?;
-        Ok(ObjectWriter::resume(out))
+        self.name(name)?;
+        self.out.extend_from_slice(json.as_bytes())
     }
 
     /// Adds a member whose value is a text.
-    pub fn text(self, name: &str, text: &str) -> Result<ObjectWriter, AllocError>
-        requires { list_all is_plain name.now ≡ true }
-        ensures { IfOk result (λ w. w ≡ with_member self (member name.now (quoted text.now))) }
+    pub fn text(&mut self, name: Name, text: &Text) -> Result<(), AllocError>
+        ensures { OnOk result (self.new
+            ≡ with_member self.old (member (name_text name) (quoted text.now))) }
     {
-        let out = push_text(self.name(name)?, text)?;
-        Ok(ObjectWriter::resume(out))
+        self.name(name)?;
+        if text.is_plain() {
+            push_plain(&mut self.out, text.as_str())
+        } else {
+            push_escaped(&mut self.out, text.as_str())
+        }
+    }
+
+    /// Adds a member whose value is a text that needs no escape.
+    pub fn word(&mut self, name: Name, word: &str) -> Result<(), AllocError>
+        requires { list_all is_plain word.now ≡ true }
+        ensures { OnOk result (self.new
+            ≡ with_member self.old (member (name_text name) (quoted word.now))) }
+    {
+        self.name(name)?;
+        push_plain(&mut self.out, word)
     }
 
     /// Adds a member whose value is a number.
-    pub fn number(self, name: &str, n: u64) -> Result<ObjectWriter, AllocError>
-        requires { list_all is_plain name.now ≡ true }
-        ensures { IfOk result (λ w. w ≡ with_member self (member name.now (decimal n))) }
+    pub fn number(&mut self, name: Name, n: u64) -> Result<(), AllocError>
+        ensures { OnOk result (self.new ≡ with_member self.old (member (name_text name) (decimal n))) }
     {
-        let out = push_number(self.name(name)?, n)?;
-        Ok(ObjectWriter::resume(out))
+        self.name(name)?;
+        push_number(&mut self.out, n)
     }
-}
 
-fn push_key(out: Vec<u8>, name: &str) -> Result<Vec<u8>, AllocError>
-    requires { list_all is_plain name.now ≡ true }
-    ensures { IfOk result (λ text. text.items ≡ out.items ++ (quoted name.now ++ 58 ∷ [])) }
-{
-    let mut text = push_plain(out, name)?;
-    text.push(b':')?;
-    Ok(text)
-}
-
-fn push_text(out: Vec<u8>, value: &str) -> Result<Vec<u8>, AllocError>
-    ensures { IfOk result (λ text. text.items ≡ out.items ++ quoted value.now) }
-{
-    if is_plain(value) {
-        push_plain(out, value)
-    } else {
-        push_escaped(out, value)
+    // The name of the next member, whose value is to follow.
+    fn name(&mut self, name: Name) -> Result<(), AllocError>
+        ensures { OnOk result (self.new ≡ resumed (with_name self.old (name_text name))) }
+    {
+        let lead = name.lead().as_bytes();
+        if self.is_empty {
+            self.out.extend_from_slice(&lead[1..])?;
+        } else {
+            self.out.extend_from_slice(lead)?;
+        }
+        self.is_empty = false;
+        Ok(())
     }
-}
-
-// Whether a text stands for itself between quotation marks.
-fn is_plain(text: &str) -> bool
-    ensures { result ≡ list_all is_plain text.now }
-{
-    text.as_bytes()
-        .iter()
-        .all(|byte| *byte != b'"' && *byte != b'\\' && *byte >= b' ')
 }
 
 #[tactic(auto, using(crate::proofs::ObjectLemmas::plain_pushed))]
-fn push_plain(mut out: Vec<u8>, value: &str) -> Result<Vec<u8>, AllocError>
-    requires { list_all is_plain value.now ≡ true }
-    ensures { IfOk result (λ text. text.items ≡ out.items ++ quoted value.now) }
+fn push_plain(out: &mut Vec<u8>, text: &str) -> Result<(), AllocError>
+    requires { list_all is_plain text.now ≡ true }
+    ensures { OnOk result (out.new.items ≡ out.old.items ++ quoted text.now) }
 {
     out.push(b'"')?;
-    out.extend_from_slice(value.as_bytes())?;
+    out.extend_from_slice(text.as_bytes())?;
     out.push(b'"')?;
-    Ok(out)
+    Ok(())
 }
 
-// The kit's writer makes sure of its room each time that it is given a buffer, which costs more than
-// most texts.
-fn push_escaped(out: Vec<u8>, value: &str) -> Result<Vec<u8>, AllocError>
-    ensures { IfOk result (λ text. text.items ≡ out.items ++ quoted value.now) }
+// The kit's writer fills the spare room of its buffer, so it gets a buffer of its own.
+fn push_escaped(out: &mut Vec<u8>, text: &str) -> Result<(), AllocError>
+    ensures { OnOk result (out.new.items ≡ out.old.items ++ quoted text.now) }
 {
-    let mut writer = Writer::new(out);
-    writer.string(value)?;
-    Ok(writer.into_inner())
+    let mut writer = Writer::new(Vec::new(*out.allocator()));
+    writer.string(text)?;
+    out.extend_from_slice(writer.into_inner().as_slice())
 }
 
-fn push_number(mut out: Vec<u8>, n: u64) -> Result<Vec<u8>, AllocError>
-    ensures { IfOk result (λ text. text.items ≡ out.items ++ decimal n) }
+fn push_number(out: &mut Vec<u8>, n: u64) -> Result<(), AllocError>
+    ensures { OnOk result (out.new.items ≡ out.old.items ++ decimal n) }
 {
     let mut buffer = Buffer::new();
-    out.extend_from_slice(buffer.format(n).as_bytes())?;
-    Ok(out)
+    out.extend_from_slice(buffer.format(n).as_bytes())
 }

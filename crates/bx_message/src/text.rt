@@ -1,5 +1,7 @@
 //! Texts that messages, events and replies share.
 ghost use Rattle.std.specs.Prelude.{◌≡◌, IfOk, string_bytes};
+ghost use Rattle.std.specs.List.{list_all};
+ghost use Rattle.json.specs.Run.{is_plain};
 
 use std::alloc::{AllocError, Global};
 use std::marker::Model;
@@ -9,15 +11,22 @@ use std::sync::ArcStr;
 #[derive(Drop)]
 pub struct Text {
     text: ArcStr,
+    // Whether JSON writes the text as it is, between quotation marks: an event's channel is written once
+    // for each session that gets it.
+    plain: bool,
 }
 
 impl Model for Text {
-    ghost use Rattle.std.specs.Prelude.{List, ℕ};
+    ghost use Rattle.std.specs.Prelude.{◌≡◌, List, ℕ};
+    ghost use Rattle.std.specs.List.{list_all};
     ghost use Rattle.std.specs.Arc.{arc_str_bytes};
+    ghost use Rattle.json.specs.Run.{is_plain};
 
     ghost Value = { List ℕ };
 
     ghost view = { λ t. arc_str_bytes t.text };
+
+    ghost invariant = { λ t. t.plain ≡ list_all is_plain (arc_str_bytes t.text) };
 }
 
 impl Text {
@@ -25,16 +34,18 @@ impl Text {
     pub fn new(alloc: Global, text: &str) -> Result<Text, AllocError>
         ensures { IfOk result (λ t. t ≡ text.now) }
     {
+        let plain = needs_no_escape(text);
         let text = ArcStr::from_str(alloc, text)?;
-        Ok(Text { text })
+        Ok(Text { text, plain })
     }
 
     /// The text that `text` has, without a copy.
     pub fn from_string(text: String) -> Result<Text, AllocError>
         ensures { IfOk result (λ t. t ≡ string_bytes text) }
     {
+        let plain = needs_no_escape(text.as_str());
         let text = ArcStr::from_string(text)?;
-        Ok(Text { text })
+        Ok(Text { text, plain })
     }
 
     /// The text itself.
@@ -43,6 +54,22 @@ impl Text {
     {
         self.text.as_str()
     }
+
+    // Whether JSON writes the text as it is.
+    pub(crate) fn is_plain(&self) -> bool
+        ensures { result ≡ list_all is_plain self.now }
+    {
+        self.plain
+    }
+}
+
+// Whether a text has no quotation mark, no backslash and no control character.
+fn needs_no_escape(text: &str) -> bool
+    ensures { result ≡ list_all is_plain text.now }
+{
+    text.as_bytes()
+        .iter()
+        .all(|byte| *byte != b'"' && *byte != b'\\' && *byte >= b' ')
 }
 
 impl Clone for Text {
@@ -50,7 +77,10 @@ impl Clone for Text {
 
     fn clone(&self) -> Result<Text, AllocError> {
         let text = self.text.clone()?;
-        Ok(Text { text })
+        Ok(Text {
+            text,
+            plain: self.plain,
+        })
     }
 }
 

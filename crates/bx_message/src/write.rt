@@ -1,14 +1,14 @@
 //! The text of a reply, an event and a response: compact JSON, with the members of each object in
 //! ascending byte order of their names.
-ghost use Rattle.std.specs.Prelude.{◌≡◌, ◌++◌, IfOk, Some, true};
+ghost use Rattle.std.specs.Prelude.{◌≡◌, ◌++◌, IfOk, OnOk, Some, true};
 ghost use Rattle.std.specs.List.{list_all};
 ghost use Rattle.json.specs.Run.{is_plain};
-ghost use Rattle.bx_message.specs.Objects.{with_members};
+ghost use Rattle.bx_message.specs.Objects.{with_members, name_text};
 ghost use Rattle.bx_message.specs.Texts.{reply_text, event_text, body_text, item_text, reconnect_text, success_text, raw_member, text_member, number_member, advice_member, error_member, ack_member, handshake_members};
 
 use crate::column::Column;
 use crate::event::Event;
-use crate::object::ObjectWriter;
+use crate::object::{Name, ObjectWriter};
 use crate::reply::{AckReply, Item, Reply};
 use crate::text::{RawJson, Text};
 use bx_advice::{Advice, Case, Reconnect};
@@ -107,88 +107,87 @@ fn write_item(out: Vec<u8>, item: &Item) -> Result<Vec<u8>, AllocError>
 fn write_event(out: Vec<u8>, event: &Event) -> Result<Vec<u8>, AllocError>
     ensures { IfOk result (λ text. text.items ≡ out.items ++ event_text event.now) }
 {
-    let object = ObjectWriter::begin(out)?;
-    let object = object.text("channel", event.channel.as_str())?;
-    let object = object.raw("data", event.payload.as_str())?;
-    write_raw(object, "id", &event.id)?.end()
+    let mut object = ObjectWriter::begin(out)?;
+    object.text(Name::Channel, &event.channel)?;
+    object.raw(Name::Data, event.payload.as_str())?;
+    write_raw(&mut object, Name::Id, &event.id)?;
+    object.end()
 }
 
 fn write_reply(out: Vec<u8>, reply: &Reply) -> Result<Vec<u8>, AllocError>
     ensures { IfOk result (λ text. text.items ≡ out.items ++ reply_text reply.now) }
 {
-    let object = ObjectWriter::begin(out)?;
-    let object = write_advice(object, reply.advice)?;
-    let object = object.text("channel", reply.channel.as_str())?;
-    let object = write_text(object, "clientId", &reply.client)?;
-    let object = write_error(object, reply.case)?;
-    let object = write_ack(object, reply.ack)?;
-    let object = write_raw(object, "id", &reply.id)?;
-    let object = write_raw(object, "subscription", &reply.subscription)?;
-    let object = object.raw("successful", success_text(reply.case))?;
-    write_handshake(object, reply.column)?.end()
+    let mut object = ObjectWriter::begin(out)?;
+    write_advice(&mut object, reply.advice)?;
+    object.text(Name::Channel, &reply.channel)?;
+    write_text(&mut object, Name::ClientId, &reply.client)?;
+    write_error(&mut object, reply.case)?;
+    write_ack(&mut object, reply.ack)?;
+    write_raw(&mut object, Name::Id, &reply.id)?;
+    write_raw(&mut object, Name::Subscription, &reply.subscription)?;
+    object.raw(Name::Successful, success_text(reply.case))?;
+    write_handshake(&mut object, reply.column)?;
+    object.end()
 }
 
 // A member that is the sender's bytes, where there are any.
 fn write_raw(
-    object: ObjectWriter,
-    name: &str,
+    object: &mut ObjectWriter,
+    name: Name,
     json: &Option<RawJson>,
-) -> Result<ObjectWriter, AllocError>
-    requires { list_all is_plain name.now ≡ true }
-    ensures { IfOk result (λ o. o ≡ with_members object (raw_member name.now json.now)) }
+) -> Result<(), AllocError>
+    ensures { OnOk result (object.new
+        ≡ with_members object.old (raw_member (name_text name) json.now)) }
 {
     match json {
         Some(json) => object.raw(name, json.as_str()),
-        None => Ok(object),
+        None => Ok(()),
     }
 }
 
 // A member that is a text, where there is one.
-fn write_text(
-    object: ObjectWriter,
-    name: &str,
-    text: &Option<Text>,
-) -> Result<ObjectWriter, AllocError>
-    requires { list_all is_plain name.now ≡ true }
-    ensures { IfOk result (λ o. o ≡ with_members object (text_member name.now text.now)) }
+fn write_text(object: &mut ObjectWriter, name: Name, text: &Option<Text>) -> Result<(), AllocError>
+    ensures { OnOk result (object.new
+        ≡ with_members object.old (text_member (name_text name) text.now)) }
 {
     match text {
-        Some(text) => object.text(name, text.as_str()),
-        None => Ok(object),
+        Some(text) => object.text(name, text),
+        None => Ok(()),
     }
 }
 
-fn write_advice(object: ObjectWriter, advice: Option<Advice>) -> Result<ObjectWriter, AllocError>
-    ensures { IfOk result (λ o. o ≡ with_members object (advice_member advice)) }
+fn write_advice(object: &mut ObjectWriter, advice: Option<Advice>) -> Result<(), AllocError>
+    ensures { OnOk result (object.new ≡ with_members object.old (advice_member advice)) }
 {
     let Some(advice) = advice else {
-        return Ok(object);
+        return Ok(());
     };
-    let inner = ObjectWriter::begin(object.name("advice")?)?;
-    let inner = inner.number("interval", u64::from(advice.interval))?;
-    let inner = inner.text("reconnect", reconnect_text(advice.reconnect))?;
-    let inner = write_number(inner, "timeout", advice.timeout)?;
-    Ok(ObjectWriter::resume(inner.end()?))
+    object.open(Name::Advice)?;
+    object.number(Name::Interval, u64::from(advice.interval))?;
+    object.word(Name::Reconnect, reconnect_text(advice.reconnect))?;
+    write_number(object, Name::Timeout, advice.timeout)?;
+    object.close()
 }
 
 // A member that is a number, where there is one.
 fn write_number(
-    object: ObjectWriter,
-    name: &str,
+    object: &mut ObjectWriter,
+    name: Name,
     number: Option<u32>,
-) -> Result<ObjectWriter, AllocError>
-    requires { list_all is_plain name.now ≡ true }
-    ensures { IfOk result (λ o. o ≡ with_members object (number_member name.now number)) }
+) -> Result<(), AllocError>
+    ensures { OnOk result (object.new
+        ≡ with_members object.old (number_member (name_text name) number)) }
 {
     match number {
         Some(number) => object.number(name, u64::from(number)),
-        None => Ok(object),
+        None => Ok(()),
     }
 }
 
 // (Bayeux 1.0, the advice field `reconnect`.)
 fn reconnect_text(reconnect: Reconnect) -> &'static str
-    ensures { result.now ≡ reconnect_text reconnect }
+    ensures text { result.now ≡ reconnect_text reconnect }
+    ensures plain { list_all is_plain result.now ≡ true }
 {
     match reconnect {
         Reconnect::Retry => "retry",
@@ -197,12 +196,13 @@ fn reconnect_text(reconnect: Reconnect) -> &'static str
     }
 }
 
-fn write_error(object: ObjectWriter, case: Case) -> Result<ObjectWriter, AllocError>
-    ensures { IfOk result (λ o. o ≡ with_members object (error_member case)) }
+#[tactic(auto, using(crate::proofs::ObjectLemmas::error_plain))]
+fn write_error(object: &mut ObjectWriter, case: Case) -> Result<(), AllocError>
+    ensures { OnOk result (object.new ≡ with_members object.old (error_member case)) }
 {
     match case {
-        Case::Failed(error) => object.text("error", error.text()),
-        _ => Ok(object),
+        Case::Failed(error) => object.word(Name::Error, error.text()),
+        _ => Ok(()),
     }
 }
 
@@ -216,28 +216,29 @@ fn success_text(case: Case) -> &'static str
 }
 
 // (The acknowledgement extension of CometD.)
-fn write_ack(object: ObjectWriter, ack: AckReply) -> Result<ObjectWriter, AllocError>
-    ensures { IfOk result (λ o. o ≡ with_members object (ack_member ack)) }
+fn write_ack(object: &mut ObjectWriter, ack: AckReply) -> Result<(), AllocError>
+    ensures { OnOk result (object.new ≡ with_members object.old (ack_member ack)) }
 {
     match ack {
-        AckReply::NoAck => Ok(object),
-        AckReply::AckTrue => object.raw("ext", "{\"ack\":true}"),
+        AckReply::NoAck => Ok(()),
+        AckReply::AckTrue => object.raw(Name::Ext, "{\"ack\":true}"),
         AckReply::AckNumber(number) => {
-            let inner = ObjectWriter::begin(object.name("ext")?)?;
-            let inner = inner.number("ack", number)?;
-            Ok(ObjectWriter::resume(inner.end()?))
+            object.open(Name::Ext)?;
+            object.number(Name::Ack, number)?;
+            object.close()
         }
     }
 }
 
 // What every reply to a handshake carries, a refusal too.
-fn write_handshake(object: ObjectWriter, column: Column) -> Result<ObjectWriter, AllocError>
-    ensures { IfOk result (λ o. o ≡ with_members object (handshake_members column)) }
+fn write_handshake(object: &mut ObjectWriter, column: Column) -> Result<(), AllocError>
+    ensures { OnOk result (object.new ≡ with_members object.old (handshake_members column)) }
 {
     match column {
-        Column::Handshake => object
-            .raw("supportedConnectionTypes", SUPPORTED_TYPES)?
-            .text("version", VERSION),
-        _ => Ok(object),
+        Column::Handshake => {
+            object.raw(Name::SupportedConnectionTypes, SUPPORTED_TYPES)?;
+            object.word(Name::Version, VERSION)
+        }
+        _ => Ok(()),
     }
 }
