@@ -84,32 +84,42 @@ value_front (suc d) = value_with_front (λ ts. items (value d) (length ts) ts) (
 
 -- ---- a whole text
 
-pub record Whole (text : List ℕ) (d : Data) : Type 0 where
+-- a text that nests so deep at most
+pub record WholeWithin (levels : ℕ) (text : List ℕ) (d : Data) : Type 0 where
   pub json : Json
   pub tokens_are : tokens text ≡ json_tokens json
   pub data_is : of_json json ≡ Some d
   pub numbers : HasNumbers json
-  pub shallow : depth json ≤ 127
+  pub shallow : depth json ≤ levels
+
+abbrev within : ℕ → List ℕ → Option Data
+within levels text = option_and_then of_json (option_and_then (λ p. if_last p.0 p.1) (value levels (tokens text)))
 
 last : (o : Option (Json × List Token)) (j : Json) → Some j ≡ option_and_then (λ p. if_last p.0 p.1) o → Some (j, []) ≡ o
 last None j e = none_some j e
 last (Some (i, [])) j e = ap (λ (x : Json). Some (x, [])) (some_same j i e)
 last (Some (i, t ∷ ts)) j e = none_some j e
 
-pub whole : (text : List ℕ) (d : Data) → read text ≡ Some d → Whole text d
-whole text d e =
-    let outer = from_and_then of_json (option_and_then (λ p. if_last p.0 p.1) (value 127 (tokens text))) d (sym e) in
-    let found = last (value 127 (tokens text)) outer.0 outer.1 in
+pub whole_within : (levels : ℕ) (text : List ℕ) (d : Data) → within levels text ≡ Some d → WholeWithin levels text d
+whole_within levels text d e =
+    let outer = from_and_then of_json (option_and_then (λ p. if_last p.0 p.1) (value levels (tokens text))) d (sym e) in
+    let found = last (value levels (tokens text)) outer.0 outer.1 in
     record {
       json = outer.0;
-      tokens_are = value_front 127 (tokens text) (outer.0, []) found ∙ append-nil (json_tokens outer.0);
+      tokens_are = value_front levels (tokens text) (outer.0, []) found ∙ append-nil (json_tokens outer.0);
       data_is = sym outer.2;
-      numbers = value-HasNumbers 127 (tokens text) [] outer.0 (ArePrintableOrBad-tokens text) (sym found);
-      shallow = value-depth 127 (tokens text) [] outer.0 (sym found);
+      numbers = value-HasNumbers levels (tokens text) [] outer.0 (ArePrintableOrBad-tokens text) (sym found);
+      shallow = value-depth levels (tokens text) [] outer.0 (sym found);
     }
 
+pub whole : (text : List ℕ) (d : Data) → read text ≡ Some d → WholeWithin 127 text d
+whole text d e = whole_within 127 text d e
+
 -- what has the tokens of a value reads as it
-pub reads_as : (text : List ℕ) (j : Json) → tokens text ≡ json_tokens j → depth j ≤ 127 → read text ≡ of_json j
-reads_as text j e h =
-    let got : value 127 (tokens text) ≡ Some (j, []) = ap (value 127) (e ∙ sym (append-nil (json_tokens j))) ∙ value-json_tokens j 127 [] h in
+pub reads_within : (levels : ℕ) (text : List ℕ) (j : Json) → tokens text ≡ json_tokens j → depth j ≤ levels → within levels text ≡ of_json j
+reads_within levels text j e h =
+    let got : value levels (tokens text) ≡ Some (j, []) = ap (value levels) (e ∙ sym (append-nil (json_tokens j))) ∙ value-json_tokens j levels [] h in
     ap (λ (o : Option (Json × List Token)). option_and_then of_json (option_and_then (λ p. if_last p.0 p.1) o)) got
+
+pub reads_as : (text : List ℕ) (j : Json) → tokens text ≡ json_tokens j → depth j ≤ 127 → read text ≡ of_json j
+reads_as text j e h = reads_within 127 text j e h

@@ -23,3 +23,5 @@ pub mod Files
 pub mod Senders
 pub mod Closings
 pub mod Stepping
+pub mod Written
+pub mod ReadBack

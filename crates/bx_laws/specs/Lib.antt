@@ -6,3 +6,4 @@ pub mod Events
 pub mod Outs
 pub mod Shards
 pub mod Schedules
+pub mod ReadBack

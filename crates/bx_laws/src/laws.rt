@@ -4,6 +4,7 @@ ghost use Rattle.bx_laws.specs.Readings.{LiveReading, InForceReading, HeldReadin
 ghost use Rattle.bx_laws.specs.Events.{EventsWerePublished, PublishesAreEvents, EventsRise, GivenWasPublished};
 ghost use Rattle.bx_laws.specs.Outs.{OutsGrow};
 ghost use Rattle.bx_entry.specs.Keeping.{KeptSteps, KeptRuns, KeptInBounds};
+ghost use Rattle.bx_laws.specs.ReadBack.{RepliesReadBack, EventsReadBack, BodiesReadBack};
 ghost use Rattle.bx_laws.specs.Schedules.{TakesAreAnswers, AnswersAreFiled, NoneTakenTwice, ShardsStep, ShardsFile};
 
 /// What was given for good stays given for good.
@@ -164,4 +165,20 @@ pub fn shards_step()
 /// An answer that wasn't taken is filed after one more entry where it was before, or where a live session of the shard gives it.
 pub fn shards_file()
     ensures { ShardsFile }
+{}
+
+/// The text of a reply reads as an object with just the members of a reply, in ascending order of their
+/// names.
+pub fn replies_read_back()
+    ensures { RepliesReadBack }
+{}
+
+/// The text of an event reads as an object with its channel, its data and its id.
+pub fn events_read_back()
+    ensures { EventsReadBack }
+{}
+
+/// The text of a response reads as the array of what its items read as.
+pub fn bodies_read_back()
+    ensures { BodiesReadBack }
 {}
