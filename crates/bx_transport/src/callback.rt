@@ -1,0 +1,30 @@
+// The names of callbacks.
+ghost use Rattle.std.specs.Prelude.{◌≡◌};
+ghost use Rattle.std.specs.List.{list_all};
+ghost use Rattle.bx_transport.specs.Forms.{is_callback, is_callback_byte};
+
+// The name of the callback where a query has none. (This server's choice.)
+pub(crate) const DEFAULT_CALLBACK: &str = "jsonpcallback";
+
+// The longest name of a callback, in characters. (This server's choice.)
+const CALLBACK_LIMIT: usize = 256;
+
+// Whether a text is the name of a callback: what it says is written into a script as it is.
+pub(crate) fn is_callback(name: &str) -> bool
+    ensures { result ≡ is_callback name.now }
+{
+    let length = name.len();
+    (length > 0) & (length <= CALLBACK_LIMIT) & has_callback_bytes(name)
+}
+
+fn has_callback_bytes(name: &str) -> bool
+    ensures { result ≡ list_all is_callback_byte name.now }
+{
+    name.as_bytes().iter().all(|byte| is_callback_byte(*byte))
+}
+
+fn is_callback_byte(byte: u8) -> bool
+    ensures { result ≡ is_callback_byte byte }
+{
+    byte.is_ascii_alphanumeric() || matches!(byte, b'_' | b'$' | b'.' | b'-' | b'[' | b']')
+}

@@ -1,0 +1,48 @@
+ghost use Rattle.std.specs.Prelude.{◌≡◌};
+ghost use Rattle.bx_transport.specs.declared.error.TransportError.TheVariants.{Memory};
+
+use std::alloc::{AllocError, AllocFailed};
+use std::error::Error;
+use std::fmt;
+
+/// Why a body or a query is not taken. Of several faults the first named here is told.
+#[derive(Clone, Copy, Debug, PartialEq, Eq)]
+pub enum TransportError {
+    /// It has more than [`bx_advice::BODY_LIMIT`] bytes.
+    TooLarge,
+    /// The callback of a GET is no name of a script's function as this server takes them.
+    BadName,
+    /// A form or a query has no parameter `message`.
+    NoMessage,
+    /// An allocation was refused.
+    Memory,
+}
+
+impl fmt::Display for TransportError {
+    fn fmt<W: fmt::Write>(&self, f: &mut fmt::Formatter<W>) -> fmt::Result {
+        f.write_str(match self {
+            TransportError::TooLarge => "the request is too large",
+            TransportError::BadName => "the callback is no name",
+            TransportError::NoMessage => "there is no message",
+            TransportError::Memory => "out of memory",
+        })
+    }
+}
+
+impl Error for TransportError {}
+
+impl From<AllocError> for TransportError {
+    ghost from_gives = { λ _ e. e ≡ Memory };
+
+    fn from(_refused: AllocError) -> TransportError {
+        TransportError::Memory
+    }
+}
+
+impl<T: Drop> From<AllocFailed<T>> for TransportError {
+    ghost from_gives = { λ _ e. e ≡ Memory };
+
+    fn from(_refused: AllocFailed<T>) -> TransportError {
+        TransportError::Memory
+    }
+}

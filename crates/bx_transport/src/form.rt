@@ -1,0 +1,96 @@
+// Forms and queries.
+ghost use Rattle.std.specs.Prelude.{◌≡◌, ◌++◌, ◌∷◌, [], IfOk, OnOk, map, option_map, codes, string_bytes};
+ghost use Rattle.std.specs.List.{before_first};
+ghost use Rattle.std.specs.Cow.{cow_str_bytes};
+ghost use Rattle.bx_transport.specs.Forms.{ends_type, is_form, last_of, latest, text_of, values_among, values_of};
+
+use form_urlencoded::{decode, raw_pairs};
+use std::alloc::{AllocError, Global};
+use std::borrow::CowStr;
+
+// (HTML, the media type of a form.)
+const FORM_TYPE: &[u8] = b"application/x-www-form-urlencoded";
+
+// Whether the body of a request with this content type is a form.
+pub(crate) fn is_form(content_type: Option<&[u8]>) -> bool
+    ensures { result ≡ is_form (option_map (λ t. t.now) content_type.entry) }
+{
+    match content_type {
+        Some(content_type) => media_type(content_type).eq_ignore_ascii_case(FORM_TYPE),
+        None => false,
+    }
+}
+
+// What stands in front of any parameters.
+fn media_type(content_type: &[u8]) -> &[u8]
+    ensures { result.now ≡ before_first ends_type content_type.now }
+{
+    let mut end = 0;
+    while end < content_type.len() && !ends_type(content_type[end]) {
+        end += 1;
+    }
+    &content_type[..end]
+}
+
+fn ends_type(byte: u8) -> bool
+    ensures { result ≡ ends_type byte }
+{
+    matches!(byte, b';' | b' ' | b'\t')
+}
+
+// What a form or a query has for the server.
+#[derive(Drop)]
+pub(crate) struct Parameters {
+    // The values of `message`, in order.
+    pub(crate) documents: Vec<String>,
+    // The last value of `jsonp`.
+    pub(crate) callback: Option<String>,
+}
+
+// The parameters of a form or a query that the server knows. (Bayeux 1.0, long-polling and
+// callback-polling.)
+pub(crate) fn read_parameters(alloc: Global, form: &[u8]) -> Result<Parameters, AllocError>
+    ensures documents { IfOk result (λ p. map string_bytes p.documents.items
+        ≡ values_of (codes "message") form.now) }
+    ensures callback { IfOk result (λ p. option_map string_bytes p.callback
+        ≡ last_of (values_of (codes "jsonp") form.now)) }
+{
+    let mut parameters = Parameters {
+        documents: Vec::new(alloc),
+        callback: None,
+    };
+    for (name, value) in raw_pairs(form) {
+        add_parameter(alloc, &mut parameters, name, value)?;
+    }
+    Ok(parameters)
+}
+
+fn add_parameter(
+    alloc: Global,
+    parameters: &mut Parameters,
+    name: &[u8],
+    value: &[u8],
+) -> Result<(), AllocError>
+    ensures documents { OnOk result (map string_bytes parameters.new.documents.items
+        ≡ map string_bytes parameters.old.documents.items
+        ++ values_among (codes "message") ((name.now, value.now) ∷ [])) }
+    ensures callback { OnOk result (option_map string_bytes parameters.new.callback
+        ≡ latest (option_map string_bytes parameters.old.callback)
+        (values_among (codes "jsonp") ((name.now, value.now) ∷ []))) }
+{
+    let name = read_text(alloc, name)?;
+    if name.as_str() == "message" {
+        let document = read_text(alloc, value)?.into_owned(alloc)?;
+        parameters.documents.push(document)?;
+    } else if name.as_str() == "jsonp" {
+        parameters.callback = Some(read_text(alloc, value)?.into_owned(alloc)?);
+    }
+    Ok(())
+}
+
+// The text that an encoded name or value stands for.
+fn read_text(alloc: Global, encoded: &[u8]) -> Result<CowStr<'_>, AllocError>
+    ensures { IfOk result (λ text. cow_str_bytes text ≡ text_of encoded.now) }
+{
+    decode(alloc, encoded)
+}

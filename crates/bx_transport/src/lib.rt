@@ -1,0 +1,15 @@
+//! What a POST's body and a GET's query hand on, and how a response is written: as JSON, or as the call of
+//! a script's function.
+#![tactic(auto)]
+
+mod callback;
+mod error;
+mod form;
+mod request;
+mod response;
+#[cfg(test)]
+mod tests;
+
+pub use error::TransportError;
+pub use request::{read_get, read_post};
+pub use response::{callback_of, response_of};
