@@ -5,13 +5,23 @@ const MEGABYTE: usize = 1_048_576;
 
 /// A body of about 1 MB with 256 publishes.
 pub fn many(alloc: Global) -> Result<Vec<u8>, AllocError> {
+    publishes(alloc, 3_900)
+}
+
+/// One with 256 shorter publishes, which makes a form of about 1 MB.
+pub fn short(alloc: Global) -> Result<Vec<u8>, AllocError> {
+    publishes(alloc, 1_950)
+}
+
+// 256 publishes whose data has so many bytes, or a few more.
+fn publishes(alloc: Global, size: usize) -> Result<Vec<u8>, AllocError> {
     let mut body = Vec::with_capacity(alloc, MEGABYTE)?;
     body.push(b'[')?;
     for i in 0..256u32 {
         if i > 0 {
             body.push(b',')?;
         }
-        add_message(&mut body, 3_900)?;
+        add_message(&mut body, size)?;
     }
     body.push(b']')?;
     Ok(body)

@@ -2,6 +2,7 @@
 #![tactic(auto)]
 
 mod inputs;
+mod transports;
 mod workloads;
 
 use anyhow::Result;
@@ -13,7 +14,9 @@ cut-many     the same body is cut into messages and ten members of each are look
 check-one    serde_json checks a body of 1 MB with one message, 20 times
 cut-one      the same body is cut, and ten members are looked up, 20 times
 value-texts  serde_json writes an array of 100,000 replies and events from a value
-item-texts   the same array is written from replies and events";
+item-texts   the same array is written from replies and events
+take-plain   a POST's JSON is taken and cut, 20 times
+take-form    the same JSON in a form of 1 MB, 20 times";
 
 fn main(rt: HostRuntime) -> Result<()> {
     let alloc = rt.alloc();
@@ -27,6 +30,8 @@ fn main(rt: HostRuntime) -> Result<()> {
                 "cut-one" => workloads::cut(alloc, inputs::one(alloc)?.as_slice())?,
                 "value-texts" => workloads::value_texts(alloc)?,
                 "item-texts" => workloads::item_texts(alloc)?,
+                "take-plain" => transports::plain(alloc)?,
+                "take-form" => transports::form(alloc)?,
                 _ => 0,
             };
             println!(rt; "{total}")?;
