@@ -117,7 +117,7 @@ other_full y l o = at (is_operator y) (is_space y) o.word_byte
 word_long : (y : ℕ) (s z : List ℕ) → AllOther (y ∷ s) → ends_word z ≡ true → value_len (y ∷ (s ++ z)) ≡ length (y ∷ s)
 unfolding value_len
 word_long y s z a e =
-    (λ i. cond (a.0.quote_not i) (1 + span in_string (s ++ z)) (cond (a.0.opens_not i) (1 + nest_len outside 0 (s ++ z)) (prefix_len is_word_byte (y ∷ (s ++ z))))) ∙ other_len (y ∷ s) a z e
+    (λ i. cond (a.0.other.quote_not i) (1 + span in_string (s ++ z)) (cond (a.0.other.opens_not i) (1 + nest_len outside 0 (s ++ z)) (prefix_len is_word_byte (y ∷ (s ++ z))))) ∙ other_len (y ∷ s) a z e
 
 word_past : (y : ℕ) (s r xs : List ℕ) → AllOther (y ∷ s) → ends_word r ≡ true → xs ≡ s ++ r → lex in_word xs ≡ lex between r
 word_past y s r xs a e same =
@@ -137,7 +137,7 @@ word_found t k rest y s r leaf a lexes x xs e same f l =
         reads = λ b z g. ap (punctuate (start b)) (lexes z g.0) ∙ leaf b (lex between z);
         long = λ z g. word_long y s z a g.0;
         some = omega arith;
-        full = λ z. other_full y (s ++ z) a.0;
+        full = λ z. other_full y (s ++ z) a.0.other;
       };
       here = word_long y s r a f;
       left = ap (punctuate after_value) (sym (word_past y s r xs a f tail)) ∙ l;
@@ -152,14 +152,14 @@ find_number t s rest n (x, xs, e, o, w, l) = go s n (subst (WordText (x ∷ xs))
     leaf s false ls = refl
 
     go : (s' : List ℕ) → IsNumber s' → WordText (x ∷ xs) (number s') → Found t (number s' ∷ []) rest
-    go [] n (f, a) = absurd (no_word f.2)
+    go [] n (f, a, i) = absurd (no_word f.2)
       where
         no_word : ends_word f.0 ≡ true → ⊥
         no_word g = false≢true (sym (ap not (ap ends_word f.1 ∙ g)) ∙ o.word_byte)
-    go (y ∷ s') n (f, a) = word_found t (number (y ∷ s')) rest y s' f.0 (leaf (y ∷ s')) a (λ z g. lex-number (y ∷ s') z n g) x xs e f.1 f.2 l
+    go (y ∷ s') n (f, a, i) = word_found t (number (y ∷ s')) rest y s' f.0 (leaf (y ∷ s')) a (λ z g. lex-number (y ∷ s') z n g) x xs e f.1 f.2 l
 
-true_other : AllOther true_text
-true_other = (record { class_is = refl; quote_not = refl; opens_not = refl; closes_not = refl; word_byte = refl }, (record { class_is = refl; quote_not = refl; opens_not = refl; closes_not = refl; word_byte = refl }, (record { class_is = refl; quote_not = refl; opens_not = refl; closes_not = refl; word_byte = refl }, (record { class_is = refl; quote_not = refl; opens_not = refl; closes_not = refl; word_byte = refl }, tt))))
+pub true_other : AllOther true_text
+true_other = (record { low = omega arith; other = record { class_is = refl; quote_not = refl; opens_not = refl; closes_not = refl; word_byte = refl } }, (record { low = omega arith; other = record { class_is = refl; quote_not = refl; opens_not = refl; closes_not = refl; word_byte = refl } }, (record { low = omega arith; other = record { class_is = refl; quote_not = refl; opens_not = refl; closes_not = refl; word_byte = refl } }, (record { low = omega arith; other = record { class_is = refl; quote_not = refl; opens_not = refl; closes_not = refl; word_byte = refl } }, tt))))
 
 pub find_true : (t : List ℕ) (rest : List Token) → SeenWord t (boolean true) rest → Found t (boolean true ∷ []) rest
 unfolding punctuate lex word
@@ -172,8 +172,8 @@ find_true t rest (x, xs, e, o, w, l) =
     leaf true ls = refl
     leaf false ls = refl
 
-false_other : AllOther false_text
-false_other = (record { class_is = refl; quote_not = refl; opens_not = refl; closes_not = refl; word_byte = refl }, (record { class_is = refl; quote_not = refl; opens_not = refl; closes_not = refl; word_byte = refl }, (record { class_is = refl; quote_not = refl; opens_not = refl; closes_not = refl; word_byte = refl }, (record { class_is = refl; quote_not = refl; opens_not = refl; closes_not = refl; word_byte = refl }, (record { class_is = refl; quote_not = refl; opens_not = refl; closes_not = refl; word_byte = refl }, tt)))))
+pub false_other : AllOther false_text
+false_other = (record { low = omega arith; other = record { class_is = refl; quote_not = refl; opens_not = refl; closes_not = refl; word_byte = refl } }, (record { low = omega arith; other = record { class_is = refl; quote_not = refl; opens_not = refl; closes_not = refl; word_byte = refl } }, (record { low = omega arith; other = record { class_is = refl; quote_not = refl; opens_not = refl; closes_not = refl; word_byte = refl } }, (record { low = omega arith; other = record { class_is = refl; quote_not = refl; opens_not = refl; closes_not = refl; word_byte = refl } }, (record { low = omega arith; other = record { class_is = refl; quote_not = refl; opens_not = refl; closes_not = refl; word_byte = refl } }, tt)))))
 
 pub find_false : (t : List ℕ) (rest : List Token) → SeenWord t (boolean false) rest → Found t (boolean false ∷ []) rest
 unfolding punctuate lex word
@@ -186,8 +186,8 @@ find_false t rest (x, xs, e, o, w, l) =
     leaf true ls = refl
     leaf false ls = refl
 
-null_other : AllOther null_text
-null_other = (record { class_is = refl; quote_not = refl; opens_not = refl; closes_not = refl; word_byte = refl }, (record { class_is = refl; quote_not = refl; opens_not = refl; closes_not = refl; word_byte = refl }, (record { class_is = refl; quote_not = refl; opens_not = refl; closes_not = refl; word_byte = refl }, (record { class_is = refl; quote_not = refl; opens_not = refl; closes_not = refl; word_byte = refl }, tt))))
+pub null_other : AllOther null_text
+null_other = (record { low = omega arith; other = record { class_is = refl; quote_not = refl; opens_not = refl; closes_not = refl; word_byte = refl } }, (record { low = omega arith; other = record { class_is = refl; quote_not = refl; opens_not = refl; closes_not = refl; word_byte = refl } }, (record { low = omega arith; other = record { class_is = refl; quote_not = refl; opens_not = refl; closes_not = refl; word_byte = refl } }, (record { low = omega arith; other = record { class_is = refl; quote_not = refl; opens_not = refl; closes_not = refl; word_byte = refl } }, tt))))
 
 pub find_null : (t : List ℕ) (rest : List Token) → SeenWord t null rest → Found t (null ∷ []) rest
 unfolding punctuate lex word

@@ -1,6 +1,6 @@
 -- The text of a number or a literal: bytes without a meaning of their own, up to the end of the word.
-use Rattle.std.proofs.Common.{◌≡◌, ℕ, suc, ◌+◌, ◌-◌, Bool, true, false, cond, ◌&&◌, ◌||◌, ◌==◌, nat_eq, List, [], ◌∷◌, ◌++◌, length, take, drop, Option, Some, None, option_and_then, refl, sym, ap, ◌∙◌, subst, arith}
-use Rattle.std.proofs.lemmas.Bool.{true≢false, eqb-true}
+use Rattle.std.proofs.Common.{◌≡◌, ℕ, suc, ◌+◌, ◌-◌, ◌<◌, ◌≤◌, Bool, true, false, cond, ◌&&◌, ◌||◌, ◌==◌, nat_eq, List, [], ◌∷◌, ◌++◌, length, take, drop, Option, Some, None, option_and_then, refl, sym, ap, ◌∙◌, subst, arith}
+use Rattle.std.proofs.lemmas.Bool.{true≢false, eqb-true, leb-true, and_parts}
 use Rattle.std.proofs.lemmas.Bool.Decides.{Decides-eqb}
 use Rattle.std.proofs.lemmas.List.{append_assoc, take-append-drop, length-append, take_at}
 use Rattle.std.proofs.lemmas.Slice.Eq.{starts_is}
@@ -9,14 +9,21 @@ use Rattle.std.specs.List.{prefix_len, starts_with}
 use Rattle.std.specs.Prelude.{not}
 use Rattle.json.specs.Token.{Token, begin_object, end_object, begin_array, end_array, key, string, number, boolean, null, bad}
 use Rattle.json.specs.Word.{head, ends_word, after_digits, after_minus, after_sign, after_whole, after_fraction, after_exponent, after_number, number_before, literal, word}
+use Rattle.json.specs.Print.{IsNumber}
+use Rattle.json.proofs.Printed.Numbers.{number_alone}
 use Rattle.json.specs.Ascii as ascii
 use Rattle.bx_cut.specs.Cut.{outside, quoted, nest_len, is_word_byte}
 use Rattle.bx_cut.proofs.Bytes.{Other, is_other}
 use Rattle.bx_cut.proofs.Reach.{from_and_then, some_same}
 
+-- an ASCII byte without a meaning of its own
+pub record Letter (x : ℕ) : Type 0 where
+  pub other : Other x
+  pub low : x < 128
+
 abbrev pub AllOther : List ℕ → Type 0
 AllOther [] = Unit {0}
-AllOther (x ∷ xs) = Other x × AllOther xs
+AllOther (x ∷ xs) = Letter x × AllOther xs
 
 all_both : (xs ys : List ℕ) → AllOther xs → AllOther ys → AllOther (xs ++ ys)
 all_both [] ys h k = k
@@ -28,7 +35,7 @@ other_nests [] h depth z = omega arith
 other_nests (x ∷ xs) h depth z =
     let rest = xs ++ z in
     let step : nest_len outside depth (x ∷ rest) ≡ 1 + nest_len outside depth rest =
-    (λ i. 1 + cond (h.0.quote_not i) (nest_len quoted depth rest) (cond (h.0.opens_not i) (nest_len outside (depth + 1) rest) (cond (h.0.closes_not i) (cond (depth == 0) 0 (nest_len outside (depth - 1) rest)) (nest_len outside depth rest)))) in
+    (λ i. 1 + cond (h.0.other.quote_not i) (nest_len quoted depth rest) (cond (h.0.other.opens_not i) (nest_len outside (depth + 1) rest) (cond (h.0.other.closes_not i) (cond (depth == 0) 0 (nest_len outside (depth - 1) rest)) (nest_len outside depth rest)))) in
     omega (arith, step, other_nests xs h.1 depth z)
 
 ends_none : (z : List ℕ) → ends_word z ≡ true → prefix_len is_word_byte z ≡ 0
@@ -37,7 +44,7 @@ ends_none (x ∷ xs) e = ap (λ b. cond (not b) (1 + prefix_len is_word_byte xs)
 
 pub other_len : (s : List ℕ) → AllOther s → (z : List ℕ) → ends_word z ≡ true → prefix_len is_word_byte (s ++ z) ≡ length s
 other_len [] h z e = ends_none z e
-other_len (x ∷ xs) h z e = ap (λ b. cond b (1 + prefix_len is_word_byte (xs ++ z)) 0) h.0.word_byte ∙ omega (arith, other_len xs h.1 z e)
+other_len (x ∷ xs) h z e = ap (λ b. cond b (1 + prefix_len is_word_byte (xs ++ z)) 0) h.0.other.word_byte ∙ omega (arith, other_len xs h.1 z e)
 
 -- ---- what the parts of a number take
 
@@ -56,12 +63,15 @@ both t u r p q = record {
   all = all_both p.taken q.taken p.all q.all;
 }
 
-one : (c : ℕ) → Other c → (t : List ℕ) → (head t == c) ≡ true → Part t (drop 1 t)
-one c o [] h = let e : 32 ≡ c = eqb-true 32 c h in absurd (true≢false (sym (subst Other (sym e) o).word_byte))
-one c o (x ∷ xs) h = let e : x ≡ c = eqb-true x c h in record { taken = x ∷ []; at = refl; all = (subst Other (sym e) o, tt) }
+one : (c : ℕ) → Letter c → (t : List ℕ) → (head t == c) ≡ true → Part t (drop 1 t)
+one c o [] h = let e : 32 ≡ c = eqb-true 32 c h in absurd (true≢false (sym (subst Letter (sym e) o).other.word_byte))
+one c o (x ∷ xs) h = let e : x ≡ c = eqb-true x c h in record { taken = x ∷ []; at = refl; all = (subst Letter (sym e) o, tt) }
 
-digit_other : (y : ℕ) → is_ascii_digit y ≡ true → Other y
-digit_other y h = is_other y (no 34 refl) (no 92 refl) (no 123 refl) (no 125 refl) (no 91 refl) (no 93 refl) (no 58 refl) (no 44 refl) (no 32 refl) (no 9 refl) (no 10 refl) (no 13 refl)
+digit_low : (y : ℕ) → is_ascii_digit y ≡ true → y < 128
+digit_low y h = let last : y ≤ 57 = leb-true y 57 (and_parts _ _ h).1 in omega (arith, last)
+
+digit_other : (y : ℕ) → is_ascii_digit y ≡ true → Letter y
+digit_other y h = record { low = digit_low y h; other = is_other y (no 34 refl) (no 92 refl) (no 123 refl) (no 125 refl) (no 91 refl) (no 93 refl) (no 58 refl) (no 44 refl) (no 32 refl) (no 9 refl) (no 10 refl) (no 13 refl) }
   where
     no : (n : ℕ) → is_ascii_digit n ≡ false → y ≡ n → ⊥
     no n f e = true≢false (sym h ∙ ap is_ascii_digit e ∙ f)
@@ -88,8 +98,8 @@ digits t r e = by_test (prefix_len is_ascii_digit t == 0) e
         let same : r ≡ drop (prefix_len is_ascii_digit t) t = cc in
         record { taken = take (prefix_len is_ascii_digit t) t; at = sym (take-append-drop (prefix_len is_ascii_digit t) t) ∙ ap (λ (x : List ℕ). take (prefix_len is_ascii_digit t) t ++ x) (sym same); all = all_digits t }
 
-minus_other : Other 45
-minus_other = record { class_is = refl; quote_not = refl; opens_not = refl; closes_not = refl; word_byte = refl }
+minus_other : Letter 45
+minus_other = record { low = omega arith; other = record { class_is = refl; quote_not = refl; opens_not = refl; closes_not = refl; word_byte = refl } }
 
 minus : (t : List ℕ) → Part t (after_minus t)
 minus t = by_test (head t == 45) refl
@@ -103,7 +113,7 @@ sign t = by_tests (head t == 45) (head t == 43) refl refl
   where
     by_tests : (a b : Bool) → (head t == 45) ≡ a → (head t == 43) ≡ b → Part t (cond (a || b) (drop 1 t) t)
     by_tests true b e f = one 45 minus_other t e
-    by_tests false true e f = one 43 (record { class_is = refl; quote_not = refl; opens_not = refl; closes_not = refl; word_byte = refl }) t f
+    by_tests false true e f = one 43 (record { low = omega arith; other = record { class_is = refl; quote_not = refl; opens_not = refl; closes_not = refl; word_byte = refl } }) t f
     by_tests false false e f = nothing t
 
 drop_same : (t u r : List ℕ) → Some r ≡ Some u → Part t u → Part t r
@@ -120,7 +130,7 @@ fraction : (t r : List ℕ) → Some r ≡ after_fraction t → Part t r
 fraction t r e = by_test (head t == 46) refl e
   where
     by_test : (b : Bool) → (head t == 46) ≡ b → Some r ≡ cond b (after_digits (drop 1 t)) (Some t) → Part t r
-    by_test true e f = both t (drop 1 t) r (one 46 (record { class_is = refl; quote_not = refl; opens_not = refl; closes_not = refl; word_byte = refl }) t e) (digits (drop 1 t) r f)
+    by_test true e f = both t (drop 1 t) r (one 46 (record { low = omega arith; other = record { class_is = refl; quote_not = refl; opens_not = refl; closes_not = refl; word_byte = refl } }) t e) (digits (drop 1 t) r f)
     by_test false e f = drop_same t t r f (nothing t)
 
 exponent : (t r : List ℕ) → Some r ≡ after_exponent t → Part t r
@@ -130,8 +140,8 @@ exponent t r e = by_tests (head t == 101) (head t == 69) refl refl e
     then_digits p f = both t (drop 1 t) r p (both (drop 1 t) (after_sign (drop 1 t)) r (sign (drop 1 t)) (digits (after_sign (drop 1 t)) r f))
 
     by_tests : (a b : Bool) → (head t == 101) ≡ a → (head t == 69) ≡ b → Some r ≡ cond (a || b) (after_digits (after_sign (drop 1 t))) (Some t) → Part t r
-    by_tests true b e f g = then_digits (one 101 (record { class_is = refl; quote_not = refl; opens_not = refl; closes_not = refl; word_byte = refl }) t e) g
-    by_tests false true e f g = then_digits (one 69 (record { class_is = refl; quote_not = refl; opens_not = refl; closes_not = refl; word_byte = refl }) t f) g
+    by_tests true b e f g = then_digits (one 101 (record { low = omega arith; other = record { class_is = refl; quote_not = refl; opens_not = refl; closes_not = refl; word_byte = refl } }) t e) g
+    by_tests false true e f g = then_digits (one 69 (record { low = omega arith; other = record { class_is = refl; quote_not = refl; opens_not = refl; closes_not = refl; word_byte = refl } }) t f) g
     by_tests false false e f g = drop_same t t r g (nothing t)
 
 pub number_part : (t r : List ℕ) → Some r ≡ after_number t → Part t r
@@ -162,7 +172,7 @@ WordText t begin_array = Unit {0}
 WordText t end_array = Unit {0}
 WordText t (key s) = Unit {0}
 WordText t (string s) = Unit {0}
-WordText t (number s) = Ended s t × AllOther s
+WordText t (number s) = Ended s t × AllOther s × IsNumber s
 WordText t (boolean true) = Ended true_text t
 WordText t (boolean false) = Ended false_text t
 WordText t null = Ended null_text t
@@ -189,7 +199,8 @@ numbered t (Some r) e = by_test (ends_word r) refl
         let p = number_part t r e in
         let long : length p.taken ≡ length t - length r = omega (arith, ap length p.at, length-append p.taken r) in
         let front : p.taken ≡ take (length t - length r) t = sym (ap (take (length t - length r)) p.at ∙ take_at p.taken r (length t - length r) long) in
-        ((r, p.at ∙ ap (λ (x : List ℕ). x ++ r) front, f), subst AllOther front p.all)
+        let at = p.at ∙ ap (λ (x : List ℕ). x ++ r) front in
+        ((r, at, f), subst AllOther front p.all, number_alone (take (length t - length r) t) r f (ap after_number (sym at) ∙ sym e))
     by_test false f = tt
 
 pub word_text : (t : List ℕ) → WordText t (word t)

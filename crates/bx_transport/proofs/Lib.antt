@@ -1,2 +1,4 @@
 pub mod Scripts
 pub mod FormLemmas
+pub mod Replaced
+pub mod Safe

@@ -14,10 +14,10 @@ abbrev Step : ℕ → List ℕ → Type 0
 Step y ys = (script_safe (y ∷ ys) ≡ y ∷ script_safe ys) ⊎ (((226 == y) ≡ true) × (r : List ℕ) × (script_safe (y ∷ ys) ≡ 92 ∷ r))
 
 -- the safe text of a byte and more, by whether a separator stands there
-abbrev by_tests : ℕ → List ℕ → Bool → Bool → List ℕ
+abbrev pub by_tests : ℕ → List ℕ → Bool → Bool → List ℕ
 by_tests y ys a b = cond a (codes "\\u2028" ++ drop 3 (y ∷ script_safe ys)) (cond b (codes "\\u2029" ++ drop 3 (y ∷ script_safe ys)) (y ∷ script_safe ys))
 
-safe_by_tests : (y : ℕ) (ys : List ℕ) (a b : Bool) → starts_with nat_eq (y ∷ script_safe ys) line_separator ≡ a → starts_with nat_eq (y ∷ script_safe ys) paragraph_separator ≡ b → script_safe (y ∷ ys) ≡ by_tests y ys a b
+pub safe_by_tests : (y : ℕ) (ys : List ℕ) (a b : Bool) → starts_with nat_eq (y ∷ script_safe ys) line_separator ≡ a → starts_with nat_eq (y ∷ script_safe ys) paragraph_separator ≡ b → script_safe (y ∷ ys) ≡ by_tests y ys a b
 safe_by_tests y ys a b e f i = by_tests y ys (e i) (f i)
 
 step_by : (y : ℕ) (ys : List ℕ) (a p q : Bool) → (226 == y) ≡ a → starts_with nat_eq (y ∷ script_safe ys) line_separator ≡ (a && p) → starts_with nat_eq (y ∷ script_safe ys) paragraph_separator ≡ (a && q) → Step y ys
@@ -69,7 +69,7 @@ starts_true (x ∷ xs) c cs e = let parts = both (c == x) (starts_with nat_eq xs
     both true false e = absurd (false≢true e)
     both false b e = absurd (false≢true e)
 
-separator_is : (t : List ℕ) (d : ℕ) → starts_with nat_eq t (226 ∷ 128 ∷ d ∷ []) ≡ true → t ≡ 226 ∷ 128 ∷ d ∷ drop 3 t
+pub separator_is : (t : List ℕ) (d : ℕ) → starts_with nat_eq t (226 ∷ 128 ∷ d ∷ []) ≡ true → t ≡ 226 ∷ 128 ∷ d ∷ drop 3 t
 separator_is t d e =
     let a = starts_true t 226 (128 ∷ d ∷ []) e in
     let b = starts_true a.0 128 (d ∷ []) a.2 in

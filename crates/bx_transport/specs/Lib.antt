@@ -1,3 +1,4 @@
 pub mod Forms
 pub mod Transports
 pub mod Scripts
+pub mod Laws

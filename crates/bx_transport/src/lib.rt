@@ -5,11 +5,13 @@
 mod callback;
 mod error;
 mod form;
+mod laws;
 mod request;
 mod response;
 #[cfg(test)]
 mod tests;
 
 pub use error::TransportError;
+pub use laws::scripts_read_the_same;
 pub use request::{read_get, read_post};
 pub use response::{callback_of, response_of};
