@@ -2,6 +2,7 @@
 #![tactic(auto)]
 
 mod inputs;
+mod sessions;
 mod transports;
 mod workloads;
 
@@ -16,7 +17,11 @@ cut-one      the same body is cut, and ten members are looked up, 20 times
 value-texts  serde_json writes an array of 100,000 replies and events from a value
 item-texts   the same array is written from replies and events
 take-plain   a POST's JSON is taken and cut, 20 times
-take-form    the same JSON in a form of 1 MB, 20 times";
+take-form    the same JSON in a form of 1 MB, 20 times
+sessions-open     1,000 sessions are opened
+sessions-wait     each of 1,000 sessions is delivered 1,000 events, which wait
+sessions-batches  each is delivered 100 events and then connects, 10 times
+sessions-holds    each holds a connect, which an event answers, 1,000 times";
 
 fn main(rt: HostRuntime) -> Result<()> {
     let alloc = rt.alloc();
@@ -32,6 +37,10 @@ fn main(rt: HostRuntime) -> Result<()> {
                 "item-texts" => workloads::item_texts(alloc)?,
                 "take-plain" => transports::plain(alloc)?,
                 "take-form" => transports::form(alloc)?,
+                "sessions-open" => sessions::open(alloc)?,
+                "sessions-wait" => sessions::wait(alloc)?,
+                "sessions-batches" => sessions::batches(alloc)?,
+                "sessions-holds" => sessions::holds(alloc)?,
                 _ => 0,
             };
             println!(rt; "{total}")?;

@@ -1,0 +1,130 @@
+//! Deliveries to 1,000 sessions. Each answers a number that rests on all of its work.
+use anyhow::{Result, anyhow};
+use bx_advice::Config;
+use bx_message::{Event, RawJson, SharedEvent, Text};
+use bx_session::{Connection, Delivery, PendingConnect, Session};
+use std::alloc::Global;
+
+const SESSIONS: u64 = 1_000;
+
+// No workload forms more batches.
+const MANY: u64 = 1_000_000_000;
+
+// What a session is delivered before its connect, and how often.
+const ROUND: u64 = 100;
+
+const ROUNDS: u64 = 10;
+
+const HOLD: u64 = 30_000;
+
+// What all deliveries share.
+#[derive(Drop)]
+struct Setting {
+    config: Config,
+    client: Text,
+    event: SharedEvent,
+}
+
+impl Setting {
+    fn new(alloc: Global) -> Result<Setting> {
+        Ok(Setting {
+            config: Config::new(1, 30_000, 0, 10_000).ok_or(anyhow!("no configuration"))?,
+            client: Text::new(alloc, "000000000000000000000000000000000000000000000001")?,
+            event: SharedEvent::new(
+                alloc,
+                Event {
+                    channel: Text::new(alloc, "/stock/GOOG")?,
+                    payload: RawJson::new(alloc, "{\"symbol\":\"GOOG\",\"price\":1234.5}")?,
+                    id: None,
+                },
+            )?,
+        })
+    }
+
+    fn open(&self, alloc: Global) -> Result<Vec<Session>> {
+        let mut sessions = Vec::new(alloc);
+        for number in 0..SESSIONS {
+            sessions.push(Session::open(alloc, &self.config, number, true))?;
+        }
+        Ok(sessions)
+    }
+
+    // How many events the held connect is given.
+    fn deliver(&self, session: &mut Session) -> Result<u64> {
+        session.reserve()?;
+        let keep = self.event.clone()?;
+        let give = self.event.clone()?;
+        if session.is_overflowed() || session.last_batch() > MANY {
+            return Err(anyhow!("overflow"));
+        }
+        match session.deliver(&self.config, keep, give) {
+            Delivery::Given(answered) => Ok(answered.answer.events.len() as u64),
+            Delivery::Waits | Delivery::Overflowed => Ok(0),
+        }
+    }
+
+    // How many events the connect is given, which acknowledges all batches before.
+    fn connect(&self, alloc: Global, session: &mut Session, hold: u64) -> Result<u64> {
+        let number = session.last_batch();
+        if number > MANY {
+            return Err(anyhow!("too many batches"));
+        }
+        let connect = PendingConnect::new(alloc, number, &self.client, None, 0, hold)?;
+        let connection = session.connect(alloc, &self.config, connect, Some(number))?;
+        let Connection { answered, .. } = connection;
+        match answered {
+            Some(answered) => Ok(answered.answer.events.len() as u64),
+            None => Ok(0),
+        }
+    }
+}
+
+/// 1,000 sessions are opened.
+pub fn open(alloc: Global) -> Result<usize> {
+    let setting = Setting::new(alloc)?;
+    Ok(setting.open(alloc)?.len())
+}
+
+/// Each of 1,000 sessions is delivered 1,000 events, which wait.
+pub fn wait(alloc: Global) -> Result<usize> {
+    let setting = Setting::new(alloc)?;
+    let mut sessions = setting.open(alloc)?;
+    for _ in 0..ROUND * ROUNDS {
+        for session in sessions.iter_mut() {
+            setting.deliver(session)?;
+        }
+    }
+    Ok(sessions.len())
+}
+
+/// Each is delivered 100 events and then connects, 10 times.
+pub fn batches(alloc: Global) -> Result<usize> {
+    let setting = Setting::new(alloc)?;
+    let mut sessions = setting.open(alloc)?;
+    let mut total = 0u64;
+    for _ in 0..ROUNDS {
+        for _ in 0..ROUND {
+            for session in sessions.iter_mut() {
+                setting.deliver(session)?;
+            }
+        }
+        for session in sessions.iter_mut() {
+            total = total.saturating_add(setting.connect(alloc, session, 0)?);
+        }
+    }
+    Ok(total as usize)
+}
+
+/// Each holds a connect, which an event answers, 1,000 times.
+pub fn holds(alloc: Global) -> Result<usize> {
+    let setting = Setting::new(alloc)?;
+    let mut sessions = setting.open(alloc)?;
+    let mut total = 0u64;
+    for _ in 0..ROUND * ROUNDS {
+        for session in sessions.iter_mut() {
+            setting.connect(alloc, session, HOLD)?;
+            total = total.saturating_add(setting.deliver(session)?);
+        }
+    }
+    Ok(total as usize)
+}

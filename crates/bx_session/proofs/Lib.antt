@@ -1,0 +1,5 @@
+pub mod WindowLemmas
+pub mod SeatLemmas
+pub mod NumberLemmas
+pub mod ReachLemmas
+pub mod FilingLemmas

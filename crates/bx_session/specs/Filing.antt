@@ -1,0 +1,21 @@
+-- The answers as they are filed: under the place of their connect, with the place at which they are given.
+use Rattle.std.specs.Prelude.{ℕ, ◌≡◌, map}
+use Rattle.bx_advice.specs.declared.config.Config.{Config}
+use Rattle.bx_entry.specs.declared.entry.Entry.{Entry}
+use Rattle.bx_entry.specs.Answers.{PlacedAnswer, answer_of}
+use Rattle.bx_entry.specs.Sessions.{Filed}
+use Rattle.bx_entry.specs.Keeping.{Kept, kept_answers}
+use Rattle.bx_session.specs.declared.answered.Answered.{Answered}
+use Rattle.bx_session.specs.Agreement.{answered_of}
+
+-- the place of the connect, and what its client gets
+abbrev pub filed_as : Filed → ℕ × PlacedAnswer
+filed_as f = (f.connect, answer_of f)
+
+-- the same of an answer as the program gives it, at this place
+abbrev pub filed_at : ℕ → Answered → ℕ × PlacedAnswer
+filed_at place a = (a.place, record { place = place; events = a.answer.events; reply = a.answer.reply })
+
+-- an entry gives all its answers at its own place
+abbrev pub FilesAlike : Type 0
+FilesAlike = (config : Config) (k : Kept) (e : Entry) → map filed_as (kept_answers config k e) ≡ map (filed_at e.place) (map answered_of (kept_answers config k e))

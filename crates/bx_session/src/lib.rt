@@ -1,0 +1,18 @@
+//! One session: its batches, its held connect, its overflow, its end.
+#![tactic(auto)]
+
+mod answered;
+mod laws;
+mod pending;
+mod session;
+#[cfg(test)]
+mod tests;
+
+pub use answered::{Answered, Connection, Delivery};
+pub use laws::{
+    closes_alike, connects_alike, delivers_alike, files_alike, misses_alike, numbers_count,
+    numbers_step, opens_alike, others_alike, reached_at_first, reached_counts, reached_later,
+    reached_onwards, subscribes_alike, ticks_alike, unsubscribes_alike, windows_alike,
+};
+pub use pending::PendingConnect;
+pub use session::Session;

@@ -1,0 +1,194 @@
+//! A connect until it is answered.
+ghost use Rattle.std.specs.Prelude.{◌≡◌, ◌==◌, IfOk, [], ◌∷◌, not, codes};
+ghost use Rattle.std.specs.Option.{option_copied};
+ghost use Rattle.bx_advice.specs.declared.advice.Case.TheVariants.{Connected};
+ghost use Rattle.bx_message.specs.Replies.{connect_reply};
+ghost use Rattle.bx_session.specs.Seats.{pending};
+ghost use Rattle.bx_session.specs.Steps.{answer_to, answered, deadline_of, is_due_at};
+
+use crate::answered::Answered;
+use bx_advice::{Case, Config, advice_for};
+use bx_message::{AckReply, Answer, Column, RawJson, Reply, Sequence, SharedEvent, Text};
+use std::alloc::{AllocError, Global};
+use std::marker::Model;
+
+/// A connect that is to be answered. It has all that its answer needs, room for one event included, so
+/// that it is answered without taking memory.
+#[derive(Drop)]
+pub struct PendingConnect {
+    place: u64,
+    channel: Text,
+    client: Text,
+    id: Option<RawJson>,
+    moment: u64,
+    hold: u64,
+    // Empty, with room for one event.
+    room: Vec<SharedEvent>,
+}
+
+impl Model for PendingConnect {
+    ghost use Rattle.std.specs.Prelude.{◌≡◌, ◌<◌, codes, []};
+    ghost use Rattle.std.specs.Vec.{vec_capacity, vec_len};
+    ghost use Rattle.bx_entry.specs.Sessions.{Pending};
+    ghost use Rattle.bx_session.specs.Seats.{pending};
+
+    ghost Value = { Pending };
+
+    ghost view = { λ c. pending c.place c.client c.id c.moment c.hold };
+
+    ghost invariant = { λ c.
+        (c.channel ≡ codes "/meta/connect") × (c.room.items ≡ []) × (vec_len c.room < vec_capacity c.room) };
+}
+
+impl PendingConnect {
+    /// The connect at this place of the list, of the client with this id; `id` is the message's, which
+    /// its reply repeats. It may be held for `hold` milliseconds from `moment` on, which is in
+    /// milliseconds too. An error means that memory was refused.
+    pub fn new(
+        alloc: Global,
+        place: u64,
+        client: &Text,
+        id: Option<&RawJson>,
+        moment: u64,
+        hold: u64,
+    ) -> Result<PendingConnect, AllocError>
+        ensures { IfOk result (λ c.
+            c ≡ pending place client.now (option_copied id.entry) moment hold) }
+    {
+        Ok(PendingConnect {
+            place,
+            channel: Text::new(alloc, "/meta/connect")?,
+            client: client.clone()?,
+            id: match id {
+                Some(id) => Some(id.clone()?),
+                None => None,
+            },
+            moment,
+            hold,
+            room: Vec::with_capacity(alloc, 1)?,
+        })
+    }
+
+    /// Whether the connect is to be answered at once, with or without events.
+    pub(crate) fn is_answered_at_once(&self) -> bool
+        ensures { result ≡ (self.now.hold == 0) }
+    {
+        self.hold == 0
+    }
+
+    /// The moment at which its hold ends, in milliseconds; the greatest one where it is greater still.
+    pub(crate) fn deadline(&self) -> u64
+        ensures { result ≡ deadline_of self.now }
+    {
+        self.moment.saturating_add(self.hold)
+    }
+
+    /// Whether its hold ends at or before this moment.
+    pub(crate) fn is_due(&self, moment: u64) -> bool
+        ensures { result ≡ is_due_at moment self.now }
+    {
+        match self.moment.checked_add(self.hold) {
+            Some(deadline) => deadline <= moment,
+            None => false,
+        }
+    }
+
+    /// Answers the connect without events.
+    pub(crate) fn answer_empty(self, config: &Config, case: Case, ack: AckReply) -> Answered
+        ensures { result ≡ answer_to config.now self [] case ack }
+    {
+        let PendingConnect {
+            place,
+            channel,
+            client,
+            id,
+            room,
+            ..
+        } = self;
+        answer_of(
+            place,
+            room,
+            reply_of(config, channel, client, id, case, ack),
+        )
+    }
+
+    /// Answers the connect with one event.
+    pub(crate) fn answer_one(self, config: &Config, event: SharedEvent, ack: AckReply) -> Answered
+        ensures { result ≡ answer_to config.now self (event ∷ []) Connected ack }
+    {
+        let PendingConnect {
+            place,
+            channel,
+            client,
+            id,
+            mut room,
+            ..
+        } = self;
+        room.push_reserved(event);
+        answer_of(
+            place,
+            room,
+            reply_of(config, channel, client, id, Case::Connected, ack),
+        )
+    }
+
+    /// Answers the connect with these events.
+    pub(crate) fn answer_all(
+        self,
+        config: &Config,
+        events: Vec<SharedEvent>,
+        ack: AckReply,
+    ) -> Answered
+        ensures { result ≡ answer_to config.now self events.items Connected ack }
+    {
+        let PendingConnect {
+            place,
+            channel,
+            client,
+            id,
+            ..
+        } = self;
+        answer_of(
+            place,
+            events,
+            reply_of(config, channel, client, id, Case::Connected, ack),
+        )
+    }
+}
+
+// The answer of these parts.
+fn answer_of(place: u64, events: Vec<SharedEvent>, reply: Reply) -> Answered
+    ensures { result ≡ answered place events.items reply }
+{
+    Answered {
+        place,
+        answer: Answer {
+            events: Sequence::from_vec(events),
+            reply,
+        },
+    }
+}
+
+// The reply to a connect, of what it repeats.
+fn reply_of(
+    config: &Config,
+    channel: Text,
+    client: Text,
+    id: Option<RawJson>,
+    case: Case,
+    ack: AckReply,
+) -> Reply
+    requires { channel ≡ codes "/meta/connect" }
+    ensures { result ≡ connect_reply config.now client id case ack }
+{
+    Reply {
+        column: Column::Connect,
+        channel,
+        client: Some(client),
+        id,
+        subscription: None,
+        case,
+        advice: advice_for(case, config),
+        ack,
+    }
+}
