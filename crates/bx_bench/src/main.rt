@@ -2,8 +2,10 @@
 #![tactic(auto)]
 
 mod inputs;
+mod registry;
 mod sessions;
 mod transports;
+mod tree;
 mod workloads;
 
 use anyhow::Result;
@@ -21,7 +23,18 @@ take-form    the same JSON in a form of 1 MB, 20 times
 sessions-open     1,000 sessions are opened
 sessions-wait     each of 1,000 sessions is delivered 1,000 events, which wait
 sessions-batches  each is delivered 100 events and then connects, 10 times
-sessions-holds    each holds a connect, which an event answers, 1,000 times";
+sessions-holds    each holds a connect, which an event answers, 1,000 times
+tree-build        10,000 sessions with ten patterns each are put into the tree of patterns
+tree-find         the same, and then 1,000,000 names are looked up in it
+plain-build       the same patterns are put into a list
+plain-find        the same, and then 100 names are looked up in it, each by a walk over the list
+tree-100          a tree of 100 patterns, and 1,000,000 finds of one session
+tree-100000       a tree of 100,000 patterns, and 1,000,000 finds of one session
+tree-100000-build only the tree
+registry-open     10,000 sessions are opened, a request each
+registry-publish  1,000,000 publishes of 10,000 sessions are planned and committed, a request each
+registry-hundreds the same, 100 publishes a request
+registry-tick     100,000 ticks over 65,536 live sessions of which none is due";
 
 fn main(rt: HostRuntime) -> Result<()> {
     let alloc = rt.alloc();
@@ -41,6 +54,17 @@ fn main(rt: HostRuntime) -> Result<()> {
                 "sessions-wait" => sessions::wait(alloc)?,
                 "sessions-batches" => sessions::batches(alloc)?,
                 "sessions-holds" => sessions::holds(alloc)?,
+                "tree-build" => tree::build(alloc)?,
+                "tree-find" => tree::find(alloc)?,
+                "plain-build" => tree::plain_build(alloc)?,
+                "plain-find" => tree::plain_find(alloc)?,
+                "tree-100" => tree::grown(alloc, 100, 1_000_000)?,
+                "tree-100000" => tree::grown(alloc, 100_000, 1_000_000)?,
+                "tree-100000-build" => tree::grown(alloc, 100_000, 0)?,
+                "registry-open" => registry::open(alloc)? as usize,
+                "registry-publish" => registry::publish(alloc)? as usize,
+                "registry-hundreds" => registry::publish_hundreds(alloc)? as usize,
+                "registry-tick" => registry::tick(alloc)? as usize,
                 _ => 0,
             };
             println!(rt; "{total}")?;

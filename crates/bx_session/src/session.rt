@@ -1,5 +1,5 @@
 //! One session, entry by entry.
-ghost use Rattle.std.specs.Prelude.{◌≡◌, ◌<◌, ◌≤◌, ◌+◌, ◌==◌, IfOk, OnOk, OnErr, true, false, length, take, drop, nat_lt, is_some, option_map, Option, Some, None};
+ghost use Rattle.std.specs.Prelude.{◌≡◌, ◌<◌, ◌≤◌, ◌+◌, ◌==◌, [], IfOk, IsOk, OnOk, OnErr, true, false, length, take, drop, nat_lt, is_some, option_map, Option, Some, None};
 ghost use Rattle.std.specs.VecDeque.Iter.{deque_iter_rest};
 ghost use Rattle.bx_entry.specs.Keeping.{ack_given};
 ghost use Rattle.bx_advice.specs.declared.advice.Case.TheVariants.{Connected, Disconnected};
@@ -188,8 +188,9 @@ impl Session {
     // How many events at the front of the window the connect acknowledges, and how many it is to be
     // given of those behind them.
     fn portion_for(&self, acked: Option<u64>) -> (usize, usize)
-        ensures { take result.1 (drop result.0 self.now.seat.window.events)
+        ensures part { take result.1 (drop result.0 self.now.seat.window.events)
             ≡ given_from self.now.seat.ack (window_acknowledged self.now.seat.ack acked self.now.seat.window) }
+        ensures none { given_from self.now.seat.ack (window_acknowledged self.now.seat.ack acked self.now.seat.window) ≡ [] → result.1 ≡ 0 }
     {
         let given = self.window.given();
         let out = given.events.len();
@@ -207,10 +208,14 @@ impl Session {
 
     // The events that the connect is to be given.
     fn events_for(&self, alloc: Global, acked: Option<u64>) -> Result<Vec<SharedEvent>, AllocError>
-        ensures { IfOk result (λ events. events.items
+        ensures events { IfOk result (λ events. events.items
             ≡ given_from self.now.seat.ack (window_acknowledged self.now.seat.ack acked self.now.seat.window)) }
+        ensures none { given_from self.now.seat.ack (window_acknowledged self.now.seat.ack acked self.now.seat.window) ≡ [] → IsOk result }
     {
         let (done, count) = self.portion_for(acked);
+        if count == 0 {
+            return Ok(Vec::new(alloc));
+        }
         clone_part(alloc, self.window.first(self.window.len()), done, count)
     }
 
@@ -282,6 +287,7 @@ impl Session {
         ensures ok { IfOk result (λ c. c ≡ connection config.now connect acked self.old.seat) }
         ensures seat { OnOk result (self.new.seat ≡ connected connect acked self.old.seat) }
         ensures err { OnErr result (self.new ≡ self.old) }
+        ensures none { given_from self.old.seat.ack (window_acknowledged self.old.seat.ack acked self.old.seat.window) ≡ [] → IsOk result }
     {
         let events = self.events_for(alloc, acked)?;
         let superseded = self.release(config, Case::Failed(Error::SupersededConnect));

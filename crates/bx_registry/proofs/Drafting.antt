@@ -1,0 +1,165 @@
+-- The sessions behind the edits of a request.
+use Rattle.std.proofs.Common.{◌≡◌, ℕ, suc, ◌+◌, ◌-◌, Bool, true, false, List, [], ◌∷◌, ◌++◌, length, length-append, map, fold, refl, sym, ap, subst, ◌∙◌, cond, arith}
+use Rattle.std.specs.Prelude.{◌==◌, Option, Some, None, IsSome, if◌then◌else◌}
+use Rattle.std.specs.Option.{option_or}
+use Rattle.std.proofs.lemmas.List.{length-map}
+use Rattle.std.proofs.lemmas.List.Sums.{fold-append}
+use Rattle.bx_entry.specs.Registry.{Registered, extended, closed}
+use Rattle.bx_registry.specs.Rolls.{Members, live_in}
+use Rattle.bx_registry.specs.Tables.{IsTable, AllLive, client_at}
+use Rattle.bx_registry.specs.Edits.{edited, CanEdit, CanEditEach, IsNext}
+use Rattle.bx_registry.specs.Drafts.{IsDrafted, client_after}
+use Rattle.bx_registry.specs.declared.change.Edit.{Edit}
+use Rattle.bx_registry.specs.declared.change.Edit.TheVariants.{Open, Extend, Close}
+use Rattle.bx_registry.proofs.Steps.{live_in-extended}
+use Rattle.bx_registry.proofs.Slots.{eq-from-test, eq-from-false, IsTable-filter, IsTable-map, IsTable-push, IsTable-absent, map-absent, live_in-all, AllLive-live, changed-number, changed-client, closing-number, closing-client}
+
+-- ---- each edit
+
+pub can-more : (ms : Members) (es : List Edit) (e : Edit) → CanEditEach ms es → CanEdit (fold edited ms es) e → CanEditEach ms (es ++ e ∷ [])
+can-more ms [] e can one = (one, tt)
+can-more ms (x ∷ es) e can one = (can.0, can-more (edited ms x) es e can.1 one)
+
+AllLive-push : (rs : List Registered) (s : Registered) → AllLive rs → s.live ≡ true → AllLive (rs ++ s ∷ [])
+AllLive-push [] s all e = (e, tt)
+AllLive-push (r ∷ rs) s all e = (all.0, AllLive-push rs s all.1 e)
+
+extend-all : (n due : ℕ) (rs : List Registered) → AllLive rs → live_in (extended n due rs) ≡ extended n due rs
+extend-all n due rs all = live_in-extended n due rs ∙ ap (extended n due) (live_in-all rs all)
+
+closed-count-by : (n : ℕ) (r : Registered) (rs : List Registered) (high : ℕ) → IsTable r.number high rs → r.live ≡ true → AllLive rs →
+    (IsSome (client_at n rs) → length (live_in (closed n rs)) + 1 ≡ length rs) → ((b : Bool) → (r.number == n) ≡ b → IsSome (if b then Some r.client else client_at n rs) →
+    length (live_in ((if b then record r { live = false } else r) ∷ closed n rs)) + 1 ≡ suc (length rs))
+closed-count-by n r rs high t lives all more true e some =
+    let here : r.number ≡ n = eq-from-test r.number n e in
+    let same : closed n rs ≡ rs = map-absent n (λ s. record s { live = false }) rs (IsTable-absent r.number high n rs (omega (arith, here)) t) in
+    omega (arith, ap length (ap live_in same ∙ live_in-all rs all))
+closed-count-by n r rs high t lives all more false e some =
+    let kept : live_in (r ∷ closed n rs) ≡ r ∷ live_in (closed n rs) = ap (λ (b : Bool). cond b (r ∷ live_in (closed n rs)) (live_in (closed n rs))) lives in
+    omega (arith, ap length kept, more some)
+
+pub closed-count : (n low high : ℕ) (rs : List Registered) → IsTable low high rs → AllLive rs → IsSome (client_at n rs) → length (live_in (closed n rs)) + 1 ≡ length rs
+closed-count n low high [] t all some = cc
+closed-count n low high (r ∷ rs) t all some = closed-count-by n r rs high t.2 all.0 all.1 (closed-count n r.number high rs t.2 all.1) (r.number == n) refl some
+
+pub opened-drafted : (base : Members) (es : List Edit) (s : Registered) {count opened : ℕ} → IsDrafted base es count opened → IsNext (fold edited base es) s → IsDrafted base (es ++ Open s ∷ []) (count + 1) s.number
+opened-drafted base es s {count} {opened} d next =
+    let ms = fold edited base es in
+    let now : fold edited base (es ++ Open s ∷ []) ≡ edited ms (Open s) = fold-append edited base es (Open s ∷ []) in record {
+      limit = d.limit;
+      small = next.small;
+      start = d.start;
+      can = can-more base es (Open s) d.can next;
+      counted = rw now (omega (arith, d.counted, length-append ms.live (s ∷ [])));
+      numbered = rw now refl;
+      table = rw now (IsTable-push 0 ms.opened ms.live s (omega (arith, next.number)) next.named d.table);
+      all = rw now (AllLive-push ms.live s d.all next.live);
+    }
+
+pub extended-drafted : (base : Members) (es : List Edit) (n due : ℕ) {count opened : ℕ} → IsDrafted base es count opened → IsDrafted base (es ++ Extend n due ∷ []) count opened
+extended-drafted base es n due {count} {opened} d =
+    let ms = fold edited base es in
+    let now : fold edited base (es ++ Extend n due ∷ []) ≡ edited ms (Extend n due) = fold-append edited base es (Extend n due ∷ []) in record {
+      limit = d.limit;
+      small = d.small;
+      start = d.start;
+      can = can-more base es (Extend n due) d.can tt;
+      counted = rw now (d.counted ∙ sym (ap length (extend-all n due ms.live d.all) ∙ length-map ms.live _));
+      numbered = rw now d.numbered;
+      table = rw now (IsTable-filter 0 ms.opened _ (extended n due ms.live) (IsTable-map 0 ms.opened _ ms.live (λ r. changed-number due r _) (λ r. changed-client due r _) d.table));
+      all = rw now (AllLive-live (extended n due ms.live));
+    }
+
+pub closed-drafted : (base : Members) (es : List Edit) (n : ℕ) {count opened : ℕ} → IsDrafted base es count opened → IsSome (client_at n (fold edited base es).live) → IsDrafted base (es ++ Close n ∷ []) (count - 1) opened
+closed-drafted base es n {count} {opened} d some =
+    let ms = fold edited base es in
+    let now : fold edited base (es ++ Close n ∷ []) ≡ edited ms (Close n) = fold-append edited base es (Close n ∷ []) in record {
+      limit = d.limit;
+      small = d.small;
+      start = d.start;
+      can = can-more base es (Close n) d.can some;
+      counted = rw now (omega (arith, d.counted, closed-count n 0 ms.opened ms.live d.table d.all some));
+      numbered = rw now d.numbered;
+      table = rw now (IsTable-filter 0 ms.opened _ (closed n ms.live) (IsTable-map 0 ms.opened _ ms.live (λ r. closing-number r _) (λ r. closing-client r _) d.table));
+      all = rw now (AllLive-live (closed n ms.live));
+    }
+
+-- one more edit, by what it is
+pub pushed-open : (base : Members) (es new : List Edit) (e : Edit) (s : Registered) (k n : ℕ) {count opened : ℕ} → IsDrafted base es count opened → new ≡ es ++ e ∷ [] → e ≡ Open s →
+    CanEdit (fold edited base es) e → k ≡ count + 1 → n ≡ s.number → IsDrafted base new k n
+pushed-open base es new e s k n {count} {opened} d is what can f g =
+    let P : Edit → Type 0 = λ x. CanEdit (fold edited base es) x in
+    rw (is, what, f, g) (opened-drafted base es s d (subst P what can))
+
+pub pushed-extend : (base : Members) (es new : List Edit) (e : Edit) (m due k n : ℕ) {count opened : ℕ} → IsDrafted base es count opened → new ≡ es ++ e ∷ [] → e ≡ Extend m due →
+    k ≡ count → n ≡ opened → IsDrafted base new k n
+pushed-extend base es new e m due k n {count} {opened} d is what f g = rw (is, what, f, g) (extended-drafted base es m due d)
+
+pub pushed-close : (base : Members) (es new : List Edit) (e : Edit) (m k n : ℕ) {count opened : ℕ} → IsDrafted base es count opened → new ≡ es ++ e ∷ [] → e ≡ Close m →
+    CanEdit (fold edited base es) e → k ≡ count - 1 → n ≡ opened → IsDrafted base new k n
+pushed-close base es new e m k n {count} {opened} d is what can f g =
+    let P : Edit → Type 0 = λ x. CanEdit (fold edited base es) x in
+    rw (is, what, f, g) (closed-drafted base es m d (subst P what can))
+
+limit-edited : (ms : Members) (e : Edit) → (edited ms e).limit ≡ ms.limit
+limit-edited ms (Open s) = refl
+limit-edited ms (Extend n due) = refl
+limit-edited ms (Close n) = refl
+
+pub limit-same : (ms : Members) (es : List Edit) → (fold edited ms es).limit ≡ ms.limit
+limit-same ms [] = refl
+limit-same ms (e ∷ es) = limit-same (edited ms e) es ∙ limit-edited ms e
+
+-- ---- the client id at a number
+
+client_at-push-by : (client : List ℕ) (more rest last : Option (List ℕ)) → more ≡ option_or rest last → (b : Bool) → cond b (Some client) more ≡ option_or (cond b (Some client) rest) last
+client_at-push-by client more rest last e true = refl
+client_at-push-by client more rest last e false = e
+
+client_at-push : (n : ℕ) (rs : List Registered) (s : Registered) → client_at n (rs ++ s ∷ []) ≡ option_or (client_at n rs) (if s.number == n then Some s.client else None)
+client_at-push n [] s = refl
+client_at-push n (r ∷ rs) s = client_at-push-by r.client (client_at n (rs ++ s ∷ [])) (client_at n rs) (if s.number == n then Some s.client else None) (client_at-push n rs s) (r.number == n)
+
+client_at-map : (n : ℕ) (g : Registered → Registered) (rs : List Registered) → ((r : Registered) → (g r).number ≡ r.number) → ((r : Registered) → (g r).client ≡ r.client) → client_at n (map g rs) ≡ client_at n rs
+client_at-map n g [] number client = refl
+client_at-map n g (r ∷ rs) number client = rw (number r, client r) (ap (λ (o : Option (List ℕ)). cond (r.number == n) (Some r.client) o) (client_at-map n g rs number client))
+
+none-either : (b : Bool) (o : Option (List ℕ)) → o ≡ (if b then o else o)
+none-either true o = refl
+none-either false o = refl
+
+-- a closed session is passed over, another one is not
+client_at-kept-by : (n m : ℕ) (r : Registered) (rest kept : List Registered) → client_at n (live_in kept) ≡ (if m == n then None else client_at n rest) → (r.number == m) ≡ false →
+    (c : Bool) → (r.number == n) ≡ c → (d : Bool) → (m == n) ≡ d → client_at n (r ∷ live_in kept) ≡ (if d then None else (if c then Some r.client else client_at n rest))
+client_at-kept-by n m r rest kept ih e true f true g = absurd (eq-from-false r.number m e (eq-from-test r.number n f ∙ sym (eq-from-test m n g)))
+client_at-kept-by n m r rest kept ih e true f false g = ap (λ (t : Bool). if t then Some r.client else client_at n (live_in kept)) f
+client_at-kept-by n m r rest kept ih e false f true g = ap (λ (t : Bool). if t then Some r.client else client_at n (live_in kept)) f ∙ ih ∙ ap (λ (t : Bool). if t then None else client_at n rest) g
+client_at-kept-by n m r rest kept ih e false f false g = ap (λ (t : Bool). if t then Some r.client else client_at n (live_in kept)) f ∙ ih ∙ ap (λ (t : Bool). if t then None else client_at n rest) g
+
+client_at-closed-by : (n m : ℕ) (r : Registered) (rest kept : List Registered) → client_at n (live_in kept) ≡ (if m == n then None else client_at n rest) → r.live ≡ true →
+    (b : Bool) → (r.number == m) ≡ b → (c : Bool) → (r.number == n) ≡ c → (d : Bool) → (m == n) ≡ d →
+    client_at n (live_in ((if b then record r { live = false } else r) ∷ kept)) ≡ (if d then None else (if c then Some r.client else client_at n rest))
+client_at-closed-by n m r rest kept ih lives true e true f true g = ih ∙ ap (λ (t : Bool). if t then None else client_at n rest) g
+client_at-closed-by n m r rest kept ih lives true e true f false g = absurd (eq-from-false m n g (sym (eq-from-test r.number m e) ∙ eq-from-test r.number n f))
+client_at-closed-by n m r rest kept ih lives true e false f true g = absurd (eq-from-false r.number n f (eq-from-test r.number m e ∙ eq-from-test m n g))
+client_at-closed-by n m r rest kept ih lives true e false f false g = ih ∙ ap (λ (t : Bool). if t then None else client_at n rest) g
+client_at-closed-by n m r rest kept ih lives false e c f d g = ap (λ (t : Bool). client_at n (cond t (r ∷ live_in kept) (live_in kept))) lives ∙ client_at-kept-by n m r rest kept ih e c f d g
+
+client_at-closed : (n m : ℕ) (rs : List Registered) → AllLive rs → client_at n (live_in (closed m rs)) ≡ (if m == n then None else client_at n rs)
+client_at-closed n m [] all = none-either (m == n) None
+client_at-closed n m (r ∷ rs) all = client_at-closed-by n m r rs (closed m rs) (client_at-closed n m rs all.1) all.0 (r.number == m) refl (r.number == n) refl (m == n) refl
+
+client_at-edited : (n : ℕ) (ms : Members) (e : Edit) → AllLive ms.live → client_at n (edited ms e).live ≡ client_after n (client_at n ms.live) e
+client_at-edited n ms (Open s) all = client_at-push n ms.live s
+client_at-edited n ms (Extend m due) all = ap (client_at n) (extend-all m due ms.live all) ∙ client_at-map n _ ms.live (λ r. changed-number due r _) (λ r. changed-client due r _)
+client_at-edited n ms (Close m) all = client_at-closed n m ms.live all
+
+AllLive-edited : (ms : Members) (e : Edit) → AllLive ms.live → CanEdit ms e → AllLive (edited ms e).live
+AllLive-edited ms (Open s) all can = AllLive-push ms.live s all can.live
+AllLive-edited ms (Extend m due) all can = AllLive-live (extended m due ms.live)
+AllLive-edited ms (Close m) all can = AllLive-live (closed m ms.live)
+
+pub client_at-all : (n : ℕ) (ms : Members) (es : List Edit) → AllLive ms.live → CanEditEach ms es → client_at n (fold edited ms es).live ≡ fold (client_after n) (client_at n ms.live) es
+client_at-all n ms [] all can = refl
+client_at-all n ms (e ∷ es) all can =
+    client_at-all n (edited ms e) es (AllLive-edited ms e all can.0) can.1 ∙ ap (λ (o : Option (List ℕ)). fold (client_after n) o es) (client_at-edited n ms e all)

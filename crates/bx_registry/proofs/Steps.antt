@@ -1,0 +1,153 @@
+-- What is judged by the sessions is judged by the live ones.
+use Rattle.std.proofs.Common.{◌≡◌, ℕ, ◌+◌, Bool, true, false, List, [], ◌∷◌, ◌++◌, length, map, refl, sym, ap, ◌∙◌, fold, append_assoc, append-nil, length-append}
+use Rattle.std.specs.Prelude.{max, Option, Some, None, if◌then◌else◌}
+use Rattle.std.proofs.lemmas.List.{length-map}
+use Rattle.std.proofs.lemmas.List.Elements.{filter-append}
+use Rattle.bx_names.specs.Faults.{first_case}
+use Rattle.bx_advice.specs.declared.config.Config.{Config}
+use Rattle.bx_advice.specs.declared.error.Error.{Error}
+use Rattle.bx_message.specs.declared.column.Column.{Column}
+use Rattle.bx_message.specs.declared.column.Column.TheVariants.{Handshake, Connect, Subscribe, Unsubscribe, Disconnect, Publish, UnknownMeta}
+use Rattle.bx_message.specs.declared.message.Message.{Message}
+use Rattle.bx_message.specs.declared.message.TextMember.{TextMember}
+use Rattle.bx_message.specs.declared.message.TextMember.TheVariants.{Absent, NotText, Text}
+use Rattle.bx_message.specs.Columns.{column_of}
+use Rattle.bx_entry.specs.Listing.{Posted, Listed, Post}
+use Rattle.bx_entry.specs.Listing as messages
+use Rattle.bx_entry.specs.Registry.{Registered, Registry, Judged, judge, judged_by, refusal, cases_of, sender_of, named_by, count_live, extended, closed, left_by, swept, overdue, hold_of}
+use Rattle.bx_registry.specs.Rolls.{Roll, roll_of, live_in, step, next, after, found, noted, outcome, Outcome, tick_outcome}
+use Rattle.bx_registry.specs.Rolls as rolls
+use Rattle.bx_registry.specs.Laws.{GoesOn, StepsAgree, RunsAgree}
+use Rattle.bx_registry.proofs.Lists.{filter-map-filter, filter-map, filter-more, find-more, filter-filter}
+
+abbrev is_live : Registered → Bool
+is_live r = r.live
+
+count_live-live : (sessions : List Registered) → count_live (live_in sessions) ≡ count_live sessions
+count_live-live sessions = ap length (filter-filter is_live sessions)
+
+pub sender_of-live : (sessions : List Registered) (client : TextMember) → sender_of (live_in sessions) client ≡ sender_of sessions client
+sender_of-live sessions Absent = refl
+sender_of-live sessions NotText = refl
+sender_of-live sessions (Text client) = find-more is_live _ sessions
+
+cases_of-live : (config : Config) (sessions : List Registered) (p : Posted) (column : Column) → cases_of config (live_in sessions) p column ≡ cases_of config sessions p column
+cases_of-live config sessions p Handshake = rw count_live-live refl
+cases_of-live config sessions p Connect = rw sender_of-live refl
+cases_of-live config sessions p Subscribe = rw sender_of-live refl
+cases_of-live config sessions p Unsubscribe = rw sender_of-live refl
+cases_of-live config sessions p Disconnect = rw sender_of-live refl
+cases_of-live config sessions p Publish = rw sender_of-live refl
+cases_of-live config sessions p UnknownMeta = refl
+
+pub refusal-live : (config : Config) (sessions : List Registered) (p : Posted) → refusal config (live_in sessions) p ≡ refusal config sessions p
+refusal-live config sessions p = ap first_case (cases_of-live config sessions p (column_of p.message.channel))
+
+named_by-live : (sessions : List Registered) (column : Column) (m : Message) → named_by (live_in sessions) column m ≡ named_by sessions column m
+named_by-live sessions Handshake m = refl
+named_by-live sessions Connect m = sender_of-live sessions m.client
+named_by-live sessions Subscribe m = sender_of-live sessions m.client
+named_by-live sessions Unsubscribe m = sender_of-live sessions m.client
+named_by-live sessions Disconnect m = sender_of-live sessions m.client
+named_by-live sessions Publish m = sender_of-live sessions m.client
+named_by-live sessions UnknownMeta m = refl
+
+extended-same-by : (number due : ℕ) (r : Registered) (b : Bool) → is_live (if b then record r { due = max r.due due } else r) ≡ is_live r
+extended-same-by number due r true = refl
+extended-same-by number due r false = refl
+
+pub live_in-extended : (number due : ℕ) (sessions : List Registered) → live_in (extended number due sessions) ≡ extended number due (live_in sessions)
+live_in-extended number due sessions = filter-map is_live _ (λ r. extended-same-by number due r _) sessions
+
+closed-stays-by : (r : Registered) (b : Bool) → is_live r ≡ false → is_live (if b then record r { live = false } else r) ≡ false
+closed-stays-by r true e = refl
+closed-stays-by r false e = e
+
+pub live_in-closed : (number : ℕ) (sessions : List Registered) → live_in (closed number (live_in sessions)) ≡ live_in (closed number sessions)
+live_in-closed number sessions = filter-map-filter is_live _ (λ r e. closed-stays-by r _ e) sessions
+
+pub live_in-swept : (moment : ℕ) (sessions : List Registered) → live_in (swept moment (live_in sessions)) ≡ live_in (swept moment sessions)
+live_in-swept moment sessions = filter-map-filter is_live _ (λ r e. closed-stays-by r _ e) sessions
+
+pub overdue-live : (moment : ℕ) (sessions : List Registered) → overdue moment (live_in sessions) ≡ overdue moment sessions
+overdue-live moment sessions = ap (map (λ (r : Registered). r.number)) (filter-more is_live _ sessions)
+
+left_by-live : (column : Column) (number due : ℕ) (sessions : List Registered) →
+    live_in (left_by column number (extended number due (live_in sessions))) ≡ live_in (left_by column number (extended number due sessions))
+left_by-live Handshake number due sessions = ap live_in (sym (live_in-extended number due sessions)) ∙ filter-filter is_live (extended number due sessions)
+left_by-live Connect number due sessions = ap live_in (sym (live_in-extended number due sessions)) ∙ filter-filter is_live (extended number due sessions)
+left_by-live Subscribe number due sessions = ap live_in (sym (live_in-extended number due sessions)) ∙ filter-filter is_live (extended number due sessions)
+left_by-live Unsubscribe number due sessions = ap live_in (sym (live_in-extended number due sessions)) ∙ filter-filter is_live (extended number due sessions)
+left_by-live Disconnect number due sessions = ap (λ ss. live_in (closed number ss)) (sym (live_in-extended number due sessions)) ∙ live_in-closed number (extended number due sessions)
+left_by-live Publish number due sessions = ap live_in (sym (live_in-extended number due sessions)) ∙ filter-filter is_live (extended number due sessions)
+left_by-live UnknownMeta number due sessions = ap live_in (sym (live_in-extended number due sessions)) ∙ filter-filter is_live (extended number due sessions)
+
+-- ---- one element
+
+length-left_by : (column : Column) (number due : ℕ) (sessions : List Registered) → length (left_by column number (extended number due sessions)) ≡ length sessions
+length-left_by Handshake number due sessions = length-map sessions _
+length-left_by Connect number due sessions = length-map sessions _
+length-left_by Subscribe number due sessions = length-map sessions _
+length-left_by Unsubscribe number due sessions = length-map sessions _
+length-left_by Disconnect number due sessions = length-map (extended number due sessions) _ ∙ length-map sessions _
+length-left_by Publish number due sessions = length-map sessions _
+length-left_by UnknownMeta number due sessions = length-map sessions _
+
+same_roll : (config : Config) (limit moment : ℕ) {opened opened' : ℕ} {live live' : List Registered} {len len' : ℕ} → opened ≡ opened' → live ≡ live' → len ≡ len' →
+    let roll : Roll = record { config = config; members = record { limit = limit; opened = opened; live = live }; clock = moment; length = len } in
+    roll ≡ record { config = config; members = record { limit = limit; opened = opened'; live = live' }; clock = moment; length = len' }
+same_roll config limit moment e f g = cc
+
+one_more : (js : List Judged) (j : Judged) → length (js ++ j ∷ []) ≡ length js + 1
+one_more js j = length-append js (j ∷ [])
+
+-- the registry after an element, as an outcome of its roll says it
+pub record Went (config : Config) (r : Registry) (moment : ℕ) (o : Outcome) (s : Registry) : Type 0 where
+  pub roll : (noted (roll_of config r) moment o).roll ≡ roll_of config s
+  pub judged : s.judged ≡ r.judged ++ (noted (roll_of config r) moment o).found ∷ []
+
+goes-by : (config : Config) (r : Registry) (moment : ℕ) (p : Posted) (sender : Option Registered) (fault : Option Error) →
+    Went config r moment (rolls.judged_by config (roll_of config r).members moment p sender fault) (judged_by config r moment p sender fault)
+goes-by config r moment p sender (Some error) = record { roll = same_roll config config.limits.sessions moment refl refl (sym (one_more r.judged _)); judged = refl }
+goes-by config r moment p None None = record {
+  roll = same_roll config config.limits.sessions moment (sym (length-append r.sessions (_ ∷ []))) (sym (filter-append is_live r.sessions (_ ∷ []))) (sym (one_more r.judged _));
+  judged = refl;
+}
+goes-by config r moment p (Some s) None = record {
+  roll = same_roll config config.limits.sessions moment
+      (sym (length-left_by (column_of p.message.channel) s.number (moment + hold_of config p + config.max_interval) r.sessions))
+      (left_by-live (column_of p.message.channel) s.number (moment + hold_of config p + config.max_interval) r.sessions)
+      (sym (one_more r.judged _));
+  judged = refl;
+}
+
+goes : (config : Config) (r : Registry) (element : Listed) → GoesOn config r (judge config r element) (element ∷ [])
+goes config r (Post p) =
+    let moment = max r.clock p.moment in
+    let column = column_of p.message.channel in
+    let named = named_by r.sessions column p.message in
+    let went : Went config r moment (outcome config (roll_of config r).members moment p) (judge config r (Post p)) =
+    rw (refusal-live config r.sessions p, named_by-live r.sessions column p.message) (goes-by config r moment p named (refusal config r.sessions p)) in
+    record { roll = went.roll; judged = went.judged }
+goes config r (messages.Tick moment) = record {
+  roll = same_roll config config.limits.sessions (max r.clock moment) (sym (length-map r.sessions _)) (live_in-swept (max r.clock moment) r.sessions) (sym (one_more r.judged _));
+  judged = rw (overdue-live (max r.clock moment) r.sessions) refl;
+}
+
+pub steps_agree : StepsAgree
+steps_agree = goes
+
+runs : (config : Config) (list : List Listed) (r : Registry) → GoesOn config r (fold (judge config) r list) list
+runs config [] r = record { roll = refl; judged = sym (append-nil r.judged) }
+runs config (element ∷ list) r =
+    let one = goes config r element in
+    let more = runs config list (judge config r element) in
+    record {
+      roll = ap (λ roll. after roll list) one.roll ∙ more.roll;
+      judged = more.judged ∙ ap (λ js. js ++ found (roll_of config (judge config r element)) list) one.judged
+          ∙ append_assoc r.judged ((step (roll_of config r) element).found ∷ []) (found (roll_of config (judge config r element)) list)
+          ∙ ap (λ roll. r.judged ++ (step (roll_of config r) element).found ∷ found roll list) (sym one.roll);
+    }
+
+pub runs_agree : RunsAgree
+runs_agree config r list = runs config list r

@@ -1,0 +1,21 @@
+use Rattle.std.proofs.Common.{List, fold, ap, sym, ◌∙◌}
+use Rattle.std.proofs.lemmas.List.{take_all}
+use Rattle.bx_registry.specs.Rolls.{Members}
+use Rattle.bx_registry.specs.Tables.{client_at}
+use Rattle.bx_registry.specs.Drafts.{Drafted, client_after, members_of}
+use Rattle.bx_registry.specs.declared.change.Edit.{Edit}
+use Rattle.bx_registry.proofs.Drafting.{client_at-all}
+use Rattle.bx_registry.proofs.draft.Draft.client_at.Goals as goal
+
+pub returns : goal.returns
+returns c =
+    let n = c.args.number in
+    let base : Members = c.self.inside.table.now in
+    let es : List Edit = c.self.inside.edits.items in
+    let all = client_at-all n base es c.self.invariant.start c.self.invariant.can in
+    let whole = take_all c.loop-edit.edit-index c.as_slice-edit-items.result.now c.loop-edit-test.false ∙ c.as_slice-edit-items.ensures.value in
+    c.loop-edit.invariant
+    ∙ ap (fold (client_after n) (client_at n c.args.self.now.base.live)) whole
+    ∙ ap (λ (d : Drafted). fold (client_after n) (client_at n d.base.live) es) (sym c.self.view_is)
+    ∙ sym all
+    ∙ ap (λ (d : Drafted). client_at n (members_of d).live) c.self.view_is

@@ -1,0 +1,48 @@
+use Rattle.std.proofs.Common.{◌≡◌, ◌+◌, ◌≤◌, ◌∷◌, List, ℕ, Bool, false, length, drop, ap, sym, subst, ◌∙◌, arith}
+use Rattle.std.specs.Prelude.{◌&&◌, ◌||◌, ◌==◌, max}
+use Rattle.std.proofs.lemmas.List.{drop_more}
+use Rattle.bx_advice.specs.Limits.{greatest_moment}
+use Rattle.bx_message.specs.declared.message.Message.{Message}
+use Rattle.bx_message.specs.Columns.{is_handshake}
+use Rattle.bx_entry.specs.Listing.{Listed, Posted, listed_from, request}
+use Rattle.bx_registry.specs.Rolls.{outcome}
+use Rattle.bx_registry.specs.Planners.{IsFoundAt}
+use Rattle.bx_registry.specs.Drafts.{members_of}
+use Rattle.bx_registry.proofs.Planning.{SoFar, one_next, length-listed}
+use Rattle.bx_registry.proofs.planner.plan_all.Goals as goal
+
+pub plan_next-requires-clause-opened : goal.plan_next-requires-clause-opened
+plan_next-requires-clause-opened c =
+    let i = c.loop-message.invariant in
+    omega (arith, i.opened, i.end, c.requires.room, length-listed c.args.handed.moment c.args.handed.nonce (length c.args.messages.now == 1) false c.args.messages.now)
+
+pub overflow_add-place : goal.overflow_add-place
+overflow_add-place c =
+    let i = c.loop-message.invariant in
+    omega (arith, i.end, c.requires.room, length-listed c.args.handed.moment c.args.handed.nonce (length c.args.messages.now == 1) false c.args.messages.now)
+
+pub loop-message-preserved : goal.loop-message-preserved
+loop-message-preserved c =
+    let ms : List Message = c.args.messages.now in
+    let i : ℕ = c.loop-message.message-index in
+    let x : Message = c.message-item.result in
+    let config = c.args.config.now in
+    let d = c.loop-message.draft in
+    let now : ℕ = c.loop-message.now in
+    let place : ℕ = c.loop-message.place in
+    let moment : ℕ = c.args.handed.moment in
+    let nonce : ℕ = c.args.handed.nonce in
+    let sole : Bool = length ms == 1 in
+    let seen : Bool = c.loop-message.seen in
+    let list : List Listed = request moment nonce ms in
+    let p : Posted = record { message = x; moment = moment; nonce = nonce; sole = sole; second = seen && is_handshake x } in
+    let rest : drop i ms ≡ x ∷ drop (i + 1) ms = drop_more ms i x c.loop-message-test.true ∙ ap (λ (y : Message). y ∷ drop (i + 1) ms) (sym c.message-item.is) in
+    let so : SoFar config (members_of c.args.draft.now) c.args.draft.now.base c.args.clock c.args.first list (listed_from moment nonce sole seen (x ∷ drop (i + 1) ms)) d now place c.loop-message.entries c.loop-message.slots =
+    subst (λ (ys : List Message). SoFar config (members_of c.args.draft.now) c.args.draft.now.base c.args.clock c.args.first list (listed_from moment nonce sole seen ys) d now place c.loop-message.entries c.loop-message.slots) rest c.loop-message.invariant in
+    let found : IsFoundAt place (max now moment) (outcome config (members_of d) (max now moment) p) (members_of c.plan_next.new.draft) c.in_ok-entry.entry c.in_ok-entry.slot =
+    subst (λ (h : Bool). IsFoundAt place (max now moment) (outcome config (members_of d) (max now moment) (record p { second = seen && h })) (members_of c.plan_next.new.draft) c.in_ok-entry.entry c.in_ok-entry.slot) c.is_handshake-handshake.ensures
+    (subst (λ (k : ℕ). IsFoundAt place k (outcome config (members_of d) k (record p { second = seen && c.is_handshake-handshake.result })) (members_of c.plan_next.new.draft) c.in_ok-entry.entry c.in_ok-entry.slot) c.max-now.ensures c.in_ok-entry.ensures.found) in
+    let le : max now moment ≤ greatest_moment = omega (arith, c.loop-message.invariant.moment, c.requires.moment) in
+    rw (c.in_ok-push.ensures.ok, c.in_ok-push-2.ensures.ok, c.is_handshake-handshake.ensures, c.max-now.ensures)
+    (one_next config (members_of c.args.draft.now) c.args.draft.now.base c.args.clock c.args.first list (listed_from moment nonce sole (seen || is_handshake x) (drop (i + 1) ms)) d c.plan_next.new.draft now place
+    c.loop-message.entries c.loop-message.slots p c.in_ok-entry.entry c.in_ok-entry.slot so le c.in_ok-entry.ensures.base found)

@@ -1,0 +1,10 @@
+use Rattle.std.proofs.Common.{drop}
+use Rattle.bx_entry.specs.Listing.{listed_from, request}
+use Rattle.bx_registry.specs.Drafts.{members_of}
+use Rattle.bx_registry.proofs.Planning.{SoFar}
+use Rattle.bx_registry.proofs.planner.plan_all.Given as goal
+
+abbrev pub invariant-loop-message : goal.invariant-loop-message
+invariant-loop-message l =
+    SoFar l.config (members_of l.fn.draft) l.fn.draft.base l.clock l.first (request l.handed.moment l.handed.nonce l.messages)
+    (listed_from l.handed.moment l.handed.nonce l.sole l.seen (drop l.message-index l.messages)) l.draft l.now l.place l.entries l.slots

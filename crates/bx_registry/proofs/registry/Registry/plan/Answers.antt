@@ -1,0 +1,29 @@
+use Rattle.std.proofs.Common.{◌≡◌, ◌+◌, ◌≤◌, ℕ, List, false, length, sym, subst, arith}
+use Rattle.std.specs.Prelude.{◌==◌}
+use Rattle.bx_advice.specs.Limits.{greatest_length}
+use Rattle.bx_entry.specs.Listing.{Listed, request}
+use Rattle.bx_registry.specs.Rolls.{Roll}
+use Rattle.bx_registry.proofs.Planning.{admitted, length-listed, planned-at, planned-after}
+use Rattle.bx_registry.proofs.registry.Registry.plan.Goals as goal
+
+pub returns-clause-planned : goal.returns-clause-planned
+returns-clause-planned c =
+    let roll : Roll = record { config = c.self.inside.config; members = c.self.inside.table; clock = c.self.inside.clock; length = c.self.inside.length } in
+    let list : List Listed = request c.args.moment c.args.nonce c.args.messages.now in
+    let n = length-listed c.args.moment c.args.nonce (length c.args.messages.now == 1) false c.args.messages.now in
+    let end : ℕ = c.self.inside.length + length c.args.messages.now in
+    let long : end ≡ c.self.inside.length + length list = omega (arith, n) in
+    let can = c.into_edits.ensures.can in
+    let room : end ≤ greatest_length = subst (λ (r : Roll). r.length + length c.args.messages.now ≤ greatest_length) (sym c.self.view_is) (admitted c.args.moment (c.args.self.now.length + length c.args.messages.now) c.in_ok-check.field-0 c.in_ok-check.ensures).1 in
+    rw (← c.self.view_is) (planned-at roll c.new-draft.result c.plan_all.new.draft c.into_edits.result list c.in_ok-planning.planning.entries c.in_ok-planning.planning.slots c.in_ok-planning.planning.clock end
+    c.new-draft.ensures c.in_ok-planning.ensures.base c.into_edits.ensures.edits can c.in_ok-planning.ensures.planned long room)
+
+pub returns-clause-change : goal.returns-clause-change
+returns-clause-change c =
+    let roll : Roll = record { config = c.self.inside.config; members = c.self.inside.table; clock = c.self.inside.clock; length = c.self.inside.length } in
+    let list : List Listed = request c.args.moment c.args.nonce c.args.messages.now in
+    let n = length-listed c.args.moment c.args.nonce (length c.args.messages.now == 1) false c.args.messages.now in
+    let end : ℕ = c.self.inside.length + length c.args.messages.now in
+    let long : end ≡ c.self.inside.length + length list = omega (arith, n) in
+    rw (← c.self.view_is) (planned-after roll c.new-draft.result c.plan_all.new.draft c.into_edits.result list c.in_ok-planning.planning.entries c.in_ok-planning.planning.slots c.in_ok-planning.planning.clock end
+    c.new-draft.ensures c.in_ok-planning.ensures.base c.into_edits.ensures.edits c.in_ok-planning.ensures.planned long)

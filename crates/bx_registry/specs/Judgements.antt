@@ -1,0 +1,28 @@
+-- What the judging of a message hands on.
+use Rattle.std.specs.Prelude.{ℕ, ◌≡◌, fold, option_to_list, Option, Some}
+use Rattle.bx_message.specs.declared.column.Column.{Column}
+use Rattle.bx_message.specs.declared.column.Column.TheVariants as columns
+use Rattle.bx_entry.specs.declared.entry.Kind.{Kind}
+use Rattle.bx_registry.specs.Rolls.{Members, Outcome}
+use Rattle.bx_registry.specs.Edits.{edited, CanEditEach}
+use Rattle.bx_registry.specs.Plans.{planned_at}
+use Rattle.bx_registry.specs.declared.change.Edit.{Edit}
+use Rattle.bx_registry.specs.declared.change.Edit.TheVariants.{Extend, Close}
+use Rattle.bx_registry.specs.declared.plan.Planned.{Planned}
+
+-- an accepted message of a session moves its due moment on; a disconnect closes the session
+abbrev pub edit_for : Column → ℕ → ℕ → Edit
+edit_for columns.Handshake number due = Extend number due
+edit_for columns.Connect number due = Extend number due
+edit_for columns.Subscribe number due = Extend number due
+edit_for columns.Unsubscribe number due = Extend number due
+edit_for columns.Disconnect number due = Close number
+edit_for columns.Publish number due = Extend number due
+edit_for columns.UnknownMeta number due = Extend number due
+
+-- the edit, if there is one, the kind of the entry and the slot are those of the outcome at this place
+pub record IsOutcome (ms : Members) (place : ℕ) (o : Outcome) (edit : Option Edit) (kind : Kind) (slot : Planned) : Type 0 where
+  pub members : fold edited ms (option_to_list edit) ≡ o.members
+  pub can : CanEditEach ms (option_to_list edit)
+  pub what : kind ≡ o.kind
+  pub answer : planned_at place o.slot ≡ Some slot

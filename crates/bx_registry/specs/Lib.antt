@@ -1,0 +1,10 @@
+pub mod Rolls
+pub mod Laws
+pub mod Tables
+pub mod Ids
+pub mod Edits
+pub mod Drafts
+pub mod Postings
+pub mod Plans
+pub mod Judgements
+pub mod Planners

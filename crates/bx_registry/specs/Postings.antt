@@ -1,0 +1,7 @@
+-- A message at hand as the list has it.
+use Rattle.bx_entry.specs.Listing as messages
+use Rattle.bx_registry.specs.declared.posted.Posted.{Posted}
+
+-- the posted message
+abbrev pub posted_of : Posted → messages.Posted
+posted_of p = record { message = p.message.now; moment = p.moment; nonce = p.nonce; sole = p.sole; second = p.second }

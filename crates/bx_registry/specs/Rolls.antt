@@ -1,0 +1,150 @@
+-- The registry without what is over: of the sessions the live ones, of the list its length. Which message is refused and why, and what an
+-- accepted one comes to, is said by the words of the registry itself.
+use Rattle.std.specs.Prelude.{ℕ, ◌+◌, max, Bool, List, [], ◌∷◌, ◌++◌, length, filter, fold, if◌then◌else◌, Option, Some, None, option_map}
+use Rattle.bx_advice.specs.declared.config.Config.{Config}
+use Rattle.bx_advice.specs.declared.advice.Case.TheVariants.{Failed}
+use Rattle.bx_advice.specs.declared.advice.Case.TheVariants as advice
+use Rattle.bx_advice.specs.declared.error.Error.{Error}
+use Rattle.bx_message.specs.declared.column.Column.{Column}
+use Rattle.bx_message.specs.declared.reply.AckReply.TheVariants as replies
+use Rattle.bx_message.specs.Columns.{column_of}
+use Rattle.bx_message.specs.Replies.{reply_to}
+use Rattle.bx_entry.specs.declared.entry.Kind.{Kind}
+use Rattle.bx_entry.specs.declared.entry.Kind.TheVariants as entries
+use Rattle.bx_entry.specs.Listing.{Posted, Listed, Post}
+use Rattle.bx_entry.specs.Listing as messages
+use Rattle.bx_entry.specs.Registry.{Registered, Registry, Judged, PlaceSlot, Ready, NoSlot, client_id, extended, hold_of, is_ack, kind_for, left_by, named_by, overdue, refusal, slot_for, swept}
+
+-- ---- the state
+
+-- how many sessions may be live, how many were ever opened, and those that are live, in the order of their numbers
+pub record Members : Type 0 where
+  pub limit : ℕ
+  pub opened : ℕ
+  pub live : List Registered
+
+-- the configuration, the sessions, the greatest moment so far, and how many entries the list has
+pub record Roll : Type 0 where
+  pub config : Config
+  pub members : Members
+  pub clock : ℕ
+  pub length : ℕ
+
+-- the sessions of a list that are live
+abbrev pub live_in : List Registered → List Registered
+live_in sessions = filter (λ (r : Registered). r.live) sessions
+
+-- what stays of the registry
+abbrev pub roll_of : Config → Registry → Roll
+roll_of config r = record {
+  config = config;
+  members = record { limit = config.limits.sessions; opened = length r.sessions; live = live_in r.sessions };
+  clock = r.clock;
+  length = length r.judged;
+}
+
+-- ---- what an element of the list comes to
+
+-- the sessions after it, the kind of its entry, its sender, the hold granted to it, and how it is answered
+pub record Outcome : Type 0 where
+  pub members : Members
+  pub kind : Kind
+  pub sender : Option ℕ
+  pub hold : ℕ
+  pub slot : PlaceSlot
+
+-- these sessions in place of those that are live
+abbrev pub with_live : Members → List Registered → Members
+with_live ms live = record ms { live = live }
+
+-- a refused message changes nothing
+abbrev pub refused : Config → Members → Posted → Error → Option Registered → Outcome
+refused config ms p error sender = record {
+  members = ms;
+  kind = entries.Refused;
+  sender = None;
+  hold = 0;
+  slot = Ready (reply_to config (column_of p.message.channel) p.message (option_map (λ (s : Registered). s.client) sender) (Failed error) replies.NoAck);
+}
+
+-- a session as it is opened
+abbrev pub newcomer : Config → ℕ → Posted → ℕ → Registered
+newcomer config moment p number =
+    record { number = number; client = client_id p.nonce number; ack = is_ack p.message.ack; due = moment + config.max_interval; live = Bool.true }
+
+-- a new session, under the next number
+abbrev pub opened : Config → Members → ℕ → Posted → ℕ → Outcome
+opened config ms moment p number = record {
+  members = record ms { opened = number; live = ms.live ++ newcomer config moment p number ∷ [] };
+  kind = entries.Opened number (is_ack p.message.ack);
+  sender = Some number;
+  hold = 0;
+  slot = Ready (reply_to config Column.Handshake p.message (Some (client_id p.nonce number)) advice.Opened (if is_ack p.message.ack then replies.AckTrue else replies.NoAck));
+}
+
+-- an accepted message of a live session
+abbrev pub served : Config → Members → ℕ → Posted → Column → Registered → ℕ → Outcome
+served config ms moment p column s hold = record {
+  members = with_live ms (live_in (left_by column s.number (extended s.number (moment + hold + config.max_interval) ms.live)));
+  kind = kind_for column p s hold;
+  sender = Some s.number;
+  hold = hold;
+  slot = slot_for config column p s;
+}
+
+-- an accepted message: a handshake has no session yet, every other has one
+abbrev pub accepted : Config → Members → ℕ → Posted → Option Registered → Outcome
+accepted config ms moment p None = opened config ms moment p (ms.opened + 1)
+accepted config ms moment p (Some s) = served config ms moment p (column_of p.message.channel) s (hold_of config p)
+
+-- a message is refused or accepted
+abbrev pub judged_by : Config → Members → ℕ → Posted → Option Registered → Option Error → Outcome
+judged_by config ms moment p sender (Some error) = refused config ms p error sender
+judged_by config ms moment p sender None = accepted config ms moment p sender
+
+-- what a message comes to at this moment
+abbrev pub outcome : Config → Members → ℕ → Posted → Outcome
+outcome config ms moment p =
+    judged_by config ms moment p (named_by ms.live (column_of p.message.channel) p.message) (refusal config ms.live p)
+
+-- a tick closes the sessions that are overdue
+abbrev pub tick_outcome : Members → ℕ → Outcome
+tick_outcome ms moment = record {
+  members = with_live ms (live_in (swept moment ms.live));
+  kind = entries.Tick (overdue moment ms.live);
+  sender = None;
+  hold = 0;
+  slot = NoSlot;
+}
+
+-- ---- one element after another
+
+-- the roll after an element, and what is found at its place
+pub record Step : Type 0 where
+  pub roll : Roll
+  pub found : Judged
+
+-- the roll with one more place
+abbrev pub noted : Roll → ℕ → Outcome → Step
+noted roll moment o = record {
+  roll = record { config = roll.config; members = o.members; clock = moment; length = roll.length + 1 };
+  found = record { entry = record { place = roll.length; moment = moment; kind = o.kind }; sender = o.sender; hold = o.hold; slot = o.slot };
+}
+
+-- the next element has the greatest moment so far, and is judged by the sessions before it
+abbrev pub step : Roll → Listed → Step
+step roll (Post p) = noted roll (max roll.clock p.moment) (outcome roll.config roll.members (max roll.clock p.moment) p)
+step roll (messages.Tick moment) = noted roll (max roll.clock moment) (tick_outcome roll.members (max roll.clock moment))
+
+-- the roll after one more element
+abbrev pub next : Roll → Listed → Roll
+next roll element = (step roll element).roll
+
+-- the roll after these elements
+abbrev pub after : Roll → List Listed → Roll
+after roll list = fold next roll list
+
+-- what is found at their places
+abbrev pub found : Roll → List Listed → List Judged
+found roll [] = []
+found roll (element ∷ list) = (step roll element).found ∷ found (next roll element) list

@@ -1,0 +1,154 @@
+//! A request that is being judged, message by message.
+ghost use Rattle.std.specs.Prelude.{◌≡◌, ◌+◌, ◌<◌, ◌≤◌, ◌++◌, ◌∷◌, [], ℕ, length, IfOk, OnOk, OnErr, MatchOption};
+ghost use Rattle.std.specs.Option.{option_copied};
+ghost use Rattle.bx_entry.specs.Registry.{count_live, live_with_id, named_by, sender_of};
+ghost use Rattle.bx_registry.specs.Tables.{AllLive, IsTable, client_at};
+ghost use Rattle.bx_registry.specs.Drafts.{Drafted, IsSender, client_after, members_of};
+ghost use Rattle.bx_registry.specs.Edits.{CanEdit, CanEditEach};
+
+use crate::change::Edit;
+use crate::id::number_in;
+use crate::table::Table;
+use bx_message::{Column, Message, Sequence, Text, TextMember};
+use std::alloc::{AllocError, AllocFailed, Global};
+use std::marker::Model;
+
+/// The session that a message names.
+#[derive(Drop)]
+pub(crate) struct Sender<'m> {
+    pub(crate) number: u64,
+    pub(crate) client: &'m Text,
+}
+
+/// The sessions as they are behind the messages that were judged. Nothing is changed yet.
+#[derive(Drop)]
+pub(crate) struct Draft<'a> {
+    table: &'a Table,
+    edits: Vec<Edit>,
+    count: usize,
+    opened: u64,
+}
+
+impl<'a> Model for Draft<'a> {
+    ghost use Rattle.bx_registry.specs.Drafts.{Drafted, IsDrafted};
+
+    ghost Value = { Drafted };
+
+    ghost view = { λ d. record { base = d.table.now; edits = d.edits.items } };
+
+    ghost invariant = { λ d. IsDrafted d.table.now d.edits.items d.count d.opened };
+}
+
+impl<'a> Draft<'a> {
+    /// The sessions as they are.
+    pub(crate) fn new(alloc: Global, table: &'a Table) -> Draft<'a>
+        ensures { result ≡ record { base = table.now; edits = [] } }
+    {
+        let (count, opened) = table.counts();
+        Draft {
+            table,
+            edits: Vec::new(alloc),
+            count,
+            opened,
+        }
+    }
+
+    /// How many sessions are live, and how many were opened.
+    pub(crate) fn counts(&self) -> (usize, u64)
+        ensures live { result.0 ≡ count_live (members_of self.now).live }
+        ensures all { AllLive (members_of self.now).live }
+        ensures opened { result.1 ≡ (members_of self.now).opened }
+    {
+        (self.count, self.opened)
+    }
+
+    /// The live session that a message of this column names. A handshake names none.
+    pub(crate) fn named_by<'m>(&self, column: Column, message: &'m Message) -> Option<Sender<'m>>
+        ensures { MatchOption result (named_by (members_of self.now).live column message.now ≡ None)
+            (λ s. IsSender (named_by (members_of self.now).live column message.now) s.number s.client.now) }
+    {
+        match column {
+            Column::Handshake | Column::UnknownMeta => None,
+            _ => self.sender_of(&message.client),
+        }
+    }
+
+    // The live session with this client id.
+    fn sender_of<'m>(&self, client: &'m TextMember) -> Option<Sender<'m>>
+        ensures { MatchOption result (sender_of (members_of self.now).live client.now ≡ None)
+            (λ s. IsSender (sender_of (members_of self.now).live client.now) s.number s.client.now) }
+    {
+        match client {
+            TextMember::Text(client) => self.live_with_id(client),
+            _ => None,
+        }
+    }
+
+    // The number at the id's end is that of the only session that can have it.
+    fn live_with_id<'m>(&self, client: &'m Text) -> Option<Sender<'m>>
+        ensures { MatchOption result (live_with_id (members_of self.now).live client.now ≡ None)
+            (λ s. IsSender (live_with_id (members_of self.now).live client.now) s.number s.client.now) }
+    {
+        let _ = &self.edits;
+        let number = number_in(client.as_str());
+        let known = self.client_at(number)?;
+        if known.as_str() == client.as_str() {
+            Some(Sender { number, client })
+        } else {
+            None
+        }
+    }
+
+    // The client id of the live session with this number.
+    fn client_at(&self, number: u64) -> Option<&Text>
+        ensures { option_copied result ≡ client_at number (members_of self.now).live }
+    {
+        let mut client = self.table.client_at(number);
+        for edit in self.edits.as_slice() {
+            client = client_after(number, client, edit);
+        }
+        client
+    }
+
+    /// Takes one more edit down.
+    pub(crate) fn push(&mut self, edit: Edit) -> Result<(), AllocError>
+        requires { CanEdit (members_of self.old) edit }
+        ensures base { self.new.base ≡ self.old.base }
+        ensures edits { OnOk result (self.new.edits ≡ self.old.edits ++ edit ∷ []) }
+    {
+        let (count, opened) = match &edit {
+            Edit::Open(session) => (self.count + 1, session.number),
+            Edit::Extend { .. } => (self.count, self.opened),
+            Edit::Close { .. } => (self.count - 1, self.opened),
+        };
+        self.edits.push(edit)?;
+        self.count = count;
+        self.opened = opened;
+        Ok(())
+    }
+
+    /// The edits, in order.
+    pub(crate) fn into_edits(self) -> Sequence<Edit>
+        ensures edits { result ≡ self.entry.edits }
+        ensures can { CanEditEach self.entry.base self.entry.edits }
+    {
+        let Draft { edits, .. } = self;
+        Sequence::from_vec(edits)
+    }
+}
+
+fn client_after<'a>(number: u64, client: Option<&'a Text>, edit: &'a Edit) -> Option<&'a Text>
+    ensures { option_copied result ≡ client_after number (option_copied client.entry) edit.now }
+{
+    match edit {
+        Edit::Open(session) => {
+            if client.is_none() && session.number == number {
+                Some(&session.client)
+            } else {
+                client
+            }
+        }
+        Edit::Extend { .. } => client,
+        Edit::Close { number: closed } => { if *closed == number { None } else { client } }
+    }
+}

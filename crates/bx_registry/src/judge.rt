@@ -1,0 +1,357 @@
+//! What a message comes to.
+ghost use Rattle.std.specs.Prelude.{◌≡◌, ◌+◌, ◌<◌, ◌≤◌, ◌^◌, ℕ, Some, None, List, length, min, unwrap_or, map, filter, not, if◌then◌else◌, is_some, IfOk, Option, option_map};
+ghost use Rattle.std.specs.Option.{option_copied};
+ghost use Rattle.bx_names.specs.Globs.{Glob, glob_of};
+ghost use Rattle.bx_names.specs.Kinds.{is_service};
+ghost use Rattle.bx_names.specs.Segments.{segments};
+ghost use Rattle.bx_advice.specs.declared.advice.Case.TheVariants.{Failed};
+ghost use Rattle.bx_advice.specs.declared.advice.Case.TheVariants as advice;
+ghost use Rattle.bx_advice.specs.Limits.{greatest_moment};
+ghost use Rattle.bx_message.specs.declared.reply.AckReply.TheVariants as replies;
+ghost use Rattle.bx_message.specs.declared.column.Column.TheVariants as columns;
+ghost use Rattle.bx_message.specs.Columns.{column_of};
+ghost use Rattle.bx_message.specs.Replies.{reply_to};
+ghost use Rattle.bx_entry.specs.declared.entry.Kind.TheVariants as entries;
+ghost use Rattle.bx_entry.specs.Registry.{Registered, acked_by, client_id, event_of, hold_of, is_ack, kind_for, patterns_of, slot_for};
+ghost use Rattle.bx_registry.specs.declared.change.Edit.TheVariants as edits;
+ghost use Rattle.bx_registry.specs.Postings.{posted_of};
+ghost use Rattle.bx_registry.specs.Rolls.{newcomer, outcome};
+ghost use Rattle.bx_entry.specs.Listing as messages;
+ghost use Rattle.bx_registry.specs.Drafts.{members_of, named};
+ghost use Rattle.bx_registry.specs.Plans.{planned_at};
+ghost use Rattle.bx_registry.specs.Judgements.{IsOutcome, edit_for};
+
+use crate::change::Edit;
+use crate::draft::{Draft, Sender};
+use crate::id::client_id;
+use crate::plan::Planned;
+use crate::posted::Posted;
+use crate::refusal::refusal;
+use crate::session::Session;
+use bx_advice::{Case, Config, Error};
+use bx_entry::Kind;
+use bx_message::{
+    AckMember, AckReply, Column, Event, Message, RawJson, Reply, Sequence, SharedEvent,
+};
+use bx_names::Pattern;
+use std::alloc::{AllocError, AllocFailed, Global};
+
+/// What a message comes to: what it changes of the sessions, its entry's kind, and how it is answered.
+#[derive(Drop)]
+pub(crate) struct Judgement {
+    pub(crate) edit: Option<Edit>,
+    pub(crate) kind: Kind,
+    pub(crate) slot: Planned,
+}
+
+/// Judges a message by the sessions behind those before it: what it comes to at this place and moment.
+pub(crate) fn judge(
+    alloc: Global,
+    config: &Config,
+    draft: &Draft<'_>,
+    moment: u64,
+    place: u64,
+    posted: Posted<'_>,
+) -> Result<Judgement, AllocError>
+    requires moment { moment ≤ greatest_moment }
+    requires limit { (members_of draft.now).limit ≡ config.now.limits.sessions }
+    requires number { (members_of draft.now).opened + 1 < 2 ^ 64 }
+    ensures { IfOk result (λ j. IsOutcome (members_of draft.now) place
+        (outcome config.now (members_of draft.now) moment (posted_of posted.entry)) j.edit j.kind j.slot) }
+{
+    let column = Column::of(posted.message.channel.as_str());
+    let sender = draft.named_by(column, posted.message);
+    let (live, opened) = draft.counts();
+    match refusal(config, live, sender.is_some(), column, posted) {
+        Some(error) => refuse(config, column, posted.message, &sender, error),
+        None => match &sender {
+            None => open(alloc, config, moment, opened + 1, posted),
+            Some(sender) => serve(alloc, config, column, moment, place, posted, sender),
+        },
+    }
+}
+
+// A refused message changes nothing but the list.
+fn refuse(
+    config: &Config,
+    column: Column,
+    message: &Message,
+    sender: &Option<Sender<'_>>,
+    error: Error,
+) -> Result<Judgement, AllocError>
+    ensures edit { IfOk result (λ j. j.edit ≡ None) }
+    ensures kind { IfOk result (λ j. j.kind ≡ entries.Refused) }
+    ensures slot { IfOk result (λ j. j.slot ≡ Planned.Ready (reply_to config.now column message.now
+        (option_map (λ s. s.client.now) sender.now) (Failed error) replies.NoAck)) }
+{
+    let client = match sender {
+        Some(sender) => Some(sender.client),
+        None => None,
+    };
+    let reply = Reply::to_message(
+        config,
+        column,
+        message,
+        client,
+        Case::Failed(error),
+        AckReply::NoAck,
+    )?;
+    Ok(Judgement {
+        edit: None,
+        kind: Kind::Refused,
+        slot: Planned::Ready(reply),
+    })
+}
+
+// An accepted message of a live session. A connect waits for its answer, every other message has its success at once.
+fn serve(
+    alloc: Global,
+    config: &Config,
+    column: Column,
+    moment: u64,
+    place: u64,
+    posted: Posted<'_>,
+    sender: &Sender<'_>,
+) -> Result<Judgement, AllocError>
+    requires column { column ≡ column_of posted.message.now.channel }
+    requires moment { moment ≤ greatest_moment }
+    ensures edit { IfOk result (λ j. j.edit ≡ Some (edit_for column sender.now.number
+        (moment + hold_of config.now (posted_of posted.entry) + config.now.max_interval))) }
+    ensures kind { IfOk result (λ j. j.kind
+        ≡ kind_for column (posted_of posted.entry) (named sender.now) (hold_of config.now (posted_of posted.entry))) }
+    ensures slot { IfOk result (λ j. planned_at place
+        (slot_for config.now column (posted_of posted.entry) (named sender.now)) ≡ Some j.slot) }
+{
+    let hold = hold_of(config, column, posted);
+    let due = due_after(config, moment, hold);
+    Ok(Judgement {
+        edit: Some(edit_for(column, sender.number, due)),
+        kind: kind_for(alloc, column, posted.message, sender, hold)?,
+        slot: slot_for(config, column, place, posted.message, sender)?,
+    })
+}
+
+// The entry's kind for an accepted message of a live session. Neither a handshake nor a message to an unknown meta
+// channel is one.
+fn kind_for(
+    alloc: Global,
+    column: Column,
+    message: &Message,
+    sender: &Sender<'_>,
+    hold: u64,
+) -> Result<Kind, AllocError>
+    ensures { IfOk result (λ kind. (p : messages.Posted) → p.message ≡ message.now
+        → kind ≡ kind_for column p (named sender.now) hold) }
+{
+    let session = sender.number;
+    Ok(match column {
+        Column::Handshake | Column::UnknownMeta => Kind::Refused,
+        Column::Connect => Kind::Connect {
+            session,
+            client: sender.client.clone()?,
+            id: share(&message.id)?,
+            acked: acked_by(message.ack),
+            hold,
+        },
+        Column::Subscribe => Kind::Subscribe {
+            session,
+            patterns: patterns_of(alloc, message)?,
+        },
+        Column::Unsubscribe => Kind::Unsubscribe {
+            session,
+            patterns: patterns_of(alloc, message)?,
+        },
+        Column::Disconnect => Kind::Disconnect { session },
+        Column::Publish => Kind::Publish(event_of(alloc, message)?),
+    })
+}
+
+// How an accepted message of a live session is answered.
+fn slot_for(
+    config: &Config,
+    column: Column,
+    place: u64,
+    message: &Message,
+    sender: &Sender<'_>,
+) -> Result<Planned, AllocError>
+    ensures { IfOk result (λ slot. (p : messages.Posted) → p.message ≡ message.now
+        → planned_at place (slot_for config.now column p (named sender.now)) ≡ Some slot) }
+{
+    match column {
+        Column::Connect => Ok(Planned::Waiting {
+            place,
+            session: sender.number,
+        }),
+        _ => {
+            let client = Some(sender.client);
+            let reply = Reply::to_message(
+                config,
+                column,
+                message,
+                client,
+                Case::Done,
+                AckReply::NoAck,
+            )?;
+            Ok(Planned::Ready(reply))
+        }
+    }
+}
+
+// The number that a connect acknowledges.
+fn acked_by(ack: AckMember) -> Option<u64>
+    ensures { result ≡ acked_by ack }
+{
+    match ack {
+        AckMember::AckNumber(number) => Some(number),
+        _ => None,
+    }
+}
+
+// A session is opened under this number.
+fn open(
+    alloc: Global,
+    config: &Config,
+    moment: u64,
+    number: u64,
+    posted: Posted<'_>,
+) -> Result<Judgement, AllocError>
+    requires { moment ≤ greatest_moment }
+    ensures edit { IfOk result (λ j.
+        j.edit ≡ Some (edits.Open (newcomer config.now moment (posted_of posted.entry) number))) }
+    ensures kind { IfOk result (λ j. j.kind ≡ entries.Opened number (is_ack posted.entry.message.now.ack)) }
+    ensures slot { IfOk result (λ j. j.slot ≡ Planned.Ready (reply_to config.now columns.Handshake
+        posted.entry.message.now (Some (client_id posted.entry.nonce number)) advice.Opened
+        (if is_ack posted.entry.message.now.ack then replies.AckTrue else replies.NoAck))) }
+{
+    let message = posted.message;
+    let client = client_id(alloc, posted.nonce, number)?;
+    let ack = is_ack(message.ack);
+    let answer = if ack {
+        AckReply::AckTrue
+    } else {
+        AckReply::NoAck
+    };
+    let reply = Reply::to_message(
+        config,
+        Column::Handshake,
+        message,
+        Some(&client),
+        Case::Opened,
+        answer,
+    )?;
+    let due = due_after(config, moment, 0);
+    let session = Session {
+        number,
+        client,
+        ack,
+        due,
+        live: true,
+    };
+    Ok(Judgement {
+        edit: Some(Edit::Open(session)),
+        kind: Kind::Opened {
+            session: number,
+            ack,
+        },
+        slot: Planned::Ready(reply),
+    })
+}
+
+// Whether a handshake turns acknowledgement on.
+fn is_ack(ack: AckMember) -> bool
+    ensures { result ≡ is_ack ack }
+{
+    match ack {
+        AckMember::AckTrue => true,
+        _ => false,
+    }
+}
+
+// How long a connect may be held: only a request's sole message is.
+fn hold_of(config: &Config, column: Column, posted: Posted<'_>) -> u64
+    requires { column ≡ column_of posted.message.now.channel }
+    ensures hold { result ≡ hold_of config.now (posted_of posted.entry) }
+    ensures small { result < 2 ^ 32 }
+{
+    match column {
+        Column::Connect if posted.sole => {
+            let timeout = u64::from(config.timeout);
+            timeout.min(posted.message.timeout.unwrap_or(timeout))
+        }
+        _ => 0,
+    }
+}
+
+// When a session is due after a message at this moment that is held so long.
+fn due_after(config: &Config, moment: u64, hold: u64) -> u64
+    requires moment { moment ≤ greatest_moment }
+    requires hold { hold < 2 ^ 32 }
+    ensures { result ≡ moment + hold + config.now.max_interval }
+{
+    let interval = config.max_interval;
+    moment + hold + u64::from(interval)
+}
+
+// What an accepted message of a session changes: a disconnect closes it.
+fn edit_for(column: Column, number: u64, due: u64) -> Edit
+    ensures { result ≡ edit_for column number due }
+{
+    match column {
+        Column::Disconnect => Edit::Close { number },
+        _ => Edit::Extend { number, due },
+    }
+}
+
+// The subscription's patterns, without those of service channels.
+fn patterns_of(alloc: Global, message: &Message) -> Result<Sequence<Pattern>, AllocError>
+    ensures { IfOk result (λ ps. ps ≡ patterns_of message.now) }
+{
+    let mut patterns = Sequence::new(alloc);
+    for text in message.texts.as_slice() {
+        if !is_service(text.as_str()) {
+            patterns.push(pattern_of(alloc, text.as_str())?)?;
+        }
+    }
+    Ok(patterns)
+}
+
+fn is_service(text: &str) -> bool
+    ensures { result ≡ is_service text.now }
+{
+    text.starts_with("/service/")
+}
+
+// A text that was tested reads as a pattern.
+fn pattern_of(alloc: Global, text: &str) -> Result<Pattern, AllocError>
+    ensures { IfOk result (λ p. p ≡ glob_of (segments text.now)) }
+{
+    match Pattern::read(alloc, text) {
+        Ok(pattern) => Ok(pattern),
+        Err(_) => Err(AllocError),
+    }
+}
+
+// The event of a publish, without the publisher's id.
+fn event_of(alloc: Global, message: &Message) -> Result<SharedEvent, AllocError>
+    ensures { IfOk result (λ e. e ≡ event_of message.now) }
+{
+    let payload = match &message.payload {
+        Some(payload) => payload.clone()?,
+        None => RawJson::new(alloc, "")?,
+    };
+    let event = Event {
+        channel: message.channel.clone()?,
+        payload,
+        id: share(&message.id)?,
+    };
+    SharedEvent::new(alloc, event)
+}
+
+fn share(json: &Option<RawJson>) -> Result<Option<RawJson>, AllocError>
+    ensures { IfOk result (λ shared. shared ≡ json.now) }
+{
+    match json {
+        Some(json) => Ok(Some(json.clone()?)),
+        None => Ok(None),
+    }
+}

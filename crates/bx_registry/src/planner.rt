@@ -1,0 +1,119 @@
+//! The messages of a request, one after another.
+ghost use Rattle.std.specs.Prelude.{◌≡◌, ◌+◌, ◌<◌, ◌≤◌, ◌&&◌, ◌==◌, max, Some, List, length, IfOk};
+ghost use Rattle.bx_advice.specs.Limits.{greatest_length, greatest_moment};
+ghost use Rattle.bx_message.specs.Columns.{is_handshake};
+ghost use Rattle.bx_entry.specs.Listing.{request};
+ghost use Rattle.bx_entry.specs.declared.entry.Entry.{Entry};
+ghost use Rattle.bx_registry.specs.Rolls.{Roll, after, found, outcome};
+ghost use Rattle.bx_registry.specs.Drafts.{members_of};
+ghost use Rattle.bx_registry.specs.Postings.{posted_of};
+ghost use Rattle.bx_registry.specs.Plans.{entries_in, planned_at, slots_in};
+ghost use Rattle.bx_registry.specs.Planners.{IsFoundAt, IsPlannedBy};
+
+use crate::draft::Draft;
+use crate::judge::{Judgement, judge};
+use crate::plan::Planned;
+use crate::posted::Posted;
+use bx_advice::Config;
+use bx_entry::Entry;
+use bx_message::{Message, Sequence};
+use std::alloc::{AllocError, AllocFailed, Global};
+
+/// What the messages of a request come to.
+#[derive(Drop)]
+pub(crate) struct Planning {
+    pub(crate) entries: Sequence<Entry>,
+    pub(crate) slots: Sequence<Planned>,
+    /// The greatest moment behind them.
+    pub(crate) clock: u64,
+}
+
+/// What a request hands in beside its messages.
+#[derive(Clone, Copy)]
+pub(crate) struct Handed {
+    pub(crate) moment: u64,
+    pub(crate) nonce: u128,
+}
+
+/// Judges the messages in order, from this place of the list and this clock on.
+pub(crate) fn plan_all(
+    alloc: Global,
+    config: &Config,
+    draft: &mut Draft<'_>,
+    clock: u64,
+    first: u64,
+    handed: Handed,
+    messages: &[Message],
+) -> Result<Planning, AllocError>
+    requires clock { clock ≤ greatest_moment }
+    requires moment { handed.moment ≤ greatest_moment }
+    requires room { first + length messages.now ≤ greatest_length }
+    requires limit { (members_of draft.old).limit ≡ config.now.limits.sessions }
+    requires opened { (members_of draft.old).opened ≤ first }
+    ensures base { draft.new.base ≡ draft.old.base }
+    ensures planned { IfOk result (λ p. IsPlannedBy config.now (members_of draft.old) (members_of draft.new)
+        clock first (request handed.moment handed.nonce messages.now) p.entries p.slots p.clock) }
+{
+    let mut now = clock;
+    let mut place = first;
+    let mut seen = false;
+    let mut entries = Sequence::new(alloc);
+    let mut slots = Sequence::new(alloc);
+    let sole = messages.len() == 1;
+    for message in messages {
+        now = now.max(handed.moment);
+        let handshake = is_handshake(message);
+        let second = seen & handshake;
+        let posted = Posted {
+            message,
+            moment: handed.moment,
+            nonce: handed.nonce,
+            sole,
+            second,
+        };
+        let (entry, slot) = plan_next(alloc, config, draft, now, place, posted)?;
+        entries.push(entry)?;
+        slots.push(slot)?;
+        seen |= handshake;
+        place += 1;
+    }
+    Ok(Planning {
+        entries,
+        slots,
+        clock: now,
+    })
+}
+
+fn is_handshake(message: &Message) -> bool
+    ensures { result ≡ is_handshake message.now }
+{
+    message.channel.as_str() == "/meta/handshake"
+}
+
+// Judges the message at this place, and takes down what it changes.
+fn plan_next(
+    alloc: Global,
+    config: &Config,
+    draft: &mut Draft<'_>,
+    clock: u64,
+    place: u64,
+    posted: Posted<'_>,
+) -> Result<(Entry, Planned), AllocError>
+    requires clock { clock ≤ greatest_moment }
+    requires limit { (members_of draft.old).limit ≡ config.now.limits.sessions }
+    requires opened { (members_of draft.old).opened ≤ greatest_length }
+    ensures base { draft.new.base ≡ draft.old.base }
+    ensures found { IfOk result (λ r. IsFoundAt place clock
+        (outcome config.now (members_of draft.old) clock (posted_of posted.entry)) (members_of draft.new) r.0 r.1) }
+{
+    let Judgement { edit, kind, slot } = judge(alloc, config, draft, clock, place, posted)?;
+    if let Some(edit) = edit {
+        draft.push(edit)?;
+    }
+    let entry = Entry {
+        place,
+        moment: clock,
+        kind,
+    };
+    Ok((entry, slot))
+}

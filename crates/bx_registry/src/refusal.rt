@@ -1,0 +1,139 @@
+//! Which message is refused, and why.
+ghost use Rattle.std.specs.Prelude.{◌≡◌, List, length, nat_lt, nat_le, not, is_some, is_none};
+ghost use Rattle.std.specs.List.{list_any};
+ghost use Rattle.bx_names.specs.Faults.{name_fault, pattern_fault};
+ghost use Rattle.bx_names.specs.Kinds.{is_meta};
+ghost use Rattle.bx_message.specs.Columns.{column_of};
+ghost use Rattle.bx_entry.specs.Registry.{Registered, count_live, is_connection, is_polling, is_text, is_version, named_by, refusal};
+ghost use Rattle.bx_registry.specs.Postings.{posted_of};
+
+use crate::posted::Posted;
+use bx_advice::{Config, Error};
+use bx_message::{Column, Message, Text, TextMember};
+use bx_names::{ChannelKind, kind_of, name_fault, pattern_fault};
+
+/// Why a message of this column is refused, where so many sessions are live, and it is `known` whether it names one
+/// of them: the first line that holds. They stand in the order of the errors.
+pub(crate) fn refusal(
+    config: &Config,
+    live: usize,
+    known: bool,
+    column: Column,
+    posted: Posted<'_>,
+) -> Option<Error>
+    requires { column ≡ column_of posted.message.now.channel }
+    ensures { (sessions : List Registered) → live ≡ count_live sessions
+        → known ≡ is_some (named_by sessions column posted.entry.message.now)
+        → result ≡ refusal config.now sessions (posted_of posted.entry) }
+{
+    let message = posted.message;
+    match column {
+        Column::UnknownMeta => Some(Error::UnknownMetaChannel),
+        Column::Handshake if posted.second => Some(Error::SecondHandshake),
+        Column::Handshake if !is_version(&message.version) => Some(Error::UnsupportedVersion),
+        Column::Handshake if !has_polling(message) => Some(Error::NoSupportedConnectionType),
+        Column::Handshake if live >= config.limits.sessions => Some(Error::TooManySessions),
+        Column::Handshake => None,
+        _ if !is_text(&message.client) => Some(Error::NoClientId),
+        _ if !known => Some(Error::UnknownClient),
+        Column::Connect if !is_connection(&message.connection) => Some(
+            Error::UnknownConnectionType,
+        ),
+        Column::Publish if !is_name(message) => Some(Error::InvalidChannel),
+        Column::Subscribe | Column::Unsubscribe if has_no_pattern(message) => Some(
+            Error::InvalidPattern,
+        ),
+        Column::Subscribe | Column::Unsubscribe if message.texts.len() > config.limits.texts =>
+            Some(Error::TooManyPatterns),
+        Column::Subscribe | Column::Unsubscribe if has_meta(message) => Some(
+            Error::SubscriptionDenied,
+        ),
+        Column::Subscribe | Column::Unsubscribe if !message.listed => Some(
+            Error::MissingSubscription,
+        ),
+        Column::Publish if message.payload.is_none() => Some(Error::MissingData),
+        _ => None,
+    }
+}
+
+// The text `1`, or one that begins with `1.`. (Bayeux 1.0, version.)
+fn is_version(version: &TextMember) -> bool
+    ensures { result ≡ is_version version.now }
+{
+    match version {
+        TextMember::Text(text) => (text.as_str() == "1") | text.as_str().starts_with("1."),
+        _ => false,
+    }
+}
+
+// Whether one of the two polling types is offered. (Bayeux 1.0, connection types.)
+fn has_polling(message: &Message) -> bool
+    ensures { result ≡ list_any is_polling message.now.supported }
+{
+    message
+        .supported
+        .as_slice()
+        .iter()
+        .any(|text| is_polling(text.as_str()))
+}
+
+fn is_polling(text: &str) -> bool
+    ensures { result ≡ is_polling text.now }
+{
+    (text == "long-polling") | (text == "callback-polling")
+}
+
+fn is_text(member: &TextMember) -> bool
+    ensures { result ≡ is_text member.now }
+{
+    match member {
+        TextMember::Text(_) => true,
+        _ => false,
+    }
+}
+
+// One of the two polling types, or absent.
+fn is_connection(member: &TextMember) -> bool
+    ensures { result ≡ is_connection member.now }
+{
+    match member {
+        TextMember::Absent => true,
+        TextMember::NotText => false,
+        TextMember::Text(text) => is_polling(text.as_str()),
+    }
+}
+
+// Whether the channel reads as a name.
+fn is_name(message: &Message) -> bool
+    ensures { result ≡ not (is_some (name_fault message.now.channel)) }
+{
+    name_fault(message.channel.as_str()).is_none()
+}
+
+// Whether some text of the subscription does not read as a pattern.
+fn has_no_pattern(message: &Message) -> bool
+    ensures { result ≡ list_any (λ text. is_some (pattern_fault text)) message.now.texts }
+{
+    message
+        .texts
+        .as_slice()
+        .iter()
+        .any(|text| pattern_fault(text.as_str()).is_some())
+}
+
+// Whether some text of the subscription is of a meta channel.
+fn has_meta(message: &Message) -> bool
+    ensures { result ≡ list_any is_meta message.now.texts }
+{
+    message
+        .texts
+        .as_slice()
+        .iter()
+        .any(|text| is_meta(text.as_str()))
+}
+
+fn is_meta(text: &str) -> bool
+    ensures { result ≡ is_meta text.now }
+{
+    text.starts_with("/meta/")
+}

@@ -1,0 +1,180 @@
+//! The registry: who is live, and how long the list is.
+ghost use Rattle.std.specs.Prelude.{◌≡◌, ◌+◌, ◌==◌, Ok, Err, Some, None, List, [], ◌∷◌, length, IfOk, IfSome, IsOkUnless};
+ghost use Rattle.std.specs.List.{list_any};
+ghost use Rattle.bx_entry.specs.Listing.{request};
+ghost use Rattle.bx_entry.specs.Listing as messages;
+ghost use Rattle.bx_entry.specs.Registry.{Registered, empty_registry};
+ghost use Rattle.bx_registry.specs.Rolls.{after, found, next, roll_of, step};
+ghost use Rattle.bx_registry.specs.Edits.{IsPlannedAt, changed};
+ghost use Rattle.bx_registry.specs.Plans.{checked, entries_in, fault_of, slots_in};
+
+use crate::change::{Change, Edits};
+use crate::draft::Draft;
+use crate::plan::{AdmitFault, Plan, TickPlan};
+use crate::planner::{Handed, plan_all};
+use crate::table::Table;
+use bx_advice::{Config, MAX_LENGTH, MAX_MOMENT};
+use bx_entry::{Batch, Entry, Kind};
+use bx_message::Message;
+use std::alloc::{AllocError, Global};
+use std::marker::Model;
+
+/// Who is live: the only place where a message is judged. Contracts see it as the roll of the registry that the
+/// messages and ticks so far lead to.
+///
+/// What a request or a tick comes to is planned first, which changes nothing, and then committed, which takes no
+/// memory and refuses nothing.
+#[derive(Drop)]
+pub struct Registry {
+    config: Config,
+    table: Table,
+    clock: u64,
+    length: u64,
+}
+
+impl Model for Registry {
+    ghost use Rattle.bx_registry.specs.Rolls.{Roll};
+    ghost use Rattle.bx_registry.specs.Edits.{IsWithin};
+
+    ghost Value = { Roll };
+
+    ghost view = { λ r. record { config = r.config; members = r.table; clock = r.clock; length = r.length } };
+
+    ghost invariant = { λ r. IsWithin r.config r.table r.clock r.length };
+}
+
+impl Registry {
+    /// No session, and no entry. It takes the room for as many sessions as may be live.
+    pub fn new(alloc: Global, config: Config) -> Result<Registry, AllocError>
+        ensures { IfOk result (λ r. r ≡ roll_of config empty_registry) }
+    {
+        let table = Table::new(alloc, config.limits.sessions)?;
+        Ok(Registry {
+            config,
+            table,
+            clock: 0,
+            length: 0,
+        })
+    }
+
+    /// How many entries the list has.
+    pub fn len(&self) -> u64
+        ensures { result ≡ self.now.length }
+    {
+        let Registry { length, .. } = self;
+        *length
+    }
+
+    /// Whether the session with this number is live.
+    pub fn live(&self, number: u64) -> bool
+        ensures { result ≡ list_any (λ (r : Registered). r.number == number) self.now.members.live }
+    {
+        self.table.client_at(number).is_some()
+    }
+
+    /// What a request comes to: its messages are judged in order, each behind those before it. It is refused where its
+    /// moment is above the greatest that is taken, or else where the list would become too long.
+    pub fn plan(
+        &self,
+        alloc: Global,
+        moment: u64,
+        nonce: u128,
+        messages: &[Message],
+    ) -> Result<Plan, AdmitFault>
+        ensures fault { IfSome (fault_of moment (self.now.length + length messages.now))
+            (λ fault. result ≡ Err fault) }
+        ensures memory { fault_of moment (self.now.length + length messages.now) ≡ None
+            → IsOkUnless result AdmitFault.Memory }
+        ensures first { IfOk result (λ plan. plan.batch.first ≡ self.now.length) }
+        ensures entries { IfOk result (λ plan.
+            plan.batch.entries ≡ entries_in (found self.now (request moment nonce messages.now))) }
+        ensures slots { IfOk result (λ plan.
+            plan.slots ≡ slots_in (found self.now (request moment nonce messages.now))) }
+        ensures planned { IfOk result (λ plan. IsPlannedAt self.now plan.change) }
+        ensures change { IfOk result (λ plan.
+            changed self.now plan.change ≡ after self.now (request moment nonce messages.now)) }
+    {
+        self.check(moment, messages.len())?;
+        let mut draft = Draft::new(alloc, &self.table);
+        let handed = Handed { moment, nonce };
+        let planning = plan_all(
+            alloc,
+            &self.config,
+            &mut draft,
+            self.clock,
+            self.length,
+            handed,
+            messages,
+        )?;
+        let change = Change {
+            edits: Edits::Each(draft.into_edits()),
+            clock: planning.clock,
+            length: self.length + messages.len() as u64,
+        };
+        let batch = Batch {
+            first: self.length,
+            entries: planning.entries,
+        };
+        Ok(Plan {
+            batch,
+            slots: planning.slots,
+            change,
+        })
+    }
+
+    /// What a tick comes to: it closes the live sessions that were due before it. It is refused as a request with one
+    /// message is.
+    pub fn plan_tick(&mut self, alloc: Global, moment: u64) -> Result<TickPlan, AdmitFault>
+        ensures same { self.new ≡ self.old }
+        ensures fault { IfSome (fault_of moment (self.old.length + 1)) (λ fault. result ≡ Err fault) }
+        ensures memory { fault_of moment (self.old.length + 1) ≡ None
+            → IsOkUnless result AdmitFault.Memory }
+        ensures entry { IfOk result (λ plan.
+            plan.entry ≡ (step self.old (messages.Tick moment)).found.entry) }
+        ensures planned { IfOk result (λ plan. IsPlannedAt self.new plan.change) }
+        ensures change { IfOk result (λ plan.
+            changed self.new plan.change ≡ next self.old (messages.Tick moment)) }
+    {
+        self.check(moment, 1)?;
+        let clock = self.clock.max(moment);
+        let entry = Entry {
+            place: self.length,
+            moment: clock,
+            kind: Kind::Tick(self.table.overdue(alloc, clock)?),
+        };
+        let change = Change {
+            edits: Edits::Sweep(clock),
+            clock,
+            length: self.length + 1,
+        };
+        Ok(TickPlan { entry, change })
+    }
+
+    // Moments and the list have an end.
+    fn check(&self, moment: u64, count: usize) -> Result<(), AdmitFault>
+        ensures { result ≡ checked (fault_of moment (self.now.length + count)) }
+    {
+        if moment > MAX_MOMENT {
+            return Err(AdmitFault::BadMoment);
+        }
+        if count as u64 > MAX_LENGTH - self.length {
+            return Err(AdmitFault::Ended);
+        }
+        Ok(())
+    }
+
+    /// Makes a change that was planned at this very registry, with nothing committed since.
+    pub fn commit(&mut self, change: Change)
+        requires { IsPlannedAt self.old change }
+        ensures { self.new ≡ changed self.old change }
+    {
+        let Change {
+            edits,
+            clock,
+            length,
+        } = change;
+        self.table.apply(edits);
+        self.clock = clock;
+        self.length = length;
+    }
+}

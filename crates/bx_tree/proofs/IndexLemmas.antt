@@ -1,0 +1,124 @@
+-- What stands for which pattern stays what is in force.
+use Rattle.std.proofs.Common.{◌≡◌, ◌≢◌, ℕ, Bool, true, false, not, ◌==◌, ◌&&◌, ◌||◌, List, [], ◌∷◌, ◌++◌, refl, sym, ap, subst, ◌∙◌}
+use Rattle.std.specs.Bool.{one_answer}
+use Rattle.std.proofs.lemmas.Bool.{eqb-true, eq-eqb, and_parts, or_parts}
+use Rattle.std.proofs.lemmas.List.Folds.{list_any-append}
+use Rattle.std.proofs.lemmas.Map.Views.{any-filter_same}
+use Rattle.bx_names.specs.Globs.{Glob, same_glob}
+use Rattle.bx_names.specs.Equality.{same_glob-decides}
+use Rattle.bx_names.specs.InForce.{in_force, without_pattern}
+use Rattle.bx_tree.specs.declared.nodes.Nodes.{Nodes}
+use Rattle.bx_tree.specs.Whole.{AreWhole}
+use Rattle.bx_tree.specs.Patterns.{patterns_of}
+use Rattle.bx_tree.specs.Lists.{stands_for, IsIndexOf}
+
+-- ---- tests
+
+pub gone_twice : (s b g e : Bool) → ((s && not (b && e)) && not (g && e)) ≡ (s && not ((b || g) && e))
+gone_twice false b g e = refl
+gone_twice true true true true = refl
+gone_twice true true true false = refl
+gone_twice true true false true = refl
+gone_twice true true false false = refl
+gone_twice true false g e = refl
+
+or_last : (b g : Bool) → (b || (g && true)) ≡ (b || (g || false))
+or_last true g = refl
+or_last false true = refl
+or_last false false = refl
+
+or_never : (b g : Bool) → (b || (g && false)) ≡ b
+or_never true g = refl
+or_never false true = refl
+or_never false false = refl
+
+and_now : (b g : Bool) → (b && not (g && true)) ≡ (not g && b)
+and_now true true = refl
+and_now true false = refl
+and_now false true = refl
+and_now false false = refl
+
+and_never : (b g : Bool) → (b && not (g && false)) ≡ b
+and_never true true = refl
+and_never true false = refl
+and_never false g = refl
+
+gone_self : (b : Bool) → (b && not (b && true)) ≡ false
+gone_self true = refl
+gone_self false = refl
+
+undone : (b e : Bool) → (e ≡ true → b ≡ false) → ((b || e) && not e) ≡ b
+undone true true h = sym (h refl)
+undone true false h = refl
+undone false true h = refl
+undone false false h = refl
+
+same_glob-sym : (p q : Glob) → same_glob p q ≡ same_glob q p
+same_glob-sym p q =
+    let a = same_glob-decides p q in
+    let b = same_glob-decides q p in
+    one_answer {P = p ≡ q} (same_glob p q) (same_glob q p) a (λ h. sym (b.0 h), λ h. b.1 (sym h))
+
+-- ---- what is in force after a change
+
+in_force-more : (ps : List Glob) (p q : Glob) → in_force (ps ++ p ∷ []) q ≡ (in_force ps q || (same_glob q p || false))
+in_force-more ps p q = list_any-append (same_glob q) ps (p ∷ [])
+
+in_force-less : (ps : List Glob) (p q : Glob) → in_force (without_pattern ps p) q ≡ (not (same_glob q p) && in_force ps q)
+in_force-less ps p q =
+    any-filter_same (same_glob q) (λ r. not (same_glob p r)) (not (same_glob q p))
+    (λ r same. ap (λ x. not (same_glob p x)) (sym ((same_glob-decides q r).0 same)) ∙ ap not (same_glob-sym p q)) ps
+
+-- at each number, the changed one and the others
+by_number : (number n : ℕ) (P : ℕ → Bool → Type 0) → P number true → (n ≢ number → P n false) → P n (n == number)
+by_number number n P own others = by (n == number) refl
+  where
+    by : (b : Bool) → (n == number) ≡ b → P n b
+    by true e = subst (λ m. P m true) (sym (eqb-true n number e)) own
+    by false e = others (λ same. let f : false ≡ true = sym e ∙ eq-eqb n number same in cc)
+
+module _ (old new : Nodes) (all later : List (ℕ × List Glob)) (p : Glob) (number : ℕ) (index : IsIndexOf old all) where
+  -- nothing changed
+  pub index_same : ((other : Glob) (n : ℕ) → stands_for new other n ≡ stands_for old other n) → IsIndexOf new all
+  index_same same other whole n = same other n ∙ index other whole n
+
+  pub index_added : ((other : Glob) → AreWhole other.segments → (n : ℕ) → stands_for new other n ≡ (stands_for old other n || (same_glob other p && (n == number)))) → patterns_of later number ≡ patterns_of all number ++ p ∷ [] → ((n : ℕ) → n ≢ number → patterns_of later n ≡ patterns_of all n) → IsIndexOf new later
+  index_added stands own others other whole n =
+      stands other whole n ∙ ap (λ b. b || (same_glob other p && (n == number))) (index other whole n)
+      ∙ by_number number n (λ m b. (in_force (patterns_of all m) other || (same_glob other p && b)) ≡ in_force (patterns_of later m) other)
+      (or_last (in_force (patterns_of all number) other) (same_glob other p) ∙ sym (in_force-more (patterns_of all number) p other) ∙ ap (λ ps. in_force ps other) (sym own))
+      (λ differs. or_never (in_force (patterns_of all n) other) (same_glob other p) ∙ ap (λ ps. in_force ps other) (sym (others n differs)))
+
+  pub index_removed : ((other : Glob) → AreWhole other.segments → (n : ℕ) → stands_for new other n ≡ (stands_for old other n && not (same_glob other p && (n == number)))) → patterns_of later number ≡ without_pattern (patterns_of all number) p → ((n : ℕ) → n ≢ number → patterns_of later n ≡ patterns_of all n) → IsIndexOf new later
+  index_removed stands own others other whole n =
+      stands other whole n ∙ ap (λ b. b && not (same_glob other p && (n == number))) (index other whole n)
+      ∙ by_number number n (λ m b. (in_force (patterns_of all m) other && not (same_glob other p && b)) ≡ in_force (patterns_of later m) other)
+      (and_now (in_force (patterns_of all number) other) (same_glob other p) ∙ sym (in_force-less (patterns_of all number) p other) ∙ ap (λ ps. in_force ps other) (sym own))
+      (λ differs. and_never (in_force (patterns_of all n) other) (same_glob other p) ∙ ap (λ ps. in_force ps other) (sym (others n differs)))
+
+  pub index_cleared : ((other : Glob) → AreWhole other.segments → (n : ℕ) → stands_for new other n ≡ (stands_for old other n && not (in_force (patterns_of all number) other && (n == number)))) → patterns_of later number ≡ [] → ((n : ℕ) → n ≢ number → patterns_of later n ≡ patterns_of all n) → IsIndexOf new later
+  index_cleared stands own others other whole n =
+      stands other whole n ∙ ap (λ b. b && not (in_force (patterns_of all number) other && (n == number))) (index other whole n)
+      ∙ by_number number n (λ m b. (in_force (patterns_of all m) other && not (in_force (patterns_of all number) other && b)) ≡ in_force (patterns_of later m) other)
+      (gone_self (in_force (patterns_of all number) other) ∙ ap (λ ps. in_force ps other) (sym own))
+      (λ differs. and_never (in_force (patterns_of all n) other) (in_force (patterns_of all number) other) ∙ ap (λ ps. in_force ps other) (sym (others n differs)))
+
+-- what is put in and taken out again was not there
+pub index_undone : (old mid new : Nodes) (all : List (ℕ × List Glob)) (p : Glob) (number : ℕ) → IsIndexOf old all → in_force (patterns_of all number) p ≡ false
+    → ((other : Glob) → AreWhole other.segments → (n : ℕ) → stands_for mid other n ≡ (stands_for old other n || (same_glob other p && (n == number))))
+    → ((other : Glob) → AreWhole other.segments → (n : ℕ) → stands_for new other n ≡ (stands_for mid other n && not (same_glob other p && (n == number))))
+    → IsIndexOf new all
+index_undone old mid new all p number index absent put took other whole n =
+    took other whole n ∙ ap (λ b. b && not (same_glob other p && (n == number))) (put other whole n ∙ ap (λ b. b || (same_glob other p && (n == number))) (index other whole n))
+    ∙ undone (in_force (patterns_of all n) other) (same_glob other p && (n == number)) (λ e.
+    let parts = and_parts (same_glob other p) (n == number) e in
+    let is_p : other ≡ p = (same_glob-decides other p).0 parts.0 in
+    let is_number : n ≡ number = eqb-true n number parts.1 in
+    ap (λ m. in_force (patterns_of all m) other) is_number ∙ ap (λ q. in_force (patterns_of all number) q) is_p ∙ absent)
+
+-- a pattern that is not in force leaves nothing to take out
+pub without_absent : (ps : List Glob) (p : Glob) → in_force ps p ≡ false → ps ≡ without_pattern ps p
+without_absent [] p h = refl
+without_absent (q ∷ qs) p h =
+    let parts = or_parts (same_glob p q) (in_force qs p) h in
+    rw parts.0 (ap (λ rs. q ∷ rs) (without_absent qs p parts.1))

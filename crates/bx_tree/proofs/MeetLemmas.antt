@@ -1,0 +1,156 @@
+-- A walk along a name comes by a number exactly where one of the number's patterns matches the name.
+use Rattle.std.proofs.Common.{◌≡◌, ℕ, ◌<◌, true, ◌&&◌, ◌||◌, List, [], ◌∷◌, ◌++◌, length, take, drop, refl, sym, ap, subst, ◌∙◌, arith, append-nil, append_assoc, length-append, inl, inr, take-append-drop}
+use Rattle.std.specs.Bool.{one_answer}
+use Rattle.std.proofs.lemmas.Bool.{or_cases, or_left, or_right, and_parts}
+use Rattle.bx_names.specs.Segments.{parts, path_of}
+use Rattle.bx_names.specs.Globs.{Glob, matches, matches_by, any_matches, same_glob}
+use Rattle.bx_names.specs.Equality.{same_glob-decides}
+use Rattle.bx_names.specs.InForce.{in_force}
+use Rattle.bx_names.specs.declared.tail.Tail.{Tail}
+use Rattle.bx_names.specs.declared.tail.Tail.TheVariants.{Exact, One, Many}
+use Rattle.bx_names.proofs.PathLemmas.{path_of-append}
+use Rattle.bx_names.proofs.MatchLemmas.{exact-decides, one-decides, many-decides}
+use Rattle.bx_tree.specs.declared.nodes.Nodes.{Nodes}
+use Rattle.bx_tree.specs.Whole.{AreWhole}
+use Rattle.bx_tree.specs.Patterns.{patterns_of}
+use Rattle.bx_tree.specs.Lists.{stands_at, lists_of, IsIndexOf}
+use Rattle.bx_tree.specs.Walks.{is_end, is_met}
+
+-- ---- what a pattern leaves of a name that it matches
+
+-- how many segments each kind leaves
+abbrev pub Leaves : Tail → ℕ → Type 0
+Leaves Exact n = n ≡ 0
+Leaves One n = n ≡ 1
+Leaves Many n = 0 < n
+
+pub record Rest (own : List (List ℕ)) (tail : Tail) (name : List (List ℕ)) : Type 0 where
+  pub more : List (List ℕ)
+  pub is : name ≡ own ++ more
+  pub leaves : Leaves tail (length more)
+
+take_and_drop : (k : ℕ) (xs own : List (List ℕ)) → take k xs ≡ own → xs ≡ own ++ drop k xs
+take_and_drop k xs own h = sym (take-append-drop k xs) ∙ ap (λ ys. ys ++ drop k xs) h
+
+rest_of : (own : List (List ℕ)) (tail : Tail) (name : List (List ℕ)) → matches_by tail own name ≡ true → Rest own tail name
+rest_of own Exact name h = record { more = []; is = (exact-decides own name).0 h ∙ sym (append-nil own); leaves = refl }
+rest_of own One name h =
+    let told = (one-decides own name).0 h in
+    let is = take_and_drop (length own) name own told.1 in
+    record { more = drop (length own) name; is = is; leaves = omega (arith, told.0, ap length is, length-append own (drop (length own) name)) }
+rest_of own Many name h = let told = (many-decides own name).0 h in record { more = told.0; is = told.2; leaves = told.1 }
+
+take_front : (own more : List (List ℕ)) → take (length own) (own ++ more) ≡ own
+take_front [] more = refl
+take_front (s ∷ ss) more = ap (λ ts. s ∷ ts) (take_front ss more)
+
+nil_if : (xs : List (List ℕ)) → length xs ≡ 0 → xs ≡ []
+nil_if [] h = refl
+nil_if (x ∷ xs) h = absurd (omega arith)
+
+matches_rest : (own : List (List ℕ)) (tail : Tail) (more : List (List ℕ)) → Leaves tail (length more) → matches_by tail own (own ++ more) ≡ true
+matches_rest own Exact more h = (exact-decides own (own ++ more)).1 (ap (λ ts. own ++ ts) (nil_if more h) ∙ append-nil own)
+matches_rest own One more h = (one-decides own (own ++ more)).1 (omega (arith, length-append own more), take_front own more)
+matches_rest own Many more h = (many-decides own (own ++ more)).1 (more, h, refl)
+
+-- ---- some pattern in force
+
+any_if : (ps : List Glob) (p : Glob) (name : List (List ℕ)) → in_force ps p ≡ true → matches p name ≡ true → any_matches ps name ≡ true
+any_if [] p name h k = cc
+any_if (q ∷ qs) p name h k =
+    elim (or_cases (same_glob p q) (in_force qs p) h) [
+      | inl e ↦ or_left (matches q name) (any_matches qs name) (ap (λ r. matches r name) (sym ((same_glob-decides p q).0 e)) ∙ k)
+      | inr e ↦ or_right (matches q name) (any_matches qs name) (any_if qs p name e k)
+    ]
+
+record Some_matches (ps : List Glob) (name : List (List ℕ)) : Type 0 where
+  p : Glob
+  there : in_force ps p ≡ true
+  fits : matches p name ≡ true
+
+some_if_any : (ps : List Glob) (name : List (List ℕ)) → any_matches ps name ≡ true → Some_matches ps name
+some_if_any [] name h = cc
+some_if_any (q ∷ qs) name h =
+    elim (or_cases (matches q name) (any_matches qs name) h) [
+      | inl e ↦ record { p = q; there = or_left (same_glob q q) (in_force qs q) ((same_glob-decides q q).1 refl); fits = e }
+      | inr e ↦ let later = some_if_any qs name e in record { p = later.p; there = or_right (same_glob later.p q) (in_force qs later.p) later.there; fits = later.fits }
+    ]
+
+-- ---- the walk
+
+whole-push : (ss : List (List ℕ)) (s : List ℕ) → AreWhole ss → parts s ≡ s ∷ [] → AreWhole (ss ++ s ∷ [])
+whole-push [] s h k = (k, tt)
+whole-push (t ∷ ts) s h k = (h.0, whole-push ts s h.1 k)
+
+path-push : (ss : List (List ℕ)) (s : List ℕ) → path_of (ss ++ s ∷ []) ≡ path_of ss ++ 47 ∷ s
+path-push ss s = path_of-append ss (s ∷ []) ∙ ap (λ t. path_of ss ++ 47 ∷ t) (append-nil s)
+
+module _ (nodes : Nodes) (all : List (ℕ × List Glob)) (n : ℕ) (index : IsIndexOf nodes all) where
+  at : (ss : List (List ℕ)) (tail : Tail) → AreWhole ss → stands_at (lists_of nodes tail) (path_of ss) n ≡ in_force (patterns_of all n) (record { segments = ss; tail = tail })
+  at ss tail whole = index (record { segments = ss; tail = tail }) whole n
+
+  found : (ss : List (List ℕ)) (tail : Tail) (more : List (List ℕ)) → AreWhole ss → stands_at (lists_of nodes tail) (path_of ss) n ≡ true → Leaves tail (length more) → any_matches (patterns_of all n) (ss ++ more) ≡ true
+  found ss tail more whole h leaves = any_if (patterns_of all n) (record { segments = ss; tail = tail }) (ss ++ more) (sym (at ss tail whole) ∙ h) (matches_rest ss tail more leaves)
+
+  end_is : (rest : List (List ℕ)) → is_end rest ≡ true → length rest ≡ 0
+  end_is [] h = refl
+  end_is (s ∷ ss) h = cc
+
+  -- a number that is met has a pattern that matches
+  met_then_any : (done rest : List (List ℕ)) → AreWhole done → AreWhole rest → is_met nodes (path_of done) rest n ≡ true → any_matches (patterns_of all n) (done ++ rest) ≡ true
+  met_then_any done [] whole left h = found done Exact [] whole h refl
+  met_then_any done (s ∷ rest) whole left h =
+      let path = path_of done in
+      let many = stands_at nodes.many path n in
+      let one = is_end rest && stands_at nodes.one path n in
+      elim (or_cases (many || one) (is_met nodes (path ++ 47 ∷ s) rest n) h) [
+        | inl e ↦ elim (or_cases many one e) [
+          | inl m ↦ found done Many (s ∷ rest) whole m (omega arith)
+          | inr o ↦ let both = and_parts (is_end rest) (stands_at nodes.one path n) o in found done One (s ∷ rest) whole both.1 (omega (arith, end_is rest both.0))
+        ]
+        | inr e ↦
+            ap (λ name. any_matches (patterns_of all n) name) (sym (append_assoc done (s ∷ []) rest))
+            ∙ met_then_any (done ++ s ∷ []) rest (whole-push done s whole left.0) left.1 (ap (λ text. is_met nodes text rest n) (path-push done s) ∙ e)
+      ]
+
+  -- where the pattern's own segments end
+  met_here : (done : List (List ℕ)) (tail : Tail) (more : List (List ℕ)) → AreWhole done → Leaves tail (length more) → in_force (patterns_of all n) (record { segments = done; tail = tail }) ≡ true → is_met nodes (path_of done) more n ≡ true
+  met_here done Exact [] whole leaves h = at done Exact whole ∙ h
+  met_here done Exact (s ∷ rest) whole leaves h = absurd (omega arith)
+  met_here done One [] whole leaves h = absurd (omega arith)
+  met_here done One (s ∷ []) whole leaves h =
+      let path = path_of done in
+      or_left (stands_at nodes.many path n || (true && stands_at nodes.one path n)) (is_met nodes (path ++ 47 ∷ s) [] n)
+      (or_right (stands_at nodes.many path n) (stands_at nodes.one path n) (at done One whole ∙ h))
+  met_here done One (s ∷ t ∷ rest) whole leaves h = absurd (omega arith)
+  met_here done Many [] whole leaves h = absurd (omega arith)
+  met_here done Many (s ∷ rest) whole leaves h =
+      let path = path_of done in
+      or_left (stands_at nodes.many path n || (is_end rest && stands_at nodes.one path n)) (is_met nodes (path ++ 47 ∷ s) rest n)
+      (or_left (stands_at nodes.many path n) (is_end rest && stands_at nodes.one path n) (at done Many whole ∙ h))
+
+  -- a number with a pattern that leaves this of the name is met
+  met_below : (done own : List (List ℕ)) (tail : Tail) (more : List (List ℕ)) → AreWhole done → AreWhole own → Leaves tail (length more) → in_force (patterns_of all n) (record { segments = done ++ own; tail = tail }) ≡ true → is_met nodes (path_of done) (own ++ more) n ≡ true
+  met_below done [] tail more whole left leaves h = met_here done tail more whole leaves (ap (λ ss. in_force (patterns_of all n) (record { segments = ss; tail = tail })) (sym (append-nil done)) ∙ h)
+  met_below done (s ∷ own) tail more whole left leaves h =
+      let path = path_of done in
+      or_right (stands_at nodes.many path n || (is_end (own ++ more) && stands_at nodes.one path n)) (is_met nodes (path ++ 47 ∷ s) (own ++ more) n)
+      (ap (λ text. is_met nodes text (own ++ more) n) (sym (path-push done s))
+      ∙ met_below (done ++ s ∷ []) own tail more (whole-push done s whole left.0) left.1 leaves
+      (ap (λ ss. in_force (patterns_of all n) (record { segments = ss; tail = tail })) (append_assoc done (s ∷ []) own) ∙ h))
+
+  whole_front : (own more : List (List ℕ)) → AreWhole (own ++ more) → AreWhole own
+  whole_front [] more h = tt
+  whole_front (s ∷ ss) more h = (h.0, whole_front ss more h.1)
+
+  any_then_met : (name : List (List ℕ)) → AreWhole name → any_matches (patterns_of all n) name ≡ true → is_met nodes [] name n ≡ true
+  any_then_met name whole h =
+      let p = some_if_any (patterns_of all n) name h in
+      let rest = rest_of p.p.segments p.p.tail name p.fits in
+      ap (λ ss. is_met nodes [] ss n) rest.is
+      ∙ met_below [] p.p.segments p.p.tail rest.more tt (whole_front p.p.segments rest.more (subst AreWhole rest.is whole)) rest.leaves p.there
+
+  pub met_is : (name : List (List ℕ)) → AreWhole name → is_met nodes [] name n ≡ any_matches (patterns_of all n) name
+  met_is name whole =
+      one_answer {P = any_matches (patterns_of all n) name ≡ true} (is_met nodes [] name n) (any_matches (patterns_of all n) name)
+      (met_then_any [] name tt whole, any_then_met name whole) (λ h. h, λ h. h)

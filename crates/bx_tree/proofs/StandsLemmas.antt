@@ -1,0 +1,82 @@
+-- How a change at one path changes what stands where.
+use Rattle.std.proofs.Common.{◌≡◌, ℕ, eqb, Bool, true, false, not, cond, ◌==◌, ◌&&◌, ◌||◌, Option, Result, Ok, Err, OnErr, List, [], ◌∷◌, length, refl, sym, ap, subst, ◌∙◌, arith}
+use Rattle.std.specs.List.{list_any}
+use Rattle.std.specs.Map.{update}
+use Rattle.std.specs.Option.{option_map_or}
+use Rattle.std.specs.Ordering.{is_eq, nat_cmp}
+use Rattle.std.specs.BTreeSet.{BTreeSet, contains, UpdatesBy}
+use Rattle.std.specs.Str.{bytes_eq}
+use Rattle.std.proofs.lemmas.Bool.Decides.{nat_tests}
+use Rattle.std.proofs.lemmas.Slice.Eq.{bytes_eq-Decides}
+
+-- ---- a set of numbers
+
+pub is_eq-nat_cmp : (a b : ℕ) → is_eq (nat_cmp a b) ≡ eqb b a
+is_eq-nat_cmp a b = grind (arith, nat_tests)
+
+cond_or : (b x : Bool) → cond b true x ≡ (x || b)
+cond_or true true = refl
+cond_or true false = refl
+cond_or false true = refl
+cond_or false false = refl
+
+cond_not : (b x : Bool) → cond b false x ≡ (x && not b)
+cond_not true true = refl
+cond_not true false = refl
+cond_not false true = refl
+cond_not false false = refl
+
+pub added : (s t : BTreeSet ℕ) (number : ℕ) → UpdatesBy nat_cmp (nat_cmp number) s t true → (n : ℕ) → contains nat_cmp t n ≡ (contains nat_cmp s n || (n == number))
+added s t number h n = h.0 n ∙ cond_or (is_eq (nat_cmp number n)) (contains nat_cmp s n) ∙ ap (λ b. contains nat_cmp s n || b) (is_eq-nat_cmp number n)
+
+pub removed : (s t : BTreeSet ℕ) (number : ℕ) → UpdatesBy nat_cmp (nat_cmp number) s t false → (n : ℕ) → contains nat_cmp t n ≡ (contains nat_cmp s n && not (n == number))
+removed s t number h n = h.0 n ∙ cond_not (is_eq (nat_cmp number n)) (contains nat_cmp s n) ∙ ap (λ b. contains nat_cmp s n && not b) (is_eq-nat_cmp number n)
+
+contains_no_keys : (ks : List ℕ) (n : ℕ) → length ks ≡ 0 → list_any (λ k. is_eq (nat_cmp n k)) ks ≡ false
+contains_no_keys [] n h = refl
+contains_no_keys (k ∷ ks) n h = absurd (omega arith)
+
+pub contains_none : (s : BTreeSet ℕ) (n : ℕ) → length s.keys ≡ 0 → contains nat_cmp s n ≡ false
+contains_none s n h = contains_no_keys s.keys n h
+
+-- ---- the lists by their paths
+
+-- whether the list has the number
+abbrev pub has : Option (BTreeSet ℕ) → ℕ → Bool
+has list n = option_map_or (λ numbers. contains nat_cmp numbers n) list false
+
+-- what an update at one path leaves
+pub at_path : (path : List ℕ) (before after : List ℕ → Option (BTreeSet ℕ)) (w : Option (BTreeSet ℕ)) → ((other : List ℕ) → after other ≡ update bytes_eq before path w other) → after path ≡ w
+at_path path before after w h = rw ((bytes_eq-Decides path path).1 refl) at (h path)
+
+pub elsewhere : (path : List ℕ) (before after : List ℕ → Option (BTreeSet ℕ)) (w : Option (BTreeSet ℕ)) → ((other : List ℕ) → after other ≡ update bytes_eq before path w other) → (other : List ℕ) → bytes_eq path other ≡ false → after other ≡ before other
+elsewhere path before after w h other e = rw e at (h other)
+
+-- a change of one number at one path
+pub changed_at : (step : Bool → Bool → Bool) → ((b : Bool) → step b false ≡ b) → (path : List ℕ) (number : ℕ) (before after : List ℕ → Option (BTreeSet ℕ)) → ((other : List ℕ) → bytes_eq path other ≡ false → after other ≡ before other) → ((n : ℕ) → has (after path) n ≡ step (has (before path) n) (n == number)) → (other : List ℕ) (n : ℕ) → has (after other) n ≡ step (has (before other) n) (bytes_eq path other && (n == number))
+changed_at step idle path number before after others own other n = by (bytes_eq path other) refl
+  where
+    by : (b : Bool) → bytes_eq path other ≡ b → has (after other) n ≡ step (has (before other) n) (b && (n == number))
+    by true e = subst (λ q. has (after q) n ≡ step (has (before q) n) (n == number)) ((bytes_eq-Decides path other).0 e) (own n)
+    by false e = ap (λ list. has list n) (others other e) ∙ sym (idle (has (before other) n))
+
+pub or_idle : (b : Bool) → (b || false) ≡ b
+or_idle true = refl
+or_idle false = refl
+
+pub not_idle : (b : Bool) → (b && not false) ≡ b
+not_idle true = refl
+not_idle false = refl
+
+-- a change at one path that changes no number's place
+pub unchanged_at : (path : List ℕ) (before after : List ℕ → Option (BTreeSet ℕ)) → ((other : List ℕ) → bytes_eq path other ≡ false → after other ≡ before other) → ((n : ℕ) → has (after path) n ≡ has (before path) n) → (other : List ℕ) (n : ℕ) → has (after other) n ≡ has (before other) n
+unchanged_at path before after others own other n = by (bytes_eq path other) refl
+  where
+    by : (b : Bool) → bytes_eq path other ≡ b → has (after other) n ≡ has (before other) n
+    by true e = subst (λ q. has (after q) n ≡ has (before q) n) ((bytes_eq-Decides path other).0 e) (own n)
+    by false e = ap (λ list. has list n) (others other e)
+
+-- what holds anyway holds at an error
+pub on_err : {T E : Type 0} {P : Type 0} (r : Result T E) → P → OnErr r P
+on_err (Ok x) p = tt
+on_err (Err e) p = p

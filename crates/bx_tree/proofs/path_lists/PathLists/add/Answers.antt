@@ -1,0 +1,44 @@
+use Rattle.std.proofs.Common.{Some, ◌||◌, ◌==◌, string_bytes, ap, ◌∙◌, rules}
+use Rattle.std.specs.List.{list_any}
+use Rattle.std.specs.Ordering.{is_eq, nat_cmp}
+use Rattle.std.specs.HashMap.{get_by_text}
+use Rattle.std.proofs.lemmas.Map.Text.{hash_map_updates_text}
+use Rattle.bx_tree.proofs.StandsLemmas.{added, has, at_path, elsewhere, changed_at, unchanged_at, or_idle, on_err}
+use Rattle.bx_tree.proofs.path_lists.PathLists.add.Goals as goal
+
+pub returns-in_err-insert-clause-err : goal.returns-in_err-insert-clause-err
+returns-in_err-insert-clause-err c =
+    let path = c.args.path.now in
+    let before = get_by_text c.args.self.now.by_path in
+    let after = get_by_text (c.get_mut.follows.lender c.insert.new.self) in
+    let told = hash_map_updates_text path c.args.self.now.by_path (c.get_mut.follows.lender c.insert.new.self) (Some c.insert.new.self) ((c.get_mut.follows.holds c.insert.new.self).3 (search rules)) in
+    on_err c.from_residual.result (unchanged_at path before after (elsewhere path before after (Some c.insert.new.self) told) (λ n.
+    ap (λ o. has o n) (at_path path before after (Some c.insert.new.self) told)
+    ∙ ap (λ ks. list_any (λ k. is_eq (nat_cmp n k)) ks) c.in_err-insert.ensures.err
+    ∙ ap (λ o. has o n) c.in-Some.ensures.value))
+
+pub returns-in-Some-clause-ok : goal.returns-in-Some-clause-ok
+returns-in-Some-clause-ok c =
+    let path = c.args.path.now in
+    let number = c.args.number in
+    let before = get_by_text c.args.self.now.by_path in
+    let after = get_by_text (c.get_mut.follows.lender c.insert.new.self) in
+    let told = hash_map_updates_text path c.args.self.now.by_path (c.get_mut.follows.lender c.insert.new.self) (Some c.insert.new.self) ((c.get_mut.follows.holds c.insert.new.self).3 (search rules)) in
+    changed_at (λ a b. a || b) or_idle path number before after (elsewhere path before after (Some c.insert.new.self) told) (λ n.
+    ap (λ o. has o n) (at_path path before after (Some c.insert.new.self) told)
+    ∙ added c.in-Some.numbers.now c.insert.new.self number c.in_ok-insert.ensures.updates n
+    ∙ ap (λ o. has o n || (n == number)) c.in-Some.ensures.value)
+
+pub returns-clause-ok : goal.returns-clause-ok
+returns-clause-ok c =
+    let path = c.args.path.now in
+    let number = c.args.number in
+    let list = c.insert-2.new.self in
+    let before = get_by_text c.args.self.now.by_path in
+    let after = get_by_text c.insert-3.new.self in
+    let told = rw (c.in_ok-path.ensures.ok, c.get_mut.follows.holds-at-none) at (hash_map_updates_text (string_bytes c.in_ok-path.path) c.get_mut.follows.lender-at-none c.insert-3.new.self (Some list) c.in_ok-insert-3.ensures.updates) in
+    changed_at (λ a b. a || b) or_idle path number before after (elsewhere path before after (Some list) told) (λ n.
+    ap (λ o. has o n) (at_path path before after (Some list) told)
+    ∙ added c.new-numbers.result list number c.in_ok-insert-2.ensures.updates n
+    ∙ ap (λ ks. list_any (λ k. is_eq (nat_cmp n k)) ks || (n == number)) c.new-numbers.ensures.empty
+    ∙ ap (λ o. has o n || (n == number)) c.in_default.ensures.value)

@@ -1,0 +1,35 @@
+use Rattle.std.proofs.Common.{Some, None, not, ◌&&◌, ◌==◌, sym, ap, ◌∙◌, rules}
+use Rattle.std.specs.HashMap.{get_by_text}
+use Rattle.std.proofs.lemmas.Map.Text.{hash_map_updates_text}
+use Rattle.bx_tree.proofs.StandsLemmas.{removed, contains_none, has, at_path, elsewhere, changed_at, not_idle}
+use Rattle.bx_tree.proofs.path_lists.PathLists.remove.Goals as goal
+
+pub returns-then-is_empty : goal.returns-then-is_empty
+returns-then-is_empty c =
+    let path = c.args.path.now in
+    let number = c.args.number in
+    let left = c.remove.new.self in
+    let before = get_by_text c.args.self.now.by_path in
+    let mid = get_by_text (c.get_mut.follows.lender left) in
+    let after = get_by_text c.swap_remove.new.self in
+    let told = hash_map_updates_text path c.args.self.now.by_path (c.get_mut.follows.lender left) (Some left) ((c.get_mut.follows.holds left).3 (search rules)) in
+    let gone = hash_map_updates_text path (c.get_mut.follows.lender left) c.swap_remove.new.self None c.swap_remove.ensures.updates in
+    changed_at (λ a b. a && not b) not_idle path number before after
+    (λ other e. elsewhere path mid after None gone other e ∙ elsewhere path before mid (Some left) told other e)
+    (λ n. ap (λ o. has o n) (at_path path mid after None gone)
+    ∙ sym (contains_none left n (c.is_empty.ensures.0 c.if-is_empty.true))
+    ∙ removed c.in-Some.numbers.now left number c.remove.ensures.updates n
+    ∙ ap (λ o. has o n && not (n == number)) c.in-Some.ensures.value)
+
+pub returns-else-is_empty : goal.returns-else-is_empty
+returns-else-is_empty c =
+    let path = c.args.path.now in
+    let number = c.args.number in
+    let left = c.remove.new.self in
+    let before = get_by_text c.args.self.now.by_path in
+    let after = get_by_text (c.get_mut.follows.lender left) in
+    let told = hash_map_updates_text path c.args.self.now.by_path (c.get_mut.follows.lender left) (Some left) ((c.get_mut.follows.holds left).3 (search rules)) in
+    changed_at (λ a b. a && not b) not_idle path number before after (elsewhere path before after (Some left) told) (λ n.
+    ap (λ o. has o n) (at_path path before after (Some left) told)
+    ∙ removed c.in-Some.numbers.now left number c.remove.ensures.updates n
+    ∙ ap (λ o. has o n && not (n == number)) c.in-Some.ensures.value)

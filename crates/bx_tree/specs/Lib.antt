@@ -1,0 +1,4 @@
+pub mod Whole
+pub mod Patterns
+pub mod Lists
+pub mod Walks

@@ -1,0 +1,33 @@
+-- The numbers that stand at a path, and those that stand there for a pattern.
+use Rattle.std.specs.Prelude.{◌≡◌, ℕ, Bool, false, List}
+use Rattle.std.specs.Option.{option_map_or}
+use Rattle.std.specs.Ordering.{nat_cmp}
+use Rattle.std.specs.BTreeSet.{contains}
+use Rattle.std.specs.HashMap.{get_by_text}
+use Rattle.bx_names.specs.Segments.{path_of}
+use Rattle.bx_names.specs.Globs.{Glob}
+use Rattle.bx_names.specs.InForce.{in_force}
+use Rattle.bx_names.specs.declared.tail.Tail.{Tail}
+use Rattle.bx_names.specs.declared.tail.Tail.TheVariants.{Exact, One, Many}
+use Rattle.bx_tree.specs.declared.path_lists.PathLists.{PathLists}
+use Rattle.bx_tree.specs.declared.nodes.Nodes.{Nodes}
+use Rattle.bx_tree.specs.Whole.{AreWhole}
+use Rattle.bx_tree.specs.Patterns.{patterns_of}
+
+-- whether the number stands at the path
+abbrev pub stands_at : PathLists → List ℕ → ℕ → Bool
+stands_at lists path number = option_map_or (λ numbers. contains nat_cmp numbers number) (get_by_text lists.by_path path) false
+
+-- the lists of one kind of patterns
+abbrev pub lists_of : Nodes → Tail → PathLists
+lists_of nodes Exact = nodes.exact
+lists_of nodes One = nodes.one
+lists_of nodes Many = nodes.many
+
+-- whether the number stands where the pattern has its place
+abbrev pub stands_for : Nodes → Glob → ℕ → Bool
+stands_for nodes pattern number = stands_at (lists_of nodes pattern.tail) (path_of pattern.segments) number
+
+-- a number stands for a pattern exactly where the pattern is in force for it
+abbrev pub IsIndexOf : Nodes → List (ℕ × List Glob) → Type 0
+IsIndexOf nodes all = (pattern : Glob) → AreWhole pattern.segments → (number : ℕ) → stands_for nodes pattern number ≡ in_force (patterns_of all number) pattern

@@ -1,0 +1,43 @@
+ghost use Rattle.std.specs.Prelude.{◌≡◌, ℕ, ◌+◌, ◌<◌, ◌^◌, ◌||◌, OnOk, IfOk, Contains, vec_len, ◌↔◌};
+ghost use Rattle.std.specs.List.Sorted.{IsStrictlyIncreasing};
+ghost use Rattle.bx_tree.specs.Lists.{stands_at};
+ghost use Rattle.bx_tree.specs.Walks.{is_among};
+
+use crate::path_lists::PathLists;
+use std::alloc::AllocError;
+
+/// What was found for a name.
+#[derive(Debug, Drop)]
+pub struct Found {
+    /// The numbers of the sessions, ascending, each once.
+    pub numbers: Vec<u64>,
+    /// How many lists were reached.
+    pub visited: usize,
+}
+
+impl Found {
+    /// Reaches the list at a path and adds its numbers behind the others.
+    pub(crate) fn reach(&mut self, lists: &PathLists, path: &str) -> Result<(), AllocError>
+        requires { self.old.visited + 1 < 2 ^ 64 }
+        ensures numbers { OnOk result ((n : ℕ)
+            → is_among self.new.numbers.items n ≡ (is_among self.old.numbers.items n || stands_at lists.now path.now n)) }
+        ensures visited { OnOk result (self.new.visited ≡ self.old.visited + 1) }
+    {
+        if let Some(list) = lists.reach(path, &mut self.visited) {
+            for number in list {
+                self.numbers.push(*number)?;
+            }
+        }
+        Ok(())
+    }
+
+    /// Puts the numbers in order, each once.
+    pub(crate) fn settle(&mut self)
+        ensures ascending { IsStrictlyIncreasing self.new.numbers.items }
+        ensures same { (n : ℕ) → is_among self.new.numbers.items n ≡ is_among self.old.numbers.items n }
+        ensures visited { self.new.visited ≡ self.old.visited }
+    {
+        self.numbers.sort_unstable();
+        self.numbers.dedup();
+    }
+}

@@ -1,0 +1,14 @@
+//! Patterns by segment: which sessions have a pattern that matches a name.
+#![tactic(auto)]
+
+mod found;
+mod nodes;
+mod own_path;
+mod path_lists;
+mod sessions;
+#[cfg(test)]
+mod tests;
+mod tree;
+
+pub use found::Found;
+pub use tree::Tree;

@@ -1,0 +1,111 @@
+ghost use Rattle.std.specs.Prelude.{◌≡◌, ℕ, ◌+◌, ◌*◌, ◌≤◌, ◌==◌, ◌&&◌, ◌||◌, not, false, [], OnOk, OnErr, IfOk, length};
+ghost use Rattle.std.specs.List.{list_any};
+ghost use Rattle.bx_names.specs.Globs.{Glob, same_glob};
+ghost use Rattle.bx_names.specs.InForce.{in_force};
+ghost use Rattle.bx_tree.specs.Whole.{AreWhole};
+ghost use Rattle.bx_tree.specs.Lists.{stands_for};
+ghost use Rattle.bx_tree.specs.Walks.{is_among, is_met};
+
+use crate::found::Found;
+use crate::own_path::own_path;
+use crate::path_lists::PathLists;
+use bx_names::{ChannelName, Pattern, Tail};
+use std::alloc::{AllocError, Global};
+
+/// The three lists at each path: those of the patterns that are the path, those of the path and a `*`, and those of
+/// the path and a `**`.
+#[derive(Drop)]
+pub(crate) struct Nodes {
+    exact: PathLists,
+    one: PathLists,
+    many: PathLists,
+}
+
+impl Nodes {
+    /// No number for any pattern.
+    pub(crate) fn new(alloc: Global) -> Nodes
+        ensures { (pattern : Glob) → (n : ℕ) → stands_for result pattern n ≡ false }
+    {
+        Nodes {
+            exact: PathLists::new(alloc),
+            one: PathLists::new(alloc),
+            many: PathLists::new(alloc),
+        }
+    }
+
+    /// How many lists there are.
+    #[cfg(test)]
+    pub(crate) fn len(&self) -> usize {
+        self.exact
+            .len()
+            .saturating_add(self.one.len())
+            .saturating_add(self.many.len())
+    }
+
+    /// Lets a number stand for a pattern. Nothing changes where memory is refused.
+    pub(crate) fn add(
+        &mut self,
+        alloc: Global,
+        pattern: &Pattern,
+        number: u64,
+    ) -> Result<(), AllocError>
+        ensures ok { OnOk result ((other : Glob) → AreWhole other.segments → (n : ℕ)
+            → stands_for self.new other n ≡ (stands_for self.old other n || (same_glob other pattern.now && (n == number)))) }
+        ensures err { OnErr result ((other : Glob) → (n : ℕ) → stands_for self.new other n ≡ stands_for self.old other n) }
+    {
+        let path = own_path(pattern);
+        match pattern.tail() {
+            Tail::Exact => self.exact.add(alloc, path, number),
+            Tail::One => self.one.add(alloc, path, number),
+            Tail::Many => self.many.add(alloc, path, number),
+        }
+    }
+
+    /// Lets a number stand for a pattern no longer.
+    pub(crate) fn remove(&mut self, pattern: &Pattern, number: u64)
+        ensures { (other : Glob) → AreWhole other.segments → (n : ℕ)
+            → stands_for self.new other n ≡ (stands_for self.old other n && not (same_glob other pattern.now && (n == number))) }
+    {
+        let path = own_path(pattern);
+        match pattern.tail() {
+            Tail::Exact => self.exact.remove(path, number),
+            Tail::One => self.one.remove(path, number),
+            Tail::Many => self.many.remove(path, number),
+        }
+    }
+
+    /// Lets a number stand for none of these patterns.
+    pub(crate) fn remove_each(&mut self, patterns: &[Pattern], number: u64)
+        ensures { (other : Glob) → AreWhole other.segments → (n : ℕ)
+            → stands_for self.new other n ≡ (stands_for self.old other n && not (in_force patterns.now other && (n == number))) }
+    {
+        for pattern in patterns {
+            self.remove(pattern, number);
+        }
+    }
+
+    /// Walks along a name from the empty path, and collects the numbers that it comes by.
+    pub(crate) fn walk(&self, alloc: Global, name: &ChannelName) -> Result<Found, AllocError>
+        ensures numbers { IfOk result (λ found. (n : ℕ) → is_among found.numbers.items n ≡ is_met self.now [] name.now n) }
+        ensures visited { IfOk result (λ found. found.visited ≤ 2 * length name.now + 1) }
+        ensures whole { OnOk result (AreWhole name.now) }
+    {
+        let mut found = Found {
+            numbers: Vec::new(alloc),
+            visited: 0,
+        };
+        let mut path = String::with_capacity(alloc, name.as_str().len())?;
+        let mut left = name.segment_count();
+        for segment in name.segments() {
+            found.reach(&self.many, path.as_str())?;
+            if left == 1 {
+                found.reach(&self.one, path.as_str())?;
+            }
+            left -= 1;
+            path.push('/')?;
+            path.push_str(segment)?;
+        }
+        found.reach(&self.exact, path.as_str())?;
+        Ok(found)
+    }
+}

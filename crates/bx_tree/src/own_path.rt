@@ -1,0 +1,18 @@
+ghost use Rattle.std.specs.Prelude.{◌≡◌};
+ghost use Rattle.bx_names.specs.Segments.{path_of};
+ghost use Rattle.bx_tree.specs.Whole.{AreWhole};
+
+use bx_names::{Pattern, Tail};
+
+/// The text of the pattern's own segments, which is empty where there are none.
+pub(crate) fn own_path(pattern: &Pattern) -> &str
+    ensures path { result.now ≡ path_of pattern.now.segments }
+    ensures whole { AreWhole pattern.now.segments }
+{
+    let text = pattern.as_str();
+    match pattern.tail() {
+        Tail::Exact => text,
+        Tail::One => text.strip_suffix("/*").unwrap_or(text),
+        Tail::Many => text.strip_suffix("/**").unwrap_or(text),
+    }
+}

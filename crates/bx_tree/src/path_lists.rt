@@ -1,0 +1,72 @@
+ghost use Rattle.std.specs.Prelude.{◌≡◌, ℕ, ◌+◌, ◌<◌, ◌^◌, ◌==◌, ◌&&◌, ◌||◌, not, false, List, OnOk, OnErr, bytes_eq};
+ghost use Rattle.std.specs.Option.{option_copied};
+ghost use Rattle.std.specs.HashMap.{get_by_text};
+ghost use Rattle.bx_tree.specs.Lists.{stands_at};
+
+use indexmap::IndexMap;
+use std::alloc::{AllocError, Global};
+use std::collections::BTreeSet;
+
+/// The numbers that stand at each path of segments, as at `/a/b` or at the empty path. No list is empty.
+#[derive(Drop)]
+pub(crate) struct PathLists {
+    by_path: IndexMap<String, BTreeSet<u64>>,
+}
+
+impl PathLists {
+    /// No number at any path.
+    pub(crate) fn new(alloc: Global) -> PathLists
+        ensures { (path : List ℕ) → (number : ℕ) → stands_at result path number ≡ false }
+    {
+        PathLists {
+            by_path: IndexMap::new(alloc),
+        }
+    }
+
+    /// How many paths have numbers.
+    #[cfg(test)]
+    pub(crate) fn len(&self) -> usize {
+        self.by_path.len()
+    }
+
+    /// The numbers at a path, in order. This alone reaches a list for a walk, and counts that it did.
+    pub(crate) fn reach(&self, path: &str, visited: &mut usize) -> Option<&BTreeSet<u64>>
+        requires { visited.old + 1 < 2 ^ 64 }
+        ensures list { option_copied result ≡ get_by_text self.now.by_path path.now }
+        ensures visited { visited.new ≡ visited.old + 1 }
+    {
+        *visited += 1;
+        self.by_path.get(path)
+    }
+
+    /// Puts a number at a path. Nothing changes where memory is refused.
+    pub(crate) fn add(&mut self, alloc: Global, path: &str, number: u64) -> Result<(), AllocError>
+        ensures ok { OnOk result ((other : List ℕ) → (n : ℕ)
+            → stands_at self.new other n ≡ (stands_at self.old other n || (bytes_eq path.now other && (n == number)))) }
+        ensures err { OnErr result ((other : List ℕ) → (n : ℕ) → stands_at self.new other n ≡ stands_at self.old other n) }
+    {
+        if let Some(numbers) = self.by_path.get_mut(path) {
+            numbers.insert(number)?;
+            return Ok(());
+        }
+        let mut numbers = BTreeSet::new(alloc);
+        numbers.insert(number)?;
+        let path = String::from_str(alloc, path)?;
+        self.by_path.insert(path, numbers)?;
+        Ok(())
+    }
+
+    /// Takes a number away from a path, if it is there, and the path's list where that leaves it empty.
+    pub(crate) fn remove(&mut self, path: &str, number: u64)
+        ensures { (other : List ℕ) → (n : ℕ)
+            → stands_at self.new other n ≡ (stands_at self.old other n && not (bytes_eq path.now other && (n == number))) }
+    {
+        let Some(numbers) = self.by_path.get_mut(path) else {
+            return;
+        };
+        numbers.remove(&number);
+        if numbers.is_empty() {
+            self.by_path.swap_remove(path);
+        }
+    }
+}

@@ -1,0 +1,141 @@
+ghost use Rattle.std.specs.Prelude.{◌≡◌, ◌≢◌, ◌↔◌, ℕ, ◌+◌, ◌*◌, ◌≤◌, [], IsTrue, not, length, OnOk, OnErr, IfOk, Contains};
+ghost use Rattle.std.specs.List.Sorted.{IsStrictlyIncreasing};
+ghost use Rattle.bx_names.specs.Globs.{any_matches};
+ghost use Rattle.bx_names.specs.InForce.{in_force, with_pattern, without_pattern};
+ghost use Rattle.bx_tree.specs.Patterns.{patterns_of};
+
+use crate::found::Found;
+use crate::nodes::Nodes;
+use crate::sessions::Sessions;
+use bx_names::{ChannelName, Pattern};
+use std::alloc::{AllocError, Global};
+use std::marker::Model;
+
+/// Which patterns are in force for which session numbers.
+///
+/// It is kept flat: the numbers of a pattern stand at the path of its own segments, one map for each kind of
+/// pattern, and a find asks once at each beginning of the name (Bayeux 1.0, channel globbing). A list that became
+/// empty is given back.
+///
+/// Contracts see the numbers that have patterns, each with its patterns in the order in which they came.
+#[derive(Drop)]
+pub struct Tree {
+    nodes: Nodes,
+    sessions: Sessions,
+}
+
+impl Model for Tree {
+    ghost use Rattle.std.specs.Prelude.{ℕ, List};
+    ghost use Rattle.bx_names.specs.Globs.{Glob};
+    ghost use Rattle.bx_tree.specs.Lists.{IsIndexOf};
+
+    ghost Value = { List (ℕ × List Glob) };
+
+    ghost view = { λ tree. tree.sessions };
+
+    ghost invariant = { λ tree. IsIndexOf tree.nodes tree.sessions };
+}
+
+impl Tree {
+    /// A tree in which no number has a pattern.
+    pub fn new(alloc: Global) -> Tree
+        ensures { result ≡ [] }
+    {
+        Tree {
+            nodes: Nodes::new(alloc),
+            sessions: Sessions::new(alloc),
+        }
+    }
+
+    /// Puts a pattern in force for a number, and says whether it was not so before. A pattern that is in force
+    /// already changes nothing. Where memory is refused all is as before.
+    pub fn add(&mut self, alloc: Global, pattern: &Pattern, number: u64) -> Result<bool, AllocError>
+        ensures own { OnOk result (patterns_of self.new number ≡ with_pattern (patterns_of self.old number) pattern.now) }
+        ensures others { OnOk result ((n : ℕ) → n ≢ number → patterns_of self.new n ≡ patterns_of self.old n) }
+        ensures added { IfOk result (λ added. added ≡ not (in_force (patterns_of self.old number) pattern.now)) }
+        ensures err { OnErr result (self.new ≡ self.old) }
+    {
+        if self.has(pattern, number) {
+            return Ok(false);
+        }
+        let kept = pattern.clone()?;
+        self.nodes.add(alloc, pattern, number)?;
+        match self.sessions.add(alloc, number, kept) {
+            Ok(()) => Ok(true),
+            Err(error) => {
+                self.nodes.remove(pattern, number);
+                Err(error)
+            }
+        }
+    }
+
+    /// Whether the pattern is in force for the number.
+    pub fn has(&self, pattern: &Pattern, number: u64) -> bool
+        ensures { result ≡ in_force (patterns_of self.now number) pattern.now }
+    {
+        self.sessions
+            .patterns(number)
+            .iter()
+            .any(|other| pattern == other)
+    }
+
+    /// Takes a pattern out of force for a number, and says whether it was in force. A pattern that was not changes
+    /// nothing.
+    pub fn remove(&mut self, pattern: &Pattern, number: u64) -> bool
+        ensures own { patterns_of self.new number ≡ without_pattern (patterns_of self.old number) pattern.now }
+        ensures others { (n : ℕ) → n ≢ number → patterns_of self.new n ≡ patterns_of self.old n }
+        ensures removed { result ≡ in_force (patterns_of self.old number) pattern.now }
+    {
+        let held = self.has(pattern, number);
+        if held {
+            self.nodes.remove(pattern, number);
+            self.sessions.remove(number, pattern);
+        }
+        held
+    }
+
+    /// Takes all patterns of a number out of force, as where its session closes, and says how many there were.
+    pub fn remove_all(&mut self, number: u64) -> usize
+        ensures own { patterns_of self.new number ≡ [] }
+        ensures others { (n : ℕ) → n ≢ number → patterns_of self.new n ≡ patterns_of self.old n }
+        ensures removed { result ≡ length (patterns_of self.old number) }
+    {
+        let patterns = self.sessions.patterns(number);
+        let count = patterns.len();
+        self.nodes.remove_each(patterns, number);
+        self.sessions.remove_all(number);
+        count
+    }
+
+    /// How many patterns of a number are in force.
+    pub fn count(&self, number: u64) -> usize
+        ensures { result ≡ length (patterns_of self.now number) }
+    {
+        self.patterns(number).len()
+    }
+
+    /// The patterns of a number, in the order in which they came.
+    pub fn patterns(&self, number: u64) -> &[Pattern]
+        ensures { result.now ≡ patterns_of self.now number }
+    {
+        self.sessions.patterns(number)
+    }
+
+    /// The numbers that have a pattern which matches the name, and how many lists were reached to find them.
+    pub fn find(&self, alloc: Global, name: &ChannelName) -> Result<Found, AllocError>
+        ensures exact { IfOk result (λ found. (n : ℕ)
+            → (Contains found.numbers.items n ↔ IsTrue (any_matches (patterns_of self.now n) name.now))) }
+        ensures ascending { IfOk result (λ found. IsStrictlyIncreasing found.numbers.items) }
+        ensures visited { IfOk result (λ found. found.visited ≤ 3 * length name.now + 3) }
+    {
+        let mut found = self.nodes.walk(alloc, name)?;
+        found.settle();
+        Ok(found)
+    }
+
+    /// How many lists the tree keeps: one for each pattern that is in force for some number.
+    #[cfg(test)]
+    pub(crate) fn list_count(&self) -> usize {
+        self.nodes.len()
+    }
+}
