@@ -18,10 +18,7 @@ pub mod Gained
 pub mod Given
 pub mod Wholes
 pub mod Kept
-pub mod Takes
-pub mod Files
 pub mod Senders
 pub mod Closings
-pub mod Stepping
 pub mod Written
 pub mod ReadBack

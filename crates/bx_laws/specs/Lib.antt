@@ -4,6 +4,4 @@ pub mod Laws
 pub mod Readings
 pub mod Events
 pub mod Outs
-pub mod Shards
-pub mod Schedules
 pub mod ReadBack

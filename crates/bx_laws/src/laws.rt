@@ -5,7 +5,6 @@ ghost use Rattle.bx_laws.specs.Events.{EventsWerePublished, PublishesAreEvents, 
 ghost use Rattle.bx_laws.specs.Outs.{OutsGrow};
 ghost use Rattle.bx_entry.specs.Keeping.{KeptSteps, KeptRuns, KeptInBounds};
 ghost use Rattle.bx_laws.specs.ReadBack.{RepliesReadBack, EventsReadBack, BodiesReadBack};
-ghost use Rattle.bx_laws.specs.Schedules.{TakesAreAnswers, AnswersAreFiled, NoneTakenTwice, ShardsStep, ShardsFile};
 
 /// What was given for good stays given for good.
 pub fn done_never_falls()
@@ -127,21 +126,6 @@ pub fn kept_runs()
     ensures { KeptRuns }
 {}
 
-/// Whatever the schedule, each answer that is taken is what one thread gives.
-pub fn takes_are_answers()
-    ensures { TakesAreAnswers }
-{}
-
-/// An answer whose place a shard has passed is filed there until it is taken.
-pub fn answers_are_filed()
-    ensures { AnswersAreFiled }
-{}
-
-/// Whatever the schedule, no answer is taken twice.
-pub fn none_taken_twice()
-    ensures { NoneTakenTwice }
-{}
-
 /// An accepted message, but for a handshake, stands where its session is live.
 pub fn accepted_while_live()
     ensures { AcceptedWhileLive }
@@ -155,16 +139,6 @@ pub fn kept_in_bounds()
 /// Nothing more comes of a closed session: it holds no connect, and its events and answers stay as they are.
 pub fn closed_is_over()
     ensures { ClosedIsOver }
-{}
-
-/// The live sessions of a shard after one more entry come of those before it and of that entry alone.
-pub fn shards_step()
-    ensures { ShardsStep }
-{}
-
-/// An answer that wasn't taken is filed after one more entry where it was before, or where a live session of the shard gives it.
-pub fn shards_file()
-    ensures { ShardsFile }
 {}
 
 /// The text of a reply reads as an object with just the members of a reply, in ascending order of their

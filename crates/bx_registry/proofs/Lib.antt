@@ -1,6 +1,8 @@
 pub mod Lists
 pub mod Steps
 pub mod Slots
+pub mod Dues
+pub mod Past
 pub mod Digits
 pub mod Drafting
 pub mod Judging

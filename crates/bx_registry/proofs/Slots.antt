@@ -1,10 +1,7 @@
 -- A session of the table, found by its number, and what a change of it makes of those that are live.
 use Rattle.std.proofs.Common.{◌≡◌, ◌≢◌, ℕ, zero, suc, ◌+◌, ◌<◌, ◌≤◌, Bool, true, false, List, [], ◌∷◌, ◌++◌, length, length-append, ◌-◌, map, get_or, set, refl, sym, ap, ◌∙◌, cond, arith}
-use Rattle.std.specs.Prelude.{◌&&◌, ◌==◌, max, min, Option, Some, None, if◌then◌else◌}
-use Rattle.std.specs.Prelude.{is_some, ◌||◌, nat_lt, nat_le, not, ◌⊎◌}
-use Rattle.std.proofs.Common.{take, append-nil}
-use Rattle.std.proofs.Math.Bool.{and-false}
-use Rattle.std.proofs.lemmas.List.{take_more}
+use Rattle.std.specs.Prelude.{◌==◌, max, Option, Some, None, if◌then◌else◌}
+use Rattle.std.specs.Prelude.{is_some, ◌||◌, nat_lt, ◌⊎◌}
 use Rattle.std.proofs.Common.{Bor}
 use Rattle.std.specs.Option.{option_copied}
 use Rattle.std.specs.List.{filter, list_any}
@@ -14,11 +11,12 @@ use Rattle.std.proofs.lemmas.Bool.{ltb-true, ltb-false, cases_lt}
 use Rattle.std.proofs.lemmas.Bool.Decides.{nat_tests, eqb_tells}
 use Rattle.std.proofs.lemmas.List.{length-map}
 use Rattle.std.proofs.lemmas.List.Elements.{filter-append}
-use Rattle.bx_entry.specs.Registry.{Registered, extended, closed, swept, overdue, is_overdue}
+use Rattle.bx_entry.specs.Registry.{Registered, extended, closed}
 use Rattle.bx_registry.specs.Rolls.{live_in}
-use Rattle.bx_registry.specs.Tables.{IsNamed, IsTable, NoneDueBefore, IsAbsent, AllLive, client_at, IsKept}
+use Rattle.bx_registry.specs.Tables.{IsNamed, IsTable, IsAbsent, AllLive, client_at, due_at, IsKept}
+use Rattle.bx_registry.specs.Queues.{IsRoster}
 use Rattle.bx_registry.proofs.Lists.{filter-filter}
-use Rattle.bx_registry.proofs.Steps.{live_in-extended, live_in-closed, live_in-swept}
+use Rattle.bx_registry.proofs.Steps.{live_in-extended, live_in-closed}
 
 pub eq-true : (a b : ℕ) → a ≡ b → (a == b) ≡ true
 eq-true a b e = grind (arith, nat_tests)
@@ -143,6 +141,33 @@ client_at-slot low high n (r ∷ rs) (suc i) x t h is number =
     let ne : r.number ≢ n = omega arith in
     client_at-there n r (live_in rs) ne r.live ∙ client_at-slot r.number high n rs i x t.2 (omega arith) is number
 
+-- ---- its due moment
+
+pub due_at-absent : (n : ℕ) (rs : List Registered) → IsAbsent n rs → due_at n rs ≡ None
+due_at-absent n [] a = refl
+due_at-absent n (r ∷ rs) a = rw (eq-false r.number n a.0) (due_at-absent n rs a.1)
+
+due_at-here : (n : ℕ) (r : Registered) (kept : List Registered) → r.number ≡ n → IsAbsent n kept → (b : Bool) →
+    due_at n (cond b (r ∷ kept) kept) ≡ cond b (Some r.due) None
+due_at-here n r kept e a true = rw (eq-true r.number n e) refl
+due_at-here n r kept e a false = due_at-absent n kept a
+
+due_at-there : (n : ℕ) (r : Registered) (kept : List Registered) → r.number ≢ n → (b : Bool) → due_at n (cond b (r ∷ kept) kept) ≡ due_at n kept
+due_at-there n r kept ne true = rw (eq-false r.number n ne) refl
+due_at-there n r kept ne false = refl
+
+pub due_at-slot : (low high n : ℕ) (rs : List Registered) (i : ℕ) (x : Registered) → IsTable low high rs → i < length rs → x ≡ get_or rs i x → x.number ≡ n →
+    due_at n (live_in rs) ≡ cond x.live (Some x.due) None
+due_at-slot low high n [] i x t h is number = absurd (omega arith)
+due_at-slot low high n (r ∷ rs) zero x t h is number =
+    let here : r.number ≡ n = ap (λ (s : Registered). s.number) (sym is) ∙ number in
+    due_at-here n r (live_in rs) here (IsAbsent-filter n (λ s. s.live) rs (IsTable-absent r.number high n rs (omega arith) t.2)) r.live
+    ∙ ap (λ (s : Registered). cond s.live (Some s.due) None) (sym is)
+due_at-slot low high n (r ∷ rs) (suc i) x t h is number =
+    let above : r.number < x.number = omega (arith, number-above r.number high rs i x t.2 (omega arith), ap (λ (s : Registered). s.number) is) in
+    let ne : r.number ≢ n = omega arith in
+    due_at-there n r (live_in rs) ne r.live ∙ due_at-slot r.number high n rs i x t.2 (omega arith) is number
+
 -- a closed session is not among the live ones
 absent-there : (n : ℕ) (r : Registered) (kept : List Registered) → r.number ≢ n → IsAbsent n kept → (b : Bool) → IsAbsent n (cond b (r ∷ kept) kept)
 absent-there n r kept ne a true = (ne, a)
@@ -160,8 +185,6 @@ absent-dead low high n (r ∷ rs) (suc i) x t h is number dead =
     let ne : r.number ≢ n = omega arith in
     absent-there n r (live_in rs) ne (absent-dead r.number high n rs i x t.2 (omega arith) is number dead) r.live
 
--- ---- a due moment that moves on
-
 -- ---- those that are live
 
 AllLive-by : (r : Registered) (kept : List Registered) → AllLive kept → (b : Bool) → r.live ≡ b → AllLive (cond b (r ∷ kept) kept)
@@ -176,42 +199,11 @@ pub live_in-all : (rs : List Registered) → AllLive rs → live_in rs ≡ rs
 live_in-all [] all = refl
 live_in-all (r ∷ rs) all = ap (λ (b : Bool). cond b (r ∷ live_in rs) (live_in rs)) all.0 ∙ ap (λ (ys : List Registered). r ∷ ys) (live_in-all rs all.1)
 
-due-by : (moment : ℕ) (r s : Registered) (kept more : List Registered) → r.due ≤ s.due → NoneDueBefore moment more → (b : Bool) → (s.live ≡ true → b ≡ true) →
-    NoneDueBefore moment (cond b (r ∷ kept) kept) → (c : Bool) → s.live ≡ c → NoneDueBefore moment (cond c (s ∷ more) more)
-due-by moment r s kept more later ih true lives none true e = (omega (arith, none.0), ih)
-due-by moment r s kept more later ih true lives none false e = ih
-due-by moment r s kept more later ih false lives none true e = let no : false ≡ true = lives e in cc
-due-by moment r s kept more later ih false lives none false e = ih
-
-due-rest : (moment : ℕ) (r : Registered) (kept : List Registered) (b : Bool) → NoneDueBefore moment (cond b (r ∷ kept) kept) → NoneDueBefore moment kept
-due-rest moment r kept true none = none.1
-due-rest moment r kept false none = none
-
--- none is due earlier where due moments only move on and no session comes to life
-pub due-map : (moment : ℕ) (g : Registered → Registered) (rs : List Registered) → ((r : Registered) → r.due ≤ (g r).due) → ((r : Registered) → (g r).live ≡ true → r.live ≡ true) →
-    NoneDueBefore moment (live_in rs) → NoneDueBefore moment (live_in (map g rs))
-due-map moment g [] later lives none = tt
-due-map moment g (r ∷ rs) later lives none =
-    due-by moment r (g r) (live_in rs) (live_in (map g rs)) (later r)
-    (due-map moment g rs later lives (due-rest moment r (live_in rs) r.live none)) r.live (lives r) none (g r).live refl
-
-pub due-sooner : (moment sooner : ℕ) (rs : List Registered) → sooner ≤ moment → NoneDueBefore moment rs → NoneDueBefore sooner rs
-due-sooner moment sooner [] le none = tt
-due-sooner moment sooner (r ∷ rs) le none = (omega (arith, none.0), due-sooner moment sooner rs le none.1)
-
-pub due-push : (moment : ℕ) (rs : List Registered) (s : Registered) → NoneDueBefore moment rs → moment ≤ s.due → NoneDueBefore moment (rs ++ s ∷ [])
-due-push moment [] s none le = (le, tt)
-due-push moment (r ∷ rs) s none le = (none.0, due-push moment rs s none.1 le)
-
 -- ---- a due moment that moves on
 
-changed-due : (n due : ℕ) (r : Registered) (b : Bool) → r.due ≤ (if b then record r { due = max r.due due } else r).due
+pub changed-due : (n due : ℕ) (r : Registered) (b : Bool) → r.due ≤ (if b then record r { due = max r.due due } else r).due
 changed-due n due r true = omega arith
 changed-due n due r false = omega arith
-
-changed-live : (n due : ℕ) (r : Registered) (b : Bool) → (if b then record r { due = max r.due due } else r).live ≡ true → r.live ≡ true
-changed-live n due r true e = e
-changed-live n due r false e = e
 
 pub changed-number : (due : ℕ) (r : Registered) (b : Bool) → (if b then record r { due = max r.due due } else r).number ≡ r.number
 changed-number due r true = refl
@@ -227,22 +219,17 @@ live_in-extend n due rs = sym (filter-filter (λ s. s.live) (extended n due rs))
 pub extend-none : (n due : ℕ) (rs : List Registered) → IsAbsent n rs → live_in rs ≡ live_in (extended n due (live_in rs))
 extend-none n due rs a = ap live_in (sym (map-absent n (λ r. record r { due = max r.due due }) rs a)) ∙ live_in-extend n due rs
 
-pub extended-kept : (n due : ℕ) {rs : List Registered} {cap limit count opened next : ℕ} → IsKept rs cap limit count opened next → IsKept (extended n due rs) cap limit count opened next
-extended-kept n due {rs} {cap} {limit} {count} {opened} {next} k = record {
+pub extended-kept : (n due : ℕ) {rs : List Registered} {cap limit count opened : ℕ} → IsKept rs cap limit count opened → IsKept (extended n due rs) cap limit count opened
+extended-kept n due {rs} {cap} {limit} {count} {opened} k = record {
   room = k.room;
   fits = k.fits;
   counted = k.counted ∙ sym (ap length (live_in-extended n due rs) ∙ length-map (live_in rs) _);
   table = IsTable-map 0 opened _ rs (λ r. changed-number due r _) (λ r. changed-client due r _) k.table;
-  due = due-map next _ rs (λ r. changed-due n due r _) (λ r e. changed-live n due r _ e) k.due;
 }
 
 -- ---- a session that is closed
 
-closing-live : (r : Registered) (b : Bool) → (if b then record r { live = false } else r).live ≡ true → r.live ≡ true
-closing-live r true e = cc
-closing-live r false e = e
-
-closing-due : (r : Registered) (b : Bool) → r.due ≤ (if b then record r { live = false } else r).due
+pub closing-due : (r : Registered) (b : Bool) → r.due ≤ (if b then record r { live = false } else r).due
 closing-due r true = omega arith
 closing-due r false = omega arith
 
@@ -270,40 +257,41 @@ count-set (r ∷ rs) (suc i) x h is lives = count-there r (live_in (set rs i (re
 pub count-some : (rs : List Registered) (i : ℕ) (x : Registered) → i < length rs → x ≡ get_or rs i x → x.live ≡ true → 0 < length (live_in rs)
 count-some rs i x h is lives = omega (arith, count-set rs i x h is lives)
 
-pub closed-kept : (n : ℕ) (rs : List Registered) (i : ℕ) (x : Registered) {cap limit count opened next : ℕ} → IsKept rs cap limit count opened next →
-    i < length rs → x ≡ get_or rs i x → x.number ≡ n → x.live ≡ true → IsKept (set rs i (record x { live = false })) cap limit (count - 1) opened next
-closed-kept n rs i x {cap} {limit} {count} {opened} {next} k h is number lives =
+pub closed-kept : (n : ℕ) (rs : List Registered) (i : ℕ) (x : Registered) {cap limit count opened : ℕ} → IsKept rs cap limit count opened →
+    i < length rs → x ≡ get_or rs i x → x.number ≡ n → x.live ≡ true → IsKept (set rs i (record x { live = false })) cap limit (count - 1) opened
+closed-kept n rs i x {cap} {limit} {count} {opened} k h is number lives =
     let same : set rs i (record x { live = false }) ≡ closed n rs = set-changes n (λ r. record r { live = false }) 0 opened rs i x k.table h is number in record {
       room = k.room;
       fits = omega (arith, k.fits);
       counted = omega (arith, k.counted, count-set rs i x h is lives);
       table = rw same (IsTable-map 0 opened _ rs (λ r. closing-number r _) (λ r. closing-client r _) k.table);
-      due = rw same (due-map next _ rs (λ r. closing-due r _) (λ r e. closing-live r _ e) k.due);
     }
 
 -- ---- a session that is opened
 
-pub swept-kept : (rs : List Registered) {cap limit count opened next : ℕ} → IsKept rs cap limit count opened next → IsKept (live_in rs) cap limit count opened next
-swept-kept rs {cap} {limit} {count} {opened} {next} k = record {
+pub swept-kept : (rs : List Registered) {cap limit count opened : ℕ} → IsKept rs cap limit count opened → IsKept (live_in rs) cap limit count opened
+swept-kept rs {cap} {limit} {count} {opened} k = record {
   room = k.room;
   fits = k.fits;
   counted = k.counted ∙ sym (ap length (filter-filter (λ s. s.live) rs));
   table = IsTable-filter 0 opened (λ s. s.live) rs k.table;
-  due = rw (filter-filter (λ (s : Registered). s.live) rs) k.due;
 }
 
 live_in-push : (rs : List Registered) (s : Registered) → s.live ≡ true → live_in (rs ++ s ∷ []) ≡ live_in rs ++ s ∷ []
 live_in-push rs s lives = filter-append (λ r. r.live) rs (s ∷ []) ∙ ap (λ (b : Bool). live_in rs ++ cond b (s ∷ []) []) lives
 
-pub pushed-kept : (rs : List Registered) (s : Registered) {cap cap' limit count opened next : ℕ} → IsKept rs cap limit count opened next → cap ≤ cap' → count < limit →
-    s.number ≡ opened + 1 → IsNamed s → s.live ≡ true → IsKept (rs ++ s ∷ []) cap' limit (count + 1) s.number (min next s.due)
-pushed-kept rs s {cap} {cap'} {limit} {count} {opened} {next} k more room number named lives = record {
+pub pushed-kept : (rs : List Registered) (s : Registered) {cap cap' limit count opened : ℕ} → IsKept rs cap limit count opened → cap ≤ cap' → count < limit →
+    s.number ≡ opened + 1 → IsNamed s → s.live ≡ true → IsKept (rs ++ s ∷ []) cap' limit (count + 1) s.number
+pushed-kept rs s {cap} {cap'} {limit} {count} {opened} k more room number named lives = record {
   room = omega (arith, k.room);
   fits = omega arith;
   counted = rw (live_in-push rs s lives) (omega (arith, k.counted, length-append (live_in rs) (s ∷ [])));
   table = IsTable-push 0 opened rs s (omega arith) named k.table;
-  due = rw (live_in-push rs s lives) (due-push (min next s.due) (live_in rs) s (due-sooner next (min next s.due) (live_in rs) (omega arith) k.due) (omega arith));
 }
+
+-- the live sessions are a roster
+pub roster-kept : {rs : List Registered} {cap limit count opened : ℕ} → IsKept rs cap limit count opened → IsRoster (record { limit = limit; opened = opened; live = live_in rs })
+roster-kept {rs} {cap} {limit} {count} {opened} k = record { table = IsTable-filter 0 opened (λ s. s.live) rs k.table; all = AllLive-live rs }
 
 -- ---- writes into the table
 
@@ -346,103 +334,15 @@ set-same (r ∷ rs) zero x h is = ap (λ (s : Registered). s ∷ rs) is
 set-same (r ∷ rs) (suc i) x h is = ap (λ (ys : List Registered). r ∷ ys) (set-same rs i x (omega arith) is)
 
 -- one more slot, behind those that were there or behind the live ones among them
-pub added-kept : (rs new : List Registered) (s : Registered) {cap cap' limit count opened next : ℕ} → IsKept rs cap limit count opened next →
+pub added-kept : (rs new : List Registered) (s : Registered) {cap cap' limit count opened : ℕ} → IsKept rs cap limit count opened →
     (new ≡ rs ++ s ∷ []) ⊎ (new ≡ live_in rs ++ s ∷ []) → cap ≤ cap' → count < limit → s.number ≡ opened + 1 → IsNamed s → s.live ≡ true →
-    IsKept new cap' limit (count + 1) s.number (min next s.due)
+    IsKept new cap' limit (count + 1) s.number
 added-kept rs new s k (inl e) more room number named lives = rw e (pushed-kept rs s k more room number named lives)
 added-kept rs new s k (inr e) more room number named lives = rw e (pushed-kept (live_in rs) s (swept-kept rs k) more room number named lives)
 
 pub added-live : (rs new : List Registered) (s : Registered) → (new ≡ rs ++ s ∷ []) ⊎ (new ≡ live_in rs ++ s ∷ []) → s.live ≡ true → live_in new ≡ live_in rs ++ s ∷ []
 added-live rs new s (inl e) lives = ap live_in e ∙ live_in-push rs s lives
 added-live rs new s (inr e) lives = ap live_in e ∙ live_in-push (live_in rs) s lives ∙ ap (λ (ys : List Registered). ys ++ s ∷ []) (filter-filter (λ r. r.live) rs)
-
--- ---- a tick
-
-due-lower-by : (m d : ℕ) (r : Registered) (kept : List Registered) → NoneDueBefore m kept → m ≤ r.due → (b : Bool) → NoneDueBefore m (cond b (r ∷ kept) kept)
-due-lower-by m d r kept none le true = (le, none)
-due-lower-by m d r kept none le false = none
-
-due-append : (m : ℕ) (xs ys : List Registered) → NoneDueBefore m xs → NoneDueBefore m ys → NoneDueBefore m (xs ++ ys)
-due-append m [] ys a b = b
-due-append m (x ∷ xs) ys a b = (a.0, due-append m xs ys a.1 b)
-
--- one more live session
-pub due-more : (least : ℕ) (rs : List Registered) (i : ℕ) (x : Registered) → i < length rs → x ≡ get_or rs i x → NoneDueBefore least (live_in (take i rs)) → (b : Bool) → x.live ≡ b →
-    NoneDueBefore (if b then min least x.due else least) (live_in (take (i + 1) rs))
-due-more least rs i x h is none true e =
-    let more : live_in (take (i + 1) rs) ≡ live_in (take i rs) ++ x ∷ [] = ap live_in (take_more rs i x h ∙ ap (λ (y : Registered). take i rs ++ y ∷ []) (sym is)) ∙ live_in-push (take i rs) x e in
-    rw more (due-append (min least x.due) (live_in (take i rs)) (x ∷ []) (due-sooner least (min least x.due) (live_in (take i rs)) (omega arith) none) (omega arith, tt))
-due-more least rs i x h is none false e =
-    let more : live_in (take (i + 1) rs) ≡ live_in (take i rs) =
-    ap live_in (take_more rs i x h ∙ ap (λ (y : Registered). take i rs ++ y ∷ []) (sym is)) ∙ filter-append (λ r. r.live) (take i rs) (x ∷ [])
-    ∙ ap (λ (b : Bool). live_in (take i rs) ++ cond b (x ∷ []) []) e ∙ append-nil (live_in (take i rs)) in
-    rw more none
-
-not-less : (a b : ℕ) → b ≤ a → nat_lt a b ≡ false
-not-less a b le = grind (arith, nat_tests)
-
--- where none is due, a tick closes none
-pub none-overdue : (m moment : ℕ) (rs : List Registered) → NoneDueBefore m rs → moment ≤ m → overdue moment rs ≡ []
-none-overdue m moment [] none le = refl
-none-overdue m moment (r ∷ rs) none le =
-    let no : is_overdue moment r ≡ false = ap (λ (b : Bool). r.live && b) (not-less r.due moment (omega (arith, none.0))) ∙ and-false r.live in
-    ap (λ (b : Bool). map (λ (s : Registered). s.number) (cond b (r ∷ filter (is_overdue moment) rs) (filter (is_overdue moment) rs))) no ∙ none-overdue m moment rs none.1 le
-
-pub none-swept : (m moment : ℕ) (rs : List Registered) → NoneDueBefore m rs → moment ≤ m → swept moment rs ≡ rs
-none-swept m moment [] none le = refl
-none-swept m moment (r ∷ rs) none le =
-    let no : is_overdue moment r ≡ false = ap (λ (b : Bool). r.live && b) (not-less r.due moment (omega (arith, none.0))) ∙ and-false r.live in
-    ap (λ (b : Bool). (if b then record r { live = false } else r) ∷ swept moment rs) no ∙ ap (λ (ys : List Registered). r ∷ ys) (none-swept m moment rs none.1 le)
-
--- what a tick leaves
-abbrev pub stays : ℕ → Registered → Bool
-stays moment r = r.live && nat_le moment r.due
-
-stays-by : (moment : ℕ) (r : Registered) (kept : List Registered) → (b : Bool) → r.live ≡ b → (c : Bool) → nat_lt r.due moment ≡ c → nat_le moment r.due ≡ not c →
-    cond (b && nat_le moment r.due) (r ∷ kept) kept ≡ live_in ((if b && nat_lt r.due moment then record r { live = false } else r) ∷ []) ++ kept
-stays-by moment r kept false e c f g = ap (λ (t : Bool). cond t (r ∷ []) [] ++ kept) (sym e)
-stays-by moment r kept true e true f g =
-    ap (λ (t : Bool). cond t (r ∷ kept) kept) g ∙ ap (λ (t : Bool). live_in ((if t then record r { live = false } else r) ∷ []) ++ kept) (sym f)
-stays-by moment r kept true e false f g =
-    ap (λ (t : Bool). cond t (r ∷ kept) kept) g ∙ ap (λ (t : Bool). cond t (r ∷ []) [] ++ kept) (sym e) ∙ ap (λ (t : Bool). live_in ((if t then record r { live = false } else r) ∷ []) ++ kept) (sym f)
-
-less-or-not : (a b : ℕ) (c : Bool) → nat_lt a b ≡ c → nat_le b a ≡ not c
-less-or-not a b true e = grind (arith, nat_tests)
-less-or-not a b false e = grind (arith, nat_tests)
-
-pub stays-swept : (moment : ℕ) (rs : List Registered) → filter (stays moment) rs ≡ live_in (swept moment rs)
-stays-swept moment [] = refl
-stays-swept moment (r ∷ rs) =
-    stays-by moment r (filter (stays moment) rs) r.live refl (nat_lt r.due moment) refl (less-or-not r.due moment (nat_lt r.due moment) refl)
-    ∙ ap (λ (ys : List Registered). live_in ((if is_overdue moment r then record r { live = false } else r) ∷ []) ++ ys) (stays-swept moment rs)
-    ∙ sym (filter-append (λ s. s.live) ((if is_overdue moment r then record r { live = false } else r) ∷ []) (swept moment rs))
-
-fewer-by : (r : Registered) (few many : List Registered) (b c : Bool) → length few ≤ length many → length (cond (b && c) (r ∷ few) few) ≤ length (cond b (r ∷ many) many)
-fewer-by r few many true true le = omega (arith, le)
-fewer-by r few many true false le = omega (arith, le)
-fewer-by r few many false c le = le
-
-fewer : (q : Registered → Bool) (rs : List Registered) → length (filter (λ r. r.live && q r) rs) ≤ length (live_in rs)
-fewer q [] = omega arith
-fewer q (r ∷ rs) = fewer-by r (filter (λ s. s.live && q s) rs) (live_in rs) r.live (q r) (fewer q rs)
-
-pub stayed-kept : (moment least : ℕ) (rs new : List Registered) {cap limit count opened next : ℕ} → IsKept rs cap limit count opened next → new ≡ filter (stays moment) rs → NoneDueBefore least (live_in new) →
-    IsKept new cap limit (length new) opened least
-stayed-kept moment least rs new {cap} {limit} {count} {opened} {next} k is none =
-    let live : live_in new ≡ new = ap live_in (is ∙ stays-swept moment rs) ∙ filter-filter (λ s. s.live) (swept moment rs) ∙ sym (is ∙ stays-swept moment rs) in record {
-      room = k.room;
-      fits = omega (arith, ap length is, fewer (λ r. nat_le moment r.due) rs, k.counted, k.fits);
-      counted = sym (ap length live);
-      table = rw is (IsTable-filter 0 opened (stays moment) rs k.table);
-      due = none;
-    }
-
-pub stayed-live : (moment : ℕ) (rs new : List Registered) → new ≡ filter (stays moment) rs → live_in new ≡ live_in (swept moment (live_in rs))
-stayed-live moment rs new is = ap live_in (is ∙ stays-swept moment rs) ∙ filter-filter (λ s. s.live) (swept moment rs) ∙ sym (live_in-swept moment rs)
-
--- a later bound
-pub later-kept : {rs : List Registered} {cap limit count opened next : ℕ} (least : ℕ) → IsKept rs cap limit count opened next → NoneDueBefore least (live_in rs) → IsKept rs cap limit count opened least
-later-kept least k none = record { room = k.room; fits = k.fits; counted = k.counted; table = k.table; due = none }
 
 -- ---- whether there is a session
 

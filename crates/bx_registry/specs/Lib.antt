@@ -1,6 +1,7 @@
 pub mod Rolls
 pub mod Laws
 pub mod Tables
+pub mod Queues
 pub mod Ids
 pub mod Edits
 pub mod Drafts

@@ -12,11 +12,6 @@ abbrev pub IsTable : ℕ → ℕ → List Registered → Type 0
 IsTable low high [] = low ≤ high
 IsTable low high (r ∷ rs) = (low < r.number) × IsNamed r × IsTable r.number high rs
 
--- none of these sessions is due before this moment
-abbrev pub NoneDueBefore : ℕ → List Registered → Type 0
-NoneDueBefore moment [] = Unit {0}
-NoneDueBefore moment (r ∷ rs) = (moment ≤ r.due) × NoneDueBefore moment rs
-
 -- no session has this number
 abbrev pub IsAbsent : ℕ → List Registered → Type 0
 IsAbsent number [] = Unit {0}
@@ -32,10 +27,14 @@ abbrev pub client_at : ℕ → List Registered → Option (List ℕ)
 client_at number [] = None
 client_at number (r ∷ rs) = if r.number == number then Some r.client else client_at number rs
 
--- a table with room for as many live sessions as there may be, so many of them live now, none due before `next_due`
-pub record IsKept (slots : List Registered) (capacity limit count opened next_due : ℕ) : Type 0 where
+-- the due moment of the first session with this number
+abbrev pub due_at : ℕ → List Registered → Option ℕ
+due_at number [] = None
+due_at number (r ∷ rs) = if r.number == number then Some r.due else due_at number rs
+
+-- a table with room for as many live sessions as there may be, so many of them live
+pub record IsKept (slots : List Registered) (capacity limit count opened : ℕ) : Type 0 where
   pub room : limit ≤ capacity
   pub fits : count ≤ limit
   pub counted : count ≡ length (live_in slots)
   pub table : IsTable 0 opened slots
-  pub due : NoneDueBefore next_due (live_in slots)

@@ -31,7 +31,7 @@ use crate::session::Session;
 use bx_advice::{Case, Config, Error};
 use bx_entry::Kind;
 use bx_message::{
-    AckMember, AckReply, Column, Event, Message, RawJson, Reply, Sequence, SharedEvent,
+    AckMember, AckReply, Column, Event, Message, RawJson, Reply, Sequence, SharedEvent, Text,
 };
 use bx_names::Pattern;
 use std::alloc::{AllocError, AllocFailed, Global};
@@ -223,28 +223,14 @@ fn open(
         posted.entry.message.now (Some (client_id posted.entry.nonce number)) advice.Opened
         (if is_ack posted.entry.message.now.ack then replies.AckTrue else replies.NoAck))) }
 {
-    let message = posted.message;
     let client = client_id(alloc, posted.nonce, number)?;
-    let ack = is_ack(message.ack);
-    let answer = if ack {
-        AckReply::AckTrue
-    } else {
-        AckReply::NoAck
-    };
-    let reply = Reply::to_message(
-        config,
-        Column::Handshake,
-        message,
-        Some(&client),
-        Case::Opened,
-        answer,
-    )?;
-    let due = due_after(config, moment, 0);
+    let reply = opened_reply(config, posted.message, &client)?;
+    let ack = is_ack(posted.message.ack);
     let session = Session {
         number,
         client,
         ack,
-        due,
+        due: due_after(config, moment, 0),
         live: true,
     };
     Ok(Judgement {
@@ -255,6 +241,26 @@ fn open(
         },
         slot: Planned::Ready(reply),
     })
+}
+
+// How the handshake that opens the session with this client id is answered.
+fn opened_reply(config: &Config, message: &Message, client: &Text) -> Result<Reply, AllocError>
+    ensures { IfOk result (λ reply. reply ≡ reply_to config.now columns.Handshake message.now
+        (Some client.now) advice.Opened (if is_ack message.now.ack then replies.AckTrue else replies.NoAck)) }
+{
+    let answer = if is_ack(message.ack) {
+        AckReply::AckTrue
+    } else {
+        AckReply::NoAck
+    };
+    Reply::to_message(
+        config,
+        Column::Handshake,
+        message,
+        Some(client),
+        Case::Opened,
+        answer,
+    )
 }
 
 // Whether a handshake turns acknowledgement on.

@@ -3,6 +3,7 @@
 
 mod change;
 mod draft;
+mod due_queue;
 mod id;
 mod judge;
 mod laws;
@@ -11,6 +12,7 @@ mod planner;
 mod posted;
 mod refusal;
 mod registry;
+mod roster;
 mod session;
 mod table;
 #[cfg(test)]

@@ -28,49 +28,45 @@ pub(crate) struct Planning {
     pub(crate) clock: u64,
 }
 
-/// What a request hands in beside its messages.
+/// Where a request starts: what it hands in beside its messages, and how far the list and the clock are.
 #[derive(Clone, Copy)]
-pub(crate) struct Handed {
+pub(crate) struct Start {
     pub(crate) moment: u64,
     pub(crate) nonce: u128,
+    /// The place of its first entry.
+    pub(crate) place: u64,
+    /// The greatest moment before it.
+    pub(crate) clock: u64,
 }
 
-/// Judges the messages in order, from this place of the list and this clock on.
+/// Judges the messages of a request in order.
 pub(crate) fn plan_all(
     alloc: Global,
     config: &Config,
     draft: &mut Draft<'_>,
-    clock: u64,
-    first: u64,
-    handed: Handed,
+    start: Start,
     messages: &[Message],
 ) -> Result<Planning, AllocError>
-    requires clock { clock ≤ greatest_moment }
-    requires moment { handed.moment ≤ greatest_moment }
-    requires room { first + length messages.now ≤ greatest_length }
+    requires clock { start.clock ≤ greatest_moment }
+    requires moment { start.moment ≤ greatest_moment }
+    requires room { start.place + length messages.now ≤ greatest_length }
     requires limit { (members_of draft.old).limit ≡ config.now.limits.sessions }
-    requires opened { (members_of draft.old).opened ≤ first }
+    requires opened { (members_of draft.old).opened ≤ start.place }
     ensures base { draft.new.base ≡ draft.old.base }
     ensures planned { IfOk result (λ p. IsPlannedBy config.now (members_of draft.old) (members_of draft.new)
-        clock first (request handed.moment handed.nonce messages.now) p.entries p.slots p.clock) }
+        start.clock start.place (request start.moment start.nonce messages.now) p.entries p.slots p.clock) }
 {
-    let mut now = clock;
-    let mut place = first;
+    let mut now = start.clock;
+    let mut place = start.place;
     let mut seen = false;
     let mut entries = Sequence::new(alloc);
     let mut slots = Sequence::new(alloc);
     let sole = messages.len() == 1;
     for message in messages {
-        now = now.max(handed.moment);
+        now = now.max(start.moment);
         let handshake = is_handshake(message);
         let second = seen & handshake;
-        let posted = Posted {
-            message,
-            moment: handed.moment,
-            nonce: handed.nonce,
-            sole,
-            second,
-        };
+        let posted = posted_at(start, message, sole, second);
         let (entry, slot) = plan_next(alloc, config, draft, now, place, posted)?;
         entries.push(entry)?;
         slots.push(slot)?;
@@ -82,6 +78,25 @@ pub(crate) fn plan_all(
         slots,
         clock: now,
     })
+}
+
+// A message of the request that starts there.
+fn posted_at(start: Start, message: &Message, sole: bool, second: bool) -> Posted<'_>
+    ensures { posted_of result ≡ record {
+      message = message.now;
+      moment = start.moment;
+      nonce = start.nonce;
+      sole = sole;
+      second = second;
+    } }
+{
+    Posted {
+        message,
+        moment: start.moment,
+        nonce: start.nonce,
+        sole,
+        second,
+    }
 }
 
 fn is_handshake(message: &Message) -> bool

@@ -11,11 +11,11 @@ ghost use Rattle.bx_registry.specs.Plans.{checked, entries_in, fault_of, slots_i
 use crate::change::{Change, Edits};
 use crate::draft::Draft;
 use crate::plan::{AdmitFault, Plan, TickPlan};
-use crate::planner::{Handed, plan_all};
+use crate::planner::{Start, plan_all};
 use crate::table::Table;
 use bx_advice::{Config, MAX_LENGTH, MAX_MOMENT};
 use bx_entry::{Batch, Entry, Kind};
-use bx_message::Message;
+use bx_message::{Message, Sequence};
 use std::alloc::{AllocError, Global};
 use std::marker::Model;
 
@@ -96,34 +96,36 @@ impl Registry {
     {
         self.check(moment, messages.len())?;
         let mut draft = Draft::new(alloc, &self.table);
-        let handed = Handed { moment, nonce };
-        let planning = plan_all(
-            alloc,
-            &self.config,
-            &mut draft,
-            self.clock,
-            self.length,
-            handed,
-            messages,
-        )?;
-        let change = Change {
-            edits: Edits::Each(draft.into_edits()),
-            clock: planning.clock,
-            length: self.length + messages.len() as u64,
+        let start = Start {
+            moment,
+            nonce,
+            place: self.length,
+            clock: self.clock,
         };
-        let batch = Batch {
-            first: self.length,
-            entries: planning.entries,
-        };
+        let planning = plan_all(alloc, &self.config, &mut draft, start, messages)?;
         Ok(Plan {
-            batch,
+            batch: self.batch(planning.entries),
             slots: planning.slots,
-            change,
+            change: Change {
+                edits: Edits::Each(draft.into_edits()),
+                clock: planning.clock,
+                length: self.length + messages.len() as u64,
+            },
         })
     }
 
+    // Entries from the end of the list on.
+    fn batch(&self, entries: Sequence<Entry>) -> Batch
+        ensures { result ≡ record { first = self.now.length; entries = entries } }
+    {
+        Batch {
+            first: self.length,
+            entries,
+        }
+    }
+
     /// What a tick comes to: it closes the live sessions that were due before it. It is refused as a request with one
-    /// message is.
+    /// message is. It costs O(closed * log n) amortised, where n sessions may be live.
     pub fn plan_tick(&mut self, alloc: Global, moment: u64) -> Result<TickPlan, AdmitFault>
         ensures same { self.new ≡ self.old }
         ensures fault { IfSome (fault_of moment (self.old.length + 1)) (λ fault. result ≡ Err fault) }

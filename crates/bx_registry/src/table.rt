@@ -1,39 +1,41 @@
-//! The table of sessions.
-ghost use Rattle.std.specs.Prelude.{◌≡◌, ◌≢◌, ◌+◌, ◌<◌, ◌≤◌, ◌^◌, ◌++◌, ◌∷◌, [], ℕ, true, length, slice_index_or, fold, vec_capacity, vec_len, ◌⊎◌, IfOk, IfSome, IfNone};
+//! The table of sessions, with the queue of their due moments.
+ghost use Rattle.std.specs.Prelude.{◌≡◌, ◌+◌, ◌<◌, ◌≤◌, ◌^◌, ◌++◌, ◌∷◌, [], length, fold, nat_lt, IfOk};
 ghost use Rattle.std.specs.Option.{option_copied};
-ghost use Rattle.bx_entry.specs.Registry.{Registered, closed, extended, is_overdue, overdue, swept};
+ghost use Rattle.bx_entry.specs.Registry.{closed, extended, overdue, swept};
 ghost use Rattle.bx_registry.specs.Rolls.{Members, live_in, with_live};
-ghost use Rattle.bx_registry.specs.Tables.{AllLive, IsAbsent, IsNamed, IsTable, NoneDueBefore, client_at};
+ghost use Rattle.bx_registry.specs.Tables.{AllLive, IsTable, client_at};
+ghost use Rattle.bx_registry.specs.Queues.{AllFiled, IsFrom, IsRoster, Queue, entries, is_past, past_numbers};
 ghost use Rattle.bx_registry.specs.Edits.{CanEdit, CanEditBy, CanEditEach, IsNext, edited, edited_by};
 
 use crate::change::{Edit, Edits};
+use crate::due_queue::{Due, DueQueue};
+use crate::roster::Roster;
 use crate::session::Session;
 use bx_message::{Sequence, Text};
 use std::alloc::{AllocError, AllocFailed, Global};
 use std::marker::Model;
 
-/// The sessions in the order of their numbers. A session that is closed stays in its slot until there is no
-/// slot left. There is room from the first on, for twice as many as may be live.
+/// The sessions, and a queue in which each one that is live stands at its due moment or before it: moving a due moment
+/// on leaves the queue as it is, and a tick that meets such an entry files it again.
+///
+/// So a tick walks over no session that is not filed before it. It takes the time of the logarithm of how many there
+/// are for each session that it closes, and as long for each entry whose session was closed or moved on since it was
+/// filed; the message that did so pays for that, and the openings pay for making room. No clause speaks of time.
 #[derive(Drop)]
 pub(crate) struct Table {
-    slots: Vec<Session>,
-    limit: usize,
-    count: usize,
-    opened: u64,
-    // No live session is due before this moment.
-    next_due: u64,
+    roster: Roster,
+    queue: DueQueue,
 }
 
 impl Model for Table {
-    ghost use Rattle.std.specs.Prelude.{vec_capacity};
-    ghost use Rattle.bx_registry.specs.Rolls.{Members, live_in};
-    ghost use Rattle.bx_registry.specs.Tables.{IsKept};
+    ghost use Rattle.bx_registry.specs.Rolls.{Members};
+    ghost use Rattle.bx_registry.specs.Queues.{IsQueued};
 
     ghost Value = { Members };
 
-    ghost view = { λ t. record { limit = t.limit; opened = t.opened; live = live_in t.slots.items } };
+    ghost view = { λ t. t.roster };
 
-    ghost invariant = { λ t. IsKept t.slots.items (vec_capacity t.slots) t.limit t.count t.opened t.next_due };
+    ghost invariant = { λ t. IsQueued t.roster t.queue };
 }
 
 impl Table {
@@ -42,11 +44,8 @@ impl Table {
         ensures { IfOk result (λ t. t ≡ record { limit = limit; opened = 0; live = [] }) }
     {
         Ok(Table {
-            slots: Vec::with_capacity(alloc, limit.saturating_mul(2))?,
-            limit,
-            count: 0,
-            opened: 0,
-            next_due: u64::MAX,
+            roster: Roster::new(alloc, limit)?,
+            queue: DueQueue::new(alloc, limit.saturating_mul(2))?,
         })
     }
 
@@ -59,20 +58,14 @@ impl Table {
         ensures all { AllLive self.now.live }
         ensures limit { self.now.limit < 2 ^ 64 }
     {
-        (self.count, self.opened)
+        self.roster.counts()
     }
 
     /// The client id of the live session with this number.
     pub(crate) fn client_at(&self, number: u64) -> Option<&Text>
         ensures { option_copied result ≡ client_at number self.now.live }
     {
-        let slot = position_of(self.slots.as_slice(), number)?;
-        let session = &self.slots[slot];
-        if session.live {
-            Some(&session.client)
-        } else {
-            None
-        }
+        self.roster.client_at(number)
     }
 
     /// Adds a session.
@@ -83,33 +76,23 @@ impl Table {
           live = self.old.live ++ session ∷ [];
         } }
     {
-        self.count += 1;
-        self.opened = session.number;
-        self.next_due = self.next_due.min(session.due);
-        add_slot(&mut self.slots, session);
+        make_room(&mut self.queue, &self.roster);
+        self.queue.file(session.due, session.number);
+        self.roster.open(session);
     }
 
     /// Moves the due moment of a session on, never back.
     pub(crate) fn extend(&mut self, number: u64, due: u64)
         ensures { self.new ≡ with_live self.old (live_in (extended number due self.old.live)) }
     {
-        if let Some(slot) = position_of(self.slots.as_slice(), number) {
-            let session = &mut self.slots[slot];
-            session.due = session.due.max(due);
-        }
+        self.roster.extend(number, due);
     }
 
     /// Closes a session.
     pub(crate) fn close(&mut self, number: u64)
         ensures { self.new ≡ with_live self.old (live_in (closed number self.old.live)) }
     {
-        if let Some(slot) = position_of(self.slots.as_slice(), number) {
-            let session = &mut self.slots[slot];
-            if session.live {
-                session.live = false;
-                self.count -= 1;
-            }
-        }
+        self.roster.close(number);
     }
 
     /// Makes these edits.
@@ -144,7 +127,8 @@ impl Table {
         }
     }
 
-    /// The numbers of the live sessions that were due before this moment, ascending.
+    /// The numbers of the live sessions that were due before this moment, ascending. It looks at the sessions that are
+    /// filed before it, and at no other.
     pub(crate) fn overdue(
         &mut self,
         alloc: Global,
@@ -153,92 +137,110 @@ impl Table {
         ensures same { self.new ≡ self.old }
         ensures overdue { IfOk result (λ numbers. numbers ≡ overdue moment self.old.live) }
     {
-        if moment <= self.next_due {
-            return Ok(Sequence::new(alloc));
-        }
-        self.next_due = least_due(self.slots.as_slice());
-        overdue_in(alloc, self.slots.as_slice(), moment)
+        self.queue.expire(moment);
+        let mut numbers = past_numbers(alloc, &self.roster, self.queue.late(), moment)?;
+        numbers.sort_unstable();
+        // A session has one entry, but no clause says so.
+        numbers.dedup();
+        Ok(Sequence::from_vec(numbers))
     }
 
     // Closes the sessions that were due before this moment.
     fn sweep(&mut self, moment: u64)
         ensures { self.new ≡ with_live self.old (live_in (swept moment self.old.live)) }
     {
-        if moment > self.next_due {
-            self.slots.retain(|slot| slot.live && slot.due >= moment);
-            self.count = self.slots.len();
-            self.next_due = least_due(self.slots.as_slice());
-        }
+        self.queue.expire(moment);
+        settle_late(&mut self.roster, &mut self.queue, moment);
     }
 }
 
-fn overdue_in(alloc: Global, slots: &[Session], moment: u64) -> Result<Sequence<u64>, AllocError>
-    ensures { IfOk result (λ numbers. numbers ≡ overdue moment slots.now) }
+// The numbers of those entries whose session was due before this moment.
+fn past_numbers(
+    alloc: Global,
+    roster: &Roster,
+    late: &[Due],
+    moment: u64,
+) -> Result<Vec<u64>, AllocError>
+    ensures { IfOk result (λ numbers. numbers.items ≡ past_numbers moment roster.now.live late.now) }
 {
-    let mut numbers = Sequence::new(alloc);
-    for slot in slots {
-        if is_overdue(slot, moment) {
-            numbers.push(slot.number)?;
+    let mut numbers = Vec::new(alloc);
+    for due in late {
+        if is_past(roster.due_of(due.number), moment) {
+            numbers.push(due.number)?;
         }
     }
     Ok(numbers)
 }
 
-// Whether a session is live and was due before this moment.
-fn is_overdue(session: &Session, moment: u64) -> bool
-    ensures { result ≡ is_overdue moment session.now }
+fn is_past(due: Option<u64>, moment: u64) -> bool
+    ensures { result ≡ is_past moment due }
 {
-    session.live && session.due < moment
+    match due {
+        Some(due) => due < moment,
+        None => false,
+    }
 }
 
-// A moment before which no live session is due.
-fn least_due(slots: &[Session]) -> u64
-    ensures { NoneDueBefore result (live_in slots.now) }
+// Closes the sessions of late entries that were due before this moment, and files those again that are due later.
+fn settle_late(roster: &mut Roster, queue: &mut DueQueue, moment: u64)
+    requires roster { IsRoster roster.old }
+    requires filed { AllFiled (entries queue.old) roster.old.live }
+    requires from { IsFrom moment queue.old.waiting }
+    ensures roster { IsRoster roster.new }
+    ensures filed { AllFiled (entries queue.new) roster.new.live }
+    ensures swept { roster.new ≡ with_live roster.old (live_in (swept moment roster.old.live)) }
+    ensures room { queue.new.room ≡ queue.old.room }
 {
-    let mut least = u64::MAX;
+    while let Some(due) = queue.take_late() {
+        settle(roster, queue, due, moment);
+    }
+}
+
+// Closes the session of an entry that was taken out, or files it again if it is due later.
+fn settle(roster: &mut Roster, queue: &mut DueQueue, due: Due, moment: u64)
+    requires roster { IsRoster roster.old }
+    requires filed { AllFiled (due ∷ entries queue.old) roster.old.live }
+    requires free { length (entries queue.old) < queue.old.room }
+    ensures roster { IsRoster roster.new }
+    ensures filed { AllFiled (entries queue.new) roster.new.live }
+    ensures swept { with_live roster.new (live_in (swept moment roster.new.live)) ≡ with_live roster.old (live_in (swept moment roster.old.live)) }
+    ensures from { IsFrom moment queue.old.waiting → IsFrom moment queue.new.waiting }
+    ensures late { queue.new.late ≡ queue.old.late }
+    ensures room { queue.new.room ≡ queue.old.room }
+{
+    match roster.due_of(due.number) {
+        Some(moved) if moved >= moment => queue.file(moved, due.number),
+        Some(_) => roster.close(due.number),
+        None => {}
+    }
+}
+
+// Files the live sessions anew where no room is left, which gives up the entries of closed ones. As there is room for
+// twice as many as may be live, as many can be opened before that comes again.
+fn make_room(queue: &mut DueQueue, roster: &Roster)
+    requires filed { AllFiled (entries queue.old) roster.now.live }
+    requires few { length roster.now.live < queue.old.room }
+    ensures filed { AllFiled (entries queue.new) roster.now.live }
+    ensures room { queue.new.room ≡ queue.old.room }
+    ensures free { length (entries queue.new) < queue.new.room }
+{
+    if !queue.has_room() {
+        queue.clear();
+        file_each(queue, roster.slots());
+    }
+}
+
+// Files the sessions that are live.
+fn file_each(queue: &mut DueQueue, slots: &[Session])
+    requires empty { entries queue.old ≡ [] }
+    requires few { length (live_in slots.now) ≤ queue.old.room }
+    ensures filed { AllFiled (entries queue.new) (live_in slots.now) }
+    ensures count { length (entries queue.new) ≡ length (live_in slots.now) }
+    ensures room { queue.new.room ≡ queue.old.room }
+{
     for slot in slots {
         if slot.live {
-            least = least.min(slot.due);
+            queue.file(slot.due, slot.number);
         }
-    }
-    least
-}
-
-// Adds a session, where there is room for one more that is live.
-fn add_slot(slots: &mut Vec<Session>, session: Session)
-    requires { length (live_in slots.old.items) < vec_capacity slots.old }
-    ensures items { (slots.new.items ≡ slots.old.items ++ session ∷ [])
-        ⊎ (slots.new.items ≡ live_in slots.old.items ++ session ∷ []) }
-    ensures capacity { vec_capacity slots.old ≤ vec_capacity slots.new }
-{
-    make_room(slots);
-    let _ = slots.push(session);
-}
-
-// Gives up the slots of closed sessions where no slot is free.
-fn make_room(slots: &mut Vec<Session>)
-    ensures items { (slots.new.items ≡ slots.old.items)
-        ⊎ (slots.new.items ≡ live_in slots.old.items) }
-    ensures capacity { vec_capacity slots.new ≡ vec_capacity slots.old }
-    ensures room { length (live_in slots.old.items) < vec_capacity slots.old
-        → vec_len slots.new < vec_capacity slots.new }
-{
-    if slots.len() >= slots.capacity() {
-        slots.retain(|slot| slot.live);
-    }
-}
-
-// The slot of the session with this number.
-fn position_of(slots: &[Session], number: u64) -> Option<usize>
-    requires { (high : ℕ) × IsTable 0 high slots.now }
-    ensures within { IfSome result (λ slot. slot < length slots.now) }
-    ensures found { IfSome result (λ slot. (d : Registered)
-        → (slice_index_or slots.now slot d).number ≡ number) }
-    ensures absent { IfNone result (IsAbsent number slots.now) }
-{
-    let slot = slots.partition_point(|session| session.number < number);
-    match slots.get(slot) {
-        Some(session) if session.number == number => Some(slot),
-        _ => None,
     }
 }

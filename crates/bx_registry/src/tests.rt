@@ -215,6 +215,50 @@ fn a_hold_moves_the_due_moment(rt: HostRuntime) -> Result<(), Fail> {
 }
 
 #[test]
+fn a_session_is_filed_again(rt: HostRuntime) -> Result<(), Fail> {
+    let alloc = rt.alloc();
+    let mut registry = Registry::new(alloc, config(2))?;
+    post(alloc, &mut registry, 0, 0, &[HELLO])?;
+    post(alloc, &mut registry, 9_000, 0, &[HELLO])?;
+    let publish = Sent::Publish(Some(FIRST), "/a", true);
+    post(alloc, &mut registry, 10_000, 0, &[publish])?;
+    // The first session was due at 10,000, and is due at 20,000.
+    assert!(rt; tick(alloc, &mut registry, 10_001)?.is_empty());
+    // A tick that is planned and not committed leaves all as it is.
+    let dropped = registry.plan_tick(alloc, 30_000)?;
+    assert_eq!(rt; dropped.entry.moment, 30_000);
+    assert!(rt; registry.live(1));
+    post(alloc, &mut registry, 10_002, 0, &[publish])?;
+    let closed = tick(alloc, &mut registry, 19_001)?;
+    assert_eq!(rt; closed.as_slice(), [2].as_slice());
+    assert!(rt; tick(alloc, &mut registry, 20_002)?.is_empty());
+    let closed = tick(alloc, &mut registry, 20_003)?;
+    assert_eq!(rt; closed.as_slice(), [1].as_slice());
+    Ok(())
+}
+
+#[test]
+fn closed_sessions_give_up_their_room(rt: HostRuntime) -> Result<(), Fail> {
+    let alloc = rt.alloc();
+    let mut registry = Registry::new(alloc, config(2))?;
+    post(alloc, &mut registry, 7, 0, &[HELLO])?;
+    // Each request closes the session that the one before it opened.
+    let ids = [
+        "000000000000000000000000000000000000000000000002",
+        "000000000000000000000000000000000000000000000003",
+        "000000000000000000000000000000000000000000000004",
+        "000000000000000000000000000000000000000000000005",
+    ];
+    post(alloc, &mut registry, 7, 0, &[HELLO])?;
+    for id in ids {
+        post(alloc, &mut registry, 7, 0, &[Sent::Disconnect(id), HELLO])?;
+    }
+    let closed = tick(alloc, &mut registry, 10_008)?;
+    assert_eq!(rt; closed.as_slice(), [1, 6].as_slice());
+    Ok(())
+}
+
+#[test]
 fn messages_of_a_request_see_those_before(rt: HostRuntime) -> Result<(), Fail> {
     let alloc = rt.alloc();
     let mut registry = Registry::new(alloc, config(1))?;

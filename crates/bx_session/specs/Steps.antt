@@ -145,9 +145,9 @@ delivery config e s = if full s.window then Overflowed else delivery_to config e
 
 -- ---- the ends
 
--- the moment at which a hold ends, as far as a number of 64 bits goes
-abbrev pub deadline_of : Pending → ℕ
-deadline_of p = min (p.moment + p.hold) (2 ^ 64 - 1)
+-- the moment at which a hold ends, if it is a number of 64 bits
+abbrev pub deadline_of : Pending → Option ℕ
+deadline_of p = if nat_lt (p.moment + p.hold) (2 ^ 64) then Some (p.moment + p.hold) else None
 
 -- whether a tick at this moment ends this hold
 abbrev pub is_due_at : ℕ → Pending → Bool

@@ -76,18 +76,25 @@ impl PendingConnect {
         self.hold == 0
     }
 
-    /// The moment at which its hold ends, in milliseconds; the greatest one where it is greater still.
-    pub(crate) fn deadline(&self) -> u64
+    /// Its place in the list.
+    pub fn place(&self) -> u64
+        ensures { result ≡ self.now.place }
+    {
+        self.place
+    }
+
+    /// The moment at which its hold ends, in milliseconds; none where no moment of 64 bits is that late.
+    pub fn deadline(&self) -> Option<u64>
         ensures { result ≡ deadline_of self.now }
     {
-        self.moment.saturating_add(self.hold)
+        self.moment.checked_add(self.hold)
     }
 
     /// Whether its hold ends at or before this moment.
     pub(crate) fn is_due(&self, moment: u64) -> bool
         ensures { result ≡ is_due_at moment self.now }
     {
-        match self.moment.checked_add(self.hold) {
+        match self.deadline() {
             Some(deadline) => deadline <= moment,
             None => false,
         }

@@ -1,10 +1,10 @@
 //! One session, entry by entry.
-ghost use Rattle.std.specs.Prelude.{◌≡◌, ◌<◌, ◌≤◌, ◌+◌, ◌==◌, [], IfOk, IsOk, OnOk, OnErr, true, false, length, take, drop, nat_lt, is_some, option_map, Option, Some, None};
+ghost use Rattle.std.specs.Prelude.{◌≡◌, ◌<◌, ◌≤◌, ◌+◌, ◌==◌, [], IfOk, IsOk, OnOk, OnErr, true, false, length, take, drop, nat_lt, is_some, Option, Some, None};
 ghost use Rattle.std.specs.VecDeque.Iter.{deque_iter_rest};
 ghost use Rattle.bx_entry.specs.Keeping.{ack_given};
 ghost use Rattle.bx_advice.specs.declared.advice.Case.TheVariants.{Connected, Disconnected};
 ghost use Rattle.bx_session.specs.Seats.{opened};
-ghost use Rattle.bx_session.specs.Steps.{Countable, acknowledging, connect_answer, connected, connection, deadline_of, delivered, delivery, given_from, giving, is_due, overflowed, released, settled, settled_answer, subscribed, tick_answer, ticked, too_many, unheld, unsubscribed, window_acknowledged};
+ghost use Rattle.bx_session.specs.Steps.{Countable, acknowledging, connect_answer, connected, connection, delivered, delivery, given_from, giving, is_due, overflowed, released, settled, settled_answer, subscribed, tick_answer, ticked, too_many, unheld, unsubscribed, window_acknowledged};
 
 use crate::answered::{Answered, Connection, Delivery};
 use crate::pending::PendingConnect;
@@ -99,17 +99,6 @@ impl Session {
         ensures { result ≡ is_some self.now.seat.held }
     {
         self.held.is_some()
-    }
-
-    /// The moment at which the hold ends, in milliseconds, where a connect is held; the greatest moment
-    /// of 64 bits where it would be greater still.
-    pub fn deadline(&self) -> Option<u64>
-        ensures { result ≡ option_map deadline_of self.now.seat.held }
-    {
-        match &self.held {
-            Some(held) => Some(held.deadline()),
-            None => None,
-        }
     }
 
     /// So many patterns are in force that were not. Where they are more than the limit then, the session

@@ -242,7 +242,6 @@ fn holds_end(rt: HostRuntime) -> Result<(), Fail> {
         ],
     )?;
     assert!(rt; session.is_held());
-    assert_eq!(rt; session.deadline(), Some(3_500));
     Ok(())
 }
 

@@ -11,6 +11,7 @@ use Rattle.bx_tree.specs.declared.nodes.Nodes.{Nodes}
 use Rattle.bx_tree.specs.Whole.{AreWhole}
 use Rattle.bx_tree.specs.Patterns.{patterns_of}
 use Rattle.bx_tree.specs.Lists.{stands_for, IsIndexOf}
+use Rattle.bx_tree.proofs.FreshLemmas.{AreApart}
 
 -- ---- tests
 
@@ -43,10 +44,6 @@ and_never true true = refl
 and_never true false = refl
 and_never false g = refl
 
-gone_self : (b : Bool) → (b && not (b && true)) ≡ false
-gone_self true = refl
-gone_self false = refl
-
 undone : (b e : Bool) → (e ≡ true → b ≡ false) → ((b || e) && not e) ≡ b
 undone true true h = sym (h refl)
 undone true false h = refl
@@ -78,10 +75,6 @@ by_number number n P own others = by (n == number) refl
     by false e = others (λ same. let f : false ≡ true = sym e ∙ eq-eqb n number same in cc)
 
 module _ (old new : Nodes) (all later : List (ℕ × List Glob)) (p : Glob) (number : ℕ) (index : IsIndexOf old all) where
-  -- nothing changed
-  pub index_same : ((other : Glob) (n : ℕ) → stands_for new other n ≡ stands_for old other n) → IsIndexOf new all
-  index_same same other whole n = same other n ∙ index other whole n
-
   pub index_added : ((other : Glob) → AreWhole other.segments → (n : ℕ) → stands_for new other n ≡ (stands_for old other n || (same_glob other p && (n == number)))) → patterns_of later number ≡ patterns_of all number ++ p ∷ [] → ((n : ℕ) → n ≢ number → patterns_of later n ≡ patterns_of all n) → IsIndexOf new later
   index_added stands own others other whole n =
       stands other whole n ∙ ap (λ b. b || (same_glob other p && (n == number))) (index other whole n)
@@ -95,13 +88,6 @@ module _ (old new : Nodes) (all later : List (ℕ × List Glob)) (p : Glob) (num
       ∙ by_number number n (λ m b. (in_force (patterns_of all m) other && not (same_glob other p && b)) ≡ in_force (patterns_of later m) other)
       (and_now (in_force (patterns_of all number) other) (same_glob other p) ∙ sym (in_force-less (patterns_of all number) p other) ∙ ap (λ ps. in_force ps other) (sym own))
       (λ differs. and_never (in_force (patterns_of all n) other) (same_glob other p) ∙ ap (λ ps. in_force ps other) (sym (others n differs)))
-
-  pub index_cleared : ((other : Glob) → AreWhole other.segments → (n : ℕ) → stands_for new other n ≡ (stands_for old other n && not (in_force (patterns_of all number) other && (n == number)))) → patterns_of later number ≡ [] → ((n : ℕ) → n ≢ number → patterns_of later n ≡ patterns_of all n) → IsIndexOf new later
-  index_cleared stands own others other whole n =
-      stands other whole n ∙ ap (λ b. b && not (in_force (patterns_of all number) other && (n == number))) (index other whole n)
-      ∙ by_number number n (λ m b. (in_force (patterns_of all m) other && not (in_force (patterns_of all number) other && b)) ≡ in_force (patterns_of later m) other)
-      (gone_self (in_force (patterns_of all number) other) ∙ ap (λ ps. in_force ps other) (sym own))
-      (λ differs. and_never (in_force (patterns_of all n) other) (in_force (patterns_of all number) other) ∙ ap (λ ps. in_force ps other) (sym (others n differs)))
 
 -- what is put in and taken out again was not there
 pub index_undone : (old mid new : Nodes) (all : List (ℕ × List Glob)) (p : Glob) (number : ℕ) → IsIndexOf old all → in_force (patterns_of all number) p ≡ false
@@ -122,3 +108,28 @@ without_absent [] p h = refl
 without_absent (q ∷ qs) p h =
     let parts = or_parts (same_glob p q) (in_force qs p) h in
     rw parts.0 (ap (λ rs. q ∷ rs) (without_absent qs p parts.1))
+
+-- ---- several patterns at once
+
+apart_stays : (b g : Bool) → (g && b) ≡ false → (b && not (g && true)) ≡ b
+apart_stays true true h = sym h
+apart_stays true false h = refl
+apart_stays false g h = refl
+
+gone_again : (s g e : Bool) → ((s || (g && e)) && not (g && e)) ≡ (s && not (g && e))
+gone_again true g e = refl
+gone_again false true true = refl
+gone_again false true false = refl
+gone_again false false e = refl
+
+-- what is put in and taken out again leaves all as it was, where none of it was there
+pub index_kept : (old mid new : Nodes) (all : List (ℕ × List Glob)) (ps : List Glob) (number : ℕ) → IsIndexOf old all → AreApart ps (patterns_of all number)
+    → ((other : Glob) → AreWhole other.segments → (n : ℕ) → stands_for mid other n ≡ (stands_for old other n || (in_force ps other && (n == number))))
+    → ((other : Glob) → AreWhole other.segments → (n : ℕ) → stands_for new other n ≡ (stands_for mid other n && not (in_force ps other && (n == number))))
+    → IsIndexOf new all
+index_kept old mid new all ps number index apart put took other whole n =
+    took other whole n ∙ ap (λ b. b && not (in_force ps other && (n == number))) (put other whole n) ∙ gone_again (stands_for old other n) (in_force ps other) (n == number)
+    ∙ ap (λ b. b && not (in_force ps other && (n == number))) (index other whole n)
+    ∙ by_number number n (λ m b. (in_force (patterns_of all m) other && not (in_force ps other && b)) ≡ in_force (patterns_of all m) other)
+    (apart_stays (in_force (patterns_of all number) other) (in_force ps other) (apart other))
+    (λ differs. and_never (in_force (patterns_of all n) other) (in_force ps other))

@@ -1,5 +1,7 @@
 pub mod AmongLemmas
+pub mod FreshLemmas
 pub mod IndexLemmas
+pub mod KeptLemmas
 pub mod MeetLemmas
 pub mod NodeLemmas
 pub mod SessionLemmas

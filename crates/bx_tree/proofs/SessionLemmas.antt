@@ -1,6 +1,7 @@
 -- The patterns of one session, after a change of one session's.
-use Rattle.std.proofs.Common.{◌≡◌, ◌≢◌, ℕ, nat_eq, eqb, Bool, true, false, cond, Option, Some, List, [], ◌∷◌, map, length, arith, refl, sym, ap, ◌∙◌}
+use Rattle.std.proofs.Common.{◌≡◌, ◌≢◌, ℕ, nat_eq, eqb, Bool, true, false, cond, Option, Some, Result, Ok, Err, List, [], ◌∷◌, map, length, arith, refl, sym, ap, ◌∙◌}
 use Rattle.std.specs.Option.{option_map_or, unwrap_or}
+use Rattle.std.specs.Result.{is_ok, is_err}
 use Rattle.std.specs.Map.{lookup, set_value}
 use Rattle.std.specs.HashMap.{HashMap, UpdatesBy}
 use Rattle.std.proofs.lemmas.Bool.{ne_eqb}
@@ -10,6 +11,15 @@ use Rattle.bx_tree.specs.Patterns.{patterns_of}
 pub nil_from_length : {A : Type 0} (xs : List A) → length xs ≡ 0 → xs ≡ []
 nil_from_length [] h = refl
 nil_from_length (x ∷ xs) h = absurd (omega arith)
+
+-- what a result that is known leaves
+pub when_ok : {T E X : Type 0} (r : Result T E) (a b : X) {x : X} → is_err r ≡ false → x ≡ cond (is_ok r) a b → x ≡ a
+when_ok (Ok v) a b h e = e
+when_ok (Err v) a b h e = cc
+
+pub when_err : {T E X : Type 0} (r : Result T E) (a b : X) {x : X} → is_err r ≡ true → x ≡ cond (is_ok r) a b → x ≡ b
+when_err (Ok v) a b h e = cc
+when_err (Err v) a b h e = e
 
 module _ {X : Type 0} (f : X → List Glob) where
   -- the entries as contracts see them

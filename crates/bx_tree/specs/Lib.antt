@@ -1,3 +1,4 @@
+pub mod Kept
 pub mod Whole
 pub mod Patterns
 pub mod Lists

@@ -2,6 +2,7 @@
 #![tactic(auto)]
 
 mod found;
+mod fresh;
 mod nodes;
 mod own_path;
 mod path_lists;

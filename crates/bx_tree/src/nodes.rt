@@ -61,6 +61,27 @@ impl Nodes {
         }
     }
 
+    /// Lets a number stand for each of these patterns, or for none of them where memory is refused.
+    pub(crate) fn add_each(
+        &mut self,
+        alloc: Global,
+        patterns: &[Pattern],
+        number: u64,
+    ) -> Result<(), AllocError>
+        ensures ok { OnOk result ((other : Glob) → AreWhole other.segments → (n : ℕ)
+            → stands_for self.new other n ≡ (stands_for self.old other n || (in_force patterns.now other && (n == number)))) }
+        ensures err { OnErr result ((other : Glob) → AreWhole other.segments → (n : ℕ)
+            → stands_for self.new other n ≡ (stands_for self.old other n && not (in_force patterns.now other && (n == number)))) }
+    {
+        for pattern in patterns {
+            if let Err(error) = self.add(alloc, pattern, number) {
+                self.remove_each(patterns, number);
+                return Err(error);
+            }
+        }
+        Ok(())
+    }
+
     /// Lets a number stand for a pattern no longer.
     pub(crate) fn remove(&mut self, pattern: &Pattern, number: u64)
         ensures { (other : Glob) → AreWhole other.segments → (n : ℕ)

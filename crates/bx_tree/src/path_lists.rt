@@ -1,7 +1,6 @@
-ghost use Rattle.std.specs.Prelude.{◌≡◌, ℕ, ◌+◌, ◌<◌, ◌^◌, ◌==◌, ◌&&◌, ◌||◌, not, false, List, OnOk, OnErr, bytes_eq};
-ghost use Rattle.std.specs.Option.{option_copied};
+ghost use Rattle.std.specs.Prelude.{◌≡◌, ℕ, true, List};
 ghost use Rattle.std.specs.HashMap.{get_by_text};
-ghost use Rattle.bx_tree.specs.Lists.{stands_at};
+ghost use Rattle.bx_tree.specs.Kept.{is_kept};
 
 use indexmap::IndexMap;
 use std::alloc::{AllocError, Global};
@@ -11,9 +10,15 @@ use std::collections::BTreeSet;
 #[derive(Drop)]
 pub(crate) struct PathLists {
     by_path: IndexMap<String, BTreeSet<u64>>,
+    ghost no_empty: { (path : List ℕ) → is_kept (get_by_text by_path path) ≡ true },
 }
 
 impl PathLists {
+    ghost use Rattle.std.specs.Prelude.{◌≡◌, ℕ, ◌+◌, ◌<◌, ◌^◌, ◌==◌, ◌&&◌, ◌||◌, not, false, List, OnOk, OnErr, bytes_eq};
+    ghost use Rattle.std.specs.Option.{option_copied};
+    ghost use Rattle.std.specs.HashMap.{get_by_text};
+    ghost use Rattle.bx_tree.specs.Lists.{stands_at};
+
     /// No number at any path.
     pub(crate) fn new(alloc: Global) -> PathLists
         ensures { (path : List ℕ) → (number : ℕ) → stands_at result path number ≡ false }

@@ -1,4 +1,4 @@
-ghost use Rattle.std.specs.Prelude.{◌≡◌, ◌≢◌, ℕ, [], ◌∷◌, ◌++◌, length, OnOk, OnErr, IfOk};
+ghost use Rattle.std.specs.Prelude.{◌≡◌, ◌≢◌, ℕ, [], ◌∷◌, ◌++◌, length, OnOk, OnErr, IfOk, IfErr};
 ghost use Rattle.bx_names.specs.InForce.{in_force, without_pattern};
 ghost use Rattle.bx_tree.specs.Patterns.{patterns_of};
 
@@ -61,6 +61,31 @@ impl Sessions {
         patterns.push(pattern)?;
         self.by_number.insert(number, patterns)?;
         Ok(())
+    }
+
+    /// Adds patterns behind the others of a session. Where memory is refused nothing changes, and they come back.
+    pub(crate) fn append(&mut self, number: u64, mut more: Vec<Pattern>) -> Result<(), Vec<Pattern>>
+        ensures own { OnOk result (patterns_of self.new number ≡ patterns_of self.old number ++ more.items) }
+        ensures others { OnOk result ((n : ℕ) → n ≢ number → patterns_of self.new n ≡ patterns_of self.old n) }
+        ensures back { IfErr result (λ back. back.items ≡ more.items) }
+        ensures err { OnErr result (self.new ≡ self.old) }
+    {
+        if more.is_empty() {
+            return Ok(());
+        }
+        if let Some(patterns) = self.by_number.get_mut(&number) {
+            if patterns.append(&mut more).is_err() {
+                return Err(more);
+            }
+            return Ok(());
+        }
+        match self.by_number.insert(number, more) {
+            Ok(_) => Ok(()),
+            Err(refused) => {
+                let (_, more) = refused.value;
+                Err(more)
+            }
+        }
     }
 
     /// Takes a pattern of a session out.

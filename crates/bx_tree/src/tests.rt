@@ -97,6 +97,40 @@ fn adds_and_removes(rt: HostRuntime) -> Result<(), Fail> {
     Ok(())
 }
 
+/// The patterns with these texts.
+fn read_all(alloc: Global, texts: &[&str]) -> Result<Vec<Pattern>, Fail> {
+    let mut patterns = Vec::new(alloc);
+    for text in texts {
+        patterns.push(Pattern::read(alloc, text)?)?;
+    }
+    Ok(patterns)
+}
+
+/// Whether several patterns come at once, one of them twice and one that is there already.
+fn comes_at_once(alloc: Global, tree: &mut Tree) -> Result<bool, Fail> {
+    let several = read_all(alloc, &["/b", "/a/*", "/b", "/c/*"])?;
+    let added = tree.add_all(alloc, several.as_slice(), 1)?;
+    let texts = has_texts(alloc, tree.patterns(1), "/a/* /a/** /b /c/* ")?;
+    Ok(added == 2 && texts && tree.count(2) == 1 && finds(alloc, tree, "/c/d", &[1], 9)?)
+}
+
+/// Whether several go at once, one of them named twice and one that is not there.
+fn goes_at_once(alloc: Global, tree: &mut Tree) -> Result<bool, Fail> {
+    let several = read_all(alloc, &["/c/*", "/d", "/a/*", "/c/*"])?;
+    let removed = tree.remove_each(several.as_slice(), 1);
+    let texts = has_texts(alloc, tree.patterns(1), "/a/** /b ")?;
+    Ok(removed == 2 && texts && tree.count(2) == 1 && finds(alloc, tree, "/c/d", &[], 9)?)
+}
+
+#[test]
+fn adds_and_removes_several(rt: HostRuntime) -> Result<(), Fail> {
+    let mut tree = small_tree(rt.alloc())?;
+    assert!(rt; comes_at_once(rt.alloc(), &mut tree)?);
+    assert!(rt; goes_at_once(rt.alloc(), &mut tree)?);
+    assert!(rt; finds_below(rt.alloc(), &tree)?);
+    Ok(())
+}
+
 /// Gives each of 10,000 sessions a pattern of its own.
 fn crowd(alloc: Global, tree: &mut Tree) -> Result<(), Fail> {
     for number in 10..10_010 {

@@ -1,10 +1,11 @@
-ghost use Rattle.std.specs.Prelude.{◌≡◌, ◌≢◌, ◌↔◌, ℕ, ◌+◌, ◌*◌, ◌≤◌, [], IsTrue, not, length, OnOk, OnErr, IfOk, Contains};
+ghost use Rattle.std.specs.Prelude.{◌≡◌, ◌≢◌, ◌↔◌, ℕ, ◌+◌, ◌*◌, ◌≤◌, [], IsTrue, not, length, fold, OnOk, OnErr, IfOk, Contains};
 ghost use Rattle.std.specs.List.Sorted.{IsStrictlyIncreasing};
 ghost use Rattle.bx_names.specs.Globs.{any_matches};
 ghost use Rattle.bx_names.specs.InForce.{in_force, with_pattern, without_pattern};
 ghost use Rattle.bx_tree.specs.Patterns.{patterns_of};
 
 use crate::found::Found;
+use crate::fresh::{fresh_of, is_one_of};
 use crate::nodes::Nodes;
 use crate::sessions::Sessions;
 use bx_names::{ChannelName, Pattern};
@@ -69,14 +70,36 @@ impl Tree {
         }
     }
 
+    /// Puts all these patterns in force for a number, in order, and says how many of them were not so before. Where
+    /// memory is refused all is as before.
+    pub fn add_all(
+        &mut self,
+        alloc: Global,
+        patterns: &[Pattern],
+        number: u64,
+    ) -> Result<usize, AllocError>
+        ensures own { OnOk result (patterns_of self.new number ≡ fold with_pattern (patterns_of self.old number) patterns.now) }
+        ensures others { OnOk result ((n : ℕ) → n ≢ number → patterns_of self.new n ≡ patterns_of self.old n) }
+        ensures added { IfOk result (λ added. length (patterns_of self.old number) + added ≡ length (fold with_pattern (patterns_of self.old number) patterns.now)) }
+        ensures err { OnErr result (self.new ≡ self.old) }
+    {
+        let fresh = fresh_of(alloc, self.sessions.patterns(number), patterns)?;
+        let count = fresh.len();
+        self.nodes.add_each(alloc, fresh.as_slice(), number)?;
+        match self.sessions.append(number, fresh) {
+            Ok(()) => Ok(count),
+            Err(fresh) => {
+                self.nodes.remove_each(fresh.as_slice(), number);
+                Err(AllocError)
+            }
+        }
+    }
+
     /// Whether the pattern is in force for the number.
     pub fn has(&self, pattern: &Pattern, number: u64) -> bool
         ensures { result ≡ in_force (patterns_of self.now number) pattern.now }
     {
-        self.sessions
-            .patterns(number)
-            .iter()
-            .any(|other| pattern == other)
+        is_one_of(self.sessions.patterns(number), pattern)
     }
 
     /// Takes a pattern out of force for a number, and says whether it was in force. A pattern that was not changes
@@ -92,6 +115,19 @@ impl Tree {
             self.sessions.remove(number, pattern);
         }
         held
+    }
+
+    /// Takes each of these patterns out of force for a number, and says how many of the number's patterns that were.
+    pub fn remove_each(&mut self, patterns: &[Pattern], number: u64) -> usize
+        ensures own { patterns_of self.new number ≡ fold without_pattern (patterns_of self.old number) patterns.now }
+        ensures others { (n : ℕ) → n ≢ number → patterns_of self.new n ≡ patterns_of self.old n }
+        ensures removed { length (patterns_of self.new number) + result ≡ length (patterns_of self.old number) }
+    {
+        let before = self.count(number);
+        for pattern in patterns {
+            self.remove(pattern, number);
+        }
+        before - self.count(number)
     }
 
     /// Takes all patterns of a number out of force, as where its session closes, and says how many there were.

@@ -2,6 +2,8 @@
 #![tactic(auto)]
 
 mod judge;
+mod laws;
 mod world;
 
+pub use laws::{answers_are_filed, none_taken_twice, takes_are_answers};
 pub use world::{AdmissionFault, Admitted, World};

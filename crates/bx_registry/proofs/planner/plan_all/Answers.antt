@@ -14,12 +14,12 @@ use Rattle.bx_registry.proofs.planner.plan_all.Goals as goal
 pub plan_next-requires-clause-opened : goal.plan_next-requires-clause-opened
 plan_next-requires-clause-opened c =
     let i = c.loop-message.invariant in
-    omega (arith, i.opened, i.end, c.requires.room, length-listed c.args.handed.moment c.args.handed.nonce (length c.args.messages.now == 1) false c.args.messages.now)
+    omega (arith, i.opened, i.end, c.requires.room, length-listed c.args.start.moment c.args.start.nonce (length c.args.messages.now == 1) false c.args.messages.now)
 
 pub overflow_add-place : goal.overflow_add-place
 overflow_add-place c =
     let i = c.loop-message.invariant in
-    omega (arith, i.end, c.requires.room, length-listed c.args.handed.moment c.args.handed.nonce (length c.args.messages.now == 1) false c.args.messages.now)
+    omega (arith, i.end, c.requires.room, length-listed c.args.start.moment c.args.start.nonce (length c.args.messages.now == 1) false c.args.messages.now)
 
 pub loop-message-preserved : goal.loop-message-preserved
 loop-message-preserved c =
@@ -30,19 +30,20 @@ loop-message-preserved c =
     let d = c.loop-message.draft in
     let now : ℕ = c.loop-message.now in
     let place : ℕ = c.loop-message.place in
-    let moment : ℕ = c.args.handed.moment in
-    let nonce : ℕ = c.args.handed.nonce in
+    let moment : ℕ = c.args.start.moment in
+    let nonce : ℕ = c.args.start.nonce in
     let sole : Bool = length ms == 1 in
     let seen : Bool = c.loop-message.seen in
     let list : List Listed = request moment nonce ms in
     let p : Posted = record { message = x; moment = moment; nonce = nonce; sole = sole; second = seen && is_handshake x } in
     let rest : drop i ms ≡ x ∷ drop (i + 1) ms = drop_more ms i x c.loop-message-test.true ∙ ap (λ (y : Message). y ∷ drop (i + 1) ms) (sym c.message-item.is) in
-    let so : SoFar config (members_of c.args.draft.now) c.args.draft.now.base c.args.clock c.args.first list (listed_from moment nonce sole seen (x ∷ drop (i + 1) ms)) d now place c.loop-message.entries c.loop-message.slots =
-    subst (λ (ys : List Message). SoFar config (members_of c.args.draft.now) c.args.draft.now.base c.args.clock c.args.first list (listed_from moment nonce sole seen ys) d now place c.loop-message.entries c.loop-message.slots) rest c.loop-message.invariant in
+    let so : SoFar config (members_of c.args.draft.now) c.args.draft.now.base c.args.start.clock c.args.start.place list (listed_from moment nonce sole seen (x ∷ drop (i + 1) ms)) d now place c.loop-message.entries c.loop-message.slots =
+    subst (λ (ys : List Message). SoFar config (members_of c.args.draft.now) c.args.draft.now.base c.args.start.clock c.args.start.place list (listed_from moment nonce sole seen ys) d now place c.loop-message.entries c.loop-message.slots) rest c.loop-message.invariant in
     let found : IsFoundAt place (max now moment) (outcome config (members_of d) (max now moment) p) (members_of c.plan_next.new.draft) c.in_ok-entry.entry c.in_ok-entry.slot =
     subst (λ (h : Bool). IsFoundAt place (max now moment) (outcome config (members_of d) (max now moment) (record p { second = seen && h })) (members_of c.plan_next.new.draft) c.in_ok-entry.entry c.in_ok-entry.slot) c.is_handshake-handshake.ensures
-    (subst (λ (k : ℕ). IsFoundAt place k (outcome config (members_of d) k (record p { second = seen && c.is_handshake-handshake.result })) (members_of c.plan_next.new.draft) c.in_ok-entry.entry c.in_ok-entry.slot) c.max-now.ensures c.in_ok-entry.ensures.found) in
+    (subst (λ (k : ℕ). IsFoundAt place k (outcome config (members_of d) k (record p { second = seen && c.is_handshake-handshake.result })) (members_of c.plan_next.new.draft) c.in_ok-entry.entry c.in_ok-entry.slot) c.max-now.ensures
+    (subst (λ (q : Posted). IsFoundAt place c.max-now.result (outcome config (members_of d) c.max-now.result q) (members_of c.plan_next.new.draft) c.in_ok-entry.entry c.in_ok-entry.slot) c.posted_at-posted.ensures c.in_ok-entry.ensures.found)) in
     let le : max now moment ≤ greatest_moment = omega (arith, c.loop-message.invariant.moment, c.requires.moment) in
     rw (c.in_ok-push.ensures.ok, c.in_ok-push-2.ensures.ok, c.is_handshake-handshake.ensures, c.max-now.ensures)
-    (one_next config (members_of c.args.draft.now) c.args.draft.now.base c.args.clock c.args.first list (listed_from moment nonce sole (seen || is_handshake x) (drop (i + 1) ms)) d c.plan_next.new.draft now place
+    (one_next config (members_of c.args.draft.now) c.args.draft.now.base c.args.start.clock c.args.start.place list (listed_from moment nonce sole (seen || is_handshake x) (drop (i + 1) ms)) d c.plan_next.new.draft now place
     c.loop-message.entries c.loop-message.slots p c.in_ok-entry.entry c.in_ok-entry.slot so le c.in_ok-entry.ensures.base found)

@@ -6,5 +6,5 @@ use Rattle.bx_registry.proofs.planner.plan_all.Given as goal
 
 abbrev pub invariant-loop-message : goal.invariant-loop-message
 invariant-loop-message l =
-    SoFar l.config (members_of l.fn.draft) l.fn.draft.base l.clock l.first (request l.handed.moment l.handed.nonce l.messages)
-    (listed_from l.handed.moment l.handed.nonce l.sole l.seen (drop l.message-index l.messages)) l.draft l.now l.place l.entries l.slots
+    SoFar l.config (members_of l.fn.draft) l.fn.draft.base l.start.clock l.start.place (request l.start.moment l.start.nonce l.messages)
+    (listed_from l.start.moment l.start.nonce l.sole l.seen (drop l.message-index l.messages)) l.draft l.now l.place l.entries l.slots

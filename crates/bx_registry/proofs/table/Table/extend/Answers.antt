@@ -1,27 +1,10 @@
-use Rattle.std.proofs.Common.{◌≡◌, ◌<◌, List, length, get_or, set, ap, sym, subst, ◌∙◌}
-use Rattle.bx_entry.specs.Registry.{Registered, extended}
-use Rattle.bx_registry.specs.Rolls.{live_in, with_live}
-use Rattle.bx_registry.proofs.Slots.{extended-slot, extended-kept, live_in-extend, extend-none}
+use Rattle.bx_registry.specs.Queues.{entries}
+use Rattle.bx_registry.proofs.Dues.{filed-extended}
 use Rattle.bx_registry.proofs.table.Table.extend.Goals as goal
 
-abbrev found : goal.After-self-1 → Registered
-found c = let s = c.session.inside in record { number = s.number; client = s.client; ack = s.ack; due = s.due; live = s.live }
-
-written : (c : goal.After-self-1) → set c.self.inside.slots.items c.in-Some.slot (record (found c) { due = c.max-session-inside.result }) ≡ extended c.args.number c.args.due c.self.inside.slots.items
-written c =
-    let rs : List Registered = c.self.inside.slots.items in
-    let i = c.in-Some.slot in
-    let x = found c in
-    let is : x ≡ get_or rs i x = subst (λ (r : Registered). r ≡ get_or rs i r) (sym c.session.view_is) c.index_mut-session.ensures.value in
-    let within : i < length rs = subst (λ (ss : List Registered). i < length ss) c.as_slice.ensures.value c.in-Some.ensures.within in
-    let number = ap (λ (r : Registered). r.number) is ∙ ap (λ (ss : List Registered). (get_or ss i x).number) (sym c.as_slice.ensures.value) ∙ c.in-Some.ensures.found x in
-    extended-slot c.args.number c.args.due c.max-session-inside.result rs i x c.self.inside.opened c.self.invariant.table within is number c.max-session-inside.ensures
-
 pub invariant_of-self : goal.invariant_of-self
-invariant_of-self c = rw (written c) (extended-kept c.args.number c.args.due c.self.invariant)
-
-pub returns-in-Some : goal.returns-in-Some
-returns-in-Some c = rw (← c.self.view_is, written c) (ap (λ (live : List Registered). with_live (record { limit = c.self.inside.limit; opened = c.self.inside.opened; live = live_in c.self.inside.slots.items }) live) (live_in-extend c.args.number c.args.due c.self.inside.slots.items))
-
-pub returns-in_default : goal.returns-in_default
-returns-in_default c = rw (← c.self.view_is) (ap (λ (live : List Registered). with_live (record { limit = c.self.inside.limit; opened = c.self.inside.opened; live = live_in c.self.inside.slots.items }) live) (extend-none c.args.number c.args.due c.self.inside.slots.items (rw (← c.as_slice.ensures.value) c.in_default.ensures.absent)))
+invariant_of-self c = record {
+  roster = c.extend.ensures.roster;
+  filed = rw c.extend.ensures.extended (filed-extended (entries c.self.inside.queue) c.args.number c.args.due c.self.inside.roster.live c.self.invariant.filed);
+  room = rw c.extend.ensures.extended c.self.invariant.room;
+}

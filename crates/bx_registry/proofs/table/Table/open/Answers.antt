@@ -1,25 +1,19 @@
-use Rattle.std.proofs.Common.{◌≡◌, ◌<◌, ◌+◌, ℕ, List, length, ap, sym, subst, ◌∙◌, arith}
-use Rattle.std.specs.Prelude.{min}
+use Rattle.std.proofs.Common.{◌≡◌, ap, arith}
 use Rattle.bx_entry.specs.Registry.{Registered}
-use Rattle.bx_registry.specs.Rolls.{live_in, Members}
-use Rattle.bx_registry.proofs.Slots.{added-kept, added-live}
+use Rattle.bx_registry.specs.declared.due_queue.Due.{Due}
+use Rattle.bx_registry.proofs.Dues.{filed-push}
 use Rattle.bx_registry.proofs.table.Table.open.Goals as goal
 
 pub invariant_of-self : goal.invariant_of-self
 invariant_of-self c =
-    let k = c.self.invariant in
-    let s : Registered = c.args.session in
-    let room : length (live_in c.self.inside.slots.items) < c.self.inside.limit = subst (λ (m : Members). length m.live < m.limit) (sym c.self.view_is) c.requires.room in
-    let less : c.self.inside.count < c.self.inside.limit = omega (arith, k.counted, room) in
-    let number : s.number ≡ c.self.inside.opened + 1 = subst (λ (m : Members). s.number ≡ m.opened + 1) (sym c.self.view_is) c.requires.number in
-    let same : c.session.inside.number ≡ s.number = ap (λ (r : Registered). r.number) c.session.view_is in
-    let due : c.min-self-inside.result ≡ min c.self.inside.next_due s.due = c.min-self-inside.ensures ∙ ap (λ (r : Registered). min c.self.inside.next_due r.due) c.session.view_is in
-    rw (same, due) (added-kept c.self.inside.slots.items c.add_slot.new.slots.items s k c.add_slot.ensures.items c.add_slot.ensures.capacity less number c.requires.named c.requires.live)
-
-pub returns : goal.returns
-returns c =
-    let same : c.session.inside.number ≡ c.args.session.number = ap (λ (r : Registered). r.number) c.session.view_is in
-    let live = added-live c.self.inside.slots.items c.add_slot.new.slots.items c.args.session c.add_slot.ensures.items c.requires.live in
-    rw (← c.self.view_is) (
-    ap (λ (n : ℕ). let m : Members = record { limit = c.self.inside.limit; opened = n; live = live_in c.add_slot.new.slots.items } in m) same
-    ∙ ap (λ (ys : List Registered). let m : Members = record { limit = c.self.inside.limit; opened = c.args.session.number; live = ys } in m) live)
+    let q = c.make_room.new.queue in
+    let new = c.file.new.self in
+    let s = c.session.inside in
+    let d : Due = record { moment = record { 0 = s.due }; number = s.number } in
+    let number : s.number ≡ c.args.session.number = ap (λ (r : Registered). r.number) c.session.view_is in
+    let due : s.due ≡ c.args.session.due = ap (λ (r : Registered). r.due) c.session.view_is in record {
+      roster = c.open.ensures.roster;
+      filed = rw c.open.ensures.opened
+          (filed-push d q.late q.waiting new.late new.waiting c.self.inside.roster.live c.args.session c.file.ensures.late c.file.ensures.waiting number due c.make_room.ensures.filed);
+      room = rw c.open.ensures.opened (omega (arith, c.file.ensures.room, c.make_room.ensures.room, c.self.invariant.room));
+    }

@@ -4,7 +4,27 @@ use Rattle.std.specs.Ordering.{is_eq, nat_cmp}
 use Rattle.std.specs.HashMap.{get_by_text}
 use Rattle.std.proofs.lemmas.Map.Text.{hash_map_updates_text}
 use Rattle.bx_tree.proofs.StandsLemmas.{added, has, at_path, elsewhere, changed_at, unchanged_at, or_idle, on_err}
+use Rattle.bx_tree.specs.Kept.{is_kept}
+use Rattle.bx_tree.proofs.KeptLemmas.{occupied_if_any, after_insert, kept_after, after_put}
 use Rattle.bx_tree.proofs.path_lists.PathLists.add.Goals as goal
+
+pub invariant_of-self : goal.invariant_of-self
+invariant_of-self c =
+    let path = c.args.path.now in
+    let after = c.get_mut.follows.lender c.insert.new.self in
+    let told = hash_map_updates_text path c.args.self.now.by_path after (Some c.insert.new.self) ((c.get_mut.follows.holds c.insert.new.self).3 (search rules)) in
+    let held = ap is_kept c.in-Some.ensures.value ∙ c.args.self.now.no_empty path in
+    let occupied = after_insert c.insert.result c.in-Some.numbers.now c.insert.new.self c.args.number held c.insert.ensures.updates c.insert.ensures.err in
+    record { no_empty = kept_after path (get_by_text c.args.self.now.by_path) (get_by_text after) (Some c.insert.new.self) told occupied (λ other e. c.args.self.now.no_empty other) }
+
+pub invariant_of-self-2 : goal.invariant_of-self-2
+invariant_of-self-2 c =
+    let list = c.insert-2.new.self in
+    record {
+      no_empty = after_put c.insert-3.result (string_bytes c.in_ok-path.path) c.get_mut.follows.lender-at-none c.insert-3.new.self list (occupied_if_any _ list.keys c.in_ok-insert-2.ensures.updates.1)
+          (λ other. ap (λ m. is_kept (get_by_text m other)) c.get_mut.follows.holds-at-none ∙ c.args.self.now.no_empty other)
+          c.insert-3.ensures.updates c.insert-3.ensures.err;
+    }
 
 pub returns-in_err-insert-clause-err : goal.returns-in_err-insert-clause-err
 returns-in_err-insert-clause-err c =

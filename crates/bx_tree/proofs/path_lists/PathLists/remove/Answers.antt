@@ -1,8 +1,31 @@
-use Rattle.std.proofs.Common.{Some, None, not, ◌&&◌, ◌==◌, sym, ap, ◌∙◌, rules}
+use Rattle.std.proofs.Common.{Some, None, not, ◌&&◌, ◌==◌, refl, sym, ap, ◌∙◌, rules}
 use Rattle.std.specs.HashMap.{get_by_text}
 use Rattle.std.proofs.lemmas.Map.Text.{hash_map_updates_text}
 use Rattle.bx_tree.proofs.StandsLemmas.{removed, contains_none, has, at_path, elsewhere, changed_at, not_idle}
+use Rattle.bx_tree.specs.Kept.{is_kept}
+use Rattle.bx_tree.proofs.KeptLemmas.{occupied_unless_empty, kept_after}
 use Rattle.bx_tree.proofs.path_lists.PathLists.remove.Goals as goal
+
+pub invariant_of-self-then-is_empty : goal.invariant_of-self-then-is_empty
+invariant_of-self-then-is_empty c =
+    let path = c.args.path.now in
+    let left = c.remove.new.self in
+    let mid = c.get_mut.follows.lender left in
+    let told = hash_map_updates_text path c.args.self.now.by_path mid (Some left) ((c.get_mut.follows.holds left).3 (search rules)) in
+    let gone = hash_map_updates_text path mid c.swap_remove.new.self None c.swap_remove.ensures.updates in
+    record {
+      no_empty = kept_after path (get_by_text mid) (get_by_text c.swap_remove.new.self) None gone refl
+          (λ other e. ap is_kept (elsewhere path (get_by_text c.args.self.now.by_path) (get_by_text mid) (Some left) told other e) ∙ c.args.self.now.no_empty other);
+    }
+
+pub invariant_of-self-else-is_empty : goal.invariant_of-self-else-is_empty
+invariant_of-self-else-is_empty c =
+    let path = c.args.path.now in
+    let left = c.remove.new.self in
+    let after = c.get_mut.follows.lender left in
+    let told = hash_map_updates_text path c.args.self.now.by_path after (Some left) ((c.get_mut.follows.holds left).3 (search rules)) in
+    let occupied = occupied_unless_empty left.keys c.is_empty.result c.is_empty.ensures c.if-is_empty.false in
+    record { no_empty = kept_after path (get_by_text c.args.self.now.by_path) (get_by_text after) (Some left) told occupied (λ other e. c.args.self.now.no_empty other) }
 
 pub returns-then-is_empty : goal.returns-then-is_empty
 returns-then-is_empty c =

@@ -1,5 +1,0 @@
-use Rattle.bx_laws.proofs.Files.{answers_are_filed}
-use Rattle.bx_laws.proofs.laws.answers_are_filed.Goals as goal
-
-pub returns : goal.returns
-returns c = answers_are_filed

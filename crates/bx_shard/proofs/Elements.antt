@@ -1,0 +1,242 @@
+-- What one more element of the list does to the registry and to each session.
+use Rattle.std.proofs.Common.{◌≡◌, ℕ, zero, suc, ◌+◌, ◌<◌, ◌≤◌, max, Bool, true, false, cond, Option, Some, None, List, [], ◌∷◌, ◌++◌, length, take, map, option_map, slice_get, nat_lt, ◌==◌, refl, sym, ap, ◌∙◌, subst, arith, append-nil, append_assoc, length-take, eq-eqb, ne_eqb, ltb-true, ltb-false}
+use Rattle.std.proofs.lemmas.Bool.{cond_both, cond-false, both_ways}
+use Rattle.std.proofs.lemmas.List.{map-append, length-map, length_push}
+use Rattle.std.proofs.lemmas.List.Sums.{fold-append}
+use Rattle.std.specs.List.{list_any}
+use Rattle.bx_advice.specs.declared.config.Config.{Config}
+use Rattle.bx_advice.specs.declared.error.Error.{Error}
+use Rattle.bx_message.specs.declared.column.Column.{Column}
+use Rattle.bx_message.specs.Columns.{column_of}
+use Rattle.bx_entry.specs.Listing.{Listed, Post, Posted}
+use Rattle.bx_entry.specs.Listing as messages
+use Rattle.bx_entry.specs.declared.entry.Entry.{Entry}
+use Rattle.bx_entry.specs.declared.entry.Kind.{Kind}
+use Rattle.bx_entry.specs.declared.entry.Kind.TheVariants.{Opened, Connect, Subscribe, Unsubscribe, Publish, Disconnect, Refused, Tick}
+use Rattle.bx_entry.specs.Registry.{Registry, Registered, Judged, judge, judged_by, kind_for, left_by, extended, swept, overdue, is_overdue, named_by, refusal, hold_of, registry, empty_registry, entries_of, entries}
+use Rattle.bx_entry.specs.Sessions.{Session, ended, step_by, step, unopened, session}
+use Rattle.bx_laws.specs.Readings.{opens_by}
+use Rattle.bx_laws.proofs.Moves.{either}
+use Rattle.bx_laws.proofs.Dues.{numbered_below, named_session}
+use Rattle.bx_laws.proofs.Lives.{numbered}
+use Rattle.bx_laws.proofs.Lists.{judged_more, judged_length}
+
+-- ---- the numbers of the registry
+
+abbrev pub numbers : List Registered → List ℕ
+numbers rs = map (λ (r : Registered). r.number) rs
+
+abbrev pub opened_numbers : Kind → List ℕ
+opened_numbers (Opened n ack) = n ∷ []
+opened_numbers (Connect n client id acked hold) = []
+opened_numbers (Subscribe n ps) = []
+opened_numbers (Unsubscribe n ps) = []
+opened_numbers (Publish e) = []
+opened_numbers (Disconnect n) = []
+opened_numbers Refused = []
+opened_numbers (Tick ns) = []
+
+numbers_through : (f : Registered → Registered) (rs : List Registered) → ((r : Registered) → (f r).number ≡ r.number) → numbers (map f rs) ≡ numbers rs
+numbers_through f [] h = refl
+numbers_through f (r ∷ rs) h = ap (λ (n : ℕ). n ∷ numbers (map f rs)) (h r) ∙ ap (λ (ns : List ℕ). r.number ∷ ns) (numbers_through f rs h)
+
+left_same : (c : Column) (number : ℕ) (rs : List Registered) → numbers (left_by c number rs) ≡ numbers rs
+left_same Column.Handshake number rs = refl
+left_same Column.Connect number rs = refl
+left_same Column.Subscribe number rs = refl
+left_same Column.Unsubscribe number rs = refl
+left_same Column.Disconnect number rs = numbers_through (λ s. cond (s.number == number) (record s { live = false }) s) rs (λ s. let t : Registered = record s { live = false } in cond_both (s.number == number) t s (λ (u : Registered). u.number ≡ s.number) (λ e. refl) (λ e. refl))
+left_same Column.Publish number rs = refl
+left_same Column.UnknownMeta number rs = refl
+
+extended_same : (number due : ℕ) (rs : List Registered) → numbers (extended number due rs) ≡ numbers rs
+extended_same number due rs = numbers_through (λ s. cond (s.number == number) (record s { due = max s.due due }) s) rs (λ s. let t : Registered = record s { due = max s.due due } in cond_both (s.number == number) t s (λ (u : Registered). u.number ≡ s.number) (λ e. refl) (λ e. refl))
+
+swept_same : (now : ℕ) (rs : List Registered) → numbers (swept now rs) ≡ numbers rs
+swept_same now rs = numbers_through (λ s. cond (is_overdue now s) (record s { live = false }) s) rs (λ s. let t : Registered = record s { live = false } in cond_both (is_overdue now s) t s (λ (u : Registered). u.number ≡ s.number) (λ e. refl) (λ e. refl))
+
+-- ---- one element
+
+-- the entry opens at most the next number, and leaves a session that isn't opened as it is
+pub record Adds (config : Config) (r t : Registry) : Type 0 where
+  pub found : Judged
+  pub judged : t.judged ≡ r.judged ++ found ∷ []
+  pub sessions : numbers t.sessions ≡ numbers r.sessions ++ opened_numbers found.entry.kind
+  pub new : (n : ℕ) → n < 1 + length r.sessions → opens_by n found.entry.kind ≡ false
+  pub fresh : (n : ℕ) → length t.sessions < n → step config (unopened n) found.entry ≡ unopened n
+  pub longer : length r.sessions ≤ length t.sessions
+
+same_length : (rs ts : List Registered) → numbers ts ≡ numbers rs → length ts ≡ length rs
+same_length rs ts e = sym (length-map ts (λ (r : Registered). r.number)) ∙ ap length e ∙ length-map rs (λ (r : Registered). r.number)
+
+served_sessions : (c : Column) (number due : ℕ) (rs : List Registered) → numbers (left_by c number (extended number due rs)) ≡ numbers rs
+served_sessions c number due rs = left_same c number (extended number due rs) ∙ extended_same number due rs
+
+no_opening : (c : Column) (p : Posted) (q : Registered) (hold : ℕ) → opened_numbers (kind_for c p q hold) ≡ []
+no_opening Column.Handshake p q hold = refl
+no_opening Column.Connect p q hold = refl
+no_opening Column.Subscribe p q hold = refl
+no_opening Column.Unsubscribe p q hold = refl
+no_opening Column.Disconnect p q hold = refl
+no_opening Column.Publish p q hold = refl
+no_opening Column.UnknownMeta p q hold = refl
+
+not_opened : (n : ℕ) (c : Column) (p : Posted) (q : Registered) (hold : ℕ) → opens_by n (kind_for c p q hold) ≡ false
+not_opened n Column.Handshake p q hold = refl
+not_opened n Column.Connect p q hold = refl
+not_opened n Column.Subscribe p q hold = refl
+not_opened n Column.Unsubscribe p q hold = refl
+not_opened n Column.Disconnect p q hold = refl
+not_opened n Column.Publish p q hold = refl
+not_opened n Column.UnknownMeta p q hold = refl
+
+served_fresh : (config : Config) (place moment : ℕ) (c : Column) (p : Posted) (q : Registered) (hold n : ℕ) → (q.number == n) ≡ false → step_by config place moment (unopened n) (kind_for c p q hold) ≡ unopened n
+served_fresh config place moment Column.Handshake p q hold n h = refl
+served_fresh config place moment Column.Connect p q hold n h = cond-false (q.number == n) _ (unopened n) h
+served_fresh config place moment Column.Subscribe p q hold n h = cond-false (q.number == n) _ (unopened n) h
+served_fresh config place moment Column.Unsubscribe p q hold n h = cond-false (q.number == n) _ (unopened n) h
+served_fresh config place moment Column.Disconnect p q hold n h = cond-false (q.number == n) _ (unopened n) h
+served_fresh config place moment Column.Publish p q hold n h = refl
+served_fresh config place moment Column.UnknownMeta p q hold n h = refl
+
+judged_by_adds : (config : Config) (r : Registry) (moment : ℕ) (p : Posted) (sender : Option Registered) (error : Option Error) → ((q : Registered) → sender ≡ Some q → q.number < 1 + length r.sessions) → Adds config r (judged_by config r moment p sender error)
+judged_by_adds config r moment p sender (Some error) h = record { found = _; judged = refl; sessions = sym (append-nil (numbers r.sessions)); new = λ n l. refl; fresh = λ n l. refl; longer = omega arith }
+judged_by_adds config r moment p None None h =
+    let many : length (judged_by config r moment p None None).sessions ≡ length r.sessions + 1 = length_push r.sessions _ in
+    record {
+      found = _;
+      judged = refl;
+      sessions = map-append (λ (q : Registered). q.number) r.sessions _;
+      new = λ n l. ne_eqb (length r.sessions + 1) n (λ e. let f : length r.sessions + 1 ≡ n = e in omega arith);
+      fresh = λ n l. cond-false (length r.sessions + 1 == n) _ (unopened n) (ne_eqb (length r.sessions + 1) n (λ e. let f : length r.sessions + 1 ≡ n = e in omega (arith, l, many)));
+      longer = omega (arith, many);
+    }
+judged_by_adds config r moment p (Some q) None h =
+    let c : Column = column_of p.message.channel in
+    let t : Registry = judged_by config r moment p (Some q) None in
+    let same : numbers (judged_by config r moment p (Some q) None).sessions ≡ numbers r.sessions = served_sessions (column_of p.message.channel) q.number (moment + hold_of config p + config.max_interval) r.sessions in
+    let many : length (judged_by config r moment p (Some q) None).sessions ≡ length r.sessions = same_length r.sessions t.sessions same in
+    record {
+      found = _;
+      judged = refl;
+      sessions = same ∙ sym (append-nil (numbers r.sessions)) ∙ ap (λ (ns : List ℕ). numbers r.sessions ++ ns) (sym (no_opening (column_of p.message.channel) p q (hold_of config p)));
+      new = λ n l. not_opened n (column_of p.message.channel) p q (hold_of config p);
+      fresh = λ n l. served_fresh config (length r.judged) moment (column_of p.message.channel) p q (hold_of config p) n (ne_eqb q.number n (λ e. let below : q.number < 1 + length r.sessions = h q refl in omega (arith, l, many)));
+      longer = omega (arith, many);
+    }
+
+pub judge_adds : (config : Config) (ys : List Listed) (x : Listed) → Adds config (registry config ys) (judge config (registry config ys) x)
+judge_adds config ys (Post p) =
+    let r : Registry = registry config ys in
+    judged_by_adds config r (max r.clock p.moment) p (named_by r.sessions (column_of p.message.channel) p.message) (refusal config r.sessions p)
+    (λ q e. named_session (λ s. s.number < 1 + length (registry config ys).sessions) r.sessions (column_of p.message.channel) p.message q e (numbered_below 1 r.sessions (numbered config ys)))
+judge_adds config ys (messages.Tick moment) =
+    let r : Registry = registry config ys in
+    let now : ℕ = max r.clock moment in
+    record {
+      found = _;
+      judged = refl;
+      sessions = swept_same now r.sessions ∙ sym (append-nil (numbers r.sessions));
+      new = λ n l. refl;
+      fresh = λ n l. (let s : Session = unopened n in cond_both (list_any (λ m. m == n) (overdue now r.sessions)) (ended s) s (λ (u : Session). u ≡ s) (λ h. refl) (λ h. refl));
+      longer = omega (arith, same_length r.sessions (swept now r.sessions) (swept_same now r.sessions));
+    }
+
+-- ---- who isn't opened is as at the start
+
+pub next_is : (config : Config) (ys : List Listed) (x : Listed) → registry config (ys ++ x ∷ []) ≡ judge config (registry config ys) x
+next_is config ys x = fold-append (judge config) empty_registry ys (x ∷ [])
+
+entries_push : (r t : Registry) (j : Judged) → t.judged ≡ r.judged ++ j ∷ [] → entries_of t ≡ entries_of r ++ j.entry ∷ []
+entries_push r t j e = ap (map (λ (k : Judged). k.entry)) e ∙ map-append (λ (k : Judged). k.entry) r.judged (j ∷ [])
+
+pub session_next : (config : Config) (number : ℕ) (ys : List Listed) (x : Listed) (a : Adds config (registry config ys) (judge config (registry config ys) x)) →
+    session config number (entries_of (registry config (ys ++ x ∷ []))) ≡ step config (session config number (entries_of (registry config ys))) a.found.entry
+session_next config number ys x a =
+    ap (λ (t : Registry). session config number (entries_of t)) (next_is config ys x) ∙ ap (session config number) (entries_push (registry config ys) (judge config (registry config ys) x) a.found a.judged)
+    ∙ fold-append (step config) (unopened number) (entries_of (registry config ys)) (a.found.entry ∷ [])
+
+abbrev Fresh : Config → List Listed → Type 0
+Fresh config ys = (n : ℕ) → length (registry config ys).sessions < n → session config n (entries_of (registry config ys)) ≡ unopened n
+
+fresh_next : (config : Config) (ys : List Listed) (x : Listed) → Fresh config ys → Fresh config (ys ++ x ∷ [])
+fresh_next config ys x f n l =
+    let a : Adds config (registry config ys) (judge config (registry config ys) x) = judge_adds config ys x in
+    let long : length (judge config (registry config ys) x).sessions < n = subst (λ (t : Registry). length t.sessions < n) (next_is config ys x) l in
+    session_next config n ys x a ∙ ap (λ (s : Session). step config s a.found.entry) (f n (omega (arith, a.longer))) ∙ a.fresh n long
+
+fresh_from : (config : Config) (ys xs : List Listed) → Fresh config ys → Fresh config (ys ++ xs)
+fresh_from config ys [] f = subst (Fresh config) (sym (append-nil ys)) f
+fresh_from config ys (x ∷ xs) f = subst (Fresh config) (append_assoc ys (x ∷ []) xs) (fresh_from config (ys ++ x ∷ []) xs (fresh_next config ys x f))
+
+pub all_fresh : (config : Config) (ys : List Listed) → Fresh config ys
+all_fresh config ys = fresh_from config [] ys (λ n l. refl)
+
+-- a session is opened under a number above all those that are registered
+pub opens_above : (config : Config) (r t : Registry) (a : Adds config r t) (n : ℕ) (ack : Bool) → a.found.entry.kind ≡ Opened n ack → length r.sessions < n
+opens_above config r t a n ack h =
+    let own : opens_by n a.found.entry.kind ≡ true = ap (opens_by n) h ∙ eq-eqb n n refl in
+    either (nat_lt n (1 + length r.sessions)) (length r.sessions < n)
+    (λ l. absurd (both_ways (opens_by n a.found.entry.kind) (a.new n (ltb-true n (1 + length r.sessions) l)) own))
+    (λ l. let m : 1 + length r.sessions ≤ n = ltb-false n (1 + length r.sessions) l in omega arith)
+
+-- ---- the element of an entry
+
+record Element (list : List Listed) (n : ℕ) : Type 0 where
+  element : Listed
+  rest : List Listed
+  next : take (n + 1) list ≡ take n list ++ element ∷ []
+  whole : (take n list ++ element ∷ []) ++ rest ≡ list
+
+element_of : (list : List Listed) (n : ℕ) → n < length list → Element list n
+element_of [] n h = absurd (omega arith)
+element_of (x ∷ xs) zero h = record { element = x; rest = xs; next = refl; whole = refl }
+element_of (x ∷ xs) (suc n) h =
+    let e : Element xs n = element_of xs n (omega arith) in
+    let more : suc n + 1 ≡ suc (n + 1) = omega arith in
+    record {
+      element = e.element;
+      rest = e.rest;
+      next = ap (λ (k : ℕ). take k (x ∷ xs)) more ∙ ap (λ (ys : List Listed). x ∷ ys) e.next;
+      whole = ap (λ (ys : List Listed). x ∷ ys) e.whole;
+    }
+
+entry_at : (js : List Judged) (n : ℕ) → slice_get (map (λ (j : Judged). j.entry) js) n ≡ option_map (λ (j : Judged). j.entry) (slice_get js n)
+entry_at [] n = refl
+entry_at (j ∷ js) zero = refl
+entry_at (j ∷ js) (suc n) = entry_at js n
+
+got_last : (js : List Judged) (j : Judged) (n : ℕ) → length js ≡ n → slice_get (js ++ j ∷ []) n ≡ Some j
+got_last [] j zero h = refl
+got_last [] j (suc n) h = absurd (omega arith)
+got_last (i ∷ js) j zero h = absurd (omega arith)
+got_last (i ∷ js) j (suc n) h = got_last js j n (omega arith)
+
+within : (es : List Entry) (n : ℕ) (e : Entry) → slice_get es n ≡ Some e → n < length es
+within [] n e h = cc
+within (x ∷ es) zero e h = omega arith
+within (x ∷ es) (suc n) e h = let l : n < length es = within es n e h in omega arith
+
+-- the element at an entry's place, and what it does
+pub record Met (config : Config) (list : List Listed) (n : ℕ) (e : Entry) : Type 0 where
+  pub element : Listed
+  pub next : take (n + 1) list ≡ take n list ++ element ∷ []
+  pub adds : Adds config (registry config (take n list)) (judge config (registry config (take n list)) element)
+  pub same : adds.found.entry ≡ e
+
+pub met : (config : Config) (list : List Listed) (n : ℕ) (e : Entry) → slice_get (entries config list) n ≡ Some e → Met config list n e
+met config list n e there =
+    let many : length (entries_of (registry config list)) ≡ length list = length-map (registry config list).judged (λ (j : Judged). j.entry) ∙ judged_length config list in
+    let below : n < length list = (let l : n < length (entries_of (registry config list)) = within (entries_of (registry config list)) n e there in omega (arith, many)) in
+    let d : Element list n = element_of list n below in
+    let ys : List Listed = take n list in
+    let a : Adds config (registry config (take n list)) (judge config (registry config (take n list)) d.element) = judge_adds config (take n list) d.element in
+    let last : slice_get (registry config (take n list ++ d.element ∷ [])).judged n ≡ Some a.found =
+    ap (λ (t : Registry). slice_get t.judged n) (next_is config ys d.element) ∙ ap (λ (js : List Judged). slice_get js n) a.judged ∙ got_last (registry config ys).judged a.found n (omega (arith, judged_length config ys, length-take n list)) in
+    let found : slice_get (registry config list).judged n ≡ Some a.found = subst (λ (zs : List Listed). slice_get (registry config zs).judged n ≡ Some a.found) d.whole (judged_more config (ys ++ d.element ∷ []) d.rest n a.found last) in
+    record {
+      element = d.element;
+      next = d.next;
+      adds = a;
+      same = (let both : Some a.found.entry ≡ Some e = sym (entry_at (registry config list).judged n ∙ ap (option_map (λ (j : Judged). j.entry)) found) ∙ there in cc);
+    }

@@ -1,0 +1,186 @@
+-- What a shard has filed after one more entry.
+use Rattle.std.proofs.Common.{◌≡◌, ℕ, ◌+◌, ◌<◌, Bool, false, Option, Some, None, List, [], ◌∷◌, ◌++◌, length, take, map, filter, ◌==◌, refl, sym, ap, ◌∙◌, subst, arith, append-nil, find, flat_map, length-append, eqb-true}
+use Rattle.std.proofs.lemmas.Bool.{cond_both, cond-true, cond-false}
+use Rattle.std.proofs.lemmas.List.Elements.{filter-append}
+use Rattle.bx_advice.specs.declared.config.Config.{Config}
+use Rattle.bx_entry.specs.Listing.{Listed}
+use Rattle.bx_entry.specs.declared.entry.Entry.{Entry}
+use Rattle.bx_entry.specs.declared.entry.Kind.{Kind}
+use Rattle.bx_entry.specs.declared.entry.Kind.TheVariants.{Opened, Connect, Subscribe, Unsubscribe, Publish, Disconnect, Refused, Tick}
+use Rattle.bx_entry.specs.Registry.{Registry, judge, registry, entries_of, Waiting}
+use Rattle.bx_entry.specs.Sessions.{Session, Live, is_live, step_by, step, unopened, session, Filed}
+use Rattle.bx_entry.specs.Keeping.{Kept, kept, StepsAlike, kept_answers}
+use Rattle.bx_shard.specs.Shards.{Setup, stands_in, is_taken, shard_at, sessions_in}
+use Rattle.bx_laws.proofs.Counts.{all_in_step, unopened_in_step}
+use Rattle.bx_laws.proofs.Moves.{either}
+use Rattle.bx_laws.proofs.Kept.{steps_alike}
+use Rattle.std.specs.Option.{option_or}
+use Rattle.std.proofs.lemmas.Grind.{flat_map-append}
+use Rattle.std.proofs.lemmas.List.Folds.{find-append}
+use Rattle.bx_shard.specs.Steps.{answers_by, ShardsFile}
+use Rattle.bx_laws.proofs.Lists.{find_each, find_true}
+use Rattle.bx_laws.proofs.Closings.{idle_next}
+use Rattle.bx_shard.proofs.Waits.{WaitsAt, answered_waits}
+use Rattle.bx_shard.proofs.Untaken.{find_untaken}
+use Rattle.bx_shard.proofs.Elements.{numbers, opened_numbers, Adds, next_is, session_next, all_fresh, opens_above, Met, met}
+use Rattle.bx_shard.proofs.Stepping.{by_numbers, held_by, one_kept, held_cons, numbers_in, held_over, held_at}
+
+abbrev Answers : Type 0
+Answers = ℕ → List Filed
+
+-- the first of some answers is that of one session
+record FoundBy (test : Filed → Bool) (A : Answers) (g : Filed) : Type 0 where
+  number : ℕ
+  found : find test (A number) ≡ Some g
+
+found_by : (test : Filed → Bool) (A : Answers) (ns : List ℕ) (g : Filed) → find test (flat_map A ns) ≡ Some g → FoundBy test A g
+found_by test A [] g e = cc
+found_by test A (n ∷ ns) g e =
+    let P : Option Filed → Type 0 = λ o. find test (A n) ≡ o → option_or o (find test (flat_map A ns)) ≡ Some g → FoundBy test A g in
+    let at_none : P None = λ h d. found_by test A ns g d in
+    let at_some : (k : Filed) → P (Some k) = λ k h d. record { number = n; found = h ∙ d } in
+    (elim (find test (A n)) as P [ None ↦ at_none | Some k ↦ at_some k ]) refl (sym (find-append test (A n) (flat_map A ns)) ∙ e)
+
+exchange : (a b c d : Option Filed) → ((f g : Filed) → a ≡ None → b ≡ Some f → c ≡ Some g → ⊥) → option_or (option_or a b) (option_or c d) ≡ option_or (option_or a c) (option_or b d)
+exchange (Some f) b c d h = refl
+exchange None (Some f) None d h = refl
+exchange None (Some f) (Some g) d h = absurd (h f g refl refl refl)
+exchange None None c d h = refl
+
+-- earlier answers come first, where only one session has an answer at all
+earlier_first : (test : Filed → Bool) (A B C : Answers) (ns : List ℕ) → ((n : ℕ) → C n ≡ A n ++ B n) → ((n m : ℕ) (f g : Filed) → find test (C n) ≡ Some f → find test (C m) ≡ Some g → n ≡ m) →
+    find test (flat_map C ns) ≡ option_or (find test (flat_map A ns)) (find test (flat_map B ns))
+earlier_first test A B C [] split one = refl
+earlier_first test A B C (n ∷ ns) split one =
+    let parts : (m : ℕ) → find test (C m) ≡ option_or (find test (A m)) (find test (B m)) = λ m. ap (find test) (split m) ∙ find-append test (A m) (B m) in
+    let apart : (f g : Filed) → find test (A n) ≡ None → find test (B n) ≡ Some f → find test (flat_map A ns) ≡ Some g → ⊥ =
+    λ f g x y z.
+    let w : FoundBy test A g = found_by test A ns g z in
+    let mine : find test (C n) ≡ Some f = parts n ∙ ap (λ (o : Option Filed). option_or o (find test (B n))) x ∙ y in
+    let other : find test (C w.number) ≡ Some g = parts w.number ∙ ap (λ (o : Option Filed). option_or o (find test (B w.number))) w.found in
+    let same : n ≡ w.number = one n w.number f g mine other in
+    (let no : None ≡ Some g = sym x ∙ ap (λ (m : ℕ). find test (A m)) same ∙ w.found in cc) in
+    find-append test (C n) (flat_map C ns)
+    ∙ ap (λ (o : Option Filed). option_or o (find test (flat_map C ns))) (parts n)
+    ∙ ap (option_or (option_or (find test (A n)) (find test (B n)))) (earlier_first test A B C ns split one)
+    ∙ exchange (find test (A n)) (find test (B n)) (find test (flat_map A ns)) (find test (flat_map B ns)) apart
+    ∙ ap (λ (o : Option Filed). option_or o (option_or (find test (B n)) (find test (flat_map B ns)))) (sym (find-append test (A n) (flat_map A ns)))
+    ∙ ap (option_or (find test (A n ++ flat_map A ns))) (sym (find-append test (B n) (flat_map B ns)))
+
+none_or : (o : Option Filed) → option_or o None ≡ o
+none_or None = refl
+none_or (Some f) = refl
+
+through : (g : ℕ → Session) (ns : List ℕ) → flat_map (λ (s : Session). s.answers) (map g ns) ≡ flat_map (λ (n : ℕ). (g n).answers) ns
+through g [] = refl
+through g (n ∷ ns) = ap (λ (fs : List Filed). (g n).answers ++ fs) (through g ns)
+
+nothing_more : (xs ys : List Filed) → xs ≡ xs ++ ys → ys ≡ []
+nothing_more xs [] e = refl
+nothing_more xs (y ∷ ys) e = absurd (let l : length xs ≡ length (xs ++ y ∷ ys) = ap length e in omega (arith, l, length-append xs (y ∷ ys)))
+
+-- only the session that the connect's slot waits for has an answer to it
+waiter : (config : Config) (zs : List Listed) (n place : ℕ) (f : Filed) → find (λ (g : Filed). g.connect == place) (session config n (entries_of (registry config zs))).answers ≡ Some f → WaitsAt (registry config zs).judged n place
+waiter config zs n place f e =
+    let test : Filed → Bool = λ g. g.connect == place in
+    let s : Session = session config n (entries_of (registry config zs)) in
+    subst (WaitsAt (registry config zs).judged n) (eqb-true f.connect place (find_true test s.answers f e)) (find_each (λ g. WaitsAt (registry config zs).judged n g.connect) test s.answers f e (answered_waits config n zs).answers)
+
+one_waiter : (config : Config) (zs : List Listed) (place n m : ℕ) (f g : Filed) → find (λ (h : Filed). h.connect == place) (session config n (entries_of (registry config zs))).answers ≡ Some f →
+    find (λ (h : Filed). h.connect == place) (session config m (entries_of (registry config zs))).answers ≡ Some g → n ≡ m
+one_waiter config zs place n m f g x y = let both : Some (Waiting n) ≡ Some (Waiting m) = sym (waiter config zs n place f x) ∙ waiter config zs m place g y in cc
+
+-- a session that the entry opens has no answers
+opened_nothing : (config : Config) (setup : Setup) (shard : ℕ) (ys : List Listed) (x : Listed) (k : Kind) → (a : Adds config (registry config ys) (judge config (registry config ys) x)) → a.found.entry.kind ≡ k →
+    flat_map (λ (n : ℕ). (session config n (entries_of (registry config (ys ++ x ∷ [])))).answers) (filter (λ (n : ℕ). stands_in setup shard n) (opened_numbers k)) ≡ []
+opened_nothing config setup shard ys x (Opened n ack) a h =
+    let A : Answers = λ m. (session config m (entries_of (registry config (ys ++ x ∷ [])))).answers in
+    let past : length (registry config ys).sessions < n = opens_above config (registry config ys) (judge config (registry config ys) x) a n ack h in
+    let s : Session = unopened n in
+    let none : (step_by config a.found.entry.place a.found.entry.moment (unopened n) (Opened n ack)).answers ≡ [] =
+    cond_both (n == n) (record s { stage = Live; ack = ack }) s (λ (u : Session). u.answers ≡ []) (λ g. refl) (λ g. refl) in
+    let here : (session config n (entries_of (registry config (ys ++ x ∷ [])))).answers ≡ [] =
+    ap (λ (u : Session). u.answers) (session_next config n ys x a ∙ ap (λ (u : Session). step config u a.found.entry) (all_fresh config ys n past))
+    ∙ ap (λ (k : Kind). (step_by config a.found.entry.place a.found.entry.moment (unopened n) k).answers) h ∙ none in
+    cond_both (stands_in setup shard n) (n ∷ []) [] (λ (ms : List ℕ). flat_map A ms ≡ []) (λ g. append-nil (A n) ∙ here) (λ g. refl)
+opened_nothing config setup shard ys x (Connect n client id acked hold) a h = refl
+opened_nothing config setup shard ys x (Subscribe n ps) a h = refl
+opened_nothing config setup shard ys x (Unsubscribe n ps) a h = refl
+opened_nothing config setup shard ys x (Publish e) a h = refl
+opened_nothing config setup shard ys x (Disconnect n) a h = refl
+opened_nothing config setup shard ys x Refused a h = refl
+opened_nothing config setup shard ys x (Tick ns) a h = refl
+
+-- what the live ones give is what all give
+live_answers : (config : Config) (ys : List Listed) (x : Listed) (ns : List ℕ) → 0 < config.limits.batch → (a : Adds config (registry config ys) (judge config (registry config ys) x)) →
+    flat_map (λ (n : ℕ). kept_answers config (kept (session config n (entries_of (registry config ys)))) a.found.entry) ns ≡ answers_by config a.found.entry (held_by config (entries_of (registry config ys)) ns)
+live_answers config ys x [] room a = refl
+live_answers config ys x (n ∷ ns) room a =
+    let es : List Entry = entries_of (registry config ys) in
+    let e : Entry = a.found.entry in
+    let s : Session = session config n (entries_of (registry config ys)) in
+    let F : List Kept → List Filed = λ ks. answers_by config e ks in
+    let rest : List Kept = held_by config es ns in
+    let B : Answers = λ m. kept_answers config (kept (session config m es)) e in
+    let alike : StepsAlike config s e = steps_alike config s e (all_in_step config (unopened n) es room (unopened_in_step config n)) in
+    ap (λ (fs : List Filed). B n ++ fs) (live_answers config ys x ns room a)
+    ∙ either (is_live s.stage) (B n ++ F rest ≡ F (one_kept s rest))
+    (λ h. sym (ap F (cond-true (is_live s.stage) (kept s ∷ rest) rest h)))
+    (λ h.
+    let quiet : s.answers ≡ s.answers ++ B n = sym (idle_next config n ys x h) ∙ ap (λ (u : Session). u.answers) (session_next config n ys x a) ∙ alike.answers in
+    ap (λ (fs : List Filed). fs ++ F rest) (nothing_more s.answers (B n) quiet) ∙ sym (ap F (cond-false (is_live s.stage) (kept s ∷ rest) rest h)))
+    ∙ sym (ap F (held_cons config es n ns))
+
+-- the answers of the shard's sessions over a list
+abbrev answers_over : Setup → ℕ → List Listed → List Filed
+answers_over setup shard xs = flat_map (λ (n : ℕ). (session setup.config n (entries_of (registry setup.config xs))).answers) (numbers_in setup shard xs)
+
+filed_next : (setup : Setup) (shard place : ℕ) (ys : List Listed) (x : Listed) → 0 < setup.config.limits.batch → (a : Adds setup.config (registry setup.config ys) (judge setup.config (registry setup.config ys) x)) →
+    find (λ (f : Filed). f.connect == place) (answers_over setup shard (ys ++ x ∷ []))
+    ≡ option_or (find (λ (f : Filed). f.connect == place) (answers_over setup shard ys)) (find (λ (f : Filed). f.connect == place) (answers_by setup.config a.found.entry (held_over setup shard ys)))
+filed_next setup shard place ys x room a =
+    let config : Config = setup.config in
+    let test : Filed → Bool = λ f. f.connect == place in
+    let here : ℕ → Bool = λ n. stands_in setup shard n in
+    let es : List Entry = entries_of (registry setup.config ys) in
+    let e : Entry = a.found.entry in
+    let ns : List ℕ = numbers (registry setup.config ys).sessions in
+    let ms : List ℕ = opened_numbers a.found.entry.kind in
+    let A : Answers = λ n. (session setup.config n (entries_of (registry setup.config ys))).answers in
+    let B : Answers = λ n. kept_answers setup.config (kept (session setup.config n (entries_of (registry setup.config ys)))) a.found.entry in
+    let C : Answers = λ n. (session setup.config n (entries_of (registry setup.config (ys ++ x ∷ [])))).answers in
+    let nums : numbers (registry setup.config (ys ++ x ∷ [])).sessions ≡ numbers (registry setup.config ys).sessions ++ opened_numbers a.found.entry.kind = ap (λ (t : Registry). numbers t.sessions) (next_is config ys x) ∙ a.sessions in
+    let split : (n : ℕ) → C n ≡ A n ++ B n =
+    λ n. ap (λ (u : Session). u.answers) (session_next config n ys x a) ∙ (steps_alike config (session config n es) e (all_in_step config (unopened n) es room (unopened_in_step config n))).answers in
+    ap (λ (ks : List ℕ). find test (flat_map C (filter here ks))) nums
+    ∙ ap (λ (ks : List ℕ). find test (flat_map C ks)) (filter-append here ns ms)
+    ∙ ap (find test) (flat_map-append C (filter here ns) (filter here ms))
+    ∙ ap (λ (fs : List Filed). find test (flat_map C (filter here ns) ++ fs)) (opened_nothing config setup shard ys x e.kind a refl)
+    ∙ ap (find test) (append-nil (flat_map C (filter here ns)))
+    ∙ earlier_first test A B C (filter here ns) split (λ n m f g p q. one_waiter config (ys ++ x ∷ []) place n m f g p q)
+    ∙ ap (λ (fs : List Filed). option_or (find test (flat_map A (filter here ns))) (find test fs)) (live_answers config ys x (filter here ns) room a)
+
+-- what is found among those that weren't taken is found among all
+filed_at : (setup : Setup) (list : List Listed) (taken : List ℕ) (shard n place : ℕ) → is_taken taken place ≡ false →
+    find (λ (f : Filed). f.connect == place) (shard_at setup list taken shard n).filed ≡ find (λ (f : Filed). f.connect == place) (answers_over setup shard (take n list))
+filed_at setup list taken shard n place free =
+    let test : Filed → Bool = λ f. f.connect == place in
+    let r : Registry = registry setup.config (take n list) in
+    find_untaken taken place (flat_map (λ (s : Session). s.answers) (sessions_in setup list shard n)) free
+    ∙ ap (λ (ss : List Session). find test (flat_map (λ (s : Session). s.answers) ss)) (by_numbers setup.config setup shard (entries_of r) r.sessions)
+    ∙ ap (find test) (through (λ n. session setup.config n (entries_of r)) (numbers_in setup shard (take n list)))
+
+-- ---- the law
+
+pub shards_file : ShardsFile
+shards_file setup list taken shard n e place room there free =
+    let config : Config = setup.config in
+    let test : Filed → Bool = λ f. f.connect == place in
+    let m : Met setup.config list n e = met setup.config list n e there in
+    let before : Option Filed = find test (answers_over setup shard (take n list)) in
+    filed_at setup list taken shard (n + 1) place free
+    ∙ ap (λ (zs : List Listed). find test (answers_over setup shard zs)) m.next
+    ∙ filed_next setup shard place (take n list) m.element room m.adds
+    ∙ ap (λ (x : Entry). option_or before (find test (answers_by config x (held_over setup shard (take n list))))) m.same
+    ∙ ap (λ (ks : List Kept). option_or before (find test (answers_by config e ks))) (sym (held_at setup list taken shard n))
+    ∙ ap (λ (o : Option Filed). option_or o (find test (answers_by config e (shard_at setup list taken shard n).sessions))) (sym (filed_at setup list taken shard n place free))

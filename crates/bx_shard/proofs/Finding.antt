@@ -1,0 +1,156 @@
+-- Sessions found by their numbers, and answers found by the places of their connects.
+use Rattle.std.proofs.Common.{◌≡◌, ℕ, suc, ◌<◌, false, cond, Option, Some, None, List, [], ◌∷◌, map, filter, find, flat_map, ◌==◌, refl, sym, ap, ◌∙◌, subst, arith, eqb-true, eq-eqb, ne_eqb}
+use Rattle.std.proofs.lemmas.Bool.{cond_both, cond-true, cond-false}
+use Rattle.std.proofs.lemmas.List.Elements.{All-cons, All-nil, Contains-append_left, Contains-append_right}
+use Rattle.std.proofs.lemmas.List.Folds.{find-append}
+use Rattle.std.proofs.lemmas.List.Kept.{AllPairs-from_increasing}
+use Rattle.std.specs.List.{All, AllPairs, Contains}
+use Rattle.std.specs.List.Sorted.{IsStrictlyIncreasing}
+use Rattle.std.specs.Option.{option_or}
+use Rattle.bx_advice.specs.declared.config.Config.{Config}
+use Rattle.bx_entry.specs.declared.entry.Entry.{Entry}
+use Rattle.bx_entry.specs.Answers.{PlacedAnswer, answer_of}
+use Rattle.bx_entry.specs.Keeping.{Kept, kept_step}
+use Rattle.bx_entry.specs.Sessions.{Filed, is_live}
+use Rattle.bx_laws.proofs.Moves.{either}
+use Rattle.bx_session.specs.declared.answered.Answered.{Answered}
+use Rattle.bx_session.specs.Agreement.{answered_of}
+use Rattle.bx_session.specs.Filing.{filed_as, filed_at}
+use Rattle.bx_shard.specs.Held.{placed}
+use Rattle.bx_shard.proofs.Taking.{find_of}
+
+-- ---- numbers
+
+-- the number is below each of these
+abbrev pub Above : ℕ → List ℕ → Type 0
+Above n [] = Unit {0}
+Above n (m ∷ ms) = (n < m) × Above n ms
+
+-- each is below those behind it
+abbrev pub Apart : List ℕ → Type 0
+Apart [] = Unit {0}
+Apart (n ∷ ns) = Above n ns × Apart ns
+
+above_of : (n : ℕ) (ns : List ℕ) → All (λ m. n < m) ns → Above n ns
+above_of n [] h = tt
+above_of n (m ∷ ms) h = (h 0 m (omega arith), above_of n ms (λ k d l. h (suc k) d (omega arith)))
+
+apart_of : (ns : List ℕ) → AllPairs (λ x y. x < y) ns → Apart ns
+apart_of [] h = tt
+apart_of (n ∷ ns) h = (above_of n ns (λ k d l. h 0 (suc k) d (omega arith) (omega arith)), apart_of ns (λ i j d a b. h (suc i) (suc j) d (omega arith) (omega arith)))
+
+pub apart : (ns : List ℕ) → IsStrictlyIncreasing ns → Apart ns
+apart ns h = apart_of ns (AllPairs-from_increasing ns h)
+
+abbrev pub numbers_of : List Kept → List ℕ
+numbers_of ks = map (λ (k : Kept). k.number) ks
+
+-- ---- sessions
+
+abbrev pub find_kept : ℕ → List Kept → Option Kept
+find_kept m ks = find (λ (k : Kept). k.number == m) ks
+
+none_above : (m : ℕ) (ks : List Kept) → Above m (numbers_of ks) → find_kept m ks ≡ None
+none_above m [] h = refl
+none_above m (k ∷ ks) h = cond-false (k.number == m) (Some k) (find_kept m ks) (ne_eqb k.number m (λ e. omega (arith, e, h.0))) ∙ none_above m ks h.1
+
+-- what is found has the number, and all that holds of each
+pub found_each : (P : Kept → Type 0) (m : ℕ) (ks : List Kept) (k : Kept) → find_kept m ks ≡ Some k → All P ks → P k × (k.number ≡ m)
+found_each P m [] k e h = absurd (let no : None ≡ Some k = e in cc)
+found_each P m (j ∷ ks) k e h = either (j.number == m) (P k × (k.number ≡ m))
+    (λ t. let same : Some j ≡ Some k = sym (cond-true (j.number == m) (Some j) (find_kept m ks) t) ∙ e in
+    let one : j ≡ k = cc in
+    subst (λ (l : Kept). P l × (l.number ≡ m)) one (h 0 j (omega arith), eqb-true j.number m t))
+    (λ f. found_each P m ks k (sym (cond-false (j.number == m) (Some j) (find_kept m ks) f) ∙ e) (λ i d l. h (suc i) d (omega arith)))
+
+-- ---- a step of each
+
+abbrev pub steps : Config → Entry → List Kept → List Kept
+steps config e ks = filter (λ (k : Kept). is_live k.stage) (map (λ (k : Kept). kept_step config k e) ks)
+
+-- what the session that was found becomes, where it stays live
+abbrev pub next : Config → Entry → Option Kept → Option Kept
+next config e None = None
+next config e (Some k) = cond (is_live (kept_step config k e).stage) (Some (kept_step config k e)) None
+
+pub steps_found : (config : Config) (e : Entry) (m : ℕ) (ks : List Kept) → Apart (numbers_of ks) → All (λ k. (kept_step config k e).number ≡ k.number) ks → find_kept m (steps config e ks) ≡ next config e (find_kept m ks)
+steps_found config e m [] d h = refl
+steps_found config e m (k ∷ ks) d h =
+    let l : Kept = kept_step config k e in
+    let rest : List Kept = steps config e ks in
+    let same : (kept_step config k e).number ≡ k.number = h 0 k (omega arith) in
+    let ih : find_kept m (steps config e ks) ≡ next config e (find_kept m ks) = steps_found config e m ks d.1 (λ i b a. h (suc i) b (omega arith)) in
+    either (k.number == m) (find_kept m (steps config e (k ∷ ks)) ≡ next config e (find_kept m (k ∷ ks)))
+    (λ t.
+    let none : find_kept m rest ≡ None = ih ∙ ap (next config e) (none_above m ks (subst (λ (n : ℕ). Above n (numbers_of ks)) (eqb-true k.number m t) d.0)) in
+    cond_both (is_live l.stage) (l ∷ rest) rest (λ (xs : List Kept). find_kept m xs ≡ next config e (Some k))
+    (λ live. cond-true (l.number == m) (Some l) (find_kept m rest) (ap (λ (n : ℕ). n == m) same ∙ t) ∙ sym (cond-true (is_live l.stage) (Some l) None live))
+    (λ dead. none ∙ sym (cond-false (is_live l.stage) (Some l) None dead))
+    ∙ sym (ap (next config e) (cond-true (k.number == m) (Some k) (find_kept m ks) t)))
+    (λ f.
+    cond_both (is_live l.stage) (l ∷ rest) rest (λ (xs : List Kept). find_kept m xs ≡ next config e (find_kept m ks))
+    (λ live. cond-false (l.number == m) (Some l) (find_kept m rest) (ap (λ (n : ℕ). n == m) same ∙ f) ∙ ih)
+    (λ dead. ih)
+    ∙ sym (ap (next config e) (cond-false (k.number == m) (Some k) (find_kept m ks) f)))
+
+-- ---- answers
+
+or_none : (a b : Option Filed) → option_or a b ≡ None → (a ≡ None) × (b ≡ None)
+or_none None b h = (refl, h)
+or_none (Some f) b h = absurd (let no : Some f ≡ None = h in cc)
+
+-- where none is found, no session has one
+pub each_none : (A : Kept → List Filed) (p : ℕ) (ks : List Kept) → find_of p (flat_map A ks) ≡ None → All (λ k. find_of p (A k) ≡ None) ks
+each_none A p [] h = All-nil (λ k. find_of p (A k) ≡ None)
+each_none A p (k ∷ ks) h =
+    let both : (find_of p (A k) ≡ None) × (find_of p (flat_map A ks) ≡ None) = or_none (find_of p (A k)) (find_of p (flat_map A ks)) (sym (find-append (λ (f : Filed). f.connect == p) (A k) (flat_map A ks)) ∙ h) in
+    All-cons (λ j. find_of p (A j) ≡ None) k ks both.0 (each_none A p ks both.1)
+
+pub none_there : (p : ℕ) (fs : List Filed) → find_of p fs ≡ None → All (λ f. (f.connect == p) ≡ false) fs
+none_there p [] h = All-nil (λ f. (f.connect == p) ≡ false)
+none_there p (f ∷ fs) h = either (f.connect == p) (All (λ g. (g.connect == p) ≡ false) (f ∷ fs))
+    (λ t. absurd (let no : Some f ≡ None = sym (cond-true (f.connect == p) (Some f) (find_of p fs) t) ∙ h in cc))
+    (λ n. All-cons (λ g. (g.connect == p) ≡ false) f fs n (none_there p fs (sym (cond-false (f.connect == p) (Some f) (find_of p fs) n) ∙ h)))
+
+-- the session that has the answer, and that is found by its number
+pub record GivenBy (A : Kept → List Filed) (ks : List Kept) (p : ℕ) (f : Filed) : Type 0 where
+  pub one : Kept
+  pub found : find_kept one.number ks ≡ Some one
+  pub gives : find_of p (A one) ≡ Some f
+
+pub given_by : (A : Kept → List Filed) (ks : List Kept) (p : ℕ) (f : Filed) → Apart (numbers_of ks) → find_of p (flat_map A ks) ≡ Some f → GivenBy A ks p f
+given_by A [] p f d h = absurd (let no : None ≡ Some f = h in cc)
+given_by A (k ∷ ks) p f d h =
+    let P : Option Filed → Type 0 = λ o. find_of p (A k) ≡ o → option_or o (find_of p (flat_map A ks)) ≡ Some f → GivenBy A (k ∷ ks) p f in
+    let at_none : P None = λ a b.
+    let g : GivenBy A ks p f = given_by A ks p f d.1 b in
+    let other : (k.number == g.one.number) ≡ false =
+    either (k.number == g.one.number) ((k.number == g.one.number) ≡ false)
+    (λ t. absurd (let no : None ≡ Some g.one = sym (none_above g.one.number ks (subst (λ (n : ℕ). Above n (numbers_of ks)) (eqb-true k.number g.one.number t) d.0)) ∙ g.found in cc))
+    (λ n. n) in
+    record { one = g.one; found = cond-false (k.number == g.one.number) (Some k) (find_kept g.one.number ks) other ∙ g.found; gives = g.gives } in
+    let at_some : (g : Filed) → P (Some g) = λ g a b. record { one = k; found = cond-true (k.number == k.number) (Some k) (find_kept k.number ks) (eq-eqb k.number k.number refl); gives = a ∙ b } in
+    (elim (find_of p (A k)) as P [ None ↦ at_none | Some g ↦ at_some g ]) refl (sym (find-append (λ (g : Filed). g.connect == p) (A k) (flat_map A ks)) ∙ h)
+
+-- what is found is one of them
+pub contains_found : (p : ℕ) (fs : List Filed) (f : Filed) → find_of p fs ≡ Some f → Contains (map answered_of fs) (answered_of f)
+contains_found p [] f h = absurd (let no : None ≡ Some f = h in cc)
+contains_found p (g ∷ fs) f h =
+    let first : List Answered = answered_of g ∷ [] in
+    either (g.connect == p) (Contains (map answered_of (g ∷ fs)) (answered_of f))
+    (λ t. let same : Some g ≡ Some f = sym (cond-true (g.connect == p) (Some g) (find_of p fs) t) ∙ h in
+    let one : g ≡ f = cc in
+    subst (λ (x : Filed). Contains (answered_of g ∷ map answered_of fs) (answered_of x)) one (Contains-append_left first (map answered_of fs) (answered_of g) (0, omega arith, refl)))
+    (λ n. Contains-append_right first (map answered_of fs) (answered_of f) (contains_found p fs f (sym (cond-false (g.connect == p) (Some g) (find_of p fs) n) ∙ h)))
+
+-- what is found is the answer to that connect, given at the place at which all are
+pub placed_found : (p place : ℕ) (fs : List Filed) (f : Filed) → map filed_as fs ≡ map (filed_at place) (map answered_of fs) → find_of p fs ≡ Some f → (answer_of f ≡ placed place (answered_of f).answer) × (f.connect ≡ p)
+placed_found p place [] f e h = absurd (let no : None ≡ Some f = h in cc)
+placed_found p place (g ∷ fs) f e h =
+    let head : filed_as g ≡ filed_at place (answered_of g) = cc in
+    let tail : map filed_as fs ≡ map (filed_at place) (map answered_of fs) = cc in
+    either (g.connect == p) ((answer_of f ≡ placed place (answered_of f).answer) × (f.connect ≡ p))
+    (λ t. let same : Some g ≡ Some f = sym (cond-true (g.connect == p) (Some g) (find_of p fs) t) ∙ h in
+    let one : g ≡ f = cc in
+    subst (λ (x : Filed). (answer_of x ≡ placed place (answered_of x).answer) × (x.connect ≡ p)) one (ap (λ (x : ℕ × PlacedAnswer). x.1) head, eqb-true g.connect p t))
+    (λ n. placed_found p place fs f tail (sym (cond-false (g.connect == p) (Some g) (find_of p fs) n) ∙ h))

@@ -1,0 +1,93 @@
+-- What a shard holds stays so: over a longer list, and after a call that left it as it was.
+use Rattle.std.proofs.Common.{◌≡◌, ℕ, zero, suc, ◌<◌, Option, Some, List, [], ◌∷◌, ◌++◌, length, take, map, filter, find, option_map, slice_get, ◌==◌, refl, sym, ap, ◌∙◌, arith, length-append}
+use Rattle.std.proofs.lemmas.List.{take-append-le}
+use Rattle.bx_advice.specs.declared.config.Config.{Config}
+use Rattle.bx_entry.specs.Listing.{Listed}
+use Rattle.bx_entry.specs.Answers.{answer_of}
+use Rattle.bx_entry.specs.Keeping.{Kept, kept}
+use Rattle.bx_entry.specs.Registry.{Registry, Registered, Judged, registry, entries_of}
+use Rattle.bx_entry.specs.Sessions.{Session, Filed, session}
+use Rattle.bx_laws.proofs.Lists.{judged_length, judged_more}
+use Rattle.bx_shard.specs.Shards.{Setup, filed_among, live_among, stands_in}
+use Rattle.bx_shard.specs.Held.{HoldsAtFirst, HoldsLonger, HoldsStill, IsConnectOf, filed_with_place}
+use Rattle.bx_shard.specs.Subscribers.{subscriber_of}
+
+-- ---- at first, and after a call that changed nothing
+
+pub holds_at_first : HoldsAtFirst
+holds_at_first setup shard s setup_is index_is place_is sound none_here none_known = record {
+  setup_is = setup_is;
+  index_is = index_is;
+  place_is = place_is;
+  within = omega arith;
+  sound = sound;
+  sessions = none_here;
+  filed = λ p. ap filed_with_place (none_known p);
+  known = λ p t. cc;
+  gone = λ p t c. absurd (cc);
+}
+
+pub holds_still : HoldsStill
+holds_still setup list taken shard n old new h b sound = record {
+  setup_is = b.setup ∙ h.setup_is;
+  index_is = b.index ∙ h.index_is;
+  place_is = b.place ∙ h.place_is;
+  within = h.within;
+  sound = sound;
+  sessions = λ m. b.sessions m ∙ h.sessions m;
+  filed = λ p. ap filed_with_place (b.connects p) ∙ h.filed p;
+  known = h.known;
+  gone = λ p t c. let g = h.gone p t c in (g.0, b.connects p ∙ g.1);
+}
+
+-- ---- a longer list
+
+-- every session of the shard over a list
+abbrev pub sessions_over : Setup → ℕ → List Listed → List Session
+sessions_over setup shard xs =
+    let r : Registry = registry setup.config xs in
+    map (λ (s : Registered). session setup.config s.number (entries_of r)) (filter (λ (s : Registered). stands_in setup shard s.number) r.sessions)
+
+-- what is found of a session, and of an answer, where these are all sessions of the shard
+abbrev found_session : Setup → ℕ → List Session → Option Kept
+found_session setup m ss = find (λ (k : Kept). k.number == m) (map kept (live_among ss))
+
+abbrev found_answer : List ℕ → ℕ → List Session → Option Filed
+found_answer taken p ss = find (λ (f : Filed). f.connect == p) (filed_among taken ss)
+
+record Got (js : List Judged) (k : ℕ) : Type 0 where
+  one : Judged
+  there : slice_get js k ≡ Some one
+
+got : (js : List Judged) (k : ℕ) → k < length js → Got js k
+got [] k h = absurd (omega arith)
+got (j ∷ js) zero h = record { one = j; there = refl }
+got (j ∷ js) (suc k) h = let g : Got js k = got js k (omega arith) in record { one = g.one; there = g.there }
+
+-- what was found at a place of the list is found there over a longer one
+pub judged_alike : (config : Config) (xs ys : List Listed) (p : ℕ) → p < length xs → slice_get (registry config (xs ++ ys)).judged p ≡ slice_get (registry config xs).judged p
+judged_alike config xs ys p h =
+    let g : Got (registry config xs).judged p = got (registry config xs).judged p (omega (arith, h, judged_length config xs)) in
+    judged_more config xs ys p g.one g.there ∙ sym g.there
+
+connect_before : (setup : Setup) (list more : List Listed) (shard p : ℕ) → p < length list → IsConnectOf setup (list ++ more) shard p → IsConnectOf setup list shard p
+connect_before setup list more shard p h c = record {
+  session = c.session;
+  waits = sym (ap (option_map (λ (j : Judged). j.slot)) (judged_alike setup.config list more p h)) ∙ c.waits;
+  stands = c.stands;
+}
+
+pub holds_longer : HoldsLonger
+holds_longer setup list more taken shard n s h =
+    let front : take n list ≡ take n (list ++ more) = sym (take-append-le n list more h.within) in
+    record {
+      setup_is = h.setup_is;
+      index_is = h.index_is;
+      place_is = h.place_is;
+      within = omega (arith, h.within, length-append list more);
+      sound = h.sound;
+      sessions = λ m. h.sessions m ∙ ap (λ (xs : List Listed). option_map (subscriber_of setup.config) (found_session setup m (sessions_over setup shard xs))) front;
+      filed = λ p. h.filed p ∙ ap (λ (xs : List Listed). option_map answer_of (found_answer taken p (sessions_over setup shard xs))) front;
+      known = λ p t. omega (arith, h.known p t, length-append list more);
+      gone = λ p t c. h.gone p t (connect_before setup list more shard p (h.known p t) c);
+    }

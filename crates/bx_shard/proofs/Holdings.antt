@@ -1,0 +1,120 @@
+-- What a shard holds: each session is reached and live, and their numbers ascend.
+use Rattle.std.proofs.Common.{◌≡◌, ℕ, zero, suc, ◌+◌, ◌<◌, ◌≤◌, Bool, true, false, cond, List, [], ◌∷◌, length, take, map, filter, slice_index, refl, sym, ap, ◌∙◌, subst, arith, length-take}
+use Rattle.std.proofs.lemmas.Bool.{cond_both, cond-true}
+use Rattle.std.proofs.lemmas.List.{length-map}
+use Rattle.std.proofs.lemmas.List.Elements.{All-nil, All-cons}
+use Rattle.std.proofs.lemmas.List.Kept.{IsStrictlyIncreasing-filter}
+use Rattle.std.specs.List.{All}
+use Rattle.std.specs.List.Sorted.{IsStrictlyIncreasing}
+use Rattle.bx_advice.specs.declared.config.Config.{Config}
+use Rattle.bx_entry.specs.declared.entry.Entry.{Entry}
+use Rattle.bx_entry.specs.Registry.{Registry, Registered, Judged, judge, registry, entries_of}
+use Rattle.bx_entry.specs.Sessions.{Session, Stage, Unopened, Live, Closed, is_live, unopened, session}
+use Rattle.bx_entry.specs.Keeping.{Kept, kept, kept_run}
+use Rattle.bx_laws.proofs.Dues.{NumberedFrom}
+use Rattle.bx_laws.proofs.Lives.{numbered}
+use Rattle.bx_laws.proofs.Lists.{judged_length}
+use Rattle.bx_laws.proofs.Kept.{kept_in_bounds, kept_runs}
+use Rattle.bx_session.specs.Reaching.{was_opened}
+use Rattle.bx_session.proofs.NumberLemmas.{numbers_count}
+use Rattle.bx_shard.specs.Shards.{stands_in}
+use Rattle.bx_shard.specs.Holdings.{ReachedLive, HoldsReached, NumbersAscend, OpenedIsFresh}
+use Rattle.bx_shard.proofs.Elements.{numbers, opens_above, Met, met}
+use Rattle.bx_shard.proofs.Stepping.{held_by, held_cons, numbers_in, held_at, EachNumber, numbers_below, run_number}
+
+-- ---- each that is held
+
+-- what holds of each live session holds of each that is kept
+each_held : (P : Kept → Type 0) (Q : ℕ → Type 0) (config : Config) (es : List Entry) (ns : List ℕ) → ((n : ℕ) → Q n → is_live (session config n es).stage ≡ true → P (kept (session config n es))) →
+    EachNumber Q ns → All P (held_by config es ns)
+each_held P Q config es [] h d = All-nil P
+each_held P Q config es (n ∷ ns) h d =
+    let s : Session = session config n es in
+    let rest : All P (held_by config es ns) = each_held P Q config es ns h d.1 in
+    subst (All P) (sym (held_cons config es n ns))
+    (cond_both (is_live s.stage) (kept s ∷ held_by config es ns) (held_by config es ns) (All P) (λ l. All-cons P (kept s) (held_by config es ns) (h n d.0 l) rest) (λ l. rest))
+
+-- ---- reached
+
+live_stage : (stage : Stage) → is_live stage ≡ true → stage ≡ Live
+live_stage Unopened h = cc
+live_stage Live h = refl
+live_stage Closed h = cc
+
+-- a live session after these entries is reached wherever so many entries may stand
+session_reached : (config : Config) (number place : ℕ) (es : List Entry) → 0 < config.limits.batch → length es ≤ place → is_live (session config number es).stage ≡ true → ReachedLive config place (kept (session config number es))
+session_reached config number place es room many live =
+    let s : Session = session config number es in
+    let stage : (session config number es).stage ≡ Live = live_stage (session config number es).stage live in
+    let num : (kept (session config number es)).num ≡ (kept_run config number es).kept.num = ap (λ (k : Kept). k.num) (kept_runs config number es room).0 in
+    let count : (kept_run config number es).kept.num ≤ length es = numbers_count config number es in
+    record {
+      reached = record {
+        bounds = kept_in_bounds config number es room;
+        opened = ap was_opened stage;
+        emptied = λ h. cond-true s.overflow [] s.patterns h;
+        numbers = omega (arith, num, count);
+      };
+      live = stage;
+    }
+
+pub holds_reached : HoldsReached
+holds_reached setup list taken shard n room =
+    let config : Config = setup.config in
+    let es : List Entry = entries_of (registry setup.config (take n list)) in
+    let many : length (entries_of (registry setup.config (take n list))) ≤ n =
+    omega (arith, length-map (registry setup.config (take n list)).judged (λ (j : Judged). j.entry), judged_length setup.config (take n list), length-take n list) in
+    subst (All (ReachedLive setup.config n)) (sym (held_at setup list taken shard n))
+    (each_held (ReachedLive setup.config n) (λ m. m < 1 + length (registry setup.config (take n list)).sessions) setup.config es (numbers_in setup shard (take n list))
+    (λ m q l. session_reached setup.config m n (entries_of (registry setup.config (take n list))) room many l) (numbers_below setup shard (take n list)))
+
+-- ---- numbers
+
+consecutive : (first k : ℕ) (rs : List Registered) → NumberedFrom first rs → k < length (numbers rs) → slice_index (numbers rs) k ≡ first + k
+consecutive first k [] d h = absurd (omega arith)
+consecutive first zero (r ∷ rs) d h = omega (arith, d.0)
+consecutive first (suc k) (r ∷ rs) d h = let next : slice_index (numbers rs) k ≡ first + 1 + k = consecutive (first + 1) k rs d.1 (omega arith) in omega (arith, next)
+
+numbers_ascend : (first : ℕ) (rs : List Registered) → NumberedFrom first rs → IsStrictlyIncreasing (numbers rs)
+numbers_ascend first rs d k h =
+    let here : slice_index (numbers rs) k ≡ first + k = consecutive first k rs d (omega arith) in
+    let next : slice_index (numbers rs) (k + 1) ≡ first + (k + 1) = consecutive first (k + 1) rs d h in
+    omega (arith, here, next)
+
+kept_number : (config : Config) (number : ℕ) (es : List Entry) → (session config number es).number ≡ number
+kept_number config number es = run_number config (unopened number) es
+
+-- the numbers of those that are held are those of the live ones
+held_numbers : (config : Config) (es : List Entry) (ns : List ℕ) → map (λ (k : Kept). k.number) (held_by config es ns) ≡ filter (λ (n : ℕ). is_live (session config n es).stage) ns
+held_numbers config es [] = refl
+held_numbers config es (n ∷ ns) =
+    let F : List Kept → List ℕ = map (λ (k : Kept). k.number) in
+    let ks : List Kept = held_by config es ns in
+    let live : ℕ → Bool = λ m. is_live (session config m es).stage in
+    ap (map (λ (k : Kept). k.number)) (held_cons config es n ns)
+    ∙ (elim (is_live (session config n es).stage) as (λ b. map (λ (k : Kept). k.number) (cond b (kept (session config n es) ∷ ks) ks) ≡ cond b (n ∷ filter live ns) (filter live ns)) [
+      | true ↦ ap (λ (m : ℕ). m ∷ F ks) (kept_number config n es) ∙ ap (λ (ms : List ℕ). n ∷ ms) (held_numbers config es ns)
+      | false ↦ held_numbers config es ns
+    ])
+
+pub sessions_ascend : NumbersAscend
+sessions_ascend setup list taken shard n =
+    let config : Config = setup.config in
+    let es : List Entry = entries_of (registry setup.config (take n list)) in
+    let r : Registry = registry setup.config (take n list) in
+    subst IsStrictlyIncreasing (sym (ap (map (λ (k : Kept). k.number)) (held_at setup list taken shard n) ∙ held_numbers setup.config es (numbers_in setup shard (take n list))))
+    (IsStrictlyIncreasing-filter (λ m. is_live (session config m es).stage) (numbers_in setup shard (take n list))
+    (IsStrictlyIncreasing-filter (λ m. stands_in setup shard m) (numbers r.sessions) (numbers_ascend 1 r.sessions (numbered config (take n list)))))
+
+pub opened_is_fresh : OpenedIsFresh
+opened_is_fresh setup list taken shard m number ack e there kind =
+    let config : Config = setup.config in
+    let es : List Entry = entries_of (registry setup.config (take m list)) in
+    let r : Registry = registry setup.config (take m list) in
+    let d : Met setup.config list m e = met setup.config list m e there in
+    let past : length (registry setup.config (take m list)).sessions < number =
+    opens_above setup.config (registry setup.config (take m list)) (judge setup.config (registry setup.config (take m list)) d.element) d.adds number ack (ap (λ (x : Entry). x.kind) d.same ∙ kind) in
+    subst (All (λ (k : Kept). k.number < number)) (sym (held_at setup list taken shard m))
+    (each_held (λ k. k.number < number) (λ n. n < 1 + length (registry setup.config (take m list)).sessions) setup.config es (numbers_in setup shard (take m list))
+    (λ n q l. let same : (session setup.config n (entries_of (registry setup.config (take m list)))).number ≡ n = kept_number setup.config n (entries_of (registry setup.config (take m list))) in omega (arith, q, same, past))
+    (numbers_below setup shard (take m list)))

@@ -1,0 +1,387 @@
+-- A shard that has applied an entry holds what the definition's shard holds after it.
+use Rattle.std.proofs.Common.{◌≡◌, ◌≢◌, ℕ, ◌+◌, ◌<◌, ◌≤◌, Bool, true, false, cond, ◌&&◌, is_some, Option, Some, None, List, [], ◌∷◌, ◌++◌, length, take, map, filter, flat_map, option_map, slice_get, nat_eq, ◌==◌, refl, sym, ap, ◌∙◌, subst, arith, eqb-true, eq-eqb, length-take}
+use Rattle.std.proofs.lemmas.Bool.{and_right, both_ways, cond_both, cond-true, cond-false}
+use Rattle.std.proofs.lemmas.List.{length_push, map-append}
+use Rattle.std.proofs.lemmas.List.Elements.{All-map, filter-append}
+use Rattle.std.proofs.lemmas.List.Folds.{find-append}
+use Rattle.std.specs.List.{All, Contains, list_any}
+use Rattle.std.specs.Option.{option_or}
+use Rattle.bx_advice.specs.declared.config.Config.{Config}
+use Rattle.bx_entry.specs.declared.entry.Entry.{Entry}
+use Rattle.bx_entry.specs.declared.entry.Kind.{Kind}
+use Rattle.bx_entry.specs.declared.entry.Kind.TheVariants.{Opened, Connect, Subscribe, Unsubscribe, Publish, Disconnect, Refused, Tick}
+use Rattle.bx_entry.specs.Answers.{answer_of}
+use Rattle.bx_entry.specs.Listing.{Listed}
+use Rattle.bx_entry.specs.Keeping.{Kept, Turn, kept, kept_answers, kept_step, turn_of}
+use Rattle.bx_entry.specs.Registry.{entries}
+use Rattle.bx_entry.specs.Sessions.{Filed, Live, Session, is_live, unopened}
+use Rattle.bx_laws.proofs.Moves.{either}
+use Rattle.bx_session.specs.declared.answered.Answered.{Answered}
+use Rattle.bx_session.specs.Agreement.{answered_of, entry}
+use Rattle.bx_session.specs.Seats.{pending}
+use Rattle.bx_session.specs.Steps.{deadline_of}
+use Rattle.bx_session.proofs.FilingLemmas.{files_alike}
+use Rattle.bx_shard.specs.declared.connects.ConnectState.{ConnectState}
+use Rattle.bx_shard.specs.declared.connects.ConnectState.TheVariants as states
+use Rattle.bx_shard.specs.Connects.{held_by}
+use Rattle.bx_shard.specs.Effects.{holding}
+use Rattle.bx_shard.specs.Held.{Holds, HoldsOnwards, IsConnectOf, filed_with_place, placed}
+use Rattle.bx_shard.specs.Holdings.{ReachedLive}
+use Rattle.bx_shard.specs.Shards.{Setup, is_taken, sessions_in, shard_at, stands_in}
+use Rattle.bx_shard.specs.States.{Applied, IsGiven, IsSound, State, begun, connect_in, let_go, opened_by, session_after, session_in}
+use Rattle.bx_shard.specs.Steps.{answers_by, opening_by, stepped}
+use Rattle.bx_shard.specs.Subscribers.{Subscriber, answers, closes, newcomer, onward, subscriber_of}
+use Rattle.bx_shard.proofs.Elements.{Met, met}
+use Rattle.bx_shard.proofs.Filing.{shards_file}
+use Rattle.bx_shard.proofs.Finding.{Apart, GivenBy, apart, contains_found, each_none, find_kept, found_each, given_by, next, none_there, numbers_of, placed_found, steps, steps_found}
+use Rattle.bx_shard.proofs.Gives.{Unanswered, all_contains, given_unanswered}
+use Rattle.bx_shard.proofs.Holdings.{holds_reached, sessions_ascend}
+use Rattle.bx_shard.proofs.Names.{Named, entry_named, entry_placed}
+use Rattle.bx_shard.proofs.Onward.{Goes, goes}
+use Rattle.bx_shard.proofs.Stepping.{shards_step}
+use Rattle.bx_shard.proofs.Taking.{connect_of_filed, find_of, none_taken}
+
+-- ---- the sessions
+
+-- a session that is opened
+abbrev opening : ℕ → Bool → Kept
+opening n ack = record (kept (unopened n)) { stage = Live; ack = ack }
+
+abbrev found_as : Config → ℕ → List Kept → Option Subscriber
+found_as config m ks = option_map (subscriber_of config) (find_kept m ks)
+
+opened_one : (config : Config) (place moment n : ℕ) (ack : Bool) (m : ℕ) →
+    found_as config m (steps config (entry place moment (Opened n ack)) (kept (unopened n) ∷ [])) ≡ cond ((n == m) && true) (Some (newcomer config n ack)) None
+opened_one config place moment n ack m =
+    let t : Turn = record { kept = opening n ack; answers = [] } in
+    let u : Turn = record { kept = kept (unopened n); answers = [] } in
+    let same : turn_of config (kept (unopened n)) (entry place moment (Opened n ack)) ≡ t = cond-true (n == n) t u (eq-eqb n n refl) in
+    ap (λ (x : Turn). found_as config m (filter (λ (k : Kept). is_live k.stage) (x.kept ∷ []))) same
+    ∙ (elim (n == m) as (λ b. option_map (subscriber_of config) (cond b (Some (opening n ack)) None) ≡ cond (b && true) (Some (newcomer config n ack)) None) [ true ↦ refl | false ↦ refl ])
+
+-- the session that the entry opens in the shard
+opened_found : (s : State) (place moment m : ℕ) (kind : Kind) → found_as s.setup.config m (steps s.setup.config (entry place moment kind) (opening_by s.setup s.index kind)) ≡ opened_by s kind m
+opened_found s place moment m (Opened n ack) =
+    (elim (stands_in s.setup s.index n) as (λ b. found_as s.setup.config m (steps s.setup.config (entry place moment (Opened n ack)) (cond b (kept (unopened n) ∷ []) [])) ≡ cond ((n == m) && b) (Some (newcomer s.setup.config n ack)) None) [
+      | true ↦ opened_one s.setup.config place moment n ack m
+      | false ↦ sym (cond-false ((n == m) && false) (Some (newcomer s.setup.config n ack)) None (and_right (n == m) false refl))
+    ])
+opened_found s place moment m (Connect n client id acked hold) = refl
+opened_found s place moment m (Subscribe n patterns) = refl
+opened_found s place moment m (Unsubscribe n patterns) = refl
+opened_found s place moment m (Publish e) = refl
+opened_found s place moment m (Disconnect n) = refl
+opened_found s place moment m Refused = refl
+opened_found s place moment m (Tick numbers) = refl
+
+-- an entry that closes a session opens none
+closed_opens : (s : State) (kind : Kind) (m : ℕ) → closes kind m ≡ true → opened_by s kind m ≡ None
+closed_opens s (Opened n ack) m h = absurd (let no : false ≡ true = h in cc)
+closed_opens s (Connect n client id acked hold) m h = refl
+closed_opens s (Subscribe n patterns) m h = refl
+closed_opens s (Unsubscribe n patterns) m h = refl
+closed_opens s (Publish e) m h = refl
+closed_opens s (Disconnect n) m h = refl
+closed_opens s Refused m h = refl
+closed_opens s (Tick numbers) m h = refl
+
+map_or : (f : Kept → Subscriber) (a b : Option Kept) → option_map f (option_or a b) ≡ option_or (option_map f a) (option_map f b)
+map_or f None b = refl
+map_or f (Some k) b = refl
+
+map_choice : (f : Kept → Subscriber) (b : Bool) (k : Kept) → option_map f (cond b (Some k) None) ≡ cond b (Some (f k)) None
+map_choice f true k = refl
+map_choice f false k = refl
+
+found_stepped : (s : State) (e : Entry) (ks : List Kept) (m : ℕ) → Apart (numbers_of ks) → All (λ k. (kept_step s.setup.config k e).number ≡ k.number) ks →
+    found_as s.setup.config m (stepped s.setup s.index e ks) ≡ option_or (option_map (subscriber_of s.setup.config) (next s.setup.config e (find_kept m ks))) (opened_by s e.kind m)
+found_stepped s e ks m d same =
+    let config : Config = s.setup.config in
+    let os : List Kept = opening_by s.setup s.index e.kind in
+    let F : Kept → Kept = λ k. kept_step config k e in
+    let live : Kept → Bool = λ k. is_live k.stage in
+    let sub : Kept → Subscriber = subscriber_of config in
+    ap (λ (xs : List Kept). option_map sub (find_kept m (filter live xs))) (map-append F ks os)
+    ∙ ap (λ (xs : List Kept). option_map sub (find_kept m xs)) (filter-append live (map F ks) (map F os))
+    ∙ ap (option_map sub) (find-append (λ (k : Kept). k.number == m) (steps config e ks) (steps config e os))
+    ∙ map_or sub (find_kept m (steps config e ks)) (find_kept m (steps config e os))
+    ∙ ap (λ (o : Option Kept). option_or (option_map sub o) (option_map sub (find_kept m (steps config e os)))) (steps_found config e m ks d same)
+    ∙ ap (option_or (option_map sub (next config e (find_kept m ks)))) (opened_found s e.place e.moment m e.kind)
+
+abbrev Knows : State → List Kept → Type 0
+Knows s ks = (m : ℕ) → session_in s m ≡ found_as s.setup.config m ks
+
+abbrev AllReached : State → Entry → List Kept → Type 0
+AllReached s e ks = All (ReachedLive s.setup.config e.place) ks
+
+-- what becomes of a session that the shard holds
+kept_next : (s : State) (e : Entry) (k : Kept) (m : ℕ) → Goes s.setup.config k e.place e.moment e.kind → k.number ≡ m →
+    session_after s e m (Some (subscriber_of s.setup.config k)) ≡ option_or (option_map (subscriber_of s.setup.config) (next s.setup.config e (Some k))) (opened_by s e.kind m)
+kept_next s e k m g number =
+    let config : Config = s.setup.config in
+    let sub : Kept → Subscriber = subscriber_of config in
+    let l : Kept = kept_step config k e in
+    let after : ℕ → Option Subscriber = λ n. cond (closes e.kind n) None (Some (onward config e.place e.moment e.kind n (sub k))) in
+    let mapped : option_map sub (next config e (Some k)) ≡ after m = map_choice sub (is_live l.stage) l ∙ g.session ∙ ap after number in
+    let whole : option_or (after m) (opened_by s e.kind m) ≡ after m =
+    either (closes e.kind m) (option_or (after m) (opened_by s e.kind m) ≡ after m)
+    (λ h.
+    let none : after m ≡ None = cond-true (closes e.kind m) None (Some (onward config e.place e.moment e.kind m (sub k))) h in
+    ap (λ (o : Option Subscriber). option_or o (opened_by s e.kind m)) none ∙ closed_opens s e.kind m h ∙ sym none)
+    (λ h.
+    let some : after m ≡ Some (onward config e.place e.moment e.kind m (sub k)) = cond-false (closes e.kind m) None (Some (onward config e.place e.moment e.kind m (sub k))) h in
+    ap (λ (o : Option Subscriber). option_or o (opened_by s e.kind m)) some ∙ sym some) in
+    sym whole ∙ ap (λ (o : Option Subscriber). option_or o (opened_by s e.kind m)) (sym mapped)
+
+all_go : (s : State) (e : Entry) (ks : List Kept) → Named e.kind → AllReached s e ks → All (λ k. Goes s.setup.config k e.place e.moment e.kind) ks
+all_go s e ks named reached i d l = goes s.setup.config _ e.place e.moment e.kind named (reached i d l)
+
+sessions_next : (s : State) (e : Entry) (ks : List Kept) (m : ℕ) → Named e.kind → AllReached s e ks → Apart (numbers_of ks) → Knows s ks →
+    session_after s e m (session_in s m) ≡ found_as s.setup.config m (stepped s.setup s.index e ks)
+sessions_next s e ks m named reached d known =
+    let config : Config = s.setup.config in
+    let sub : Kept → Subscriber = subscriber_of config in
+    let each : All (λ k. Goes config k e.place e.moment e.kind) ks = all_go s e ks named reached in
+    let P : Option Kept → Type 0 = λ o. find_kept m ks ≡ o → session_after s e m (option_map sub o) ≡ option_or (option_map sub (next config e o)) (opened_by s e.kind m) in
+    let at_some : (k : Kept) → P (Some k) = λ k f. let w = found_each (λ j. Goes config j e.place e.moment e.kind) m ks k f each in kept_next s e k m w.0 w.1 in
+    ap (session_after s e m) (known m)
+    ∙ (elim (find_kept m ks) as P [ None ↦ λ f. refl | Some k ↦ at_some k ]) refl
+    ∙ sym (found_stepped s e ks m d (λ i b l. (each i b l).number))
+
+-- ---- the answers that the entry gives
+
+-- a connect for which none is found is given none
+none_given : (s : State) (e : Entry) (ks : List Kept) (p : ℕ) → Named e.kind → AllReached s e ks → Knows s ks → find_of p (answers_by s.setup.config e ks) ≡ None → (a : Answered) → IsGiven s e a → a.place ≢ p
+none_given s e ks p named reached known none a g =
+    let config : Config = s.setup.config in
+    let sub : Kept → Subscriber = subscriber_of config in
+    let Not : Answered → Type 0 = λ x. (x.place == p) ≡ false in
+    let each : All (λ k. (Goes config k e.place e.moment e.kind) × (find_of p (kept_answers config k e) ≡ None)) ks =
+    λ i d l. (all_go s e ks named reached i d l, each_none (λ k. kept_answers config k e) p ks none i d l) in
+    let P : Option Kept → Type 0 = λ o. find_kept g.number ks ≡ o → option_map sub o ≡ Some g.subscriber → Not a in
+    let at_some : (k : Kept) → P (Some k) = λ k f same.
+    let w = found_each (λ j. (Goes config j e.place e.moment e.kind) × (find_of p (kept_answers config j e) ≡ None)) g.number ks k f each in
+    let one : sub k ≡ g.subscriber = cc in
+    let theirs : All Not (map answered_of (kept_answers config k e)) = All-map Not answered_of (kept_answers config k e) (none_there p (kept_answers config k e) w.0.1) in
+    let ours : All Not (answers config e.place e.moment e.kind k.number (sub k)) = subst (All Not) w.0.0.answers theirs in
+    let here : All Not (answers config e.place e.moment e.kind g.number g.subscriber) =
+    subst (λ (u : Subscriber). All Not (answers config e.place e.moment e.kind g.number u)) one (subst (λ (n : ℕ). All Not (answers config e.place e.moment e.kind n (sub k))) w.1 ours) in
+    all_contains Not (answers config e.place e.moment e.kind g.number g.subscriber) a here g.given in
+    let at_none : P None = λ f same. absurd (let no : None ≡ Some g.subscriber = same in cc) in
+    let other : (a.place == p) ≡ false = (elim (find_kept g.number ks) as P [ None ↦ at_none | Some k ↦ at_some k ]) refl (sym (known g.number) ∙ g.here) in
+    λ h. both_ways (a.place == p) other (eq-eqb a.place p h)
+
+-- the answer that is found is given
+record Gave (s : State) (e : Entry) (p : ℕ) (f : Filed) : Type 0 where
+  given : IsGiven s e (answered_of f)
+  answer : answer_of f ≡ placed e.place (answered_of f).answer
+  connect : f.connect ≡ p
+
+gave : (s : State) (e : Entry) (ks : List Kept) (p : ℕ) (f : Filed) → Named e.kind → AllReached s e ks → Apart (numbers_of ks) → Knows s ks → find_of p (answers_by s.setup.config e ks) ≡ Some f → Gave s e p f
+gave s e ks p f named reached d known found =
+    let config : Config = s.setup.config in
+    let sub : Kept → Subscriber = subscriber_of config in
+    let b : GivenBy (λ k. kept_answers config k e) ks p f = given_by (λ k. kept_answers config k e) ks p f d found in
+    let k : Kept = b.one in
+    let w = found_each (λ j. Goes config j e.place e.moment e.kind) k.number ks k b.found (all_go s e ks named reached) in
+    let at = placed_found p e.place (kept_answers config k e) f (files_alike config k e) b.gives in
+    record {
+      given = record {
+        number = k.number;
+        subscriber = sub k;
+        here = known k.number ∙ ap (option_map sub) b.found;
+        given = subst (λ (xs : List Answered). Contains xs (answered_of f)) w.0.answers (contains_found p (kept_answers config k e) f b.gives);
+      };
+      answer = at.0;
+      connect = at.1;
+    }
+
+-- ---- the connects before any is answered
+
+let_go_filed : (numbers : List ℕ) (o : Option ConnectState) → filed_with_place (let_go numbers o) ≡ filed_with_place o
+let_go_filed numbers None = refl
+let_go_filed numbers (Some (states.Held session deadline waker)) =
+    cond_both (list_any (λ m. m == session) numbers) None (Some (states.Held session deadline waker)) (λ (o : Option ConnectState). filed_with_place o ≡ None) (λ h. refl) (λ h. refl)
+let_go_filed numbers (Some (states.Filed place answer)) = refl
+
+let_go_none : (numbers : List ℕ) (o : Option ConnectState) → o ≡ None → let_go numbers o ≡ None
+let_go_none numbers None h = refl
+let_go_none numbers (Some (states.Held session deadline waker)) h = absurd (let no : Some (states.Held session deadline waker) ≡ None = h in cc)
+let_go_none numbers (Some (states.Filed place answer)) h = absurd (let no : Some (states.Filed place answer) ≡ None = h in cc)
+
+-- no answer is filed or lost by it
+begun_filed : (s : State) (e : Entry) (kind : Kind) (p : ℕ) → connect_in s e.place ≡ None → filed_with_place (begun s e kind p) ≡ filed_with_place (connect_in s p)
+begun_filed s e (Opened m ack) p fresh = refl
+begun_filed s e (Connect m client id acked hold) p fresh =
+    let P : Option ConnectState → Type 0 = λ o. filed_with_place o ≡ filed_with_place (connect_in s p) in
+    cond_both (is_some (session_in s m)) (holding m (pending e.place client id e.moment hold) (connect_in s) p) (connect_in s p) P
+    (λ h. cond_both (nat_eq e.place p) (held_by m (deadline_of (pending e.place client id e.moment hold))) (connect_in s p) P
+    (λ t. sym (ap filed_with_place (subst (λ (q : ℕ). connect_in s q ≡ None) (eqb-true e.place p t) fresh))) (λ t. refl))
+    (λ h. refl)
+begun_filed s e (Subscribe m patterns) p fresh = refl
+begun_filed s e (Unsubscribe m patterns) p fresh = refl
+begun_filed s e (Publish event) p fresh = refl
+begun_filed s e (Disconnect m) p fresh = refl
+begun_filed s e Refused p fresh = refl
+begun_filed s e (Tick numbers) p fresh = let_go_filed numbers (connect_in s p)
+
+-- and nothing is known of any but the entry's own, where nothing was
+pub begun_none : (s : State) (e : Entry) (kind : Kind) (p : ℕ) → connect_in s p ≡ None → p ≢ e.place → begun s e kind p ≡ None
+begun_none s e (Opened m ack) p none other = none
+begun_none s e (Connect m client id acked hold) p none other =
+    let P : Option ConnectState → Type 0 = λ o. o ≡ None in
+    cond_both (is_some (session_in s m)) (holding m (pending e.place client id e.moment hold) (connect_in s) p) (connect_in s p) P
+    (λ h. cond_both (nat_eq e.place p) (held_by m (deadline_of (pending e.place client id e.moment hold))) (connect_in s p) P
+    (λ t. absurd (other (sym (eqb-true e.place p t)))) (λ t. none))
+    (λ h. none)
+begun_none s e (Subscribe m patterns) p none other = none
+begun_none s e (Unsubscribe m patterns) p none other = none
+begun_none s e (Publish event) p none other = none
+begun_none s e (Disconnect m) p none other = none
+begun_none s e Refused p none other = none
+begun_none s e (Tick numbers) p none other = let_go_none numbers (connect_in s p) none
+
+-- ---- one entry of the list
+
+-- the shard before the entry, with what is known of what it holds
+record Before (list : List Listed) (taken : List ℕ) (n : ℕ) (e : Entry) (s : State) : Type 0 where
+  room : 0 < s.setup.config.limits.batch
+  there : slice_get (entries s.setup.config list) n ≡ Some e
+  holds : Holds s.setup list taken s.index n s
+  place : e.place ≡ n
+  named : Named e.kind
+  reached : AllReached s e (shard_at s.setup list taken s.index n).sessions
+  apart : Apart (numbers_of (shard_at s.setup list taken s.index n).sessions)
+  fresh : connect_in s e.place ≡ None
+
+before : (list : List Listed) (taken : List ℕ) (n : ℕ) (e : Entry) (s : State) → 0 < s.setup.config.limits.batch → slice_get (entries s.setup.config list) n ≡ Some e → Holds s.setup list taken s.index n s → Before list taken n e s
+before list taken n e s room there h =
+    let place : e.place ≡ n = entry_placed s.setup.config list n e there in
+    let ks : List Kept = (shard_at s.setup list taken s.index n).sessions in
+    record {
+      room = room;
+      there = there;
+      holds = h;
+      place = place;
+      named = entry_named s.setup.config list n e there;
+      reached = subst (λ (q : ℕ). All (ReachedLive s.setup.config q) ks) (sym place) (holds_reached s.setup list taken s.index n room);
+      apart = apart (numbers_of ks) (sessions_ascend s.setup list taken s.index n);
+      fresh = h.sound.fresh e.place (omega (arith, place, h.place_is));
+    }
+
+abbrev given_at : List Listed → List ℕ → ℕ → Entry → State → ℕ → Option Filed
+given_at list taken n e s p = find_of p (answers_by s.setup.config e (shard_at s.setup list taken s.index n).sessions)
+
+abbrev filed_then : List Listed → List ℕ → State → ℕ → ℕ → Option Filed
+filed_then list taken s n p = find_of p (shard_at s.setup list taken s.index n).filed
+
+-- where none is given, the same is filed as before
+same_filed : (list : List Listed) (taken : List ℕ) (n : ℕ) (e : Entry) (s : State) (p : ℕ) → Before list taken n e s → given_at list taken n e s p ≡ None → filed_then list taken s (n + 1) p ≡ filed_then list taken s n p
+same_filed list taken n e s p b none =
+    let fs : ℕ → List Filed = λ m. flat_map (λ (x : Session). x.answers) (sessions_in s.setup list s.index m) in
+    let o : Option Filed = filed_then list taken s n p in
+    let P : Option Filed → Type 0 = λ q. option_or q None ≡ q in
+    either (is_taken taken p) (filed_then list taken s (n + 1) p ≡ filed_then list taken s n p)
+    (λ t. none_taken taken p (fs (n + 1)) t ∙ sym (none_taken taken p (fs n) t))
+    (λ u. shards_file s.setup list taken s.index n e p b.room b.there u ∙ ap (option_or o) none ∙ (elim (filed_then list taken s n p) as P [ None ↦ refl | Some f ↦ refl ]))
+
+-- the connect of an answer that is given is one of the shard
+given_is_connect : (list : List Listed) (taken : List ℕ) (n : ℕ) (e : Entry) (s : State) (p : ℕ) (f : Filed) → Before list taken n e s → given_at list taken n e s p ≡ Some f → IsConnectOf s.setup list s.index p
+given_is_connect list taken n e s p f b some =
+    let nobody : List ℕ = [] in
+    let next_filed : filed_then list nobody s (n + 1) p ≡ option_or (filed_then list nobody s n p) (Some f) =
+    shards_file s.setup list nobody s.index n e p b.room b.there refl ∙ ap (option_or (filed_then list nobody s n p)) some in
+    let P : Option Filed → Type 0 = λ o. filed_then list nobody s (n + 1) p ≡ option_or o (Some f) → IsConnectOf s.setup list s.index p in
+    let at_none : P None = λ h. connect_of_filed s.setup list nobody s.index (n + 1) p f h in
+    let at_some : (g : Filed) → P (Some g) = λ g h. connect_of_filed s.setup list nobody s.index (n + 1) p g h in
+    (elim (filed_then list nobody s n p) as P [ None ↦ at_none | Some g ↦ at_some g ]) next_filed
+
+-- a connect that is answered was not answered before, nor was its answer taken
+record Answers (list : List Listed) (taken : List ℕ) (n : ℕ) (e : Entry) (s : State) (p : ℕ) (f : Filed) : Type 0 where
+  gives : Gave s e p f
+  unanswered : Unanswered e.place p (connect_in s p)
+  free : is_taken taken p ≡ true → ⊥
+  first : filed_then list taken s n p ≡ None
+
+none_answer : (o : Option Filed) → option_map answer_of o ≡ None → o ≡ None
+none_answer None h = refl
+none_answer (Some f) h = absurd (let no : Some (answer_of f) ≡ None = h in cc)
+
+answered : (list : List Listed) (taken : List ℕ) (n : ℕ) (e : Entry) (s : State) (p : ℕ) (f : Filed) → Before list taken n e s → given_at list taken n e s p ≡ Some f → Answers list taken n e s p f
+answered list taken n e s p f b some =
+    let h : Holds s.setup list taken s.index n s = b.holds in
+    let g : Gave s e p f = gave s e (shard_at s.setup list taken s.index n).sessions p f b.named b.reached b.apart h.sessions some in
+    let u : Unanswered e.place p (connect_in s p) =
+    subst (λ (q : ℕ). Unanswered e.place q (connect_in s q)) g.connect (given_unanswered s e (answered_of f) h.sound (h.place_is ∙ sym b.place) g.given) in
+    record {
+      gives = g;
+      unanswered = u;
+      free = λ t. let w = h.gone p t (given_is_connect list taken n e s p f b some) in let own : p ≡ e.place = u.own w.1 in omega (arith, own, b.place, w.0);
+      first = none_answer (filed_then list taken s n p) (sym (h.filed p) ∙ u.filed);
+    }
+
+-- ---- the shard after it
+
+untaken_then : (taken : List ℕ) (p : ℕ) → (is_taken taken p ≡ true → ⊥) → is_taken taken p ≡ false
+untaken_then taken p h = either (is_taken taken p) (is_taken taken p ≡ false) (λ t. absurd (h t)) (λ u. u)
+
+-- a connect that isn't answered is as it was begun
+unanswered_as : (list : List Listed) (taken : List ℕ) (n : ℕ) (e : Entry) (s new : State) (p : ℕ) → Before list taken n e s → Applied s e new → given_at list taken n e s p ≡ None → connect_in new p ≡ begun s e e.kind p
+unanswered_as list taken n e s new p b a none =
+    a.connects.kept p (none_given s e (shard_at s.setup list taken s.index n).sessions p b.named b.reached b.holds.sessions none)
+
+filed_next : (list : List Listed) (taken : List ℕ) (n : ℕ) (e : Entry) (s new : State) (p : ℕ) → Before list taken n e s → Applied s e new → filed_with_place (connect_in new p) ≡ option_map answer_of (filed_then list taken s (n + 1) p)
+filed_next list taken n e s new p b a =
+    let P : Option Filed → Type 0 = λ o. given_at list taken n e s p ≡ o → filed_with_place (connect_in new p) ≡ option_map answer_of (filed_then list taken s (n + 1) p) in
+    let at_none : P None = λ h.
+    ap filed_with_place (unanswered_as list taken n e s new p b a h) ∙ begun_filed s e e.kind p b.fresh ∙ b.holds.filed p ∙ ap (option_map answer_of) (sym (same_filed list taken n e s p b h)) in
+    let at_some : (f : Filed) → P (Some f) = λ f h.
+    let w : Answers list taken n e s p f = answered list taken n e s p f b h in
+    let here : connect_in new p ≡ Some (states.Filed e.place (answered_of f).answer) =
+    subst (λ (q : ℕ). connect_in new q ≡ Some (states.Filed e.place (answered_of f).answer)) w.gives.connect (a.connects.given (answered_of f) w.gives.given) in
+    let there : filed_then list taken s (n + 1) p ≡ Some f =
+    shards_file s.setup list taken s.index n e p b.room b.there (untaken_then taken p w.free) ∙ ap (λ (o : Option Filed). option_or o (given_at list taken n e s p)) w.first ∙ h in
+    ap filed_with_place here ∙ ap Some (sym w.gives.answer) ∙ sym (ap (option_map answer_of) there) in
+    (elim (given_at list taken n e s p) as P [ None ↦ at_none | Some f ↦ at_some f ]) refl
+
+gone_next : (list : List Listed) (taken : List ℕ) (n : ℕ) (e : Entry) (s new : State) (p : ℕ) → Before list taken n e s → Applied s e new → is_taken taken p ≡ true → IsConnectOf s.setup list s.index p → (p < n + 1) × (connect_in new p ≡ None)
+gone_next list taken n e s new p b a t c =
+    let g = b.holds.gone p t c in
+    let below : p < n + 1 = let l : p < n = g.0 in omega (arith, l) in
+    let other : p ≢ e.place = λ own. (let l : p < n = g.0 in omega (arith, own, b.place, l)) in
+    let P : Option Filed → Type 0 = λ o. given_at list taken n e s p ≡ o → connect_in new p ≡ None in
+    let at_none : P None = λ h. unanswered_as list taken n e s new p b a h ∙ begun_none s e e.kind p g.1 other in
+    let at_some : (f : Filed) → P (Some f) = λ f h. absurd ((answered list taken n e s p f b h).free t) in
+    (below, (elim (given_at list taken n e s p) as P [ None ↦ at_none | Some f ↦ at_some f ]) refl)
+
+shorter_by_one : (list : List Listed) (n : ℕ) (x : Listed) → take (n + 1) list ≡ take n list ++ x ∷ [] → n + 1 ≤ length list
+shorter_by_one list n x e =
+    let l : length (take (n + 1) list) ≡ length (take n list) + 1 = ap length e ∙ length_push (take n list) x in
+    omega (arith, l, length-take (n + 1) list, length-take n list)
+
+onwards : (list : List Listed) (taken : List ℕ) (n : ℕ) (e : Entry) (s new : State) → Before list taken n e s → Applied s e new → IsSound new → Holds s.setup list taken s.index (n + 1) new
+onwards list taken n e s new b a sound =
+    let m : Met s.setup.config list n e = met s.setup.config list n e b.there in
+    let ks : List Kept = (shard_at s.setup list taken s.index n).sessions in
+    record {
+      setup_is = a.setup;
+      index_is = a.index;
+      place_is = a.place ∙ ap (λ (q : ℕ). q + 1) b.place;
+      within = shorter_by_one list n m.element m.next;
+      sound = sound;
+      sessions = λ q. a.sessions q ∙ sessions_next s e ks q b.named b.reached b.apart b.holds.sessions
+          ∙ ap (found_as s.setup.config q) (sym (shards_step s.setup list taken s.index n e b.room b.there));
+      filed = λ p. filed_next list taken n e s new p b a;
+      known = b.holds.known;
+      gone = λ p t c. gone_next list taken n e s new p b a t c;
+    }
+
+-- the same shard, with the setup and the index that it has
+abbrev with_setup : Setup → ℕ → State → State
+with_setup setup shard s = record { setup = setup; index = shard; place = s.place; shut = s.shut; sessions = s.sessions }
+
+pub holds_onwards : HoldsOnwards
+holds_onwards setup list taken shard n e old new room there h a sound =
+    let s : State = with_setup setup shard old in
+    let same : old ≡ with_setup setup shard old = ap (λ (x : Setup). with_setup x old.index old) h.setup_is ∙ ap (λ (i : ℕ). with_setup setup i old) h.index_is in
+    onwards list taken n e s new (before list taken n e s room there (subst (Holds setup list taken shard n) same h)) (subst (λ (x : State). Applied x e new) same a) sound

@@ -1,0 +1,189 @@
+-- The live sessions of a shard after one more entry.
+use Rattle.std.proofs.Common.{◌≡◌, ℕ, ◌+◌, ◌<◌, Bool, true, false, cond, List, [], ◌∷◌, ◌++◌, length, take, map, filter, fold, refl, sym, ap, ◌∙◌}
+use Rattle.std.proofs.lemmas.Bool.{cond_both, cond-true, cond-false}
+use Rattle.std.proofs.lemmas.List.{map-append}
+use Rattle.std.proofs.lemmas.List.Elements.{filter-append}
+use Rattle.bx_advice.specs.declared.config.Config.{Config}
+use Rattle.bx_entry.specs.Listing.{Listed}
+use Rattle.bx_entry.specs.declared.entry.Entry.{Entry}
+use Rattle.bx_entry.specs.declared.entry.Kind.{Kind}
+use Rattle.bx_entry.specs.declared.entry.Kind.TheVariants.{Opened, Connect, Subscribe, Unsubscribe, Publish, Disconnect, Refused, Tick}
+use Rattle.bx_entry.specs.Registry.{Registry, Registered, judge, registry, entries_of}
+use Rattle.bx_entry.specs.Sessions.{Session, Stage, Unopened, Live, Closed, is_live, stage_after, step, unopened, session}
+use Rattle.bx_laws.specs.Readings.{opens_by, closes_by, EachSession}
+use Rattle.bx_entry.specs.Keeping.{Kept, kept, kept_step, StepsAlike}
+use Rattle.bx_shard.specs.Shards.{Setup, stands_in, shard_at}
+use Rattle.bx_shard.specs.Steps.{opening_by, ShardsStep, stepped}
+use Rattle.bx_laws.proofs.Counts.{all_in_step, unopened_in_step}
+use Rattle.bx_laws.proofs.Moves.{either}
+use Rattle.bx_laws.proofs.Stages.{Next, step_by_next}
+use Rattle.bx_laws.proofs.Dues.{numbered_below}
+use Rattle.bx_laws.proofs.Lives.{numbered}
+use Rattle.bx_laws.proofs.Kept.{steps_alike}
+use Rattle.bx_shard.proofs.Elements.{numbers, opened_numbers, Adds, next_is, session_next, all_fresh, opens_above, Met, met}
+
+-- ---- sessions by their numbers
+
+pub by_numbers : (config : Config) (setup : Setup) (shard : ℕ) (es : List Entry) (rs : List Registered) →
+    map (λ (s : Registered). session config s.number es) (filter (λ (s : Registered). stands_in setup shard s.number) rs) ≡ map (λ (n : ℕ). session config n es) (filter (λ (n : ℕ). stands_in setup shard n) (numbers rs))
+by_numbers config setup shard es [] = refl
+by_numbers config setup shard es (r ∷ rs) =
+    let standing : List Registered = filter (λ (s : Registered). stands_in setup shard s.number) rs in
+    let bs : List ℕ = filter (λ (n : ℕ). stands_in setup shard n) (numbers rs) in
+    (elim (stands_in setup shard r.number) as (λ b. map (λ (s : Registered). session config s.number es) (cond b (r ∷ standing) standing) ≡ map (λ (n : ℕ). session config n es) (cond b (r.number ∷ bs) bs))
+    [ true ↦ ap (λ (ss : List Session). session config r.number es ∷ ss) (by_numbers config setup shard es rs) | false ↦ by_numbers config setup shard es rs ])
+
+-- what is kept of the live ones
+abbrev pub held_by : Config → List Entry → List ℕ → List Kept
+held_by config es ns = map kept (filter (λ (s : Session). is_live s.stage) (map (λ (n : ℕ). session config n es) ns))
+
+abbrev pub one_kept : Session → List Kept → List Kept
+one_kept s ks = cond (is_live s.stage) (kept s ∷ ks) ks
+
+pub held_cons : (config : Config) (es : List Entry) (n : ℕ) (ns : List ℕ) → held_by config es (n ∷ ns) ≡ one_kept (session config n es) (held_by config es ns)
+held_cons config es n ns =
+    let s : Session = session config n es in
+    let rest : List Session = filter (λ (u : Session). is_live u.stage) (map (λ (m : ℕ). session config m es) ns) in
+    (elim (is_live (session config n es).stage) as (λ b. map kept (cond b (session config n es ∷ rest) rest) ≡ cond b (kept (session config n es) ∷ map kept rest) (map kept rest)) [ true ↦ refl | false ↦ refl ])
+
+-- the numbers of the shard's sessions over a list, and what is kept of those that are live
+abbrev pub numbers_in : Setup → ℕ → List Listed → List ℕ
+numbers_in setup shard xs = filter (λ (n : ℕ). stands_in setup shard n) (numbers (registry setup.config xs).sessions)
+
+abbrev pub held_over : Setup → ℕ → List Listed → List Kept
+held_over setup shard xs = held_by setup.config (entries_of (registry setup.config xs)) (numbers_in setup shard xs)
+
+pub held_at : (setup : Setup) (list : List Listed) (taken : List ℕ) (shard n : ℕ) → (shard_at setup list taken shard n).sessions ≡ held_over setup shard (take n list)
+held_at setup list taken shard n =
+    let r : Registry = registry setup.config (take n list) in
+    ap (λ (ss : List Session). map kept (filter (λ (s : Session). is_live s.stage) ss)) (by_numbers setup.config setup shard (entries_of r) r.sessions)
+
+held_append : (config : Config) (es : List Entry) (ns ms : List ℕ) → held_by config es (ns ++ ms) ≡ held_by config es ns ++ held_by config es ms
+held_append config es ns ms =
+    let F : ℕ → Session = λ n. session config n es in
+    let live : Session → Bool = λ s. is_live s.stage in
+    ap (λ (ss : List Session). map kept (filter live ss)) (map-append F ns ms) ∙ ap (map kept) (filter-append live (map F ns) (map F ms)) ∙ map-append kept (filter live (map F ns)) (filter live (map F ms))
+
+-- a step of each
+abbrev each_step : Config → Entry → List Kept → List Kept
+each_step config e ks = filter (λ (k : Kept). is_live k.stage) (map (λ (k : Kept). kept_step config k e) ks)
+
+steps_append : (config : Config) (e : Entry) (ks ls : List Kept) → each_step config e (ks ++ ls) ≡ each_step config e ks ++ each_step config e ls
+steps_append config e ks ls =
+    let F : Kept → Kept = λ k. kept_step config k e in
+    let live : Kept → Bool = λ k. is_live k.stage in
+    ap (filter live) (map-append F ks ls) ∙ filter-append live (map F ks) (map F ls)
+
+-- what isn't live and isn't opened stays so
+dead_next : (stage : Stage) (b : Bool) → is_live stage ≡ false → is_live (cond b (stage_after stage) stage) ≡ false
+dead_next Unopened true h = refl
+dead_next Unopened false h = refl
+dead_next Live b h = cc
+dead_next Closed true h = refl
+dead_next Closed false h = refl
+
+dead_step : (config : Config) (s : Session) (e : Entry) → opens_by s.number e.kind ≡ false → is_live s.stage ≡ false → is_live (step config s e).stage ≡ false
+dead_step config s e o h =
+    let n : Next s e.kind (step config s e) = step_by_next config e.place e.moment s e.kind in
+    ap is_live (n.stage ∙ cond-false (opens_by s.number e.kind) _ (cond (closes_by s.number e.kind) (stage_after s.stage) s.stage) o) ∙ dead_next s.stage (closes_by s.number e.kind) h
+
+one_step : (config : Config) (s : Session) (e : Entry) (ks : List Kept) → StepsAlike config s e → (is_live s.stage ≡ false → is_live (step config s e).stage ≡ false) →
+    one_kept (step config s e) (each_step config e ks) ≡ each_step config e (one_kept s ks)
+one_step config s e ks a dead =
+    let u : Session = step config s e in
+    either (is_live s.stage) (one_kept (step config s e) (each_step config e ks) ≡ each_step config e (one_kept s ks))
+    (λ h. ap (λ (k : Kept). cond (is_live k.stage) (k ∷ each_step config e ks) (each_step config e ks)) a.state ∙ sym (ap (each_step config e) (cond-true (is_live s.stage) (kept s ∷ ks) ks h)))
+    (λ h. cond-false (is_live u.stage) (kept u ∷ each_step config e ks) (each_step config e ks) (dead h) ∙ sym (ap (each_step config e) (cond-false (is_live s.stage) (kept s ∷ ks) ks h)))
+
+-- ---- one element, in a shard
+
+abbrev pub EachNumber : (ℕ → Type 0) → List ℕ → Type 0
+EachNumber P [] = Unit {0}
+EachNumber P (n ∷ ns) = P n × EachNumber P ns
+
+each_number_filter : (P : ℕ → Type 0) (test : ℕ → Bool) (ns : List ℕ) → EachNumber P ns → EachNumber P (filter test ns)
+each_number_filter P test [] d = tt
+each_number_filter P test (n ∷ ns) d = cond_both (test n) (n ∷ filter test ns) (filter test ns) (EachNumber P) (λ h. (d.0, each_number_filter P test ns d.1)) (λ h. each_number_filter P test ns d.1)
+
+each_number_of : (P : ℕ → Type 0) (rs : List Registered) → EachSession (λ r. P r.number) rs → EachNumber P (numbers rs)
+each_number_of P [] d = tt
+each_number_of P (r ∷ rs) d = (d.0, each_number_of P rs d.1)
+
+pub numbers_below : (setup : Setup) (shard : ℕ) (xs : List Listed) → EachNumber (λ n. n < 1 + length (registry setup.config xs).sessions) (numbers_in setup shard xs)
+numbers_below setup shard xs =
+    let r : Registry = registry setup.config xs in
+    each_number_filter (λ n. n < 1 + length r.sessions) (λ n. stands_in setup shard n) (numbers r.sessions)
+    (each_number_of (λ n. n < 1 + length r.sessions) r.sessions (numbered_below 1 r.sessions (numbered setup.config xs)))
+
+pub run_number : (config : Config) (s : Session) (es : List Entry) → (fold (step config) s es).number ≡ s.number
+run_number config s [] = refl
+run_number config s (e ∷ es) = run_number config (step config s e) es ∙ (step_by_next config e.place e.moment s e.kind).number
+
+held_step : (config : Config) (ys : List Listed) (x : Listed) (ns : List ℕ) → 0 < config.limits.batch → EachNumber (λ n. n < 1 + length (registry config ys).sessions) ns → (a : Adds config (registry config ys) (judge config (registry config ys) x)) →
+    held_by config (entries_of (registry config (ys ++ x ∷ []))) ns ≡ each_step config a.found.entry (held_by config (entries_of (registry config ys)) ns)
+held_step config ys x [] room d a = refl
+held_step config ys x (n ∷ ns) room d a =
+    let es : List Entry = entries_of (registry config ys) in
+    let e : Entry = a.found.entry in
+    let s : Session = session config n (entries_of (registry config ys)) in
+    let after : List Entry = entries_of (registry config (ys ++ x ∷ [])) in
+    let own : opens_by (session config n (entries_of (registry config ys))).number a.found.entry.kind ≡ false = ap (λ (m : ℕ). opens_by m e.kind) (run_number config (unopened n) es) ∙ a.new n d.0 in
+    held_cons config after n ns
+    ∙ ap (λ (u : Session). one_kept u (held_by config after ns)) (session_next config n ys x a)
+    ∙ ap (one_kept (step config s e)) (held_step config ys x ns room d.1 a)
+    ∙ one_step config s e (held_by config es ns) (steps_alike config s e (all_in_step config (unopened n) es room (unopened_in_step config n))) (λ h. dead_step config s e own h)
+    ∙ sym (ap (each_step config e) (held_cons config es n ns))
+
+-- the session that the entry opens
+opening_step : (setup : Setup) (shard : ℕ) (ys : List Listed) (x : Listed) (k : Kind) → 0 < setup.config.limits.batch → (a : Adds setup.config (registry setup.config ys) (judge setup.config (registry setup.config ys) x)) → a.found.entry.kind ≡ k →
+    held_by setup.config (entries_of (registry setup.config (ys ++ x ∷ []))) (filter (λ (n : ℕ). stands_in setup shard n) (opened_numbers k)) ≡ each_step setup.config a.found.entry (opening_by setup shard k)
+opening_step setup shard ys x (Opened n ack) room a h =
+    let config : Config = setup.config in
+    let e : Entry = a.found.entry in
+    let es : List Entry = entries_of (registry setup.config ys) in
+    let after : List Entry = entries_of (registry setup.config (ys ++ x ∷ [])) in
+    let none : List Kept = [] in
+    let past : length (registry setup.config ys).sessions < n = opens_above setup.config (registry setup.config ys) (judge setup.config (registry setup.config ys) x) a n ack h in
+    let begin : session setup.config n (entries_of (registry setup.config ys)) ≡ unopened n = all_fresh setup.config ys n past in
+    let one : session setup.config n (entries_of (registry setup.config (ys ++ x ∷ []))) ≡ step setup.config (unopened n) a.found.entry = session_next setup.config n ys x a ∙ ap (λ (s : Session). step setup.config s a.found.entry) begin in
+    (elim (stands_in setup shard n) as (λ b. held_by setup.config (entries_of (registry setup.config (ys ++ x ∷ []))) (cond b (n ∷ []) []) ≡ each_step setup.config a.found.entry (cond b (kept (unopened n) ∷ []) [])) [
+      | true ↦ held_cons config after n [] ∙ ap (λ (s : Session). one_kept s none) one
+          ∙ ap (λ (k : Kept). cond (is_live k.stage) (k ∷ none) none) (steps_alike setup.config (unopened n) a.found.entry (unopened_in_step setup.config n)).state
+      | false ↦ refl
+    ])
+opening_step setup shard ys x (Connect n client id acked hold) room a h = refl
+opening_step setup shard ys x (Subscribe n ps) room a h = refl
+opening_step setup shard ys x (Unsubscribe n ps) room a h = refl
+opening_step setup shard ys x (Publish e) room a h = refl
+opening_step setup shard ys x (Disconnect n) room a h = refl
+opening_step setup shard ys x Refused room a h = refl
+opening_step setup shard ys x (Tick ns) room a h = refl
+
+shard_next : (setup : Setup) (shard : ℕ) (ys : List Listed) (x : Listed) → 0 < setup.config.limits.batch → (a : Adds setup.config (registry setup.config ys) (judge setup.config (registry setup.config ys) x)) →
+    held_over setup shard (ys ++ x ∷ []) ≡ each_step setup.config a.found.entry (held_over setup shard ys ++ opening_by setup shard a.found.entry.kind)
+shard_next setup shard ys x room a =
+    let config : Config = setup.config in
+    let r : Registry = registry setup.config ys in
+    let e : Entry = a.found.entry in
+    let after : List Entry = entries_of (registry setup.config (ys ++ x ∷ [])) in
+    let here : ℕ → Bool = λ n. stands_in setup shard n in
+    let ns : List ℕ = numbers r.sessions in
+    let ms : List ℕ = opened_numbers e.kind in
+    let nums : numbers (registry setup.config (ys ++ x ∷ [])).sessions ≡ numbers (registry setup.config ys).sessions ++ opened_numbers a.found.entry.kind = ap (λ (t : Registry). numbers t.sessions) (next_is config ys x) ∙ a.sessions in
+    ap (λ (ks : List ℕ). held_by config after (filter here ks)) nums
+    ∙ ap (held_by config after) (filter-append here ns ms)
+    ∙ held_append config after (filter here ns) (filter here ms)
+    ∙ ap (λ (ks : List Kept). ks ++ held_by config after (filter here ms)) (held_step config ys x (filter here ns) room (numbers_below setup shard ys) a)
+    ∙ ap (λ (ks : List Kept). each_step config e (held_by config (entries_of r) (filter here ns)) ++ ks) (opening_step setup shard ys x e.kind room a refl)
+    ∙ sym (steps_append config e (held_by config (entries_of r) (filter here ns)) (opening_by setup shard e.kind))
+
+-- ---- the law
+
+pub shards_step : ShardsStep
+shards_step setup list taken shard n e room there =
+    let m : Met setup.config list n e = met setup.config list n e there in
+    held_at setup list taken shard (n + 1)
+    ∙ ap (held_over setup shard) m.next
+    ∙ shard_next setup shard (take n list) m.element room m.adds
+    ∙ ap (λ (x : Entry). each_step setup.config x (held_over setup shard (take n list) ++ opening_by setup shard x.kind)) m.same
+    ∙ ap (stepped setup shard e) (sym (held_at setup list taken shard n))

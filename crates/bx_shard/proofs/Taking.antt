@@ -1,0 +1,202 @@
+-- What shards hold once the answer to a connect was taken from one of them.
+use Rattle.std.proofs.Common.{◌≡◌, ℕ, ◌<◌, Bool, true, false, ◌||◌, is_some, Option, Some, None, List, [], ◌∷◌, ◌++◌, length, take, drop, map, filter, find, flat_map, option_map, slice_get, nat_eq, nat_lt, ◌==◌, not, refl, sym, ap, ◌∙◌, subst, arith, eqb-true, eq-eqb, ltb-true, ltb-false}
+use Rattle.std.proofs.lemmas.Bool.{both_ways, cond-true, cond-false, or_right}
+use Rattle.std.proofs.lemmas.List.{take-append-drop}
+use Rattle.std.proofs.lemmas.List.Folds.{find-append}
+use Rattle.std.specs.Option.{IsSome, option_or}
+use Rattle.bx_advice.specs.declared.config.Config.{Config}
+use Rattle.bx_entry.specs.declared.entry.Entry.{Entry}
+use Rattle.bx_entry.specs.Listing.{Listed}
+use Rattle.bx_entry.specs.Answers.{answer_of}
+use Rattle.bx_entry.specs.Registry.{Judged, PlaceSlot, Registered, Waiting, entries_of, registry}
+use Rattle.bx_entry.specs.Sessions.{Filed, Session, session}
+use Rattle.bx_laws.proofs.Lists.{find_each, find_true, judged_more}
+use Rattle.bx_laws.proofs.Moves.{either}
+use Rattle.bx_shard.specs.declared.connects.ConnectState.{ConnectState}
+use Rattle.bx_shard.specs.declared.connects.ConnectState.TheVariants as states
+use Rattle.bx_shard.specs.Connects.{filed_answer, taken_from}
+use Rattle.bx_shard.specs.Shards.{Setup, is_taken, sessions_in, shard_at, stands_in}
+use Rattle.bx_shard.specs.States.{IsSound, State, connect_in}
+use Rattle.bx_shard.specs.Held.{Holds, HoldsBeside, HoldsTaken, IsConnectOf, filed_with_place}
+use Rattle.bx_shard.proofs.Untaken.{find_untaken, found_kept}
+use Rattle.bx_shard.proofs.Waits.{WaitsAt, answered_waits}
+
+-- ---- which were taken
+
+taken_own : (taken : List ℕ) (place : ℕ) → is_taken (taken ++ place ∷ []) place ≡ true
+taken_own [] place = ap (λ (b : Bool). b || false) (eq-eqb place place refl)
+taken_own (t ∷ ts) place = or_right (t == place) (is_taken (ts ++ place ∷ []) place) (taken_own ts place)
+
+taken_other : (taken : List ℕ) (place p : ℕ) → nat_eq place p ≡ false → is_taken (taken ++ place ∷ []) p ≡ is_taken taken p
+taken_other [] place p h = ap (λ (b : Bool). b || false) h
+taken_other (t ∷ ts) place p h = ap (λ (b : Bool). (t == p) || b) (taken_other ts place p h)
+
+-- ---- what is found among the answers that weren't taken
+
+abbrev pub find_of : ℕ → List Filed → Option Filed
+find_of p fs = find (λ (f : Filed). f.connect == p) fs
+
+abbrev untaken : List ℕ → List Filed → List Filed
+untaken taken fs = filter (λ (f : Filed). not (is_taken taken f.connect)) fs
+
+pub none_taken : (taken : List ℕ) (p : ℕ) (fs : List Filed) → is_taken taken p ≡ true → find_of p (filter (λ (f : Filed). not (is_taken taken f.connect)) fs) ≡ None
+none_taken taken p fs h =
+    let P : Option Filed → Type 0 = λ o. find_of p (untaken taken fs) ≡ o → o ≡ None in
+    (elim (find_of p (untaken taken fs)) as P [ None ↦ λ e. refl | Some f ↦ λ e. absurd (both_ways (is_taken taken p) (found_kept taken p fs f e).1 h) ]) refl
+
+same_found : (taken : List ℕ) (place p : ℕ) (fs : List Filed) → nat_eq place p ≡ false →
+    find_of p (filter (λ (f : Filed). not (is_taken (taken ++ place ∷ []) f.connect)) fs) ≡ find_of p (filter (λ (f : Filed). not (is_taken taken f.connect)) fs)
+same_found taken place p fs h =
+    let more : List ℕ = taken ++ place ∷ [] in
+    let same : is_taken (taken ++ place ∷ []) p ≡ is_taken taken p = taken_other taken place p h in
+    either (is_taken taken p) (find_of p (untaken more fs) ≡ find_of p (untaken taken fs))
+    (λ t. none_taken more p fs (same ∙ t) ∙ sym (none_taken taken p fs t))
+    (λ u. find_untaken more p fs (same ∙ u) ∙ sym (find_untaken taken p fs u))
+
+-- ---- a connect whose answer is filed
+
+filed_below : (s : State) (place : ℕ) → IsSound s → IsSome (filed_answer (connect_in s place)) → place < s.place
+filed_below s place sound some = either (nat_lt place s.place) (place < s.place) (λ l. ltb-true place s.place l)
+    (λ l. let none : connect_in s place ≡ None = sound.fresh place (ltb-false place s.place l) in
+    let nothing : false ≡ true = sym (ap (λ (o : Option ConnectState). is_some (filed_answer o)) none) ∙ some in cc)
+
+gone_from : (o : Option ConnectState) → IsSome (filed_answer o) → taken_from o ≡ None
+gone_from None h = cc
+gone_from (Some (states.Held session deadline waker)) h = cc
+gone_from (Some (states.Filed place answer)) h = refl
+
+none_filed : (o : Option ConnectState) → IsSome (filed_answer o) → filed_with_place o ≡ None → ⊥
+none_filed None h e = cc
+none_filed (Some (states.Held session deadline waker)) h e = cc
+none_filed (Some (states.Filed place answer)) h e = cc
+
+-- ---- whose connect it is
+
+-- a session of the shard has an answer to the connect at this place
+record Found (setup : Setup) (shard p : ℕ) (es : List Entry) : Type 0 where
+  number : ℕ
+  stands : stands_in setup shard number ≡ true
+  answer : Filed
+  found : find_of p (session setup.config number es).answers ≡ Some answer
+
+found_in : (setup : Setup) (shard p : ℕ) (es : List Entry) (rs : List Registered) (f : Filed) →
+    find_of p (flat_map (λ (s : Session). s.answers) (map (λ (r : Registered). session setup.config r.number es) (filter (λ (r : Registered). stands_in setup shard r.number) rs))) ≡ Some f → Found setup shard p es
+found_in setup shard p es [] f e = cc
+found_in setup shard p es (r ∷ rs) f e =
+    let S : Registered → Session = λ q. session setup.config q.number es in
+    let rest : List Registered = filter (λ (q : Registered). stands_in setup shard q.number) rs in
+    let F : List Registered → Option Filed = λ qs. find_of p (flat_map (λ (s : Session). s.answers) (map S qs)) in
+    let mine : List Filed = (session setup.config r.number es).answers in
+    either (stands_in setup shard r.number) (Found setup shard p es)
+    (λ h.
+    let whole : option_or (find_of p mine) (F rest) ≡ Some f =
+    sym (find-append (λ (g : Filed). g.connect == p) mine (flat_map (λ (s : Session). s.answers) (map S rest))) ∙ sym (ap F (cond-true (stands_in setup shard r.number) (r ∷ rest) rest h)) ∙ e in
+    let P : Option Filed → Type 0 = λ o. find_of p mine ≡ o → option_or o (F rest) ≡ Some f → Found setup shard p es in
+    let at_none : P None = λ a b. found_in setup shard p es rs f b in
+    let at_some : (g : Filed) → P (Some g) = λ g a b. record { number = r.number; stands = h; answer = g; found = a } in
+    (elim (find_of p mine) as P [ None ↦ at_none | Some g ↦ at_some g ]) refl whole)
+    (λ h. found_in setup shard p es rs f (sym (ap F (cond-false (stands_in setup shard r.number) (r ∷ rest) rest h)) ∙ e))
+
+waits_over : (config : Config) (number p : ℕ) (xs : List Listed) (f : Filed) → find_of p (session config number (entries_of (registry config xs))).answers ≡ Some f → WaitsAt (registry config xs).judged number p
+waits_over config number p xs f e =
+    let test : Filed → Bool = λ g. g.connect == p in
+    let s : Session = session config number (entries_of (registry config xs)) in
+    subst (WaitsAt (registry config xs).judged number) (eqb-true f.connect p (find_true test s.answers f e))
+    (find_each (λ g. WaitsAt (registry config xs).judged number g.connect) test s.answers f e (answered_waits config number xs).answers)
+
+abbrev slot_of : Judged → PlaceSlot
+slot_of j = j.slot
+
+waits_later : (config : Config) (xs ys : List Listed) (number p : ℕ) → WaitsAt (registry config xs).judged number p → WaitsAt (registry config (xs ++ ys)).judged number p
+waits_later config xs ys number p w =
+    let P : Option Judged → Type 0 = λ o. slice_get (registry config xs).judged p ≡ o → option_map slot_of o ≡ Some (Waiting number) → WaitsAt (registry config (xs ++ ys)).judged number p in
+    (elim (slice_get (registry config xs).judged p) as P [ None ↦ λ a b. cc | Some j ↦ λ a b. ap (option_map slot_of) (judged_more config xs ys p j a) ∙ b ]) refl w
+
+-- an answer is filed for a connect of a session that stands in the shard
+pub connect_of_filed : (setup : Setup) (list : List Listed) (taken : List ℕ) (shard n p : ℕ) (f : Filed) → find_of p (shard_at setup list taken shard n).filed ≡ Some f → IsConnectOf setup list shard p
+connect_of_filed setup list taken shard n p f e =
+    let es : List Entry = entries_of (registry setup.config (take n list)) in
+    let d : Found setup shard p (entries_of (registry setup.config (take n list))) =
+    found_in setup shard p es (registry setup.config (take n list)).sessions f (found_kept taken p (flat_map (λ (s : Session). s.answers) (sessions_in setup list shard n)) f e).0 in
+    record {
+      session = d.number;
+      waits = subst (λ (xs : List Listed). WaitsAt (registry setup.config xs).judged d.number p) (take-append-drop n list)
+          (waits_later setup.config (take n list) (drop n list) d.number p (waits_over setup.config d.number p (take n list) d.answer d.found));
+      stands = d.stands;
+    }
+
+-- so it is of one shard alone
+one_shard : (setup : Setup) (list : List Listed) (a b p : ℕ) → IsConnectOf setup list a p → IsConnectOf setup list b p → a ≡ b
+one_shard setup list a b p c d =
+    let both : Some (Waiting c.session) ≡ Some (Waiting d.session) = sym c.waits ∙ d.waits in
+    let same : c.session ≡ d.session = cc in
+    sym (eqb-true (setup.placing c.session setup.shards) a c.stands) ∙ ap (λ (m : ℕ). setup.placing m setup.shards) same ∙ eqb-true (setup.placing d.session setup.shards) b d.stands
+
+connect_of_known : (setup : Setup) (list : List Listed) (taken : List ℕ) (shard n p : ℕ) (s : State) → Holds setup list taken shard n s → IsSome (filed_answer (connect_in s p)) → IsConnectOf setup list shard p
+connect_of_known setup list taken shard n p s h some =
+    let P : Option Filed → Type 0 = λ u. find_of p (shard_at setup list taken shard n).filed ≡ u → filed_with_place (connect_in s p) ≡ option_map answer_of u → IsConnectOf setup list shard p in
+    let at_none : P None = λ a b. absurd (none_filed (connect_in s p) some b) in
+    let at_some : (f : Filed) → P (Some f) = λ f a b. connect_of_filed setup list taken shard n p f a in
+    (elim (find_of p (shard_at setup list taken shard n).filed) as P [ None ↦ at_none | Some f ↦ at_some f ]) refl (h.filed p)
+
+-- ---- the shard from which it was taken
+
+pub holds_taken : HoldsTaken
+holds_taken setup list taken shard n place old new room h some took sound =
+    let more : List ℕ = taken ++ place ∷ [] in
+    let fs : List Filed = flat_map (λ (s : Session). s.answers) (sessions_in setup list shard n) in
+    let below : place < n = let l : place < old.place = filed_below old place h.sound some in omega (arith, l, h.place_is) in
+    let here : (p : ℕ) → nat_eq place p ≡ true → connect_in new p ≡ None =
+    λ p e. took.connects p ∙ cond-true (nat_eq place p) (taken_from (connect_in old place)) (connect_in old p) e ∙ gone_from (connect_in old place) some in
+    let there : (p : ℕ) → nat_eq place p ≡ false → connect_in new p ≡ connect_in old p =
+    λ p e. took.connects p ∙ cond-false (nat_eq place p) (taken_from (connect_in old place)) (connect_in old p) e in
+    record {
+      setup_is = took.setup_is ∙ h.setup_is;
+      index_is = took.index_is ∙ h.index_is;
+      place_is = took.place_is ∙ h.place_is;
+      within = h.within;
+      sound = sound;
+      sessions = λ m. took.sessions m ∙ h.sessions m;
+      filed = λ p. either (nat_eq place p) (filed_with_place (connect_in new p) ≡ option_map answer_of (find_of p (untaken more fs)))
+          (λ e. ap filed_with_place (here p e) ∙ sym (ap (option_map answer_of) (none_taken more p fs (subst (λ (q : ℕ). is_taken more q ≡ true) (eqb-true place p e) (taken_own taken place)))))
+          (λ e. ap filed_with_place (there p e) ∙ h.filed p ∙ sym (ap (option_map answer_of) (same_found taken place p fs e)));
+      known = λ p t. either (nat_eq place p) (p < length list)
+          (λ e. let same : place ≡ p = eqb-true place p e in omega (arith, same, below, h.within))
+          (λ e. h.known p (sym (taken_other taken place p e) ∙ t));
+      gone = λ p t c. either (nat_eq place p) ((p < n) × (connect_in new p ≡ None))
+          (λ e. let same : place ≡ p = eqb-true place p e in (omega (arith, same, below), here p e))
+          (λ e. let g = h.gone p (sym (taken_other taken place p e) ∙ t) c in (g.0, there p e ∙ g.1));
+    }
+
+-- ---- the others
+
+pub holds_beside : HoldsBeside
+holds_beside setup list taken shard n place s other m beside room h some apart g =
+    let more : List ℕ = taken ++ place ∷ [] in
+    let fs : List Filed = flat_map (λ (s : Session). s.answers) (sessions_in setup list other m) in
+    let below : place < length list = let l : place < s.place = filed_below s place h.sound some in omega (arith, l, h.place_is, h.within) in
+    let mine : IsConnectOf setup list shard place = connect_of_known setup list taken shard n place s h some in
+    let foreign : IsConnectOf setup list other place → ⊥ = λ c. apart (one_shard setup list other shard place c mine) in
+    let P : Option Filed → Type 0 = λ o. find_of place (shard_at setup list taken other m).filed ≡ o → o ≡ None in
+    let at_some : (f : Filed) → P (Some f) = λ f e. absurd (foreign (connect_of_filed setup list taken other m place f e)) in
+    let none : find_of place (shard_at setup list taken other m).filed ≡ None =
+    (elim (find_of place (shard_at setup list taken other m).filed) as P [ None ↦ λ e. refl | Some f ↦ at_some f ]) refl in
+    let at_place : filed_with_place (connect_in beside place) ≡ option_map answer_of (find_of place (untaken more fs)) =
+    g.filed place ∙ ap (option_map answer_of) (none ∙ sym (none_taken more place fs (taken_own taken place))) in
+    record {
+      setup_is = g.setup_is;
+      index_is = g.index_is;
+      place_is = g.place_is;
+      within = g.within;
+      sound = g.sound;
+      sessions = g.sessions;
+      filed = λ p. either (nat_eq place p) (filed_with_place (connect_in beside p) ≡ option_map answer_of (find_of p (untaken more fs)))
+          (λ e. subst (λ (q : ℕ). filed_with_place (connect_in beside q) ≡ option_map answer_of (find_of q (untaken more fs))) (eqb-true place p e) at_place)
+          (λ e. g.filed p ∙ sym (ap (option_map answer_of) (same_found taken place p fs e)));
+      known = λ p t. either (nat_eq place p) (p < length list)
+          (λ e. let same : place ≡ p = eqb-true place p e in omega (arith, same, below))
+          (λ e. g.known p (sym (taken_other taken place p e) ∙ t));
+      gone = λ p t c. either (nat_eq place p) ((p < m) × (connect_in beside p ≡ None))
+          (λ e. absurd (foreign (subst (IsConnectOf setup list other) (sym (eqb-true place p e)) c)))
+          (λ e. g.gone p (sym (taken_other taken place p e) ∙ t) c);
+    }

@@ -1,0 +1,100 @@
+-- A session answers a connect only where the connect's slot waits for it.
+use Rattle.std.proofs.Common.{◌≡◌, ℕ, max, Option, Some, None, List, [], ◌∷◌, ◌++◌, length, map, fold, option_map, slice_get, refl, sym, ap, ◌∙◌, subst, eqb-true, append_assoc}
+use Rattle.std.proofs.lemmas.List.{length_push}
+use Rattle.bx_advice.specs.declared.config.Config.{Config}
+use Rattle.bx_advice.specs.declared.error.Error.{Error}
+use Rattle.bx_message.specs.declared.column.Column.{Column}
+use Rattle.bx_entry.specs.Listing.{Listed, Post, Posted}
+use Rattle.bx_message.specs.Columns.{column_of}
+use Rattle.bx_entry.specs.Listing as messages
+use Rattle.bx_entry.specs.declared.entry.Entry.{Entry}
+use Rattle.bx_entry.specs.declared.entry.Kind.{Kind}
+use Rattle.bx_entry.specs.declared.entry.Kind.TheVariants.{Opened, Connect, Subscribe, Unsubscribe, Publish, Disconnect, Refused}
+use Rattle.bx_entry.specs.declared.entry.Kind.TheVariants as entries
+use Rattle.bx_entry.specs.Registry.{Registry, Registered, Judged, PlaceSlot, Waiting, judge, judged_by, kind_for, slot_for, named_by, refusal, hold_of, registry, empty_registry, entries_of}
+use Rattle.bx_entry.specs.Sessions.{session, unopened}
+use Rattle.bx_laws.specs.Laws.{PlacesFrom}
+use Rattle.bx_laws.proofs.Runs.{EachEntry}
+use Rattle.bx_laws.proofs.Places.{Only, Allowed, run_only, only_unopened}
+use Rattle.bx_laws.proofs.Lists.{entries_in_order}
+
+abbrev WaitsBy : PlaceSlot → Kind → Type 0
+WaitsBy slot (Opened n ack) = Unit {0}
+WaitsBy slot (Connect n client id acked hold) = slot ≡ Waiting n
+WaitsBy slot (Subscribe n ps) = Unit {0}
+WaitsBy slot (Unsubscribe n ps) = Unit {0}
+WaitsBy slot (Publish e) = Unit {0}
+WaitsBy slot (Disconnect n) = Unit {0}
+WaitsBy slot Refused = Unit {0}
+WaitsBy slot (entries.Tick numbers) = Unit {0}
+
+abbrev EachWaits : List Judged → Type 0
+EachWaits [] = Unit {0}
+EachWaits (j ∷ js) = WaitsBy j.slot j.entry.kind × EachWaits js
+
+waits_push : (js : List Judged) (j : Judged) → EachWaits js → WaitsBy j.slot j.entry.kind → EachWaits (js ++ j ∷ [])
+waits_push [] j d h = (h, tt)
+waits_push (i ∷ js) j d h = (d.0, waits_push js j d.1 h)
+
+served_waits : (config : Config) (c : Column) (p : Posted) (s : Registered) (hold : ℕ) → WaitsBy (slot_for config c p s) (kind_for c p s hold)
+served_waits config Column.Handshake p s hold = tt
+served_waits config Column.Connect p s hold = refl
+served_waits config Column.Subscribe p s hold = tt
+served_waits config Column.Unsubscribe p s hold = tt
+served_waits config Column.Disconnect p s hold = tt
+served_waits config Column.Publish p s hold = tt
+served_waits config Column.UnknownMeta p s hold = tt
+
+judged_by_waits : (config : Config) (r : Registry) (moment : ℕ) (p : Posted) (sender : Option Registered) (error : Option Error) → EachWaits r.judged → EachWaits (judged_by config r moment p sender error).judged
+judged_by_waits config r moment p sender (Some error) d = waits_push r.judged _ d tt
+judged_by_waits config r moment p None None d = waits_push r.judged _ d tt
+judged_by_waits config r moment p (Some s) None d = waits_push r.judged _ d (served_waits config (column_of p.message.channel) p s (hold_of config p))
+
+judge_waits : (config : Config) (r : Registry) (x : Listed) → EachWaits r.judged → EachWaits (judge config r x).judged
+judge_waits config r (Post p) d = judged_by_waits config r (max r.clock p.moment) p (named_by r.sessions (column_of p.message.channel) p.message) (refusal config r.sessions p) d
+judge_waits config r (messages.Tick moment) d = waits_push r.judged _ d tt
+
+run_waits : (config : Config) (r : Registry) (xs : List Listed) → EachWaits r.judged → EachWaits (fold (judge config) r xs).judged
+run_waits config r [] d = d
+run_waits config r (x ∷ xs) d = run_waits config (judge config r x) xs (judge_waits config r x d)
+
+-- the slot at this place waits for the session
+abbrev pub WaitsAt : List Judged → ℕ → ℕ → Type 0
+WaitsAt js number place = option_map (λ (j : Judged). j.slot) (slice_get js place) ≡ Some (Waiting number)
+
+allowed_by : (P : ℕ → Type 0) (number place : ℕ) (slot : PlaceSlot) (k : Kind) → WaitsBy slot k → (slot ≡ Waiting number → P place) → Allowed P number place k
+allowed_by P number place slot (Opened n ack) w h = tt
+allowed_by P number place slot (Connect n client id acked hold) w h = λ e. h (w ∙ ap Waiting (eqb-true n number e))
+allowed_by P number place slot (Subscribe n ps) w h = tt
+allowed_by P number place slot (Unsubscribe n ps) w h = tt
+allowed_by P number place slot (Publish e) w h = tt
+allowed_by P number place slot (Disconnect n) w h = tt
+allowed_by P number place slot Refused w h = tt
+allowed_by P number place slot (entries.Tick numbers) w h = tt
+
+entry_of : Judged → Entry
+entry_of j = j.entry
+
+got_here : (front rest : List Judged) (j : Judged) → slice_get (front ++ j ∷ rest) (length front) ≡ Some j
+got_here [] rest j = refl
+got_here (i ∷ front) rest j = got_here front rest j
+
+waits_here : (number : ℕ) (front rest : List Judged) (j : Judged) → j.entry.place ≡ length front → j.slot ≡ Waiting number → WaitsAt (front ++ j ∷ rest) number j.entry.place
+waits_here number front rest j p w = ap (λ (k : ℕ). option_map (λ (i : Judged). i.slot) (slice_get (front ++ j ∷ rest) k)) p ∙ ap (option_map (λ (i : Judged). i.slot)) (got_here front rest j) ∙ ap Some w
+
+allowed_from : (number : ℕ) (front rest : List Judged) → EachWaits rest → PlacesFrom (length front) (map (λ (j : Judged). j.entry) rest) →
+    EachEntry (λ e. Allowed (WaitsAt (front ++ rest) number) number e.place e.kind) (map (λ (j : Judged). j.entry) rest)
+allowed_from number front [] w d = tt
+allowed_from number front (j ∷ rest) w d =
+    let whole : (front ++ j ∷ []) ++ rest ≡ front ++ j ∷ rest = append_assoc front (j ∷ []) rest in
+    let next : PlacesFrom (length (front ++ j ∷ [])) (map (λ (i : Judged). i.entry) rest) = subst (λ (k : ℕ). PlacesFrom k (map (λ (i : Judged). i.entry) rest)) (sym (length_push front j)) d.1 in (
+      allowed_by (WaitsAt (front ++ j ∷ rest) number) number j.entry.place j.slot j.entry.kind w.0 (waits_here number front rest j d.0),
+      subst (λ (js : List Judged). EachEntry (λ e. Allowed (WaitsAt js number) number e.place e.kind) (map (λ (i : Judged). i.entry) rest)) whole (allowed_from number (front ++ j ∷ []) rest w.1 next),
+    )
+
+-- each connect that the session answered has a slot that waits for it
+pub answered_waits : (config : Config) (number : ℕ) (xs : List Listed) → Only (WaitsAt (registry config xs).judged number) (session config number (entries_of (registry config xs)))
+answered_waits config number xs =
+    let r : Registry = registry config xs in
+    run_only config (WaitsAt r.judged number) number (unopened number) (entries_of r) refl
+    (allowed_from number [] r.judged (run_waits config empty_registry xs tt) (entries_in_order config xs)) (only_unopened (WaitsAt r.judged number) number)

@@ -1,0 +1,25 @@
+use Rattle.std.proofs.Common.{◌<◌, ℕ, Some, IfNone, sym, ◌∙◌, true≢false, subst}
+use Rattle.bx_shard.specs.Connects.{IsHeldUntil}
+use Rattle.bx_shard.proofs.NotedLemmas.{is_itself, is_such, earlier_or_later}
+use Rattle.bx_shard.proofs.connects.Connects.first_due.Goals as goal
+
+pub returns-in_err-session-clause-none : goal.returns-in_err-session-clause-none
+returns-in_err-session-clause-none c =
+    subst (λ o. IfNone o ((place session deadline : ℕ) → IsHeldUntil c.args.self.now place session (Some deadline) → c.args.moment < deadline)) (sym c.from_residual.ensures)
+    (λ place session deadline held.
+    earlier_or_later c.args.moment deadline
+    (λ early. absurd (true≢false (
+    sym (is_itself c.self.inside.by_place.entries place session deadline (subst (λ es. IsHeldUntil es place session (Some deadline)) (sym c.self.view_is) held))
+    ∙ sym (c.self.invariant place session deadline) ∙ c.in_err-session.ensures.none (deadline, place, session) early))))
+
+pub returns-clause-due : goal.returns-clause-due
+returns-clause-due c =
+    let place = c.in_ok-session.field-0-1 in
+    let deadline = c.in_ok-session.field-0-0 in
+    let session = c.in_ok-session.session in
+    record {
+      place = place;
+      deadline = deadline;
+      held = subst (λ es. IsHeldUntil es place session (Some deadline)) c.self.view_is (is_such c.self.inside.by_place.entries place session deadline (sym (c.self.invariant place session deadline) ∙ c.in_ok-session.ensures.noted));
+      due = c.in_ok-session.ensures.due;
+    }

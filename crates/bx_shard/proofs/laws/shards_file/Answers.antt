@@ -1,0 +1,5 @@
+use Rattle.bx_shard.proofs.Filing.{shards_file}
+use Rattle.bx_shard.proofs.laws.shards_file.Goals as goal
+
+pub returns : goal.returns
+returns c = shards_file

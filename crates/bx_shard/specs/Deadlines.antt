@@ -1,0 +1,32 @@
+-- The holds of a shard by their deadlines.
+use Rattle.std.specs.Prelude.{ℕ, ◌≡◌, nat_eq, ◌&&◌, Bool, false, List, Option, Some, None}
+use Rattle.std.specs.Ordering.{nat_cmp, ordering_then}
+use Rattle.std.specs.declared.cmp.Ordering.{Ordering}
+use Rattle.std.specs.BTreeSet.{contains}
+use Rattle.bx_shard.specs.declared.deadlines.Deadlines.{Deadlines}
+use Rattle.bx_shard.specs.declared.connects.ConnectState.{ConnectState}
+use Rattle.bx_shard.specs.declared.connects.ConnectState.TheVariants.{Held, Filed}
+use Rattle.bx_shard.specs.Connects.{connect_at}
+
+-- A hold: the moment at which it ends, the place of its connect, and the number of its session. An earlier deadline comes first.
+abbrev pub hold_cmp : ℕ × ℕ × ℕ → ℕ × ℕ × ℕ → Ordering
+hold_cmp x y = ordering_then (ordering_then (nat_cmp x.0 y.0) (nat_cmp x.1 y.1)) (nat_cmp x.2 y.2)
+
+-- whether two holds are one
+abbrev pub same_hold : ℕ × ℕ × ℕ → ℕ × ℕ × ℕ → Bool
+same_hold x y = nat_eq x.0 y.0 && nat_eq x.1 y.1 && nat_eq x.2 y.2
+
+-- whether a hold is noted
+abbrev pub is_noted : Deadlines → ℕ × ℕ × ℕ → Bool
+is_noted deadlines hold = contains hold_cmp deadlines.holds hold
+
+-- whether a connect is held by this session until this moment
+abbrev pub is_held_until : Option ConnectState → ℕ → ℕ → Bool
+is_held_until None session deadline = false
+is_held_until (Some (Held s None waker)) session deadline = false
+is_held_until (Some (Held s (Some d) waker)) session deadline = nat_eq d deadline && nat_eq s session
+is_held_until (Some (Filed place answer)) session deadline = false
+
+-- the holds that have a deadline are noted, and no others
+abbrev pub AreNoted : List (ℕ × ConnectState) → Deadlines → Type 0
+AreNoted connects deadlines = (place session deadline : ℕ) → is_noted deadlines (deadline, place, session) ≡ is_held_until (connect_at connects place) session deadline

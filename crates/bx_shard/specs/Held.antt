@@ -1,0 +1,83 @@
+-- The program's shard holds what the definition's shard holds.
+use Rattle.std.specs.Prelude.{ℕ, ◌+◌, ◌<◌, ◌≤◌, ◌==◌, ◌≡◌, ◌≢◌, length, true, List, [], ◌∷◌, ◌++◌, find, slice_get, nat_eq, if◌then◌else◌, Option, Some, None, option_map, IsSome}
+use Rattle.bx_entry.specs.Listing.{Listed}
+use Rattle.bx_entry.specs.Answers.{PlacedAnswer, answer_of}
+use Rattle.bx_entry.specs.Keeping.{Kept}
+use Rattle.bx_entry.specs.Registry.{Judged, Waiting, entries, registry}
+use Rattle.bx_entry.specs.Sessions.{Filed}
+use Rattle.bx_entry.specs.declared.entry.Entry.{Entry}
+use Rattle.bx_message.specs.declared.reply.Answer.{Answer}
+use Rattle.bx_shard.specs.declared.connects.ConnectState.{ConnectState}
+use Rattle.bx_shard.specs.declared.connects.ConnectState.TheVariants as states
+use Rattle.bx_shard.specs.Connects.{filed_answer, taken_from}
+use Rattle.bx_shard.specs.Shards.{Setup, is_taken, shard_at, stands_in}
+use Rattle.bx_shard.specs.States.{Applied, IsAsBefore, IsSound, State, connect_in, session_in}
+use Rattle.bx_shard.specs.Subscribers.{subscriber_of}
+
+-- an answer with the place of the entry that gave it
+abbrev pub placed : ℕ → Answer → PlacedAnswer
+placed place a = record { place = place; events = a.events; reply = a.reply }
+
+-- the answer to a connect with that place, where it is filed
+abbrev pub filed_with_place : Option ConnectState → Option PlacedAnswer
+filed_with_place None = None
+filed_with_place (Some (states.Held session deadline waker)) = None
+filed_with_place (Some (states.Filed place answer)) = Some (placed place answer)
+
+-- the message at a place of the list is an accepted connect of a session that stands in the shard
+pub record IsConnectOf (setup : Setup) (list : List Listed) (shard place : ℕ) : Type 0 where
+  pub session : ℕ
+  pub waits : option_map (λ (j : Judged). j.slot) (slice_get (registry setup.config list).judged place) ≡ Some (Waiting session)
+  pub stands : stands_in setup shard session ≡ true
+
+-- What the program's shard holds is what the definition's shard holds after the first n entries, when the answers at `taken` were taken. What was
+-- taken stands in the list, and of a connect of the shard whose answer was taken nothing is known any longer.
+pub record Holds (setup : Setup) (list : List Listed) (taken : List ℕ) (shard n : ℕ) (s : State) : Type 0 where
+  pub setup_is : s.setup ≡ setup
+  pub index_is : s.index ≡ shard
+  pub place_is : s.place ≡ n
+  pub within : n ≤ length list
+  pub sound : IsSound s
+  pub sessions : (m : ℕ) → session_in s m ≡ option_map (subscriber_of setup.config) (find (λ (k : Kept). k.number == m) (shard_at setup list taken shard n).sessions)
+  pub filed : (p : ℕ) → filed_with_place (connect_in s p) ≡ option_map answer_of (find (λ (f : Filed). f.connect == p) (shard_at setup list taken shard n).filed)
+  pub known : (p : ℕ) → is_taken taken p ≡ true → p < length list
+  pub gone : (p : ℕ) → is_taken taken p ≡ true → IsConnectOf setup list shard p → (p < n) × (connect_in s p ≡ None)
+
+-- so it is of a shard that has applied nothing yet
+abbrev pub HoldsAtFirst : Type 0
+HoldsAtFirst = (setup : Setup) (shard : ℕ) (s : State) → s.setup ≡ setup → s.index ≡ shard → s.place ≡ 0 → IsSound s →
+    ((m : ℕ) → session_in s m ≡ None) → ((p : ℕ) → connect_in s p ≡ None) → Holds setup [] [] shard 0 s
+
+-- after one more entry of the list, where the shard has applied it
+abbrev pub HoldsOnwards : Type 0
+HoldsOnwards = (setup : Setup) (list : List Listed) (taken : List ℕ) (shard n : ℕ) (e : Entry) (old new : State) → 0 < setup.config.limits.batch →
+    slice_get (entries setup.config list) n ≡ Some e → Holds setup list taken shard n old → Applied old e new → IsSound new → Holds setup list taken shard (n + 1) new
+
+-- after a call that left it as it was
+abbrev pub HoldsStill : Type 0
+HoldsStill = (setup : Setup) (list : List Listed) (taken : List ℕ) (shard n : ℕ) (old new : State) →
+    Holds setup list taken shard n old → IsAsBefore old new → IsSound new → Holds setup list taken shard n new
+
+-- over every longer list
+abbrev pub HoldsLonger : Type 0
+HoldsLonger = (setup : Setup) (list more : List Listed) (taken : List ℕ) (shard n : ℕ) (s : State) → Holds setup list taken shard n s → Holds setup (list ++ more) taken shard n s
+
+-- the shard after the answer to the connect at this place was taken, where it was filed
+pub record Took (place : ℕ) (old new : State) : Type 0 where
+  pub place_is : new.place ≡ old.place
+  pub setup_is : new.setup ≡ old.setup
+  pub index_is : new.index ≡ old.index
+  pub shut_is : new.shut ≡ old.shut
+  pub sessions : (n : ℕ) → session_in new n ≡ session_in old n
+  pub connects : (p : ℕ) → connect_in new p ≡ (if nat_eq place p then taken_from (connect_in old place) else connect_in old p)
+
+-- after an answer was taken
+abbrev pub HoldsTaken : Type 0
+HoldsTaken = (setup : Setup) (list : List Listed) (taken : List ℕ) (shard n place : ℕ) (old new : State) → 0 < setup.config.limits.batch →
+    Holds setup list taken shard n old → IsSome (filed_answer (connect_in old place)) → Took place old new → IsSound new → Holds setup list (taken ++ place ∷ []) shard n new
+
+-- and after one was taken from another shard
+abbrev pub HoldsBeside : Type 0
+HoldsBeside = (setup : Setup) (list : List Listed) (taken : List ℕ) (shard n place : ℕ) (s : State) (other m : ℕ) (beside : State) → 0 < setup.config.limits.batch →
+    Holds setup list taken shard n s → IsSome (filed_answer (connect_in s place)) → other ≢ shard → Holds setup list taken other m beside →
+    Holds setup list (taken ++ place ∷ []) other m beside

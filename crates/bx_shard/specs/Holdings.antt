@@ -1,0 +1,31 @@
+-- What holds of the sessions that a shard holds.
+use Rattle.std.specs.Prelude.{ℕ, ◌<◌, ◌≡◌, Bool, List, map, slice_get, Some}
+use Rattle.std.specs.List.{All}
+use Rattle.std.specs.List.Sorted.{IsStrictlyIncreasing}
+use Rattle.bx_advice.specs.declared.config.Config.{Config}
+use Rattle.bx_entry.specs.Listing.{Listed}
+use Rattle.bx_entry.specs.declared.entry.Entry.{Entry}
+use Rattle.bx_entry.specs.declared.entry.Kind.TheVariants.{Opened}
+use Rattle.bx_entry.specs.Registry.{entries}
+use Rattle.bx_entry.specs.Sessions.{Live}
+use Rattle.bx_entry.specs.Keeping.{Kept}
+use Rattle.bx_session.specs.Reaching.{Reached}
+use Rattle.bx_shard.specs.Shards.{Setup, shard_at}
+
+-- the session is live, and its calls can be made at this place
+pub record ReachedLive (config : Config) (place : ℕ) (k : Kept) : Type 0 where
+  pub reached : Reached config place k
+  pub live : k.stage ≡ Live
+
+-- so it is of every session that a shard holds, whatever number of entries it has applied
+abbrev pub HoldsReached : Type 0
+HoldsReached = (setup : Setup) (list : List Listed) (taken : List ℕ) (shard n : ℕ) → 0 < setup.config.limits.batch → All (ReachedLive setup.config n) (shard_at setup list taken shard n).sessions
+
+-- each number is below the next, so no two sessions have the same
+abbrev pub NumbersAscend : Type 0
+NumbersAscend = (setup : Setup) (list : List Listed) (taken : List ℕ) (shard n : ℕ) → IsStrictlyIncreasing (map (λ (k : Kept). k.number) (shard_at setup list taken shard n).sessions)
+
+-- an accepted handshake opens a session whose number is above those that any shard holds before it
+abbrev pub OpenedIsFresh : Type 0
+OpenedIsFresh = (setup : Setup) (list : List Listed) (taken : List ℕ) (shard m number : ℕ) (ack : Bool) (e : Entry) → slice_get (entries setup.config list) m ≡ Some e → e.kind ≡ Opened number ack →
+    All (λ (k : Kept). k.number < number) (shard_at setup list taken shard m).sessions

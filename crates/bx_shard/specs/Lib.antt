@@ -1,0 +1,13 @@
+pub mod Connects
+pub mod Deadlines
+pub mod Effects
+pub mod Following
+pub mod Held
+pub mod Holdings
+pub mod Publishing
+pub mod Seen
+pub mod Sessions
+pub mod Shards
+pub mod States
+pub mod Steps
+pub mod Subscribers

@@ -1,0 +1,70 @@
+//! Each kind of entry, as the sessions of a shard follow it.
+ghost use Rattle.std.specs.Prelude.{◌≡◌, ◌≤◌, ◌<◌, ℕ, true, None, OnOk, OnErr, IsOk};
+ghost use Rattle.bx_shard.specs.Connects.{connect_at};
+ghost use Rattle.bx_shard.specs.Following.{Followed};
+ghost use Rattle.bx_shard.specs.Sessions.{AreCountable, AreCounted, AreHeld, subscriber_in};
+ghost use Rattle.bx_shard.specs.States.{takes_no_memory};
+
+use crate::sessions::Sessions;
+use bx_entry::{Entry, Kind};
+use bx_session::PendingConnect;
+use std::alloc::{AllocError, Global};
+
+impl Sessions {
+    /// Does what an entry says; `stands` tells whether a session that it opens stands here. Where memory is refused
+    /// nothing changes that can be seen.
+    pub(crate) fn follow(
+        &mut self,
+        alloc: Global,
+        entry: &Entry,
+        stands: bool,
+    ) -> Result<(), AllocError>
+        requires fresh { connect_at self.old.connects entry.now.place ≡ None }
+        requires counted { AreCounted self.old }
+        requires held { AreHeld self.old }
+        requires countable { AreCountable self.old }
+        ensures done { OnOk result (Followed stands entry.now self.old self.new) }
+        ensures refused { OnErr result (((n : ℕ) → subscriber_in self.new n ≡ subscriber_in self.old n)
+            × ((p : ℕ) → connect_at self.new.connects p ≡ connect_at self.old.connects p)) }
+        ensures free { takes_no_memory entry.now.kind ≡ true → IsOk result }
+        ensures counted { AreCounted self.new }
+        ensures held { AreHeld self.new }
+        ensures config { self.new.config ≡ self.old.config }
+    {
+        match &entry.kind {
+            Kind::Opened { session, ack } => {
+                if stands && !self.has(*session) {
+                    self.open(alloc, *session, *ack)?;
+                }
+            }
+            Kind::Connect {
+                session,
+                client,
+                id,
+                acked,
+                hold,
+            } => {
+                if self.has(*session) {
+                    let (place, moment) = (entry.place, entry.moment);
+                    let id = id.as_ref();
+                    let connect = PendingConnect::new(alloc, place, client, id, moment, *hold)?;
+                    self.connect(alloc, *session, connect, *acked)?;
+                }
+            }
+            Kind::Subscribe { session, patterns } => {
+                self.subscribe(alloc, *session, patterns.as_slice())?;
+            }
+            Kind::Unsubscribe { session, patterns } => {
+                self.unsubscribe(*session, patterns.as_slice());
+            }
+            Kind::Publish(event) => self.publish(alloc, entry.place, event)?,
+            Kind::Disconnect { session } => self.disconnect(entry.place, *session),
+            Kind::Refused => {}
+            Kind::Tick(numbers) => {
+                self.end_holds(entry.place, entry.moment);
+                self.close_all(numbers.as_slice());
+            }
+        }
+        Ok(())
+    }
+}

@@ -1,0 +1,59 @@
+//! Laws of what a shard holds, for every configuration, every placing and every list.
+ghost use Rattle.bx_shard.specs.Held.{HoldsAtFirst, HoldsBeside, HoldsLonger, HoldsOnwards, HoldsStill, HoldsTaken};
+ghost use Rattle.bx_shard.specs.Holdings.{HoldsReached, NumbersAscend, OpenedIsFresh};
+ghost use Rattle.bx_shard.specs.Steps.{ShardsFile, ShardsStep};
+
+/// The live sessions of a shard after one more entry come of those before it and of that entry alone.
+pub fn shards_step()
+    ensures { ShardsStep }
+{}
+
+/// An answer that wasn't taken is filed after one more entry where it was before, or where a live session of the shard gives it.
+pub fn shards_file()
+    ensures { ShardsFile }
+{}
+
+/// Every session that a shard holds is live, and its calls can be made at the place that comes next.
+pub fn sessions_are_reached()
+    ensures { HoldsReached }
+{}
+
+/// The sessions of a shard stand in the order of their numbers, each number once.
+pub fn sessions_ascend()
+    ensures { NumbersAscend }
+{}
+
+/// A session is opened under a number above those of all sessions that any shard holds then.
+pub fn opened_is_fresh()
+    ensures { OpenedIsFresh }
+{}
+
+/// A shard that has applied nothing holds what the definition's shard holds at first.
+pub fn holds_at_first()
+    ensures { HoldsAtFirst }
+{}
+
+/// A call that left a shard as it was leaves what it holds.
+pub fn holds_still()
+    ensures { HoldsStill }
+{}
+
+/// What a shard holds, it holds over every longer list.
+pub fn holds_longer()
+    ensures { HoldsLonger }
+{}
+
+/// A shard that has applied an entry of the list holds what the definition's shard holds after it.
+pub fn holds_onwards()
+    ensures { HoldsOnwards }
+{}
+
+/// A shard from which an answer was taken holds what the definition's shard holds then.
+pub fn holds_taken()
+    ensures { HoldsTaken }
+{}
+
+/// So does each other shard.
+pub fn holds_beside()
+    ensures { HoldsBeside }
+{}

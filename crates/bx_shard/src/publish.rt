@@ -1,0 +1,138 @@
+//! A publish, as the sessions of a shard get it.
+ghost use Rattle.std.specs.Prelude.{◌≡◌, ◌≢◌, ◌↔◌, Some, option_map, ℕ, map, IsTrue, Contains, OnOk, OnErr, IfOk, IfSome, IfNone, None, is_none, false};
+ghost use Rattle.std.specs.List.{All};
+ghost use Rattle.std.specs.List.Sorted.{IsStrictlyIncreasing};
+ghost use Rattle.bx_names.specs.Faults.{name_fault};
+ghost use Rattle.bx_names.specs.Kinds.{is_broadcast};
+ghost use Rattle.bx_names.specs.Segments.{segments};
+ghost use Rattle.bx_session.specs.declared.answered.Answered.{Answered};
+ghost use Rattle.bx_shard.specs.declared.connects.ConnectState.TheVariants.{Filed};
+ghost use Rattle.bx_shard.specs.Connects.{connect_at};
+ghost use Rattle.bx_shard.specs.Publishing.{AllReady, Hears, Turns, hearing, parcel, reaches};
+ghost use Rattle.bx_shard.specs.Subscribers.{Subscriber};
+ghost use Rattle.bx_shard.specs.Sessions.{AreCounted, AreCountable, AreHeld, HasRoom, patterns_in, seat_in, subscriber_in};
+
+use crate::sessions::Sessions;
+use bx_message::{Event, SharedEvent};
+use bx_names::{ChannelKind, ChannelName, NameError, kind_of};
+use std::alloc::{AllocError, Global};
+
+/// An event for one session, with a handle to keep and one to give.
+#[derive(Drop)]
+pub(crate) struct Parcel {
+    number: u64,
+    keep: SharedEvent,
+    give: SharedEvent,
+}
+
+// A parcel for each of these sessions.
+fn parcels_for(
+    alloc: Global,
+    numbers: &[u64],
+    event: &SharedEvent,
+) -> Result<Vec<Parcel>, AllocError>
+    ensures { IfOk result (λ parcels. parcels.items ≡ map (parcel event.now) numbers.now) }
+{
+    let mut parcels = Vec::with_capacity(alloc, numbers.len())?;
+    for number in numbers {
+        parcels.push(Parcel {
+            number: *number,
+            keep: event.clone()?,
+            give: event.clone()?,
+        })?;
+    }
+    Ok(parcels)
+}
+
+// Whether a channel of this name is neither a meta nor a service channel.
+fn is_broadcast(channel: &str) -> bool
+    ensures { result ≡ is_broadcast channel.now }
+{
+    matches!(kind_of(channel), ChannelKind::Broadcast)
+}
+
+// The name of a channel, where the text reads as one.
+fn name_of(alloc: Global, channel: &str) -> Result<Option<ChannelName>, AllocError>
+    ensures name { IfOk result (λ name. IfSome name (λ name. (name_fault channel.now ≡ None) × (name ≡ segments channel.now))) }
+    ensures none { IfOk result (λ name. IfNone name (is_none (name_fault channel.now) ≡ false)) }
+{
+    match ChannelName::read(alloc, channel) {
+        Ok(name) => Ok(Some(name)),
+        Err(NameError::Memory) => Err(AllocError),
+        Err(_) => Ok(None),
+    }
+}
+
+impl Sessions {
+    /// The sessions that have a pattern which matches the event's channel, ascending. An event of a service channel is one
+    /// of no session.
+    pub(crate) fn receivers(&self, alloc: Global, event: &Event) -> Result<Vec<u64>, AllocError>
+        ensures exact { IfOk result (λ numbers. (n : ℕ)
+            → (Contains numbers.items n ↔ IsTrue (reaches event.now (patterns_in self.now n)))) }
+        ensures ascending { IfOk result (λ numbers. IsStrictlyIncreasing numbers.items) }
+    {
+        let channel = event.channel.as_str();
+        if !is_broadcast(channel) {
+            return Ok(Vec::new(alloc));
+        }
+        match name_of(alloc, channel)? {
+            Some(name) => Ok(self.tree.find(alloc, &name)?.numbers),
+            None => Ok(Vec::new(alloc)),
+        }
+    }
+
+    // Makes room for one event of each of these sessions.
+    fn reserve_all(&mut self, parcels: &[Parcel]) -> Result<(), AllocError>
+        ensures seats { (n : ℕ) → seat_in self.new n ≡ seat_in self.old n }
+        ensures room { OnOk result (All (λ x. HasRoom self.new x.number) parcels.now) }
+        ensures others { (self.new.config ≡ self.old.config) × (self.new.tree ≡ self.old.tree) × (self.new.connects ≡ self.old.connects) }
+    {
+        for parcel in parcels {
+            self.reserve(parcel.number)?;
+        }
+        Ok(())
+    }
+
+    // Hands out the parcels in order.
+    fn hand_out(&mut self, place: u64, parcels: Vec<Parcel>)
+        requires ready { AllReady self.old parcels.items }
+        requires tied { AreHeld self.old }
+        requires counted { AreCounted self.old }
+        ensures turns { Turns self.old.config place parcels.items self.old self.new }
+        ensures counted { AreCounted self.new }
+    {
+        for parcel in parcels {
+            let Parcel { number, keep, give } = parcel;
+            self.receive(place, number, keep, give);
+        }
+    }
+
+    /// A publish at this place of the list: each session that has a pattern which matches its channel gets the event, or
+    /// none does, where memory is refused.
+    pub(crate) fn publish(
+        &mut self,
+        alloc: Global,
+        place: u64,
+        event: &SharedEvent,
+    ) -> Result<(), AllocError>
+        requires counted { AreCounted self.old }
+        requires held { AreHeld self.old }
+        requires countable { AreCountable self.old }
+        ensures sessions { OnOk result ((n : ℕ) → subscriber_in self.new n
+            ≡ option_map (hearing self.old.config event.now) (subscriber_in self.old n)) }
+        ensures given { OnOk result ((n : ℕ) → (s : Subscriber) → (a : Answered)
+            → Hears self.old event.now n s a → connect_at self.new.connects a.place ≡ Some (Filed place a.answer)) }
+        ensures kept { OnOk result ((p : ℕ) → ((n : ℕ) → (s : Subscriber) → (a : Answered) → Hears self.old event.now n s a → a.place ≢ p)
+            → connect_at self.new.connects p ≡ connect_at self.old.connects p) }
+        ensures refused { OnErr result (((n : ℕ) → subscriber_in self.new n ≡ subscriber_in self.old n) × (self.new.connects ≡ self.old.connects)) }
+        ensures counted { AreCounted self.new }
+        ensures held { AreHeld self.new }
+        ensures config { self.new.config ≡ self.old.config }
+    {
+        let numbers = self.receivers(alloc, event.event())?;
+        let parcels = parcels_for(alloc, numbers.as_slice(), event)?;
+        self.reserve_all(parcels.as_slice())?;
+        self.hand_out(place, parcels);
+        Ok(())
+    }
+}

@@ -1,0 +1,181 @@
+//! The sessions that stand in a shard.
+ghost use Rattle.std.specs.Prelude.{◌≡◌, ◌<◌, ◌≤◌, ◌-◌, ℕ, nat_eq, Some, None, [], length, option_map, is_some, if◌then◌else◌, OnOk, OnErr, IfSome, false, Option};
+ghost use Rattle.bx_tree.specs.Patterns.{patterns_of};
+ghost use Rattle.bx_advice.specs.declared.advice.Case.TheVariants.{Disconnected};
+ghost use Rattle.bx_session.specs.Seats.{Seat, opened};
+ghost use Rattle.bx_session.specs.Steps.{Countable, connected, deadline_of, released, tick_answer, ticked};
+ghost use Rattle.bx_session.specs.declared.answered.Answered.{Answered};
+ghost use Rattle.futures.specs.declared.task.waker.Waker.{Waker};
+ghost use Rattle.bx_shard.specs.declared.connects.ConnectState.TheVariants.{Held};
+ghost use Rattle.bx_shard.specs.Connects.{connect_at, count_held};
+ghost use Rattle.bx_shard.specs.Sessions.{AreCounted, AreHeld, HasRoom, filing, forgetting, patterns_in, seat_in};
+ghost use Rattle.bx_shard.specs.Effects.{connect_filing, released_by, ticked_answer};
+
+use crate::connects::Connects;
+use bx_advice::Config;
+use bx_session::{Connection, PendingConnect, Session};
+use bx_tree::Tree;
+use indexmap::IndexMap;
+use std::alloc::{AllocError, Global};
+
+/// The sessions that stand in a shard, with their patterns and their connects.
+#[derive(Drop)]
+pub(crate) struct Sessions {
+    pub(crate) config: Config,
+    pub(crate) by_number: IndexMap<u64, Session>,
+    pub(crate) tree: Tree,
+    pub(crate) connects: Connects,
+}
+
+impl Sessions {
+    /// No session.
+    pub(crate) fn new(alloc: Global, config: Config) -> Sessions
+        ensures config { result.config ≡ config }
+        ensures seats { (n : ℕ) → seat_in result n ≡ None }
+        ensures patterns { result.tree ≡ [] }
+        ensures connects { result.connects ≡ [] }
+    {
+        Sessions {
+            config,
+            by_number: IndexMap::new(alloc),
+            tree: Tree::new(alloc),
+            connects: Connects::new(alloc),
+        }
+    }
+
+    /// Whether the session stands here.
+    pub(crate) fn has(&self, number: u64) -> bool
+        ensures { result ≡ is_some (seat_in self.now number) }
+    {
+        self.by_number.contains_key(&number)
+    }
+
+    /// Opens a session that is not here.
+    pub(crate) fn open(&mut self, alloc: Global, number: u64, ack: bool) -> Result<(), AllocError>
+        ensures seats { OnOk result ((n : ℕ) → seat_in self.new n
+            ≡ (if nat_eq number n then Some (opened self.old.config number ack) else seat_in self.old n)) }
+        ensures err { OnErr result ((n : ℕ) → seat_in self.new n ≡ seat_in self.old n) }
+        ensures others { (self.new.config ≡ self.old.config) × (self.new.tree ≡ self.old.tree) × (self.new.connects ≡ self.old.connects) }
+        ensures counted { seat_in self.old number ≡ None → AreCounted self.old → AreCounted self.new }
+        ensures held { seat_in self.old number ≡ None → AreHeld self.old → AreHeld self.new }
+    {
+        let session = Session::open(alloc, &self.config, number, ack);
+        self.by_number.insert(number, session)?;
+        Ok(())
+    }
+
+    /// A connect of a session, of which nothing was known.
+    pub(crate) fn connect(
+        &mut self,
+        alloc: Global,
+        number: u64,
+        connect: PendingConnect,
+        acked: Option<u64>,
+    ) -> Result<(), AllocError>
+        requires fresh { connect_at self.old.connects connect.place ≡ None }
+        requires countable { IfSome (seat_in self.old number) Countable }
+        ensures seats { OnOk result ((n : ℕ) → seat_in self.new n
+            ≡ (if nat_eq number n then option_map (connected connect acked) (seat_in self.old number) else seat_in self.old n)) }
+        ensures connects { OnOk result ((p : ℕ) → connect_at self.new.connects p
+            ≡ connect_filing self.old.config number connect acked (seat_in self.old number) (connect_at self.old.connects) p) }
+        ensures err { OnErr result (((n : ℕ) → seat_in self.new n ≡ seat_in self.old n)
+            × ((p : ℕ) → connect_at self.new.connects p ≡ connect_at self.old.connects p)) }
+        ensures others { (self.new.config ≡ self.old.config) × (self.new.tree ≡ self.old.tree) }
+        ensures counted { AreCounted self.old → AreCounted self.new }
+        ensures held { AreHeld self.old → AreHeld self.new }
+    {
+        let Some(session) = self.by_number.get_mut(&number) else {
+            return Ok(());
+        };
+        let place = connect.place();
+        self.connects.hold(place, number, connect.deadline())?;
+        match session.connect(alloc, &self.config, connect, acked) {
+            Ok(
+                Connection {
+                    superseded,
+                    answered,
+                },
+            ) => {
+                self.connects.file_if(place, superseded);
+                self.connects.file_if(place, answered);
+                Ok(())
+            }
+            Err(error) => {
+                self.connects.forget(place);
+                Err(error)
+            }
+        }
+    }
+
+    /// Makes room for one event of a session.
+    pub(crate) fn reserve(&mut self, number: u64) -> Result<(), AllocError>
+        ensures seats { (n : ℕ) → seat_in self.new n ≡ seat_in self.old n }
+        ensures room { OnOk result (HasRoom self.new number) }
+        ensures kept { (n : ℕ) → HasRoom self.old n → HasRoom self.new n }
+        ensures others { (self.new.config ≡ self.old.config) × (self.new.tree ≡ self.old.tree) × (self.new.connects ≡ self.old.connects) }
+    {
+        match self.by_number.get_mut(&number) {
+            Some(session) => session.reserve(),
+            None => Ok(()),
+        }
+    }
+
+    /// Ends the hold of a session where it ends at this moment or ended before.
+    pub(crate) fn tick(&mut self, place: u64, moment: u64, number: u64)
+        ensures seats { (n : ℕ) → seat_in self.new n
+            ≡ (if nat_eq number n then option_map (ticked moment) (seat_in self.old number) else seat_in self.old n) }
+        ensures connects { (p : ℕ) → connect_at self.new.connects p
+            ≡ filing place (ticked_answer self.old.config moment (seat_in self.old number)) (connect_at self.old.connects) p }
+        ensures fewer { (a : Answered) → (session : ℕ) → (deadline : Option ℕ) → (waker : Option Waker)
+            → ticked_answer self.old.config moment (seat_in self.old number) ≡ Some a
+            → connect_at self.old.connects a.place ≡ Some (Held session deadline waker)
+            → count_held self.new.connects < count_held self.old.connects }
+        ensures others { (self.new.config ≡ self.old.config) × (self.new.tree ≡ self.old.tree) }
+        ensures counted { AreCounted self.old → AreCounted self.new }
+        ensures held { AreHeld self.old → AreHeld self.new }
+    {
+        let Some(session) = self.by_number.get_mut(&number) else {
+            return;
+        };
+        if let Some(answered) = session.tick(&self.config, moment) {
+            self.connects.file(place, answered);
+        }
+    }
+
+    /// Closes a session that a tick ends. A connect that it still held is known no longer.
+    pub(crate) fn close(&mut self, number: u64)
+        ensures seats { (n : ℕ) → seat_in self.new n ≡ (if nat_eq number n then None else seat_in self.old n) }
+        ensures patterns { (n : ℕ) → patterns_in self.new n ≡ (if nat_eq number n then [] else patterns_in self.old n) }
+        ensures connects { (p : ℕ) → connect_at self.new.connects p
+            ≡ forgetting (released_by self.old.config (seat_in self.old number)) (connect_at self.old.connects) p }
+        ensures config { self.new.config ≡ self.old.config }
+        ensures counted { AreCounted self.old → AreCounted self.new }
+        ensures held { AreHeld self.old → AreHeld self.new }
+    {
+        self.tree.remove_all(number);
+        let Some(mut session) = self.by_number.swap_remove(&number) else {
+            return;
+        };
+        if let Some(answered) = session.close(&self.config) {
+            self.connects.forget(answered.place);
+        }
+    }
+
+    /// Closes a session, whose held connect is answered as one that left.
+    pub(crate) fn disconnect(&mut self, place: u64, number: u64)
+        ensures seats { (n : ℕ) → seat_in self.new n ≡ (if nat_eq number n then None else seat_in self.old n) }
+        ensures patterns { (n : ℕ) → patterns_in self.new n ≡ (if nat_eq number n then [] else patterns_in self.old n) }
+        ensures connects { (p : ℕ) → connect_at self.new.connects p
+            ≡ filing place (released_by self.old.config (seat_in self.old number)) (connect_at self.old.connects) p }
+        ensures config { self.new.config ≡ self.old.config }
+        ensures counted { AreCounted self.old → AreCounted self.new }
+        ensures held { AreHeld self.old → AreHeld self.new }
+    {
+        self.tree.remove_all(number);
+        let Some(mut session) = self.by_number.swap_remove(&number) else {
+            return;
+        };
+        let answered = session.close(&self.config);
+        self.connects.file_if(place, answered);
+    }
+}

@@ -1,0 +1,153 @@
+//! One shard: the sessions that are placed in it, entry by entry.
+ghost use Rattle.std.specs.Prelude.{◌≡◌, ◌≤◌, ℕ, true, None};
+ghost use Rattle.bx_shard.specs.Connects.{connect_at};
+ghost use Rattle.bx_shard.specs.Sessions.{AreHeld, has_formed_at_most, is_counted, patterns_in, seat_in};
+
+use crate::sessions::Sessions;
+use crate::watch::Watch;
+use bx_advice::Config;
+use bx_entry::{Entry, Kind, Placing, Ticket};
+use bx_message::{Answer, RawJson, Text};
+use bx_session::PendingConnect;
+use futures::task::Waker;
+use std::alloc::{AllocError, Global};
+use std::sync::Arc;
+
+/// One shard of the server: the live sessions that are placed in it, their patterns and held connects, and the answers
+/// that it has filed and that nobody took. It applies the entries of the list one after another; what another shard does
+/// never matters to it.
+///
+/// Contracts see its state by the numbers of sessions and the places of connects.
+#[derive(Drop)]
+pub struct Shard<P> {
+    placing: Arc<P>,
+    index: usize,
+    // How many entries it has applied.
+    place: u64,
+    is_shut: bool,
+    sessions: Sessions,
+    ghost counted: { (n : ℕ) → is_counted (seat_in sessions n) (patterns_in sessions n) ≡ true },
+    ghost held: { AreHeld sessions },
+    ghost batches: { (n : ℕ) → has_formed_at_most place (seat_in sessions n) ≡ true },
+    ghost fresh: { (p : ℕ) → place ≤ p → connect_at sessions.connects p ≡ None },
+}
+
+impl<P: Placing> Shard<P> {
+    ghost use Rattle.std.specs.Prelude.{◌≡◌, ◌≢◌, ◌+◌, ◌<◌, ◌≤◌, ℕ, nat_eq, Bool, true, false, Some, None, [], option_map, if◌then◌else◌, OnOk, OnErr, IfOk, IfSome, IsOk, length};
+    ghost use Rattle.std.specs.Arc.{arc_value};
+    ghost use Rattle.bx_advice.specs.Limits.{greatest_length};
+    ghost use Rattle.bx_entry.specs.declared.entry.Entry.{Entry};
+    ghost use Rattle.bx_shard.specs.Connects.{count_filed_below, filed_answer, taken_from, unswept, unwatched, watched, with_waker};
+    ghost use Rattle.bx_shard.specs.Held.{Took};
+    ghost use Rattle.bx_shard.specs.States.{Applied, IsAsBefore, IsSound, connect_in, opens_in, session_in, takes_no_memory};
+    ghost use Rattle.bx_shard.specs.Seen.{setup_in, state};
+
+    /// The shard of this index, counted from 0, in which no session stands and which has applied nothing.
+    pub fn new(alloc: Global, index: usize, config: Config, placing: Arc<P>) -> Shard<P>
+        ensures config { result.sessions.config ≡ config }
+        ensures placing { arc_value result.placing ≡ arc_value placing }
+        ensures index { result.index ≡ index }
+        ensures place { (result.place ≡ 0) × (result.is_shut ≡ false) }
+        ensures sessions { (n : ℕ) → session_in (state P.place_of result) n ≡ None }
+        ensures connects { (p : ℕ) → connect_in (state P.place_of result) p ≡ None }
+        ensures sound { IsSound (state P.place_of result) }
+    {
+        Shard {
+            placing,
+            index,
+            place: 0,
+            is_shut: false,
+            sessions: Sessions::new(alloc, config),
+        }
+    }
+
+    /// How many entries the shard has applied: the place of the next.
+    pub fn place(&self) -> u64
+        ensures place { result ≡ self.now.place }
+        ensures sound { IsSound (state P.place_of self.now) }
+    {
+        self.place
+    }
+
+    /// Applies the next entry. Where memory is refused the shard is as before, however many sessions the entry
+    /// reaches. A disconnect, a refused message and a tick take no memory.
+    pub fn apply(&mut self, alloc: Global, entry: &Entry) -> Result<(), AllocError>
+        requires next { entry.now.place ≡ self.old.place }
+        requires end { entry.now.place < greatest_length }
+        ensures done { OnOk result (Applied (state P.place_of self.old) entry.now (state P.place_of self.new)) }
+        ensures refused { OnErr result (IsAsBefore (state P.place_of self.old) (state P.place_of self.new)) }
+        ensures free { takes_no_memory entry.now.kind ≡ true → IsOk result }
+        ensures sound { IsSound (state P.place_of self.new) }
+    {
+        let stands = self.opens_here(&entry.kind);
+        self.sessions.follow(alloc, entry, stands)?;
+        self.place += 1;
+        Ok(())
+    }
+
+    // Whether an entry of this kind opens a session that stands in this shard.
+    fn opens_here(&self, kind: &Kind) -> bool
+        ensures { result ≡ opens_in (setup_in P.place_of self.now) self.now.index kind.now }
+    {
+        match kind {
+            Kind::Opened { session, .. } => {
+                self.placing.place(*session, self.sessions.config.shards) == self.index
+            }
+            _ => false,
+        }
+    }
+
+    /// The answer that is filed under a ticket, which is taken with that: it is given once.
+    pub fn take(&mut self, ticket: Ticket) -> Option<Answer>
+        ensures answer { result ≡ (if nat_eq ticket.shard self.old.index then filed_answer (connect_in (state P.place_of self.old) ticket.place) else None) }
+        ensures taken { nat_eq ticket.shard self.old.index ≡ true → Took ticket.place (state P.place_of self.old) (state P.place_of self.new) }
+        ensures other { nat_eq ticket.shard self.old.index ≡ false → self.new ≡ self.old }
+        ensures sound { IsSound (state P.place_of self.new) }
+    {
+        if ticket.shard != self.index {
+            return None;
+        }
+        self.sessions.connects.take(ticket.place)
+    }
+
+    /// Leaves a waker beside a held connect, to be woken once it is answered, or says why not and gives it back: the
+    /// answer is filed, or no connect of this shard is held under the ticket, or the shard was shut. An older waker of
+    /// the ticket is dropped, which wakes it.
+    pub fn watch(&mut self, ticket: Ticket, waker: Waker) -> Watch
+        ensures watch { nat_eq ticket.shard self.old.index ≡ true → result ≡ watched self.old.is_shut waker (connect_in (state P.place_of self.old) ticket.place) }
+        ensures own { nat_eq ticket.shard self.old.index ≡ true → connect_in (state P.place_of self.new) ticket.place ≡ with_waker self.old.is_shut waker (connect_in (state P.place_of self.old) ticket.place) }
+        ensures other { nat_eq ticket.shard self.old.index ≡ false → (result ≡ Watch.Unknown waker) × (self.new ≡ self.old) }
+        ensures others { (p : ℕ) → nat_eq ticket.place p ≡ false → connect_in (state P.place_of self.new) p ≡ connect_in (state P.place_of self.old) p }
+        ensures sessions { (n : ℕ) → session_in (state P.place_of self.new) n ≡ session_in (state P.place_of self.old) n }
+        ensures sound { IsSound (state P.place_of self.new) }
+    {
+        if ticket.shard != self.index {
+            return Watch::Unknown(waker);
+        }
+        self.sessions
+            .connects
+            .watch(ticket.place, waker, self.is_shut)
+    }
+
+    /// Drops the answers that were filed by entries below this place and that nobody took, and says how many they were.
+    pub fn sweep(&mut self, before: u64) -> usize
+        ensures swept { (p : ℕ) → connect_in (state P.place_of self.new) p ≡ unswept before (connect_in (state P.place_of self.old) p) }
+        ensures count { result ≡ count_filed_below before self.old.sessions.connects }
+        ensures sessions { (n : ℕ) → session_in (state P.place_of self.new) n ≡ session_in (state P.place_of self.old) n }
+        ensures sound { IsSound (state P.place_of self.new) }
+    {
+        self.sessions.connects.sweep(before)
+    }
+
+    /// Stores no waker from here on, and drops those that are stored, which wakes them. What is filed can still be
+    /// taken.
+    pub fn shut(&mut self)
+        ensures shut { self.new.is_shut ≡ true }
+        ensures connects { (p : ℕ) → connect_in (state P.place_of self.new) p ≡ option_map unwatched (connect_in (state P.place_of self.old) p) }
+        ensures sessions { (n : ℕ) → session_in (state P.place_of self.new) n ≡ session_in (state P.place_of self.old) n }
+        ensures sound { IsSound (state P.place_of self.new) }
+    {
+        self.is_shut = true;
+        self.sessions.connects.unwatch_all();
+    }
+}

@@ -1,0 +1,32 @@
+ghost use Rattle.std.specs.Prelude.{◌≡◌, ◌&&◌, ◌++◌, false, fold, IfOk};
+ghost use Rattle.bx_names.specs.Globs.{Glob};
+ghost use Rattle.bx_names.specs.InForce.{in_force, with_pattern};
+
+use bx_names::Pattern;
+use std::alloc::{AllocError, Global};
+
+/// Whether the pattern is one of these.
+pub(crate) fn is_one_of(patterns: &[Pattern], pattern: &Pattern) -> bool
+    ensures { result ≡ in_force patterns.now pattern.now }
+{
+    patterns.iter().any(|other| pattern == other)
+}
+
+/// Those of the patterns that are not held yet, in order, each once.
+pub(crate) fn fresh_of(
+    alloc: Global,
+    held: &[Pattern],
+    patterns: &[Pattern],
+) -> Result<Vec<Pattern>, AllocError>
+    ensures all { IfOk result (λ fresh. held.now ++ fresh.items ≡ fold with_pattern held.now patterns.now) }
+    ensures apart { IfOk result (λ fresh. (p : Glob) → (in_force fresh.items p && in_force held.now p) ≡ false) }
+{
+    let mut fresh = Vec::new(alloc);
+    for pattern in patterns {
+        if is_one_of(held, pattern) || is_one_of(fresh.as_slice(), pattern) {
+            continue;
+        }
+        fresh.push(pattern.clone()?)?;
+    }
+    Ok(fresh)
+}

@@ -1,0 +1,249 @@
+-- An answer that a shard has come past is filed there until it is taken, and none is taken twice.
+use Rattle.std.proofs.Common.{◌≡◌, ℕ, zero, suc, ◌+◌, max, ⊎_elim, Bool, true, false, cond, ◌||◌, Option, Some, None, List, [], ◌∷◌, ◌++◌, length, take, drop, map, filter, find, flat_map, fold, option_map, slice_get, slice_index, nat_lt, ◌==◌, refl, sym, ap, ◌∙◌, subst, eqb-true, eq-eqb, take-append-drop, true≢false}
+use Rattle.std.proofs.lemmas.Bool.{cond_both, cond-true, cond-false}
+use Rattle.std.proofs.lemmas.List.Folds.{find-append, list_any-append}
+use Rattle.std.specs.Option.{option_or}
+use Rattle.std.specs.List.{list_any}
+use Rattle.bx_advice.specs.declared.config.Config.{Config}
+use Rattle.bx_advice.specs.declared.error.Error.{Error}
+use Rattle.bx_message.specs.declared.column.Column.{Column}
+use Rattle.bx_entry.specs.Listing.{Listed, Post, Posted}
+use Rattle.bx_message.specs.Columns.{column_of}
+use Rattle.bx_entry.specs.Listing as messages
+use Rattle.bx_entry.specs.Registry.{Registry, Registered, Judged, PlaceSlot, Ready, Waiting, NoSlot, judge, judged_by, served, opened, slot_for, left_by, extended, swept, is_overdue, named_by, refusal, hold_of, is_ack, registry, empty_registry, entries_of}
+use Rattle.bx_entry.specs.Inputs.{ReadInput}
+use Rattle.bx_entry.specs.Sessions.{Session, Filed, session}
+use Rattle.bx_entry.specs.Answers.{PlacedAnswer, answer_of, answer_by, answer_at}
+use Rattle.bx_laws.specs.Readings.{EachSession}
+use Rattle.bx_shard.specs.Shards.{Setup, shard_at, sessions_in, stands_in, is_taken}
+use Rattle.bx_world.specs.Worlds.{World, new_world, Step, Admit, Apply, Take, Output, Admitted, NotAdmitted, Applied, Level, Taken, OutOfMemory, IsOutput, Runs, after, filed_under}
+use Rattle.bx_entry.specs.declared.entry.Ticket.{Ticket}
+use Rattle.bx_world.specs.Schedules.{AnswersAreFiled, NoneTakenTwice, EachNew, taken_by, taken_places}
+use Rattle.bx_laws.proofs.Moves.{either}
+use Rattle.bx_laws.proofs.Lists.{find_each, find_true, judged_more, answer_within}
+use Rattle.bx_laws.proofs.Dues.{EachJudged, each_judged_push, each_judged_map, each_session_map, named_session}
+use Rattle.bx_shard.proofs.Waits.{WaitsAt, answered_waits}
+use Rattle.bx_shard.proofs.Untaken.{found_kept, find_untaken}
+
+or_true : (a b : Bool) → b ≡ true → (a || b) ≡ true
+or_true true b e = refl
+or_true false b e = e
+
+-- ---- who waits is registered
+
+abbrev has : ℕ → List Registered → Bool
+has number rs = list_any (λ (r : Registered). r.number == number) rs
+
+has_map : (f : Registered → Registered) (number : ℕ) (rs : List Registered) → ((r : Registered) → (f r).number ≡ r.number) → has number (map f rs) ≡ has number rs
+has_map f number [] h = refl
+has_map f number (r ∷ rs) h = ap (λ (n : ℕ). (n == number) || has number (map f rs)) (h r) ∙ ap (λ (b : Bool). (r.number == number) || b) (has_map f number rs h)
+
+has_push : (number : ℕ) (rs : List Registered) (r : Registered) → has number rs ≡ true → has number (rs ++ r ∷ []) ≡ true
+has_push number rs r h = list_any-append (λ (q : Registered). q.number == number) rs (r ∷ []) ∙ ap (λ (b : Bool). b || has number (r ∷ [])) h
+
+each_has : (rs : List Registered) → EachSession (λ r. has r.number rs ≡ true) rs
+each_has [] = tt
+each_has (r ∷ rs) = (ap (λ (b : Bool). b || has r.number rs) (eq-eqb r.number r.number refl), each_session_map (λ q. has q.number rs ≡ true) (λ q. has q.number (r ∷ rs) ≡ true) rs (λ q h. or_true (r.number == q.number) (has q.number rs) h) (each_has rs))
+
+abbrev SlotHas : List Registered → PlaceSlot → Type 0
+SlotHas rs (Ready reply) = Unit {0}
+SlotHas rs (Waiting number) = has number rs ≡ true
+SlotHas rs NoSlot = Unit {0}
+
+slot_has : (rs ts : List Registered) (slot : PlaceSlot) → ((n : ℕ) → has n rs ≡ true → has n ts ≡ true) → SlotHas rs slot → SlotHas ts slot
+slot_has rs ts (Ready reply) h s = tt
+slot_has rs ts (Waiting number) h s = h number s
+slot_has rs ts NoSlot h s = tt
+
+abbrev Waiters : Registry → Type 0
+Waiters r = EachJudged (λ j. SlotHas r.sessions j.slot) r.judged
+
+-- one more place, where no session goes
+waiters_push : (r : Registry) (ts : List Registered) (j : Judged) → ((n : ℕ) → has n r.sessions ≡ true → has n ts ≡ true) → SlotHas ts j.slot → Waiters r → EachJudged (λ i. SlotHas ts i.slot) (r.judged ++ j ∷ [])
+waiters_push r ts j h s w = each_judged_push (λ i. SlotHas ts i.slot) r.judged j (each_judged_map (λ i. SlotHas r.sessions i.slot) (λ i. SlotHas ts i.slot) r.judged (λ i g. slot_has r.sessions ts i.slot h g) w) s
+
+left_has : (c : Column) (number n : ℕ) (rs : List Registered) → has n (left_by c number rs) ≡ has n rs
+left_has Column.Handshake number n rs = refl
+left_has Column.Connect number n rs = refl
+left_has Column.Subscribe number n rs = refl
+left_has Column.Unsubscribe number n rs = refl
+left_has Column.Disconnect number n rs = has_map (λ s. cond (s.number == number) (record s { live = false }) s) n rs (λ s. let t : Registered = record s { live = false } in cond_both (s.number == number) t s (λ (u : Registered). u.number ≡ s.number) (λ e. refl) (λ e. refl))
+left_has Column.Publish number n rs = refl
+left_has Column.UnknownMeta number n rs = refl
+
+extended_has : (number due n : ℕ) (rs : List Registered) → has n (extended number due rs) ≡ has n rs
+extended_has number due n rs = has_map (λ s. cond (s.number == number) (record s { due = max s.due due }) s) n rs (λ s. let t : Registered = record s { due = max s.due due } in cond_both (s.number == number) t s (λ (u : Registered). u.number ≡ s.number) (λ e. refl) (λ e. refl))
+
+swept_has : (moment n : ℕ) (rs : List Registered) → has n (swept moment rs) ≡ has n rs
+swept_has moment n rs = has_map (λ s. cond (is_overdue moment s) (record s { live = false }) s) n rs (λ s. let t : Registered = record s { live = false } in cond_both (is_overdue moment s) t s (λ (u : Registered). u.number ≡ s.number) (λ e. refl) (λ e. refl))
+
+slot_served : (config : Config) (c : Column) (p : Posted) (s : Registered) (rs : List Registered) → has s.number rs ≡ true → SlotHas rs (slot_for config c p s)
+slot_served config Column.Handshake p s rs h = tt
+slot_served config Column.Connect p s rs h = h
+slot_served config Column.Subscribe p s rs h = tt
+slot_served config Column.Unsubscribe p s rs h = tt
+slot_served config Column.Disconnect p s rs h = tt
+slot_served config Column.Publish p s rs h = tt
+slot_served config Column.UnknownMeta p s rs h = tt
+
+served_waiters : (config : Config) (r : Registry) (moment : ℕ) (p : Posted) (c : Column) (s : Registered) (hold : ℕ) → has s.number r.sessions ≡ true → Waiters r → Waiters (served config r moment p c s hold)
+served_waiters config r moment p c s hold here w =
+    let due : ℕ = moment + hold + config.max_interval in
+    let ts : List Registered = left_by c s.number (extended s.number due r.sessions) in
+    let same : (n : ℕ) → has n r.sessions ≡ true → has n (left_by c s.number (extended s.number (moment + hold + config.max_interval) r.sessions)) ≡ true =
+    λ n h. left_has c s.number n (extended s.number due r.sessions) ∙ extended_has s.number due n r.sessions ∙ h in
+    waiters_push r ts _ same (slot_served config c p s ts (same s.number here)) w
+
+judged_by_waiters : (config : Config) (r : Registry) (moment : ℕ) (p : Posted) (sender : Option Registered) (error : Option Error) → ((s : Registered) → sender ≡ Some s → has s.number r.sessions ≡ true) → Waiters r → Waiters (judged_by config r moment p sender error)
+judged_by_waiters config r moment p sender (Some error) h w = waiters_push r r.sessions _ (λ n g. g) tt w
+judged_by_waiters config r moment p None None h w = waiters_push r (opened config r moment p (length r.sessions + 1) (is_ack p.message.ack)).sessions _ (λ n g. has_push n r.sessions _ g) tt w
+judged_by_waiters config r moment p (Some s) None h w = served_waiters config r moment p (column_of p.message.channel) s (hold_of config p) (h s refl) w
+
+judge_waiters : (config : Config) (r : Registry) (x : Listed) → Waiters r → Waiters (judge config r x)
+judge_waiters config r (Post p) w = judged_by_waiters config r (max r.clock p.moment) p (named_by r.sessions (column_of p.message.channel) p.message) (refusal config r.sessions p)
+    (λ s e. named_session (λ q. has q.number r.sessions ≡ true) r.sessions (column_of p.message.channel) p.message s e (each_has r.sessions)) w
+judge_waiters config r (messages.Tick moment) w = let now : ℕ = max r.clock moment in waiters_push r (swept now r.sessions) _ (λ n g. swept_has now n r.sessions ∙ g) tt w
+
+run_waiters : (config : Config) (r : Registry) (xs : List Listed) → Waiters r → Waiters (fold (judge config) r xs)
+run_waiters config r [] w = w
+run_waiters config r (x ∷ xs) w = run_waiters config (judge config r x) xs (judge_waiters config r x w)
+
+judged_at : (P : Judged → Type 0) (js : List Judged) (k : ℕ) (j : Judged) → slice_get js k ≡ Some j → EachJudged P js → P j
+judged_at P [] k j e d = cc
+judged_at P (i ∷ js) zero j e d = let same : i ≡ j = cc in subst P same d.0
+judged_at P (i ∷ js) (suc k) j e d = judged_at P js k j e d.1
+
+-- ---- finding
+
+-- no other session has an answer to this connect
+same_session : (config : Config) (xs : List Listed) (m number place : ℕ) (f : Filed) → WaitsAt (registry config xs).judged number place →
+    find (λ (g : Filed). g.connect == place) (session config m (entries_of (registry config xs))).answers ≡ Some f → m ≡ number
+same_session config xs m number place f w e =
+    let test : Filed → Bool = λ g. g.connect == place in
+    let s : Session = session config m (entries_of (registry config xs)) in
+    let waits : WaitsAt (registry config xs).judged m f.connect = find_each (λ g. WaitsAt (registry config xs).judged m g.connect) test s.answers f e (answered_waits config m xs).answers in
+    let here : f.connect ≡ place = eqb-true f.connect place (find_true test s.answers f e) in
+    let both : Some (Waiting m) ≡ Some (Waiting number) = sym (subst (WaitsAt (registry config xs).judged m) here waits) ∙ w in
+    cc
+
+found_among : (config : Config) (xs : List Listed) (number place : ℕ) (f : Filed) (rs : List Registered) → WaitsAt (registry config xs).judged number place →
+    find (λ (g : Filed). g.connect == place) (session config number (entries_of (registry config xs))).answers ≡ Some f → has number rs ≡ true →
+    find (λ (g : Filed). g.connect == place) (flat_map (λ (s : Session). s.answers) (map (λ (r : Registered). session config r.number (entries_of (registry config xs))) rs)) ≡ Some f
+found_among config xs number place f [] w e h = cc
+found_among config xs number place f (r ∷ rs) w e h =
+    let test : Filed → Bool = λ g. g.connect == place in
+    let g : ℕ → Session = λ n. session config n (entries_of (registry config xs)) in
+    let rest : List Filed = flat_map (λ (s : Session). s.answers) (map (λ (q : Registered). session config q.number (entries_of (registry config xs))) rs) in
+    let P : Option Filed → Type 0 = λ o. find test (g r.number).answers ≡ o → option_or o (find test rest) ≡ Some f in
+    let at_none : P None = λ n. either (r.number == number) (find test rest ≡ Some f)
+    (λ k. absurd (let no : None ≡ Some f = sym n ∙ ap (λ (m : ℕ). find test (g m).answers) (eqb-true r.number number k) ∙ e in cc))
+    (λ k. found_among config xs number place f rs w e (sym (ap (λ (b : Bool). b || has number rs) k) ∙ h)) in
+    let at_some : (k : Filed) → P (Some k) = λ k n. sym n ∙ ap (λ (m : ℕ). find test (g m).answers) (same_session config xs r.number number place k w n) ∙ e in
+    find-append test (g r.number).answers rest ∙ (elim (find test (g r.number).answers) as P [ None ↦ at_none | Some k ↦ at_some k ]) refl
+
+has_standing : (setup : Setup) (shard number : ℕ) (rs : List Registered) → stands_in setup shard number ≡ true → has number rs ≡ true → has number (filter (λ (s : Registered). stands_in setup shard s.number) rs) ≡ true
+has_standing setup shard number [] h e = cc
+has_standing setup shard number (r ∷ rs) h e =
+    let kept : List Registered = filter (λ (s : Registered). stands_in setup shard s.number) rs in
+    either (r.number == number) (has number (filter (λ (s : Registered). stands_in setup shard s.number) (r ∷ rs)) ≡ true)
+    (λ k. ap (has number) (cond-true (stands_in setup shard r.number) (r ∷ kept) kept (ap (stands_in setup shard) (eqb-true r.number number k) ∙ h)) ∙ ap (λ (b : Bool). b || has number kept) k)
+    (λ k. let rest : has number (filter (λ (s : Registered). stands_in setup shard s.number) rs) ≡ true = has_standing setup shard number rs h (sym (ap (λ (b : Bool). b || has number rs) k) ∙ e) in
+    cond_both (stands_in setup shard r.number) (r ∷ kept) kept (λ (qs : List Registered). has number qs ≡ true) (λ g. or_true (r.number == number) (has number kept) rest) (λ g. rest))
+
+-- ---- the law
+
+-- the answer of a session that is filed
+record FiledOf (config : Config) (xs : List Listed) (number place : ℕ) (a : PlacedAnswer) : Type 0 where
+  waits : WaitsAt (registry config xs).judged number place
+  filed : Filed
+  found : find (λ (g : Filed). g.connect == place) (session config number (entries_of (registry config xs))).answers ≡ Some filed
+  same : answer_of filed ≡ a
+
+filed_by : (config : Config) (xs : List Listed) (number place : ℕ) (a : PlacedAnswer) (o : Option Filed) → WaitsAt (registry config xs).judged number place →
+    find (λ (g : Filed). g.connect == place) (session config number (entries_of (registry config xs))).answers ≡ o → option_map answer_of o ≡ Some a → FiledOf config xs number place a
+filed_by config xs number place a None w h e = cc
+filed_by config xs number place a (Some f) w h e = record { waits = w; filed = f; found = h; same = (let s : answer_of f ≡ a = cc in s) }
+
+filed_at : (config : Config) (list xs rest : List Listed) (number place : ℕ) (a : PlacedAnswer) (o : Option Judged) → xs ++ rest ≡ list → WaitsAt (registry config list).judged number place →
+    slice_get (registry config xs).judged place ≡ o → answer_at config (entries_of (registry config xs)) place o ≡ Some a → FiledOf config xs number place a
+filed_at config list xs rest number place a None whole w h e = cc
+filed_at config list xs rest number place a (Some j) whole w h e =
+    let there : slice_get (registry config list).judged place ≡ Some j = subst (λ (ys : List Listed). slice_get (registry config ys).judged place ≡ Some j) whole (judged_more config xs rest place j h) in
+    let slot : j.slot ≡ Waiting number = (let both : Some j.slot ≡ Some (Waiting number) = sym (ap (option_map (λ (i : Judged). i.slot)) there) ∙ w in cc) in
+    filed_by config xs number place a (find (λ (g : Filed). g.connect == place) (session config number (entries_of (registry config xs))).answers)
+    (ap (option_map (λ (i : Judged). i.slot)) h ∙ ap Some slot) refl (sym (ap (answer_by config (entries_of (registry config xs)) place) slot) ∙ e)
+
+pub answers_are_filed : AnswersAreFiled
+answers_are_filed setup list taken n place number a room waits e below free =
+    let config : Config = setup.config in
+    let xs : List Listed = take n list in
+    let shard : ℕ = setup.placing number setup.shards in
+    let f : FiledOf setup.config (take n list) number place a =
+    filed_at setup.config list (take n list) (drop n list) number place a (slice_get (registry setup.config (take n list)).judged place) (take-append-drop n list) waits refl (answer_within setup.config list n place a room below e) in
+    let r : Registry = registry setup.config (take n list) in
+    let registered : has number (registry setup.config (take n list)).sessions ≡ true = slot_of f (slice_get r.judged place) refl in
+    let standing : has number (filter (λ (s : Registered). stands_in setup (setup.placing number setup.shards) s.number) (registry setup.config (take n list)).sessions) ≡ true =
+    has_standing setup shard number r.sessions (eq-eqb shard shard refl) registered in
+    ap (option_map answer_of)
+    (find_untaken taken place (flat_map (λ (s : Session). s.answers) (sessions_in setup list shard n)) free
+    ∙ found_among setup.config (take n list) number place f.filed (filter (λ (s : Registered). stands_in setup (setup.placing number setup.shards) s.number) r.sessions) f.waits f.found standing)
+    ∙ ap Some f.same
+  where
+    slot_of : FiledOf setup.config (take n list) number place a → (o : Option Judged) → slice_get (registry setup.config (take n list)).judged place ≡ o → has number (registry setup.config (take n list)).sessions ≡ true
+    slot_of f None h = absurd (let no : None ≡ Some (Waiting number) = sym (ap (option_map (λ (i : Judged). i.slot)) h) ∙ f.waits in cc)
+    slot_of f (Some j) h =
+        let slot : j.slot ≡ Waiting number = (let both : Some j.slot ≡ Some (Waiting number) = sym (ap (option_map (λ (i : Judged). i.slot)) h) ∙ f.waits in cc) in
+        subst (SlotHas (registry setup.config (take n list)).sessions) slot
+        (judged_at (λ i. SlotHas (registry setup.config (take n list)).sessions i.slot) (registry setup.config (take n list)).judged place j h (run_waiters setup.config empty_registry (take n list) tt))
+
+-- ---- no answer is taken twice
+
+filed_untaken : (setup : Setup) (w : World) (t : Ticket) (a : PlacedAnswer) → filed_under setup w t ≡ Some a → is_taken w.taken t.place ≡ false
+filed_untaken setup w t a e =
+    let k : ℕ = slice_index w.applied t.shard in
+    let found : Option PlacedAnswer = option_map answer_of (find (λ (f : Filed). f.connect == t.place) (shard_at setup w.list w.taken t.shard (slice_index w.applied t.shard)).filed) in
+    either (nat_lt t.shard (length w.applied)) (is_taken w.taken t.place ≡ false)
+    (λ h. untaken (find (λ (f : Filed). f.connect == t.place) (shard_at setup w.list w.taken t.shard (slice_index w.applied t.shard)).filed) refl (sym (cond-true (nat_lt t.shard (length w.applied)) found None h) ∙ e))
+    (λ h. absurd (let no : None ≡ Some a = sym (cond-false (nat_lt t.shard (length w.applied)) found None h) ∙ e in cc))
+  where
+    untaken : (o : Option Filed) → find (λ (f : Filed). f.connect == t.place) (shard_at setup w.list w.taken t.shard (slice_index w.applied t.shard)).filed ≡ o → option_map answer_of o ≡ Some a → is_taken w.taken t.place ≡ false
+    untaken None h g = cc
+    untaken (Some f) h g = (found_kept w.taken t.place (flat_map (λ (s : Session). s.answers) (sessions_in setup w.list t.shard (slice_index w.applied t.shard))) f h).1
+
+take_new : (setup : Setup) (w : World) (t : Ticket) (out : Output) (ps : List ℕ) → out ≡ Taken (filed_under setup w t) → EachNew (after w (Take t) out).taken ps → EachNew w.taken (taken_by (Take t) out ++ ps)
+take_new setup w t (Admitted first slots) ps e d = d
+take_new setup w t (NotAdmitted refusal) ps e d = d
+take_new setup w t Applied ps e d = d
+take_new setup w t Level ps e d = d
+take_new setup w t (Taken None) ps e d = d
+take_new setup w t (Taken (Some a)) ps e d = (filed_untaken setup w t a (let same : filed_under setup w t ≡ Some a = cc in same), d)
+take_new setup w t OutOfMemory ps e d = d
+
+admit_taken : (w : World) (input : ReadInput) (out : Output) → (after w (Admit input) out).taken ≡ w.taken
+admit_taken w input (Admitted first slots) = refl
+admit_taken w input (NotAdmitted refusal) = refl
+admit_taken w input Applied = refl
+admit_taken w input Level = refl
+admit_taken w input (Taken o) = refl
+admit_taken w input OutOfMemory = refl
+
+apply_taken : (w : World) (shard : ℕ) (out : Output) → (after w (Apply shard) out).taken ≡ w.taken
+apply_taken w shard (Admitted first slots) = refl
+apply_taken w shard (NotAdmitted refusal) = refl
+apply_taken w shard Applied = refl
+apply_taken w shard Level = refl
+apply_taken w shard (Taken o) = refl
+apply_taken w shard OutOfMemory = refl
+
+step_new : (setup : Setup) (w : World) (step : Step) (out : Output) (ps : List ℕ) → IsOutput setup w step out → EachNew (after w step out).taken ps → EachNew w.taken (taken_by step out ++ ps)
+step_new setup w (Admit input) out ps i d = subst (λ (ts : List ℕ). EachNew ts ps) (admit_taken w input out) d
+step_new setup w (Apply shard) out ps i d = subst (λ (ts : List ℕ). EachNew ts ps) (apply_taken w shard out) d
+step_new setup w (Take t) out ps i d = ⊎_elim (λ e. take_new setup w t out ps e d) (λ m. absurd (true≢false (sym m.0))) i
+
+run_new : (setup : Setup) (w : World) (steps : List Step) (outs : List Output) (last : World) → Runs setup w steps outs last → EachNew w.taken (taken_places steps outs)
+run_new setup w [] outs last r = tt
+run_new setup w (step ∷ steps) [] last r = tt
+run_new setup w (step ∷ steps) (out ∷ outs) last r = step_new setup w step out (taken_places steps outs) r.0 (run_new setup (after w step out) steps outs last r.1)
+
+pub none_taken_twice : NoneTakenTwice
+none_taken_twice setup steps outs last r = run_new setup (new_world setup) steps outs last r

@@ -1,0 +1,137 @@
+-- Each answer that is taken from a shard is the one that the list gives.
+use Rattle.std.proofs.Common.{◌≡◌, ℕ, ◌<◌, ⊎_elim, Bool, Option, Some, None, List, [], ◌∷◌, ◌++◌, length, take, drop, map, filter, find, flat_map, option_map, slice_get, slice_index, nat_lt, ◌==◌, refl, sym, ap, ◌∙◌, subst, eqb-true, append-nil, append_assoc, take-append-drop, true≢false}
+use Rattle.std.proofs.lemmas.Bool.{cond-true, cond-false}
+use Rattle.std.proofs.lemmas.List.Folds.{find-append}
+use Rattle.std.specs.Option.{option_or}
+use Rattle.bx_advice.specs.declared.config.Config.{Config}
+use Rattle.bx_entry.specs.Listing.{Listed}
+use Rattle.bx_entry.specs.Registry.{Registry, Registered, Judged, Waiting, refusal, registry, entries_of}
+use Rattle.bx_entry.specs.Sessions.{Session, Filed, session}
+use Rattle.bx_entry.specs.Answers.{PlacedAnswer, answer_of, filed_for, answer_by, answer_at, answer}
+use Rattle.bx_shard.specs.Shards.{Setup, shard_at, sessions_in, stands_in}
+use Rattle.bx_world.specs.Worlds.{World, new_world, Step, Admit, Apply, Take, Output, Admitted, NotAdmitted, Applied, Level, Taken, OutOfMemory, IsOutput, Runs, after, filed_under}
+use Rattle.bx_entry.specs.declared.entry.Ticket.{Ticket}
+use Rattle.bx_world.specs.Schedules.{TookBy, Took, EachTook, TakesAreAnswers}
+use Rattle.bx_laws.proofs.Moves.{either}
+use Rattle.bx_laws.proofs.Lists.{answer_more, find_each, find_true}
+use Rattle.bx_shard.proofs.Waits.{WaitsAt, answered_waits}
+use Rattle.bx_shard.proofs.Untaken.{found_kept}
+
+-- ---- finding
+
+-- what is found among the answers of some sessions is found in one of them
+found_in : (G : Type 0) (test : Filed → Bool) (f : Filed) (g : Registered → Session) (rs : List Registered) → ((s : Registered) → find test (g s).answers ≡ Some f → G) →
+    find test (flat_map (λ (s : Session). s.answers) (map g rs)) ≡ Some f → G
+found_in G test f g [] h e = cc
+found_in G test f g (r ∷ rs) h e =
+    let whole : option_or (find test (g r).answers) (find test (flat_map (λ (s : Session). s.answers) (map g rs))) ≡ Some f = sym (find-append test (g r).answers (flat_map (λ (s : Session). s.answers) (map g rs))) ∙ e in
+    let P : Option Filed → Type 0 = λ o. find test (g r).answers ≡ o → option_or o (find test (flat_map (λ (s : Session). s.answers) (map g rs))) ≡ Some f → G in
+    let at_none : P None = λ n c. found_in G test f g rs h c in
+    let at_some : (k : Filed) → P (Some k) = λ k n c. h r (n ∙ c) in
+    (elim (find test (g r).answers) as P [ None ↦ at_none | Some k ↦ at_some k ]) refl whole
+
+-- ---- a filed answer is the list's
+
+answer_waiting : (config : Config) (number place : ℕ) (a : PlacedAnswer) (r : Registry) (o : Option Judged) → option_map (λ (j : Judged). j.slot) o ≡ Some (Waiting number) →
+    filed_for place (session config number (entries_of r)).answers ≡ Some a → answer_at config (entries_of r) place o ≡ Some a
+answer_waiting config number place a r None w e = cc
+answer_waiting config number place a r (Some j) w e = let s : j.slot ≡ Waiting number = cc in ap (answer_by config (entries_of r) place) s ∙ e
+
+session_answer : (config : Config) (number place : ℕ) (xs : List Listed) (f : Filed) (a : PlacedAnswer) → answer_of f ≡ a →
+    find (λ (g : Filed). g.connect == place) (session config number (entries_of (registry config xs))).answers ≡ Some f → answer config xs place ≡ Some a
+session_answer config number place xs f a same e =
+    let r : Registry = registry config xs in
+    let test : Filed → Bool = λ g. g.connect == place in
+    let w : WaitsAt r.judged number f.connect = find_each (λ g. WaitsAt r.judged number g.connect) test (session config number (entries_of r)).answers f e (answered_waits config number xs).answers in
+    let here : f.connect ≡ place = eqb-true f.connect place (find_true test (session config number (entries_of r)).answers f e) in
+    answer_waiting config number place a r (slice_get r.judged place) (subst (WaitsAt r.judged number) here w) (ap (option_map answer_of) e ∙ ap Some same)
+
+found_answer : (setup : Setup) (list : List Listed) (taken : List ℕ) (k n place : ℕ) (a : PlacedAnswer) (o : Option Filed) → 0 < setup.config.limits.batch →
+    find (λ (f : Filed). f.connect == place) (shard_at setup list taken k n).filed ≡ o → option_map answer_of o ≡ Some a → answer setup.config list place ≡ Some a
+found_answer setup list taken k n place a None room e h = cc
+found_answer setup list taken k n place a (Some f) room e h =
+    let config : Config = setup.config in
+    let xs : List Listed = take n list in
+    let r : Registry = registry setup.config (take n list) in
+    let same : answer_of f ≡ a = cc in
+    let test : Filed → Bool = λ g. g.connect == place in
+    let found = found_kept taken place (flat_map (λ (s : Session). s.answers) (sessions_in setup list k n)) f e in
+    let there : answer setup.config (take n list) place ≡ Some a =
+    found_in (answer setup.config (take n list) place ≡ Some a) test f (λ (s : Registered). session setup.config s.number (entries_of r)) (filter (λ (s : Registered). stands_in setup k s.number) r.sessions)
+    (λ s g. session_answer setup.config s.number place (take n list) f a same g) found.0 in
+    sym (ap (λ (ys : List Listed). answer setup.config ys place) (take-append-drop n list)) ∙ answer_more setup.config (take n list) (drop n list) place a room there
+
+filed_answer : (setup : Setup) (w : World) (t : Ticket) (a : PlacedAnswer) → 0 < setup.config.limits.batch → filed_under setup w t ≡ Some a → answer setup.config w.list t.place ≡ Some a
+filed_answer setup w t a room e =
+    let filed : Option PlacedAnswer = option_map answer_of (find (λ (f : Filed). f.connect == t.place) (shard_at setup w.list w.taken t.shard (slice_index w.applied t.shard)).filed) in
+    either (nat_lt t.shard (length w.applied)) (answer setup.config w.list t.place ≡ Some a)
+    (λ h. found_answer setup w.list w.taken t.shard (slice_index w.applied t.shard) t.place a (find (λ (f : Filed). f.connect == t.place) (shard_at setup w.list w.taken t.shard (slice_index w.applied t.shard)).filed) room refl
+    (sym (cond-true (nat_lt t.shard (length w.applied)) filed None h) ∙ e))
+    (λ h. let n : None ≡ Some a = sym (cond-false (nat_lt t.shard (length w.applied)) filed None h) ∙ e in cc)
+
+-- ---- schedules
+
+-- the list only grows
+record Longer (v w : World) : Type 0 where
+  more : List Listed
+  list : w.list ≡ v.list ++ more
+
+same_list : (v w : World) → w.list ≡ v.list → Longer v w
+same_list v w e = record { more = []; list = e ∙ sym (append-nil v.list) }
+
+after_longer : (w : World) (step : Step) (out : Output) → Longer w (after w step out)
+after_longer w (Admit input) (Admitted first slots) = record { more = _; list = refl }
+after_longer w (Admit input) (NotAdmitted refusal) = same_list w _ refl
+after_longer w (Admit input) Applied = same_list w _ refl
+after_longer w (Admit input) Level = same_list w _ refl
+after_longer w (Admit input) (Taken o) = same_list w _ refl
+after_longer w (Admit input) OutOfMemory = same_list w _ refl
+after_longer w (Apply shard) (Admitted first slots) = same_list w _ refl
+after_longer w (Apply shard) (NotAdmitted refusal) = same_list w _ refl
+after_longer w (Apply shard) Applied = same_list w _ refl
+after_longer w (Apply shard) Level = same_list w _ refl
+after_longer w (Apply shard) (Taken o) = same_list w _ refl
+after_longer w (Apply shard) OutOfMemory = same_list w _ refl
+after_longer w (Take t) (Admitted first slots) = same_list w _ refl
+after_longer w (Take t) (NotAdmitted refusal) = same_list w _ refl
+after_longer w (Take t) Applied = same_list w _ refl
+after_longer w (Take t) Level = same_list w _ refl
+after_longer w (Take t) (Taken None) = same_list w _ refl
+after_longer w (Take t) (Taken (Some a)) = same_list w _ refl
+after_longer w (Take t) OutOfMemory = same_list w _ refl
+
+longer_after : (u v w : World) → Longer u v → Longer v w → Longer u w
+longer_after u v w l m = record { more = l.more ++ m.more; list = m.list ∙ ap (λ (xs : List Listed). xs ++ m.more) l.list ∙ append_assoc u.list l.more m.more }
+
+run_longer : (setup : Setup) (w : World) (steps : List Step) (outs : List Output) (last : World) → Runs setup w steps outs last → Longer w last
+run_longer setup w [] [] last r = same_list w last (ap (λ (v : World). v.list) r)
+run_longer setup w (step ∷ steps) (out ∷ outs) last r = longer_after w (after w step out) last (after_longer w step out) (run_longer setup (after w step out) steps outs last r.1)
+run_longer setup w [] (out ∷ outs) last r = absurd r
+run_longer setup w (step ∷ steps) [] last r = absurd r
+
+took_by : (setup : Setup) (w : World) (t : Ticket) (out : Output) (last : World) → 0 < setup.config.limits.batch → out ≡ Taken (filed_under setup w t) → Longer w last → TookBy setup.config last.list t out
+took_by setup w t (Admitted first slots) last room e l = tt
+took_by setup w t (NotAdmitted refusal) last room e l = tt
+took_by setup w t Applied last room e l = tt
+took_by setup w t Level last room e l = tt
+took_by setup w t (Taken None) last room e l = tt
+took_by setup w t (Taken (Some a)) last room e l =
+    let f : filed_under setup w t ≡ Some a = cc in
+    ap (λ (xs : List Listed). answer setup.config xs t.place) l.list ∙ answer_more setup.config w.list l.more t.place a room (filed_answer setup w t a room f)
+took_by setup w t OutOfMemory last room e l = tt
+
+took : (setup : Setup) (w : World) (step : Step) (out : Output) (last : World) → 0 < setup.config.limits.batch → IsOutput setup w step out → Longer w last → Took setup.config last.list step out
+took setup w (Admit input) out last room i l = tt
+took setup w (Apply shard) out last room i l = tt
+took setup w (Take t) out last room i l = ⊎_elim (λ e. took_by setup w t out last room e l) (λ m. absurd (true≢false (sym m.0))) i
+
+each_took : (setup : Setup) (w : World) (steps : List Step) (outs : List Output) (last : World) → 0 < setup.config.limits.batch → Runs setup w steps outs last → EachTook setup.config last.list steps outs
+each_took setup w [] outs last room r = tt
+each_took setup w (step ∷ steps) [] last room r = tt
+each_took setup w (step ∷ steps) (out ∷ outs) last room r = (
+  took setup w step out last room r.0 (longer_after w (after w step out) last (after_longer w step out) (run_longer setup (after w step out) steps outs last r.1)),
+  each_took setup (after w step out) steps outs last room r.1,
+)
+
+pub takes_are_answers : TakesAreAnswers
+takes_are_answers setup steps outs last room r = each_took setup (new_world setup) steps outs last room r
