@@ -1,5 +1,5 @@
 -- A shard as the program holds it, and what one entry does to it.
-use Rattle.std.specs.Prelude.{ℕ, ◌+◌, ◌==◌, ◌&&◌, ◌≡◌, ◌≢◌, ◌≤◌, Bool, true, false, List, if◌then◌else◌, Option, Some, None, is_some, Contains}
+use Rattle.std.specs.Prelude.{ℕ, ◌+◌, ◌==◌, ◌&&◌, ◌≡◌, ◌≢◌, ◌≤◌, Bool, true, false, List, if◌then◌else◌, nat_eq, option_map, Option, Some, None, is_some, Contains}
 use Rattle.std.specs.List.{list_any}
 use Rattle.bx_entry.specs.declared.entry.Entry.{Entry}
 use Rattle.bx_entry.specs.declared.entry.Kind.{Kind}
@@ -9,7 +9,8 @@ use Rattle.bx_session.specs.Seats.{pending}
 use Rattle.bx_shard.specs.declared.sessions.Sessions.{Sessions}
 use Rattle.bx_shard.specs.declared.connects.ConnectState.{ConnectState}
 use Rattle.bx_shard.specs.declared.connects.ConnectState.TheVariants.{Held, Filed}
-use Rattle.bx_shard.specs.Connects.{connect_at}
+use Rattle.futures.specs.declared.task.waker.Waker.{Waker}
+use Rattle.bx_shard.specs.Connects.{connect_at, unswept, unwatched, with_waker}
 use Rattle.bx_shard.specs.Effects.{holding}
 use Rattle.bx_shard.specs.Sessions.{AreTied, subscriber_in}
 use Rattle.bx_shard.specs.Shards.{Setup, stands_in}
@@ -108,6 +109,35 @@ pub record IsAsBefore (old new : State) : Type 0 where
 pub record IsSound (s : State) : Type 0 where
   pub tied : AreTied s.sessions
   pub fresh : (p : ℕ) → s.place ≤ p → connect_in s p ≡ None
+
+-- ---- the other calls
+
+-- the shard after a waker was brought for the connect at this place
+pub record Watched (connect : ℕ) (waker : Waker) (old new : State) : Type 0 where
+  pub place : new.place ≡ old.place
+  pub setup : new.setup ≡ old.setup
+  pub index : new.index ≡ old.index
+  pub shut : new.shut ≡ old.shut
+  pub sessions : (n : ℕ) → session_in new n ≡ session_in old n
+  pub connects : (p : ℕ) → connect_in new p ≡ (if nat_eq connect p then with_waker old.shut waker (connect_in old connect) else connect_in old p)
+
+-- the shard without the answers that were filed below this place
+pub record Swept (before : ℕ) (old new : State) : Type 0 where
+  pub place : new.place ≡ old.place
+  pub setup : new.setup ≡ old.setup
+  pub index : new.index ≡ old.index
+  pub shut : new.shut ≡ old.shut
+  pub sessions : (n : ℕ) → session_in new n ≡ session_in old n
+  pub connects : (p : ℕ) → connect_in new p ≡ unswept before (connect_in old p)
+
+-- the shard after it was shut
+pub record WasShut (old new : State) : Type 0 where
+  pub place : new.place ≡ old.place
+  pub setup : new.setup ≡ old.setup
+  pub index : new.index ≡ old.index
+  pub shut : new.shut ≡ true
+  pub sessions : (n : ℕ) → session_in new n ≡ session_in old n
+  pub connects : (p : ℕ) → connect_in new p ≡ option_map unwatched (connect_in old p)
 
 -- whether an entry of this kind is applied without taking memory
 abbrev pub takes_no_memory : Kind → Bool

@@ -8,7 +8,7 @@ use std::collections::BTreeSet;
 /// A hold: the moment at which it ends, in milliseconds, the place of its connect, and the number of its session.
 pub(crate) type Hold = (u64, u64, u64);
 
-/// The holds of a shard, those that end first before the others, so that a tick looks at no more of them than end.
+/// The holds of a shard, those that end first before the others, so that a tick looks at those that end and one more.
 #[derive(Drop)]
 pub(crate) struct Deadlines {
     holds: BTreeSet<Hold>,
@@ -42,7 +42,7 @@ impl Deadlines {
         self.holds.remove(&hold);
     }
 
-    /// The hold that ends first, where it ends at this moment or before it.
+    /// A hold that ends at this moment or before it, if there is one.
     pub(crate) fn first_due(&self, moment: u64) -> Option<Hold>
         ensures due { IfSome result (λ hold. hold.0 ≤ moment) }
         ensures noted { IfSome result (λ hold. is_noted self.now hold ≡ true) }

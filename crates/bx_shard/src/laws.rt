@@ -53,7 +53,7 @@ pub fn holds_taken()
     ensures { HoldsTaken }
 {}
 
-/// So does each other shard.
+/// A shard holds the same after an answer was taken from another.
 pub fn holds_beside()
     ensures { HoldsBeside }
 {}

@@ -9,6 +9,8 @@ mod patterns;
 mod publish;
 mod sessions;
 mod shard;
+#[cfg(test)]
+mod tests;
 mod tick;
 mod watch;
 

@@ -43,7 +43,7 @@ impl Sessions {
         }
     }
 
-    /// Whether the session stands here.
+    /// Whether the session is here.
     pub(crate) fn has(&self, number: u64) -> bool
         ensures { result ≡ is_some (seat_in self.now number) }
     {
@@ -64,7 +64,7 @@ impl Sessions {
         Ok(())
     }
 
-    /// A connect of a session, of which nothing was known.
+    /// A connect of a session. Nothing was known of that connect.
     pub(crate) fn connect(
         &mut self,
         alloc: Global,

@@ -7,8 +7,7 @@ use crate::sessions::Sessions;
 use crate::watch::Watch;
 use bx_advice::Config;
 use bx_entry::{Entry, Kind, Placing, Ticket};
-use bx_message::{Answer, RawJson, Text};
-use bx_session::PendingConnect;
+use bx_message::Answer;
 use futures::task::Waker;
 use std::alloc::{AllocError, Global};
 use std::sync::Arc;
@@ -33,13 +32,13 @@ pub struct Shard<P> {
 }
 
 impl<P: Placing> Shard<P> {
-    ghost use Rattle.std.specs.Prelude.{◌≡◌, ◌≢◌, ◌+◌, ◌<◌, ◌≤◌, ℕ, nat_eq, Bool, true, false, Some, None, [], option_map, if◌then◌else◌, OnOk, OnErr, IfOk, IfSome, IsOk, length};
+    ghost use Rattle.std.specs.Prelude.{◌≡◌, ◌<◌, ℕ, nat_eq, true, false, None, if◌then◌else◌, OnOk, OnErr, IsOk};
     ghost use Rattle.std.specs.Arc.{arc_value};
     ghost use Rattle.bx_advice.specs.Limits.{greatest_length};
     ghost use Rattle.bx_entry.specs.declared.entry.Entry.{Entry};
-    ghost use Rattle.bx_shard.specs.Connects.{count_filed_below, filed_answer, taken_from, unswept, unwatched, watched, with_waker};
+    ghost use Rattle.bx_shard.specs.Connects.{count_filed_below, filed_answer, watched};
     ghost use Rattle.bx_shard.specs.Held.{Took};
-    ghost use Rattle.bx_shard.specs.States.{Applied, IsAsBefore, IsSound, connect_in, opens_in, session_in, takes_no_memory};
+    ghost use Rattle.bx_shard.specs.States.{Applied, IsAsBefore, IsSound, Swept, Watched, WasShut, connect_in, opens_in, session_in, takes_no_memory};
     ghost use Rattle.bx_shard.specs.Seen.{setup_in, state};
 
     /// The shard of this index, counted from 0, in which no session stands and which has applied nothing.
@@ -69,8 +68,9 @@ impl<P: Placing> Shard<P> {
         self.place
     }
 
-    /// Applies the next entry. Where memory is refused the shard is as before, however many sessions the entry
-    /// reaches. A disconnect, a refused message and a tick take no memory.
+    /// Applies the next entry of the list, which has at most 2^62. Where memory is refused the shard is as before,
+    /// however many sessions the entry reaches. An unsubscription, a disconnect, a refused message and a tick take no
+    /// memory.
     pub fn apply(&mut self, alloc: Global, entry: &Entry) -> Result<(), AllocError>
         requires next { entry.now.place ≡ self.old.place }
         requires end { entry.now.place < greatest_length }
@@ -99,8 +99,10 @@ impl<P: Placing> Shard<P> {
 
     /// The answer that is filed under a ticket, which is taken with that: it is given once.
     pub fn take(&mut self, ticket: Ticket) -> Option<Answer>
-        ensures answer { result ≡ (if nat_eq ticket.shard self.old.index then filed_answer (connect_in (state P.place_of self.old) ticket.place) else None) }
-        ensures taken { nat_eq ticket.shard self.old.index ≡ true → Took ticket.place (state P.place_of self.old) (state P.place_of self.new) }
+        ensures answer { result ≡ (if nat_eq ticket.shard self.old.index
+            then filed_answer (connect_in (state P.place_of self.old) ticket.place) else None) }
+        ensures taken { nat_eq ticket.shard self.old.index ≡ true
+            → Took ticket.place (state P.place_of self.old) (state P.place_of self.new) }
         ensures other { nat_eq ticket.shard self.old.index ≡ false → self.new ≡ self.old }
         ensures sound { IsSound (state P.place_of self.new) }
     {
@@ -114,11 +116,12 @@ impl<P: Placing> Shard<P> {
     /// answer is filed, or no connect of this shard is held under the ticket, or the shard was shut. An older waker of
     /// the ticket is dropped, which wakes it.
     pub fn watch(&mut self, ticket: Ticket, waker: Waker) -> Watch
-        ensures watch { nat_eq ticket.shard self.old.index ≡ true → result ≡ watched self.old.is_shut waker (connect_in (state P.place_of self.old) ticket.place) }
-        ensures own { nat_eq ticket.shard self.old.index ≡ true → connect_in (state P.place_of self.new) ticket.place ≡ with_waker self.old.is_shut waker (connect_in (state P.place_of self.old) ticket.place) }
-        ensures other { nat_eq ticket.shard self.old.index ≡ false → (result ≡ Watch.Unknown waker) × (self.new ≡ self.old) }
-        ensures others { (p : ℕ) → nat_eq ticket.place p ≡ false → connect_in (state P.place_of self.new) p ≡ connect_in (state P.place_of self.old) p }
-        ensures sessions { (n : ℕ) → session_in (state P.place_of self.new) n ≡ session_in (state P.place_of self.old) n }
+        ensures watch { nat_eq ticket.shard self.old.index ≡ true
+            → result ≡ watched self.old.is_shut waker (connect_in (state P.place_of self.old) ticket.place) }
+        ensures own { nat_eq ticket.shard self.old.index ≡ true
+            → Watched ticket.place waker (state P.place_of self.old) (state P.place_of self.new) }
+        ensures other { nat_eq ticket.shard self.old.index ≡ false
+            → (result ≡ Watch.Unknown waker) × (self.new ≡ self.old) }
         ensures sound { IsSound (state P.place_of self.new) }
     {
         if ticket.shard != self.index {
@@ -131,9 +134,8 @@ impl<P: Placing> Shard<P> {
 
     /// Drops the answers that were filed by entries below this place and that nobody took, and says how many they were.
     pub fn sweep(&mut self, before: u64) -> usize
-        ensures swept { (p : ℕ) → connect_in (state P.place_of self.new) p ≡ unswept before (connect_in (state P.place_of self.old) p) }
+        ensures swept { Swept before (state P.place_of self.old) (state P.place_of self.new) }
         ensures count { result ≡ count_filed_below before self.old.sessions.connects }
-        ensures sessions { (n : ℕ) → session_in (state P.place_of self.new) n ≡ session_in (state P.place_of self.old) n }
         ensures sound { IsSound (state P.place_of self.new) }
     {
         self.sessions.connects.sweep(before)
@@ -142,9 +144,7 @@ impl<P: Placing> Shard<P> {
     /// Stores no waker from here on, and drops those that are stored, which wakes them. What is filed can still be
     /// taken.
     pub fn shut(&mut self)
-        ensures shut { self.new.is_shut ≡ true }
-        ensures connects { (p : ℕ) → connect_in (state P.place_of self.new) p ≡ option_map unwatched (connect_in (state P.place_of self.old) p) }
-        ensures sessions { (n : ℕ) → session_in (state P.place_of self.new) n ≡ session_in (state P.place_of self.old) n }
+        ensures shut { WasShut (state P.place_of self.old) (state P.place_of self.new) }
         ensures sound { IsSound (state P.place_of self.new) }
     {
         self.is_shut = true;
