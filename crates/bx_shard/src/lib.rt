@@ -9,8 +9,6 @@ mod patterns;
 mod publish;
 mod sessions;
 mod shard;
-#[cfg(test)]
-mod tests;
 mod tick;
 mod watch;
 
