@@ -31,6 +31,8 @@ pub struct LineBuffer {
 pub enum Line<'a> {
     /// A request's moment, in milliseconds, and its body.
     Post { moment: u64, body: &'a [u8] },
+    /// A tick of the clock, in milliseconds.
+    Tick { moment: u64 },
     /// Any other form.
     Bad,
 }
@@ -87,18 +89,21 @@ impl LineBuffer {
 
     /// What the line says.
     pub fn line(&self) -> Line<'_> {
-        match post_of(self.bytes.as_slice()) {
-            Some((moment, body)) => Line::Post { moment, body },
+        match line_of(self.bytes.as_slice()) {
+            Some(line) => line,
             None => Line::Bad,
         }
     }
 }
 
-// Digits, a space, `P`, a space and a body.
-fn post_of(line: &[u8]) -> Option<(u64, &[u8])> {
+// Digits and a space, and behind them `P`, a space and a body, or `T` alone.
+fn line_of(line: &[u8]) -> Option<Line<'_>> {
     let space = line.iter().position(|byte| *byte == b' ')?;
     let (digits, rest) = line.split_at(space);
+    let moment = number_of(str::from_utf8(digits).ok()?)?;
+    if rest == b" T".as_slice() {
+        return Some(Line::Tick { moment });
+    }
     let body = rest.strip_prefix(b" P ")?;
-    let digits = str::from_utf8(digits).ok()?;
-    Some((number_of(digits)?, body))
+    Some(Line::Post { moment, body })
 }

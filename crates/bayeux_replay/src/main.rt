@@ -3,10 +3,12 @@
 
 mod arguments;
 mod line;
-mod reply;
+mod outcome;
 mod script;
+mod server;
 #[cfg(test)]
 mod tests;
+mod waiting;
 
 use arguments::{Arguments, USAGE};
 use script::ReplayFault;

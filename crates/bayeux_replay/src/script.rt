@@ -2,11 +2,13 @@
 ghost use Rattle.std.specs.Prelude.{◌≤◌};
 
 use crate::line::{LineBuffer, Step};
-use crate::reply::{Outcome, answer};
+use crate::outcome::Out;
+use crate::server::Server;
 use bx_advice::Config;
-use bx_world::World;
+use bx_entry::{ByRemainder, Placing};
 use std::alloc::{AllocError, AllocFailed, Global};
 use std::io::{BufRead, ErrorKind, Write};
+use std::sync::Arc;
 use std::{fmt, io};
 
 /// How often it is read at most: 2^40 times.
@@ -23,7 +25,8 @@ pub enum ReplayFault {
     Write,
 }
 
-/// Writes what the server answers to each line that it reads, numbered from 1.
+/// Writes what the server answers to each line that it reads, numbered from 1, and at the end which lines have
+/// no answer yet. Sessions stand in the shards in turn.
 pub fn replay<R: BufRead, W: Write>(
     alloc: Global,
     config: Config,
@@ -34,7 +37,22 @@ pub fn replay<R: BufRead, W: Write>(
     requires some_worker { 1 ≤ _workers }
     requires workers_in_range { _workers ≤ 16 }
 {
-    let mut world = World::new(alloc, config);
+    let placing = Arc::new(alloc, ByRemainder)?;
+    let server = Server::new(alloc, config, placing)?;
+    serve(alloc, server, reader, writer)
+}
+
+/// Writes what this server answers to each line that it reads, numbered from 1, and at the end which lines have
+/// no answer yet.
+pub fn serve<P: Placing, R: BufRead, W: Write>(
+    alloc: Global,
+    mut server: Server<P>,
+    reader: &mut R,
+    writer: &mut W,
+) -> Result<(), ReplayFault>
+where
+    P: Drop,
+{
     let mut buffer = LineBuffer::new(alloc);
     let mut number = 0u64;
     for _ in 0..MAX_READS {
@@ -45,13 +63,13 @@ pub fn replay<R: BufRead, W: Write>(
             Step::More => {}
             Step::Complete => {
                 number = number.saturating_add(1);
-                let outcome = answer(alloc, &mut world, buffer.line())?;
-                write_outcome(writer, number, &outcome).map_err(|error| ReplayFault::of_write(
-                    &error,
-                ))?;
+                let outs = server.answer(alloc, number, buffer.line())?;
+                write_outs(writer, outs.as_slice())?;
                 buffer.clear();
             }
             Step::End => {
+                let outs = server.held(alloc)?;
+                write_outs(writer, outs.as_slice())?;
                 return writer
                     .flush()
                     .map_err(|error| ReplayFault::of_write(&error));
@@ -61,16 +79,12 @@ pub fn replay<R: BufRead, W: Write>(
     Err(ReplayFault::Read)
 }
 
-fn write_outcome<W: Write>(writer: &mut W, number: u64, outcome: &Outcome) -> io::Result<()> {
-    match outcome {
-        Outcome::Bad => writeln!(writer, "{number} bad"),
-        Outcome::Refused(status) => writeln!(writer, "{number} {status}"),
-        Outcome::Response(body) => {
-            write!(writer, "{number} 200 ")?;
-            writer.write_all(body.as_slice())?;
-            writer.write_all(b"\n")
-        }
+fn write_outs<W: Write>(writer: &mut W, outs: &[Out]) -> Result<(), ReplayFault> {
+    for out in outs {
+        out.write(writer)
+            .map_err(|error| ReplayFault::of_write(&error))?;
     }
+    Ok(())
 }
 
 impl ReplayFault {

@@ -1,103 +1,103 @@
 //! Whole runs, from a script to what is printed.
-use crate::script::{ReplayFault, replay};
-use bx_advice::{BODY_LIMIT, Config};
-use std::alloc::Global;
-use std::test::Fail;
+ghost use Rattle.std.specs.Prelude.{◌≤◌};
 
-// What the program prints for a script, with two shards and two workers.
-fn printed(alloc: Global, script: &[u8]) -> Result<Vec<u8>, ReplayFault> {
+mod acknowledged;
+mod events;
+mod held;
+mod limits;
+mod lines;
+mod random;
+mod refusals;
+mod schedules;
+mod shards;
+mod traffic;
+mod words;
+mod worlds;
+
+use crate::script::{ReplayFault, replay, serve};
+use crate::server::Server;
+use bx_advice::{BODY_LIMIT, Config};
+use bx_entry::{AllFirst, ByTable, Placing};
+use std::alloc::Global;
+use std::process::Abort;
+use std::sync::Arc;
+use std::test::Fail;
+use words::spelled;
+
+// What a run is about, its script, and what it prints.
+type Run = (&'static str, &'static str, &'static str);
+
+fn config(shards: usize) -> Result<Config, Fail> {
+    Ok(Config::new(shards, 30_000, 0, 10_000).ok_or("no configuration")?)
+}
+
+// What the program prints for a script.
+fn printed(alloc: Global, shards: usize, workers: usize, script: &[u8]) -> Result<Vec<u8>, Fail>
+    requires some_worker { 1 ≤ workers }
+    requires workers_in_range { workers ≤ 16 }
+{
     let mut written = Vec::new(alloc);
-    if let Some(config) = Config::new(2, 30_000, 0, 10_000) {
-        let mut reader = script;
-        replay(alloc, config, 2, &mut reader, &mut written)?;
-    }
+    let mut reader = script;
+    replay(alloc, config(shards)?, workers, &mut reader, &mut written).map_err(failed)?;
     Ok(written)
 }
 
-// What a run is about, its lines, and what it prints.
-const RUNS: [(&str, &str, &str); 14] = [
-    (
-        "a handshake repeats its id",
-        "0 P [{\"channel\":\"/meta/handshake\",\"version\":\"1.0\",\"supportedConnectionTypes\":[\"long-polling\"],\"id\":\"1\"}]\n",
-        "1 200 [{\"advice\":{\"interval\":0,\"reconnect\":\"retry\",\"timeout\":30000},\"channel\":\"/meta/handshake\",\"clientId\":\"000000000000000000000000000000000000000000000001\",\"id\":\"1\",\"successful\":true,\"supportedConnectionTypes\":[\"long-polling\",\"callback-polling\"],\"version\":\"1.0\"}]\n",
-    ),
-    ("an empty array", "0 P []\n", "1 200 []\n"),
-    (
-        "an unsupported version takes no number",
-        "0 P [{\"channel\":\"/meta/handshake\",\"version\":\"2.0\",\"supportedConnectionTypes\":[\"long-polling\"]}]\n0 P [{\"channel\":\"/meta/handshake\",\"version\":\"1.0\",\"supportedConnectionTypes\":[\"long-polling\"]}]\n",
-        "1 200 [{\"advice\":{\"interval\":0,\"reconnect\":\"none\"},\"channel\":\"/meta/handshake\",\"error\":\"400::Unsupported version\",\"successful\":false,\"supportedConnectionTypes\":[\"long-polling\",\"callback-polling\"],\"version\":\"1.0\"}]\n2 200 [{\"advice\":{\"interval\":0,\"reconnect\":\"retry\",\"timeout\":30000},\"channel\":\"/meta/handshake\",\"clientId\":\"000000000000000000000000000000000000000000000001\",\"successful\":true,\"supportedConnectionTypes\":[\"long-polling\",\"callback-polling\"],\"version\":\"1.0\"}]\n",
-    ),
-    (
-        "a body that is no JSON",
-        "0 P [{\"channel\":\n0 P [{\"channel\":\"/meta/handshake\",\"version\":\"1.0\",\"supportedConnectionTypes\":[\"long-polling\"]}]\n",
-        "1 400\n2 200 [{\"advice\":{\"interval\":0,\"reconnect\":\"retry\",\"timeout\":30000},\"channel\":\"/meta/handshake\",\"clientId\":\"000000000000000000000000000000000000000000000001\",\"successful\":true,\"supportedConnectionTypes\":[\"long-polling\",\"callback-polling\"],\"version\":\"1.0\"}]\n",
-    ),
-    (
-        "a second handshake, and an object outside an array",
-        "0 P [{\"channel\":\"/meta/handshake\",\"version\":\"1.0\",\"supportedConnectionTypes\":[\"long-polling\"]},{\"channel\":\"/meta/handshake\",\"version\":\"1.0\",\"supportedConnectionTypes\":[\"long-polling\"]}]\n0 P {\"channel\":\"/meta/handshake\",\"version\":\"1.0\",\"supportedConnectionTypes\":[\"long-polling\"]}\n",
-        "1 200 [{\"advice\":{\"interval\":0,\"reconnect\":\"retry\",\"timeout\":30000},\"channel\":\"/meta/handshake\",\"clientId\":\"000000000000000000000000000000000000000000000001\",\"successful\":true,\"supportedConnectionTypes\":[\"long-polling\",\"callback-polling\"],\"version\":\"1.0\"},{\"channel\":\"/meta/handshake\",\"error\":\"400::Second handshake\",\"successful\":false,\"supportedConnectionTypes\":[\"long-polling\",\"callback-polling\"],\"version\":\"1.0\"}]\n2 200 [{\"advice\":{\"interval\":0,\"reconnect\":\"retry\",\"timeout\":30000},\"channel\":\"/meta/handshake\",\"clientId\":\"000000000000000000000000000000000000000000000002\",\"successful\":true,\"supportedConnectionTypes\":[\"long-polling\",\"callback-polling\"],\"version\":\"1.0\"}]\n",
-    ),
-    (
-        "lines of another form, an empty body, no object",
-        "x\n0 P\n0 P \n0 P [1]\n",
-        "1 bad\n2 bad\n3 400\n4 400\n",
-    ),
-    (
-        "a moment above the greatest, and one that fits no number",
-        "4611686018427387905 P []\n18446744073709551616 P []\n00004611686018427387904 P []\n",
-        "1 400\n2 bad\n3 200 []\n",
-    ),
-    (
-        "no supported connection type",
-        "0 P [{\"channel\":\"/meta/handshake\",\"version\":\"1\",\"supportedConnectionTypes\":[\"websocket\",1]}]\n",
-        "1 200 [{\"advice\":{\"interval\":0,\"reconnect\":\"none\"},\"channel\":\"/meta/handshake\",\"error\":\"400::No supported connection type\",\"successful\":false,\"supportedConnectionTypes\":[\"long-polling\",\"callback-polling\"],\"version\":\"1.0\"}]\n",
-    ),
-    (
-        "disconnects without and with an unknown client id",
-        "0 P [{\"channel\":\"/meta/disconnect\"},{\"channel\":\"/meta/disconnect\",\"clientId\":\"nobody\"}]\n",
-        "1 200 [{\"advice\":{\"interval\":0,\"reconnect\":\"handshake\"},\"channel\":\"/meta/disconnect\",\"error\":\"401::No client id\",\"successful\":false},{\"advice\":{\"interval\":0,\"reconnect\":\"handshake\"},\"channel\":\"/meta/disconnect\",\"error\":\"402::Unknown client\",\"successful\":false}]\n",
-    ),
-    (
-        "a disconnect closes its session once, and its number is not given again",
-        "0 P [{\"channel\":\"/meta/handshake\",\"version\":\"1.0\",\"supportedConnectionTypes\":[\"long-polling\"]}]\n0 P [{\"channel\":\"/meta/disconnect\",\"clientId\":\"000000000000000000000000000000000000000000000001\"}]\n0 P [{\"channel\":\"/meta/disconnect\",\"clientId\":\"000000000000000000000000000000000000000000000001\"},{\"channel\":\"/meta/handshake\",\"version\":\"1.0\",\"supportedConnectionTypes\":[\"long-polling\"]}]\n",
-        "1 200 [{\"advice\":{\"interval\":0,\"reconnect\":\"retry\",\"timeout\":30000},\"channel\":\"/meta/handshake\",\"clientId\":\"000000000000000000000000000000000000000000000001\",\"successful\":true,\"supportedConnectionTypes\":[\"long-polling\",\"callback-polling\"],\"version\":\"1.0\"}]\n2 200 [{\"channel\":\"/meta/disconnect\",\"clientId\":\"000000000000000000000000000000000000000000000001\",\"successful\":true}]\n3 200 [{\"advice\":{\"interval\":0,\"reconnect\":\"handshake\"},\"channel\":\"/meta/disconnect\",\"error\":\"402::Unknown client\",\"successful\":false},{\"advice\":{\"interval\":0,\"reconnect\":\"retry\",\"timeout\":30000},\"channel\":\"/meta/handshake\",\"clientId\":\"000000000000000000000000000000000000000000000002\",\"successful\":true,\"supportedConnectionTypes\":[\"long-polling\",\"callback-polling\"],\"version\":\"1.0\"}]\n",
-    ),
-    (
-        "a session is live for the messages behind its handshake",
-        "0 P [{\"channel\":\"/meta/handshake\",\"version\":\"1.0\",\"supportedConnectionTypes\":[\"long-polling\"]},{\"channel\":\"/meta/disconnect\",\"clientId\":\"000000000000000000000000000000000000000000000001\"},{\"channel\":\"/meta/disconnect\",\"clientId\":\"000000000000000000000000000000000000000000000001\"}]\n",
-        "1 200 [{\"advice\":{\"interval\":0,\"reconnect\":\"retry\",\"timeout\":30000},\"channel\":\"/meta/handshake\",\"clientId\":\"000000000000000000000000000000000000000000000001\",\"successful\":true,\"supportedConnectionTypes\":[\"long-polling\",\"callback-polling\"],\"version\":\"1.0\"},{\"channel\":\"/meta/disconnect\",\"clientId\":\"000000000000000000000000000000000000000000000001\",\"successful\":true},{\"advice\":{\"interval\":0,\"reconnect\":\"handshake\"},\"channel\":\"/meta/disconnect\",\"error\":\"402::Unknown client\",\"successful\":false}]\n",
-    ),
-    (
-        "an unknown meta channel",
-        "0 P [{\"channel\":\"/meta/ping\",\"id\":7}]\n",
-        "1 200 [{\"channel\":\"/meta/ping\",\"error\":\"404::Unknown meta channel\",\"id\":7,\"successful\":false}]\n",
-    ),
-    (
-        "a message without a channel",
-        "0 P [{\"channel\":\"/meta/handshake\",\"version\":\"1.0\",\"supportedConnectionTypes\":[\"long-polling\"]},{\"channel\":1}]\n0 P [{\"channel\":\"/meta/handshake\",\"version\":\"1.0\",\"supportedConnectionTypes\":[\"long-polling\"]}]\n",
-        "1 400\n2 200 [{\"advice\":{\"interval\":0,\"reconnect\":\"retry\",\"timeout\":30000},\"channel\":\"/meta/handshake\",\"clientId\":\"000000000000000000000000000000000000000000000001\",\"successful\":true,\"supportedConnectionTypes\":[\"long-polling\",\"callback-polling\"],\"version\":\"1.0\"}]\n",
-    ),
-    (
-        "too many messages",
-        "0 P [{},{},{},{},{},{},{},{},{},{},{},{},{},{},{},{},{},{},{},{},{},{},{},{},{},{},{},{},{},{},{},{},{},{},{},{},{},{},{},{},{},{},{},{},{},{},{},{},{},{},{},{},{},{},{},{},{},{},{},{},{},{},{},{},{},{},{},{},{},{},{},{},{},{},{},{},{},{},{},{},{},{},{},{},{},{},{},{},{},{},{},{},{},{},{},{},{},{},{},{},{},{},{},{},{},{},{},{},{},{},{},{},{},{},{},{},{},{},{},{},{},{},{},{},{},{},{},{},{},{},{},{},{},{},{},{},{},{},{},{},{},{},{},{},{},{},{},{},{},{},{},{},{},{},{},{},{},{},{},{},{},{},{},{},{},{},{},{},{},{},{},{},{},{},{},{},{},{},{},{},{},{},{},{},{},{},{},{},{},{},{},{},{},{},{},{},{},{},{},{},{},{},{},{},{},{},{},{},{},{},{},{},{},{},{},{},{},{},{},{},{},{},{},{},{},{},{},{},{},{},{},{},{},{},{},{},{},{},{},{},{},{},{},{},{},{},{},{},{},{},{},{},{},{},{},{},{}]\n0 P [{},{},{},{},{},{},{},{},{},{},{},{},{},{},{},{},{},{},{},{},{},{},{},{},{},{},{},{},{},{},{},{},{},{},{},{},{},{},{},{},{},{},{},{},{},{},{},{},{},{},{},{},{},{},{},{},{},{},{},{},{},{},{},{},{},{},{},{},{},{},{},{},{},{},{},{},{},{},{},{},{},{},{},{},{},{},{},{},{},{},{},{},{},{},{},{},{},{},{},{},{},{},{},{},{},{},{},{},{},{},{},{},{},{},{},{},{},{},{},{},{},{},{},{},{},{},{},{},{},{},{},{},{},{},{},{},{},{},{},{},{},{},{},{},{},{},{},{},{},{},{},{},{},{},{},{},{},{},{},{},{},{},{},{},{},{},{},{},{},{},{},{},{},{},{},{},{},{},{},{},{},{},{},{},{},{},{},{},{},{},{},{},{},{},{},{},{},{},{},{},{},{},{},{},{},{},{},{},{},{},{},{},{},{},{},{},{},{},{},{},{},{},{},{},{},{},{},{},{},{},{},{},{},{},{},{},{},{},{},{},{},{},{},{},{},{},{},{},{},{},{},{},{},{},{},{}]\n",
-        "1 400\n2 400\n",
-    ),
-];
+// What is printed for a script with two shards and another placing of the sessions.
+fn printed_with<P: Placing>(alloc: Global, placing: P, script: &[u8]) -> Result<Vec<u8>, Fail>
+where
+    P: Drop,
+{
+    let placing = Arc::new(alloc, placing)?;
+    let server = Server::new(alloc, config(2)?, placing)?;
+    let mut written = Vec::new(alloc);
+    let mut reader = script;
+    serve(alloc, server, &mut reader, &mut written).map_err(failed)?;
+    Ok(written)
+}
 
-#[test]
-fn runs_print_what_the_rules_say(rt: HostRuntime) -> Result<(), Fail> {
-    for (about, script, expected) in &RUNS {
-        let written = printed(rt.alloc(), script.as_bytes())?;
-        assert_eq!(rt; written.as_slice(), expected.as_bytes(), "{about}");
+fn failed(_fault: ReplayFault) -> Fail {
+    Fail::from("the run failed")
+}
+
+// A script prints the same whatever the shards are, and which sessions they have. Both texts are written in words.
+fn check(
+    rt: &impl Abort,
+    alloc: Global,
+    about: &str,
+    script: &str,
+    expected: &str,
+) -> Result<(), Fail> {
+    let script = spelled(alloc, script)?;
+    let script = script.as_bytes();
+    let expected = spelled(alloc, expected)?;
+    let expected = expected.as_bytes();
+    for (shards, workers) in [(1, 1), (2, 2), (64, 16)] {
+        let written = printed(alloc, shards, workers, script)?;
+        assert_eq!(rt; written.as_slice(), expected, "{about}, {shards} shards");
+    }
+    let written = printed_with(alloc, AllFirst, script)?;
+    assert_eq!(rt;
+        written.as_slice(),
+        expected,
+        "{about}, all in the first shard"
+    );
+    let written = printed_with(alloc, ByTable::new(alloc, &[1, 0, 0])?, script)?;
+    assert_eq!(rt; written.as_slice(), expected, "{about}, shards by a table");
+    Ok(())
+}
+
+fn check_all(rt: &impl Abort, alloc: Global, runs: &[Run]) -> Result<(), Fail> {
+    for (about, script, expected) in runs {
+        check(rt, alloc, about, script, expected)?;
     }
     Ok(())
 }
 
 #[test]
 fn a_last_line_without_its_end_counts(rt: HostRuntime) -> Result<(), Fail> {
-    let written = printed(rt.alloc(), b"0 P []\n0 P []")?;
+    let written = printed(rt.alloc(), 2, 2, b"0 P []\n0 P []")?;
     assert_eq!(rt; written.as_slice(), b"1 200 []\n2 200 []\n".as_slice());
-    let written = printed(rt.alloc(), b"")?;
+    let written = printed(rt.alloc(), 2, 2, b"")?;
     assert_eq!(rt; written.as_slice(), b"".as_slice());
     Ok(())
 }
@@ -114,13 +114,14 @@ fn long_script(alloc: Global, head: &[u8], byte: u8, count: usize) -> Result<Vec
 
 #[test]
 fn a_body_has_at_most_so_many_bytes(rt: HostRuntime) -> Result<(), Fail> {
-    for (count, expected) in [
-        (BODY_LIMIT - 2, "1 200 []\n2 200 []\n"),
-        (BODY_LIMIT - 1, "1 413\n2 200 []\n"),
-        (BODY_LIMIT * 3, "1 413\n2 200 []\n"),
+    for (head, count, expected) in [
+        ("0 P []", BODY_LIMIT - 2, "1 200 []\n2 200 []\n"),
+        ("0 P []", BODY_LIMIT - 1, "1 413\n2 200 []\n"),
+        ("0 P ", BODY_LIMIT + 1, "1 413\n2 200 []\n"),
+        ("0 P []", BODY_LIMIT * 3, "1 413\n2 200 []\n"),
     ] {
-        let script = long_script(rt.alloc(), b"0 P []", b' ', count)?;
-        let written = printed(rt.alloc(), script.as_slice())?;
+        let script = long_script(rt.alloc(), head.as_bytes(), b' ', count)?;
+        let written = printed(rt.alloc(), 2, 2, script.as_slice())?;
         assert_eq!(rt; written.as_slice(), expected.as_bytes(), "{count} spaces");
     }
     Ok(())
@@ -129,7 +130,7 @@ fn a_body_has_at_most_so_many_bytes(rt: HostRuntime) -> Result<(), Fail> {
 #[test]
 fn a_long_line_of_another_form_is_bad(rt: HostRuntime) -> Result<(), Fail> {
     let script = long_script(rt.alloc(), b"", b'0', BODY_LIMIT * 3)?;
-    let written = printed(rt.alloc(), script.as_slice())?;
+    let written = printed(rt.alloc(), 2, 2, script.as_slice())?;
     assert_eq!(rt; written.as_slice(), b"1 bad\n2 200 []\n".as_slice());
     Ok(())
 }

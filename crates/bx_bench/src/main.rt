@@ -7,6 +7,7 @@ mod sessions;
 mod transports;
 mod tree;
 mod workloads;
+mod worlds;
 
 use anyhow::Result;
 use std::env;
@@ -34,7 +35,13 @@ tree-100000-build only the tree
 registry-open     10,000 sessions are opened, a request each
 registry-publish  1,000,000 publishes of 10,000 sessions are planned and committed, a request each
 registry-hundreds the same, 100 publishes a request
-registry-tick     100,000 ticks over 65,536 live sessions of which none is due";
+registry-tick     100,000 ticks over 65,536 live sessions of which none is due
+world-1-open      a server of one shard, and 10,000 sessions that are opened and subscribe
+world-1           the same, and then 900,000 publishes that reach ten sessions each, and 100,000 connects
+world-4-open      the same as world-1-open with 4 shards
+world-4           the same as world-1 with 4 shards
+world-64-open     with 64 shards
+world-64          with 64 shards";
 
 fn main(rt: HostRuntime) -> Result<()> {
     let alloc = rt.alloc();
@@ -65,6 +72,12 @@ fn main(rt: HostRuntime) -> Result<()> {
                 "registry-publish" => registry::publish(alloc)? as usize,
                 "registry-hundreds" => registry::publish_hundreds(alloc)? as usize,
                 "registry-tick" => registry::tick(alloc)? as usize,
+                "world-1-open" => worlds::opened(alloc, 1)? as usize,
+                "world-1" => worlds::run(alloc, 1)? as usize,
+                "world-4-open" => worlds::opened(alloc, 4)? as usize,
+                "world-4" => worlds::run(alloc, 4)? as usize,
+                "world-64-open" => worlds::opened(alloc, 64)? as usize,
+                "world-64" => worlds::run(alloc, 64)? as usize,
                 _ => 0,
             };
             println!(rt; "{total}")?;

@@ -144,7 +144,7 @@ places_above first n (e ∷ es) h d = (omega (arith, d.0), places_above first (n
 pub judged_length : (config : Config) (xs : List Listed) → length (registry config xs).judged ≡ length xs
 judged_length config xs = let j : Judges (length xs) empty_registry (registry config xs) = judges config empty_registry xs in ap length j.judged ∙ j.many
 
-entries_length : (config : Config) (xs : List Listed) → length (entries_of (registry config xs)) ≡ length xs
+pub entries_length : (config : Config) (xs : List Listed) → length (entries_of (registry config xs)) ≡ length xs
 entries_length config xs = length-map (registry config xs).judged entry_of ∙ judged_length config xs
 
 -- every connect that was answered over the list stands in it

@@ -17,7 +17,7 @@ use Rattle.bx_laws.proofs.Lists.{answer_more, answer_less, judged_length}
 
 -- ---- inputs taken in
 
-abbrev EachDealt : (Dealt → Type 0) → List Dealt → Type 0
+abbrev pub EachDealt : (Dealt → Type 0) → List Dealt → Type 0
 EachDealt P [] = Unit {0}
 EachDealt P (d ∷ ds) = P d × EachDealt P ds
 
@@ -39,14 +39,14 @@ takes_as t input None = record { more = added_by input; list = refl; one = _; de
 takes_as t input (Some refusal) = record { more = []; list = sym (append-nil t.list); one = _; dealt = refl; first = omega arith; end = omega arith }
 
 -- more inputs
-record Took (t u : Taking) (count : ℕ) : Type 0 where
-  more : List Listed
-  list : u.list ≡ t.list ++ more
-  ones : List Dealt
-  dealt : u.dealt ≡ t.dealt ++ ones
-  many : length ones ≡ count
-  first : EachDealt (λ d. length t.list ≤ d.first) ones
-  end : EachDealt (λ d. d.first + d.count ≤ length u.list) ones
+pub record Took (t u : Taking) (count : ℕ) : Type 0 where
+  pub more : List Listed
+  pub list : u.list ≡ t.list ++ more
+  pub ones : List Dealt
+  pub dealt : u.dealt ≡ t.dealt ++ ones
+  pub many : length ones ≡ count
+  pub first : EachDealt (λ d. length t.list ≤ d.first) ones
+  pub end : EachDealt (λ d. d.first + d.count ≤ length u.list) ones
 
 took_more : (t u v : Taking) (count : ℕ) → Takes t u → Took u v count → Took t v (suc count)
 took_more t u v count a b =
@@ -62,7 +62,7 @@ took_more t u v count a b =
       end = (omega (arith, a.end), b.end);
     }
 
-took : (t : Taking) (inputs : List ReadInput) → Took t (fold takes_in t inputs) (length inputs)
+pub took : (t : Taking) (inputs : List ReadInput) → Took t (fold takes_in t inputs) (length inputs)
 took t [] = record { more = []; list = sym (append-nil t.list); ones = []; dealt = sym (append-nil t.dealt); many = refl; first = tt; end = tt }
 took t (i ∷ inputs) = took_more t (takes_in t i) (fold takes_in (takes_in t i) inputs) (length inputs) (takes_as t i (refusal_of (length t.list) i)) (took (takes_in t i) inputs)
 
@@ -90,14 +90,18 @@ past [] k h = refl
 past (j ∷ js) zero h = absurd (omega arith)
 past (j ∷ js) (suc k) h = past js k (omega arith)
 
-beyond : (config : Config) (xs : List Listed) (place : ℕ) → length xs ≤ place → answer config xs place ≡ None
+pub beyond : (config : Config) (xs : List Listed) (place : ℕ) → length xs ≤ place → answer config xs place ≡ None
 beyond config xs place h =
     ap (answer_at config (entries_of (registry config xs)) place) (past (registry config xs).judged place (omega (arith, judged_length config xs)))
 
 -- ---- the greatest place
 
-AheadAll : ℕ → (ℕ → Option PlacedAnswer) → (ℕ → Option PlacedAnswer) → Type 0
+pub AheadAll : ℕ → (ℕ → Option PlacedAnswer) → (ℕ → Option PlacedAnswer) → Type 0
 AheadAll end f g = (p : ℕ) → Ahead end (f p) (g p)
+
+pub ahead_all : (config : Config) (xs ys : List Listed) → 0 < config.limits.batch → AheadAll (length xs) (answer_in config (registry config xs)) (answer_in config (registry config (xs ++ ys)))
+unfolding AheadAll
+ahead_all config xs ys room = λ p. ahead_of config xs ys p (answer config xs p) room refl
 
 latest_above : (m k : ℕ) (os : List (Option PlacedAnswer)) → latest m os ≡ Some k → m ≤ k
 latest_above m k [] e = let same : m ≡ k = cc in omega arith
@@ -109,7 +113,7 @@ same_one : (end m k : ℕ) (o u : Option PlacedAnswer) (os us : List (Option Pla
 same_one end m k None u os us a h e = cc
 same_one end m k (Some b) u os us a h e = let one : u ≡ Some b = a in let rest : us ≡ os = h (max m b.place) e in cc
 
-latest_same : (end m k : ℕ) (f g : ℕ → Option PlacedAnswer) (ps : List ℕ) → AheadAll end f g → latest m (map f ps) ≡ Some k → map g ps ≡ map f ps
+pub latest_same : (end m k : ℕ) (f g : ℕ → Option PlacedAnswer) (ps : List ℕ) → AheadAll end f g → latest m (map f ps) ≡ Some k → map g ps ≡ map f ps
 unfolding AheadAll
 latest_same end m k f g [] a e = refl
 latest_same end m k f g (p ∷ ps) a e = same_one end m k (f p) (g p) (map f ps) (map g ps) (a p) (λ n h. latest_same end n k f g ps a h) e
@@ -121,21 +125,21 @@ later_one end m n k None (Some b) os us a h d e = let l : max n b.place ≤ k = 
 later_one end m n k (Some b) None os us a h d e = cc
 later_one end m n k (Some b) (Some c) os us a h d e = h (max m b.place) (max n c.place) d e
 
-latest_later : (end m n k : ℕ) (f g : ℕ → Option PlacedAnswer) (ps : List ℕ) → AheadAll end f g → latest m (map f ps) ≡ None → latest n (map g ps) ≡ Some k → end ≤ k
+pub latest_later : (end m n k : ℕ) (f g : ℕ → Option PlacedAnswer) (ps : List ℕ) → AheadAll end f g → latest m (map f ps) ≡ None → latest n (map g ps) ≡ Some k → end ≤ k
 unfolding AheadAll
 latest_later end m n k f g [] a d e = cc
 latest_later end m n k f g (p ∷ ps) a d e = later_one end m n k (f p) (g p) (map f ps) (map g ps) (a p) (λ i j x y. latest_later end i j k f g ps a x y) d e
 
 -- ---- the input that has a place
 
-where_first : (test : Dealt → Bool) (ds more : List Dealt) → position_or_len test ds < length ds → position_or_len test (ds ++ more) ≡ position_or_len test ds
+pub where_first : (test : Dealt → Bool) (ds more : List Dealt) → position_or_len test ds < length ds → position_or_len test (ds ++ more) ≡ position_or_len test ds
 where_first test [] more h = absurd (omega arith)
 where_first test (d ∷ ds) more h = either (test d) (position_or_len test (d ∷ (ds ++ more)) ≡ position_or_len test (d ∷ ds))
     (λ g. cond-false (not (test d)) (1 + position_or_len test (ds ++ more)) 0 (ap not g) ∙ sym (cond-false (not (test d)) (1 + position_or_len test ds) 0 (ap not g)))
     (λ g. let here : position_or_len test (d ∷ ds) ≡ 1 + position_or_len test ds = cond-true (not (test d)) (1 + position_or_len test ds) 0 (ap not g) in
     cond-true (not (test d)) (1 + position_or_len test (ds ++ more)) 0 (ap not g) ∙ ap (λ (n : ℕ). 1 + n) (where_first test ds more (omega (arith, here))) ∙ sym here)
 
-where_late : (test : Dealt → Bool) (ds more : List Dealt) → length ds ≤ position_or_len test ds → length ds ≤ position_or_len test (ds ++ more)
+pub where_late : (test : Dealt → Bool) (ds more : List Dealt) → length ds ≤ position_or_len test ds → length ds ≤ position_or_len test (ds ++ more)
 where_late test [] more h = omega arith
 where_late test (d ∷ ds) more h = either (test d) (length (d ∷ ds) ≤ position_or_len test (d ∷ (ds ++ more)))
     (λ g. absurd (let here : position_or_len test (d ∷ ds) ≡ 0 = cond-false (not (test d)) (1 + position_or_len test ds) 0 (ap not g) in omega (arith, here)))
@@ -143,7 +147,7 @@ where_late test (d ∷ ds) more h = either (test d) (length (d ∷ ds) ≤ posit
     let there : position_or_len test (d ∷ (ds ++ more)) ≡ 1 + position_or_len test (ds ++ more) = cond-true (not (test d)) (1 + position_or_len test (ds ++ more)) 0 (ap not g) in
     omega (arith, there, where_late test ds more (omega (arith, here))))
 
-where_none : (test : Dealt → Bool) (ds : List Dealt) → EachDealt (λ d. test d ≡ false) ds → length ds ≤ position_or_len test ds
+pub where_none : (test : Dealt → Bool) (ds : List Dealt) → EachDealt (λ d. test d ≡ false) ds → length ds ≤ position_or_len test ds
 where_none test [] e = omega arith
 where_none test (d ∷ ds) e =
     let here : position_or_len test (d ∷ ds) ≡ 1 + position_or_len test ds = cond-true (not (test d)) (1 + position_or_len test ds) 0 (ap not e.0) in
@@ -168,7 +172,7 @@ position_front j test ds more h = ⊎_elim
     (cases_lt (position_or_len test ds) (length ds))
 
 -- no input has a place past the end of all
-nowhere : (end k : ℕ) (ds : List Dealt) → end ≤ k → EachDealt (λ d. d.first + d.count ≤ end) ds → EachDealt (λ d. has_place k d ≡ false) ds
+pub nowhere : (end k : ℕ) (ds : List Dealt) → end ≤ k → EachDealt (λ d. d.first + d.count ≤ end) ds → EachDealt (λ d. has_place k d ≡ false) ds
 nowhere end k [] h e = tt
 nowhere end k (d ∷ ds) h e = (either (has_place k d) (has_place k d ≡ false) (λ g. absurd (let l : k < d.first + d.count = ltb-true k (d.first + d.count) (second (nat_le d.first k) (nat_lt k (d.first + d.count)) g) in omega (arith, e.0))) (λ g. g), nowhere end k ds h e.1)
   where
@@ -208,7 +212,7 @@ answers_same end j i f g dealt (p ∷ ps) a h =
 
 -- ---- all inputs
 
-whole_push : (j : ℕ) (w : Whole) (ws : List Whole) → whole_at j (w ∷ ws) ≡ cond (is_at j w.at) (w.out ∷ whole_at j ws) (whole_at j ws)
+pub whole_push : (j : ℕ) (w : Whole) (ws : List Whole) → whole_at j (w ∷ ws) ≡ cond (is_at j w.at) (w.out ∷ whole_at j ws) (whole_at j ws)
 whole_push j w ws =
     let kept : List Whole = filter (λ (v : Whole). is_at j v.at) ws in
     (elim (is_at j w.at) as (λ b. map (λ (v : Whole). v.out) (cond b (w ∷ kept) kept) ≡ cond b (w.out ∷ map (λ (v : Whole). v.out) kept) (map (λ (v : Whole). v.out) kept)) [ true ↦ refl | false ↦ refl ])
@@ -263,12 +267,12 @@ back_none config end j i r t dealt more (d ∷ ds) w e l k =
     ∙ cond-false (is_at j (whole_of config t (dealt ++ more) i d).at) _ (whole_at j (wholes_from config t (dealt ++ more) (i + 1) ds)) (at_same config end j i r t dealt more d w l ∙ not_whole config end j i r t dealt d d.input w e.0 k)
     ∙ back_none config end j (i + 1) r t dealt more ds w e.1 l (omega arith)
 
-wholes_split : (config : Config) (t : Registry) (dealt : List Dealt) (i : ℕ) (ds more : List Dealt) → wholes_from config t dealt i (ds ++ more) ≡ wholes_from config t dealt i ds ++ wholes_from config t dealt (i + length ds) more
+pub wholes_split : (config : Config) (t : Registry) (dealt : List Dealt) (i : ℕ) (ds more : List Dealt) → wholes_from config t dealt i (ds ++ more) ≡ wholes_from config t dealt i ds ++ wholes_from config t dealt (i + length ds) more
 wholes_split config t dealt i [] more = ap (λ (n : ℕ). wholes_from config t dealt n more) (let l : i ≡ i + 0 = omega arith in l)
 wholes_split config t dealt i (d ∷ ds) more = ap (λ (ws : List Whole). whole_of config t dealt i d ∷ ws)
     (wholes_split config t dealt (i + 1) ds more ∙ ap (λ (n : ℕ). wholes_from config t dealt (i + 1) ds ++ wholes_from config t dealt n more) (let l : i + 1 + length ds ≡ i + length (d ∷ ds) = omega arith in l))
 
-whole_append : (j : ℕ) (us ws : List Whole) → whole_at j (us ++ ws) ≡ whole_at j us ++ whole_at j ws
+pub whole_append : (j : ℕ) (us ws : List Whole) → whole_at j (us ++ ws) ≡ whole_at j us ++ whole_at j ws
 whole_append j [] ws = refl
 whole_append j (u ∷ us) ws = whole_push j u (us ++ ws)
     ∙ (elim (is_at j u.at) as (λ b. cond b (u.out ∷ whole_at j (us ++ ws)) (whole_at j (us ++ ws)) ≡ cond b (u.out ∷ whole_at j us) (whole_at j us) ++ whole_at j ws)
@@ -277,26 +281,25 @@ whole_append j (u ∷ us) ws = whole_push j u (us ++ ws)
 
 -- ---- the law
 
-numbers_split : (a b c : ℕ) → numbers_from a (b + c) ≡ numbers_from a b ++ numbers_from (a + b) c
+pub numbers_split : (a b c : ℕ) → numbers_from a (b + c) ≡ numbers_from a b ++ numbers_from (a + b) c
 numbers_split a zero c = ap (numbers_from a) (let l : zero + c ≡ c = omega arith in l) ∙ ap (λ (n : ℕ). numbers_from n c) (let l : a ≡ a + zero = omega arith in l)
 numbers_split a (suc b) c = ap (numbers_from a) (let l : suc b + c ≡ suc (b + c) = omega arith in l)
     ∙ ap (λ (ns : List ℕ). a ∷ ns) (numbers_split (a + 1) b c ∙ ap (λ (n : ℕ). numbers_from (a + 1) b ++ numbers_from n c) (let l : a + 1 + b ≡ a + suc b = omega arith in l))
 
-flat_same : (n : ℕ) (F G : ℕ → List Out) (first count : ℕ) → first + count ≤ n → ((j : ℕ) → j < n → F j ≡ G j) → flat_map F (numbers_from first count) ≡ flat_map G (numbers_from first count)
+pub flat_same : (n : ℕ) (F G : ℕ → List Out) (first count : ℕ) → first + count ≤ n → ((j : ℕ) → j < n → F j ≡ G j) → flat_map F (numbers_from first count) ≡ flat_map G (numbers_from first count)
 flat_same n F G first zero h e = refl
 flat_same n F G first (suc count) h e = ap (λ (os : List Out). os ++ flat_map F (numbers_from (first + 1) count)) (e first (omega arith))
     ∙ ap (λ (os : List Out). G first ++ os) (flat_same n F G (first + 1) count (omega arith) e)
 
-record Grows (config : Config) (t u : Taking) (count : ℕ) : Type 0 where
-  same : (j : ℕ) → j < count → whole_at j (wholes_from config (registry config u.list) u.dealt 0 u.dealt) ≡ whole_at j (wholes_from config (registry config t.list) t.dealt 0 t.dealt)
+pub record Grows (config : Config) (t u : Taking) (count : ℕ) : Type 0 where
+  pub same : (j : ℕ) → j < count → whole_at j (wholes_from config (registry config u.list) u.dealt 0 u.dealt) ≡ whole_at j (wholes_from config (registry config t.list) t.dealt 0 t.dealt)
 
-grows : (config : Config) (t u : Taking) (count more : ℕ) → 0 < config.limits.batch → length t.dealt ≡ count → EachDealt (λ d. d.first + d.count ≤ length t.list) t.dealt → Took t u more → Grows config t u count
-unfolding AheadAll
+pub grows : (config : Config) (t u : Taking) (count more : ℕ) → 0 < config.limits.batch → length t.dealt ≡ count → EachDealt (λ d. d.first + d.count ≤ length t.list) t.dealt → Took t u more → Grows config t u count
 grows config t u count more room many ends k =
     let r : Registry = registry config t.list in
     let v : Registry = registry config (t.list ++ k.more) in
     let w : Two config (length t.list) (registry config t.list) (registry config (t.list ++ k.more)) t.dealt = record {
-      ahead = λ p. ahead_of config t.list k.more p (answer config t.list p) room refl;
+      ahead = ahead_all config t.list k.more room;
       end_of = ends;
       none = λ p h. beyond config t.list p h;
     } in

@@ -32,7 +32,7 @@ use Rattle.bx_shard.specs.States.{Applied, IsGiven, IsSound, State, begun, conne
 use Rattle.bx_shard.specs.Steps.{answers_by, opening_by, stepped}
 use Rattle.bx_shard.specs.Subscribers.{Subscriber, answers, closes, newcomer, onward, subscriber_of}
 use Rattle.bx_shard.proofs.Elements.{Met, met}
-use Rattle.bx_shard.proofs.Filing.{shards_file}
+use Rattle.bx_shard.proofs.Filings.{shards_file}
 use Rattle.bx_shard.proofs.Finding.{Apart, GivenBy, apart, contains_found, each_none, find_kept, found_each, given_by, next, none_there, numbers_of, placed_found, steps, steps_found}
 use Rattle.bx_shard.proofs.Gives.{Unanswered, all_contains, given_unanswered}
 use Rattle.bx_shard.proofs.Holdings.{holds_reached, sessions_ascend}

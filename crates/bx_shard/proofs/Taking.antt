@@ -36,7 +36,7 @@ taken_other (t ∷ ts) place p h = ap (λ (b : Bool). (t == p) || b) (taken_othe
 abbrev pub find_of : ℕ → List Filed → Option Filed
 find_of p fs = find (λ (f : Filed). f.connect == p) fs
 
-abbrev untaken : List ℕ → List Filed → List Filed
+abbrev pub untaken : List ℕ → List Filed → List Filed
 untaken taken fs = filter (λ (f : Filed). not (is_taken taken f.connect)) fs
 
 pub none_taken : (taken : List ℕ) (p : ℕ) (fs : List Filed) → is_taken taken p ≡ true → find_of p (filter (λ (f : Filed). not (is_taken taken f.connect)) fs) ≡ None
@@ -55,12 +55,12 @@ same_found taken place p fs h =
 
 -- ---- a connect whose answer is filed
 
-filed_below : (s : State) (place : ℕ) → IsSound s → IsSome (filed_answer (connect_in s place)) → place < s.place
+pub filed_below : (s : State) (place : ℕ) → IsSound s → IsSome (filed_answer (connect_in s place)) → place < s.place
 filed_below s place sound some = either (nat_lt place s.place) (place < s.place) (λ l. ltb-true place s.place l)
     (λ l. let none : connect_in s place ≡ None = sound.fresh place (ltb-false place s.place l) in
     let nothing : false ≡ true = sym (ap (λ (o : Option ConnectState). is_some (filed_answer o)) none) ∙ some in cc)
 
-gone_from : (o : Option ConnectState) → IsSome (filed_answer o) → taken_from o ≡ None
+pub gone_from : (o : Option ConnectState) → IsSome (filed_answer o) → taken_from o ≡ None
 gone_from None h = cc
 gone_from (Some (states.Held session deadline waker)) h = cc
 gone_from (Some (states.Filed place answer)) h = refl
@@ -126,13 +126,13 @@ connect_of_filed setup list taken shard n p f e =
     }
 
 -- so it is of one shard alone
-one_shard : (setup : Setup) (list : List Listed) (a b p : ℕ) → IsConnectOf setup list a p → IsConnectOf setup list b p → a ≡ b
+pub one_shard : (setup : Setup) (list : List Listed) (a b p : ℕ) → IsConnectOf setup list a p → IsConnectOf setup list b p → a ≡ b
 one_shard setup list a b p c d =
     let both : Some (Waiting c.session) ≡ Some (Waiting d.session) = sym c.waits ∙ d.waits in
     let same : c.session ≡ d.session = cc in
     sym (eqb-true (setup.placing c.session setup.shards) a c.stands) ∙ ap (λ (m : ℕ). setup.placing m setup.shards) same ∙ eqb-true (setup.placing d.session setup.shards) b d.stands
 
-connect_of_known : (setup : Setup) (list : List Listed) (taken : List ℕ) (shard n p : ℕ) (s : State) → Holds setup list taken shard n s → IsSome (filed_answer (connect_in s p)) → IsConnectOf setup list shard p
+pub connect_of_known : (setup : Setup) (list : List Listed) (taken : List ℕ) (shard n p : ℕ) (s : State) → Holds setup list taken shard n s → IsSome (filed_answer (connect_in s p)) → IsConnectOf setup list shard p
 connect_of_known setup list taken shard n p s h some =
     let P : Option Filed → Type 0 = λ u. find_of p (shard_at setup list taken shard n).filed ≡ u → filed_with_place (connect_in s p) ≡ option_map answer_of u → IsConnectOf setup list shard p in
     let at_none : P None = λ a b. absurd (none_filed (connect_in s p) some b) in

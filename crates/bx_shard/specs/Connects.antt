@@ -5,12 +5,62 @@ use Rattle.futures.specs.declared.task.waker.Waker.{Waker}
 use Rattle.bx_message.specs.declared.reply.Answer.{Answer}
 use Rattle.bx_shard.specs.declared.connects.ConnectState.{ConnectState}
 use Rattle.bx_shard.specs.declared.connects.ConnectState.TheVariants.{Held, Filed}
+use Rattle.bx_shard.specs.declared.connects.FiledAnswer.{FiledAnswer}
+use Rattle.bx_shard.specs.declared.held.HeldConnect.{HeldConnect}
 use Rattle.bx_shard.specs.declared.watch.Watch.{Watch}
 use Rattle.bx_shard.specs.declared.watch.Watch.TheVariants.{Stored, Ready, Unknown, Shut}
 
+-- the connects that are held, and the answers that are filed, each with the place of its connect
+pub record KnownConnects : Type 0 where
+  pub held : List (ℕ × HeldConnect)
+  pub filed : List (ℕ × FiledAnswer)
+
+-- what is held at a place of the list
+abbrev pub hold_at : List (ℕ × HeldConnect) → ℕ → Option HeldConnect
+hold_at held place = lookup (nat_eq place) held
+
+-- what is filed for a place of the list
+abbrev pub filing_at : List (ℕ × FiledAnswer) → ℕ → Option FiledAnswer
+filing_at filed place = lookup (nat_eq place) filed
+
+-- what became of a connect, by what is held and what is filed for its place
+abbrev pub state_by : Option HeldConnect → Option FiledAnswer → Option ConnectState
+state_by (Some h) filed = Some (Held h.session h.deadline h.waker)
+state_by None (Some f) = Some (Filed f.place f.answer)
+state_by None None = None
+
 -- what became of the connect at a place of the list, if it is known
-abbrev pub connect_at : List (ℕ × ConnectState) → ℕ → Option ConnectState
-connect_at connects place = lookup (nat_eq place) connects
+abbrev pub connect_at : KnownConnects → ℕ → Option ConnectState
+connect_at connects place = state_by (hold_at connects.held place) (filing_at connects.filed place)
+
+-- whether a connect is held and its answer is filed
+abbrev pub is_both : Option HeldConnect → Option FiledAnswer → Bool
+is_both None filed = false
+is_both (Some h) None = false
+is_both (Some h) (Some f) = true
+
+-- no connect is held whose answer is filed
+abbrev pub AreApart : List (ℕ × HeldConnect) → List (ℕ × FiledAnswer) → Type 0
+AreApart held filed = (place : ℕ) → is_both (hold_at held place) (filing_at filed place) ≡ false
+
+-- a connect of this session is held until this moment, and nobody waits for it
+abbrev pub held_for : ℕ → Option ℕ → Option HeldConnect
+held_for session deadline = Some (record { session = session; deadline = deadline; waker = None })
+
+-- what comes of a waker for what is held
+abbrev pub watched_hold : Bool → Waker → Option HeldConnect → Watch
+watched_hold shut waker None = Unknown waker
+watched_hold true waker (Some h) = Shut waker
+watched_hold false waker (Some h) = Stored
+
+-- what is held, with a waker that is stored
+abbrev pub stored_at : Bool → Waker → HeldConnect → HeldConnect
+stored_at true waker h = h
+stored_at false waker h = record h { waker = Some waker }
+
+-- what is held, without a waker
+abbrev pub unwatched_hold : HeldConnect → HeldConnect
+unwatched_hold h = record h { waker = None }
 
 -- a connect of this session is held until this moment, and nobody waits for it
 abbrev pub held_by : ℕ → Option ℕ → Option ConnectState
@@ -62,37 +112,30 @@ abbrev pub unswept : ℕ → Option ConnectState → Option ConnectState
 unswept before None = None
 unswept before (Some state) = if not (is_filed_below before state) then Some state else None
 
+-- the answers but for those
+abbrev pub kept_from : ℕ → List (ℕ × FiledAnswer) → List (ℕ × FiledAnswer)
+kept_from before filed = filter (λ (f : ℕ × FiledAnswer). not (nat_lt f.1.place before)) filed
+
 -- the connects but for those
-abbrev pub swept : ℕ → List (ℕ × ConnectState) → List (ℕ × ConnectState)
-swept before connects = filter (λ (c : ℕ × ConnectState). not (is_filed_below before c.1)) connects
-
--- for which session and until when a connect is held, where it is and has a deadline
-abbrev pub hold_of : ConnectState → Option (ℕ × ℕ)
-hold_of (Held session None waker) = None
-hold_of (Held session (Some deadline) waker) = Some (session, deadline)
-hold_of (Filed place answer) = None
-
--- whether a connect is held
-abbrev pub is_held : ConnectState → Bool
-is_held (Held session deadline waker) = true
-is_held (Filed place answer) = false
+abbrev pub swept : ℕ → KnownConnects → KnownConnects
+swept before connects = record { held = connects.held; filed = kept_from before connects.filed }
 
 -- how many connects are held
-abbrev pub count_held : List (ℕ × ConnectState) → ℕ
-count_held connects = length (filter (λ (c : ℕ × ConnectState). is_held c.1) connects)
+abbrev pub count_held : KnownConnects → ℕ
+count_held connects = length connects.held
 
 -- a connect of this session is held until this moment
-pub record IsHeldUntil (connects : List (ℕ × ConnectState)) (place session : ℕ) (deadline : Option ℕ) : Type 0 where
+pub record IsHeldUntil (connects : KnownConnects) (place session : ℕ) (deadline : Option ℕ) : Type 0 where
   pub waker : Option Waker
   pub held : connect_at connects place ≡ Some (Held session deadline waker)
 
 -- a connect of this session is held until this moment at the latest
-pub record IsDue (connects : List (ℕ × ConnectState)) (session moment : ℕ) : Type 0 where
+pub record IsDue (connects : KnownConnects) (session moment : ℕ) : Type 0 where
   pub place : ℕ
   pub deadline : ℕ
   pub held : IsHeldUntil connects place session (Some deadline)
   pub due : deadline ≤ moment
 
 -- how many of the answers were filed below this place
-abbrev pub count_filed_below : ℕ → List (ℕ × ConnectState) → ℕ
-count_filed_below before connects = length (filter (λ (c : ℕ × ConnectState). is_filed_below before c.1) connects)
+abbrev pub count_filed_below : ℕ → KnownConnects → ℕ
+count_filed_below before connects = length (filter (λ (f : ℕ × FiledAnswer). nat_lt f.1.place before) connects.filed)

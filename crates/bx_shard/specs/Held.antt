@@ -1,5 +1,7 @@
 -- The program's shard holds what the definition's shard holds.
-use Rattle.std.specs.Prelude.{ℕ, ◌+◌, ◌<◌, ◌≤◌, ◌==◌, ◌≡◌, ◌≢◌, length, true, List, [], ◌∷◌, ◌++◌, find, slice_get, nat_eq, if◌then◌else◌, Option, Some, None, option_map, IsSome}
+use Rattle.std.specs.Prelude.{ℕ, ◌+◌, ◌<◌, ◌≤◌, ◌==◌, ◌≡◌, ◌≢◌, length, Bool, true, false, List, [], ◌∷◌, ◌++◌, filter, find, slice_get, nat_eq, if◌then◌else◌, Option, Some, None, option_map, IsSome}
+use Rattle.std.specs.Map.{keys_of}
+use Rattle.futures.specs.declared.task.waker.Waker.{Waker}
 use Rattle.bx_entry.specs.Listing.{Listed}
 use Rattle.bx_entry.specs.Answers.{PlacedAnswer, answer_of}
 use Rattle.bx_entry.specs.Keeping.{Kept}
@@ -9,9 +11,9 @@ use Rattle.bx_entry.specs.declared.entry.Entry.{Entry}
 use Rattle.bx_message.specs.declared.reply.Answer.{Answer}
 use Rattle.bx_shard.specs.declared.connects.ConnectState.{ConnectState}
 use Rattle.bx_shard.specs.declared.connects.ConnectState.TheVariants as states
-use Rattle.bx_shard.specs.Connects.{filed_answer, taken_from}
+use Rattle.bx_shard.specs.Connects.{filed_answer, is_filed_below, taken_from}
 use Rattle.bx_shard.specs.Shards.{Setup, is_taken, shard_at, stands_in}
-use Rattle.bx_shard.specs.States.{Applied, IsAsBefore, IsSound, State, connect_in, session_in}
+use Rattle.bx_shard.specs.States.{Applied, IsAsBefore, IsSound, State, Swept, Watched, WasShut, connect_in, session_in}
 use Rattle.bx_shard.specs.Subscribers.{subscriber_of}
 
 -- an answer with the place of the entry that gave it
@@ -81,3 +83,32 @@ abbrev pub HoldsBeside : Type 0
 HoldsBeside = (setup : Setup) (list : List Listed) (taken : List ℕ) (shard n place : ℕ) (s : State) (other m : ℕ) (beside : State) → 0 < setup.config.limits.batch →
     Holds setup list taken shard n s → IsSome (filed_answer (connect_in s place)) → other ≢ shard → Holds setup list taken other m beside →
     Holds setup list (taken ++ place ∷ []) other m beside
+
+-- after a waker was brought for a connect
+abbrev pub HoldsWatched : Type 0
+HoldsWatched = (setup : Setup) (list : List Listed) (taken : List ℕ) (shard n connect : ℕ) (waker : Waker) (old new : State) →
+    Holds setup list taken shard n old → Watched connect waker old new → IsSound new → Holds setup list taken shard n new
+
+-- after it was shut
+abbrev pub HoldsShut : Type 0
+HoldsShut = (setup : Setup) (list : List Listed) (taken : List ℕ) (shard n : ℕ) (old new : State) →
+    Holds setup list taken shard n old → WasShut old new → IsSound new → Holds setup list taken shard n new
+
+-- whether the answer is filed, and below this place
+abbrev pub is_swept : ℕ → Option ConnectState → Bool
+is_swept before None = false
+is_swept before (Some state) = is_filed_below before state
+
+-- the places of the connects whose answers are
+abbrev pub swept_places : ℕ → State → List ℕ
+swept_places before s = filter (λ (place : ℕ). is_swept before (connect_in s place)) (keys_of s.sessions.connects.filed)
+
+-- after those answers were dropped
+abbrev pub HoldsSwept : Type 0
+HoldsSwept = (setup : Setup) (list : List Listed) (taken : List ℕ) (shard n before : ℕ) (old new : State) →
+    Holds setup list taken shard n old → Swept before old new → IsSound new → Holds setup list (taken ++ swept_places before old) shard n new
+
+-- and after they were dropped from another shard
+abbrev pub HoldsBesideSwept : Type 0
+HoldsBesideSwept = (setup : Setup) (list : List Listed) (taken : List ℕ) (shard n before : ℕ) (s : State) (other m : ℕ) (beside : State) →
+    Holds setup list taken shard n s → other ≢ shard → Holds setup list taken other m beside → Holds setup list (taken ++ swept_places before s) other m beside

@@ -1,11 +1,12 @@
 //! The connects of a shard, from their place in the list until their answers are taken.
-ghost use Rattle.std.specs.Prelude.{◌≡◌, ◌<◌, ◌≤◌, ◌+◌, ℕ, nat_eq, not, is_some, true, Some, None, [], if◌then◌else◌, OnOk, OnErr, IfSome, IfNone, Option, option_map};
+ghost use Rattle.std.specs.Prelude.{◌≡◌, ◌<◌, ℕ, nat_eq, nat_lt, not, Some, None, if◌then◌else◌, OnOk, OnErr, IfSome, IfNone, Option, option_map};
 ghost use Rattle.futures.specs.declared.task.waker.Waker.{Waker};
 ghost use Rattle.bx_shard.specs.declared.connects.ConnectState.TheVariants.{Filed, Held};
-ghost use Rattle.bx_shard.specs.Connects.{IsDue, IsHeldUntil, connect_at, count_filed_below, count_held, filed_answer, filed_as, held_by, hold_of, is_filed_below, is_held, swept, taken_from, unswept, unwatched, watched, with_waker};
+ghost use Rattle.bx_shard.specs.Connects.{IsDue, IsHeldUntil, connect_at, count_filed_below, count_held, filed_answer, filed_as, held_by, swept, taken_from, unswept, unwatched, watched, with_waker};
 ghost use Rattle.bx_shard.specs.Sessions.{filing};
 
-use crate::deadlines::Deadlines;
+use crate::filing::Filing;
+use crate::held::HeldConnects;
 use crate::watch::Watch;
 use bx_message::Answer;
 use bx_session::Answered;
@@ -13,9 +14,9 @@ use futures::task::Waker;
 use indexmap::IndexMap;
 use std::alloc::{AllocError, Global};
 use std::marker::Model;
-use std::mem;
 
-/// What became of a connect. A waker stands beside a held connect alone, so that no filed answer has one left.
+/// What became of a connect, as contracts see it. A waker stands beside a held connect alone, so that no filed answer has
+/// one left.
 #[derive(Drop)]
 pub enum ConnectState {
     /// It is held by the session with this number, until a tick at or past the deadline, if a tick can be that late.
@@ -32,87 +33,41 @@ pub enum ConnectState {
     },
 }
 
-impl ConnectState {
-    // Whether an answer was filed below this place.
-    fn is_filed_below(&self, before: u64) -> bool
-        ensures { result ≡ is_filed_below before self.now }
-    {
-        match self {
-            ConnectState::Held { .. } => false,
-            ConnectState::Filed { place, .. } => *place < before,
-        }
-    }
-
-    // Files the answer, which the entry at this place gives, and says for which session and until when the connect
-    // was held, where it was held and had a deadline.
-    fn file(&mut self, place: u64, answer: Answer) -> Option<(u64, u64)>
-        ensures hold { result ≡ hold_of self.old }
-        ensures filed { self.new ≡ Filed place answer }
-    {
-        let state = mem::replace(self, ConnectState::Filed { place, answer });
-        match state {
-            ConnectState::Held {
-                session,
-                deadline: Some(deadline),
-                ..
-            } => Some((session, deadline)),
-            _ => None,
-        }
-    }
-
-    // Stores a waker beside a held connect, where the shard is not shut.
-    fn watch(&mut self, waker: Waker, is_shut: bool) -> Watch
-        ensures watch { result ≡ watched is_shut waker (Some self.old) }
-        ensures stored { Some self.new ≡ with_waker is_shut waker (Some self.old) }
-    {
-        match self {
-            ConnectState::Filed { .. } => Watch::Ready(waker),
-            ConnectState::Held { .. } if is_shut => Watch::Shut(waker),
-            ConnectState::Held { waker: stored, .. } => {
-                *stored = Some(waker);
-                Watch::Stored
-            }
-        }
-    }
-
-    // Drops the waker, which wakes it.
-    fn unwatch(&mut self)
-        ensures { self.new ≡ unwatched self.old }
-    {
-        if let ConnectState::Held { waker, .. } = self {
-            *waker = None;
-        }
-    }
+/// An answer, with the place of the entry that gave it.
+#[derive(Drop)]
+pub(crate) struct FiledAnswer {
+    place: u64,
+    answer: Answer,
 }
 
-/// What became of each connect, by its place in the list, and when the holds end. The room for a connect's answer and
-/// for a waker is there from the first on. Contracts see the connects with their places.
+/// What became of each connect, by its place in the list: those that are held, and the answers that are filed. The room
+/// for a connect's answer and for a waker is there from the first on, so that filing takes no memory.
 #[derive(Drop)]
 pub(crate) struct Connects {
-    by_place: IndexMap<u64, ConnectState>,
-    deadlines: Deadlines,
+    held: HeldConnects,
+    filed: IndexMap<u64, FiledAnswer>,
 }
 
 impl Model for Connects {
-    ghost use Rattle.std.specs.Prelude.{ℕ, List};
-    ghost use Rattle.bx_shard.specs.declared.connects.ConnectState.{ConnectState};
-    ghost use Rattle.bx_shard.specs.Deadlines.{AreNoted};
+    ghost use Rattle.std.specs.Prelude.{◌≤◌, length};
+    ghost use Rattle.indexmap.specs.IndexMap.{spare};
+    ghost use Rattle.bx_shard.specs.Connects.{AreApart, KnownConnects};
 
-    ghost Value = { List (ℕ × ConnectState) };
+    ghost Value = { KnownConnects };
 
-    ghost view = { λ c. c.by_place.entries };
+    ghost view = { λ c. record { held = c.held; filed = c.filed.entries } };
 
-    ghost invariant = { λ c. AreNoted c.by_place.entries c.deadlines };
+    ghost invariant = { λ c. AreApart c.held c.filed.entries × (length c.held ≤ spare c.filed) };
 }
 
 impl Connects {
     /// No connect is known.
     pub(crate) fn new(alloc: Global) -> Connects
-        ensures { result ≡ [] }
+        ensures { (p : ℕ) → connect_at result p ≡ None }
     {
         Connects {
-            by_place: IndexMap::new(alloc),
-            deadlines: Deadlines::new(alloc),
+            held: HeldConnects::new(alloc),
+            filed: IndexMap::new(alloc),
         }
     }
 
@@ -128,36 +83,16 @@ impl Connects {
             ≡ (if nat_eq place p then held_by session deadline else connect_at self.old p)) }
         ensures err { OnErr result ((p : ℕ) → connect_at self.new p ≡ connect_at self.old p) }
     {
-        let held = ConnectState::Held {
-            session,
-            deadline,
-            waker: None,
-        };
-        self.by_place.insert(place, held)?;
-        let Some(deadline) = deadline else {
-            return Ok(());
-        };
-        let noted = self.deadlines.note((deadline, place, session));
-        if noted.is_err() {
-            drop(self.by_place.swap_remove(&place));
-        }
-        noted
+        self.filed.reserve(self.held.len() + 1)?;
+        self.held.hold(place, session, deadline)
     }
 
     /// Nothing is known of the connect at this place any longer.
     pub(crate) fn forget(&mut self, place: u64)
         ensures { (p : ℕ) → connect_at self.new p ≡ (if nat_eq place p then None else connect_at self.old p) }
     {
-        let state = self.by_place.swap_remove(&place);
-        if let Some(
-            ConnectState::Held {
-                session,
-                deadline: Some(deadline),
-                ..
-            },
-        ) = state
-        {
-            self.deadlines.forget((deadline, place, session));
+        if self.held.release(place).is_none() {
+            drop(self.filed.swap_remove(&place));
         }
     }
 
@@ -173,11 +108,16 @@ impl Connects {
             place: connect,
             answer,
         } = answered;
-        let Some(state) = self.by_place.get_mut(&connect) else {
-            return;
-        };
-        if let Some((session, deadline)) = state.file(place, answer) {
-            self.deadlines.forget((deadline, connect, session));
+        let filed = FiledAnswer { place, answer };
+        match self.held.release(connect) {
+            Some(_held) => {
+                self.filed.insert(connect, filed).unwrap();
+            }
+            None => {
+                if let Some(earlier) = self.filed.get_mut(&connect) {
+                    *earlier = filed;
+                }
+            }
         }
     }
 
@@ -196,7 +136,7 @@ impl Connects {
         ensures none { IfNone result ((place session deadline : ℕ)
             → IsHeldUntil self.now place session (Some deadline) → moment < deadline) }
     {
-        let (_, _, session) = self.deadlines.first_due(moment)?;
+        let (_, _, session) = self.held.first_due(moment)?;
         Some(session)
     }
 
@@ -206,20 +146,24 @@ impl Connects {
         ensures taken { (p : ℕ) → connect_at self.new p
             ≡ (if nat_eq place p then taken_from (connect_at self.old place) else connect_at self.old p) }
     {
-        if !self.is_filed(place) {
-            return None;
-        }
-        match self.by_place.swap_remove(&place) {
-            Some(ConnectState::Filed { answer, .. }) => Some(answer),
-            _ => None,
-        }
+        let FiledAnswer { answer, .. } = self.filed.swap_remove(&place)?;
+        Some(answer)
     }
 
-    // Whether the answer to the connect at this place is filed.
-    fn is_filed(&self, place: u64) -> bool
-        ensures { result ≡ is_some (filed_answer (connect_at self.now place)) }
+    /// Gives some answer that is filed, and takes it.
+    pub(crate) fn take_any(&mut self) -> Option<Filing>
+        ensures filed { IfSome result (λ f. connect_at self.old f.connect ≡ Some (Filed f.place f.answer)) }
+        ensures taken { IfSome result (λ f. (p : ℕ) → connect_at self.new p
+            ≡ (if nat_eq f.connect p then taken_from (connect_at self.old f.connect) else connect_at self.old p)) }
+        ensures none { IfNone result ((p : ℕ) → filed_answer (connect_at self.old p) ≡ None) }
+        ensures same { IfNone result (self.new ≡ self.old) }
     {
-        matches!(self.by_place.get(&place), Some(ConnectState::Filed { .. }))
+        let (connect, FiledAnswer { place, answer }) = self.filed.pop()?;
+        Some(Filing {
+            connect,
+            place,
+            answer,
+        })
     }
 
     /// Stores a waker beside the connect at this place, where it is held and the shard is not shut.
@@ -228,38 +172,32 @@ impl Connects {
         ensures stored { (p : ℕ) → connect_at self.new p
             ≡ (if nat_eq place p then with_waker is_shut waker (connect_at self.old place) else connect_at self.old p) }
     {
-        match self.by_place.get_mut(&place) {
-            Some(state) => state.watch(waker, is_shut),
-            None => Watch::Unknown(waker),
+        if self.filed.contains_key(&place) {
+            return Watch::Ready(waker);
         }
+        self.held.watch(place, waker, is_shut)
     }
 
-    /// Drops the answers that were filed below this place, and says how many they were.
+    /// Drops the answers that were filed below this place, and says how many they were. It costs the answers that are
+    /// filed, not the connects that are held.
     pub(crate) fn sweep(&mut self, before: u64) -> usize
         ensures swept { self.new ≡ swept before self.old }
         ensures kept { (p : ℕ) → connect_at self.new p ≡ unswept before (connect_at self.old p) }
         ensures count { result ≡ count_filed_below before self.old }
     {
-        let len = self.by_place.len();
-        self.by_place.retain(
-            |_place: &u64, state: &mut ConnectState| -> bool
-                ensures { (result ≡ not (is_filed_below before state.old)) × (state.new ≡ state.old) }
-            { !state.is_filed_below(before) },
+        let len = self.filed.len();
+        self.filed.retain(
+            |_place: &u64, filed: &mut FiledAnswer| -> bool
+                ensures { (result ≡ not (nat_lt filed.old.place before)) × (filed.new ≡ filed.old) }
+            { filed.place >= before },
         );
-        len - self.by_place.len()
+        len - self.filed.len()
     }
 
-    /// Drops all wakers, which wakes them.
+    /// Drops all wakers, which wakes them. It costs the connects that are held, not the answers that are filed.
     pub(crate) fn unwatch_all(&mut self)
         ensures { (p : ℕ) → connect_at self.new p ≡ option_map unwatched (connect_at self.old p) }
     {
-        self.by_place.retain(
-            |_place: &u64, state: &mut ConnectState| -> bool
-                ensures { (result ≡ true) × (state.new ≡ unwatched state.old) }
-            {
-                state.unwatch();
-                true
-            },
-        );
+        self.held.unwatch_all();
     }
 }

@@ -1,5 +1,5 @@
 //! Laws of what a shard holds, for every configuration, every placing and every list.
-ghost use Rattle.bx_shard.specs.Held.{HoldsAtFirst, HoldsBeside, HoldsLonger, HoldsOnwards, HoldsStill, HoldsTaken};
+ghost use Rattle.bx_shard.specs.Held.{HoldsAtFirst, HoldsBeside, HoldsBesideSwept, HoldsLonger, HoldsOnwards, HoldsShut, HoldsStill, HoldsSwept, HoldsTaken, HoldsWatched};
 ghost use Rattle.bx_shard.specs.Holdings.{HoldsReached, NumbersAscend, OpenedIsFresh};
 ghost use Rattle.bx_shard.specs.Steps.{ShardsFile, ShardsStep};
 
@@ -56,4 +56,24 @@ pub fn holds_taken()
 /// A shard holds the same after an answer was taken from another.
 pub fn holds_beside()
     ensures { HoldsBeside }
+{}
+
+/// A shard to which a waker was brought holds what it held.
+pub fn holds_watched()
+    ensures { HoldsWatched }
+{}
+
+/// A shard that was shut holds what it held.
+pub fn holds_shut()
+    ensures { HoldsShut }
+{}
+
+/// A shard from which a sweep dropped answers holds what the definition's shard holds where they were taken.
+pub fn holds_swept()
+    ensures { HoldsSwept }
+{}
+
+/// A shard holds the same after a sweep dropped answers from another.
+pub fn holds_beside_swept()
+    ensures { HoldsBesideSwept }
 {}

@@ -33,7 +33,7 @@ impl Sessions {
         ensures config { result.config ≡ config }
         ensures seats { (n : ℕ) → seat_in result n ≡ None }
         ensures patterns { result.tree ≡ [] }
-        ensures connects { result.connects ≡ [] }
+        ensures connects { (p : ℕ) → connect_at result.connects p ≡ None }
     {
         Sessions {
             config,

@@ -3,6 +3,7 @@ ghost use Rattle.std.specs.Prelude.{◌≡◌, ◌≤◌, ℕ, true, None};
 ghost use Rattle.bx_shard.specs.Connects.{connect_at};
 ghost use Rattle.bx_shard.specs.Sessions.{AreHeld, has_formed_at_most, is_counted, patterns_in, seat_in};
 
+use crate::filing::Filing;
 use crate::sessions::Sessions;
 use crate::watch::Watch;
 use bx_advice::Config;
@@ -32,11 +33,12 @@ pub struct Shard<P> {
 }
 
 impl<P: Placing> Shard<P> {
-    ghost use Rattle.std.specs.Prelude.{◌≡◌, ◌<◌, ℕ, nat_eq, true, false, None, if◌then◌else◌, OnOk, OnErr, IsOk};
+    ghost use Rattle.std.specs.Prelude.{◌≡◌, ◌<◌, ℕ, nat_eq, true, false, None, if◌then◌else◌, OnOk, OnErr, IsOk, IfSome, IfNone, Some};
     ghost use Rattle.std.specs.Arc.{arc_value};
     ghost use Rattle.bx_advice.specs.Limits.{greatest_length};
     ghost use Rattle.bx_entry.specs.declared.entry.Entry.{Entry};
     ghost use Rattle.bx_shard.specs.Connects.{count_filed_below, filed_answer, watched};
+    ghost use Rattle.bx_shard.specs.declared.connects.ConnectState.TheVariants.{Filed};
     ghost use Rattle.bx_shard.specs.Held.{Took};
     ghost use Rattle.bx_shard.specs.States.{Applied, IsAsBefore, IsSound, Swept, Watched, WasShut, connect_in, opens_in, session_in, takes_no_memory};
     ghost use Rattle.bx_shard.specs.Seen.{setup_in, state};
@@ -110,6 +112,20 @@ impl<P: Placing> Shard<P> {
             return None;
         }
         self.sessions.connects.take(ticket.place)
+    }
+
+    /// Some answer that is filed, with the connect that it answers; it is taken with that. Which one is left open, and it
+    /// costs the same however many are filed.
+    pub fn take_any(&mut self) -> Option<Filing>
+        ensures filed { IfSome result (λ filing. connect_in (state P.place_of self.old) filing.connect
+            ≡ Some (Filed filing.place filing.answer)) }
+        ensures taken { IfSome result (λ filing.
+            Took filing.connect (state P.place_of self.old) (state P.place_of self.new)) }
+        ensures none { IfNone result ((p : ℕ) → filed_answer (connect_in (state P.place_of self.old) p) ≡ None) }
+        ensures same { IfNone result (self.new ≡ self.old) }
+        ensures sound { IsSound (state P.place_of self.new) }
+    {
+        self.sessions.connects.take_any()
     }
 
     /// Leaves a waker beside a held connect, to be woken once it is answered, or says why not and gives it back: the

@@ -1,24 +1,29 @@
 -- An answer that a shard has come past is filed there until it is taken, and none is taken twice.
 use Rattle.std.proofs.Common.{◌≡◌, ℕ, zero, suc, ◌+◌, max, ⊎_elim, Bool, true, false, cond, ◌||◌, Option, Some, None, List, [], ◌∷◌, ◌++◌, length, take, drop, map, filter, find, flat_map, fold, option_map, slice_get, slice_index, nat_lt, ◌==◌, refl, sym, ap, ◌∙◌, subst, eqb-true, eq-eqb, take-append-drop, true≢false}
-use Rattle.std.proofs.lemmas.Bool.{cond_both, cond-true, cond-false}
+use Rattle.std.proofs.lemmas.Bool.{cond_both, cond-true, cond-false, lt-ltb}
 use Rattle.std.proofs.lemmas.List.Folds.{find-append, list_any-append}
 use Rattle.std.specs.Option.{option_or}
 use Rattle.std.specs.List.{list_any}
 use Rattle.bx_advice.specs.declared.config.Config.{Config}
+use Rattle.bx_message.specs.declared.reply.Answer.{Answer}
 use Rattle.bx_advice.specs.declared.error.Error.{Error}
 use Rattle.bx_message.specs.declared.column.Column.{Column}
 use Rattle.bx_entry.specs.Listing.{Listed, Post, Posted}
 use Rattle.bx_message.specs.Columns.{column_of}
 use Rattle.bx_entry.specs.Listing as messages
 use Rattle.bx_entry.specs.Registry.{Registry, Registered, Judged, PlaceSlot, Ready, Waiting, NoSlot, judge, judged_by, served, opened, slot_for, left_by, extended, swept, is_overdue, named_by, refusal, hold_of, is_ack, registry, empty_registry, entries_of}
-use Rattle.bx_entry.specs.Inputs.{ReadInput}
+use Rattle.bx_entry.specs.declared.input.Input.{Input}
 use Rattle.bx_entry.specs.Sessions.{Session, Filed, session}
 use Rattle.bx_entry.specs.Answers.{PlacedAnswer, answer_of, answer_by, answer_at}
 use Rattle.bx_laws.specs.Readings.{EachSession}
 use Rattle.bx_shard.specs.Shards.{Setup, shard_at, sessions_in, stands_in, is_taken}
-use Rattle.bx_world.specs.Worlds.{World, new_world, Step, Admit, Apply, Take, Output, Admitted, NotAdmitted, Applied, Level, Taken, OutOfMemory, IsOutput, Runs, after, filed_under}
+use Rattle.bx_world.specs.Worlds.{WorldState, given_of, IsOutput, Runs, after, filed_under}
+use Rattle.bx_world.specs.declared.step.Step.{Step}
+use Rattle.bx_world.specs.declared.step.Step.TheVariants.{Admit, Apply, Take}
+use Rattle.bx_world.specs.declared.step.StepOut.{StepOut}
+use Rattle.bx_world.specs.declared.step.StepOut.TheVariants.{Admitted, NotAdmitted, Applied, Level, Taken, OutOfMemory}
 use Rattle.bx_entry.specs.declared.entry.Ticket.{Ticket}
-use Rattle.bx_world.specs.Schedules.{AnswersAreFiled, NoneTakenTwice, EachNew, taken_by, taken_places}
+use Rattle.bx_world.specs.Schedules.{AnswersAreFiled, AnswersCanBeTaken, NoneTakenTwice, SchedulesCompose, EachNew, taken_by, taken_places}
 use Rattle.bx_laws.proofs.Moves.{either}
 use Rattle.bx_laws.proofs.Lists.{find_each, find_true, judged_more, answer_within}
 use Rattle.bx_laws.proofs.Dues.{EachJudged, each_judged_push, each_judged_map, each_session_map, named_session}
@@ -196,9 +201,20 @@ answers_are_filed setup list taken n place number a room waits e below free =
         subst (SlotHas (registry setup.config (take n list)).sessions) slot
         (judged_at (λ i. SlotHas (registry setup.config (take n list)).sessions i.slot) (registry setup.config (take n list)).judged place j h (run_waiters setup.config empty_registry (take n list) tt))
 
+-- a taking gives what is filed
+pub answers_can_be_taken : AnswersCanBeTaken
+answers_can_be_taken setup w t number a out room waits shard within e below free i =
+    let n : ℕ = slice_index w.applied t.shard in
+    let found : Option PlacedAnswer = option_map answer_of (find (λ (f : Filed). f.connect == t.place) (shard_at setup w.list w.taken t.shard (slice_index w.applied t.shard)).filed) in
+    let there : option_map answer_of (find (λ (f : Filed). f.connect == t.place) (shard_at setup w.list w.taken t.shard (slice_index w.applied t.shard)).filed) ≡ Some a =
+    ap (λ (k : ℕ). option_map answer_of (find (λ (f : Filed). f.connect == t.place) (shard_at setup w.list w.taken k (slice_index w.applied t.shard)).filed)) shard
+    ∙ answers_are_filed setup w.list w.taken n t.place number a room waits e below free in
+    let given : filed_under setup w t ≡ Some a = cond-true (nat_lt t.shard (length w.applied)) found None (lt-ltb t.shard (length w.applied) within) ∙ there in
+    ⊎_elim (λ o. o ∙ ap (λ (x : Option PlacedAnswer). Taken (option_map given_of x)) given) (λ m. absurd (true≢false (sym m.0))) i
+
 -- ---- no answer is taken twice
 
-filed_untaken : (setup : Setup) (w : World) (t : Ticket) (a : PlacedAnswer) → filed_under setup w t ≡ Some a → is_taken w.taken t.place ≡ false
+filed_untaken : (setup : Setup) (w : WorldState) (t : Ticket) (a : PlacedAnswer) → filed_under setup w t ≡ Some a → is_taken w.taken t.place ≡ false
 filed_untaken setup w t a e =
     let k : ℕ = slice_index w.applied t.shard in
     let found : Option PlacedAnswer = option_map answer_of (find (λ (f : Filed). f.connect == t.place) (shard_at setup w.list w.taken t.shard (slice_index w.applied t.shard)).filed) in
@@ -210,16 +226,20 @@ filed_untaken setup w t a e =
     untaken None h g = cc
     untaken (Some f) h g = (found_kept w.taken t.place (flat_map (λ (s : Session). s.answers) (sessions_in setup w.list t.shard (slice_index w.applied t.shard))) f h).1
 
-take_new : (setup : Setup) (w : World) (t : Ticket) (out : Output) (ps : List ℕ) → out ≡ Taken (filed_under setup w t) → EachNew (after w (Take t) out).taken ps → EachNew w.taken (taken_by (Take t) out ++ ps)
+given_untaken : (setup : Setup) (w : WorldState) (t : Ticket) (a : Answer) (o : Option PlacedAnswer) → filed_under setup w t ≡ o → option_map given_of o ≡ Some a → is_taken w.taken t.place ≡ false
+given_untaken setup w t a None e g = cc
+given_untaken setup w t a (Some p) e g = filed_untaken setup w t p e
+
+take_new : (setup : Setup) (w : WorldState) (t : Ticket) (out : StepOut) (ps : List ℕ) → out ≡ Taken (option_map given_of (filed_under setup w t)) → EachNew (after w (Take t) out).taken ps → EachNew w.taken (taken_by (Take t) out ++ ps)
 take_new setup w t (Admitted first slots) ps e d = d
 take_new setup w t (NotAdmitted refusal) ps e d = d
 take_new setup w t Applied ps e d = d
 take_new setup w t Level ps e d = d
 take_new setup w t (Taken None) ps e d = d
-take_new setup w t (Taken (Some a)) ps e d = (filed_untaken setup w t a (let same : filed_under setup w t ≡ Some a = cc in same), d)
+take_new setup w t (Taken (Some a)) ps e d = (given_untaken setup w t a (filed_under setup w t) refl (let same : option_map given_of (filed_under setup w t) ≡ Some a = cc in same), d)
 take_new setup w t OutOfMemory ps e d = d
 
-admit_taken : (w : World) (input : ReadInput) (out : Output) → (after w (Admit input) out).taken ≡ w.taken
+admit_taken : (w : WorldState) (input : Input) (out : StepOut) → (after w (Admit input) out).taken ≡ w.taken
 admit_taken w input (Admitted first slots) = refl
 admit_taken w input (NotAdmitted refusal) = refl
 admit_taken w input Applied = refl
@@ -227,7 +247,7 @@ admit_taken w input Level = refl
 admit_taken w input (Taken o) = refl
 admit_taken w input OutOfMemory = refl
 
-apply_taken : (w : World) (shard : ℕ) (out : Output) → (after w (Apply shard) out).taken ≡ w.taken
+apply_taken : (w : WorldState) (shard : ℕ) (out : StepOut) → (after w (Apply shard) out).taken ≡ w.taken
 apply_taken w shard (Admitted first slots) = refl
 apply_taken w shard (NotAdmitted refusal) = refl
 apply_taken w shard Applied = refl
@@ -235,15 +255,23 @@ apply_taken w shard Level = refl
 apply_taken w shard (Taken o) = refl
 apply_taken w shard OutOfMemory = refl
 
-step_new : (setup : Setup) (w : World) (step : Step) (out : Output) (ps : List ℕ) → IsOutput setup w step out → EachNew (after w step out).taken ps → EachNew w.taken (taken_by step out ++ ps)
+step_new : (setup : Setup) (w : WorldState) (step : Step) (out : StepOut) (ps : List ℕ) → IsOutput setup w step out → EachNew (after w step out).taken ps → EachNew w.taken (taken_by step out ++ ps)
 step_new setup w (Admit input) out ps i d = subst (λ (ts : List ℕ). EachNew ts ps) (admit_taken w input out) d
 step_new setup w (Apply shard) out ps i d = subst (λ (ts : List ℕ). EachNew ts ps) (apply_taken w shard out) d
 step_new setup w (Take t) out ps i d = ⊎_elim (λ e. take_new setup w t out ps e d) (λ m. absurd (true≢false (sym m.0))) i
 
-run_new : (setup : Setup) (w : World) (steps : List Step) (outs : List Output) (last : World) → Runs setup w steps outs last → EachNew w.taken (taken_places steps outs)
+run_new : (setup : Setup) (w : WorldState) (steps : List Step) (outs : List StepOut) (last : WorldState) → Runs setup w steps outs last → EachNew w.taken (taken_places steps outs)
 run_new setup w [] outs last r = tt
 run_new setup w (step ∷ steps) [] last r = tt
 run_new setup w (step ∷ steps) (out ∷ outs) last r = step_new setup w step out (taken_places steps outs) r.0 (run_new setup (after w step out) steps outs last r.1)
 
 pub none_taken_twice : NoneTakenTwice
-none_taken_twice setup steps outs last r = run_new setup (new_world setup) steps outs last r
+none_taken_twice setup first steps outs last r = run_new setup first steps outs last r
+
+-- ---- one schedule behind another
+
+pub schedules_compose : SchedulesCompose
+schedules_compose setup first middle last [] more [] given r m = subst (λ (w : WorldState). Runs setup w more given last) r m
+schedules_compose setup first middle last (step ∷ steps) more (out ∷ outs) given r m = (r.0, schedules_compose setup (after first step out) middle last steps more outs given r.1 m)
+schedules_compose setup first middle last [] more (out ∷ outs) given r m = absurd r
+schedules_compose setup first middle last (step ∷ steps) more [] given r m = absurd r

@@ -1,2 +1,9 @@
 pub mod Worlds
 pub mod Schedules
+pub mod Headline
+pub mod Outputs
+pub mod Backlogs
+pub mod Admissions
+pub mod Props
+pub mod Held
+pub mod Seen

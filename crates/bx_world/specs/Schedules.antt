@@ -1,40 +1,78 @@
 -- What holds of every schedule of admissions, applications and takings, whatever the placing and wherever memory was short.
-use Rattle.std.specs.Prelude.{ℕ, ◌≡◌, ◌<◌, ◌==◌, false, List, [], ◌∷◌, ◌++◌, find, slice_get, option_map, Some, None, ⊤}
+use Rattle.std.specs.Prelude.{ℕ, ◌≡◌, ◌<◌, ◌==◌, false, List, [], ◌∷◌, ◌++◌, length, find, slice_get, slice_index, option_map, Some, None, ⊤}
 use Rattle.bx_advice.specs.declared.config.Config.{Config}
+use Rattle.bx_entry.specs.Inputs.{added_by}
 use Rattle.bx_entry.specs.Listing.{Listed}
+use Rattle.bx_entry.specs.Requests.{read_input}
+use Rattle.bx_entry.specs.declared.input.Input.{Input}
 use Rattle.bx_entry.specs.declared.entry.Ticket.{Ticket}
 use Rattle.bx_entry.specs.Registry.{Judged, Waiting, registry}
 use Rattle.bx_entry.specs.Sessions.{Filed}
 use Rattle.bx_entry.specs.Answers.{PlacedAnswer, answer, answer_of}
 use Rattle.bx_shard.specs.Shards.{Setup, is_taken, shard_at}
-use Rattle.bx_world.specs.Worlds.{World, new_world, Step, Admit, Apply, Take, Output, Admitted, NotAdmitted, Applied, Level, Taken, OutOfMemory, Runs}
+use Rattle.bx_world.specs.Worlds.{WorldState, given_of, IsOutput, Runs}
+use Rattle.bx_world.specs.declared.step.Step.{Step}
+use Rattle.bx_world.specs.declared.step.Step.TheVariants.{Admit, Apply, Take}
+use Rattle.bx_world.specs.declared.step.StepOut.{StepOut}
+use Rattle.bx_world.specs.declared.step.StepOut.TheVariants.{Admitted, NotAdmitted, Applied, Level, Taken, OutOfMemory}
+
+-- ---- the list
+
+-- what an admitted input adds to the list
+abbrev pub added_as : Input → StepOut → List Listed
+added_as input (Admitted first slots) = added_by (read_input input)
+added_as input (NotAdmitted refusal) = []
+added_as input Applied = []
+added_as input Level = []
+added_as input (Taken answer) = []
+added_as input OutOfMemory = []
+
+-- only an admission adds to it
+abbrev pub added_in : Step → StepOut → List Listed
+added_in (Admit input) out = added_as input out
+added_in (Apply shard) out = []
+added_in (Take t) out = []
+
+-- what was admitted, one input after another
+abbrev pub admitted_in : List Step → List StepOut → List Listed
+admitted_in [] outs = []
+admitted_in (step ∷ steps) [] = []
+admitted_in (step ∷ steps) (out ∷ outs) = added_in step out ++ admitted_in steps outs
+
+-- whatever the steps, the list has what was admitted, in order, and nothing else
+abbrev pub ListIsAdmitted : Type 0
+ListIsAdmitted = (setup : Setup) (first : WorldState) (steps : List Step) (outs : List StepOut) (last : WorldState) → Runs setup first steps outs last →
+    last.list ≡ first.list ++ admitted_in steps outs
+
+-- ---- what is taken
 
 -- an answer that was taken is the one that the message at the ticket's place has over this list
-abbrev pub TookBy : Config → List Listed → Ticket → Output → Type 0
+abbrev pub TookBy : Config → List Listed → Ticket → StepOut → Type 0
 TookBy config list t (Admitted first slots) = ⊤
 TookBy config list t (NotAdmitted refusal) = ⊤
 TookBy config list t Applied = ⊤
 TookBy config list t Level = ⊤
 TookBy config list t (Taken None) = ⊤
-TookBy config list t (Taken (Some a)) = answer config list t.place ≡ Some a
+TookBy config list t (Taken (Some a)) = option_map given_of (answer config list t.place) ≡ Some a
 TookBy config list t OutOfMemory = ⊤
 
 -- only a taking gives an answer
-abbrev pub Took : Config → List Listed → Step → Output → Type 0
+abbrev pub Took : Config → List Listed → Step → StepOut → Type 0
 Took config list (Admit input) out = ⊤
 Took config list (Apply shard) out = ⊤
 Took config list (Take t) out = TookBy config list t out
 
 -- so it is at each step
-abbrev pub EachTook : Config → List Listed → List Step → List Output → Type 0
+abbrev pub EachTook : Config → List Listed → List Step → List StepOut → Type 0
 EachTook config list [] outs = ⊤
 EachTook config list (step ∷ steps) [] = ⊤
 EachTook config list (step ∷ steps) (out ∷ outs) = Took config list step out × EachTook config list steps outs
 
--- Whatever the steps, each answer that was taken is what one thread gives, over the list at the schedule's end and so over every longer one.
+-- Whatever the steps and wherever they begin, each answer that was taken is what one thread gives, over the list at the schedule's end and so
+-- over every longer one.
 abbrev pub TakesAreAnswers : Type 0
-TakesAreAnswers = (setup : Setup) (steps : List Step) (outs : List Output) (last : World) → 0 < setup.config.limits.batch →
-    Runs setup (new_world setup) steps outs last → EachTook setup.config last.list steps outs
+TakesAreAnswers = (setup : Setup) (first : WorldState) (steps : List Step) (outs : List StepOut) (last : WorldState) → 0 < setup.config.limits.batch →
+    Runs setup first steps outs last → EachTook setup.config last.list steps outs
 
 -- an answer whose place a shard has passed is filed there, until it is taken
 abbrev pub AnswersAreFiled : Type 0
@@ -43,8 +81,18 @@ AnswersAreFiled = (setup : Setup) (list : List Listed) (taken : List ℕ) (n pla
     answer setup.config list place ≡ Some a → a.place < n → is_taken taken place ≡ false →
     option_map answer_of (find (λ (f : Filed). f.connect == place) (shard_at setup list taken (setup.placing number setup.shards) n).filed) ≡ Some a
 
+-- A taking gives the answer to a connect that the connect's shard has come past and that nobody took, whatever the want of memory.
+abbrev pub AnswersCanBeTaken : Type 0
+AnswersCanBeTaken = (setup : Setup) (w : WorldState) (t : Ticket) (number : ℕ) (a : PlacedAnswer) (out : StepOut) → 0 < setup.config.limits.batch →
+    option_map (λ (j : Judged). j.slot) (slice_get (registry setup.config w.list).judged t.place) ≡ Some (Waiting number) →
+    t.shard ≡ setup.placing number setup.shards → t.shard < length w.applied →
+    answer setup.config w.list t.place ≡ Some a → a.place < slice_index w.applied t.shard → is_taken w.taken t.place ≡ false →
+    IsOutput setup w (Take t) out → out ≡ Taken (Some (given_of a))
+
+-- ---- none twice
+
 -- the place of the answer that a step took, if it took one
-abbrev pub taken_as : ℕ → Output → List ℕ
+abbrev pub taken_as : ℕ → StepOut → List ℕ
 taken_as place (Admitted first slots) = []
 taken_as place (NotAdmitted refusal) = []
 taken_as place Applied = []
@@ -54,13 +102,13 @@ taken_as place (Taken (Some a)) = place ∷ []
 taken_as place OutOfMemory = []
 
 -- only a taking takes one
-abbrev pub taken_by : Step → Output → List ℕ
+abbrev pub taken_by : Step → StepOut → List ℕ
 taken_by (Admit input) out = []
 taken_by (Apply shard) out = []
 taken_by (Take t) out = taken_as t.place out
 
 -- the places of the answers that were taken, in order
-abbrev pub taken_places : List Step → List Output → List ℕ
+abbrev pub taken_places : List Step → List StepOut → List ℕ
 taken_places [] outs = []
 taken_places (step ∷ steps) [] = []
 taken_places (step ∷ steps) (out ∷ outs) = taken_by step out ++ taken_places steps outs
@@ -70,6 +118,14 @@ abbrev pub EachNew : List ℕ → List ℕ → Type 0
 EachNew seen [] = ⊤
 EachNew seen (p ∷ ps) = (is_taken seen p ≡ false) × EachNew (seen ++ p ∷ []) ps
 
--- whatever the steps, no answer is taken twice
+-- whatever the steps and wherever they begin, no answer is taken twice, nor one that was taken before
 abbrev pub NoneTakenTwice : Type 0
-NoneTakenTwice = (setup : Setup) (steps : List Step) (outs : List Output) (last : World) → Runs setup (new_world setup) steps outs last → EachNew [] (taken_places steps outs)
+NoneTakenTwice = (setup : Setup) (first : WorldState) (steps : List Step) (outs : List StepOut) (last : WorldState) → Runs setup first steps outs last →
+    EachNew first.taken (taken_places steps outs)
+
+-- ---- one schedule behind another
+
+-- a schedule may go on where another ended, and the two are one
+abbrev pub SchedulesCompose : Type 0
+SchedulesCompose = (setup : Setup) (first middle last : WorldState) (steps more : List Step) (outs given : List StepOut) →
+    Runs setup first steps outs middle → Runs setup middle more given last → Runs setup first (steps ++ more) (outs ++ given) last

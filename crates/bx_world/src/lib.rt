@@ -1,9 +1,17 @@
-//! The core for one thread: who is live, and the answer to each message.
+//! The core for one thread: one list of requests and ticks, and shards that apply it in any interleaving.
 #![tactic(auto)]
 
-mod judge;
+mod admission;
+mod backlog;
 mod laws;
+mod listing;
+mod step;
 mod world;
 
-pub use laws::{answers_are_filed, none_taken_twice, takes_are_answers};
-pub use world::{AdmissionFault, Admitted, World};
+pub use laws::{
+    answers_are_filed, answers_can_be_taken, batches_repeat, headline, list_is_admitted,
+    none_given_again, none_taken_twice, plain_given_once, replies_are_answers, schedules_compose,
+    takes_are_answers,
+};
+pub use step::{AdmissionFault, Admitted, Applied, Step, StepOut};
+pub use world::World;

@@ -1,6 +1,6 @@
 use Rattle.std.proofs.Common.{◌<◌, ℕ, Some, IfNone, sym, ◌∙◌, true≢false, subst}
 use Rattle.bx_shard.specs.Connects.{IsHeldUntil}
-use Rattle.bx_shard.proofs.NotedLemmas.{is_itself, is_such, earlier_or_later}
+use Rattle.bx_shard.proofs.HoldLemmas.{is_itself, is_such, earlier_or_later}
 use Rattle.bx_shard.proofs.connects.Connects.first_due.Goals as goal
 
 pub returns-in_err-session-clause-none : goal.returns-in_err-session-clause-none
@@ -9,8 +9,8 @@ returns-in_err-session-clause-none c =
     (λ place session deadline held.
     earlier_or_later c.args.moment deadline
     (λ early. absurd (true≢false (
-    sym (is_itself c.self.inside.by_place.entries place session deadline (subst (λ es. IsHeldUntil es place session (Some deadline)) (sym c.self.view_is) held))
-    ∙ sym (c.self.invariant place session deadline) ∙ c.in_err-session.ensures.none (deadline, place, session) early))))
+    sym (is_itself (record { held = c.self.inside.held; filed = c.self.inside.filed.entries }) place session deadline (subst (λ known. IsHeldUntil known place session (Some deadline)) (sym c.self.view_is) held))
+    ∙ c.in_err-session.ensures.none place session deadline early))))
 
 pub returns-clause-due : goal.returns-clause-due
 returns-clause-due c =
@@ -20,6 +20,7 @@ returns-clause-due c =
     record {
       place = place;
       deadline = deadline;
-      held = subst (λ es. IsHeldUntil es place session (Some deadline)) c.self.view_is (is_such c.self.inside.by_place.entries place session deadline (sym (c.self.invariant place session deadline) ∙ c.in_ok-session.ensures.noted));
+      held = subst (λ known. IsHeldUntil known place session (Some deadline)) c.self.view_is
+          (is_such (record { held = c.self.inside.held; filed = c.self.inside.filed.entries }) place session deadline c.in_ok-session.ensures.held);
       due = c.in_ok-session.ensures.due;
     }

@@ -1,0 +1,272 @@
+-- The outs of the connects that are answered, given from the least place on.
+use Rattle.std.proofs.Common.{◌≡◌, ◌≢◌, ℕ, ◌+◌, ◌-◌, ◌<◌, ◌≤◌, Bool, true, false, List, [], ◌∷◌, ◌++◌, length, map, filter, refl, sym, ap, subst, ◌∙◌, cond, arith, inl, inr, eqb, Option, Some, None, Ok, reverse, append_assoc, append-nil, length-append, take, slice_get}
+use Rattle.std.proofs.lemmas.List.{reverse-append}
+use Rattle.std.proofs.Math.Seq.{get_or-append_seam, take-append_seam}
+use Rattle.std.proofs.lemmas.Option.{slice_get-get_or, slice_get_past}
+use Rattle.std.specs.Prelude.{◌||◌, ◌==◌, ◌⊎◌, is_none, is_some}
+use Rattle.std.specs.List.{AllByRecursion, Contains, dedup}
+use Rattle.std.specs.List.Sorted.{IsPermutation, IsSorted, IsStrictlySortedBy}
+use Rattle.std.specs.Map.{keys_of, lookup, remove_entry}
+use Rattle.std.specs.BTreeMap.{is_at}
+use Rattle.std.specs.Ordering.{nat_cmp}
+use Rattle.std.specs.declared.cmp.Ordering.TheVariants.{Less}
+use Rattle.std.proofs.lemmas.Bool.{cases_lt}
+use Rattle.std.proofs.lemmas.List.Folds.{Any-from_list_any, list_any-from_Any}
+use Rattle.std.proofs.lemmas.List.Kept.{Contains-dedup_nat, Contains-from_dedup}
+use Rattle.std.proofs.lemmas.List.Sorted.{IsPermutation-reverse, list_any-IsPermutation}
+use Rattle.std.proofs.lemmas.Map.Keys.{IsStrictlyIncreasing-dedup, sorted_from_strictly_increasing}
+use Rattle.bx_message.specs.declared.reply.Answer.{Answer}
+use Rattle.bx_fanout.specs.declared.desk.Held.{Held}
+use Rattle.bx_fanout.specs.declared.out.Out.{Out}
+use Rattle.bx_fanout.specs.Desks.{Gives, Row, answered_places, has, is_answered, items_of, out_by, outs_of, waits}
+use Rattle.bx_fanout.proofs.Desks.{at-is, eq-false, eq-from-false, eq-from-test, eq-true, less-from-cmp}
+
+-- ---- ascending lists with the same numbers are the same
+
+same-tests : (a b : Bool) → (a ≡ true → b ≡ true) → (b ≡ true → a ≡ true) → a ≡ b
+same-tests true b f g = sym (f refl)
+same-tests false true f g = g refl
+same-tests false false f g = refl
+
+has-head : (n : ℕ) (ns : List ℕ) → has n (n ∷ ns) ≡ true
+has-head n ns = ap (λ (b : Bool). b || has n ns) (eq-true n n refl)
+
+contains-has : (n : ℕ) (ns : List ℕ) → Contains ns n → has n ns ≡ true
+contains-has n ns c = list_any-from_Any (λ (m : ℕ). m == n) ns (c.0, n, c.1, c.2, eq-true n n refl)
+
+has-contains : (n : ℕ) (ns : List ℕ) → has n ns ≡ true → Contains ns n
+has-contains n ns e =
+    let found = Any-from_list_any (λ (m : ℕ). m == n) ns e in
+    let same : found.1 ≡ n = eq-from-test found.1 n found.4 in
+    subst (Contains ns) same (found.0, found.2, found.3)
+
+dedup-has : (n : ℕ) (ns : List ℕ) → has n (dedup eqb ns) ≡ has n ns
+dedup-has n ns = same-tests (has n (dedup eqb ns)) (has n ns)
+    (λ e. contains-has n ns (Contains-from_dedup eqb ns n (has-contains n (dedup eqb ns) e)))
+    (λ e. contains-has n (dedup eqb ns) (Contains-dedup_nat ns n (has-contains n ns e)))
+
+AllAbove : ℕ → List ℕ → Type 0
+AllAbove x [] = Unit {0}
+AllAbove x (y ∷ ys) = (x < y) × AllAbove x ys
+
+Ascends : List ℕ → Type 0
+Ascends [] = Unit {0}
+Ascends (x ∷ xs) = AllAbove x xs × Ascends xs
+
+above-lower : (low x : ℕ) (ys : List ℕ) → low ≤ x → AllAbove x ys → AllAbove low ys
+unfolding AllAbove
+above-lower low x [] le above = tt
+above-lower low x (y ∷ ys) le above = (omega (arith, above.0), above-lower low x ys le above.1)
+
+above-has : (x : ℕ) (ys : List ℕ) → AllAbove x ys → has x ys ≡ false
+unfolding AllAbove
+above-has x [] above = refl
+above-has x (y ∷ ys) above = let ne : y ≢ x = omega (arith, above.0) in ap (λ (b : Bool). b || has x ys) (eq-false y x ne) ∙ above-has x ys above.1
+
+-- a lower number at the front is missing
+front-has : (x y : ℕ) (xs ys : List ℕ) → x < y → AllAbove y ys → has x (x ∷ xs) ≡ has x (y ∷ ys) → ⊥
+unfolding AllAbove
+front-has x y xs ys less above same =
+    let no : has x (y ∷ ys) ≡ false = above-has x (y ∷ ys) (less, above-lower x y ys (omega arith) above) in
+    let yes : true ≡ false = sym (has-head x xs) ∙ same ∙ no in
+    cc
+
+rest-by : (n x y : ℕ) (xs ys : List ℕ) → x ≡ y → AllAbove x xs → AllAbove y ys → (b : Bool) → (x == n) ≡ b → (b || has n xs) ≡ has n (y ∷ ys) → has n xs ≡ has n ys
+rest-by n x y xs ys at above above' true e same =
+    let here : x ≡ n = eq-from-test x n e in
+    ap (λ (m : ℕ). has m xs) (sym here) ∙ above-has x xs above ∙ sym (ap (λ (m : ℕ). has m ys) (sym here ∙ at) ∙ above-has y ys above')
+rest-by n x y xs ys at above above' false e same =
+    let ne : x ≢ n = eq-from-false x n e in
+    let other : y ≢ n = omega arith in
+    same ∙ ap (λ (b : Bool). b || has n ys) (eq-false y n other)
+
+mutual-by : (x y : ℕ) (xs ys : List ℕ) → AllAbove x xs → AllAbove y ys → ((n : ℕ) → has n (x ∷ xs) ≡ has n (y ∷ ys)) → (x < y) ⊎ (y ≤ x) → (y < x) ⊎ (x ≤ y) → x ≡ y
+mutual-by x y xs ys above above' same (inl less) other = absurd (front-has x y xs ys less above' (same x))
+mutual-by x y xs ys above above' same (inr le) (inl less) = absurd (front-has y x ys xs less above (sym (same y)))
+mutual-by x y xs ys above above' same (inr le) (inr le') = omega arith
+
+same-ascends : (xs ys : List ℕ) → Ascends xs → Ascends ys → ((n : ℕ) → has n xs ≡ has n ys) → xs ≡ ys
+unfolding Ascends
+same-ascends [] [] a b same = refl
+same-ascends [] (y ∷ ys) a b same = let no : false ≡ true = same y ∙ has-head y ys in cc
+same-ascends (x ∷ xs) [] a b same = let no : true ≡ false = sym (has-head x xs) ∙ same x in cc
+same-ascends (x ∷ xs) (y ∷ ys) a b same =
+    let at : x ≡ y = mutual-by x y xs ys a.0 b.0 same (cases_lt x y) (cases_lt y x) in
+    let rest : xs ≡ ys = same-ascends xs ys a.1 b.1 (λ n. rest-by n x y xs ys at a.0 b.0 (x == n) refl (same n)) in
+    ap (λ (n : ℕ). n ∷ xs) at ∙ ap (λ (ns : List ℕ). y ∷ ns) rest
+
+above-sorted : (x : ℕ) (ys : List ℕ) → AllByRecursion (λ (y : ℕ). nat_cmp x y ≡ Less) ys → AllAbove x ys
+unfolding AllAbove
+above-sorted x [] all = tt
+above-sorted x (y ∷ ys) all = (less-from-cmp x y all.0, above-sorted x ys all.1)
+
+ascends-sorted : (xs : List ℕ) → IsStrictlySortedBy nat_cmp xs → Ascends xs
+unfolding Ascends IsStrictlySortedBy
+ascends-sorted [] s = tt
+ascends-sorted (x ∷ xs) s = (above-sorted x xs s.0, ascends-sorted xs s.1)
+
+-- ---- the places of those that are answered
+
+places-above-by : (x : ℕ) (row : Row) (rows : List Row) → x < row.0 → AllAbove x (answered_places rows) → (b : Bool) → AllAbove x (map (λ (r : Row). r.0) (cond b (row ∷ filter is_answered rows) (filter is_answered rows)))
+unfolding AllAbove
+places-above-by x row rows less ih true = (less, ih)
+places-above-by x row rows less ih false = ih
+
+places-above : (x : ℕ) (rows : List Row) → AllByRecursion (λ (y : ℕ). nat_cmp x y ≡ Less) (keys_of rows) → AllAbove x (answered_places rows)
+unfolding AllAbove
+places-above x [] all = tt
+places-above x (row ∷ rows) all = places-above-by x row rows (less-from-cmp x row.0 all.0) (places-above x rows all.1) (is_answered row)
+
+places-ascend-by : (row : Row) (rows : List Row) → AllAbove row.0 (answered_places rows) → Ascends (answered_places rows) → (b : Bool) → Ascends (map (λ (r : Row). r.0) (cond b (row ∷ filter is_answered rows) (filter is_answered rows)))
+unfolding Ascends
+places-ascend-by row rows above ih true = (above, ih)
+places-ascend-by row rows above ih false = ih
+
+places-ascend : (rows : List Row) → IsStrictlySortedBy nat_cmp (keys_of rows) → Ascends (answered_places rows)
+unfolding Ascends IsStrictlySortedBy
+places-ascend [] s = tt
+places-ascend (row ∷ rows) s = places-ascend-by row rows (places-above row.0 rows s.0) (places-ascend rows s.1) (is_answered row)
+
+-- the marks in order, the least last
+pub marks-in-order : (rows : List Row) (marks sorted once turned : List ℕ) → IsStrictlySortedBy nat_cmp (keys_of rows) → ((n : ℕ) → has n marks ≡ has n (answered_places rows)) →
+    IsPermutation marks sorted → IsSorted nat_cmp sorted → once ≡ dedup eqb sorted → turned ≡ reverse once → turned ≡ reverse (answered_places rows)
+marks-in-order rows marks sorted once turned ordered marked moved rises is back =
+    let same : once ≡ answered_places rows = is ∙ same-ascends (dedup eqb sorted) (answered_places rows)
+    (ascends-sorted (dedup eqb sorted) (sorted_from_strictly_increasing (dedup eqb sorted) (IsStrictlyIncreasing-dedup sorted rises)))
+    (places-ascend rows ordered)
+    (λ n. dedup-has n sorted ∙ sym (list_any-IsPermutation (λ (k : ℕ). k == n) marks sorted moved) ∙ marked n) in
+    back ∙ ap (λ (ns : List ℕ). reverse ns) same
+
+-- the marks that are left
+pub marked-turned : (rows : List Row) (turned : List ℕ) → turned ≡ reverse (answered_places rows) → (n : ℕ) → has n turned ≡ has n (answered_places rows)
+marked-turned rows turned is n = ap (has n) is ∙ sym (list_any-IsPermutation (λ (k : ℕ). k == n) (answered_places rows) (reverse (answered_places rows)) (IsPermutation-reverse (answered_places rows)))
+
+-- ---- the first of them is given
+
+-- what is held of the connect at the first of the places, and what is left without it
+pub record First (rows : List Row) (place : ℕ) (places : List ℕ) : Type 0 where
+  pub out : Out
+  pub found : out_by (lookup (is_at (nat_cmp place)) rows) ≡ Some out
+  pub outs : outs_of rows ≡ out ∷ outs_of (remove_entry (is_at (nat_cmp place)) rows)
+  pub rest : answered_places (remove_entry (is_at (nat_cmp place)) rows) ≡ places
+  pub others : filter waits (remove_entry (is_at (nat_cmp place)) rows) ≡ filter waits rows
+
+-- the same with a test for the first row
+abbrev found-at : Row → List Row → ℕ → Bool → Option Held
+found-at row rows place b = cond b (Some row.1) (lookup (is_at (nat_cmp place)) rows)
+
+abbrev left-at : Row → List Row → ℕ → Bool → List Row
+left-at row rows place b = cond b rows (row ∷ remove_entry (is_at (nat_cmp place)) rows)
+
+record FirstBy (row : Row) (rows : List Row) (place : ℕ) (places : List ℕ) (b : Bool) : Type 0 where
+  out : Out
+  found : out_by (found-at row rows place b) ≡ Some out
+  outs : outs_of (row ∷ rows) ≡ out ∷ outs_of (left-at row rows place b)
+  rest : answered_places (left-at row rows place b) ≡ places
+  others : filter waits (left-at row rows place b) ≡ filter waits (row ∷ rows)
+
+from-by : (row : Row) (rows : List Row) (place : ℕ) (places : List ℕ) → FirstBy row rows place places (is_at (nat_cmp place) row.0) → First (row ∷ rows) place places
+from-by row rows place places f = record { out = f.out; found = f.found; outs = f.outs; rest = f.rest; others = f.others }
+
+-- a place that is among those of rows behind one is not that one's
+apart : (x place : ℕ) (places : List ℕ) (rows : List Row) → AllByRecursion (λ (y : ℕ). nat_cmp x y ≡ Less) (keys_of rows) → answered_places rows ≡ place ∷ places → x ≢ place
+unfolding AllAbove
+apart x place places rows all is =
+    let above : AllAbove x (place ∷ places) = subst (AllAbove x) is (places-above x rows all) in
+    omega (arith, above.0)
+
+first-here : (row : Row) (rows : List Row) (a : Answer) (place : ℕ) (places : List ℕ) → row.1.answer ≡ Some a → row.0 ∷ answered_places rows ≡ place ∷ places → FirstBy row rows place places true
+first-here row rows a place places came is =
+    let rest : answered_places rows ≡ places = cc in
+    record {
+      out = record { input = row.1.number; result = Ok (items_of a) };
+      found = rw came refl;
+      outs = rw came refl;
+      rest = rest;
+      others = rw came refl;
+    }
+
+filter-waits : (row : Row) (rows : List Row) → row.1.answer ≡ None → filter waits (row ∷ rows) ≡ row ∷ filter waits rows
+filter-waits row rows none = ap (λ (o : Option Answer). cond (is_none o) (row ∷ filter waits rows) (filter waits rows)) none
+
+first-behind : (row : Row) (rows : List Row) (place : ℕ) (places : List ℕ) → row.1.answer ≡ None → First rows place places → FirstBy row rows place places false
+first-behind row rows place places none f = record {
+  out = f.out;
+  found = f.found;
+  outs = rw none f.outs;
+  rest = rw none f.rest;
+  others = filter-waits row (remove_entry (is_at (nat_cmp place)) rows) none ∙ ap (λ (rs : List Row). row ∷ rs) f.others ∙ sym (filter-waits row rows none);
+}
+
+first-by : (row : Row) (rows : List Row) (place : ℕ) (places : List ℕ) → (answered_places rows ≡ place ∷ places → First rows place places) → (answered_places rows ≡ place ∷ places → row.0 ≢ place) →
+    (o : Option Answer) → row.1.answer ≡ o → map (λ (r : Row). r.0) (cond (is_some o) (row ∷ filter is_answered rows) (filter is_answered rows)) ≡ place ∷ places →
+    (b : Bool) → (row.0 == place) ≡ b → FirstBy row rows place places b
+first-by row rows place places ih other None came is true e = absurd (other is (eq-from-test row.0 place e))
+first-by row rows place places ih other None came is false e = first-behind row rows place places came (ih is)
+first-by row rows place places ih other (Some a) came is true e = first-here row rows a place places came is
+first-by row rows place places ih other (Some a) came is false e = let same : row.0 ≡ place = cc in absurd (eq-from-false row.0 place e same)
+
+pub first-given : (rows : List Row) (place : ℕ) (places : List ℕ) → IsStrictlySortedBy nat_cmp (keys_of rows) → answered_places rows ≡ place ∷ places → First rows place places
+unfolding IsStrictlySortedBy
+first-given [] place places s is = cc
+first-given (row ∷ rows) place places s is =
+    let step = first-by row rows place places (first-given rows place places s.1) (apart row.0 place places rows s.0) row.1.answer refl is (row.0 == place) refl in
+    from-by row rows place places (subst (FirstBy row rows place places) (sym (at-is place row.0)) step)
+
+-- the outs so far, with this one
+pub gives-on : (old rows : List Row) (before outs after : List Out) (place : ℕ) (places : List ℕ) (f : First rows place places) → Gives old before outs rows → after ≡ outs ++ f.out ∷ [] →
+    Gives old before after (remove_entry (is_at (nat_cmp place)) rows)
+gives-on old rows before outs after place places f g is =
+    let left : List Row = remove_entry (is_at (nat_cmp place)) rows in
+    record {
+      more = g.more ++ f.out ∷ [];
+      behind = is ∙ ap (λ (os : List Out). os ++ f.out ∷ []) g.behind ∙ append_assoc before g.more (f.out ∷ []);
+      given = g.given ∙ ap (λ (os : List Out). g.more ++ os) f.outs ∙ sym (append_assoc g.more (f.out ∷ []) (outs_of left));
+      others = f.others ∙ g.others;
+    }
+
+pub gives-none : (rows : List Row) (before : List Out) → Gives rows before before rows
+gives-none rows before = record { more = []; behind = sym (append-nil before); given = refl; others = refl }
+
+-- ---- the last mark
+
+pub record Last (places : List ℕ) (place : ℕ) (before : List ℕ) : Type 0 where
+  pub rest : List ℕ
+  pub is : places ≡ place ∷ rest
+  pub before-is : before ≡ reverse rest
+
+last-at : (xs : List ℕ) (p : ℕ) → slice_get (xs ++ p ∷ []) (length xs) ≡ Some p
+last-at xs p =
+    let len : length (xs ++ p ∷ []) ≡ length xs + 1 = length-append xs (p ∷ []) in
+    slice_get-get_or (xs ++ p ∷ []) (length xs) p (omega arith) ∙ ap (λ (n : ℕ). Some n) (get_or-append_seam xs p [] p)
+
+last-by : (marks before : List ℕ) (place p : ℕ) (ps : List ℕ) → marks ≡ reverse ps ++ p ∷ [] → slice_get marks (length marks - 1) ≡ Some place → before ≡ take (length marks - 1) marks → Last (p ∷ ps) place before
+last-by marks before place p ps is last taken =
+    let len : length marks - 1 ≡ length (reverse ps) = let l : length (reverse ps ++ p ∷ []) ≡ length (reverse ps) + 1 = length-append (reverse ps) (p ∷ []) in let e : length marks ≡ length (reverse ps ++ p ∷ []) = ap (λ (ns : List ℕ). length ns) is in omega arith in
+    let found : slice_get (reverse ps ++ p ∷ []) (length (reverse ps)) ≡ Some place = ap (λ (ns : List ℕ). slice_get ns (length (reverse ps))) (sym is) ∙ ap (λ (n : ℕ). slice_get marks n) (sym len) ∙ last in
+    let some : Some p ≡ Some place = sym (last-at (reverse ps) p) ∙ found in
+    let same : p ≡ place = cc in
+    record {
+      rest = ps;
+      is = ap (λ (n : ℕ). n ∷ ps) same;
+      before-is = taken ∙ ap (λ (n : ℕ). take n marks) len ∙ ap (λ (ns : List ℕ). take (length (reverse ps)) ns) is ∙ take-append_seam (reverse ps) (p ∷ []);
+    }
+
+-- where the marks are these places from the last on, the last of them is the first place
+pub last-first : (marks before places : List ℕ) (place : ℕ) → marks ≡ reverse places → slice_get marks (length marks - 1) ≡ Some place → before ≡ take (length marks - 1) marks → Last places place before
+last-first marks before [] place is last taken =
+    let none : slice_get marks (length marks - 1) ≡ None = ap (λ (ns : List ℕ). slice_get ns (length marks - 1)) is ∙ slice_get_past (reverse []) (length marks - 1) (omega arith) in
+    let both : Some place ≡ None = sym last ∙ none in
+    cc
+last-first marks before (p ∷ ps) place is last taken = last-by marks before place p ps (is ∙ reverse-append (p ∷ []) ps) last taken
+
+-- ---- all are given
+
+wait-by : (row : Row) (rows : List Row) → (answered_places rows ≡ [] → filter waits rows ≡ rows) → (o : Option Answer) → row.1.answer ≡ o →
+    map (λ (r : Row). r.0) (cond (is_some o) (row ∷ filter is_answered rows) (filter is_answered rows)) ≡ [] → filter waits (row ∷ rows) ≡ row ∷ rows
+wait-by row rows ih None came is = filter-waits row rows came ∙ ap (λ (rs : List Row). row ∷ rs) (ih is)
+wait-by row rows ih (Some a) came is = cc
+
+pub all-wait : (rows : List Row) → answered_places rows ≡ [] → filter waits rows ≡ rows
+all-wait [] is = refl
+all-wait (row ∷ rows) is = wait-by row rows (all-wait rows) row.1.answer refl is

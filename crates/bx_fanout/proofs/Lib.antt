@@ -1,0 +1,14 @@
+pub mod Admitted
+pub mod Ascending
+pub mod AtOnce
+pub mod Below
+pub mod Collecting
+pub mod Dealing
+pub mod Desks
+pub mod Draining
+pub mod Finishing
+pub mod Giving
+pub mod Opens
+pub mod Running
+pub mod Sole
+pub mod Stages

@@ -1,0 +1,337 @@
+-- What the held connects give once their answers are put, in the words of the definitions.
+use Rattle.std.proofs.Common.{◌≡◌, ℕ, ◌+◌, ◌<◌, Bool, true, false, not, List, [], ◌∷◌, ◌++◌, length, map, filter, refl, sym, ap, subst, ◌∙◌, cond, arith, Option, Some, None, Ok, Result, option_map, append_assoc, append-nil, zero, suc, max, add-one, add-zero, zero-add}
+use Rattle.std.specs.Prelude.{is_some, flat_map}
+use Rattle.std.specs.List.{AllByRecursion}
+use Rattle.std.proofs.lemmas.List.{map-append}
+use Rattle.std.proofs.lemmas.List.Elements.{filter-append}
+use Rattle.bx_advice.specs.declared.config.Config.{Config}
+use Rattle.bx_entry.specs.Answers.{PlacedAnswer, answer, answer_in}
+use Rattle.bx_entry.specs.Inputs.{ReadInput, Request, Tick, Unread, refusal_of}
+use Rattle.bx_entry.specs.Listing.{Listed}
+use Rattle.bx_entry.specs.Registry.{Registry, registry}
+use Rattle.bx_entry.specs.Runs as runs
+use Rattle.bx_entry.specs.Runs.{Dealt, answered_items, latest, numbers_from, outs, places_of, result_by, taken_in}
+use Rattle.bx_entry.specs.declared.input.Refusal.{Refusal}
+use Rattle.bx_entry.specs.declared.entry.Slot.{Slot}
+use Rattle.bx_message.specs.declared.reply.Answer.{Answer}
+use Rattle.bx_message.specs.declared.reply.Item.{Item}
+use Rattle.bx_shard.specs.Shards.{Setup, is_taken}
+use Rattle.bx_world.specs.Worlds.{WorldState, given_of}
+use Rattle.bx_fanout.specs.Desks.{Row, items_of, outs_of, waits}
+use Rattle.bx_fanout.specs.Draining.{Drained, filled}
+use Rattle.bx_fanout.specs.Newests.{AreAnswers, IsCollected, IsWhole, NoneTakenFrom, given_at, next_place, response_of}
+use Rattle.bx_fanout.specs.Newests as newests
+use Rattle.bx_fanout.specs.Opens.{Numbered, answers_to, dealt_as, is_whole, newest, open_after, out_of, waiting_at}
+use Rattle.bx_fanout.specs.Sole.{IsConnect}
+use Rattle.bx_fanout.specs.Stages.{AllUntaken, IsCollecting, IsGiving, bare, own_out, seen_out}
+use Rattle.bx_fanout.specs.declared.newest.Newest.{Newest}
+use Rattle.bx_fanout.proofs.Opens.{opens_go_on, outs_add}
+use Rattle.bx_fanout.proofs.Sole.{open_are_sole}
+
+-- an input of one message that was not refused
+pub record IsSole (o : Numbered) : Type 0 where
+  pub accepted : o.dealt.refusal ≡ None
+  pub sole : places_of o.dealt o.dealt.input ≡ o.dealt.first ∷ []
+
+pub all-sole : (config : Config) (list : List Listed) (os : List Numbered) → AllByRecursion (IsConnect config list) os → AllByRecursion IsSole os
+all-sole config list [] all = tt
+all-sole config list (o ∷ os) all = (record { accepted = all.0.accepted; sole = all.0.sole }, all-sole config list os all.1)
+
+-- ---- one of them
+
+whole-sole : (config : Config) (r : Registry) (o : Numbered) → IsSole o → is_whole config r o ≡ is_some (latest 0 (answer_in config r o.dealt.first ∷ []))
+whole-sole config r o s = ap (λ (ps : List ℕ). is_some (latest 0 (map (answer_in config r) ps))) s.sole
+
+result-sole : (config : Config) (r : Registry) (o : Numbered) (p : PlacedAnswer) → IsSole o → answer_in config r o.dealt.first ≡ Some p → result_by (answers_to config r o) o.dealt.refusal ≡ Ok (runs.items_of p)
+result-sole config r o p s e =
+    ap (λ (x : Option Refusal). result_by (answers_to config r o) x) s.accepted
+    ∙ ap (λ (ps : List ℕ). result_by (map (answer_in config r) ps) None) s.sole
+    ∙ ap (λ (x : Option PlacedAnswer). result_by (x ∷ []) None) e
+    ∙ ap (λ (is : List Item). Ok is) (append-nil (runs.items_of p))
+
+outs-head : (config : Config) (r : Registry) (o : Numbered) (rows : List Row) (os : List Numbered) → IsSole o → map seen_out (outs_of rows) ≡ map (out_of config r) (filter (is_whole config r) os) →
+    (x : Option PlacedAnswer) → answer_in config r o.dealt.first ≡ x → map seen_out (outs_of ((o.dealt.first, record { number = o.number; answer = option_map given_of x }) ∷ rows))
+    ≡ map (out_of config r) (cond (is_some (latest 0 (x ∷ []))) (o ∷ filter (is_whole config r) os) (filter (is_whole config r) os))
+outs-head config r o rows os s ih None e = ih
+outs-head config r o rows os s ih (Some p) e =
+    let head : record { input = o.number; result = Ok (runs.items_of p) } ≡ out_of config r o = ap (λ (res : Result (List Item) Refusal). record { input = o.number; result = res }) (sym (result-sole config r o p s e)) in
+    ap (λ (x : runs.Out). x ∷ map seen_out (outs_of rows)) head ∙ ap (λ (xs : List runs.Out). out_of config r o ∷ xs) ih
+
+-- ---- all of them
+
+pub outs-sole : (config : Config) (list : List Listed) (os : List Numbered) → AllByRecursion IsSole os →
+    map seen_out (outs_of (map (filled config list) (map bare os))) ≡ map (out_of config (registry config list)) (filter (is_whole config (registry config list)) os)
+outs-sole config list [] all = refl
+outs-sole config list (o ∷ os) all =
+    let r : Registry = registry config list in
+    outs-head config r o (map (filled config list) (map bare os)) os all.0 (outs-sole config list os all.1) (answer_in config r o.dealt.first) refl
+    ∙ ap (λ (b : Bool). map (out_of config r) (cond b (o ∷ filter (is_whole config r) os) (filter (is_whole config r) os))) (sym (whole-sole config r o all.0))
+
+rest-head : (config : Config) (r : Registry) (o : Numbered) (rows : List Row) (os : List Numbered) → filter waits rows ≡ map bare (filter (λ (n : Numbered). not (is_whole config r n)) os) →
+    (x : Option PlacedAnswer) → filter waits ((o.dealt.first, record { number = o.number; answer = option_map given_of x }) ∷ rows)
+    ≡ map bare (cond (not (is_some (latest 0 (x ∷ [])))) (o ∷ filter (λ (n : Numbered). not (is_whole config r n)) os) (filter (λ (n : Numbered). not (is_whole config r n)) os))
+rest-head config r o rows os ih None = ap (λ (rs : List Row). bare o ∷ rs) ih
+rest-head config r o rows os ih (Some p) = ih
+
+pub rest-sole : (config : Config) (list : List Listed) (os : List Numbered) → AllByRecursion IsSole os →
+    filter waits (map (filled config list) (map bare os)) ≡ map bare (filter (λ (n : Numbered). not (is_whole config (registry config list) n)) os)
+rest-sole config list [] all = refl
+rest-sole config list (o ∷ os) all =
+    let r : Registry = registry config list in
+    rest-head config r o (map (filled config list) (map bare os)) os (rest-sole config list os all.1) (answer_in config r o.dealt.first)
+    ∙ ap (λ (b : Bool). map bare (cond (not b) (o ∷ filter (λ (n : Numbered). not (is_whole config r n)) os) (filter (λ (n : Numbered). not (is_whole config r n)) os))) (sym (whole-sole config r o all.0))
+
+-- the others were not taken
+untaken-head : (config : Config) (r : Registry) (taken : List ℕ) (o : Numbered) (os : List Numbered) → AllUntaken taken (filter (λ (n : Numbered). not (is_whole config r n)) os) → (x : Option PlacedAnswer) →
+    (option_map given_of x ≡ None → is_taken taken o.dealt.first ≡ false) → AllUntaken taken (cond (not (is_some (latest 0 (x ∷ [])))) (o ∷ filter (λ (n : Numbered). not (is_whole config r n)) os) (filter (λ (n : Numbered). not (is_whole config r n)) os))
+untaken-head config r taken o os ih None here = (here refl, ih)
+untaken-head config r taken o os ih (Some p) here = ih
+
+pub untaken-sole : (config : Config) (list : List Listed) (taken : List ℕ) (os : List Numbered) → AllByRecursion IsSole os →
+    AllByRecursion (λ (row : Row). given_at config list row.0 ≡ None → is_taken taken row.0 ≡ false) (map bare os) → AllUntaken taken (filter (λ (n : Numbered). not (is_whole config (registry config list) n)) os)
+untaken-sole config list taken [] all none = tt
+untaken-sole config list taken (o ∷ os) all none =
+    let r : Registry = registry config list in
+    subst (λ (b : Bool). AllUntaken taken (cond (not b) (o ∷ filter (λ (n : Numbered). not (is_whole config r n)) os) (filter (λ (n : Numbered). not (is_whole config r n)) os))) (sym (whole-sole config r o all.0))
+    (untaken-head config r taken o os (untaken-sole config list taken os all.1 none.1) (answer_in config r o.dealt.first) none.0)
+
+-- ---- the last input
+
+-- a message that is answered
+record Found (o : Option PlacedAnswer) (a : Answer) : Type 0 where
+  answered : PlacedAnswer
+  is : o ≡ Some answered
+  given : given_of answered ≡ a
+
+found-by : (o : Option PlacedAnswer) (a : Answer) → option_map given_of o ≡ Some a → Found o a
+found-by None a e = cc
+found-by (Some p) a e = record { answered = p; is = refl; given = let same : given_of p ≡ a = cc in same }
+
+all-there : (config : Config) (list : List Listed) (place k : ℕ) (answers : List Answer) → AreAnswers config list place answers →
+    is_some (latest k (map (answer_in config (registry config list)) (numbers_from place (length answers)))) ≡ true
+all-there config list place k [] are = refl
+all-there config list place k (a ∷ answers) are =
+    let f = found-by (answer config list place) a are.0 in
+    let rest : List (Option PlacedAnswer) = map (answer_in config (registry config list)) (numbers_from (place + 1) (length answers)) in
+    ap (λ (x : Option PlacedAnswer). is_some (latest k (x ∷ rest))) f.is ∙ all-there config list (place + 1) (max k f.answered.place) answers are.1
+
+items-there : (config : Config) (list : List Listed) (place : ℕ) (answers : List Answer) → AreAnswers config list place answers →
+    answered_items (map (answer_in config (registry config list)) (numbers_from place (length answers))) ≡ flat_map items_of answers
+items-there config list place [] are = refl
+items-there config list place (a ∷ answers) are =
+    let f = found-by (answer config list place) a are.0 in
+    let rest : List (Option PlacedAnswer) = map (answer_in config (registry config list)) (numbers_from (place + 1) (length answers)) in
+    ap (λ (x : Option PlacedAnswer). answered_items (x ∷ rest)) f.is
+    ∙ ap (λ (is : List Item). runs.items_of f.answered ++ is) (items-there config list (place + 1) answers are.1)
+    ∙ ap (λ (b : Answer). items_of b ++ flat_map items_of answers) f.given
+
+missing-by : (x : Option PlacedAnswer) → option_map given_of x ≡ None → x ≡ None
+missing-by None e = refl
+missing-by (Some p) e = cc
+
+one-missing : (config : Config) (list : List Listed) (place k m : ℕ) (answers : List Answer) → AreAnswers config list place answers → given_at config list (place + length answers) ≡ None →
+    is_some (latest k (map (answer_in config (registry config list)) (numbers_from place (length answers + suc m)))) ≡ false
+one-missing config list place k m [] are none =
+    let here : answer config list place ≡ None = missing-by (answer config list place) (ap (given_at config list) (sym (add-zero place)) ∙ none) in
+    let count : 0 + suc m ≡ suc m = zero-add (suc m) in
+    ap (λ (n : ℕ). is_some (latest k (map (answer_in config (registry config list)) (numbers_from place n)))) count
+    ∙ ap (λ (x : Option PlacedAnswer). is_some (latest k (x ∷ map (answer_in config (registry config list)) (numbers_from (place + 1) m)))) here
+one-missing config list place k m (a ∷ answers) are none =
+    let f = found-by (answer config list place) a are.0 in
+    let rest : List (Option PlacedAnswer) = map (answer_in config (registry config list)) (numbers_from (place + 1) (length answers + suc m)) in
+    let at : place + length (a ∷ answers) ≡ place + 1 + length answers = omega (arith, add-one (length answers)) in
+    let count : length (a ∷ answers) + suc m ≡ suc (length answers + suc m) = omega (arith, add-one (length answers), add-one (length answers + suc m)) in
+    ap (λ (n : ℕ). is_some (latest k (map (answer_in config (registry config list)) (numbers_from place n)))) count
+    ∙ ap (λ (x : Option PlacedAnswer). is_some (latest k (x ∷ rest))) f.is
+    ∙ one-missing config list (place + 1) (max k f.answered.place) m answers are.1 (ap (given_at config list) (sym at) ∙ none)
+
+pub length-numbers : (place n : ℕ) → length (numbers_from place n) ≡ n
+length-numbers place zero = refl
+length-numbers place (suc n) = ap (λ (m : ℕ). suc m) (length-numbers (place + 1) n)
+
+-- so many messages of an input stand at places that are in order
+places-are : (d : Dealt) (input : ReadInput) (n : ℕ) → n ≡ length (places_of d input) → places_of d input ≡ numbers_from d.first n
+places-are d (Request moment nonce ms) n e = ap (numbers_from d.first) (sym (e ∙ length-numbers d.first d.count))
+places-are d (Unread fault) n e = ap (numbers_from d.first) (sym e)
+places-are d (Tick moment) n e = ap (numbers_from d.first) (sym e)
+
+pub dealt-input : (len : ℕ) (input : ReadInput) (o : Option Refusal) → (dealt_as len input o).input ≡ input
+dealt-input len input None = refl
+dealt-input len input (Some refusal) = refl
+
+pub dealt-first : (len : ℕ) (input : ReadInput) (o : Option Refusal) → (dealt_as len input o).first ≡ len
+dealt-first len input None = refl
+dealt-first len input (Some refusal) = refl
+
+-- the answers to the messages of the last input
+answers-newest : (config : Config) (r : Registry) (inputs : List ReadInput) (input : ReadInput) (n : ℕ) → n ≡ length (places_of (newest inputs input).dealt input) →
+    answers_to config r (newest inputs input) ≡ map (answer_in config r) (numbers_from (length (taken_in inputs).list) n)
+answers-newest config r inputs input n e =
+    let len : ℕ = length (taken_in inputs).list in
+    let d : Dealt = (newest inputs input).dealt in
+    ap (λ (i : ReadInput). map (answer_in config r) (places_of d i)) (dealt-input len input (refusal_of len input))
+    ∙ ap (map (answer_in config r)) (places-are d input n e)
+    ∙ ap (λ (p : ℕ). map (answer_in config r) (numbers_from p n)) (dealt-first len input (refusal_of len input))
+
+result-same : (answers : List (Option PlacedAnswer)) (items : List Item) (o : Option Refusal) → answered_items answers ≡ items → result_by answers o ≡ newests.result_of items o
+result-same answers items None e = ap (λ (is : List Item). Ok is) e
+result-same answers items (Some refusal) e = refl
+
+-- it is whole, and this is its out
+record Newly (config : Config) (r : Registry) (inputs : List ReadInput) (input : ReadInput) (n : Newest) : Type 0 where
+  whole : is_whole config r (newest inputs input) ≡ true
+  out : seen_out (newests.out_of n) ≡ out_of config r (newest inputs input)
+
+newest-whole : (setup : Setup) (inputs : List ReadInput) (input : ReadInput) (w : WorldState) (rows : List Row) (n : Newest) (added : List runs.Out) → IsCollecting setup inputs input w rows n added → n.slots.items ≡ [] →
+    Newly setup.config (registry setup.config w.list) inputs input n
+newest-whole setup inputs input w rows n added c none =
+    let config : Config = setup.config in
+    let r : Registry = registry config w.list in
+    let len : ℕ = length (taken_in inputs).list in
+    let no : length n.slots.items ≡ 0 = ap (λ (xs : List Slot). length xs) none in
+    let many : length n.answers.items ≡ length (places_of (newest inputs input).dealt input) = let e = c.many in omega arith in
+    let are : AreAnswers config w.list len n.answers.items = subst (λ (p : ℕ). AreAnswers config w.list p n.answers.items) c.first c.collected.answers in
+    let answers = answers-newest config r inputs input (length n.answers.items) many in
+    let items : answered_items (answers_to config r (newest inputs input)) ≡ response_of n =
+    ap answered_items answers ∙ items-there config w.list len n.answers.items are ∙ sym (ap (λ (is : List Item). is ++ flat_map items_of n.answers.items) c.items) in
+    record {
+      whole = ap (λ (os : List (Option PlacedAnswer)). is_some (latest 0 os)) answers ∙ all-there config w.list len 0 n.answers.items are;
+      out =
+          let result : newests.result_of (response_of n) n.refusal ≡ result_by (answers_to config r (newest inputs input)) (newest inputs input).dealt.refusal =
+          ap (newests.result_of (response_of n)) c.refusal ∙ sym (result-same (answers_to config r (newest inputs input)) (response_of n) (newest inputs input).dealt.refusal items) in
+          ap (λ (res : Result (List Item) Refusal). record { input = n.number; result = res }) result
+          ∙ ap (λ (k : ℕ). record { input = k; result = result_by (answers_to config r (newest inputs input)) (newest inputs input).dealt.refusal }) c.number;
+    }
+
+-- ---- all answers were put
+
+-- one more behind the others
+all-append : (os ps : List Numbered) → AllByRecursion IsSole os → AllByRecursion IsSole ps → AllByRecursion IsSole (os ++ ps)
+all-append [] ps all more = more
+all-append (o ∷ os) ps all more = (all.0, all-append os ps all.1 more)
+
+none-more : (config : Config) (r : Registry) (os : List Numbered) (o : Numbered) → is_whole config r o ≡ true →
+    filter (λ (n : Numbered). not (is_whole config r n)) (os ++ o ∷ []) ≡ filter (λ (n : Numbered). not (is_whole config r n)) os
+none-more config r os o e =
+    filter-append (λ (n : Numbered). not (is_whole config r n)) os (o ∷ [])
+    ∙ ap (λ (b : Bool). filter (λ (n : Numbered). not (is_whole config r n)) os ++ cond (not b) (o ∷ []) []) e
+    ∙ append-nil (filter (λ (n : Numbered). not (is_whole config r n)) os)
+
+one-more : (config : Config) (r : Registry) (os : List Numbered) (o : Numbered) → is_whole config r o ≡ true → filter (is_whole config r) (os ++ o ∷ []) ≡ filter (is_whole config r) os ++ o ∷ []
+one-more config r os o e = filter-append (is_whole config r) os (o ∷ []) ∙ ap (λ (b : Bool). filter (is_whole config r) os ++ cond b (o ∷ []) []) e
+
+-- what the definitions add at the input, and what they leave open, in the world's list
+adds : (setup : Setup) (inputs : List ReadInput) (input : ReadInput) (list : List Listed) → 0 < setup.config.limits.batch → list ≡ (taken_in (inputs ++ input ∷ [])).list →
+    outs setup.config (inputs ++ input ∷ []) ≡ outs setup.config inputs ++ map (out_of setup.config (registry setup.config list)) (filter (is_whole setup.config (registry setup.config list)) (waiting_at setup.config inputs input))
+adds setup inputs input list batch same =
+    subst (λ (ls : List Listed). outs setup.config (inputs ++ input ∷ []) ≡ outs setup.config inputs ++ map (out_of setup.config (registry setup.config ls)) (filter (is_whole setup.config (registry setup.config ls)) (waiting_at setup.config inputs input)))
+    (sym same) (outs_add setup.config inputs input batch)
+
+leaves : (setup : Setup) (inputs : List ReadInput) (input : ReadInput) (list : List Listed) → 0 < setup.config.limits.batch → list ≡ (taken_in (inputs ++ input ∷ [])).list →
+    open_after setup.config (inputs ++ input ∷ []) ≡ filter (λ (n : Numbered). not (is_whole setup.config (registry setup.config list) n)) (waiting_at setup.config inputs input)
+leaves setup inputs input list batch same =
+    subst (λ (ls : List Listed). open_after setup.config (inputs ++ input ∷ []) ≡ filter (λ (n : Numbered). not (is_whole setup.config (registry setup.config ls) n)) (waiting_at setup.config inputs input))
+    (sym same) (opens_go_on setup.config inputs input batch)
+
+-- the last input is whole: its out comes behind those of the held ones
+pub giving-whole : (setup : Setup) (inputs : List ReadInput) (input : ReadInput) (old w : WorldState) (rows after : List Row) (n : Newest) (added : List runs.Out) → 0 < setup.config.limits.batch →
+    IsCollecting setup inputs input old rows n added → n.slots.items ≡ [] → Drained setup old rows w after → IsGiving setup (inputs ++ input ∷ []) w after (Some n) added
+giving-whole setup inputs input old w rows after n added batch c none d =
+    let config : Config = setup.config in
+    let r : Registry = registry config old.list in
+    let opens : List Numbered = open_after config inputs in
+    let sole : AllByRecursion IsSole opens = all-sole config (taken_in inputs).list opens (open_are_sole config inputs batch) in
+    let own = newest-whole setup inputs input old rows n added c none in
+    let put : after ≡ map (filled config old.list) (map bare opens) = d.rows ∙ ap (map (filled config old.list)) c.held in
+    let opened : open_after config (inputs ++ input ∷ []) ≡ filter (λ (o : Numbered). not (is_whole config r o)) opens = leaves setup inputs input old.list batch c.list ∙ none-more config r opens (newest inputs input) own.whole in
+    record {
+      list = d.list ∙ c.list;
+      rest = ap (filter waits) put ∙ rest-sole config old.list opens sole ∙ ap (map bare) (sym opened);
+      untaken =
+          let held : AllByRecursion (λ (row : Row). given_at config old.list row.0 ≡ None → is_taken w.taken row.0 ≡ false) (map bare opens) =
+          subst (AllByRecursion (λ (row : Row). given_at config old.list row.0 ≡ None → is_taken w.taken row.0 ≡ false)) c.held d.untaken in
+          subst (AllUntaken w.taken) (sym opened) (untaken-sole config old.list w.taken opens sole held);
+      fresh = subst (λ (ls : List Listed). NoneTakenFrom (length ls) w.taken) (sym d.list) d.fresh;
+      left =
+          ap (λ (os : List runs.Out). os ++ map seen_out (outs_of after) ++ own_out (Some n)) c.outs_before
+          ∙ ap (λ (rs : List Row). outs config inputs ++ map seen_out (outs_of rs) ++ own_out (Some n)) put
+          ∙ ap (λ (os : List runs.Out). outs config inputs ++ os ++ own_out (Some n)) (outs-sole config old.list opens sole)
+          ∙ ap (λ (x : runs.Out). outs config inputs ++ map (out_of config r) (filter (is_whole config r) opens) ++ x ∷ []) own.out
+          ∙ append_assoc (outs config inputs) (map (out_of config r) (filter (is_whole config r) opens)) (out_of config r (newest inputs input) ∷ [])
+          ∙ ap (λ (os : List runs.Out). outs config inputs ++ os) (sym (map-append (out_of config r) (filter (is_whole config r) opens) (newest inputs input ∷ [])))
+          ∙ ap (λ (ns : List Numbered). outs config inputs ++ map (out_of config r) ns) (sym (one-more config r opens (newest inputs input) own.whole))
+          ∙ sym (adds setup inputs input old.list batch c.list);
+    }
+
+-- ---- the last input is held
+
+last-of : (config : Config) (list : List Listed) (os : List Numbered) (o : Numbered) → AllByRecursion (IsConnect config list) (os ++ o ∷ []) → IsConnect config list o
+last-of config list [] o all = all.0
+last-of config list (n ∷ os) o all = last-of config list os o all.1
+
+more-than : (a b : ℕ) → 0 < b → (m : ℕ) × (a + b ≡ a + suc m)
+more-than a zero some = absurd (omega arith)
+more-than a (suc m) some = (m, refl)
+
+newest-missing : (setup : Setup) (inputs : List ReadInput) (input : ReadInput) (w : WorldState) (rows : List Row) (n : Newest) (added : List runs.Out) → IsCollecting setup inputs input w rows n added →
+    0 < length n.slots.items → given_at setup.config w.list (next_place n) ≡ None → is_whole setup.config (registry setup.config w.list) (newest inputs input) ≡ false
+newest-missing setup inputs input w rows n added c some missing =
+    let config : Config = setup.config in
+    let r : Registry = registry config w.list in
+    let len : ℕ = length (taken_in inputs).list in
+    let m = more-than (length n.answers.items) (length n.slots.items) some in
+    let are : AreAnswers config w.list len n.answers.items = subst (λ (p : ℕ). AreAnswers config w.list p n.answers.items) c.first c.collected.answers in
+    let none : given_at config w.list (len + length n.answers.items) ≡ None = ap (λ (p : ℕ). given_at config w.list (p + length n.answers.items)) (sym c.first) ∙ missing in
+    ap (λ (os : List (Option PlacedAnswer)). is_some (latest 0 os)) (answers-newest config r inputs input (length n.answers.items + suc m.0) (sym m.1 ∙ c.many))
+    ∙ one-missing config w.list len 0 m.0 n.answers.items are none
+
+-- it is a connect, its request's only message
+pub newest-sole : (setup : Setup) (inputs : List ReadInput) (input : ReadInput) (w : WorldState) (rows : List Row) (n : Newest) (added : List runs.Out) → 0 < setup.config.limits.batch → IsCollecting setup inputs input w rows n added →
+    0 < length n.slots.items → given_at setup.config w.list (next_place n) ≡ None → IsConnect setup.config w.list (newest inputs input)
+newest-sole setup inputs input w rows n added batch c some missing =
+    let config : Config = setup.config in
+    let r : Registry = registry config w.list in
+    let opens : List Numbered = open_after config inputs in
+    let not-whole = newest-missing setup inputs input w rows n added c some missing in
+    let opened : open_after config (inputs ++ input ∷ []) ≡ filter (λ (o : Numbered). not (is_whole config r o)) opens ++ newest inputs input ∷ [] =
+    leaves setup inputs input w.list batch c.list ∙ filter-append (λ (o : Numbered). not (is_whole config r o)) opens (newest inputs input ∷ [])
+    ∙ ap (λ (b : Bool). filter (λ (o : Numbered). not (is_whole config r o)) opens ++ cond (not b) (newest inputs input ∷ []) []) not-whole in
+    let all : AllByRecursion (IsConnect config (taken_in (inputs ++ input ∷ [])).list) (filter (λ (o : Numbered). not (is_whole config r o)) opens ++ newest inputs input ∷ []) =
+    subst (AllByRecursion (IsConnect config (taken_in (inputs ++ input ∷ [])).list)) opened (open_are_sole config (inputs ++ input ∷ []) batch) in
+    subst (λ (ls : List Listed). IsConnect config ls (newest inputs input)) (sym c.list) (last-of config (taken_in (inputs ++ input ∷ [])).list (filter (λ (o : Numbered). not (is_whole config r o)) opens) (newest inputs input) all)
+
+-- it stands behind the others
+pub giving-held : (setup : Setup) (inputs : List ReadInput) (input : ReadInput) (old w : WorldState) (rows after : List Row) (n : Newest) (added : List runs.Out) → 0 < setup.config.limits.batch →
+    IsCollecting setup inputs input old rows n added → 0 < length n.slots.items → given_at setup.config old.list (next_place n) ≡ None →
+    Drained setup old (rows ++ (n.first, record { number = n.number; answer = None }) ∷ []) w after → IsGiving setup (inputs ++ input ∷ []) w after None added
+giving-held setup inputs input old w rows after n added batch c some missing d =
+    let config : Config = setup.config in
+    let r : Registry = registry config old.list in
+    let opens : List Numbered = open_after config inputs in
+    let connect = newest-sole setup inputs input old rows n added batch c some missing in
+    let all : List Numbered = waiting_at config inputs input in
+    let sole : AllByRecursion IsSole all =
+    all-append opens (newest inputs input ∷ []) (all-sole config (taken_in inputs).list opens (open_are_sole config inputs batch)) (record { accepted = connect.accepted; sole = connect.sole }, tt) in
+    let len : ℕ = length (taken_in inputs).list in
+    let last : (n.first, record { number = n.number; answer = None }) ≡ bare (newest inputs input) =
+    ap (λ (p : ℕ). (p, record { number = n.number; answer = None })) (c.first ∙ sym (dealt-first len input (refusal_of len input)))
+    ∙ ap (λ (k : ℕ). ((newest inputs input).dealt.first, record { number = k; answer = None })) c.number in
+    let held : rows ++ (n.first, record { number = n.number; answer = None }) ∷ [] ≡ map bare all =
+    ap (λ (rs : List Row). rs ++ (n.first, record { number = n.number; answer = None }) ∷ []) c.held ∙ ap (λ (row : Row). map bare opens ++ row ∷ []) last ∙ sym (map-append bare opens (newest inputs input ∷ [])) in
+    let put : after ≡ map (filled config old.list) (map bare all) = d.rows ∙ ap (map (filled config old.list)) held in
+    let opened = leaves setup inputs input old.list batch c.list in
+    record {
+      list = d.list ∙ c.list;
+      rest = ap (filter waits) put ∙ rest-sole config old.list all sole ∙ ap (map bare) (sym opened);
+      untaken =
+          let none : AllByRecursion (λ (row : Row). given_at config old.list row.0 ≡ None → is_taken w.taken row.0 ≡ false) (map bare all) =
+          subst (AllByRecursion (λ (row : Row). given_at config old.list row.0 ≡ None → is_taken w.taken row.0 ≡ false)) held d.untaken in
+          subst (AllUntaken w.taken) (sym opened) (untaken-sole config old.list w.taken all sole none);
+      fresh = subst (λ (ls : List Listed). NoneTakenFrom (length ls) w.taken) (sym d.list) d.fresh;
+      left =
+          append-nil (added ++ map seen_out (outs_of after))
+          ∙ ap (λ (os : List runs.Out). os ++ map seen_out (outs_of after)) c.outs_before
+          ∙ ap (λ (rs : List Row). outs config inputs ++ map seen_out (outs_of rs)) put
+          ∙ ap (λ (os : List runs.Out). outs config inputs ++ os) (outs-sole config old.list all sole)
+          ∙ sym (adds setup inputs input old.list batch c.list);
+    }

@@ -1,0 +1,10 @@
+use Rattle.std.proofs.Common.{◌≡◌, ◌∙◌, arith, length, sym}
+use Rattle.bx_world.specs.Seen.{world_of}
+use Rattle.bx_fanout.proofs.Dealing.{level-all}
+use Rattle.bx_fanout.proofs.level.level.Goals as goal
+
+pub returns-clause-level : goal.returns-clause-level
+returns-clause-level g c =
+    let v = c.bring_up.new.self in
+    let none : c.bring_up.result ≡ 0 = omega arith in
+    level-all (length (world_of v).list) (world_of v).applied (sym c.bring_up.ensures.count ∙ none)

@@ -1,0 +1,35 @@
+use Rattle.std.proofs.Common.{◌≡◌, ◌++◌, arith, ◌∙◌, List, None, Option, Some, ap, length, map, refl, subst, sym}
+use Rattle.std.proofs.lemmas.List.{map-append}
+use Rattle.bx_entry.specs.Requests.{read_input}
+use Rattle.bx_entry.specs.Runs as runs
+use Rattle.bx_fanout.specs.Stages.{IsGiving, IsStaged, seen_out}
+use Rattle.bx_fanout.specs.declared.out.Out.{Out}
+use Rattle.bx_fanout.specs.declared.newest.Newest.{Newest}
+use Rattle.bx_world.specs.Seen.{setup_of, world_of}
+use Rattle.bx_fanout.proofs.Dealing.{giving-out}
+use Rattle.bx_fanout.proofs.Finishing.{behind-is, giving-at}
+use Rattle.bx_fanout.proofs.parts.add_outs.Goals as goal
+
+pub returns-clause-stands : goal.returns-clause-stands
+returns-clause-stands g c =
+    let p = c.args.parts.now in
+    let w = p.world in
+    let i = c.requires.stands in
+    let gives = c.give_out-given.ensures.gives in
+    let desk = c.give_out-given.new.desk in
+    let whole = c.give_out-given.new.whole in
+    let inputs = map read_input p.inputs in
+    let giving = giving-at (setup_of w) inputs (world_of w) p.desk p.newest p.whole (map seen_out p.added) c.requires.done.none i.staged in
+    let out = giving-out (setup_of w) inputs (world_of w) p.desk desk p.whole whole c.args.outs.now.items c.give_out-given.new.outs.items (map seen_out p.added) giving gives in
+    let at : c.len-count.result ≡ length c.args.outs.now.items = omega (arith, c.args.outs.now.ok.0, c.len-count.ensures) in
+    let more : c.append.new.self ≡ p.added ++ gives.more =
+    c.append.ensures ∙ ap (λ (os : List Out). p.added ++ os) (behind-is c.args.outs.now.items gives.more c.give_out-given.new.outs.items c.deref.result.now c.len-count.result at gives.behind c.deref.ensures.value) in
+    let added : map seen_out p.added ++ map seen_out gives.more ≡ map seen_out c.append.new.self = sym (map-append seen_out p.added gives.more) ∙ ap (map seen_out) (sym more) in
+    record {
+      shards = i.shards;
+      counted = i.counted;
+      ended = i.ended;
+      staged =
+          subst (λ (o : Option Newest). IsStaged (setup_of w) inputs (world_of w) desk o whole (map seen_out c.append.new.self)) (sym c.requires.done.none)
+          (subst (IsGiving (setup_of w) inputs (world_of w) desk whole) added out);
+    }

@@ -1,0 +1,45 @@
+//! The answers that the last input brings.
+ghost use Rattle.std.specs.Prelude.{◌≡◌, map, if◌then◌else◌, IfOk, OnErr};
+ghost use Rattle.bx_entry.specs.Requests.{read_input};
+ghost use Rattle.bx_fanout.specs.Newests.{IsLevel};
+ghost use Rattle.bx_fanout.specs.Stages.{IsDealt, IsGiving, seen_out};
+ghost use Rattle.bx_world.specs.Seen.{setup_of, world_of};
+
+use crate::desk::Desk;
+use crate::drain::drain;
+use crate::newest::Newest;
+use crate::out::Out;
+use bx_entry::{Input, Placing};
+use bx_history::History;
+use bx_world::World;
+use std::alloc::{AllocError, Global};
+
+/// Collects the answers to the last input where every shard has applied the whole list, holds it where one is missing,
+/// and puts the other answers to the connects that wait for them. Says whether the input is whole.
+pub(crate) fn bring_in<P: Placing>(
+    alloc: Global,
+    world: &mut World<P>,
+    shards: usize,
+    desk: &mut Desk,
+    newest: &mut Newest,
+    inputs: &History<Input>,
+    added: &History<Out>,
+) -> Result<bool, AllocError>
+    requires shards { shards ≡ (setup_of world.old).shards }
+    requires level { IsLevel (world_of world.old) }
+    requires dealt { IsDealt (setup_of world.old) (map read_input inputs.now) (world_of world.old) desk.old newest.old (map seen_out added.now) }
+    ensures giving { IfOk result (λ whole. IsGiving (setup_of world.new) (map read_input inputs.now) (world_of world.new) desk.new
+        (if whole then Some newest.new else None) (map seen_out added.now)) }
+    ensures dealt { OnErr result (IsDealt (setup_of world.new) (map read_input inputs.now) (world_of world.new) desk.new newest.new (map seen_out added.now)) }
+    ensures list { (world_of world.new).list ≡ (world_of world.old).list }
+    ensures applied { (world_of world.new).applied ≡ (world_of world.old).applied }
+    ensures setup { setup_of world.new ≡ setup_of world.old }
+{
+    if newest.collect(alloc, world)? {
+        drain(world, shards, desk);
+        return Ok(true);
+    }
+    desk.hold(newest.first, newest.number)?;
+    drain(world, shards, desk);
+    Ok(false)
+}

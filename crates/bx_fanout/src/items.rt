@@ -1,0 +1,17 @@
+//! The items of a response.
+ghost use Rattle.std.specs.Prelude.{◌≡◌, ◌+◌, ◌++◌, ◌≤◌, length, vec_capacity, vec_len};
+ghost use Rattle.bx_fanout.specs.Desks.{items_of};
+
+use bx_message::{Answer, Item};
+
+/// Adds what the client gets of an answer behind the others: its events, and then its reply.
+pub(crate) fn add_items(items: &mut Vec<Item>, answer: Answer)
+    requires room { vec_len items.old + length answer.events + 1 ≤ vec_capacity items.old }
+    ensures { items.new.items ≡ items.old.items ++ items_of answer }
+{
+    let Answer { events, reply } = answer;
+    for event in events.into_vec() {
+        items.push_reserved(Item::EventItem(event));
+    }
+    items.push_reserved(Item::ReplyItem(reply));
+}

@@ -1,0 +1,18 @@
+//! Inputs in order, each answered as one thread would answer it, by many workers.
+#![tactic(auto)]
+
+mod bring_in;
+mod deal;
+mod desk;
+mod drain;
+mod give_out;
+mod items;
+mod laws;
+mod level;
+mod newest;
+mod out;
+mod parts;
+mod run;
+
+pub use laws::{open_are_sole, open_is_held, opens_ascend, opens_go_on, outs_add};
+pub use out::{Out, RoundFault};

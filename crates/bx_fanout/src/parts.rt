@@ -1,0 +1,192 @@
+//! The parts of a round, and its steps.
+ghost use Rattle.std.specs.Prelude.{◌≡◌, ◌+◌, ◌++◌, ◌≤◌, ◌<◌, ◌^◌, [], ◌∷◌, length, IfOk, OnErr, OnOk};
+ghost use Rattle.bx_fanout.specs.Parts.{AddsOuts, IsDone, IsSettled, Stands, count_by};
+ghost use Rattle.std.specs.Arc.{arc_value};
+ghost use Rattle.bx_world.specs.Admissions.{placed_by};
+ghost use Rattle.bx_world.specs.Seen.{setup_of, world_of};
+
+use crate::bring_in::bring_in;
+use crate::deal::deal;
+use crate::desk::Desk;
+use crate::give_out::give_out;
+use crate::level::level;
+use crate::newest::Newest;
+use crate::out::Out;
+use bx_advice::Config;
+use bx_entry::{Input, Placing};
+use bx_history::History;
+use bx_workers::Gate;
+use bx_world::World;
+use std::alloc::{AllocError, Global};
+use std::sync::Arc;
+use std::thread::Threads;
+
+/// What a round has of the inputs that were dealt with.
+#[derive(Drop)]
+pub(crate) struct Parts<P: Placing> {
+    pub(crate) world: World<P>,
+    /// How many shards there are.
+    pub(crate) shards: usize,
+    pub(crate) desk: Desk,
+    /// The last input, while its answers are collected.
+    pub(crate) newest: Option<Newest>,
+    /// The last input, once it is whole, while its out is not added.
+    pub(crate) whole: Option<Newest>,
+    /// How many inputs were dealt with.
+    pub(crate) dealt: usize,
+    /// How long the list is.
+    pub(crate) end: u64,
+    pub(crate) inputs: History<Input>,
+    pub(crate) added: History<Out>,
+}
+
+/// No input was dealt with.
+pub(crate) fn new_parts<P: Placing + Drop>(
+    alloc: Global,
+    config: Config,
+    placing: Arc<P>,
+) -> Result<Parts<P>, AllocError>
+    ensures stands { IfOk result (λ p. Stands p) }
+    ensures inputs { IfOk result (λ p. p.inputs ≡ []) }
+    ensures added { IfOk result (λ p. p.added ≡ []) }
+    ensures setup { IfOk result (λ p. setup_of p.world ≡ placed_by config (P.place_of (arc_value placing))) }
+{
+    let world = World::new(alloc, config, placing)?;
+    Ok(Parts {
+        world,
+        shards: config.shards,
+        desk: Desk::new(alloc),
+        newest: None,
+        whole: None,
+        dealt: 0,
+        end: 0,
+        inputs: History::new(),
+        added: History::new(),
+    })
+}
+
+/// Brings every shard up to the end of the list, and collects the answers that the last input brings.
+pub(crate) fn finish<R: Threads + Sync, G: Gate + Sync, P: Placing + Send + Sync>(
+    rt: &R,
+    alloc: Global,
+    gate: &G,
+    workers: usize,
+    parts: &mut Parts<P>,
+) -> Result<(), AllocError>
+    requires some_worker { 1 ≤ workers }
+    requires workers_in_range { workers ≤ 16 }
+    requires stands { Stands parts.old }
+    ensures stands { Stands parts.new }
+    ensures done { IfOk result (λ _. IsDone parts.new) }
+    ensures inputs { parts.new.inputs ≡ parts.old.inputs }
+    ensures added { parts.new.added ≡ parts.old.added }
+    ensures setup { setup_of parts.new.world ≡ setup_of parts.old.world }
+{
+    level(rt, alloc, gate, workers, &mut parts.world)?;
+    let Some(mut newest) = parts.newest.take() else {
+        return Ok(());
+    };
+    match bring_in(
+        alloc,
+        &mut parts.world,
+        parts.shards,
+        &mut parts.desk,
+        &mut newest,
+        &parts.inputs,
+        &parts.added,
+    ) {
+        Ok(true) => {
+            parts.whole = Some(newest);
+            Ok(())
+        }
+        Ok(false) => Ok(()),
+        Err(fault) => {
+            parts.newest = Some(newest);
+            Err(fault)
+        }
+    }
+}
+
+/// Adds the outs that are left.
+pub(crate) fn add_outs<P: Placing>(
+    alloc: Global,
+    parts: &mut Parts<P>,
+    outs: &mut Vec<Out>,
+) -> Result<(), AllocError>
+    requires stands { Stands parts.old }
+    requires done { IsDone parts.old }
+    ensures stands { Stands parts.new }
+    ensures settled { IfOk result (λ _. IsSettled parts.new) }
+    ensures adds { AddsOuts parts.old outs.old.items outs.new.items parts.new }
+    ensures inputs { parts.new.inputs ≡ parts.old.inputs }
+{
+    let count = outs.len();
+    let given = give_out(alloc, &mut parts.desk, &mut parts.whole, outs);
+    parts.added.append(&outs[count..]);
+    given
+}
+
+/// Brings the last input to its end. Where memory is refused, the next call goes on.
+pub(crate) fn settle<R: Threads + Sync, G: Gate + Sync, P: Placing + Send + Sync>(
+    rt: &R,
+    alloc: Global,
+    gate: &G,
+    workers: usize,
+    parts: &mut Parts<P>,
+    outs: &mut Vec<Out>,
+) -> Result<(), AllocError>
+    requires some_worker { 1 ≤ workers }
+    requires workers_in_range { workers ≤ 16 }
+    requires stands { Stands parts.old }
+    ensures stands { Stands parts.new }
+    ensures settled { IfOk result (λ _. IsSettled parts.new) }
+    ensures adds { AddsOuts parts.old outs.old.items outs.new.items parts.new }
+    ensures inputs { parts.new.inputs ≡ parts.old.inputs }
+{
+    finish(rt, alloc, gate, workers, parts)?;
+    add_outs(alloc, parts, outs)
+}
+
+/// Deals with an input, where the last one came to its end.
+pub(crate) fn deal_with<P: Placing>(
+    alloc: Global,
+    parts: &mut Parts<P>,
+    input: &Input,
+) -> Result<(), AllocError>
+    requires stands { Stands parts.old }
+    requires settled { IsSettled parts.old }
+    ensures stands { Stands parts.new }
+    ensures inputs { OnOk result (parts.new.inputs ≡ parts.old.inputs ++ input.now ∷ []) }
+    ensures same { OnErr result (parts.new.inputs ≡ parts.old.inputs) }
+    ensures added { parts.new.added ≡ parts.old.added }
+    ensures setup { setup_of parts.new.world ≡ setup_of parts.old.world }
+{
+    let Some(dealt) = parts.dealt.checked_add(1) else {
+        return Err(AllocError);
+    };
+    let newest = deal(
+        alloc,
+        &mut parts.world,
+        parts.end,
+        parts.dealt,
+        input,
+        &parts.desk,
+        &parts.inputs,
+        &parts.added,
+    )?;
+    parts.end += count_of(input, &newest);
+    parts.dealt = dealt;
+    parts.newest = Some(newest);
+    parts.inputs.push(input);
+    Ok(())
+}
+
+// How many entries an input that was dealt with added to the list.
+fn count_of(input: &Input, newest: &Newest) -> u64
+    ensures { result ≡ count_by input.now newest.now }
+{
+    match input {
+        Input::Post(_) => newest.slots.len() as u64,
+        Input::Tick(_) => u64::from(newest.refusal.is_none()),
+    }
+}

@@ -1,0 +1,62 @@
+//! Several inputs, one after another.
+ghost use Rattle.bx_fanout.specs.Parts.{IsSettled, Stands};
+ghost use Rattle.bx_fanout.specs.Rounds.{IsRun, Runs};
+ghost use Rattle.std.specs.Prelude.{◌≤◌};
+
+use crate::out::{Out, RoundFault};
+use crate::parts::{Parts, deal_with, settle};
+use bx_entry::{Input, Placing};
+use bx_workers::Gate;
+use std::alloc::Global;
+use std::thread::Threads;
+
+/// Deals with these inputs in order, and adds the outs of each before it goes on to the next.
+pub(crate) fn run<R: Threads + Sync, G: Gate + Sync, P: Placing + Send + Sync>(
+    rt: &R,
+    alloc: Global,
+    gate: &G,
+    workers: usize,
+    parts: &mut Parts<P>,
+    inputs: &[Input],
+    outs: &mut Vec<Out>,
+) -> Result<(), RoundFault>
+    requires some_worker { 1 ≤ workers }
+    requires workers_in_range { workers ≤ 16 }
+    requires stands { Stands parts.old }
+    ensures stands { Stands parts.new }
+    ensures runs { Runs parts.old inputs.now outs.old.items outs.new.items parts.new result }
+{
+    if settle(rt, alloc, gate, workers, parts, outs).is_err() {
+        return Err(RoundFault::Memory { admitted: 0 });
+    }
+    for index in 0..inputs.len() {
+        if deal_with(alloc, parts, &inputs[index]).is_err() {
+            return Err(RoundFault::Memory { admitted: index });
+        }
+        if settle(rt, alloc, gate, workers, parts, outs).is_err() {
+            return Err(RoundFault::Memory {
+                admitted: index + 1,
+            });
+        }
+    }
+    Ok(())
+}
+
+/// The same in the words of the definitions.
+pub(crate) fn run_all<R: Threads + Sync, G: Gate + Sync, P: Placing + Send + Sync>(
+    rt: &R,
+    alloc: Global,
+    gate: &G,
+    workers: usize,
+    parts: &mut Parts<P>,
+    inputs: &[Input],
+    outs: &mut Vec<Out>,
+) -> Result<(), RoundFault>
+    requires some_worker { 1 ≤ workers }
+    requires workers_in_range { workers ≤ 16 }
+    requires stands { Stands parts.old }
+    ensures stands { Stands parts.new }
+    ensures run { IsRun parts.old inputs.now outs.old.items outs.new.items parts.new result }
+{
+    run(rt, alloc, gate, workers, parts, inputs, outs)
+}

@@ -1,0 +1,10 @@
+//! Many workers that bring shards up to the end of a list of entries, and what they make of it.
+#![tactic(auto)]
+
+mod gate;
+#[cfg(test)]
+mod tests;
+mod upward;
+
+pub use gate::{Gate, OpenGate};
+pub use upward::bring_up;

@@ -1,0 +1,171 @@
+//! Shards that workers bring up to the end of four entries.
+ghost use Rattle.std.specs.Prelude.{◌≡◌, ◌≤◌, length, IfOk};
+ghost use Rattle.bx_workers.specs.Numbered.{AreFresh, AreNumbered};
+
+use crate::{Gate, OpenGate, bring_up};
+use bx_advice::Config;
+use bx_entry::{ByRemainder, Entry, Kind, Ticket};
+use bx_message::{Event, RawJson, Sequence, SharedEvent, Text};
+use bx_names::Pattern;
+use bx_shard::Shard;
+use std::alloc::{AllocError, Global};
+use std::hint;
+use std::sync::Arc;
+use std::sync::atomic::{AtomicBool, Ordering};
+use std::test::Fail;
+use std::thread::Threads;
+
+// The place of the connect in the list.
+const CONNECT: u64 = 2;
+
+// How often a worker that is held looks whether it may go on.
+const LOOKS: u32 = 10_000_000;
+
+// Adds an entry of this kind as the next.
+fn add(entries: &mut Vec<Entry>, kind: Kind) -> Result<(), AllocError>
+    requires { AreNumbered entries.old.items }
+    ensures { AreNumbered entries.new.items }
+{
+    let entry = Entry {
+        place: entries.len() as u64,
+        moment: 0,
+        kind,
+    };
+    entries.push(entry)?;
+    Ok(())
+}
+
+fn subscribe(alloc: Global, session: u64, pattern: &str) -> Result<Kind, Fail> {
+    let pattern = Pattern::read(alloc, pattern).map_err(|_| "no pattern")?;
+    let mut patterns = Sequence::new(alloc);
+    patterns.push(pattern)?;
+    Ok(Kind::Subscribe { session, patterns })
+}
+
+fn connect(alloc: Global, session: u64) -> Result<Kind, AllocError> {
+    Ok(Kind::Connect {
+        session,
+        client: Text::new(alloc, "Z1")?,
+        id: None,
+        acked: None,
+        hold: 30_000,
+    })
+}
+
+fn publish(alloc: Global, channel: &str) -> Result<Kind, AllocError> {
+    let event = Event {
+        channel: Text::new(alloc, channel)?,
+        payload: RawJson::new(alloc, "7")?,
+        id: None,
+    };
+    Ok(Kind::Publish(SharedEvent::new(alloc, event)?))
+}
+
+// A handshake of session 1, its subscription and connect, and a publish that answers the connect.
+fn entries(alloc: Global) -> Result<Vec<Entry>, Fail>
+    ensures { IfOk result (λ es. AreNumbered es.items) }
+{
+    let mut entries = Vec::new(alloc);
+    let (session, ack) = (1, false);
+    add(&mut entries, Kind::Opened { session, ack })?;
+    add(&mut entries, subscribe(alloc, session, "/a/*")?)?;
+    add(&mut entries, connect(alloc, session)?)?;
+    add(&mut entries, publish(alloc, "/a/b")?)?;
+    Ok(entries)
+}
+
+// So many shards that have applied nothing.
+fn shards(alloc: Global, count: usize) -> Result<Vec<Shard<ByRemainder>>, Fail>
+    ensures { IfOk result (λ shards. AreFresh shards.items) }
+{
+    let config = Config::new(count, 30_000, 0, 10_000).ok_or("no configuration")?;
+    let placing = Arc::new(alloc, ByRemainder)?;
+    let mut shards = Vec::new(alloc);
+    for index in 0..count {
+        shards.push(Shard::new(alloc, index, config, placing.clone()?))?;
+    }
+    Ok(shards)
+}
+
+// So many shards that had applied nothing, as these workers left them, and how many stayed behind.
+fn brought_up<R: Threads + Sync, G: Gate + Sync>(
+    rt: &R,
+    alloc: Global,
+    gate: &G,
+    workers: usize,
+    count: usize,
+) -> Result<(Vec<Shard<ByRemainder>>, usize), Fail>
+    requires { (1 ≤ workers) × (workers ≤ 16) }
+{
+    let entries = entries(alloc)?;
+    let mut shards = shards(alloc, count)?;
+    let behind = bring_up(rt, alloc, gate, workers, &mut shards, &entries);
+    Ok((shards, behind))
+}
+
+#[test]
+fn all_are_brought_up(rt: HostRuntime) -> Result<(), Fail> {
+    let alloc = rt.alloc();
+    for (workers, count) in [(1, 1), (2, 2), (3, 5), (16, 64)] {
+        let (mut shards, behind) = brought_up(&rt, alloc, &OpenGate, workers, count)?;
+        assert_eq!(rt; behind, 0, "{workers} workers, {count} shards");
+        for shard in &shards {
+            assert_eq!(rt; shard.place(), 4, "{workers} workers, {count} shards");
+        }
+        let shard = 1 % count;
+        let own = shards.get_mut(shard).ok_or("no shard")?;
+        let place = CONNECT;
+        assert!(rt;
+            own.take(Ticket { place, shard }).is_some(),
+            "{workers} workers, {count} shards"
+        );
+    }
+    Ok(())
+}
+
+// Holds one worker before its work until another has done its own.
+#[derive(Drop)]
+struct Holding {
+    held: usize,
+    is_free: AtomicBool,
+    gave_up: AtomicBool,
+}
+
+impl Gate for Holding {
+    fn before(&self, worker: usize) {
+        if worker != self.held {
+            return;
+        }
+        for _ in 0..LOOKS {
+            if self.is_free.load(Ordering::SeqCst) {
+                return;
+            }
+            hint::spin_loop();
+        }
+        self.gave_up.store(true, Ordering::SeqCst);
+    }
+
+    fn after(&self, worker: usize) {
+        if worker != self.held {
+            self.is_free.store(true, Ordering::SeqCst);
+        }
+    }
+}
+
+// No clause says that workers are threads: where all the work is done by the thread that calls `bring_up`, one after
+// another, worker 0 gives up here or worker 1 does.
+#[test]
+fn workers_run_beside_one_another(rt: HostRuntime) -> Result<(), Fail> {
+    let alloc = rt.alloc();
+    for held in [0, 1] {
+        let gate = Holding {
+            held,
+            is_free: AtomicBool::new(false),
+            gave_up: AtomicBool::new(false),
+        };
+        let (_shards, behind) = brought_up(&rt, alloc, &gate, 2, 2)?;
+        assert_eq!(rt; behind, 0);
+        assert!(rt; !gate.gave_up.load(Ordering::SeqCst), "worker {held}");
+    }
+    Ok(())
+}

@@ -1,0 +1,106 @@
+//! Shards that are brought up to the end of the entries, by many workers.
+ghost use Rattle.std.specs.Prelude.{◌≡◌, ◌≤◌, ◌<◌, ◌-◌, drop, false, IfOk};
+ghost use Rattle.bx_advice.specs.Limits.{greatest_length};
+ghost use Rattle.bx_workers.specs.Upward.{AreConsecutive, AreWithin, BroughtUp, IsWithin, WentOn, count_behind, end_of, first_of, is_behind};
+
+use crate::gate::Gate;
+use bx_entry::{Entry, Placing};
+use bx_shard::Shard;
+use std::alloc::{AllocError, Global};
+use std::thread;
+use std::thread::Threads;
+
+/// Brings each shard up to the end of these entries, which stand at consecutive places of the list: it applies those
+/// that it lacks, in order. Says how many shards stayed behind, each at an entry for which memory was refused; clauses
+/// say that the entry is of a kind that takes memory, and not that any was refused.
+///
+/// Worker w, counted from 0, has the w-th run of `ceil(shards / workers)` neighbouring shards, and calls the gate with w
+/// before and after them; a worker without shards calls nothing. The runs are done one after another where no thread can
+/// be started.
+pub fn bring_up<R: Threads + Sync, G: Gate + Sync, P: Placing + Send + Sync>(
+    rt: &R,
+    alloc: Global,
+    gate: &G,
+    workers: usize,
+    shards: &mut [Shard<P>],
+    entries: &[Entry],
+) -> usize
+    requires some_worker { 1 ≤ workers }
+    requires workers_in_range { workers ≤ 16 }
+    requires consecutive { AreConsecutive entries.now }
+    requires end { end_of entries.now ≤ greatest_length }
+    requires within { AreWithin entries.now shards.old }
+    ensures brought { BroughtUp P.place_of entries.now shards.old shards.new }
+    ensures count { result ≡ count_behind entries.now shards.new }
+{
+    let size = shards.len().div_ceil(workers).max(1);
+    thread::for_each_chunk_mut(
+        rt,
+        shards,
+        size,
+        &|start, part|
+            requires { (0 < size) × AreConsecutive entries.now × (end_of entries.now ≤ greatest_length) × AreWithin entries.now part.now }
+            ensures { BroughtUp P.place_of entries.entry.now part.entry.now part.exit.now }
+        {
+            let worker = start / size;
+            gate.before(worker);
+            catch_up_each(alloc, part, entries);
+            gate.after(worker);
+        },
+    );
+    shards
+        .iter()
+        .filter(|shard| is_behind(*shard, entries))
+        .count()
+}
+
+// Brings each of these shards up, one after another. The caller counts those that stayed behind.
+fn catch_up_each<P: Placing>(alloc: Global, shards: &mut [Shard<P>], entries: &[Entry])
+    requires consecutive { AreConsecutive entries.now }
+    requires end { end_of entries.now ≤ greatest_length }
+    requires within { AreWithin entries.now shards.old }
+    ensures brought { BroughtUp P.place_of entries.now shards.old shards.new }
+{
+    for shard in shards {
+        let _ = catch_up(alloc, shard, entries);
+    }
+}
+
+// Applies those of the entries that the shard lacks, in order, up to the one that is refused memory.
+fn catch_up<P: Placing>(
+    alloc: Global,
+    shard: &mut Shard<P>,
+    entries: &[Entry],
+) -> Result<(), AllocError>
+    requires consecutive { AreConsecutive entries.now }
+    requires end { end_of entries.now ≤ greatest_length }
+    requires within { IsWithin entries.now shard.old }
+    ensures went_on { WentOn P.place_of entries.now shard.old shard.new }
+    ensures level { IfOk result (λ _. is_behind entries.now shard.new ≡ false) }
+{
+    for entry in lacking(shard, entries) {
+        shard.apply(alloc, entry)?;
+    }
+    Ok(())
+}
+
+// Those of the entries that the shard has not applied.
+fn lacking<'entries, P: Placing>(shard: &Shard<P>, entries: &'entries [Entry]) -> &'entries [Entry]
+    requires { IsWithin entries.now shard.now }
+    ensures { result.now ≡ drop (shard.now.place - first_of entries.now) entries.now }
+{
+    match entries.first() {
+        Some(first) => &entries[(shard.place() - first.place) as usize..],
+        None => entries,
+    }
+}
+
+fn is_behind<P: Placing>(shard: &Shard<P>, entries: &[Entry]) -> bool
+    requires { end_of entries.now ≤ greatest_length }
+    ensures { result ≡ is_behind entries.now shard.now }
+{
+    match entries.first() {
+        Some(first) => shard.place() < first.place + entries.len() as u64,
+        None => false,
+    }
+}

@@ -1,0 +1,103 @@
+-- No event stands in two answers of a session that does not acknowledge.
+use Rattle.std.proofs.Common.{◌≡◌, ℕ, zero, suc, ◌<◌, Bool, false, ◌==◌, Some, List, [], ◌∷◌, ◌++◌, take, find, sym, ◌∙◌, subst, arith, ne_eqb, eqb-true}
+use Rattle.std.proofs.lemmas.Bool.{cond-true, cond-false}
+use Rattle.bx_advice.specs.declared.config.Config.{Config}
+use Rattle.bx_entry.specs.Listing.{Listed}
+use Rattle.bx_entry.specs.Registry.{entries}
+use Rattle.bx_entry.specs.Sessions.{Session, Publication, Filed, session}
+use Rattle.bx_laws.specs.Events as events
+use Rattle.bx_laws.specs.Laws.{AllBelow, Each, EachOf, given_in}
+use Rattle.bx_laws.proofs.Gained.{events_rise}
+use Rattle.bx_laws.proofs.Lists.{entries_in_order, find_each, find_true}
+use Rattle.bx_laws.proofs.Moves.{either}
+use Rattle.bx_laws.proofs.Once.{given_once}
+use Rattle.bx_world.specs.Headline.{GivenLater, PlainGivenOnce}
+use Rattle.bx_world.proofs.Giving.{none_given_again}
+use Rattle.bx_world.proofs.InTurn.{Rising, session_turn}
+
+-- ---- parts of a list of publications
+
+of_front : (P : Publication → Type 0) (ps qs : List Publication) → EachOf P (ps ++ qs) → EachOf P ps
+of_front P [] qs d = tt
+of_front P (p ∷ ps) qs d = (d.0, of_front P ps qs d.1)
+
+of_rest : (P : Publication → Type 0) (ps qs : List Publication) → EachOf P (ps ++ qs) → EachOf P qs
+of_rest P [] qs d = d
+of_rest P (p ∷ ps) qs d = of_rest P ps qs d.1
+
+of_take : (P : Publication → Type 0) (n : ℕ) (ps : List Publication) → EachOf P ps → EachOf P (take n ps)
+of_take P zero [] d = tt
+of_take P zero (p ∷ ps) d = tt
+of_take P (suc n) [] d = tt
+of_take P (suc n) (p ∷ ps) d = (d.0, of_take P n ps d.1)
+
+rising_take : (n : ℕ) (ps : List Publication) → events.Rising ps → events.Rising (take n ps)
+rising_take zero [] r = tt
+rising_take zero (p ∷ ps) r = tt
+rising_take (suc n) [] r = tt
+rising_take (suc n) (p ∷ ps) r = (of_take (λ q. p.place < q.place) n ps r.0, rising_take n ps r.1)
+
+rising_rest : (ps qs : List Publication) → events.Rising (ps ++ qs) → events.Rising qs
+rising_rest [] qs r = r
+rising_rest (p ∷ ps) qs r = rising_rest ps qs r.1
+
+rising_below : (ps qs : List Publication) → events.Rising (ps ++ qs) → AllBelow ps qs
+rising_below [] qs r = tt
+rising_below (p ∷ ps) qs r = (of_rest (λ q. p.place < q.place) ps qs r.0, rising_below ps qs r.1)
+
+-- ---- two answers
+
+of_each : (P : Publication → Type 0) (fs : List Filed) → EachOf P (given_in fs) → Each (λ f. EachOf P f.publications) fs
+of_each P [] d = tt
+of_each P (f ∷ fs) d = (of_front P f.publications (given_in fs) d, of_each P fs (of_rest P f.publications (given_in fs) d))
+
+below_found : (ps : List Publication) (test : Filed → Bool) (fs : List Filed) (f : Filed) → find test fs ≡ Some f → AllBelow ps (given_in fs) → AllBelow ps f.publications
+below_found [] test fs f e d = tt
+below_found (p ∷ ps) test fs f e d = (
+  find_each (λ g. EachOf (λ q. p.place < q.place) g.publications) test fs f e (of_each (λ q. p.place < q.place) fs d.0),
+  below_found ps test fs f e d.1,
+)
+
+-- the answers of connects in the order of their places, with the events of all in order
+found_apart : (fs : List Filed) (a b : ℕ) (f g : Filed) → Rising fs → events.Rising (given_in fs) → a < b → find (λ (h : Filed). h.connect == a) fs ≡ Some f → find (λ (h : Filed). h.connect == b) fs ≡ Some g →
+    AllBelow f.publications g.publications
+found_apart [] a b f g r s l e k = cc
+found_apart (h ∷ fs) a b f g r s l e k =
+    let at_a : Filed → Bool = λ x. x.connect == a in
+    let at_b : Filed → Bool = λ x. x.connect == b in
+    either (h.connect == a) (AllBelow f.publications g.publications)
+    (λ t.
+    let here : h.connect ≡ a = eqb-true h.connect a t in
+    let whole : Some h ≡ Some f = sym (cond-true (h.connect == a) (Some h) (find at_a fs) t) ∙ e in
+    let same : h ≡ f = cc in
+    let behind : find at_b fs ≡ Some g = sym (cond-false (h.connect == b) (Some h) (find at_b fs) (ne_eqb h.connect b (λ q. omega (arith, q, here, l)))) ∙ k in
+    subst (λ (x : Filed). AllBelow x.publications g.publications) same (below_found h.publications at_b fs g behind (rising_below h.publications (given_in fs) s)))
+    (λ t.
+    let first : find at_a fs ≡ Some f = sym (cond-false (h.connect == a) (Some h) (find at_a fs) t) ∙ e in
+    let here : f.connect ≡ a = eqb-true f.connect a (find_true at_a fs f first) in
+    let before : h.connect < f.connect = find_each (λ x. h.connect < x.connect) at_a fs f first r.0 in
+    let behind : find at_b fs ≡ Some g = sym (cond-false (h.connect == b) (Some h) (find at_b fs) (ne_eqb h.connect b (λ q. omega (arith, q, here, before, l)))) ∙ k in
+    found_apart fs a b f g r.1 (rising_rest h.publications (given_in fs) s) l first behind)
+
+-- ---- the law
+
+plain_rises : (config : Config) (list : List Listed) (number : ℕ) → 0 < config.limits.batch → (session config number (entries config list)).ack ≡ false → events.Rising (given_in (session config number (entries config list)).answers)
+plain_rises config list number room plain =
+    let s : Session = session config number (entries config list) in
+    subst events.Rising (sym (given_once config number (entries config list) room plain)) (rising_take s.done s.events (events_rise config number (entries config list) (entries_in_order config list)))
+
+pub plain_given_once : PlainGivenOnce
+plain_given_once setup first steps outs last room r number place later a b l plain w v g h =
+    let x : GivenLater setup.config last.list number place a = none_given_again setup first steps outs last room r number place a w g in
+    let y : GivenLater setup.config last.list number later b = none_given_again setup first steps outs last room r number later b v h in
+    let fs : List Filed = (session setup.config number (entries setup.config last.list)).answers in
+    record {
+      filed = x.filed;
+      next = y.filed;
+      found = x.found;
+      found_next = y.found;
+      given = x.given;
+      given_next = y.given;
+      apart = found_apart fs place later x.filed y.filed (session_turn setup.config number (entries setup.config last.list) (entries_in_order setup.config last.list)).rising
+          (plain_rises setup.config last.list number room plain) l x.found y.found;
+    }

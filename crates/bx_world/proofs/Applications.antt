@@ -1,0 +1,146 @@
+-- What an application gives, and what the shards hold after it.
+use Rattle.std.proofs.Common.{◌≡◌, ℕ, ◌+◌, ◌<◌, ◌≤◌, ◌==◌, ◌||◌, ◌&&◌, Bool, true, false, not, Some, None, List, [], ◌∷◌, length, map, nat_lt, slice_get, slice_set, get_or, refl, sym, ap, ◌∙◌, subst, arith, inl, inr, ⊎_elim}
+use Rattle.std.specs.Prelude.{slice_index}
+use Rattle.std.proofs.Math.Seq.{map-set_same}
+use Rattle.std.proofs.lemmas.Bool.{cases_lt, cond-true, cond-false, lt-ltb, le-ltb, eq-eqb, ne_eqb, or_right}
+use Rattle.std.proofs.lemmas.List.{length-map, map-set}
+use Rattle.std.proofs.lemmas.Option.{slice_get_within, slice_get-get_or, get_or_from_slice_get, none-some}
+use Rattle.bx_advice.specs.declared.config.Config.{Config}
+use Rattle.bx_entry.specs.Listing.{Listed}
+use Rattle.bx_entry.specs.Registry.{Judged, entries, registry}
+use Rattle.bx_entry.specs.declared.entry.Entry.{Entry}
+use Rattle.bx_laws.proofs.Lists.{judged_length}
+use Rattle.bx_shard.specs.Held.{Holds}
+use Rattle.bx_shard.specs.Seen.{state}
+use Rattle.bx_shard.specs.Shards.{Setup}
+use Rattle.bx_shard.specs.declared.shard.Shard.{Shard}
+use Rattle.bx_shard.proofs.Holding.{holds_still}
+use Rattle.bx_shard.proofs.Names.{entry_placed}
+use Rattle.bx_shard.proofs.Onwards.{holds_onwards}
+use Rattle.bx_world.specs.Admissions.{Admitting, placed_by}
+use Rattle.bx_world.specs.Held.{StandFrom, EachHolds, HasApplied, HasStayed, HoldsFrom, IsApplication}
+use Rattle.bx_world.specs.Outputs.{application}
+use Rattle.bx_world.specs.Worlds.{WorldState, IsOutput, after, is_level, may_take_memory, next_entry}
+use Rattle.bx_world.specs.declared.step.Applied as applications
+use Rattle.bx_world.specs.declared.step.Applied.TheVariants.{Done, Level, Memory}
+use Rattle.bx_world.specs.declared.step.Step.TheVariants.{Apply}
+use Rattle.bx_world.specs.declared.step.StepOut.TheVariants as outs
+use Rattle.bx_world.proofs.Rows.{each_set, number_there}
+
+-- ---- places of the list
+
+pub entries_length : (config : Config) (list : List Listed) → length (entries config list) ≡ length list
+entries_length config list = length-map (registry config list).judged (λ (j : Judged). j.entry) ∙ judged_length config list
+
+-- a place that has an entry is one of the list
+pub place_within : (config : Config) (list : List Listed) (n : ℕ) (e : Entry) → slice_get (entries config list) n ≡ Some e → n < length list
+place_within config list n e h = let l : n < length (entries config list) = slice_get_within (entries config list) n e h in omega (arith, l, entries_length config list)
+
+past_end : (es : List Entry) (n m : ℕ) → length es ≡ m → slice_get es n ≡ None → m ≤ n
+past_end [] n m l h = omega (arith, l)
+past_end (e ∷ es) n m l h = ⊎_elim (λ (k : n < length (e ∷ es)). absurd (none-some (get_or (e ∷ es) n e) (sym h ∙ slice_get-get_or (e ∷ es) n e k))) (λ (k : length (e ∷ es) ≤ n). omega (arith, k, l)) (cases_lt n (length (e ∷ es)))
+
+-- and one that has none is behind it
+place_past : (config : Config) (list : List Listed) (n : ℕ) → slice_get (entries config list) n ≡ None → length list ≤ n
+place_past config list n h = past_end (entries config list) n (length list) (entries_length config list) h
+
+pub place_before : (n len end : ℕ) → n < len → len ≤ end → n < end
+place_before n len end h g = omega arith
+
+-- ---- what it gives
+
+pub level_past : (w : WorldState) (shard : ℕ) → length w.applied ≤ shard → is_level w shard ≡ true
+level_past w shard h = ap (λ (b : Bool). not b || (slice_index w.applied shard == length w.list)) (le-ltb shard (length w.applied) h)
+
+level_here : (w : WorldState) (shard : ℕ) → slice_index w.applied shard ≡ length w.list → is_level w shard ≡ true
+level_here w shard e = or_right (not (nat_lt shard (length w.applied))) (slice_index w.applied shard == length w.list) (eq-eqb (slice_index w.applied shard) (length w.list) e)
+
+behind : (w : WorldState) (shard n : ℕ) → shard < length w.applied → slice_index w.applied shard ≡ n → n < length w.list → is_level w shard ≡ false
+behind w shard n h e l =
+    ap (λ (b : Bool). not b || (slice_index w.applied shard == length w.list)) (lt-ltb shard (length w.applied) h)
+    ∙ ne_eqb (slice_index w.applied shard) (length w.list) (λ s. absurd (omega (arith, s, e, l)))
+
+pub gives_level : (setup : Setup) (w : WorldState) (shard : ℕ) → is_level w shard ≡ true → IsOutput setup w (Apply shard) outs.Level
+gives_level setup w shard h = inl (sym (cond-true (is_level w shard) outs.Level outs.Applied h))
+
+gives_applied : (setup : Setup) (w : WorldState) (shard : ℕ) → is_level w shard ≡ false → IsOutput setup w (Apply shard) outs.Applied
+gives_applied setup w shard h = inl (sym (cond-false (is_level w shard) outs.Level outs.Applied h))
+
+gives_refusal : (setup : Setup) (w : WorldState) (shard : ℕ) → is_level w shard ≡ false → may_take_memory (next_entry setup w shard) ≡ true → IsOutput setup w (Apply shard) outs.OutOfMemory
+gives_refusal setup w shard h m = inr (ap (λ (b : Bool). not b && may_take_memory (next_entry setup w shard)) h ∙ m, refl)
+
+-- ---- the shard
+
+module _ {P : Type 0} (place_of : P → ℕ → ℕ → ℕ) (setup : Setup) (list : List Listed) (taken : List ℕ) (first k : ℕ) (old new : Shard P) where
+  place_after : HasApplied place_of (entries setup.config list) old new → new.place ≡ old.place + 1
+  place_after a = a.applied.place ∙ ap (λ (n : ℕ). n + 1) (entry_placed setup.config list old.place a.entry a.next)
+
+  done : 0 < setup.config.limits.batch → HoldsFrom place_of setup list taken first k old → HasApplied place_of (entries setup.config list) old new → HoldsFrom place_of setup list taken first k new
+  done room h a = record {
+    holds = subst (λ (n : ℕ). Holds setup list taken k n (state place_of new)) (sym (place_after a))
+        (holds_onwards setup list taken k old.place a.entry (state place_of old) (state place_of new) room a.next h.holds a.applied a.sound);
+    past = omega (arith, h.past, place_after a);
+  }
+
+  stayed : HoldsFrom place_of setup list taken first k old → HasStayed place_of (entries setup.config list) old new → HoldsFrom place_of setup list taken first k new
+  stayed h a = record {
+    holds = subst (λ (n : ℕ). Holds setup list taken k n (state place_of new)) (sym a.same.place) (holds_still setup list taken k old.place (state place_of old) (state place_of new) h.holds a.same a.sound);
+    past = let same : new.place ≡ old.place = a.same.place in omega (arith, h.past, same);
+  }
+
+  -- it holds what it is to hold
+  pub applied_holds : (a : applications.Applied) → 0 < setup.config.limits.batch → HoldsFrom place_of setup list taken first k old → IsApplication place_of (entries setup.config list) old a new → HoldsFrom place_of setup list taken first k new
+  applied_holds Done room h a = done room h a
+  applied_holds Level room h a = subst (HoldsFrom place_of setup list taken first k) (sym a.1) h
+  applied_holds Memory room h a = stayed h a
+
+-- ---- all shards
+
+module _ {P : Type 0} (place_of : P → ℕ → ℕ → ℕ) (setup : Setup) (list : List Listed) (taken : List ℕ) (first : ℕ) (xs : List (Shard P)) (i : ℕ) (old new : Shard P) where
+  -- so it is with all shards, where the next entry is applied to one of them
+  pub each_applied : (a : applications.Applied) → 0 < setup.config.limits.batch → slice_get xs i ≡ Some old → EachHolds place_of setup list taken first xs → IsApplication place_of (entries setup.config list) old a new →
+      EachHolds place_of setup list taken first (slice_set xs i new)
+  each_applied a room there each is =
+      each_set (HoldsFrom place_of setup list taken first) xs i new (slice_get_within xs i old there) (applied_holds place_of setup list taken first i old new a room (each i old there) is) (λ k x apart e. each k x e)
+
+  abbrev before : WorldState
+  before = record { list = list; applied = map (λ (s : Shard P). s.place) xs; taken = taken }
+
+  abbrev behind_it : WorldState
+  behind_it = record { list = list; applied = map (λ (s : Shard P). s.place) (slice_set xs i new); taken = taken }
+
+  in_range : slice_get xs i ≡ Some old → i < length before.applied
+  in_range there = let l : i < length xs = slice_get_within xs i old there in omega (arith, l, length-map xs (λ (s : Shard P). s.place))
+
+  stands : slice_get xs i ≡ Some old → slice_index before.applied i ≡ old.place
+  stands there = number_there (λ (s : Shard P). s.place) xs i old there
+
+  same_places : slice_get xs i ≡ Some old → new.place ≡ old.place → behind_it ≡ before
+  same_places there e = ap (λ (ns : List ℕ). record { list = list; applied = ns; taken = taken })
+      (map-set_same (λ (s : Shard P). s.place) xs i new old (e ∙ ap (λ (s : Shard P). s.place) (sym (get_or_from_slice_get xs i old old there))))
+
+  next_place : slice_get xs i ≡ Some old → new.place ≡ old.place + 1 → behind_it ≡ after before (Apply i) outs.Applied
+  next_place there e = ap (λ (ns : List ℕ). record { list = list; applied = ns; taken = taken })
+      (map-set (λ (s : Shard P). s.place) xs i new ∙ ap (slice_set before.applied i) (e ∙ ap (λ (n : ℕ). n + 1) (sym (stands there))))
+
+  -- what it gives, and the world after it
+  pub application_steps : (a : applications.Applied) → slice_get xs i ≡ Some old → EachHolds place_of setup list taken first xs → IsApplication place_of (entries setup.config list) old a new →
+      IsOutput setup before (Apply i) (application a) × (behind_it ≡ after before (Apply i) (application a))
+  application_steps Done there each a =
+      let w : is_level before i ≡ false = behind before i old.place (in_range there) (stands there) (place_within setup.config list old.place a.entry a.next) in
+      (gives_applied setup before i w, next_place there (place_after place_of setup list taken first i old new a))
+  application_steps Level there each a =
+      let h = each i old there in
+      let w : is_level before i ≡ true = level_here before i (omega (arith, stands there, place_past setup.config list old.place a.0, h.holds.within)) in
+      (gives_level setup before i w, same_places there (ap (λ (s : Shard P). s.place) a.1))
+  application_steps Memory there each a =
+      let w : is_level before i ≡ false = behind before i old.place (in_range there) (stands there) (place_within setup.config list old.place a.entry a.next) in
+      let next : next_entry setup before i ≡ Some a.entry = ap (slice_get (entries setup.config list)) (stands there) ∙ a.next in
+      (gives_refusal setup before i w (ap may_take_memory next ∙ ap not a.takes), same_places there a.same.place)
+
+-- once fewer entries are kept, as long as each shard's next one is
+pub each_from : {P : Type 0} (place_of : P → ℕ → ℕ → ℕ) (placing : ℕ → ℕ → ℕ) (old new : Admitting) (taken : List ℕ) (xs : List (Shard P)) → EachHolds place_of (placed_by old.config placing) old.list taken old.first xs →
+    new ≡ record old { first = new.first } → StandFrom new.first xs → EachHolds place_of (placed_by new.config placing) new.list taken new.first xs
+each_from {P} place_of placing old new taken xs each others from =
+    let kept : EachHolds place_of (placed_by old.config placing) old.list taken new.first xs = λ k s e. record { holds = (each k s e).holds; past = from k s e } in
+    subst (λ (a : Admitting). EachHolds place_of (placed_by a.config placing) a.list taken a.first xs) (sym others) kept

@@ -1,0 +1,236 @@
+-- Each reply that an admission gives at once is the one that the list gives.
+use Rattle.std.proofs.Common.{◌≡◌, ℕ, zero, suc, ◌+◌, max, ⊎_elim, ◌==◌, ◌||◌, Bool, false, Option, Some, None, List, [], ◌∷◌, ◌++◌, length, take, drop, map, fold, option_map, slice_get, refl, sym, ap, ◌∙◌, subst, arith, append-nil, append_assoc}
+use Rattle.std.proofs.lemmas.List.{map-append, length-map, drop_at}
+use Rattle.std.proofs.lemmas.List.Sums.{fold-append}
+use Rattle.bx_advice.specs.declared.config.Config.{Config}
+use Rattle.bx_advice.specs.declared.error.Error.{Error}
+use Rattle.bx_message.specs.declared.column.Column.{Column}
+use Rattle.bx_message.specs.declared.message.Message.{Message}
+use Rattle.bx_message.specs.Columns.{column_of, is_handshake}
+use Rattle.bx_entry.specs.Listing.{Listed, Post, Posted, listed_from}
+use Rattle.bx_entry.specs.Listing as messages
+use Rattle.bx_entry.specs.Inputs.{ReadInput, Request, Unread, Tick, added_by}
+use Rattle.bx_entry.specs.Requests.{read_input}
+use Rattle.bx_entry.specs.Registry.{Registry, Registered, Judged, PlaceSlot, Ready, Waiting, NoSlot, judge, judged_by, slot_for, named_by, refusal, registry, empty_registry, entries_of}
+use Rattle.bx_entry.specs.Answers.{answer_at, answer_by}
+use Rattle.bx_entry.specs.declared.entry.Slot.{Slot}
+use Rattle.bx_entry.specs.declared.input.Input.{Input}
+use Rattle.bx_entry.specs.declared.input.Refusal.{Refusal}
+use Rattle.bx_entry.specs.Inputs.{refusal_of}
+use Rattle.bx_shard.specs.Shards.{Setup}
+use Rattle.bx_world.specs.Worlds.{WorldState, IsOutput, Runs, after, given_by, given_from, admitted_slots, output_admit}
+use Rattle.bx_world.specs.declared.step.Step.{Step}
+use Rattle.bx_world.specs.declared.step.Step.TheVariants.{Admit, Apply, Take}
+use Rattle.bx_world.specs.declared.step.StepOut.{StepOut}
+use Rattle.bx_world.specs.declared.step.StepOut.TheVariants.{Admitted, NotAdmitted, Applied, Level, Taken, OutOfMemory}
+use Rattle.bx_world.specs.Headline.{EachSlot, IsAdmitted, RepliedBy, Replied, EachReplied, RepliesAreAnswers}
+use Rattle.bx_world.proofs.Takes.{Longer, run_longer}
+use Rattle.bx_laws.proofs.Lists.{judged_more, judged_length}
+
+-- ---- every message has a slot, and no tick has one
+
+abbrev Slotted : Listed → PlaceSlot → Type 0
+Slotted (Post p) (Ready reply) = Unit {0}
+Slotted (Post p) (Waiting number) = Unit {0}
+Slotted (Post p) NoSlot = ⊥
+Slotted (messages.Tick moment) (Ready reply) = ⊥
+Slotted (messages.Tick moment) (Waiting number) = ⊥
+Slotted (messages.Tick moment) NoSlot = Unit {0}
+
+-- each of the elements has such a slot
+abbrev AllSlotted : List Listed → List Judged → Type 0
+AllSlotted [] [] = Unit {0}
+AllSlotted [] (j ∷ js) = ⊥
+AllSlotted (x ∷ xs) [] = ⊥
+AllSlotted (x ∷ xs) (j ∷ js) = Slotted x j.slot × AllSlotted xs js
+
+slot_for_message : (config : Config) (c : Column) (p : Posted) (s : Registered) → Slotted (Post p) (slot_for config c p s)
+slot_for_message config Column.Handshake p s = tt
+slot_for_message config Column.Connect p s = tt
+slot_for_message config Column.Subscribe p s = tt
+slot_for_message config Column.Unsubscribe p s = tt
+slot_for_message config Column.Disconnect p s = tt
+slot_for_message config Column.Publish p s = tt
+slot_for_message config Column.UnknownMeta p s = tt
+
+-- one more place is judged, with the slot of this element
+record Slots (x : Listed) (r t : Registry) : Type 0 where
+  found : Judged
+  judged : t.judged ≡ r.judged ++ found ∷ []
+  slotted : Slotted x found.slot
+
+judged_by_slots : (config : Config) (r : Registry) (moment : ℕ) (p : Posted) (sender : Option Registered) (error : Option Error) → Slots (Post p) r (judged_by config r moment p sender error)
+judged_by_slots config r moment p sender (Some error) = record { found = _; judged = refl; slotted = tt }
+judged_by_slots config r moment p None None = record { found = _; judged = refl; slotted = tt }
+judged_by_slots config r moment p (Some s) None = record { found = _; judged = refl; slotted = slot_for_message config (column_of p.message.channel) p s }
+
+judge_slots : (config : Config) (r : Registry) (x : Listed) → Slots x r (judge config r x)
+judge_slots config r (Post p) = judged_by_slots config r (max r.clock p.moment) p (named_by r.sessions (column_of p.message.channel) p.message) (refusal config r.sessions p)
+judge_slots config r (messages.Tick moment) = record { found = _; judged = refl; slotted = tt }
+
+record Adds (xs : List Listed) (r t : Registry) : Type 0 where
+  more : List Judged
+  judged : t.judged ≡ r.judged ++ more
+  slotted : AllSlotted xs more
+
+adds_more : (x : Listed) (xs : List Listed) (r s t : Registry) → Slots x r s → Adds xs s t → Adds (x ∷ xs) r t
+adds_more x xs r s t n a = record {
+  more = n.found ∷ a.more;
+  judged = a.judged ∙ ap (λ (js : List Judged). js ++ a.more) n.judged ∙ append_assoc r.judged (n.found ∷ []) a.more;
+  slotted = (n.slotted, a.slotted);
+}
+
+adds : (config : Config) (r : Registry) (xs : List Listed) → Adds xs r (fold (judge config) r xs)
+adds config r [] = record { more = []; judged = sym (append-nil r.judged); slotted = tt }
+adds config r (x ∷ xs) = adds_more x xs r (judge config r x) (fold (judge config) (judge config r x) xs) (judge_slots config r x) (adds config (judge config r x) xs)
+
+-- ---- the slots of an input
+
+abbrev Messages : List Listed → Type 0
+Messages [] = Unit {0}
+Messages (Post p ∷ xs) = Messages xs
+Messages (messages.Tick moment ∷ xs) = ⊥
+
+listed_messages : (moment nonce : ℕ) (sole seen : Bool) (ms : List Message) → Messages (listed_from moment nonce sole seen ms) × (length (listed_from moment nonce sole seen ms) ≡ length ms)
+listed_messages moment nonce sole seen [] = (tt, refl)
+listed_messages moment nonce sole seen (m ∷ ms) =
+    let rest = listed_messages moment nonce sole (seen || is_handshake m) ms in
+    (rest.0, ap suc rest.1)
+
+slot_here : (setup : Setup) (list : List Listed) (place : ℕ) (p : Posted) (j : Judged) (slot : PlaceSlot) (rest : List Slot) → j.slot ≡ slot → slice_get (registry setup.config list).judged place ≡ Some j →
+    Slotted (Post p) slot → EachSlot setup list (place + 1) rest → EachSlot setup list place (given_by setup place slot ++ rest)
+slot_here setup list place p j (Ready reply) rest e g s d =
+    let r : Registry = registry setup.config list in
+    (ap (answer_at setup.config (entries_of r) place) g ∙ ap (answer_by setup.config (entries_of r) place) e, d)
+slot_here setup list place p j (Waiting number) rest e g s d =
+    (record { session = number; waits = ap (option_map (λ (i : Judged). i.slot)) g ∙ ap Some e; place = refl; shard = refl }, d)
+slot_here setup list place p j NoSlot rest e g s d = absurd s
+
+-- where these were judged from this place on, their slots are those of their places
+each_slot : (setup : Setup) (list : List Listed) (place : ℕ) (xs : List Listed) (js : List Judged) → Messages xs → AllSlotted xs js →
+    ((k n : ℕ) (j : Judged) → place + k ≡ n → slice_get js k ≡ Some j → slice_get (registry setup.config list).judged n ≡ Some j) →
+    EachSlot setup list place (given_from setup place (map (λ (j : Judged). j.slot) js))
+each_slot setup list place [] [] m a h = tt
+each_slot setup list place [] (j ∷ js) m a h = absurd a
+each_slot setup list place (x ∷ xs) [] m a h = absurd a
+each_slot setup list place (Post p ∷ xs) (j ∷ js) m a h =
+    slot_here setup list place p j j.slot (given_from setup (place + 1) (map (λ (i : Judged). i.slot) js)) refl (h 0 place j (omega arith) refl) a.0
+    (each_slot setup list (place + 1) xs js m a.1 (λ k n i e g. h (suc k) n i (omega (arith, e)) g))
+each_slot setup list place (messages.Tick moment ∷ xs) (j ∷ js) m a h = absurd m
+
+slot_count : (setup : Setup) (place : ℕ) (p : Posted) (slot : PlaceSlot) (rest : List Slot) → Slotted (Post p) slot → length (given_by setup place slot ++ rest) ≡ suc (length rest)
+slot_count setup place p (Ready reply) rest s = refl
+slot_count setup place p (Waiting number) rest s = refl
+slot_count setup place p NoSlot rest s = absurd s
+
+slots_count : (setup : Setup) (place : ℕ) (xs : List Listed) (js : List Judged) → Messages xs → AllSlotted xs js → length (given_from setup place (map (λ (j : Judged). j.slot) js)) ≡ length xs
+slots_count setup place [] [] m a = refl
+slots_count setup place [] (j ∷ js) m a = absurd a
+slots_count setup place (x ∷ xs) [] m a = absurd a
+slots_count setup place (Post p ∷ xs) (j ∷ js) m a =
+    slot_count setup place p j.slot (given_from setup (place + 1) (map (λ (i : Judged). i.slot) js)) a.0 ∙ ap suc (slots_count setup (place + 1) xs js m a.1)
+slots_count setup place (messages.Tick moment ∷ xs) (j ∷ js) m a = absurd m
+
+tick_slot : (setup : Setup) (place moment : ℕ) (slot : PlaceSlot) → Slotted (messages.Tick moment) slot → given_from setup place (slot ∷ []) ≡ []
+tick_slot setup place moment (Ready reply) s = absurd s
+tick_slot setup place moment (Waiting number) s = absurd s
+tick_slot setup place moment NoSlot s = refl
+
+tick_slots : (setup : Setup) (place moment : ℕ) (js : List Judged) → AllSlotted (messages.Tick moment ∷ []) js → given_from setup place (map (λ (j : Judged). j.slot) js) ≡ []
+tick_slots setup place moment [] a = absurd a
+tick_slots setup place moment (j ∷ []) a = tick_slot setup place moment j.slot a.0
+tick_slots setup place moment (j ∷ i ∷ js) a = absurd a.1
+
+-- the slots that an admission gives are these, and the places behind the list are judged so
+record Judging (setup : Setup) (xs ys list : List Listed) : Type 0 where
+  more : List Judged
+  slotted : AllSlotted ys more
+  slots : admitted_slots setup xs ys ≡ given_from setup (length xs) (map (λ (j : Judged). j.slot) more)
+  behind : (k n : ℕ) (j : Judged) → length xs + k ≡ n → slice_get more k ≡ Some j → slice_get (registry setup.config list).judged n ≡ Some j
+
+got_behind : (front rest : List Judged) (k n : ℕ) → length front + k ≡ n → slice_get (front ++ rest) n ≡ slice_get rest k
+got_behind [] rest k n e = let h : n ≡ k = omega (arith, e) in ap (slice_get rest) h
+got_behind (i ∷ front) rest k zero e = absurd (omega (arith, e))
+got_behind (i ∷ front) rest k (suc n) e = got_behind front rest k n (omega (arith, e))
+
+judging : (setup : Setup) (xs ys more list : List Listed) → list ≡ (xs ++ ys) ++ more → Judging setup xs ys list
+judging setup xs ys more list e =
+    let config : Config = setup.config in
+    let r : Registry = registry setup.config xs in
+    let a : Adds ys (registry setup.config xs) (registry setup.config (xs ++ ys)) = subst (Adds ys (registry setup.config xs)) (sym (fold-append (judge setup.config) empty_registry xs ys)) (adds setup.config (registry setup.config xs) ys) in
+    let many : length (registry setup.config xs).judged ≡ length xs = judged_length setup.config xs in
+    record {
+      more = a.more;
+      slotted = a.slotted;
+      slots = ap (λ (slots : List PlaceSlot). given_from setup (length xs) (drop (length xs) slots))
+          (ap (map (λ (j : Judged). j.slot)) a.judged ∙ map-append (λ (j : Judged). j.slot) r.judged a.more)
+          ∙ ap (given_from setup (length xs)) (drop_at (map (λ (j : Judged). j.slot) r.judged) (map (λ (j : Judged). j.slot) a.more) (length xs) (length-map r.judged (λ (j : Judged). j.slot) ∙ many));
+      behind = λ k n j h g. ap (λ (zs : List Listed). slice_get (registry setup.config zs).judged n) e
+          ∙ judged_more setup.config (xs ++ ys) more n j (ap (λ (js : List Judged). slice_get js n) a.judged ∙ got_behind (registry setup.config xs).judged a.more k n (omega (arith, h, many)) ∙ g);
+    }
+
+-- ---- an admission
+
+take_front : (xs ys : List Listed) → take (length xs) (xs ++ ys) ≡ xs
+take_front [] ys = refl
+take_front (x ∷ xs) ys = ap (λ (zs : List Listed). x ∷ zs) (take_front xs ys)
+
+listed_there : (xs ys more list : List Listed) → list ≡ (xs ++ ys) ++ more → take (length ys) (drop (length xs) list) ≡ ys
+listed_there xs ys more list e =
+    ap (λ (zs : List Listed). take (length ys) (drop (length xs) zs)) (e ∙ append_assoc xs ys more)
+    ∙ ap (take (length ys)) (drop_at xs (ys ++ more) (length xs) refl)
+    ∙ take_front ys more
+
+admitted : (setup : Setup) (xs more list : List Listed) (input : ReadInput) → list ≡ (xs ++ added_by input) ++ more → refusal_of (length xs) input ≡ None → IsAdmitted setup list input (length xs) (admitted_slots setup xs (added_by input))
+admitted setup xs more list (Request moment nonce ms) e none =
+    let j : Judging setup xs (added_by (Request moment nonce ms)) list = judging setup xs (added_by (Request moment nonce ms)) more list e in
+    let m = listed_messages moment nonce (length ms == 1) false ms in
+    record {
+      listed = listed_there xs (added_by (Request moment nonce ms)) more list e;
+      many = ap length j.slots ∙ slots_count setup (length xs) (added_by (Request moment nonce ms)) j.more m.0 j.slotted ∙ m.1;
+      each = subst (EachSlot setup list (length xs)) (sym j.slots) (each_slot setup list (length xs) (added_by (Request moment nonce ms)) j.more m.0 j.slotted j.behind);
+    }
+admitted setup xs more list (Unread fault) e none = cc
+admitted setup xs more list (Tick moment) e none =
+    let j : Judging setup xs (messages.Tick moment ∷ []) list = judging setup xs (messages.Tick moment ∷ []) more list e in
+    let empty : admitted_slots setup xs (messages.Tick moment ∷ []) ≡ [] = j.slots ∙ tick_slots setup (length xs) moment j.more j.slotted in
+    record {
+      listed = listed_there xs (messages.Tick moment ∷ []) more list e;
+      many = ap length empty;
+      each = subst (EachSlot setup list (length xs)) (sym empty) tt;
+    }
+
+-- ---- schedules
+
+admit_replied : (setup : Setup) (w : WorldState) (input : Input) (out : StepOut) (last : WorldState) (o : Option Refusal) → refusal_of (length w.list) (read_input input) ≡ o →
+    out ≡ output_admit setup w (read_input input) o → Longer (after w (Admit input) out) last → RepliedBy setup last.list input out
+admit_replied setup w input (Admitted first slots) last None n e l =
+    let same_first : first ≡ length w.list = cc in
+    let same_slots : slots ≡ admitted_slots setup w.list (added_by (read_input input)) = cc in
+    subst (λ (ss : List Slot). IsAdmitted setup last.list (read_input input) first ss) (sym same_slots)
+    (subst (λ (k : ℕ). IsAdmitted setup last.list (read_input input) k (admitted_slots setup w.list (added_by (read_input input)))) (sym same_first)
+    (admitted setup w.list l.more last.list (read_input input) l.list n))
+admit_replied setup w input (Admitted first slots) last (Some refusal) n e l = cc
+admit_replied setup w input (NotAdmitted refusal) last o n e l = tt
+admit_replied setup w input Applied last o n e l = tt
+admit_replied setup w input Level last o n e l = tt
+admit_replied setup w input (Taken answer) last o n e l = tt
+admit_replied setup w input OutOfMemory last o n e l = tt
+
+replied : (setup : Setup) (w : WorldState) (step : Step) (out : StepOut) (last : WorldState) → IsOutput setup w step out → Longer (after w step out) last → Replied setup last.list step out
+replied setup w (Admit input) out last i l =
+    ⊎_elim (λ e. admit_replied setup w input out last (refusal_of (length w.list) (read_input input)) refl e l)
+    (λ m. subst (RepliedBy setup last.list input) (sym m.1) tt) i
+replied setup w (Apply shard) out last i l = tt
+replied setup w (Take t) out last i l = tt
+
+each_replied : (setup : Setup) (w : WorldState) (steps : List Step) (outs : List StepOut) (last : WorldState) → Runs setup w steps outs last → EachReplied setup last.list steps outs
+each_replied setup w [] outs last r = tt
+each_replied setup w (step ∷ steps) [] last r = tt
+each_replied setup w (step ∷ steps) (out ∷ outs) last r = (
+  replied setup w step out last r.0 (run_longer setup (after w step out) steps outs last r.1),
+  each_replied setup (after w step out) steps outs last r.1,
+)
+
+pub replies_are_answers : RepliesAreAnswers
+replies_are_answers setup first steps outs last room r = each_replied setup first steps outs last r

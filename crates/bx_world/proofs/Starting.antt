@@ -1,0 +1,80 @@
+-- What the shards hold at first.
+use Rattle.std.proofs.Common.{◌≡◌, ℕ, zero, suc, Some, None, List, [], ◌∷◌, ◌++◌, length, map, slice_get, refl, sym, ap, ◌∙◌, subst, arith}
+use Rattle.std.specs.Prelude.{replicate}
+use Rattle.std.specs.Arc.{arc_value}
+use Rattle.bx_advice.specs.declared.config.Config.{Config}
+use Rattle.bx_entry.specs.Listing.{Listed}
+use Rattle.bx_shard.specs.Held.{Holds}
+use Rattle.bx_shard.specs.Seen.{setup_in, state}
+use Rattle.bx_shard.specs.States.{IsSound, connect_in, session_in}
+use Rattle.bx_shard.specs.declared.shard.Shard.{Shard}
+use Rattle.bx_shard.proofs.Holding.{holds_at_first}
+use Rattle.bx_world.specs.Admissions.{Admitting, placed_by}
+use Rattle.bx_world.specs.Held.{EachHolds}
+use Rattle.bx_world.specs.Worlds.{WorldState, new_world}
+
+-- a shard of this index that has applied nothing
+pub record IsFirst {P : Type 0} (place_of : P → ℕ → ℕ → ℕ) (config : Config) (placing : P) (k : ℕ) (s : Shard P) : Type 0 where
+  pub config_is : s.sessions.config ≡ config
+  pub placing_is : arc_value s.placing ≡ placing
+  pub index_is : s.index ≡ k
+  pub place_is : s.place ≡ 0
+  pub sessions : (n : ℕ) → session_in (state place_of s) n ≡ None
+  pub connects : (p : ℕ) → connect_in (state place_of s) p ≡ None
+  pub sound : IsSound (state place_of s)
+
+-- so is each of a row
+abbrev pub AreFirst : {P : Type 0} → (P → ℕ → ℕ → ℕ) → Config → P → List (Shard P) → Type 0
+AreFirst {P} place_of config placing xs = (k : ℕ) (s : Shard P) → slice_get xs k ≡ Some s → IsFirst place_of config placing k s
+
+-- the last of a row, or one of those before it
+each_push : {X : Type 0} (P : ℕ → X → Type 0) (xs : List X) (y : X) → ((k : ℕ) (x : X) → slice_get xs k ≡ Some x → P k x) → P (length xs) y → (k : ℕ) (x : X) → slice_get (xs ++ y ∷ []) k ≡ Some x → P k x
+each_push P [] y each here zero x e = let same : y ≡ x = cc in subst (P 0) same here
+each_push P [] y each here (suc k) x e = absurd (cc)
+each_push P (z ∷ xs) y each here zero x e = each 0 x e
+each_push P (z ∷ xs) y each here (suc k) x e =
+    each_push (λ n. P (suc n)) xs y (λ n v g. each (suc n) v g) here k x e
+
+pub none_first : {P : Type 0} (place_of : P → ℕ → ℕ → ℕ) (config : Config) (placing : P) → AreFirst place_of config placing []
+none_first place_of config placing k s e = absurd (cc)
+
+pub one_more_first : {P : Type 0} (place_of : P → ℕ → ℕ → ℕ) (config : Config) (placing : P) (xs : List (Shard P)) (n : ℕ) (y : Shard P) → length xs ≡ n → AreFirst place_of config placing xs → IsFirst place_of config placing n y →
+    AreFirst place_of config placing (xs ++ y ∷ [])
+one_more_first place_of config placing xs n y e each here = each_push (IsFirst place_of config placing) xs y each (subst (λ (k : ℕ). IsFirst place_of config placing k y) (sym e) here)
+
+setup_is : {P : Type 0} (place_of : P → ℕ → ℕ → ℕ) (config : Config) (placing : P) (k : ℕ) (s : Shard P) → IsFirst place_of config placing k s → setup_in place_of s ≡ placed_by config (place_of placing)
+setup_is {P} place_of config placing k s h =
+    ap (λ (c : Config). placed_by c (place_of (arc_value s.placing))) h.config_is ∙ ap (λ (p : P). placed_by config (place_of p)) h.placing_is
+
+pub first_hold : {P : Type 0} (place_of : P → ℕ → ℕ → ℕ) (config : Config) (placing : P) (xs : List (Shard P)) → AreFirst place_of config placing xs → EachHolds place_of (placed_by config (place_of placing)) [] [] 0 xs
+first_hold place_of config placing xs each k s e =
+    let h : IsFirst place_of config placing k s = each k s e in
+    record {
+      holds = subst (λ (n : ℕ). Holds (placed_by config (place_of placing)) [] [] k n (state place_of s)) (sym h.place_is)
+          (holds_at_first (placed_by config (place_of placing)) k (state place_of s) (setup_is place_of config placing k s h) h.index_is h.place_is h.sound h.sessions h.connects);
+      past = omega arith;
+    }
+
+all_zero : {X : Type 0} (f : X → ℕ) (xs : List X) (n : ℕ) → length xs ≡ n → ((k : ℕ) (x : X) → slice_get xs k ≡ Some x → f x ≡ 0) → map f xs ≡ replicate n 0
+all_zero f [] zero e each = refl
+all_zero f [] (suc n) e each = absurd (omega (arith, e))
+all_zero f (x ∷ xs) zero e each = absurd (omega (arith, e))
+all_zero f (x ∷ xs) (suc n) e each =
+    ap (λ (m : ℕ). m ∷ map f xs) (each 0 x refl) ∙ ap (λ (ms : List ℕ). 0 ∷ ms) (all_zero f xs n (omega (arith, e)) (λ k v g. each (suc k) v g))
+
+pub first_places : {P : Type 0} (place_of : P → ℕ → ℕ → ℕ) (config : Config) (placing : P) (xs : List (Shard P)) (n : ℕ) → length xs ≡ n → AreFirst place_of config placing xs → map (λ (s : Shard P). s.place) xs ≡ replicate n 0
+first_places {P} place_of config placing xs n e each = all_zero (λ (s : Shard P). s.place) xs n e (λ k s g. (each k s g).place_is)
+
+-- and the world with them
+pub world_first : (placing : ℕ → ℕ → ℕ) (config : Config) (a : Admitting) (ns taken : List ℕ) → a ≡ record { config = config; list = []; first = 0 } → ns ≡ replicate config.shards 0 → taken ≡ [] →
+    record { list = a.list; applied = ns; taken = taken } ≡ new_world (placed_by a.config placing)
+world_first placing config a ns taken e n t =
+    let listed : a.list ≡ [] = ap (λ (b : Admitting). b.list) e in
+    let places : ns ≡ replicate a.config.shards 0 = n ∙ sym (ap (λ (b : Admitting). replicate b.config.shards 0) e) in
+    let one : WorldState = record { list = a.list; applied = ns; taken = taken } in
+    let two : WorldState = record { list = []; applied = ns; taken = taken } in
+    let three : WorldState = record { list = []; applied = ns; taken = [] } in
+    let first : one ≡ two = ap (λ (xs : List Listed). record { list = xs; applied = ns; taken = taken }) listed in
+    let second : two ≡ three = ap (λ (xs : List ℕ). record { list = []; applied = ns; taken = xs }) t in
+    let third : three ≡ new_world (placed_by a.config placing) = ap (λ (xs : List ℕ). record { list = []; applied = xs; taken = [] }) places in
+    first ∙ second ∙ third

@@ -1,0 +1,220 @@
+-- What a server of many shards gives, in the words of the subject: for every schedule of admissions, applications and takings, from whatever
+-- world it begins in, for every number of shards and every placing of sessions.
+use Rattle.std.specs.Prelude.{ℕ, ◌+◌, ◌≡◌, ◌<◌, ◌≤◌, ◌⊎◌, ◌==◌, false, List, [], ◌∷◌, ◌++◌, length, take, drop, find, if◌then◌else◌, Option, Some, None, option_map, slice_get, ⊤}
+use Rattle.bx_advice.specs.declared.config.Config.{Config}
+use Rattle.bx_message.specs.declared.reply.Answer.{Answer}
+use Rattle.bx_message.specs.declared.reply.AckReply.TheVariants.{AckNumber}
+use Rattle.bx_entry.specs.Listing.{Listed}
+use Rattle.bx_entry.specs.Inputs.{ReadInput, Request, Unread, Tick, added_by}
+use Rattle.bx_entry.specs.Requests.{read_input}
+use Rattle.bx_entry.specs.declared.entry.Entry.{Entry}
+use Rattle.bx_entry.specs.declared.entry.Kind.TheVariants.{Connect}
+use Rattle.bx_entry.specs.declared.entry.Slot.{Slot}
+use Rattle.bx_entry.specs.declared.entry.Slot.TheVariants as answers
+use Rattle.bx_entry.specs.declared.entry.Ticket.{Ticket}
+use Rattle.bx_entry.specs.declared.input.Input.{Input}
+use Rattle.bx_entry.specs.Registry.{PlaceSlot, Waiting, Judged, registry, entries}
+use Rattle.bx_entry.specs.Sessions.{Session, Filed, batch, session}
+use Rattle.bx_entry.specs.Answers.{PlacedAnswer, answer, events_of}
+use Rattle.bx_laws.specs.Laws.{Repeats, AllBelow}
+use Rattle.bx_shard.specs.Shards.{Setup}
+use Rattle.bx_world.specs.Worlds.{WorldState, Runs}
+use Rattle.bx_world.specs.Schedules.{admitted_in, EachTook, EachNew, taken_places}
+use Rattle.bx_world.specs.declared.step.Step.{Step}
+use Rattle.bx_world.specs.declared.step.Step.TheVariants.{Admit, Apply, Take}
+use Rattle.bx_world.specs.declared.step.StepOut.{StepOut}
+use Rattle.bx_world.specs.declared.step.StepOut.TheVariants.{Admitted, NotAdmitted, Applied, Level, Taken, OutOfMemory}
+
+-- ---- replies that are given at once
+
+-- how the message at a place is answered, if the list goes so far
+abbrev pub slot_at : Config → List Listed → ℕ → Option PlaceSlot
+slot_at config list place = option_map (λ (j : Judged). j.slot) (slice_get (registry config list).judged place)
+
+-- a ticket of a connect: of its place, and of the shard in which its session stands
+pub record IsTicket (setup : Setup) (list : List Listed) (here : ℕ) (t : Ticket) : Type 0 where
+  pub session : ℕ
+  pub waits : slot_at setup.config list here ≡ Some (Waiting session)
+  pub place : t.place ≡ here
+  pub shard : t.shard ≡ setup.placing session setup.shards
+
+-- a reply is the answer of the message at this place, and has no events; a ticket is that of the connect at this place
+abbrev pub IsSlot : Setup → List Listed → ℕ → Slot → Type 0
+IsSlot setup list place (answers.Ready reply) = answer setup.config list place ≡ Some (record { place = place; events = []; reply = reply })
+IsSlot setup list place (answers.Waiting ticket) = IsTicket setup list place ticket
+
+-- so it is at this place and at each behind it
+abbrev pub EachSlot : Setup → List Listed → ℕ → List Slot → Type 0
+EachSlot setup list place [] = ⊤
+EachSlot setup list place (slot ∷ slots) = IsSlot setup list place slot × EachSlot setup list (place + 1) slots
+
+-- how many messages an input has that are answered
+abbrev pub asked_by : ReadInput → ℕ
+asked_by (Request moment nonce messages) = length messages
+asked_by (Unread fault) = 0
+asked_by (Tick moment) = 0
+
+-- The messages of an admitted input stand in the list from its first place on, and each has its slot.
+pub record IsAdmitted (setup : Setup) (list : List Listed) (input : ReadInput) (first : ℕ) (slots : List Slot) : Type 0 where
+  pub listed : take (length (added_by input)) (drop first list) ≡ added_by input
+  pub many : length slots ≡ asked_by input
+  pub each : EachSlot setup list first slots
+
+-- what was admitted is answered so
+abbrev pub RepliedBy : Setup → List Listed → Input → StepOut → Type 0
+RepliedBy setup list input (Admitted first slots) = IsAdmitted setup list (read_input input) first slots
+RepliedBy setup list input (NotAdmitted refusal) = ⊤
+RepliedBy setup list input Applied = ⊤
+RepliedBy setup list input Level = ⊤
+RepliedBy setup list input (Taken answer) = ⊤
+RepliedBy setup list input OutOfMemory = ⊤
+
+-- only an admission gives replies at once
+abbrev pub Replied : Setup → List Listed → Step → StepOut → Type 0
+Replied setup list (Admit input) out = RepliedBy setup list input out
+Replied setup list (Apply shard) out = ⊤
+Replied setup list (Take ticket) out = ⊤
+
+-- so it is at each step
+abbrev pub EachReplied : Setup → List Listed → List Step → List StepOut → Type 0
+EachReplied setup list [] outs = ⊤
+EachReplied setup list (step ∷ steps) [] = ⊤
+EachReplied setup list (step ∷ steps) (out ∷ outs) = Replied setup list step out × EachReplied setup list steps outs
+
+-- Whatever the steps, each reply that an admission gave at once is what one thread gives.
+abbrev pub RepliesAreAnswers : Type 0
+RepliesAreAnswers = (setup : Setup) (first : WorldState) (steps : List Step) (outs : List StepOut) (last : WorldState) → 0 < setup.config.limits.batch →
+    Runs setup first steps outs last → EachReplied setup last.list steps outs
+
+-- ---- what takings gave
+
+-- this output gave this answer
+abbrev pub GaveIn : Answer → StepOut → Type 0
+GaveIn answer (Admitted first slots) = ⊥
+GaveIn answer (NotAdmitted refusal) = ⊥
+GaveIn answer Applied = ⊥
+GaveIn answer Level = ⊥
+GaveIn answer (Taken None) = ⊥
+GaveIn answer (Taken (Some a)) = a ≡ answer
+GaveIn answer OutOfMemory = ⊥
+
+-- only a taking gives one, to the connect at its ticket's place
+abbrev pub GaveBy : ℕ → Answer → Step → StepOut → Type 0
+GaveBy place answer (Admit input) out = ⊥
+GaveBy place answer (Apply shard) out = ⊥
+GaveBy place answer (Take t) out = (t.place ≡ place) × GaveIn answer out
+
+-- some taking of the schedule gave this answer to the connect at this place
+abbrev pub Gave : List Step → List StepOut → ℕ → Answer → Type 0
+Gave [] outs place answer = ⊥
+Gave (step ∷ steps) [] place answer = ⊥
+Gave (step ∷ steps) (out ∷ outs) place answer = GaveBy place answer step out ⊎ Gave steps outs place answer
+
+-- the session of this number when the first n entries of the list are handled
+abbrev pub session_before : Config → List Listed → ℕ → ℕ → Session
+session_before config list number n = session config number (take n (entries config list))
+
+-- ---- a repeated acknowledgement
+
+-- An accepted connect of the session stands at this place, where a batch is outstanding and the session has not overflowed, and it
+-- acknowledges nothing new.
+pub record AsksAgain (config : Config) (list : List Listed) (number place : ℕ) : Type 0 where
+  pub entry : Entry
+  pub client : List ℕ
+  pub id : Option (List ℕ)
+  pub acked : Option ℕ
+  pub hold : ℕ
+  pub here : slice_get (entries config list) place ≡ Some entry
+  pub connect : entry.kind ≡ Connect number client id acked hold
+  pub outstanding : 0 < (session_before config list number place).out
+  pub overflow : (session_before config list number place).overflow ≡ false
+  pub repeats : Repeats (session_before config list number place).num acked
+
+-- The connect is answered at once, with the outstanding batch and its number. An earlier connect of the session was answered with that number and
+-- the very same events. These are their answers over the list, and the answers that were taken are these.
+pub record GivenAgain (config : Config) (list : List Listed) (steps : List Step) (outs : List StepOut) (number place : ℕ) : Type 0 where
+  pub former : ℕ
+  pub earlier : former < place
+  pub waits : slot_at config list former ≡ Some (Waiting number)
+  pub first : PlacedAnswer
+  pub again : PlacedAnswer
+  pub answered : answer config list former ≡ Some first
+  pub answered_again : answer config list place ≡ Some again
+  pub at_once : again.place ≡ place
+  pub first_number : first.reply.ack ≡ AckNumber (session_before config list number place).num
+  pub again_number : again.reply.ack ≡ AckNumber (session_before config list number place).num
+  pub events : again.events ≡ first.events
+  pub given : (a : Answer) → Gave steps outs place a → a.events ≡ events_of (batch (session_before config list number place))
+  pub numbered : (a : Answer) → Gave steps outs former a → a.reply.ack ≡ AckNumber (session_before config list number place).num
+  pub numbered_again : (a : Answer) → Gave steps outs place a → a.reply.ack ≡ AckNumber (session_before config list number place).num
+  pub same : (a b : Answer) → Gave steps outs former a → Gave steps outs place b → b.events ≡ a.events
+
+-- Whatever the steps, a connect that acknowledges nothing new is given the outstanding batch again.
+abbrev pub BatchesRepeat : Type 0
+BatchesRepeat = (setup : Setup) (first : WorldState) (steps : List Step) (outs : List StepOut) (last : WorldState) → 0 < setup.config.limits.batch →
+    Runs setup first steps outs last → (number place : ℕ) → AsksAgain setup.config last.list number place → GivenAgain setup.config last.list steps outs number place
+
+-- ---- never again
+
+-- How many of the session's events were given for good at the entry at place n: what an acknowledging session has acknowledged with that entry
+-- counts, what a plain session is given at it does not yet.
+abbrev pub done_at : Config → List Listed → ℕ → ℕ → ℕ
+done_at config list number n =
+    if (session_before config list number (n + 1)).ack then (session_before config list number (n + 1)).done else (session_before config list number n).done
+
+-- The answer is the one that the session filed for this connect, and at no entry up to the place where it was given had any of its events, or
+-- a later one, been given for good: each of them was published at a later place than all that had been.
+pub record GivenLater (config : Config) (list : List Listed) (number connect : ℕ) (a : Answer) : Type 0 where
+  pub filed : Filed
+  pub found : find (λ (f : Filed). f.connect == connect) (session config number (entries config list)).answers ≡ Some filed
+  pub given : a ≡ record { events = events_of filed.publications; reply = filed.reply }
+  pub later : (n : ℕ) → n ≤ filed.place → AllBelow (take (done_at config list number n) (session config number (entries config list)).events) filed.publications
+
+-- Whatever the steps, no answer has an event that was acknowledged, or given by a plain session, before it.
+abbrev pub NoneGivenAgain : Type 0
+NoneGivenAgain = (setup : Setup) (first : WorldState) (steps : List Step) (outs : List StepOut) (last : WorldState) → 0 < setup.config.limits.batch →
+    Runs setup first steps outs last → (number place : ℕ) (a : Answer) → slot_at setup.config last.list place ≡ Some (Waiting number) → Gave steps outs place a →
+    GivenLater setup.config last.list number place a
+
+-- Each event that the first answer gave was published at an earlier place than all those of the second, so no event stands in both.
+pub record GivenApart (config : Config) (list : List Listed) (number : ℕ) (connect later : ℕ) (a b : Answer) : Type 0 where
+  pub filed : Filed
+  pub next : Filed
+  pub found : find (λ (f : Filed). f.connect == connect) (session config number (entries config list)).answers ≡ Some filed
+  pub found_next : find (λ (f : Filed). f.connect == later) (session config number (entries config list)).answers ≡ Some next
+  pub given : a ≡ record { events = events_of filed.publications; reply = filed.reply }
+  pub given_next : b ≡ record { events = events_of next.publications; reply = next.reply }
+  pub apart : AllBelow filed.publications next.publications
+
+-- Whatever the steps, no event stands in two answers of a session that does not acknowledge.
+abbrev pub PlainGivenOnce : Type 0
+PlainGivenOnce = (setup : Setup) (first : WorldState) (steps : List Step) (outs : List StepOut) (last : WorldState) → 0 < setup.config.limits.batch →
+    Runs setup first steps outs last → (number place later : ℕ) (a b : Answer) → place < later → (session setup.config number (entries setup.config last.list)).ack ≡ false →
+    slot_at setup.config last.list place ≡ Some (Waiting number) → slot_at setup.config last.list later ≡ Some (Waiting number) → Gave steps outs place a → Gave steps outs later b →
+    GivenApart setup.config last.list number place later a b
+
+-- ---- all of it
+
+-- what holds of a schedule, from the world that it begins in to the one that it ends in
+pub record AsOneThread (setup : Setup) (first : WorldState) (steps : List Step) (outs : List StepOut) (last : WorldState) : Type 0 where
+  -- the list has what was admitted, one message after another
+  pub list : last.list ≡ first.list ++ admitted_in steps outs
+  -- each taken answer is what one thread gives over it
+  pub taken : EachTook setup.config last.list steps outs
+  -- so is each reply
+  pub replied : EachReplied setup last.list steps outs
+  -- no answer is given twice
+  pub once : EachNew first.taken (taken_places steps outs)
+  -- a connect that repeats its acknowledgement is given the same batch
+  pub again : (number place : ℕ) → AsksAgain setup.config last.list number place → GivenAgain setup.config last.list steps outs number place
+  -- what was acknowledged is never given again
+  pub never : (number place : ℕ) (a : Answer) → slot_at setup.config last.list place ≡ Some (Waiting number) → Gave steps outs place a → GivenLater setup.config last.list number place a
+  -- no event stands in two answers of a session that does not acknowledge
+  pub apart : (number place later : ℕ) (a b : Answer) → place < later → (session setup.config number (entries setup.config last.list)).ack ≡ false →
+      slot_at setup.config last.list place ≡ Some (Waiting number) → slot_at setup.config last.list later ≡ Some (Waiting number) → Gave steps outs place a → Gave steps outs later b →
+      GivenApart setup.config last.list number place later a b
+
+-- whatever the schedule, the number of shards and the placing
+abbrev pub Headline : Type 0
+Headline = (setup : Setup) (first : WorldState) (steps : List Step) (outs : List StepOut) (last : WorldState) → 0 < setup.config.limits.batch →
+    Runs setup first steps outs last → AsOneThread setup first steps outs last

@@ -1,0 +1,55 @@
+-- What the shards of the world hold.
+use Rattle.std.specs.Prelude.{ℕ, ◌≡◌, ◌≤◌, ◌==◌, Bool, false, List, map, slice_get, Some, None}
+use Rattle.std.specs.List.{list_any}
+use Rattle.bx_entry.specs.Listing.{Listed}
+use Rattle.bx_entry.specs.declared.entry.Entry.{Entry}
+use Rattle.bx_shard.specs.Held.{Holds}
+use Rattle.bx_shard.specs.Seen.{state}
+use Rattle.bx_shard.specs.Shards.{Setup}
+use Rattle.bx_shard.specs.States as states
+use Rattle.bx_shard.specs.States.{IsAsBefore, IsSound, takes_no_memory}
+use Rattle.bx_shard.specs.declared.shard.Shard.{Shard}
+use Rattle.bx_world.specs.declared.step.Applied.{Applied}
+use Rattle.bx_world.specs.declared.step.Applied.TheVariants.{Done, Level, Memory}
+
+-- a shard holds what the definition's shard of this index holds, and has applied every entry below a place
+pub record HoldsFrom {P : Type 0} (place_of : P → ℕ → ℕ → ℕ) (setup : Setup) (list : List Listed) (taken : List ℕ) (first k : ℕ) (s : Shard P) : Type 0 where
+  pub holds : Holds setup list taken k s.place (state place_of s)
+  pub past : first ≤ s.place
+
+-- so does each shard
+abbrev pub EachHolds : {P : Type 0} → (P → ℕ → ℕ → ℕ) → Setup → List Listed → List ℕ → ℕ → List (Shard P) → Type 0
+EachHolds {P} place_of setup list taken first shards = (k : ℕ) → (s : Shard P) → slice_get shards k ≡ Some s → HoldsFrom place_of setup list taken first k s
+
+-- each shard has applied every entry below a place
+abbrev pub StandFrom : {P : Type 0} → ℕ → List (Shard P) → Type 0
+StandFrom {P} first shards = (k : ℕ) (s : Shard P) → slice_get shards k ≡ Some s → first ≤ s.place
+
+-- and none from another place on
+abbrev pub StandWithin : {P : Type 0} → ℕ → List (Shard P) → Type 0
+StandWithin {P} end shards = (k : ℕ) (s : Shard P) → slice_get shards k ≡ Some s → s.place ≤ end
+
+-- whether some shard has applied every entry below a place, and none from it on
+abbrev pub some_stands_at : {P : Type 0} → ℕ → List (Shard P) → Bool
+some_stands_at {P} place shards = list_any (λ n. n == place) (map (λ (s : Shard P). s.place) shards)
+
+-- a shard after it applied its next entry of the list
+pub record HasApplied {P : Type 0} (place_of : P → ℕ → ℕ → ℕ) (list : List Entry) (old new : Shard P) : Type 0 where
+  pub entry : Entry
+  pub next : slice_get list old.place ≡ Some entry
+  pub applied : states.Applied (state place_of old) entry (state place_of new)
+  pub sound : IsSound (state place_of new)
+
+-- a shard for whose next entry, which may take some, there was no memory
+pub record HasStayed {P : Type 0} (place_of : P → ℕ → ℕ → ℕ) (list : List Entry) (old new : Shard P) : Type 0 where
+  pub entry : Entry
+  pub next : slice_get list old.place ≡ Some entry
+  pub takes : takes_no_memory entry.kind ≡ false
+  pub same : IsAsBefore (state place_of old) (state place_of new)
+  pub sound : IsSound (state place_of new)
+
+-- what came of a shard's next entry of the list, where there is one
+abbrev pub IsApplication : {P : Type 0} → (P → ℕ → ℕ → ℕ) → List Entry → Shard P → Applied → Shard P → Type 0
+IsApplication place_of list old Done new = HasApplied place_of list old new
+IsApplication place_of list old Level new = (slice_get list old.place ≡ None) × (new ≡ old)
+IsApplication place_of list old Memory new = HasStayed place_of list old new

@@ -1,0 +1,185 @@
+//! The admission side of the world: who is live, and the list.
+ghost use Rattle.std.specs.Prelude.{ℕ, ◌≡◌, ◌≤◌, [], length, map, slice_get, option_map, max, IfOk, IfSome, Err};
+ghost use Rattle.bx_advice.specs.Limits.{greatest_length};
+ghost use Rattle.bx_entry.specs.Inputs.{refusal_of};
+ghost use Rattle.bx_entry.specs.Registry.{entries};
+ghost use Rattle.bx_entry.specs.Requests.{read_input};
+ghost use Rattle.bx_entry.specs.declared.input.Input.TheVariants.{Post, Tick};
+ghost use Rattle.bx_workers.specs.Upward.{BroughtUp, count_behind};
+ghost use Rattle.bx_world.specs.Admissions.{IsAdmission, entries_kept, placed_slot};
+ghost use Rattle.bx_world.specs.Held.{StandFrom, StandWithin};
+ghost use Rattle.bx_world.specs.declared.step.AdmissionFault.TheVariants.{Refused};
+
+use crate::backlog::Backlog;
+use crate::listing::Listing;
+use crate::step::{AdmissionFault, Admitted};
+use bx_advice::Config;
+use bx_entry::{Arrival, Entry, Placing, Slot, Ticket, read_messages};
+use bx_message::Sequence;
+use bx_registry::{Plan, Planned, Registry, TickPlan};
+use bx_shard::Shard;
+use bx_workers::Gate;
+use std::alloc::{AllocError, Global};
+use std::marker::Model;
+use std::thread::Threads;
+
+/// Who is live, and the entries that some shard has not applied yet. Contracts see the list that they come of.
+#[derive(Drop)]
+pub(crate) struct Admission {
+    shards: usize,
+    registry: Registry,
+    backlog: Backlog,
+    listing: Listing,
+}
+
+impl Model for Admission {
+    ghost use Rattle.std.specs.Prelude.{◌≡◌};
+    ghost use Rattle.bx_world.specs.Admissions.{Admitting, IsAdmitting};
+
+    ghost Value = { Admitting };
+
+    ghost view = { λ a. record {
+      config = a.registry.config;
+      list = a.listing;
+      first = a.backlog.contents.first;
+    } };
+
+    ghost invariant = { λ a.
+        (a.shards ≡ a.registry.config.shards) × IsAdmitting a.registry a.backlog.contents a.listing };
+}
+
+impl Admission {
+    /// An empty list.
+    pub(crate) fn new(alloc: Global, config: Config) -> Result<Admission, AllocError>
+        ensures { IfOk result (λ a. a ≡ record { config = config; list = []; first = 0 }) }
+    {
+        Ok(Admission {
+            shards: config.shards,
+            registry: Registry::new(alloc, config)?,
+            backlog: Backlog::new(alloc),
+            listing: Listing::new(),
+        })
+    }
+
+    /// Takes the messages of a request into the list.
+    pub(crate) fn post<P: Placing>(
+        &mut self,
+        alloc: Global,
+        placing: &P,
+        arrival: &Arrival,
+    ) -> Result<Admitted, AdmissionFault>
+        ensures { IsAdmission (P.place_of placing.now) self.old (read_input (Post arrival.now)) result self.new }
+    {
+        let messages = read_messages(alloc, &arrival.bodies)?;
+        let Plan {
+            batch,
+            slots,
+            change,
+        } = self
+            .registry
+            .plan(alloc, arrival.moment, arrival.nonce, &messages)?;
+        let slots = placed(alloc, placing, self.shards, slots)?;
+        self.backlog.reserve(batch.entries.len())?;
+        self.registry.commit(change);
+        self.backlog.append(batch.entries);
+        self.listing.post(arrival.moment, arrival.nonce, &messages);
+        Ok(Admitted {
+            first: batch.first,
+            slots,
+        })
+    }
+
+    /// Takes a tick into the list.
+    pub(crate) fn tick(&mut self, alloc: Global, moment: u64) -> Result<Admitted, AdmissionFault>
+        ensures admission { (placing : ℕ → ℕ → ℕ) → IsAdmission placing self.old (read_input (Tick moment)) result self.new }
+        ensures refused { IfSome (refusal_of (length self.old.list) (read_input (Tick moment))) (λ refusal. result ≡ Err (Refused refusal)) }
+    {
+        let TickPlan { entry, change } = self.registry.plan_tick(alloc, moment)?;
+        self.backlog.reserve(1)?;
+        let first = entry.place;
+        self.registry.commit(change);
+        self.backlog.push(entry);
+        self.listing.tick(moment);
+        Ok(Admitted {
+            first,
+            slots: Sequence::new(alloc),
+        })
+    }
+
+    /// The entry at a place from which on entries are kept; none at the end of the list.
+    pub(crate) fn entry(&self, place: u64) -> Option<&Entry>
+        requires { self.now.first ≤ place }
+        ensures { option_map (λ e. e.now) result ≡ slice_get (entries self.now.config self.now.list) place }
+    {
+        self.backlog.get(place)
+    }
+
+    /// From which place on entries are kept.
+    pub(crate) fn first(&self) -> u64
+        ensures { result ≡ self.now.first }
+    {
+        self.backlog.first()
+    }
+
+    /// Drops the entries below this place.
+    pub(crate) fn forget(&mut self, place: u64)
+        requires { place ≤ length self.old.list }
+        ensures { self.new ≡ record self.old { first = max self.old.first place } }
+    {
+        self.backlog.forget(place);
+    }
+
+    /// Has so many workers bring the shards up to the end of the list. Says how many stayed behind.
+    pub(crate) fn bring_up<R: Threads + Sync, G: Gate + Sync, P: Placing + Send + Sync>(
+        &mut self,
+        rt: &R,
+        alloc: Global,
+        gate: &G,
+        workers: usize,
+        shards: &mut [Shard<P>],
+    ) -> usize
+        requires some_worker { 1 ≤ workers }
+        requires workers_in_range { workers ≤ 16 }
+        requires end { length self.old.list ≤ greatest_length }
+        requires first { StandFrom self.old.first shards.old }
+        requires within { StandWithin (length self.old.list) shards.old }
+        ensures same { self.new ≡ self.old }
+        ensures brought { BroughtUp P.place_of (entries_kept self.old) shards.old shards.new }
+        ensures count { result ≡ count_behind (entries_kept self.old) shards.new }
+    {
+        self.backlog.bring_up(rt, alloc, gate, workers, shards)
+    }
+}
+
+// How the messages are answered, with the shard of each connect.
+fn placed<P: Placing>(
+    alloc: Global,
+    placing: &P,
+    shards: usize,
+    planned: Sequence<Planned>,
+) -> Result<Sequence<Slot>, AllocError>
+    requires some { 1 ≤ shards }
+    requires few { shards ≤ 64 }
+    ensures { IfOk result (λ slots. slots ≡ map (placed_slot (P.place_of placing.now) shards) planned) }
+{
+    let mut slots = Vec::with_capacity(alloc, planned.len())?;
+    for planned in planned.into_vec() {
+        slots.push(placed_slot(placing, shards, planned))?;
+    }
+    Ok(Sequence::from_vec(slots))
+}
+
+// How a message is answered.
+fn placed_slot<P: Placing>(placing: &P, shards: usize, planned: Planned) -> Slot
+    requires some { 1 ≤ shards }
+    requires few { shards ≤ 64 }
+    ensures { result ≡ placed_slot (P.place_of placing.now) shards planned }
+{
+    match planned {
+        Planned::Ready(reply) => Slot::Ready(reply),
+        Planned::Waiting { place, session } => Slot::Waiting(Ticket {
+            place,
+            shard: placing.place(session, shards),
+        }),
+    }
+}

@@ -1,0 +1,128 @@
+//! The entries that some shard has not applied yet.
+ghost use Rattle.std.specs.Prelude.{◌≡◌, ◌≤◌, ◌+◌, ◌++◌, [], ◌∷◌, length, max, slice_get, option_map, OnOk};
+ghost use Rattle.bx_advice.specs.Limits.{greatest_length};
+ghost use Rattle.bx_workers.specs.Upward.{AreConsecutive, AreWithin, BroughtUp, count_behind, end_of};
+ghost use Rattle.bx_world.specs.Backlogs.{empty, kept_in};
+
+use bx_entry::{Entry, Placing};
+use bx_history::History;
+use bx_message::Sequence;
+use bx_shard::Shard;
+use bx_workers::Gate;
+use std::alloc::{AllocError, Global};
+use std::collections::VecDeque;
+use std::marker::Model;
+use std::thread::Threads;
+
+/// The entries of the list from some place on. Contracts see all entries of the list, from which place on they are
+/// kept, and for how many more there is room.
+#[derive(Drop)]
+pub(crate) struct Backlog {
+    first: u64,
+    kept: VecDeque<Entry>,
+    all: History<Entry>,
+}
+
+impl Model for Backlog {
+    ghost use Rattle.std.specs.Prelude.{◌≡◌, ◌≤◌, ◌-◌, drop, length};
+    ghost use Rattle.std.specs.VecDeque.{deque_capacity, deque_len};
+    ghost use Rattle.bx_world.specs.Backlogs.{Backlogged};
+
+    ghost Value = { Backlogged };
+
+    ghost view = { λ b. record {
+      contents = record { all = b.all; first = b.first };
+      spare = deque_capacity b.kept - deque_len b.kept;
+    } };
+
+    ghost invariant = { λ b. (b.kept.items ≡ drop b.first b.all) × (b.first ≤ length b.all) };
+}
+
+impl Backlog {
+    /// No entry.
+    pub(crate) fn new(alloc: Global) -> Backlog
+        ensures { result.contents ≡ empty }
+    {
+        Backlog {
+            first: 0,
+            kept: VecDeque::new(alloc),
+            all: History::new(),
+        }
+    }
+
+    /// From which place on the entries are kept.
+    pub(crate) fn first(&self) -> u64
+        ensures { result ≡ self.now.contents.first }
+    {
+        self.first
+    }
+
+    /// The entry at a place from which on entries are kept.
+    pub(crate) fn get(&self, place: u64) -> Option<&Entry>
+        requires { self.now.contents.first ≤ place }
+        ensures { option_map (λ e. e.now) result ≡ slice_get self.now.contents.all place }
+    {
+        self.kept.get((place - self.first) as usize)
+    }
+
+    /// Makes room for so many more entries.
+    pub(crate) fn reserve(&mut self, count: usize) -> Result<(), AllocError>
+        ensures room { OnOk result (count ≤ self.new.spare) }
+        ensures same { self.new.contents ≡ self.old.contents }
+    {
+        self.kept.reserve(count)
+    }
+
+    /// Adds an entry for which there is room.
+    pub(crate) fn push(&mut self, entry: Entry)
+        requires { 1 ≤ self.old.spare }
+        ensures contents { self.new.contents ≡ record { all = self.old.contents.all ++ entry ∷ []; first = self.old.contents.first } }
+        ensures spare { self.new.spare + 1 ≡ self.old.spare }
+    {
+        self.all.push(&entry);
+        self.kept.push_back_reserved(entry);
+    }
+
+    /// Adds entries for which there is room.
+    pub(crate) fn append(&mut self, entries: Sequence<Entry>)
+        requires { length entries ≤ self.old.spare }
+        ensures { self.new.contents ≡ record { all = self.old.contents.all ++ entries; first = self.old.contents.first } }
+    {
+        for entry in entries.into_vec() {
+            self.push(entry);
+        }
+    }
+
+    /// Drops the entries below this place.
+    pub(crate) fn forget(&mut self, place: u64)
+        requires { place ≤ length self.old.contents.all }
+        ensures { self.new.contents ≡ record { all = self.old.contents.all; first = max self.old.contents.first place } }
+    {
+        if place > self.first {
+            self.kept.drain(..(place - self.first) as usize);
+            self.first = place;
+        }
+    }
+
+    /// Has so many workers bring the shards up to the end of the entries that are kept. Says how many stayed behind.
+    pub(crate) fn bring_up<R: Threads + Sync, G: Gate + Sync, P: Placing + Send + Sync>(
+        &mut self,
+        rt: &R,
+        alloc: Global,
+        gate: &G,
+        workers: usize,
+        shards: &mut [Shard<P>],
+    ) -> usize
+        requires some_worker { 1 ≤ workers }
+        requires workers_in_range { workers ≤ 16 }
+        requires consecutive { AreConsecutive (kept_in self.old.contents) }
+        requires end { end_of (kept_in self.old.contents) ≤ greatest_length }
+        requires within { AreWithin (kept_in self.old.contents) shards.old }
+        ensures same { self.new.contents ≡ self.old.contents }
+        ensures brought { BroughtUp P.place_of (kept_in self.old.contents) shards.old shards.new }
+        ensures count { result ≡ count_behind (kept_in self.old.contents) shards.new }
+    {
+        let kept = self.kept.make_contiguous();
+        bx_workers::bring_up(rt, alloc, gate, workers, shards, kept)
+    }
+}
