@@ -2,19 +2,18 @@
 #![tactic(auto)]
 
 mod arguments;
-mod line;
-mod outcome;
+mod kept;
 mod script;
 mod server;
 #[cfg(test)]
 mod tests;
-mod waiting;
 
 use arguments::{Arguments, USAGE};
-use script::ReplayFault;
+use bx_script::ScriptFault;
 use std::io;
 use std::io::{BufReader, BufWriter};
 use std::process::ExitCode;
+use std::thread::Threads;
 
 fn main(rt: HostRuntime) -> ExitCode {
     let arguments = match arguments::read(&rt) {
@@ -23,27 +22,31 @@ fn main(rt: HostRuntime) -> ExitCode {
             let _ = rt.eprintln(USAGE);
             return ExitCode::from(2);
         }
-        Err(error) => return failed(&rt, ReplayFault::of_read(&error)),
+        Err(error) => return failed(&rt, ScriptFault::of_read(&error)),
     };
-    match run(&rt, arguments) {
+    match run(&rt, &rt, arguments) {
         Ok(()) => ExitCode::SUCCESS,
         Err(fault) => failed(&rt, fault),
     }
 }
 
-fn run(rt: &HostRuntime, arguments: Arguments) -> Result<(), ReplayFault> {
+fn run<T: Threads + Sync>(
+    rt: &HostRuntime,
+    threads: &T,
+    arguments: Arguments,
+) -> Result<(), ScriptFault> {
     let alloc = rt.alloc();
-    let mut reader = BufReader::new(alloc, rt.reader()).map_err(|error| ReplayFault::of_read(
+    let mut reader = BufReader::new(alloc, rt.reader()).map_err(|error| ScriptFault::of_read(
         &error,
     ))?;
-    let mut writer = BufWriter::new(alloc, io::writer(rt)).map_err(|error| ReplayFault::of_write(
+    let mut writer = BufWriter::new(alloc, io::writer(rt)).map_err(|error| ScriptFault::of_write(
         &error,
     ))?;
     let Arguments { config, workers } = arguments;
-    script::replay(alloc, config, workers, &mut reader, &mut writer)
+    script::replay(threads, alloc, config, workers, &mut reader, &mut writer)
 }
 
-fn failed(rt: &HostRuntime, fault: ReplayFault) -> ExitCode {
+fn failed(rt: &HostRuntime, fault: ScriptFault) -> ExitCode {
     let _ = eprintln!(rt; "bayeux_replay: {fault}");
     ExitCode::FAILURE
 }

@@ -1,129 +1,83 @@
 //! A run of the server over a script.
-ghost use Rattle.std.specs.Prelude.{◌≤◌};
+ghost use Rattle.std.specs.Prelude.{◌≡◌, ◌≤◌, [], IfOk, IfSome, OnOk};
+ghost use Rattle.std.specs.Io.KnownBytes.{Appends};
+ghost use Rattle.bayeux_replay.specs.Serving.{IsAll, Prints, Serves, held_lines};
+ghost use Rattle.bx_entry.specs.Replay.{replay_text};
+ghost use Rattle.bx_fanout.specs.Rounds.{setup_in};
+ghost use Rattle.bx_script.specs.Lines.{query_taken};
 
-use crate::line::{LineBuffer, Step};
-use crate::outcome::Out;
-use crate::server::Server;
+use crate::kept::print_held;
+use crate::server::{Server, answer, new_server};
 use bx_advice::Config;
-use bx_entry::{ByRemainder, Placing};
-use std::alloc::{AllocError, AllocFailed, Global};
-use std::io::{BufRead, ErrorKind, Write};
+use bx_entry::ByRemainder;
+use bx_script::{Lines, MAX_READS, ScriptFault};
+use std::alloc::Global;
+use std::io::{BufRead, Write};
 use std::sync::Arc;
-use std::{fmt, io};
+use std::thread::Threads;
 
-/// How often it is read at most: 2^40 times.
-const MAX_READS: u64 = 1_099_511_627_776;
-
-/// Why a run ended early. What was written then is how the right output begins.
-#[derive(Clone, Copy, Debug, PartialEq, Eq)]
-pub enum ReplayFault {
-    /// Memory was refused.
-    Memory,
-    /// A read failed.
-    Read,
-    /// A write failed.
-    Write,
-}
-
-/// Writes what the server answers to each line that it reads, numbered from 1, and at the end which lines have
-/// no answer yet. Sessions stand in the shards in turn.
-pub fn replay<R: BufRead, W: Write>(
+/// Writes what the server answers to each line that it reads, numbered from 1, and at the end which lines have no
+/// answer yet: what the definition of a replay prints for the script, whatever the number of workers and of shards is.
+/// Sessions stand in the shards in turn; a line that changes the number of shards is read and not carried out yet. It
+/// answers `Memory` where memory was refused, else `Read` where a read failed or there were too many, and `Write`
+/// where a write failed.
+pub fn replay<T: Threads + Sync, R: BufRead, W: Write>(
+    rt: &T,
     alloc: Global,
     config: Config,
-    _workers: usize,
+    workers: usize,
     reader: &mut R,
     writer: &mut W,
-) -> Result<(), ReplayFault>
-    requires some_worker { 1 ≤ _workers }
-    requires workers_in_range { _workers ≤ 16 }
+) -> Result<(), ScriptFault>
+    requires some_worker { 1 ≤ workers }
+    requires workers_in_range { workers ≤ 16 }
+    ensures { OnOk result (IfSome (R.remaining reader.old)
+        (λ script. Appends (W.contents writer.old) (W.contents writer.new) (replay_text config query_taken script))) }
 {
     let placing = Arc::new(alloc, ByRemainder)?;
-    let server = Server::new(alloc, config, placing)?;
-    serve(alloc, server, reader, writer)
+    let first = new_server(alloc, config, placing, workers)?;
+    let server = answer_all(rt, alloc, first, reader, writer)?;
+    finish(alloc, &server, writer)
 }
 
-/// Writes what this server answers to each line that it reads, numbered from 1, and at the end which lines have
-/// no answer yet.
-pub fn serve<P: Placing, R: BufRead, W: Write>(
+// Deals with all lines that the reader has.
+fn answer_all<T: Threads + Sync, R: BufRead, W: Write>(
+    rt: &T,
     alloc: Global,
-    mut server: Server<P>,
+    mut server: Server<ByRemainder>,
     reader: &mut R,
     writer: &mut W,
-) -> Result<(), ReplayFault>
-where
-    P: Drop,
+) -> Result<Server<ByRemainder>, ScriptFault>
+    requires serves { Serves server }
+    requires none { server.lines ≡ [] }
+    ensures serves { IfOk result (λ s. Serves s) }
+    ensures config { IfOk result (λ s. (setup_in s.round).config ≡ (setup_in server.round).config) }
+    ensures all { IfOk result (λ s. IsAll (R.remaining reader.old) s.lines) }
+    ensures prints { IfOk result (λ s. Prints (setup_in s.round).config [] s.lines (W.contents writer.old) (W.contents writer.new)) }
 {
-    let mut buffer = LineBuffer::new(alloc);
-    let mut number = 0u64;
+    let mut lines = Lines::new(alloc);
     for _ in 0..MAX_READS {
-        match buffer
-            .read_step(reader)
-            .map_err(|error| ReplayFault::of_read(&error))?
-        {
-            Step::More => {}
-            Step::Complete => {
-                number = number.saturating_add(1);
-                let outs = server.answer(alloc, number, buffer.line())?;
-                write_outs(writer, outs.as_slice())?;
-                buffer.clear();
-            }
-            Step::End => {
-                let outs = server.held(alloc)?;
-                write_outs(writer, outs.as_slice())?;
-                return writer
-                    .flush()
-                    .map_err(|error| ReplayFault::of_write(&error));
-            }
-        }
-    }
-    Err(ReplayFault::Read)
-}
-
-fn write_outs<W: Write>(writer: &mut W, outs: &[Out]) -> Result<(), ReplayFault> {
-    for out in outs {
-        out.write(writer)
-            .map_err(|error| ReplayFault::of_write(&error))?;
-    }
-    Ok(())
-}
-
-impl ReplayFault {
-    /// What a failed read comes to.
-    pub fn of_read(error: &io::Error) -> ReplayFault {
-        match error.kind() {
-            ErrorKind::OutOfMemory => ReplayFault::Memory,
-            _ => ReplayFault::Read,
-        }
-    }
-
-    /// What a failed write comes to.
-    pub fn of_write(error: &io::Error) -> ReplayFault {
-        match error.kind() {
-            ErrorKind::OutOfMemory => ReplayFault::Memory,
-            _ => ReplayFault::Write,
-        }
-    }
-}
-
-impl fmt::Display for ReplayFault {
-    fn fmt<W: fmt::Write>(&self, f: &mut fmt::Formatter<W>) -> fmt::Result {
-        let text = match self {
-            ReplayFault::Memory => "out of memory",
-            ReplayFault::Read => "read fault",
-            ReplayFault::Write => "write fault",
+        let Some(line) = lines.next_line(alloc, reader)? else {
+            return Ok(server);
         };
-        f.write_str(text)
+        server = answer(rt, alloc, server, line, writer)?;
     }
+    Err(ScriptFault::Read)
 }
 
-impl From<AllocError> for ReplayFault {
-    fn from(_error: AllocError) -> ReplayFault {
-        ReplayFault::Memory
-    }
-}
-
-impl<T: Drop> From<AllocFailed<T>> for ReplayFault {
-    fn from(_error: AllocFailed<T>) -> ReplayFault {
-        ReplayFault::Memory
+// Writes which lines have no answer.
+fn finish<W: Write>(
+    alloc: Global,
+    server: &Server<ByRemainder>,
+    writer: &mut W,
+) -> Result<(), ScriptFault>
+    requires serves { Serves server.now }
+    ensures { OnOk result (Appends (W.contents writer.old) (W.contents writer.new) (held_lines (setup_in server.now.round).config server.now.lines)) }
+{
+    let numbers = server.round.held(alloc)?;
+    print_held(&server.kept, &numbers, writer)?;
+    match writer.flush() {
+        Ok(()) => Ok(()),
+        Err(error) => Err(ScriptFault::of_write(&error)),
     }
 }

@@ -1,140 +1,163 @@
 //! The server, fed with the lines of a script.
-use crate::line::Line;
-use crate::outcome::{Out, Outcome};
-use crate::script::ReplayFault;
-use crate::waiting::{Held, Waiting};
-use bx_advice::{BODY_LIMIT, Config, MAX_LENGTH};
-use bx_cut::Bodies;
-use bx_entry::{Arrival, Placing, Refusal};
-use bx_world::{AdmissionFault, Applied, World};
-use std::alloc::{AllocError, Global};
-use std::sync::Arc;
+ghost use Rattle.std.specs.Prelude.{◌≡◌, ◌+◌, ◌++◌, ◌≤◌, ◌<◌, ◌^◌, [], ◌∷◌, length, option_map, string_bytes, IfOk, OnOk};
+ghost use Rattle.std.specs.BTreeMap.{get};
+ghost use Rattle.std.specs.Ordering.{nat_cmp};
+ghost use Rattle.bayeux_replay.specs.Kept.{Keeps};
+ghost use Rattle.bayeux_replay.specs.Serving.{Hands, Prints, Serves};
+ghost use Rattle.bx_entry.specs.Requests.{read_input};
+ghost use Rattle.bx_entry.specs.Runs.{held, outs};
+ghost use Rattle.bx_fanout.specs.Rounds.{added_by, inputs_of, setup_in};
+ghost use Rattle.bx_script.specs.Lines.{InRange};
+ghost use Rattle.bx_script.specs.Printing.{is_tick, numbered};
 
-/// The server, and the requests that it has not answered yet.
+use crate::kept::{Asked, print_outs};
+use bx_advice::Config;
+use bx_entry::{ByRemainder, Input, Placing};
+use bx_fanout::{Round, RoundFault};
+use bx_history::History;
+use bx_script::{Line, ScriptFault, write_bad, write_status};
+use bx_workers::OpenGate;
+use std::alloc::Global;
+use std::collections::BTreeMap;
+use std::io::Write;
+use std::sync::Arc;
+use std::thread::Threads;
+
+/// What the program has of a script so far.
 #[derive(Drop)]
 pub struct Server<P: Placing> {
-    world: World<P>,
-    shards: usize,
-    waiting: Waiting,
+    pub round: Round<P>,
+    /// The inputs whose outs are not printed yet, by their numbers.
+    pub kept: BTreeMap<usize, Asked>,
+    /// How many lines were dealt with.
+    pub number: u64,
+    /// These lines.
+    pub lines: History<Line>,
 }
 
-impl<P: Placing> Server<P> {
-    /// A server without sessions.
-    pub fn new(alloc: Global, config: Config, placing: Arc<P>) -> Result<Server<P>, AllocError>
-    where
-        P: Drop,
-    {
-        Ok(Server {
-            world: World::new(alloc, config, placing)?,
-            shards: config.shards,
-            waiting: Waiting::new(alloc),
-        })
-    }
-
-    /// What is printed for the line of this number, and for earlier ones that are answered by it, by ascending lines.
-    pub fn answer(
-        &mut self,
-        alloc: Global,
-        number: u64,
-        line: Line<'_>,
-    ) -> Result<Vec<Out>, ReplayFault> {
-        match line {
-            Line::Post { moment, body } => self.post(alloc, number, moment, body),
-            Line::Tick { moment } => self.tick(alloc, number, moment),
-            Line::Bad => alone(alloc, number, Outcome::Bad),
-        }
-    }
-
-    fn post(
-        &mut self,
-        alloc: Global,
-        number: u64,
-        moment: u64,
-        body: &[u8],
-    ) -> Result<Vec<Out>, ReplayFault> {
-        if body.len() > BODY_LIMIT {
-            return alone(alloc, number, Outcome::Refused(413));
-        }
-        let arrival = Arrival {
-            moment,
-            nonce: 0,
-            bodies: Bodies::Whole(body.to_vec(alloc)?),
-        };
-        match self.world.admit(alloc, &arrival) {
-            Ok(admitted) => {
-                self.waiting
-                    .push(Held::new(alloc, number, admitted.slots)?)?;
-                self.bring_up(alloc)
-            }
-            Err(fault) => refused(alloc, number, fault),
-        }
-    }
-
-    fn tick(&mut self, alloc: Global, number: u64, moment: u64) -> Result<Vec<Out>, ReplayFault> {
-        match self.world.admit_tick(alloc, moment) {
-            Ok(_) => self.bring_up(alloc),
-            Err(fault) => refused(alloc, number, fault),
-        }
-    }
-
-    // Every shard applies the list to its end, and what is answered in full by that is handed out.
-    fn bring_up(&mut self, alloc: Global) -> Result<Vec<Out>, ReplayFault> {
-        for shard in 0..self.shards {
-            self.apply_all(alloc, shard)?;
-        }
-        self.waiting.take_answers(&mut self.world);
-        let mut outs = Vec::new(alloc);
-        for held in self.waiting.take_whole(alloc)? {
-            let line = held.line();
-            let outcome = Outcome::Response(held.into_response(alloc)?);
-            outs.push(Out { line, outcome })?;
-        }
-        Ok(outs)
-    }
-
-    // The list has at most so many entries.
-    fn apply_all(&mut self, alloc: Global, shard: usize) -> Result<(), ReplayFault> {
-        for _ in 0..MAX_LENGTH {
-            match self.world.apply(alloc, shard) {
-                Applied::Done => {}
-                Applied::Level => break,
-                Applied::Memory => return Err(ReplayFault::Memory),
-            }
-        }
-        Ok(())
-    }
-
-    /// What is printed at the end: the lines that are not answered, ascending.
-    pub fn held(&self, alloc: Global) -> Result<Vec<Out>, ReplayFault> {
-        let mut outs = Vec::new(alloc);
-        for held in self.waiting.as_slice() {
-            outs.push(Out {
-                line: held.line(),
-                outcome: Outcome::Held,
-            })?;
-        }
-        Ok(outs)
+/// A server that has dealt with no line.
+pub fn new_server<P: Placing + Drop>(
+    alloc: Global,
+    config: Config,
+    placing: Arc<P>,
+    workers: usize,
+) -> Result<Server<P>, ScriptFault>
+    requires some_worker { 1 ≤ workers }
+    requires workers_in_range { workers ≤ 16 }
+    ensures serves { IfOk result (λ s. Serves s) }
+    ensures lines { IfOk result (λ s. s.lines ≡ []) }
+    ensures config { IfOk result (λ s. (setup_in s.round).config ≡ config) }
+{
+    match Round::new(alloc, config, placing, workers) {
+        Ok(Some(round)) => Ok(Server {
+            round,
+            kept: BTreeMap::new(alloc),
+            number: 0,
+            lines: History::new(),
+        }),
+        Ok(None) => unreachable!(),
+        Err(_) => Err(ScriptFault::Memory),
     }
 }
 
-fn alone(alloc: Global, line: u64, outcome: Outcome) -> Result<Vec<Out>, ReplayFault> {
-    let mut outs = Vec::with_capacity(alloc, 1)?;
-    outs.push(Out { line, outcome })?;
-    Ok(outs)
-}
-
-fn refused(alloc: Global, line: u64, fault: AdmissionFault) -> Result<Vec<Out>, ReplayFault> {
-    match fault {
-        AdmissionFault::Refused(refusal) => {
-            alone(alloc, line, Outcome::Refused(status_of(refusal)))
+/// Deals with one more line, and prints what comes of it.
+pub fn answer<T: Threads + Sync, W: Write>(
+    rt: &T,
+    alloc: Global,
+    server: Server<ByRemainder>,
+    line: Line,
+    writer: &mut W,
+) -> Result<Server<ByRemainder>, ScriptFault>
+    requires serves { Serves server }
+    requires few { server.number < 2 ^ 62 }
+    requires in_range { InRange line }
+    ensures serves { IfOk result (λ s. Serves s) }
+    ensures lines { IfOk result (λ s. s.lines ≡ server.lines ++ line ∷ []) }
+    ensures config { IfOk result (λ s. (setup_in s.round).config ≡ (setup_in server.round).config) }
+    ensures prints { IfOk result (λ s. Prints (setup_in s.round).config server.lines s.lines (W.contents writer.old) (W.contents writer.new)) }
+{
+    let Server {
+        mut round,
+        mut kept,
+        number,
+        mut lines,
+    } = server;
+    lines.push(&line);
+    let number = number + 1;
+    match line {
+        Line::Bad => {
+            write_bad(writer, number)?;
+            Ok(Server {
+                round,
+                kept,
+                number,
+                lines,
+            })
         }
-        AdmissionFault::Memory => Err(ReplayFault::Memory),
+        Line::Turned { status } => {
+            write_status(writer, number, status)?;
+            Ok(Server {
+                round,
+                kept,
+                number,
+                lines,
+            })
+        }
+        Line::Handed { callback, input } => {
+            hand(
+                rt, alloc, &mut round, &mut kept, number, callback, input, writer,
+            )?;
+            Ok(Server {
+                round,
+                kept,
+                number,
+                lines,
+            })
+        }
+        // A change of the number of shards is read and not carried out yet: no answer depends on it.
+        Line::Resharded { .. } => Ok(Server {
+            round,
+            kept,
+            number,
+            lines,
+        }),
     }
 }
 
-fn status_of(refusal: Refusal) -> u16 {
-    match refusal {
-        Refusal::Body(_) | Refusal::BadMoment => 400,
-        Refusal::Ended => 503,
+// Deals with one more input, and prints the outs that come of it.
+fn hand<T: Threads + Sync, P: Placing + Send + Sync, W: Write>(
+    rt: &T,
+    alloc: Global,
+    round: &mut Round<P>,
+    kept: &mut BTreeMap<usize, Asked>,
+    line: u64,
+    callback: Option<String>,
+    input: Input,
+    writer: &mut W,
+) -> Result<(), ScriptFault>
+    requires few { length (inputs_of round.old) + 1 ≤ 2 ^ 62 }
+    requires added { added_by round.old ≡ outs (setup_in round.old).config (inputs_of round.old) }
+    requires kept { Keeps (get nat_cmp kept.old) (held (setup_in round.old).config (inputs_of round.old)) (length (inputs_of round.old)) }
+    ensures { OnOk result (Hands round.old (numbered line (option_map string_bytes callback) (read_input input)) round.new
+        (W.contents writer.old) (W.contents writer.new) (get nat_cmp kept.old) (get nat_cmp kept.new)) }
+{
+    let tick = ticks(&input);
+    let asked = Asked {
+        line,
+        callback,
+        tick,
+    };
+    kept.insert(round.dealt(), asked)?;
+    let inputs = [input];
+    let mut outs = Vec::new(alloc);
+    match round.run(rt, alloc, &OpenGate, &inputs, &mut outs) {
+        Ok(()) => print_outs(alloc, kept, &outs, writer),
+        Err(RoundFault::Memory { .. }) => Err(ScriptFault::Memory),
     }
+}
+
+fn ticks(input: &Input) -> bool
+    ensures { result ≡ is_tick (read_input input.now) }
+{
+    matches!(input, Input::Tick(_))
 }

@@ -6,22 +6,18 @@ mod events;
 mod held;
 mod limits;
 mod lines;
-mod random;
+mod queries;
 mod refusals;
-mod schedules;
-mod shards;
-mod traffic;
+mod resharded;
 mod words;
-mod worlds;
 
-use crate::script::{ReplayFault, replay, serve};
-use crate::server::Server;
+use crate::script::replay;
 use bx_advice::{BODY_LIMIT, Config};
-use bx_entry::{AllFirst, ByTable, Placing};
+use bx_script::ScriptFault;
 use std::alloc::Global;
 use std::process::Abort;
-use std::sync::Arc;
 use std::test::Fail;
+use std::thread::Threads;
 use words::spelled;
 
 // What a run is about, its script, and what it prints.
@@ -32,36 +28,30 @@ fn config(shards: usize) -> Result<Config, Fail> {
 }
 
 // What the program prints for a script.
-fn printed(alloc: Global, shards: usize, workers: usize, script: &[u8]) -> Result<Vec<u8>, Fail>
+fn printed<T: Threads + Sync>(
+    rt: &T,
+    alloc: Global,
+    shards: usize,
+    workers: usize,
+    script: &[u8],
+) -> Result<Vec<u8>, Fail>
     requires some_worker { 1 ≤ workers }
     requires workers_in_range { workers ≤ 16 }
 {
     let mut written = Vec::new(alloc);
     let mut reader = script;
-    replay(alloc, config(shards)?, workers, &mut reader, &mut written).map_err(failed)?;
+    let config = config(shards)?;
+    replay(rt, alloc, config, workers, &mut reader, &mut written).map_err(failed)?;
     Ok(written)
 }
 
-// What is printed for a script with two shards and another placing of the sessions.
-fn printed_with<P: Placing>(alloc: Global, placing: P, script: &[u8]) -> Result<Vec<u8>, Fail>
-where
-    P: Drop,
-{
-    let placing = Arc::new(alloc, placing)?;
-    let server = Server::new(alloc, config(2)?, placing)?;
-    let mut written = Vec::new(alloc);
-    let mut reader = script;
-    serve(alloc, server, &mut reader, &mut written).map_err(failed)?;
-    Ok(written)
-}
-
-fn failed(_fault: ReplayFault) -> Fail {
+fn failed(_fault: ScriptFault) -> Fail {
     Fail::from("the run failed")
 }
 
-// A script prints the same whatever the shards are, and which sessions they have. Both texts are written in words.
-fn check(
-    rt: &impl Abort,
+// A script prints the same with any number of shards and workers. Both texts are written in words.
+fn check<R: Abort + Threads + Sync>(
+    rt: &R,
     alloc: Global,
     about: &str,
     script: &str,
@@ -72,21 +62,13 @@ fn check(
     let expected = spelled(alloc, expected)?;
     let expected = expected.as_bytes();
     for (shards, workers) in [(1, 1), (2, 2), (64, 16)] {
-        let written = printed(alloc, shards, workers, script)?;
+        let written = printed(rt, alloc, shards, workers, script)?;
         assert_eq!(rt; written.as_slice(), expected, "{about}, {shards} shards");
     }
-    let written = printed_with(alloc, AllFirst, script)?;
-    assert_eq!(rt;
-        written.as_slice(),
-        expected,
-        "{about}, all in the first shard"
-    );
-    let written = printed_with(alloc, ByTable::new(alloc, &[1, 0, 0])?, script)?;
-    assert_eq!(rt; written.as_slice(), expected, "{about}, shards by a table");
     Ok(())
 }
 
-fn check_all(rt: &impl Abort, alloc: Global, runs: &[Run]) -> Result<(), Fail> {
+fn check_all<R: Abort + Threads + Sync>(rt: &R, alloc: Global, runs: &[Run]) -> Result<(), Fail> {
     for (about, script, expected) in runs {
         check(rt, alloc, about, script, expected)?;
     }
@@ -95,9 +77,9 @@ fn check_all(rt: &impl Abort, alloc: Global, runs: &[Run]) -> Result<(), Fail> {
 
 #[test]
 fn a_last_line_without_its_end_counts(rt: HostRuntime) -> Result<(), Fail> {
-    let written = printed(rt.alloc(), 2, 2, b"0 P []\n0 P []")?;
+    let written = printed(&rt, rt.alloc(), 2, 2, b"0 P []\n0 P []")?;
     assert_eq!(rt; written.as_slice(), b"1 200 []\n2 200 []\n".as_slice());
-    let written = printed(rt.alloc(), 2, 2, b"")?;
+    let written = printed(&rt, rt.alloc(), 2, 2, b"")?;
     assert_eq!(rt; written.as_slice(), b"".as_slice());
     Ok(())
 }
@@ -121,7 +103,7 @@ fn a_body_has_at_most_so_many_bytes(rt: HostRuntime) -> Result<(), Fail> {
         ("0 P []", BODY_LIMIT * 3, "1 413\n2 200 []\n"),
     ] {
         let script = long_script(rt.alloc(), head.as_bytes(), b' ', count)?;
-        let written = printed(rt.alloc(), 2, 2, script.as_slice())?;
+        let written = printed(&rt, rt.alloc(), 2, 2, script.as_slice())?;
         assert_eq!(rt; written.as_slice(), expected.as_bytes(), "{count} spaces");
     }
     Ok(())
@@ -130,7 +112,7 @@ fn a_body_has_at_most_so_many_bytes(rt: HostRuntime) -> Result<(), Fail> {
 #[test]
 fn a_long_line_of_another_form_is_bad(rt: HostRuntime) -> Result<(), Fail> {
     let script = long_script(rt.alloc(), b"", b'0', BODY_LIMIT * 3)?;
-    let written = printed(rt.alloc(), 2, 2, script.as_slice())?;
+    let written = printed(&rt, rt.alloc(), 2, 2, script.as_slice())?;
     assert_eq!(rt; written.as_slice(), b"1 bad\n2 200 []\n".as_slice());
     Ok(())
 }

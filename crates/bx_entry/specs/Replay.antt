@@ -47,7 +47,7 @@ pub data Line : Type 0 where
   Bad : Line
   Turned : (status : ℕ) → Line
   Handed : (callback : Option (List ℕ)) → (input : ReadInput) → Line
-  Resharded : Line
+  Resharded : (shards : ℕ) → Line
 
 -- the documents of a request, with nonce 0
 abbrev pub handed_by : ℕ → Taken → Line
@@ -57,7 +57,11 @@ handed_by moment (Documents callback documents) = Handed callback (read_by momen
 -- a number of shards
 abbrev pub reshards : Option ℕ → Line
 reshards None = Bad
-reshards (Some shards) = if nat_lt 0 shards && nat_le shards 64 then Resharded else Bad
+reshards (Some shards) = if nat_lt 0 shards && nat_le shards 64 then Resharded shards else Bad
+
+-- its digits, which aren't read where they are more than a body may have bytes
+abbrev pub resharded_by : List ℕ → Line
+resharded_by digits = if nat_lt BODY_LIMIT (length digits) then Bad else reshards (number_of digits)
 
 -- what follows a line's moment, where `query_taken` says how queries are taken
 abbrev pub command : (List ℕ → Taken) → ℕ → List ℕ → Line
@@ -65,7 +69,7 @@ command query_taken moment rest =
     if bytes_eq rest (codes "T") then Handed None (Tick moment)
     else (if starts_with nat_eq rest (codes "P ") then handed_by moment (body_taken (drop 2 rest))
     else (if starts_with nat_eq rest (codes "G ") then handed_by moment (query_taken (drop 2 rest))
-    else (if starts_with nat_eq rest (codes "S ") then reshards (number_of (drop 2 rest)) else Bad)))
+    else (if starts_with nat_eq rest (codes "S ") then resharded_by (drop 2 rest) else Bad)))
 
 -- digits that fit 64 bits come first
 abbrev pub line_by : (List ℕ → Taken) → Option ℕ → List ℕ → Line
@@ -90,7 +94,7 @@ inputs_from number [] = []
 inputs_from number (Bad ∷ ls) = inputs_from (number + 1) ls
 inputs_from number (Turned status ∷ ls) = inputs_from (number + 1) ls
 inputs_from number (Handed callback input ∷ ls) = record { line = number; callback = callback; input = input } ∷ inputs_from (number + 1) ls
-inputs_from number (Resharded ∷ ls) = inputs_from (number + 1) ls
+inputs_from number (Resharded shards ∷ ls) = inputs_from (number + 1) ls
 
 -- ---- what is printed
 
@@ -107,11 +111,11 @@ abbrev pub response_text : Option (List ℕ) → List Item → List ℕ
 response_text None items = body_text items
 response_text (Some name) items = callback_text name items
 
--- what an input prints once it is whole; a tick that is taken prints nothing
+-- what an input prints once it is whole; a tick that is taken prints nothing, and no request is taken that can't be read
 abbrev pub result_text : Numbered → ReadInput → Result (List Item) Refusal → List ℕ
 result_text n input (Err refusal) = line_text n.line (decimal (refusal_status refusal))
 result_text n (Request moment nonce ms) (Ok items) = line_text n.line (codes "200 " ++ response_text n.callback items)
-result_text n (Unread fault) (Ok items) = []
+result_text n (Unread fault) (Ok items) = line_text n.line (codes "200 " ++ response_text n.callback items)
 result_text n (Tick moment) (Ok items) = []
 
 -- an out, by the input that it belongs to
@@ -129,7 +133,7 @@ printed_from ws numbered number index [] = []
 printed_from ws numbered number index (Bad ∷ ls) = line_text number (codes "bad") ++ printed_from ws numbered (number + 1) index ls
 printed_from ws numbered number index (Turned status ∷ ls) = line_text number (decimal status) ++ printed_from ws numbered (number + 1) index ls
 printed_from ws numbered number index (Handed callback input ∷ ls) = outs_at ws numbered index ++ printed_from ws numbered (number + 1) (index + 1) ls
-printed_from ws numbered number index (Resharded ∷ ls) = printed_from ws numbered (number + 1) index ls
+printed_from ws numbered number index (Resharded shards ∷ ls) = printed_from ws numbered (number + 1) index ls
 
 -- an input that isn't whole at the end
 abbrev pub held_text : Option Numbered → List ℕ

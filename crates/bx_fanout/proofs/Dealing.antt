@@ -101,7 +101,7 @@ reach config list place (a ∷ answers) are le =
     let rest : place + 1 + length answers ≤ length list = reach config list (place + 1) answers are.1 (omega arith) in
     omega (arith, add-one (length answers))
 
-fresh-behind : (setup : Setup) (inputs : List ReadInput) (input : ReadInput) (w : WorldState) (rows : List Row) (n : Newest) (added : List runs.Out) → IsCollecting setup inputs input w rows n added → NoneTakenFrom (length w.list) w.taken
+pub fresh-behind : (setup : Setup) (inputs : List ReadInput) (input : ReadInput) (w : WorldState) (rows : List Row) (n : Newest) (added : List runs.Out) → IsCollecting setup inputs input w rows n added → NoneTakenFrom (length w.list) w.taken
 fresh-behind setup inputs input w rows n added c = λ p le.
     let g = grows inputs input in
     let len : length w.list ≡ length (taken_in inputs).list + length g.0 = ap (λ (ls : List Listed). length ls) (c.list ∙ g.1) ∙ length-append (taken_in inputs).list g.0 in

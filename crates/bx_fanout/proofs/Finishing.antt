@@ -1,8 +1,7 @@
 -- The steps of a round keep what stands of its parts.
-use Rattle.std.proofs.Common.{◌≡◌, ℕ, ◌+◌, Bool, List, [], ◌∷◌, ◌++◌, length, refl, sym, ap, subst, ◌∙◌, add-zero, zero-add, suc, Option, Some, None, Result, Ok, Err, cond, drop, take, append-nil, arith, ◌-◌, false}
-use Rattle.std.specs.Prelude.{◌==◌, ◌||◌, ◌<◌, is_none}
+use Rattle.std.proofs.Common.{◌≡◌, ℕ, ◌+◌, List, [], ◌∷◌, ◌++◌, length, refl, sym, ap, subst, ◌∙◌, add-zero, Option, Some, None, Result, Ok, Err, cond, drop, take, append-nil, arith, ◌-◌, false}
+use Rattle.std.specs.Prelude.{◌==◌, ◌<◌, is_none}
 use Rattle.bx_entry.specs.Inputs.{added_by}
-use Rattle.bx_entry.specs.Listing.{listed_from, request}
 use Rattle.bx_entry.specs.Requests.{read_by, read_input}
 use Rattle.bx_entry.specs.declared.entry.Slot.{Slot}
 use Rattle.bx_entry.specs.declared.input.BodyFault.{BodyFault}
@@ -21,7 +20,7 @@ use Rattle.bx_fanout.specs.Stages.{AllUntaken, IsDealt, IsGiving, IsStaged}
 use Rattle.bx_fanout.proofs.Dealing.{dealt-same}
 use Rattle.bx_world.specs.Worlds.{IsOutput, WorldState, after, new_world}
 use Rattle.bx_world.specs.declared.step.Step.TheVariants.{Admit}
-use Rattle.bx_world.specs.declared.step.StepOut.TheVariants.{Admitted, NotAdmitted}
+use Rattle.bx_world.specs.declared.step.StepOut.TheVariants.{Admitted}
 use Rattle.bx_world.proofs.Replies.{replies_are_answers}
 use Rattle.std.proofs.lemmas.List.{length-append}
 use Rattle.std.proofs.Math.Seq.{drop-append_seam, take-append_seam}

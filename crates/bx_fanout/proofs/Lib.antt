@@ -8,7 +8,10 @@ pub mod Desks
 pub mod Draining
 pub mod Finishing
 pub mod Giving
+pub mod Holding
 pub mod Opens
+pub mod Passing
 pub mod Running
 pub mod Sole
 pub mod Stages
+pub mod Standing

@@ -1,5 +1,5 @@
 -- What a run comes to, in the words of the definitions.
-use Rattle.std.proofs.Common.{◌≡◌, ℕ, ◌<◌, ◌≤◌, List, [], ◌∷◌, ◌++◌, length, map, take, filter, sym, ap, subst, ◌∙◌, arith, Option, Some, None, Result, Ok, Err, append_assoc, slice_get}
+use Rattle.std.proofs.Common.{◌≡◌, ℕ, ◌<◌, ◌≤◌, List, [], ◌∷◌, ◌++◌, length, map, take, filter, sym, ap, subst, ◌∙◌, arith, Option, Some, None, Result, Ok, Err, append_assoc}
 use Rattle.std.proofs.lemmas.List.{map-append}
 use Rattle.bx_entry.specs.Inputs.{ReadInput}
 use Rattle.bx_entry.specs.Requests.{read_input}
@@ -10,10 +10,10 @@ use Rattle.bx_entry.specs.declared.input.Input.{Input}
 use Rattle.bx_shard.specs.Shards.{Setup}
 use Rattle.bx_world.specs.Seen.{setup_of, world_of}
 use Rattle.bx_world.specs.Worlds.{WorldState}
-use Rattle.bx_fanout.specs.Desks.{Row, outs_of, waits}
-use Rattle.bx_fanout.specs.Opens.{Numbered, is_whole, out_of, registry_after, waiting_at}
+use Rattle.bx_fanout.specs.Desks.{Row, outs_of}
+use Rattle.bx_fanout.specs.Opens.{is_whole, out_of, registry_after, waiting_at}
 use Rattle.bx_fanout.specs.Parts.{AddsOuts, IsSettled, Stands}
-use Rattle.bx_fanout.specs.Rounds.{Adds, IsLevel, IsRun, Runs, added_by, inputs_of}
+use Rattle.bx_fanout.specs.Runs.{Adds, IsLevel, IsRun, Runs, added_by, inputs_of}
 use Rattle.bx_fanout.specs.Stages.{IsGiving, IsStaged, own_out, seen_out}
 use Rattle.bx_fanout.specs.declared.newest.Newest.{Newest}
 use Rattle.bx_fanout.specs.declared.out.Out.{Out}
@@ -60,20 +60,21 @@ module _ {P : Type 0} {g : Ghosts P} where
 
   giving-settled : (new : Parts P g) → Stands new → IsSettled new → IsGiving (setup_of new.world) (inputs_of new) (world_of new.world) new.desk None (added_by new)
   giving-settled new s settled =
-      subst (λ (o : Option Newest). IsGiving (setup_of new.world) (inputs_of new) (world_of new.world) new.desk o (added_by new)) settled.whole
-      (giving-at (setup_of new.world) (inputs_of new) (world_of new.world) new.desk new.newest new.whole (added_by new) settled.done.none s.staged)
+      subst (λ (o : Option Newest). IsGiving (setup_of new.world) (inputs_of new) (world_of new.world) new.desk o (added_by new)) settled.calm.whole
+      (giving-at (setup_of new.world) (inputs_of new) (world_of new.world) new.desk new.newest new.whole (added_by new) settled.calm.none s.staged)
 
   level-of : (new : Parts P g) → Stands new → IsSettled new → IsLevel new
   level-of new s settled = record {
     list = (giving-settled new s settled).list;
-    level = λ k n found. at-end (length (world_of new.world).list) n (settled.done.level k n found) (settled.done.within k n found);
+    level = λ k n found. at-end (length (world_of new.world).list) n (settled.level k n found) (settled.within k n found);
+    holds = λ k s found. (new.world.holding k s found).holds;
   }
 
   pub run-is : (old new : Parts P g) (inputs : List Input) (before after : List Out) (r : Result (Unit {0}) RoundFault) → 0 < (setup_of new.world).config.limits.batch → Stands new → Runs old inputs before after new r → IsRun old inputs before after new r
   run-is old new inputs before after (Ok tt) batch s runs = (
     adds-of old new before after batch s runs.0,
     ap (map read_input) runs.1 ∙ map-append read_input old.inputs inputs,
-    all-added (setup_of new.world) (inputs_of new) (world_of new.world) new.desk (added_by new) (giving-settled new s runs.2) runs.2.held,
+    all-added (setup_of new.world) (inputs_of new) (world_of new.world) new.desk (added_by new) (giving-settled new s runs.2) runs.2.calm.held,
     level-of new s runs.2,
   )
   run-is old new inputs before after (Err (Memory admitted)) batch s runs = (

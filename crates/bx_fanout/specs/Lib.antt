@@ -3,6 +3,8 @@ pub mod Draining
 pub mod Newests
 pub mod Opens
 pub mod Parts
+pub mod Props
 pub mod Rounds
+pub mod Runs
 pub mod Sole
 pub mod Stages

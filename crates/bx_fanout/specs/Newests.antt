@@ -4,6 +4,7 @@ use Rattle.bx_advice.specs.declared.config.Config.{Config}
 use Rattle.bx_entry.specs.Answers.{answer}
 use Rattle.bx_entry.specs.Listing.{Listed}
 use Rattle.bx_entry.specs.declared.entry.Slot.{Slot}
+use Rattle.bx_entry.specs.declared.entry.Slot.TheVariants.{Ready}
 use Rattle.bx_fanout.specs.declared.newest.Newest.{Newest}
 use Rattle.bx_entry.specs.declared.input.Refusal.{Refusal}
 use Rattle.bx_fanout.specs.Desks.{items_of}
@@ -49,6 +50,11 @@ NextBy setup old place before after new (Some a) =
 abbrev pub Next : Setup → WorldState → List Slot → List Slot → WorldState → Option Answer → Type 0
 Next setup old before after new result =
     (place : ℕ) → IsLevel old → EachSlot setup old.list place before → NoneTakenFrom place old.taken → 0 < length before → NextBy setup old place before after new result
+
+-- the reply to the first message was there, and its slot went; or the first message waits, or there is none
+abbrev pub NextReady : List Slot → List Slot → Option Answer → Type 0
+NextReady before after None = after ≡ before
+NextReady before after (Some a) = (before ≡ Ready a.reply ∷ after) × (a.events ≡ [])
 
 -- ---- all answers
 

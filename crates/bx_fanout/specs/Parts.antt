@@ -1,11 +1,9 @@
 -- What stands of a round's parts between two calls.
-use Rattle.std.specs.Prelude.{ℕ, ◌+◌, ◌≡◌, ◌≤◌, List, ◌++◌, filter, if◌then◌else◌, is_none, length, map, slice_get, None, Some}
+use Rattle.std.specs.Prelude.{ℕ, ◌≡◌, ◌≤◌, List, ◌++◌, filter, if◌then◌else◌, is_none, length, map, slice_get, None, Some}
 use Rattle.bx_entry.specs.declared.Placing.{Ghosts}
 use Rattle.bx_entry.specs.declared.input.Input.{Input}
 use Rattle.bx_entry.specs.declared.input.Input.TheVariants.{Post, Tick}
-use Rattle.bx_entry.specs.Inputs.{ReadInput}
 use Rattle.bx_entry.specs.Requests.{read_input}
-use Rattle.bx_entry.specs.Runs as runs
 use Rattle.bx_world.specs.Seen.{setup_of, world_of}
 use Rattle.bx_fanout.specs.Desks.{waits}
 use Rattle.bx_fanout.specs.Newests.{IsLevel}
@@ -28,11 +26,17 @@ module _ {P : Type 0} {g : Ghosts P} where
     pub level : IsLevel (world_of p.world)
     pub within : (k n : ℕ) → slice_get (world_of p.world).applied k ≡ Some n → n ≤ length (world_of p.world).list
 
-  -- and all its outs are added
-  pub record IsSettled (p : Parts P g) : Type 0 where
-    pub done : IsDone p
+  -- nothing is collected, and no out is left to be added; the shards may be behind
+  pub record IsCalm (p : Parts P g) : Type 0 where
+    pub none : p.newest ≡ None
     pub whole : p.whole ≡ None
     pub held : p.desk ≡ filter waits p.desk
+
+  -- so it is, and every shard is at the end of the list
+  pub record IsSettled (p : Parts P g) : Type 0 where
+    pub calm : IsCalm p
+    pub level : IsLevel (world_of p.world)
+    pub within : (k n : ℕ) → slice_get (world_of p.world).applied k ≡ Some n → n ≤ length (world_of p.world).list
 
   -- outs were added behind those that were there
   pub record AddsOuts (old : Parts P g) (before after : List Out) (new : Parts P g) : Type 0 where

@@ -1,56 +1,29 @@
 -- What a round has dealt with, and what its runs have added.
-use Rattle.std.specs.Prelude.{ℕ, ◌≡◌, ◌≤◌, ◌++◌, List, map, length, take, slice_get, Some, Result, Ok, Err}
+use Rattle.std.specs.Prelude.{List, Result}
+use Rattle.bx_entry.specs.Inputs.{ReadInput}
+use Rattle.bx_entry.specs.Runs as runs
 use Rattle.bx_entry.specs.declared.Placing.{Ghosts}
 use Rattle.bx_entry.specs.declared.input.Input.{Input}
-use Rattle.bx_entry.specs.Inputs.{ReadInput}
-use Rattle.bx_entry.specs.Requests.{read_input}
-use Rattle.bx_entry.specs.Runs as runs
-use Rattle.bx_entry.specs.Runs.{outs, taken_in}
-use Rattle.bx_fanout.specs.Parts.{AddsOuts, IsSettled}
-use Rattle.bx_fanout.specs.Stages.{seen_out}
+use Rattle.bx_fanout.specs.Runs as parts
 use Rattle.bx_fanout.specs.declared.out.Out.{Out}
 use Rattle.bx_fanout.specs.declared.out.RoundFault.{RoundFault}
-use Rattle.bx_fanout.specs.declared.out.RoundFault.TheVariants.{Memory}
-use Rattle.bx_fanout.specs.declared.parts.Parts.{Parts}
+use Rattle.bx_fanout.specs.declared.round.Round.{Round}
 use Rattle.bx_shard.specs.Shards.{Setup}
-use Rattle.bx_world.specs.Seen.{setup_of, world_of}
 
 module _ {P : Type 0} {g : Ghosts P} where
   -- the configuration with the placing
-  abbrev pub setup_in : Parts P g → Setup
-  setup_in r = setup_of r.world
+  abbrev pub setup_in : Round P g → Setup
+  setup_in r = parts.setup_in r.parts
 
   -- the inputs dealt with, over all runs
-  abbrev pub inputs_of : Parts P g → List ReadInput
-  inputs_of r = map read_input r.inputs
+  abbrev pub inputs_of : Round P g → List ReadInput
+  inputs_of r = parts.inputs_of r.parts
 
   -- the outs that the runs have added, over all runs
-  abbrev pub added_by : Parts P g → List runs.Out
-  added_by r = map seen_out r.added
-
-  -- every shard has applied the whole list, which is that of the inputs dealt with
-  pub record IsLevel (r : Parts P g) : Type 0 where
-    pub list : (world_of r.world).list ≡ (taken_in (inputs_of r)).list
-    pub level : (k n : ℕ) → slice_get (world_of r.world).applied k ≡ Some n → n ≡ length (world_of r.world).list
-
-  -- Outs were added behind those that were there. All that the runs have added is how the outs of the inputs dealt with begin.
-  pub record Adds (old : Parts P g) (before after : List Out) (new : Parts P g) : Type 0 where
-    pub more : List Out
-    pub behind : after ≡ before ++ more
-    pub added : added_by new ≡ added_by old ++ map seen_out more
-    pub rest : List runs.Out
-    pub front : outs (setup_in new).config (inputs_of new) ≡ added_by new ++ rest
-    pub setup : setup_in new ≡ setup_in old
+  abbrev pub added_by : Round P g → List runs.Out
+  added_by r = parts.added_by r.parts
 
   -- What came of a run. Either all inputs were dealt with, all outs are added, and every shard holds what it does at the end of the list; or
   -- memory was refused, and so many of the inputs were dealt with.
-  abbrev pub IsRun : Parts P g → List Input → List Out → List Out → Parts P g → Result (Unit {0}) RoundFault → Type 0
-  IsRun old inputs before after new (Ok tt) =
-      Adds old before after new × (inputs_of new ≡ inputs_of old ++ map read_input inputs) × (added_by new ≡ outs (setup_in new).config (inputs_of new)) × IsLevel new
-  IsRun old inputs before after new (Err (Memory admitted)) =
-      Adds old before after new × (admitted ≤ length inputs) × (inputs_of new ≡ inputs_of old ++ map read_input (take admitted inputs))
-
-  -- the same in the words of the parts
-  abbrev pub Runs : Parts P g → List Input → List Out → List Out → Parts P g → Result (Unit {0}) RoundFault → Type 0
-  Runs old inputs before after new (Ok tt) = AddsOuts old before after new × (new.inputs ≡ old.inputs ++ inputs) × IsSettled new
-  Runs old inputs before after new (Err (Memory admitted)) = AddsOuts old before after new × (admitted ≤ length inputs) × (new.inputs ≡ old.inputs ++ take admitted inputs)
+  abbrev pub IsRun : Round P g → List Input → List Out → List Out → Round P g → Result (Unit {0}) RoundFault → Type 0
+  IsRun old inputs before after new result = parts.IsRun old.parts inputs before after new.parts result

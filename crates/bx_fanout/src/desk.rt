@@ -1,5 +1,5 @@
 //! The connects that wait for an answer.
-ghost use Rattle.std.specs.Prelude.{◌≡◌, ◌+◌, ◌++◌, ◌≤◌, [], ◌∷◌, filter, is_none, if◌then◌else◌, length, vec_capacity, vec_len, IfOk, OnOk, OnErr, reverse};
+ghost use Rattle.std.specs.Prelude.{◌≡◌, ◌↔◌, ◌+◌, ◌++◌, ◌≤◌, IsTrue, [], ◌∷◌, filter, is_none, if◌then◌else◌, length, vec_capacity, vec_len, IfOk, OnOk, OnErr, reverse};
 ghost use Rattle.std.specs.List.{list_any};
 ghost use Rattle.std.specs.Map.{remove_entry};
 ghost use Rattle.std.specs.BTreeMap.{IsOrdered, get, is_at};
@@ -89,6 +89,13 @@ impl Desk {
         self.answered.dedup();
         self.answered.reverse();
         give_from(alloc, &mut self.held, &mut self.answered, outs)
+    }
+
+    /// Whether none is held.
+    pub(crate) fn is_empty(&self) -> bool
+        ensures { IsTrue result ↔ (self.now ≡ []) }
+    {
+        self.held.is_empty()
     }
 
     /// The numbers of the inputs, in the order of the places.

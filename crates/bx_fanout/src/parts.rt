@@ -1,6 +1,7 @@
 //! The parts of a round, and its steps.
-ghost use Rattle.std.specs.Prelude.{◌≡◌, ◌+◌, ◌++◌, ◌≤◌, ◌<◌, ◌^◌, [], ◌∷◌, length, IfOk, OnErr, OnOk};
-ghost use Rattle.bx_fanout.specs.Parts.{AddsOuts, IsDone, IsSettled, Stands, count_by};
+ghost use Rattle.std.specs.Prelude.{ℕ, ◌≡◌, ◌+◌, ◌++◌, ◌≤◌, ◌<◌, ◌^◌, [], ◌∷◌, length, slice_get, IsTrue, None, Some, IfOk, OnErr, OnOk};
+ghost use Rattle.bx_fanout.specs.Newests.{IsLevel};
+ghost use Rattle.bx_fanout.specs.Parts.{AddsOuts, IsCalm, IsDone, Stands, count_by};
 ghost use Rattle.std.specs.Arc.{arc_value};
 ghost use Rattle.bx_world.specs.Admissions.{placed_by};
 ghost use Rattle.bx_world.specs.Seen.{setup_of, world_of};
@@ -12,8 +13,9 @@ use crate::give_out::give_out;
 use crate::level::level;
 use crate::newest::Newest;
 use crate::out::Out;
+use crate::pass_over::pass_over;
 use bx_advice::Config;
-use bx_entry::{Input, Placing};
+use bx_entry::{Input, Placing, Slot};
 use bx_history::History;
 use bx_workers::Gate;
 use bx_world::World;
@@ -36,6 +38,8 @@ pub(crate) struct Parts<P: Placing> {
     pub(crate) dealt: usize,
     /// How long the list is.
     pub(crate) end: u64,
+    /// How many inputs were passed over since the shards were brought up last.
+    pub(crate) behind: usize,
     pub(crate) inputs: History<Input>,
     pub(crate) added: History<Out>,
 }
@@ -60,6 +64,7 @@ pub(crate) fn new_parts<P: Placing + Drop>(
         whole: None,
         dealt: 0,
         end: 0,
+        behind: 0,
         inputs: History::new(),
         added: History::new(),
     })
@@ -82,7 +87,54 @@ pub(crate) fn finish<R: Threads + Sync, G: Gate + Sync, P: Placing + Send + Sync
     ensures added { parts.new.added ≡ parts.old.added }
     ensures setup { setup_of parts.new.world ≡ setup_of parts.old.world }
 {
+    let workers = workers_for(parts, workers);
     level(rt, alloc, gate, workers, &mut parts.world)?;
+    parts.behind = 0;
+    collect_last(alloc, parts)
+}
+
+// How many of so many workers bring the shards up. A sole connect is an entry for one session, so one worker does where
+// nothing else is left to be applied.
+fn workers_for<P: Placing>(parts: &Parts<P>, workers: usize) -> usize
+    requires some_worker { 1 ≤ workers }
+    ensures some_worker { 1 ≤ result }
+    ensures no_more { result ≤ workers }
+{
+    let Some(newest) = &parts.newest else {
+        return workers;
+    };
+    if parts.behind == 0 && waits_alone(newest) {
+        1
+    } else {
+        workers
+    }
+}
+
+// Whether its only message is a connect, the answer to which is not here.
+fn waits_alone(newest: &Newest) -> bool
+    ensures none { IsTrue result → newest.now.answers.items ≡ [] }
+    ensures one { IsTrue result → length newest.now.slots.items ≡ 1 }
+{
+    match newest.slots.front() {
+        Some(Slot::Waiting(_)) => newest.answers.is_empty() && newest.slots.len() == 1,
+        _ => false,
+    }
+}
+
+/// Collects the answers that the last input brings, where every shard has come to the end of the list.
+pub(crate) fn collect_last<P: Placing>(
+    alloc: Global,
+    parts: &mut Parts<P>,
+) -> Result<(), AllocError>
+    requires stands { Stands parts.old }
+    requires level { IsLevel (world_of parts.old.world) }
+    requires within { (k n : ℕ) → slice_get (world_of parts.old.world).applied k ≡ Some n → n ≤ length (world_of parts.old.world).list }
+    ensures stands { Stands parts.new }
+    ensures done { IfOk result (λ _. IsDone parts.new) }
+    ensures inputs { parts.new.inputs ≡ parts.old.inputs }
+    ensures added { parts.new.added ≡ parts.old.added }
+    ensures setup { setup_of parts.new.world ≡ setup_of parts.old.world }
+{
     let Some(mut newest) = parts.newest.take() else {
         return Ok(());
     };
@@ -114,9 +166,9 @@ pub(crate) fn add_outs<P: Placing>(
     outs: &mut Vec<Out>,
 ) -> Result<(), AllocError>
     requires stands { Stands parts.old }
-    requires done { IsDone parts.old }
+    requires done { parts.old.newest ≡ None }
     ensures stands { Stands parts.new }
-    ensures settled { IfOk result (λ _. IsSettled parts.new) }
+    ensures calm { IfOk result (λ _. IsCalm parts.new) }
     ensures adds { AddsOuts parts.old outs.old.items outs.new.items parts.new }
     ensures inputs { parts.new.inputs ≡ parts.old.inputs }
 {
@@ -126,7 +178,8 @@ pub(crate) fn add_outs<P: Placing>(
     given
 }
 
-/// Brings the last input to its end. Where memory is refused, the next call goes on.
+/// Brings the last input to its end, with no shard where none is needed for that. Where memory is refused, the next call
+/// goes on.
 pub(crate) fn settle<R: Threads + Sync, G: Gate + Sync, P: Placing + Send + Sync>(
     rt: &R,
     alloc: Global,
@@ -139,11 +192,13 @@ pub(crate) fn settle<R: Threads + Sync, G: Gate + Sync, P: Placing + Send + Sync
     requires workers_in_range { workers ≤ 16 }
     requires stands { Stands parts.old }
     ensures stands { Stands parts.new }
-    ensures settled { IfOk result (λ _. IsSettled parts.new) }
+    ensures calm { IfOk result (λ _. IsCalm parts.new) }
     ensures adds { AddsOuts parts.old outs.old.items outs.new.items parts.new }
     ensures inputs { parts.new.inputs ≡ parts.old.inputs }
 {
-    finish(rt, alloc, gate, workers, parts)?;
+    if !pass_over(alloc, parts)? {
+        finish(rt, alloc, gate, workers, parts)?;
+    }
     add_outs(alloc, parts, outs)
 }
 
@@ -154,16 +209,14 @@ pub(crate) fn deal_with<P: Placing>(
     input: &Input,
 ) -> Result<(), AllocError>
     requires stands { Stands parts.old }
-    requires settled { IsSettled parts.old }
+    requires calm { IsCalm parts.old }
+    requires few { length parts.old.inputs < 2 ^ 62 }
     ensures stands { Stands parts.new }
     ensures inputs { OnOk result (parts.new.inputs ≡ parts.old.inputs ++ input.now ∷ []) }
     ensures same { OnErr result (parts.new.inputs ≡ parts.old.inputs) }
     ensures added { parts.new.added ≡ parts.old.added }
     ensures setup { setup_of parts.new.world ≡ setup_of parts.old.world }
 {
-    let Some(dealt) = parts.dealt.checked_add(1) else {
-        return Err(AllocError);
-    };
     let newest = deal(
         alloc,
         &mut parts.world,
@@ -175,7 +228,7 @@ pub(crate) fn deal_with<P: Placing>(
         &parts.added,
     )?;
     parts.end += count_of(input, &newest);
-    parts.dealt = dealt;
+    parts.dealt += 1;
     parts.newest = Some(newest);
     parts.inputs.push(input);
     Ok(())

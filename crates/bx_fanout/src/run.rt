@@ -1,16 +1,18 @@
 //! Several inputs, one after another.
 ghost use Rattle.bx_fanout.specs.Parts.{IsSettled, Stands};
-ghost use Rattle.bx_fanout.specs.Rounds.{IsRun, Runs};
-ghost use Rattle.std.specs.Prelude.{◌≤◌};
+ghost use Rattle.bx_fanout.specs.Runs.{IsRun, Runs};
+ghost use Rattle.std.specs.Prelude.{◌+◌, ◌≤◌, ◌^◌, length};
 
 use crate::out::{Out, RoundFault};
 use crate::parts::{Parts, deal_with, settle};
+use crate::pass_over::catch_up;
 use bx_entry::{Input, Placing};
 use bx_workers::Gate;
 use std::alloc::Global;
 use std::thread::Threads;
 
-/// Deals with these inputs in order, and adds the outs of each before it goes on to the next.
+/// Deals with these inputs in order, and adds the outs of each before it goes on to the next. At the end all shards are
+/// brought up.
 pub(crate) fn run<R: Threads + Sync, G: Gate + Sync, P: Placing + Send + Sync>(
     rt: &R,
     alloc: Global,
@@ -23,6 +25,7 @@ pub(crate) fn run<R: Threads + Sync, G: Gate + Sync, P: Placing + Send + Sync>(
     requires some_worker { 1 ≤ workers }
     requires workers_in_range { workers ≤ 16 }
     requires stands { Stands parts.old }
+    requires few { length parts.old.inputs + length inputs.now ≤ 2 ^ 62 }
     ensures stands { Stands parts.new }
     ensures runs { Runs parts.old inputs.now outs.old.items outs.new.items parts.new result }
 {
@@ -38,6 +41,11 @@ pub(crate) fn run<R: Threads + Sync, G: Gate + Sync, P: Placing + Send + Sync>(
                 admitted: index + 1,
             });
         }
+    }
+    if catch_up(rt, alloc, gate, workers, parts).is_err() {
+        return Err(RoundFault::Memory {
+            admitted: inputs.len(),
+        });
     }
     Ok(())
 }
@@ -55,6 +63,7 @@ pub(crate) fn run_all<R: Threads + Sync, G: Gate + Sync, P: Placing + Send + Syn
     requires some_worker { 1 ≤ workers }
     requires workers_in_range { workers ≤ 16 }
     requires stands { Stands parts.old }
+    requires few { length parts.old.inputs + length inputs.now ≤ 2 ^ 62 }
     ensures stands { Stands parts.new }
     ensures run { IsRun parts.old inputs.now outs.old.items outs.new.items parts.new result }
 {

@@ -22,3 +22,4 @@ pub mod Senders
 pub mod Closings
 pub mod Written
 pub mod ReadBack
+pub mod Lines

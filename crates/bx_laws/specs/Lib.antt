@@ -5,3 +5,4 @@ pub mod Readings
 pub mod Events
 pub mod Outs
 pub mod ReadBack
+pub mod Lines

@@ -477,7 +477,7 @@ ScriptLines =
 abbrev pub LineForms : Type 0
 LineForms =
     map (line_of body_taken) (codes "007 T" ∷ codes "7 T " ∷ codes "x" ∷ codes "0 P" ∷ codes "18446744073709551616 T" ∷ codes "0 S 64" ∷ codes "0 S 65" ∷ [] ∷ [])
-    ≡ Handed None (Tick 7) ∷ Bad ∷ Bad ∷ Bad ∷ Bad ∷ Resharded ∷ Bad ∷ Bad ∷ []
+    ≡ Handed None (Tick 7) ∷ Bad ∷ Bad ∷ Bad ∷ Bad ∷ Resharded 64 ∷ Bad ∷ Bad ∷ []
 
 -- what lines print: an answer comes with the line that gives it, and the lines that are held come last
 abbrev pub ScriptPrinted : Type 0

@@ -2,6 +2,7 @@
 ghost use Rattle.bx_laws.specs.Laws.{DoneNeverFalls, CountsAgree, EntriesInOrder, AnswersStay, BatchRepeats, NeverGivenAgain, NoEventTwice, GivenOnce};
 ghost use Rattle.bx_laws.specs.Readings.{LiveReading, InForceReading, HeldReading, EndingReading, OverflowReading, QueueBounded, DueReading, ClockReading, SameLive, AcceptedWhileLive, ClosedIsOver};
 ghost use Rattle.bx_laws.specs.Events.{EventsWerePublished, PublishesAreEvents, EventsRise, GivenWasPublished};
+ghost use Rattle.bx_laws.specs.Lines.{HeldComeLast, InputsGoOn, LinesGoOn};
 ghost use Rattle.bx_laws.specs.Outs.{OutsGrow};
 ghost use Rattle.bx_entry.specs.Keeping.{KeptSteps, KeptRuns, KeptInBounds};
 ghost use Rattle.bx_laws.specs.ReadBack.{RepliesReadBack, EventsReadBack, BodiesReadBack};
@@ -155,4 +156,19 @@ pub fn events_read_back()
 /// The text of a response reads as the array of what its items read as.
 pub fn bodies_read_back()
     ensures { BodiesReadBack }
+{}
+
+/// One more line of a script puts its input, if it is one, behind those before it.
+pub fn inputs_go_on()
+    ensures { InputsGoOn }
+{}
+
+/// What one more line of a script prints stands behind what the lines before it print.
+pub fn lines_go_on()
+    ensures { LinesGoOn }
+{}
+
+/// The lines that are held stand behind all that a script's lines print.
+pub fn held_come_last()
+    ensures { HeldComeLast }
 {}

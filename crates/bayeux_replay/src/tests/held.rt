@@ -29,7 +29,7 @@ const HOLDS: [Run; 5] = [
     (
         "lines that are refused end no hold",
         "0 P [<handshake>]\n1 P [<connect 1>]\nx\n2 P [{\n2 P [<disconnect 2>]\n40000 S 3\n",
-        "1 200 [<opened 1>]\n3 bad\n4 400\n5 200 [<unknown /meta/disconnect>]\n6 bad\n2 held\n",
+        "1 200 [<opened 1>]\n3 bad\n4 400\n5 200 [<unknown /meta/disconnect>]\n2 held\n",
     ),
 ];
 

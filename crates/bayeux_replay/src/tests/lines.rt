@@ -30,7 +30,7 @@ const RUNS: [Run; 8] = [
     (
         "lines of another form, an empty body, no object",
         "x\n0 P\n0 P \n\n0 P [1]\n0 S 5\n-1 P []\n P []\n0  P []\n",
-        "1 bad\n2 bad\n3 400\n4 bad\n5 400\n6 bad\n7 bad\n8 bad\n9 bad\n",
+        "1 bad\n2 bad\n3 400\n4 bad\n5 400\n7 bad\n8 bad\n9 bad\n",
     ),
     (
         "lines that are not quite ticks",

@@ -1,7 +1,6 @@
-use Rattle.std.proofs.Common.{◌≡◌, ◌++◌, arith, ◌∙◌, List, None, Option, Some, ap, length, map, refl, subst, sym}
+use Rattle.std.proofs.Common.{◌≡◌, ◌++◌, arith, ◌∙◌, List, Option, ap, length, map, subst, sym}
 use Rattle.std.proofs.lemmas.List.{map-append}
 use Rattle.bx_entry.specs.Requests.{read_input}
-use Rattle.bx_entry.specs.Runs as runs
 use Rattle.bx_fanout.specs.Stages.{IsGiving, IsStaged, seen_out}
 use Rattle.bx_fanout.specs.declared.out.Out.{Out}
 use Rattle.bx_fanout.specs.declared.newest.Newest.{Newest}
@@ -19,7 +18,7 @@ returns-clause-stands g c =
     let desk = c.give_out-given.new.desk in
     let whole = c.give_out-given.new.whole in
     let inputs = map read_input p.inputs in
-    let giving = giving-at (setup_of w) inputs (world_of w) p.desk p.newest p.whole (map seen_out p.added) c.requires.done.none i.staged in
+    let giving = giving-at (setup_of w) inputs (world_of w) p.desk p.newest p.whole (map seen_out p.added) c.requires.done i.staged in
     let out = giving-out (setup_of w) inputs (world_of w) p.desk desk p.whole whole c.args.outs.now.items c.give_out-given.new.outs.items (map seen_out p.added) giving gives in
     let at : c.len-count.result ≡ length c.args.outs.now.items = omega (arith, c.args.outs.now.ok.0, c.len-count.ensures) in
     let more : c.append.new.self ≡ p.added ++ gives.more =
@@ -30,6 +29,6 @@ returns-clause-stands g c =
       counted = i.counted;
       ended = i.ended;
       staged =
-          subst (λ (o : Option Newest). IsStaged (setup_of w) inputs (world_of w) desk o whole (map seen_out c.append.new.self)) (sym c.requires.done.none)
+          subst (λ (o : Option Newest). IsStaged (setup_of w) inputs (world_of w) desk o whole (map seen_out c.append.new.self)) (sym c.requires.done)
           (subst (IsGiving (setup_of w) inputs (world_of w) desk whole) added out);
     }

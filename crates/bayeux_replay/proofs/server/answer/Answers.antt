@@ -1,0 +1,74 @@
+use Rattle.std.proofs.Common.{◌≡◌, ◌+◌, ◌<◌, [], ℕ, codes, decimal, refl, ap, arith}
+use Rattle.std.specs.BTreeMap.{get}
+use Rattle.std.specs.Ordering.{nat_cmp}
+use Rattle.bayeux_replay.specs.Serving.{seen_lines}
+use Rattle.bx_entry.specs.Replay.{line_text}
+use Rattle.bx_fanout.specs.Rounds.{added_by, inputs_of, setup_in}
+use Rattle.bx_script.specs.declared.line.Line.{Line}
+use Rattle.bayeux_replay.proofs.Keeping.{appends_none}
+use Rattle.bayeux_replay.proofs.Steps.{added_dealt, dealt_line, few_dealt, handed_dealt, handed_prints, keeps_dealt, prints_bare}
+use Rattle.bayeux_replay.proofs.server.answer.Goals as goal
+
+pub hand-requires-clause-few : goal.hand-requires-clause-few
+hand-requires-clause-few g c κs within =
+    let s = c.args.server in
+    omega (arith, few_dealt (setup_in s.round).config (seen_lines s.lines) (inputs_of s.round) (added_by s.round) (get nat_cmp s.kept) s.number c.requires.serves, c.requires.few)
+
+pub hand-requires-clause-added : goal.hand-requires-clause-added
+hand-requires-clause-added g c κs within =
+    let s = c.args.server in
+    added_dealt (setup_in s.round).config (seen_lines s.lines) (inputs_of s.round) (added_by s.round) (get nat_cmp s.kept) s.number c.requires.serves
+
+pub hand-requires-clause-kept : goal.hand-requires-clause-kept
+hand-requires-clause-kept g c κs within =
+    let s = c.args.server in
+    keeps_dealt (setup_in s.round).config (seen_lines s.lines) (inputs_of s.round) (added_by s.round) (get nat_cmp s.kept) s.number c.requires.serves
+
+pub returns-in_ok-write_bad-in-Bad-clause-serves :
+    goal.returns-in_ok-write_bad-in-Bad-clause-serves
+returns-in_ok-write_bad-in-Bad-clause-serves g c =
+    let s = c.args.server in
+    dealt_line (setup_in s.round).config s.lines c.push.new.self c.args.line Line.Bad (inputs_of s.round) (added_by s.round) (get nat_cmp s.kept) s.number c.push.ensures c.in-Bad.is (λ n. refl) c.requires.serves
+
+pub returns-in_ok-write_bad-in-Bad-clause-prints :
+    goal.returns-in_ok-write_bad-in-Bad-clause-prints
+returns-in_ok-write_bad-in-Bad-clause-prints g c =
+    let s = c.args.server in
+    prints_bare (setup_in s.round).config s.lines c.push.new.self c.args.line Line.Bad [] (line_text (s.number + 1) (codes "bad")) (g.W.Write.contents c.args.writer.now) (g.W.Write.contents c.write_bad.new.writer)
+    (setup_in s.round).config.limits.some_batch c.push.ensures c.in-Bad.is tt (ap (λ (n : ℕ). line_text (n + 1) (codes "bad")) c.requires.serves.number_is) c.in_ok-write_bad-in-Bad.ensures.text
+
+pub returns-in_ok-write_status-in-Turned-clause-serves :
+    goal.returns-in_ok-write_status-in-Turned-clause-serves
+returns-in_ok-write_status-in-Turned-clause-serves g c =
+    let s = c.args.server in
+    dealt_line (setup_in s.round).config s.lines c.push.new.self c.args.line (Line.Turned c.in-Turned.status) (inputs_of s.round) (added_by s.round) (get nat_cmp s.kept) s.number c.push.ensures c.in-Turned.is (λ n. refl) c.requires.serves
+
+pub returns-in_ok-write_status-in-Turned-clause-prints :
+    goal.returns-in_ok-write_status-in-Turned-clause-prints
+returns-in_ok-write_status-in-Turned-clause-prints g c =
+    let s = c.args.server in
+    prints_bare (setup_in s.round).config s.lines c.push.new.self c.args.line (Line.Turned c.in-Turned.status) [] (line_text (s.number + 1) (decimal c.in-Turned.status)) (g.W.Write.contents c.args.writer.now) (g.W.Write.contents c.write_status.new.writer)
+    (setup_in s.round).config.limits.some_batch c.push.ensures c.in-Turned.is tt (ap (λ (n : ℕ). line_text (n + 1) (decimal c.in-Turned.status)) c.requires.serves.number_is) c.in_ok-write_status-in-Turned.ensures.text
+
+pub returns-in_ok-hand-in-Handed-clause-serves : goal.returns-in_ok-hand-in-Handed-clause-serves
+returns-in_ok-hand-in-Handed-clause-serves g c =
+    let s = c.args.server in
+    handed_dealt s.round c.hand.new.round s.lines c.push.new.self c.args.line c.in-Handed.callback c.in-Handed.input (g.W.Write.contents c.args.writer.now) (g.W.Write.contents c.hand.new.writer)
+    (get nat_cmp s.kept) (get nat_cmp c.hand.new.kept) s.number c.requires.serves c.in_ok-hand-in-Handed.ensures c.push.ensures c.in-Handed.is
+
+pub returns-in_ok-hand-in-Handed-clause-prints : goal.returns-in_ok-hand-in-Handed-clause-prints
+returns-in_ok-hand-in-Handed-clause-prints g c =
+    let s = c.args.server in
+    handed_prints s.round c.hand.new.round s.lines c.push.new.self c.args.line c.in-Handed.callback c.in-Handed.input (g.W.Write.contents c.args.writer.now) (g.W.Write.contents c.hand.new.writer)
+    (get nat_cmp s.kept) (get nat_cmp c.hand.new.kept) s.number (setup_in c.hand.new.round).config.limits.some_batch c.requires.serves c.in_ok-hand-in-Handed.ensures c.push.ensures c.in-Handed.is
+
+pub returns-in-Resharded-clause-serves : goal.returns-in-Resharded-clause-serves
+returns-in-Resharded-clause-serves g c =
+    let s = c.args.server in
+    dealt_line (setup_in s.round).config s.lines c.push.new.self c.args.line (Line.Resharded c.in-Resharded.shards) (inputs_of s.round) (added_by s.round) (get nat_cmp s.kept) s.number c.push.ensures c.in-Resharded.is (λ n. refl) c.requires.serves
+
+pub returns-in-Resharded-clause-prints : goal.returns-in-Resharded-clause-prints
+returns-in-Resharded-clause-prints g c =
+    let s = c.args.server in
+    let writer = g.W.Write.contents c.args.writer.now in
+    prints_bare (setup_in s.round).config s.lines c.push.new.self c.args.line (Line.Resharded c.in-Resharded.shards) [] [] writer writer (setup_in s.round).config.limits.some_batch c.push.ensures c.in-Resharded.is tt refl (appends_none writer)

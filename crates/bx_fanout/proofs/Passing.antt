@@ -1,0 +1,94 @@
+-- An input that is whole at once, while the shards stay behind.
+use Rattle.std.proofs.Common.{◌≡◌, ℕ, ◌<◌, List, [], ◌∷◌, ◌++◌, length, map, refl, sym, ap, subst, ◌∙◌, arith, Option, Some, None, add-one}
+use Rattle.bx_entry.specs.Inputs.{ReadInput}
+use Rattle.bx_entry.specs.Requests.{read_input}
+use Rattle.bx_entry.specs.Runs as runs
+use Rattle.bx_entry.specs.declared.Placing.{Ghosts}
+use Rattle.bx_entry.specs.declared.entry.Slot.{Slot}
+use Rattle.bx_entry.specs.declared.entry.Slot.TheVariants.{Ready}
+use Rattle.bx_message.specs.declared.reply.Answer.{Answer}
+use Rattle.bx_shard.specs.Shards.{Setup}
+use Rattle.bx_world.specs.Headline.{EachSlot}
+use Rattle.bx_world.specs.Seen.{setup_of, world_of}
+use Rattle.bx_world.specs.Worlds.{WorldState, given_of}
+use Rattle.bx_fanout.specs.Desks.{Row}
+use Rattle.bx_fanout.specs.Newests.{Collects, IsCollected, NextBy, NextReady, NoneTakenFrom, next_place}
+use Rattle.bx_fanout.specs.Parts.{Stands}
+use Rattle.bx_fanout.specs.Stages.{IsCollecting, IsDealt, IsGiving, IsStaged, seen_out}
+use Rattle.bx_fanout.specs.declared.newest.Newest.{Newest}
+use Rattle.bx_fanout.specs.declared.parts.Parts.{Parts}
+use Rattle.bx_fanout.proofs.Collecting.{collected-more}
+use Rattle.bx_fanout.proofs.Dealing.{collected-dealt, fresh-behind}
+use Rattle.bx_fanout.proofs.Finishing.{dealt-at}
+use Rattle.bx_fanout.proofs.Stages.{giving-whole}
+
+-- a reply that is there is the answer, whatever the shards have applied
+next-at-once : (setup : Setup) (w : WorldState) (place : ℕ) (before after : List Slot) (a : Answer) → EachSlot setup w.list place before → NoneTakenFrom place w.taken → NextReady before after (Some a) → NextBy setup w place before after w (Some a)
+next-at-once setup w place before after a each fresh next =
+    let slots : EachSlot setup w.list place (Ready a.reply ∷ after) = subst (EachSlot setup w.list place) next.0 each in
+    let bare : record { events = []; reply = a.reply } ≡ a = ap (λ es. record a { events = es }) (sym next.1) in (
+      ap (λ o. elim o [ None ↦ None | Some p ↦ Some (given_of p) ]) slots.0 ∙ ap (λ (b : Answer). Some b) bare,
+      slots.1,
+      ap (λ (ss : List Slot). length ss) next.0 ∙ sym (add-one (length after)),
+      (λ p le. fresh p (omega arith)),
+      record { list = refl; applied = refl; earlier = λ p less. refl },
+    )
+
+-- one more reply
+pub collected-ready : (setup : Setup) (w : WorldState) (n m : Newest) (a : Answer) → IsCollected setup w n → NextReady n.slots.items m.slots.items (Some a) → m.first ≡ n.first → m.answers.items ≡ n.answers.items ++ a ∷ [] → IsCollected setup w m
+collected-ready setup w n m a so_far next first answers =
+    collected-more setup w w n m a so_far (next-at-once setup w (next_place n) n.slots.items m.slots.items a so_far.slots so_far.fresh next) first answers
+
+-- more replies were collected
+pub dealt-ready : (setup : Setup) (inputs : List ReadInput) (w : WorldState) (rows : List Row) (n m : Newest) (added : List runs.Out) → 0 < setup.config.limits.batch → IsDealt setup inputs w rows n added →
+    (IsCollected setup w n → IsCollected setup w m) → Collects n m → IsDealt setup inputs w rows m added
+dealt-ready setup inputs w rows n m added batch d so_far collects =
+    collected-dealt setup setup inputs w w rows n m added batch refl d (so_far d.collecting.collected) (record { list = refl; applied = refl; earlier = λ p less. refl }) collects
+
+giving-alone : (setup : Setup) (inputs : List ReadInput) (input : ReadInput) (w : WorldState) (rows : List Row) (n : Newest) (added : List runs.Out) → 0 < setup.config.limits.batch → rows ≡ [] → IsCollecting setup inputs input w rows n added →
+    n.slots.items ≡ [] → IsGiving setup (inputs ++ input ∷ []) w rows (Some n) added
+giving-alone setup inputs input w [] n added batch bare c none =
+    giving-whole setup inputs input w w [] [] n added batch c none (record { list = refl; applied = refl; rows = refl; untaken = tt; fresh = fresh-behind setup inputs input w [] n added c })
+giving-alone setup inputs input w (row ∷ rows) n added batch bare c none = cc
+
+-- where no connect is held and all are replies, the input is whole
+pub giving-at-once : (setup : Setup) (inputs : List ReadInput) (w : WorldState) (rows : List Row) (n : Newest) (added : List runs.Out) → 0 < setup.config.limits.batch → rows ≡ [] → IsDealt setup inputs w rows n added →
+    n.slots.items ≡ [] → IsGiving setup inputs w rows (Some n) added
+giving-at-once setup inputs w rows n added batch bare d none =
+    subst (λ (is : List ReadInput). IsGiving setup is w rows (Some n) added) (sym d.are) (giving-alone setup d.earlier d.last w rows n added batch bare d.collecting none)
+
+module _ {P : Type 0} {g : Ghosts P} where
+  -- what stands of the parts stands where more replies were collected
+  pub stands-ready : (p : Parts P g) (n m : Newest) → p.newest ≡ Some n → ((setup : Setup) (w : WorldState) → IsCollected setup w n → IsCollected setup w m) → Collects n m → Stands p → Stands (record p { newest = Some m })
+  stands-ready p n m is so_far collects i =
+      let inputs : List ReadInput = map read_input p.inputs in
+      let staged : IsStaged (setup_of p.world) inputs (world_of p.world) p.desk (Some n) p.whole (map seen_out p.added) =
+      subst (λ (o : Option Newest). IsStaged (setup_of p.world) inputs (world_of p.world) p.desk o p.whole (map seen_out p.added)) is i.staged in
+      record {
+        shards = i.shards;
+        counted = i.counted;
+        ended = i.ended;
+        staged = (
+          dealt-ready (setup_of p.world) inputs (world_of p.world) p.desk n m (map seen_out p.added) p.world.admission.config.limits.some_batch staged.0 (so_far (setup_of p.world) (world_of p.world)) collects,
+          staged.1,
+        );
+      }
+
+  -- and where the input is whole with them, and no connect is held
+  pub stands-whole : (p : Parts P g) (n m : Newest) (last : Option Newest) (behind : ℕ) → p.newest ≡ Some n → last ≡ None → p.desk ≡ [] → ((setup : Setup) (w : WorldState) → IsCollected setup w n → IsCollected setup w m) → Collects n m →
+      m.slots.items ≡ [] → Stands p → Stands (record p { newest = last; whole = Some m; behind = behind })
+  stands-whole p n m last behind is gone bare so_far collects none i =
+      let inputs : List ReadInput = map read_input p.inputs in
+      let added : List runs.Out = map seen_out p.added in
+      let batch = p.world.admission.config.limits.some_batch in
+      let dealt : IsDealt (setup_of p.world) inputs (world_of p.world) p.desk n added = dealt-at (setup_of p.world) inputs (world_of p.world) p.desk p.newest n p.whole added is i.staged in
+      let more : IsDealt (setup_of p.world) inputs (world_of p.world) p.desk m added =
+      dealt-ready (setup_of p.world) inputs (world_of p.world) p.desk n m added batch dealt (so_far (setup_of p.world) (world_of p.world)) collects in
+      record {
+        shards = i.shards;
+        counted = i.counted;
+        ended = i.ended;
+        staged =
+            subst (λ (o : Option Newest). IsStaged (setup_of p.world) inputs (world_of p.world) p.desk o (Some m) added) (sym gone)
+            (giving-at-once (setup_of p.world) inputs (world_of p.world) p.desk m added batch bare more none);
+      }

@@ -1,0 +1,94 @@
+-- What stands of a round's parts is a fact: what else it speaks of is determined by them.
+use Rattle.std.specs.Prelude.{ℕ, ◌+◌, ◌≡◌, List, [], ◌∷◌, ◌++◌, Option, Some, None}
+use Rattle.std.specs.Coded.{×_prop, Unit-prop}
+use Rattle.std.proofs.Common.{refl, sym, ap, ◌∙◌}
+use Rattle.std.proofs.Props.{props}
+use Rattle.std.proofs.lemmas.List.{same_from_push}
+use mathlib.Core.HLevel.{Σ_prop_path}
+use Rattle.bx_advice.specs.declared.config.Config.{Config}
+use Rattle.bx_entry.specs.Inputs.{ReadInput}
+use Rattle.bx_entry.specs.Listing.{Listed}
+use Rattle.bx_entry.specs.Registry.{Waiting}
+use Rattle.bx_entry.specs.Runs as runs
+use Rattle.bx_entry.specs.declared.Placing.{Ghosts}
+use Rattle.bx_entry.specs.declared.entry.Slot.{Slot}
+use Rattle.bx_entry.specs.declared.entry.Slot.TheVariants as answers
+use Rattle.bx_entry.specs.declared.entry.Ticket.{Ticket}
+use Rattle.bx_message.specs.declared.reply.Answer.{Answer}
+use Rattle.bx_shard.specs.Shards.{Setup}
+use Rattle.bx_world.specs.Headline.{EachSlot, IsSlot, IsTicket, slot_at}
+use Rattle.bx_world.specs.Worlds.{WorldState}
+use Rattle.bx_fanout.specs.Desks.{Row}
+use Rattle.bx_fanout.specs.Newests.{AreAnswers}
+use Rattle.bx_fanout.specs.Parts.{Stands}
+use Rattle.bx_fanout.specs.Stages.{IsCollecting, IsDealt, IsStaged}
+use Rattle.bx_fanout.specs.declared.newest.Newest.{Newest}
+use Rattle.bx_fanout.specs.declared.parts.Parts.{Parts}
+
+-- ---- facts of what is determined
+
+-- a fact of something that it determines
+one-prop : {A : Type 0} (P : A → Type 0) → ((x : A) → IsProp (P x)) → ((x y : A) → P x → P y → x ≡ y) → IsProp ((x : A) × P x)
+one-prop P each same u v = Σ_prop_path each (same u.0 v.0 u.1 v.1)
+
+-- what goes to a fact and back is one
+back-prop : {A B : Type 0} (to : A → B) (from : B → A) → ((x : A) → from (to x) ≡ x) → IsProp B → IsProp A
+back-prop to from back fact x y = sym (back x) ∙ ap from (fact (to x) (to y)) ∙ back y
+
+-- ---- answers and slots
+
+answers-prop : (config : Config) (list : List Listed) (place : ℕ) (answers : List Answer) → IsProp (AreAnswers config list place answers)
+answers-prop config list place [] = Unit-prop
+answers-prop config list place (a ∷ answers) = ×_prop (hlevel props) (answers-prop config list (place + 1) answers)
+
+-- a ticket of a session
+abbrev Tickets : Setup → List Listed → ℕ → Ticket → ℕ → Type 0
+Tickets setup list here t session = (slot_at setup.config list here ≡ Some (Waiting session)) × (t.place ≡ here) × (t.shard ≡ setup.placing session setup.shards)
+
+same-session : (m n : ℕ) → Some (Waiting m) ≡ Some (Waiting n) → m ≡ n
+same-session m n e = cc
+
+ticket-prop : (setup : Setup) (list : List Listed) (here : ℕ) (t : Ticket) → IsProp (IsTicket setup list here t)
+ticket-prop setup list here t = back-prop {B = (session : ℕ) × Tickets setup list here t session}
+    (λ k. (k.session, (k.waits, k.place, k.shard)))
+    (λ p. record { session = p.0; waits = p.1.0; place = p.1.1; shard = p.1.2 })
+    (λ k. refl)
+    (one-prop (Tickets setup list here t) (λ session. hlevel props) (λ m n p q. same-session m n (sym p.0 ∙ q.0)))
+
+slot-prop : (setup : Setup) (list : List Listed) (place : ℕ) (slot : Slot) → IsProp (IsSlot setup list place slot)
+slot-prop setup list place (answers.Ready reply) = hlevel props
+slot-prop setup list place (answers.Waiting ticket) = ticket-prop setup list place ticket
+
+slots-prop : (setup : Setup) (list : List Listed) (place : ℕ) (slots : List Slot) → IsProp (EachSlot setup list place slots)
+slots-prop setup list place [] = Unit-prop
+slots-prop setup list place (slot ∷ slots) = ×_prop (slot-prop setup list place slot) (slots-prop setup list (place + 1) slots)
+
+-- ---- the last input
+
+-- two ways to take the last one off are the same
+same-ends : (xs ys : List ReadInput) (x y : ReadInput) → xs ++ x ∷ [] ≡ ys ++ y ∷ [] → ◌≡◌ {A = List ReadInput × ReadInput} (xs, x) (ys, y)
+same-ends xs ys x y e = let same = same_from_push xs ys x y e in λ i. (same.0 i, same.1 i)
+
+collecting-prop : (setup : Setup) (inputs : List ReadInput) (input : ReadInput) (w : WorldState) (rows : List Row) (n : Newest) (added : List runs.Out) → IsProp (IsCollecting setup inputs input w rows n added)
+collecting-prop setup inputs input w rows n added = hlevel (answers-prop, slots-prop, props)
+
+abbrev Deals : Setup → List ReadInput → WorldState → List Row → Newest → List runs.Out → List ReadInput × ReadInput → Type 0
+Deals setup inputs w rows n added ends = (inputs ≡ ends.0 ++ ends.1 ∷ []) × IsCollecting setup ends.0 ends.1 w rows n added
+
+dealt-prop : (setup : Setup) (inputs : List ReadInput) (w : WorldState) (rows : List Row) (n : Newest) (added : List runs.Out) → IsProp (IsDealt setup inputs w rows n added)
+dealt-prop setup inputs w rows n added = back-prop {B = (ends : List ReadInput × ReadInput) × Deals setup inputs w rows n added ends}
+    (λ d. ((d.earlier, d.last), (d.are, d.collecting)))
+    (λ p. record { earlier = p.0.0; last = p.0.1; are = p.1.0; collecting = p.1.1 })
+    (λ d. refl)
+    (one-prop (Deals setup inputs w rows n added)
+    (λ ends. hlevel (collecting-prop, props))
+    (λ a b p q. same-ends a.0 b.0 a.1 b.1 (sym p.0 ∙ q.0)))
+
+-- ---- all that stands
+
+staged-prop : (setup : Setup) (inputs : List ReadInput) (w : WorldState) (rows : List Row) (newest whole : Option Newest) (added : List runs.Out) → IsProp (IsStaged setup inputs w rows newest whole added)
+staged-prop setup inputs w rows None whole added = hlevel props
+staged-prop setup inputs w rows (Some n) whole added = hlevel (dealt-prop, props)
+
+pub stands-prop : {P : Type 0} {g : Ghosts P} (p : Parts P g) → IsProp (Stands p)
+stands-prop p = hlevel (staged-prop, props)

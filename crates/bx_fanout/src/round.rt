@@ -1,0 +1,101 @@
+//! Inputs dealt with in order, over several runs.
+ghost use Rattle.std.specs.Prelude.{◌≤◌};
+ghost use Rattle.bx_fanout.specs.Parts.{Stands};
+ghost use Rattle.bx_fanout.specs.Props.{stands-prop};
+
+use crate::out::{Out, RoundFault};
+use crate::parts::{Parts, new_parts};
+use crate::run::run_all;
+use bx_advice::Config;
+use bx_entry::{Input, Placing};
+use bx_workers::Gate;
+use std::alloc::{AllocError, Global};
+use std::sync::Arc;
+use std::thread::Threads;
+
+/// Inputs dealt with in order, each answered as one thread would answer it, by many workers.
+///
+/// Contracts see the configuration with its placing, the inputs that all runs dealt with, and the outs that all runs
+/// added.
+#[derive(Drop)]
+pub struct Round<P: Placing> {
+    parts: Parts<P>,
+    workers: usize,
+    ghost stands: { Stands parts } by { stands-prop parts },
+    ghost some_worker: { 1 ≤ workers },
+    ghost workers_in_range: { workers ≤ 16 },
+}
+
+impl<P: Placing> Round<P> {
+    ghost use Rattle.std.specs.Prelude.{◌≡◌, ◌+◌, ◌^◌, ◌&&◌, [], is_some, length, nat_le, IfOk, IfSome};
+    ghost use Rattle.std.specs.Arc.{arc_value};
+    ghost use Rattle.bx_entry.specs.Runs as runs;
+    ghost use Rattle.bx_fanout.specs.Rounds.{IsRun, added_by, inputs_of, setup_in};
+    ghost use Rattle.bx_world.specs.Admissions.{placed_by};
+
+    /// A round with so many workers, 1 to 16, that has dealt with no input. None where the workers are not so many.
+    pub fn new(
+        alloc: Global,
+        config: Config,
+        placing: Arc<P>,
+        workers: usize,
+    ) -> Result<Option<Round<P>>, AllocError>
+    where
+        P: Drop,
+        ensures workers { IfOk result (λ round. is_some round ≡ (nat_le 1 workers && nat_le workers 16)) }
+        ensures inputs { IfOk result (λ round. IfSome round (λ r. inputs_of r ≡ [])) }
+        ensures added { IfOk result (λ round. IfSome round (λ r. added_by r ≡ [])) }
+        ensures setup { IfOk result (λ round. IfSome round (λ r. setup_in r ≡ placed_by config (P.place_of (arc_value placing)))) }
+    {
+        if workers < 1 || workers > 16 {
+            return Ok(None);
+        }
+        let parts = new_parts(alloc, config, placing)?;
+        Ok(Some(Round { parts, workers }))
+    }
+
+    /// Deals with these inputs in order. Each is brought to its end before the next one is dealt with, and the outs of
+    /// those that it makes whole are added behind the others, in the order of their numbers.
+    ///
+    /// While no connect is held, an input whose messages are all answered at once needs no shard: its out is added, and
+    /// the shards apply its entries later. All shards are brought up together before any other input comes to its end,
+    /// after 1,024 such inputs in a row, and at the end of a run that ends well.
+    ///
+    /// Where memory is refused, the fault says how many of these inputs were dealt with. The outs that they still owe are
+    /// added by the next run, also by one of no inputs; none is added twice.
+    pub fn run<R: Threads + Sync, G: Gate + Sync>(
+        &mut self,
+        rt: &R,
+        alloc: Global,
+        gate: &G,
+        inputs: &[Input],
+        outs: &mut Vec<Out>,
+    ) -> Result<(), RoundFault>
+    where
+        P: Send + Sync,
+        requires few { length (inputs_of self.old) + length inputs.now ≤ 2 ^ 62 }
+        ensures { IsRun self.old inputs.now outs.old.items outs.new.items self.new result }
+    {
+        run_all(rt, alloc, gate, self.workers, &mut self.parts, inputs, outs)
+    }
+
+    /// How many inputs all runs dealt with.
+    pub fn dealt(&self) -> usize
+        ensures { result ≡ length (inputs_of self.now) }
+    {
+        self.parts.dealt
+    }
+
+    /// The numbers of the inputs that are not whole, ascending, where the outs of all others were added; so it is after
+    /// every run that ended well. Such an input is a connect that is held.
+    pub fn held(&self, alloc: Global) -> Result<Vec<usize>, AllocError>
+        ensures { IfOk result (λ numbers. added_by self.now ≡ runs.outs (setup_in self.now).config (inputs_of self.now)
+            → numbers.items ≡ runs.held (setup_in self.now).config (inputs_of self.now)) }
+    {
+        let mut numbers = self.parts.desk.numbers(alloc)?;
+        if let Some(newest) = &self.parts.newest {
+            numbers.push(newest.number)?;
+        }
+        Ok(numbers)
+    }
+}

@@ -1,0 +1,5 @@
+use Rattle.bx_laws.proofs.Lines.{held_come_last}
+use Rattle.bx_laws.proofs.laws.held_come_last.Goals as goal
+
+pub returns : goal.returns
+returns c = held_come_last

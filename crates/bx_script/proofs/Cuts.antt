@@ -1,0 +1,132 @@
+-- A list, cut at the first byte of a value.
+use Rattle.std.proofs.Common.{◌≡◌, ℕ, suc, ◌+◌, ◌<◌, ◌≤◌, Bool, true, false, eqb, cond, not, List, [], ◌∷◌, ◌++◌, length, take, drop, refl, sym, ap, ◌∙◌, arith, position, Some, None, ltb, eqb-true, eq-eqb, append-nil, zero, ◌⊎◌, inl, inr}
+use Rattle.std.proofs.lemmas.Bool.{ltb-false}
+use Rattle.std.specs.List.{before_first, after_first, position_or_len, slice_split, onto_first}
+
+module _ (c : ℕ) where
+  abbrev test : ℕ → Bool
+  test x = eqb x c
+
+  -- no byte of the list is c
+  abbrev pub Lacks : List ℕ → Type 0
+  Lacks [] = Unit {0}
+  Lacks (x ∷ xs) = (test x ≡ false) × Lacks xs
+
+  pub position_past : (x : ℕ) (xs : List ℕ) → test x ≡ false → position_or_len test (x ∷ xs) ≡ suc (position_or_len test xs)
+  position_past x xs h = let past : 1 + position_or_len test xs ≡ suc (position_or_len test xs) = omega arith in rw h past
+
+  pub before_past : (x : ℕ) (xs : List ℕ) → test x ≡ false → before_first test (x ∷ xs) ≡ x ∷ before_first test xs
+  before_past x xs h = ap (λ n. take n (x ∷ xs)) (position_past x xs h)
+
+  pub after_past : (x : ℕ) (xs : List ℕ) → test x ≡ false → after_first test (x ∷ xs) ≡ after_first test xs
+  after_past x xs h =
+      let past : position_or_len test (x ∷ xs) + 1 ≡ suc (position_or_len test xs + 1) = omega (arith, position_past x xs h) in
+      ap (λ n. drop n (x ∷ xs)) past
+
+  pub before_at : (x : ℕ) (xs : List ℕ) → test x ≡ true → before_first test (x ∷ xs) ≡ []
+  before_at x xs h = rw h
+
+  pub after_at : (x : ℕ) (xs : List ℕ) → test x ≡ true → after_first test (x ∷ xs) ≡ xs
+  after_at x xs h = rw h
+
+  -- what lacks it goes before
+  pub before_behind : (m xs : List ℕ) → Lacks m → before_first test (m ++ xs) ≡ m ++ before_first test xs
+  before_behind [] xs h = refl
+  before_behind (x ∷ m) xs h = before_past x (m ++ xs) h.0 ∙ ap (λ l. x ∷ l) (before_behind m xs h.1)
+
+  pub after_behind : (m xs : List ℕ) → Lacks m → after_first test (m ++ xs) ≡ after_first test xs
+  after_behind [] xs h = refl
+  after_behind (x ∷ m) xs h = after_past x (m ++ xs) h.0 ∙ after_behind m xs h.1
+
+  -- what stands before it lacks it
+  pub before_lacks : (xs : List ℕ) → Lacks (before_first test xs)
+  before_lacks [] = tt
+  before_lacks (x ∷ xs) = next (before_lacks xs) (test x) refl
+    where
+      next : Lacks (before_first test xs) → (b : Bool) → test x ≡ b → Lacks (take (cond (not b) (1 + position_or_len test xs) 0) (x ∷ xs))
+      next rest true e = tt
+      next rest false e = let past : 1 + position_or_len test xs ≡ suc (position_or_len test xs) = omega arith in rw past (e, rest)
+
+  pub position_within : (xs : List ℕ) → position_or_len test xs ≤ length xs
+  position_within [] = omega arith
+  position_within (x ∷ xs) = next (position_within xs) (test x)
+    where
+      next : position_or_len test xs ≤ length xs → (b : Bool) → cond (not b) (1 + position_or_len test xs) 0 ≤ suc (length xs)
+      next rest true = omega arith
+      next rest false = omega arith
+
+  -- where no index is found, all stands before it
+  pub none_is_all : (xs : List ℕ) → position test xs ≡ None → position_or_len test xs ≡ length xs
+  none_is_all xs h = next (ltb (position_or_len test xs) (length xs)) refl h
+    where
+      next : (b : Bool) → ltb (position_or_len test xs) (length xs) ≡ b → cond b (Some (position_or_len test xs)) None ≡ None → position_or_len test xs ≡ length xs
+      next true e h = absurd (cc)
+      next false e h = omega (arith, position_within xs, ltb-false _ _ e)
+
+  -- up to the first, and it
+  pub taken_through : (xs : List ℕ) → position_or_len test xs < length xs → take (position_or_len test xs + 1) xs ≡ before_first test xs ++ c ∷ []
+  taken_through [] h = absurd (omega arith)
+  taken_through (x ∷ xs) h = next (λ low. taken_through xs low) (test x) refl h
+    where
+      next : (position_or_len test xs < length xs → take (position_or_len test xs + 1) xs ≡ before_first test xs ++ c ∷ [])
+          → (b : Bool) → test x ≡ b → cond (not b) (1 + position_or_len test xs) 0 < suc (length xs)
+          → take (cond (not b) (1 + position_or_len test xs) 0 + 1) (x ∷ xs) ≡ take (cond (not b) (1 + position_or_len test xs) 0) (x ∷ xs) ++ c ∷ []
+      next rest true e low = ap (λ y. y ∷ []) (eqb-true x c e)
+      next rest false e low =
+          let n = position_or_len test xs in
+          let past : 1 + n ≡ suc n = omega arith in
+          let more : 1 + n + 1 ≡ suc (n + 1) = omega arith in
+          ap (λ k. take k (x ∷ xs)) more ∙ ap (λ l. x ∷ l) (rest (omega arith)) ∙ sym (ap (λ k. take k (x ∷ xs) ++ c ∷ []) past)
+
+  -- ---- with it, or without
+
+  pub lacks_taken : (n : ℕ) (xs : List ℕ) → Lacks xs → Lacks (take n xs)
+  lacks_taken zero xs h = tt
+  lacks_taken (suc n) [] h = tt
+  lacks_taken (suc n) (x ∷ xs) h = (h.0, lacks_taken n xs h.1)
+
+  pub before_all : (xs : List ℕ) → Lacks xs → before_first test xs ≡ xs
+  before_all [] h = refl
+  before_all (x ∷ xs) h = before_past x xs h.0 ∙ ap (λ l. x ∷ l) (before_all xs h.1)
+
+  pub after_all : (xs : List ℕ) → Lacks xs → after_first test xs ≡ []
+  after_all [] h = refl
+  after_all (x ∷ xs) h = after_past x xs h.0 ∙ after_all xs h.1
+
+  pub split_all : (xs : List ℕ) → Lacks xs → slice_split test xs ≡ xs ∷ []
+  split_all [] h = refl
+  split_all (x ∷ xs) h = rw h.0 (ap (onto_first x) (split_all xs h.1))
+
+  pub split_behind : (m xs : List ℕ) → Lacks m → slice_split test (m ++ c ∷ xs) ≡ m ∷ slice_split test xs
+  split_behind [] xs h = rw (eq-eqb c c refl)
+  split_behind (x ∷ m) xs h = rw h.0 (ap (onto_first x) (split_behind m xs h.1))
+
+  pub before_it : (m xs : List ℕ) → Lacks m → before_first test (m ++ c ∷ xs) ≡ m
+  before_it m xs h = before_behind m (c ∷ xs) h ∙ ap (λ l. m ++ l) (before_at c xs (eq-eqb c c refl)) ∙ append-nil m
+
+  pub after_it : (m xs : List ℕ) → Lacks m → after_first test (m ++ c ∷ xs) ≡ xs
+  after_it m xs h = after_behind m (c ∷ xs) h ∙ after_at c xs (eq-eqb c c refl)
+
+  -- what stands before it, and behind it
+  pub record Parted (xs : List ℕ) : Type 0 where
+    pub front : List ℕ
+    pub back : List ℕ
+    pub lacks : Lacks front
+    pub whole : xs ≡ front ++ c ∷ back
+
+  next_parted : (x : ℕ) (xs : List ℕ) → Lacks xs ⊎ Parted xs → (b : Bool) → test x ≡ b → Lacks (x ∷ xs) ⊎ Parted (x ∷ xs)
+  next_parted x xs rest true e = inr (record { front = []; back = xs; lacks = tt; whole = ap (λ y. y ∷ xs) (eqb-true x c e) })
+  next_parted x xs (inl lacks) false e = inl (e, lacks)
+  next_parted x xs (inr p) false e = inr (record { front = x ∷ p.front; back = p.back; lacks = (e, p.lacks); whole = ap (λ l. x ∷ l) p.whole })
+
+  pub parted : (xs : List ℕ) → Lacks xs ⊎ Parted xs
+  parted [] = inl tt
+  parted (x ∷ xs) = next_parted x xs (parted xs) (test x) refl
+
+pub split_some : (p : ℕ → Bool) (xs : List ℕ) → (a : List ℕ) × (b : List (List ℕ)) × (slice_split p xs ≡ a ∷ b)
+split_some p [] = ([], [], refl)
+split_some p (x ∷ xs) = next (p x) (split_some p xs)
+  where
+    next : (b : Bool) → ((a : List ℕ) × (b : List (List ℕ)) × (slice_split p xs ≡ a ∷ b)) → (a : List ℕ) × (d : List (List ℕ)) × (cond b ([] ∷ slice_split p xs) (onto_first x (slice_split p xs)) ≡ a ∷ d)
+    next true rest = ([], slice_split p xs, refl)
+    next false rest = (x ∷ rest.0, rest.1, ap (onto_first x) rest.2)

@@ -1,0 +1,6 @@
+pub mod Keeping
+pub mod Cuts
+pub mod Parts
+pub mod Says
+pub mod Digits
+pub mod Script

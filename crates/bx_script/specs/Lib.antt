@@ -1,0 +1,5 @@
+pub mod Digits
+pub mod Kept
+pub mod Lines
+pub mod Printing
+pub mod Reading

@@ -1,0 +1,55 @@
+-- How a line is read.
+use Rattle.std.specs.Prelude.{ℕ, ◌≡◌, ◌≢◌, ◌<◌, ◌+◌, Bool, true, false, List, [], length, Option, Some, None, ⊤}
+use Rattle.std.specs.List.{before_first, after_first, position_or_len}
+use Rattle.bx_entry.specs.Replay.{is_newline}
+use Rattle.bx_script.specs.Kept.{kept_with}
+use Rattle.bx_script.specs.declared.part.Step.{Step}
+use Rattle.bx_script.specs.declared.part.Step.TheVariants.{Again, More, Line, End}
+
+-- the first line, and what stands behind it
+abbrev pub first_of : List ℕ → List ℕ
+first_of script = before_first is_newline script
+
+abbrev pub rest_of : List ℕ → List ℕ
+rest_of script = after_first is_newline script
+
+-- what a step made of the bytes that were left, and of what is kept
+abbrev pub PartRead : Step → List ℕ → List ℕ → List ℕ → List ℕ → Type 0
+PartRead Again before after kept now = (after ≡ before) × (now ≡ kept)
+PartRead More before after kept now = (before ≢ []) × (kept_with now (first_of after) ≡ kept_with kept (first_of before)) × (rest_of after ≡ rest_of before)
+PartRead Line before after kept now = (before ≢ []) × (now ≡ kept_with kept (first_of before)) × (after ≡ rest_of before)
+PartRead End before after kept now = (before ≡ []) × (after ≡ before) × (now ≡ kept)
+
+-- the same where the reader's bytes are known
+abbrev pub ReadsPart : Step → Option (List ℕ) → Option (List ℕ) → List ℕ → List ℕ → Type 0
+ReadsPart step None new kept now = ⊤
+ReadsPart step (Some before) None kept now = ⊥
+ReadsPart step (Some before) (Some after) kept now = PartRead step before after kept now
+
+-- there was a line, and what is kept of it; or there was none
+abbrev pub LineRead : Bool → List ℕ → List ℕ → List ℕ → Type 0
+LineRead true before after kept = (before ≢ []) × (kept ≡ kept_with [] (first_of before)) × (after ≡ rest_of before)
+LineRead false before after kept = (before ≡ []) × (after ≡ [])
+
+abbrev pub ReadsLine : Bool → Option (List ℕ) → Option (List ℕ) → List ℕ → Type 0
+ReadsLine found None new kept = ⊤
+ReadsLine found (Some before) None kept = ⊥
+ReadsLine found (Some before) (Some after) kept = LineRead found before after kept
+
+-- a line that was begun
+abbrev pub IsBegun : Bool → List ℕ → List ℕ → Type 0
+IsBegun true before after = before ≢ []
+IsBegun false before after = after ≡ before
+
+-- what is left of a line and what is kept of it, beside all of it
+abbrev pub ReadingOn : Bool → Option (List ℕ) → Option (List ℕ) → List ℕ → Type 0
+ReadingOn began None new kept = ⊤
+ReadingOn began (Some before) None kept = ⊥
+ReadingOn began (Some before) (Some after) kept = IsBegun began before after × (kept_with kept (first_of after) ≡ kept_with [] (first_of before)) × (rest_of after ≡ rest_of before)
+
+-- how many of these bytes stand in the line, and how many are read with its end
+abbrev pub IsCut : List ℕ → ℕ → ℕ → Step → Type 0
+IsCut shown n used Again = ⊥
+IsCut shown n used More = (shown ≢ []) × (n ≡ length shown) × (used ≡ length shown) × (position_or_len is_newline shown ≡ length shown)
+IsCut shown n used Line = (n ≡ position_or_len is_newline shown) × (used ≡ n + 1) × (n < length shown)
+IsCut shown n used End = (shown ≡ []) × (n ≡ 0) × (used ≡ 0)

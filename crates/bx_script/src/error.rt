@@ -1,0 +1,71 @@
+ghost use Rattle.std.specs.Prelude.{◌≡◌, ◌≢◌};
+ghost use Rattle.std.specs.IoError.{error_kind};
+ghost use Rattle.bx_script.specs.declared.error.ScriptFault.TheVariants.{Memory};
+
+use std::alloc::{AllocError, AllocFailed};
+use std::error::Error;
+use std::io::ErrorKind;
+use std::{fmt, io};
+
+/// Why a script is not read on, or what it gives is not written.
+#[derive(Clone, Copy, Debug, PartialEq, Eq)]
+pub enum ScriptFault {
+    /// Memory was refused.
+    Memory,
+    /// A read failed, or it was read as often as it is at most.
+    Read,
+    /// A write failed.
+    Write,
+}
+
+impl ScriptFault {
+    /// What a failed read comes to: `Memory` where it says so, else `Read`.
+    pub fn of_read(error: &io::Error) -> ScriptFault
+        ensures memory { error_kind error.now ≡ ErrorKind.OutOfMemory → result ≡ ScriptFault.Memory }
+        ensures other { error_kind error.now ≢ ErrorKind.OutOfMemory → result ≡ ScriptFault.Read }
+    {
+        match error.kind() {
+            ErrorKind::OutOfMemory => ScriptFault::Memory,
+            _ => ScriptFault::Read,
+        }
+    }
+
+    /// What a failed write comes to: `Memory` where it says so, else `Write`.
+    pub fn of_write(error: &io::Error) -> ScriptFault
+        ensures memory { error_kind error.now ≡ ErrorKind.OutOfMemory → result ≡ ScriptFault.Memory }
+        ensures other { error_kind error.now ≢ ErrorKind.OutOfMemory → result ≡ ScriptFault.Write }
+    {
+        match error.kind() {
+            ErrorKind::OutOfMemory => ScriptFault::Memory,
+            _ => ScriptFault::Write,
+        }
+    }
+}
+
+impl fmt::Display for ScriptFault {
+    fn fmt<W: fmt::Write>(&self, f: &mut fmt::Formatter<W>) -> fmt::Result {
+        f.write_str(match self {
+            ScriptFault::Memory => "out of memory",
+            ScriptFault::Read => "read fault",
+            ScriptFault::Write => "write fault",
+        })
+    }
+}
+
+impl Error for ScriptFault {}
+
+impl From<AllocError> for ScriptFault {
+    ghost from_gives = { λ _ e. e ≡ Memory };
+
+    fn from(_refused: AllocError) -> ScriptFault {
+        ScriptFault::Memory
+    }
+}
+
+impl<T: Drop> From<AllocFailed<T>> for ScriptFault {
+    ghost from_gives = { λ _ e. e ≡ Memory };
+
+    fn from(_refused: AllocFailed<T>) -> ScriptFault {
+        ScriptFault::Memory
+    }
+}

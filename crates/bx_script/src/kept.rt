@@ -1,0 +1,62 @@
+//! What is kept of a line.
+ghost use Rattle.std.specs.Prelude.{◌≡◌, ◌<◌, OnOk, vec_len, if◌then◌else◌};
+ghost use Rattle.bx_script.specs.Kept.{is_lone_zero, kept_with, without_zeros};
+
+use bx_advice::BODY_LIMIT;
+use std::alloc::AllocError;
+
+/// How many bytes of a line are kept at most. A body or a query of a longer one is too large by any line's
+/// head: at most 20 digits behind a zero, a letter, two spaces.
+pub(crate) const KEPT_LIMIT: usize = BODY_LIMIT + 32;
+
+// Keeps a further part of the line.
+pub(crate) fn keep(kept: &mut Vec<u8>, part: &[u8]) -> Result<(), AllocError>
+    ensures { OnOk result (kept.new.items ≡ kept_with kept.old.items part.now) }
+{
+    let Some((first, rest)) = part.split_first() else {
+        return Ok(());
+    };
+    if !kept.is_empty() {
+        return keep_on(kept, part);
+    }
+    kept.push(*first)?;
+    keep_on(kept, rest)
+}
+
+// The same behind a byte that is kept.
+fn keep_on(kept: &mut Vec<u8>, part: &[u8]) -> Result<(), AllocError>
+    requires { 0 < vec_len kept.old }
+    ensures { OnOk result (kept.new.items ≡ kept_with kept.old.items part.now) }
+{
+    let part = told_by(kept.as_slice(), part);
+    let room = KEPT_LIMIT.saturating_sub(kept.len()).min(part.len());
+    kept.extend_from_slice(&part[..room])
+}
+
+// What of a part tells something behind what is kept: zeros behind a lone zero don't.
+fn told_by<'a>(kept: &[u8], part: &'a [u8]) -> &'a [u8]
+    ensures { result.now ≡ (if is_lone_zero kept.now then without_zeros part.now else part.now) }
+{
+    if is_lone_zero(kept) {
+        without_zeros(part)
+    } else {
+        part
+    }
+}
+
+// What stands behind the zeros at the beginning.
+fn without_zeros(part: &[u8]) -> &[u8]
+    ensures { result.now ≡ without_zeros part.now }
+{
+    let mut rest = part;
+    while let Some(behind) = rest.strip_prefix(b"0") {
+        rest = behind;
+    }
+    rest
+}
+
+fn is_lone_zero(kept: &[u8]) -> bool
+    ensures { result ≡ is_lone_zero kept.now }
+{
+    matches!(kept, [b'0'])
+}

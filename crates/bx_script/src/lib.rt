@@ -1,0 +1,17 @@
+//! The lines of a script: how they are read, what each says, and what is printed for it.
+#![tactic(auto)]
+
+mod error;
+mod kept;
+mod line;
+mod lines;
+mod number;
+mod part;
+mod print;
+#[cfg(test)]
+mod tests;
+
+pub use error::ScriptFault;
+pub use line::Line;
+pub use lines::{Lines, MAX_READS};
+pub use print::{write_bad, write_held, write_result, write_status};

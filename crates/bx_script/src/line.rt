@@ -1,0 +1,149 @@
+//! What a line says.
+ghost use Rattle.std.specs.Prelude.{◌≡◌, IfOk, option_map, position, string_bytes};
+ghost use Rattle.std.specs.List.{after_first, before_first};
+ghost use Rattle.bx_cut.specs.Bodies.{texts_of};
+ghost use Rattle.bx_entry.specs.Replay.{Documents, body_taken, command, handed_by, is_space, line_of, resharded_by, reshards};
+ghost use Rattle.bx_script.specs.Lines.{InRange, query_taken, said_by};
+
+use crate::number::number_of;
+use bx_advice::{BODY_LIMIT, MAX_SHARDS};
+use bx_cut::Bodies;
+use bx_entry::{Arrival, Input};
+use bx_transport::{TransportError, read_get};
+use std::alloc::{AllocError, Global};
+
+/// What a line of a script says.
+#[derive(Drop)]
+pub enum Line {
+    /// It has no known form.
+    Bad,
+    /// Its body or its query is not taken, with this status.
+    Turned {
+        status: u16,
+    },
+    /// A request, with the name of the callback that it asks for, or a tick.
+    Handed {
+        callback: Option<String>,
+        input: Input,
+    },
+    /// From here on there are so many shards, 1 to 64.
+    Resharded {
+        shards: usize,
+    },
+}
+
+impl Line {
+    /// Reads a line: digits, a space, and behind them `T` alone, `P` with a space and a body, `G` with a
+    /// space and a query, or `S` with a space and a number of shards. A body is copied once.
+    pub fn read(alloc: Global, text: &[u8]) -> Result<Line, AllocError>
+        ensures said { IfOk result (λ line. said_by line ≡ line_of query_taken text.now) }
+        ensures shards { IfOk result InRange }
+    {
+        let (digits, rest) = cut_at_space(text);
+        match number_of(digits) {
+            Some(moment) => read_command(alloc, moment, rest),
+            None => Ok(Line::Bad),
+        }
+    }
+}
+
+// What stands before the first space, and behind it.
+fn cut_at_space(text: &[u8]) -> (&[u8], &[u8])
+    ensures before { result.0.now ≡ before_first is_space text.now }
+    ensures behind { result.1.now ≡ after_first is_space text.now }
+{
+    match space_in(text) {
+        Some(space) => (&text[..space], &text[space + 1..]),
+        None => (text, &[]),
+    }
+}
+
+// The index of the first space.
+fn space_in(text: &[u8]) -> Option<usize>
+    ensures { result ≡ position is_space text.now }
+{
+    text.iter().position(|byte| *byte == b' ')
+}
+
+// What follows a line's moment.
+fn read_command(alloc: Global, moment: u64, rest: &[u8]) -> Result<Line, AllocError>
+    ensures { IfOk result (λ line. said_by line ≡ command query_taken moment rest.now) }
+{
+    if rest == b"T".as_slice() {
+        return Ok(Line::Handed {
+            callback: None,
+            input: Input::Tick(moment),
+        });
+    }
+    if let Some(body) = rest.strip_prefix(b"P ") {
+        return read_body(alloc, moment, body);
+    }
+    if let Some(query) = rest.strip_prefix(b"G ") {
+        return read_query(alloc, moment, query);
+    }
+    match rest.strip_prefix(b"S ") {
+        Some(digits) => Ok(read_shards(digits)),
+        None => Ok(Line::Bad),
+    }
+}
+
+// A POST with this body.
+fn read_body(alloc: Global, moment: u64, body: &[u8]) -> Result<Line, AllocError>
+    ensures { IfOk result (λ line. said_by line ≡ handed_by moment (body_taken body.now)) }
+{
+    if body.len() > BODY_LIMIT {
+        return Ok(Line::Turned { status: 413 });
+    }
+    let bodies = Bodies::Whole(Vec::from_slice(alloc, body)?);
+    Ok(request(moment, None, bodies))
+}
+
+// A GET with this query.
+fn read_query(alloc: Global, moment: u64, query: &[u8]) -> Result<Line, AllocError>
+    ensures { IfOk result (λ line. said_by line ≡ handed_by moment (query_taken query.now)) }
+{
+    match read_get(alloc, query) {
+        Ok((name, bodies)) => Ok(request(moment, Some(name), bodies)),
+        Err(TransportError::Memory) => Err(AllocError),
+        Err(TransportError::TooLarge) => Ok(Line::Turned { status: 413 }),
+        Err(_) => Ok(Line::Turned { status: 400 }),
+    }
+}
+
+fn request(moment: u64, callback: Option<String>, bodies: Bodies) -> Line
+    ensures { said_by result ≡ handed_by moment (Documents (option_map string_bytes callback) (texts_of bodies)) }
+{
+    Line::Handed {
+        callback,
+        input: Input::Post(Arrival {
+            moment,
+            nonce: 0,
+            bodies,
+        }),
+    }
+}
+
+// A change of the number of shards to what these digits say.
+fn read_shards(digits: &[u8]) -> Line
+    ensures { said_by result ≡ resharded_by digits.now }
+{
+    if digits.len() > BODY_LIMIT {
+        return Line::Bad;
+    }
+    match number_of(digits) {
+        Some(number) => shards_of(number),
+        None => Line::Bad,
+    }
+}
+
+fn shards_of(number: u64) -> Line
+    ensures { said_by result ≡ reshards (Some number) }
+{
+    if number > 0 && number <= MAX_SHARDS as u64 {
+        Line::Resharded {
+            shards: number as usize,
+        }
+    } else {
+        Line::Bad
+    }
+}

@@ -1,0 +1,89 @@
+//! The reading of a line.
+ghost use Rattle.std.specs.Prelude.{◌≡◌, ◌≢◌, ◌<◌, IfOk, ◌≤◌, OnOk, IfErr, length, position};
+ghost use Rattle.bx_script.specs.Reading.{IsCut, ReadsLine, ReadsPart};
+ghost use Rattle.bx_entry.specs.Replay.{is_newline};
+
+use crate::error::ScriptFault;
+use crate::kept::keep;
+use std::io::{BufRead, ErrorKind};
+
+// What one read of a part of a line came to.
+#[derive(Clone, Copy)]
+enum Step {
+    // It was interrupted.
+    Again,
+    // The line goes on.
+    More,
+    // The line is complete.
+    Line,
+    // There are no more bytes.
+    End,
+}
+
+// Reads a line and keeps of it what tells what it says. It gives whether there was a line.
+pub(crate) fn read_text<R: BufRead>(
+    reader: &mut R,
+    kept: &mut Vec<u8>,
+    reads_left: &mut u64,
+) -> Result<bool, ScriptFault>
+    ensures line { IfOk result (λ found. ReadsLine found (R.remaining reader.old) (R.remaining reader.new) kept.new.items) }
+    ensures reads { OnOk result (reads_left.new < reads_left.old) }
+    ensures fault { IfErr result (λ e. e ≢ ScriptFault.Write) }
+{
+    kept.clear();
+    let mut began = false;
+    while *reads_left > 0 {
+        *reads_left -= 1;
+        match read_part(reader, kept)? {
+            Step::Again => {}
+            Step::More => began = true,
+            Step::Line => return Ok(true),
+            Step::End => return Ok(began),
+        }
+    }
+    Err(ScriptFault::Read)
+}
+
+// Reads what the reader has at hand, up to the end of the line.
+fn read_part<R: BufRead>(reader: &mut R, kept: &mut Vec<u8>) -> Result<Step, ScriptFault>
+    ensures part { IfOk result (λ step. ReadsPart step (R.remaining reader.old) (R.remaining reader.new)
+        kept.old.items kept.new.items) }
+    ensures fault { IfErr result (λ e. e ≢ ScriptFault.Write) }
+{
+    let shown = match reader.fill_buf() {
+        Ok(shown) => shown,
+        Err(error) => {
+            return if error.kind() == ErrorKind::Interrupted {
+                Ok(Step::Again)
+            } else {
+                Err(ScriptFault::of_read(&error))
+            };
+        }
+    };
+    let (length, used, step) = cut(shown);
+    keep(kept, &shown[..length])?;
+    reader.consume(used);
+    Ok(step)
+}
+
+// How many of the bytes stand in the line, how many are read with its end, and what comes of reading these.
+fn cut(shown: &[u8]) -> (usize, usize, Step)
+    ensures parts { IsCut shown.now result.0 result.1 result.2 }
+    ensures before { result.0 ≤ length shown.now }
+    ensures within { result.1 ≤ length shown.now }
+{
+    if shown.is_empty() {
+        return (0, 0, Step::End);
+    }
+    match newline_in(shown) {
+        Some(length) => (length, length + 1, Step::Line),
+        None => (shown.len(), shown.len(), Step::More),
+    }
+}
+
+// The index of the first newline.
+fn newline_in(shown: &[u8]) -> Option<usize>
+    ensures { result ≡ position is_newline shown.now }
+{
+    shown.iter().position(|byte| *byte == b'\n')
+}

@@ -1,0 +1,131 @@
+//! What is printed for the lines of a script.
+ghost use Rattle.std.specs.Prelude.{◌≡◌, ◌≢◌, ◌++◌, IfErr, IfOk, OnOk, codes, decimal, option_map, string_bytes};
+ghost use Rattle.std.specs.Io.KnownBytes.{Appends};
+ghost use Rattle.bx_entry.specs.Inputs.{ReadInput};
+ghost use Rattle.bx_entry.specs.Replay.{line_text, refusal_status, response_text, result_text};
+ghost use Rattle.bx_script.specs.Printing.{is_tick, numbered};
+
+use crate::error::ScriptFault;
+use bx_entry::Refusal;
+use bx_message::{Item, Sequence};
+use bx_transport::{callback_of, response_of};
+use itoa::Buffer;
+use std::alloc::{AllocError, Global};
+use std::io::Write;
+
+/// Writes that the line of this number has no known form: `bad`.
+pub fn write_bad<W: Write>(writer: &mut W, number: u64) -> Result<(), ScriptFault>
+    ensures text { OnOk result (Appends (W.contents writer.old) (W.contents writer.new)
+        (line_text number (codes "bad"))) }
+    ensures fault { IfErr result (λ e. e ≢ ScriptFault.Read) }
+{
+    write_line(writer, number, b"bad", b"")
+}
+
+/// Writes that some message of the line of this number has no answer: `held`.
+pub fn write_held<W: Write>(writer: &mut W, number: u64) -> Result<(), ScriptFault>
+    ensures text { OnOk result (Appends (W.contents writer.old) (W.contents writer.new)
+        (line_text number (codes "held"))) }
+    ensures fault { IfErr result (λ e. e ≢ ScriptFault.Read) }
+{
+    write_line(writer, number, b"held", b"")
+}
+
+/// Writes with which status the line of this number is refused.
+pub fn write_status<W: Write>(writer: &mut W, number: u64, status: u16) -> Result<(), ScriptFault>
+    ensures text { OnOk result (Appends (W.contents writer.old) (W.contents writer.new)
+        (line_text number (decimal status))) }
+    ensures fault { IfErr result (λ e. e ≢ ScriptFault.Read) }
+{
+    let mut buffer = Buffer::new();
+    write_line(writer, number, b"", buffer.format(status).as_bytes())
+}
+
+/// Writes what the input in the line of this number comes to: the status of its refusal, or 200 and the response, an
+/// array or the call of the callback with it. For a tick that is not refused it writes nothing.
+pub fn write_result<W: Write>(
+    alloc: Global,
+    writer: &mut W,
+    number: u64,
+    callback: &Option<String>,
+    tick: bool,
+    answer: &Result<Sequence<Item>, Refusal>,
+) -> Result<(), ScriptFault>
+    ensures text { (read : ReadInput) → is_tick read ≡ tick
+        → OnOk result (Appends (W.contents writer.old) (W.contents writer.new)
+        (result_text (numbered number (option_map string_bytes callback.now) read) read answer.now)) }
+    ensures fault { IfErr result (λ e. e ≢ ScriptFault.Read) }
+{
+    match answer {
+        Err(refusal) => write_status(writer, number, status_of(*refusal)),
+        Ok(_) if tick => Ok(()),
+        Ok(items) => write_response(alloc, writer, number, callback, items.as_slice()),
+    }
+}
+
+fn write_response<W: Write>(
+    alloc: Global,
+    writer: &mut W,
+    number: u64,
+    callback: &Option<String>,
+    items: &[Item],
+) -> Result<(), ScriptFault>
+    ensures text { OnOk result (Appends (W.contents writer.old) (W.contents writer.new)
+        (line_text number (codes "200 " ++ response_text (option_map string_bytes callback.now) items.now))) }
+    ensures fault { IfErr result (λ e. e ≢ ScriptFault.Read) }
+{
+    match body_of(alloc, callback, items) {
+        Ok(body) => write_line(writer, number, b"200 ", body.as_slice()),
+        Err(_) => Err(ScriptFault::Memory),
+    }
+}
+
+// The body of a response.
+fn body_of(alloc: Global, callback: &Option<String>, items: &[Item]) -> Result<Vec<u8>, AllocError>
+    ensures { IfOk result (λ body. body.items
+        ≡ response_text (option_map string_bytes callback.now) items.now) }
+{
+    match callback {
+        Some(name) => callback_of(alloc, name.as_str(), items),
+        None => response_of(alloc, items),
+    }
+}
+
+// (This server's choice.)
+fn status_of(refusal: Refusal) -> u16
+    ensures { result ≡ refusal_status refusal }
+{
+    match refusal {
+        Refusal::Body(_) | Refusal::BadMoment => 400,
+        Refusal::Ended => 503,
+    }
+}
+
+// Writes a line: its number, and a text in two parts.
+fn write_line<W: Write>(
+    writer: &mut W,
+    number: u64,
+    lead: &[u8],
+    text: &[u8],
+) -> Result<(), ScriptFault>
+    ensures text { OnOk result (Appends (W.contents writer.old) (W.contents writer.new)
+        (line_text number (lead.now ++ text.now))) }
+    ensures fault { IfErr result (λ e. e ≢ ScriptFault.Read) }
+{
+    let mut buffer = Buffer::new();
+    put(writer, buffer.format(number).as_bytes())?;
+    put(writer, b" ")?;
+    put(writer, lead)?;
+    put(writer, text)?;
+    put(writer, b"\n")
+}
+
+fn put<W: Write>(writer: &mut W, bytes: &[u8]) -> Result<(), ScriptFault>
+    ensures bytes { OnOk result (Appends (W.contents writer.old) (W.contents writer.new) bytes.now) }
+    ensures fault { IfErr result (λ e. e ≢ ScriptFault.Read) }
+{
+    match writer.write_all(bytes) {
+        Ok(()) => Ok(()),
+        Err(error) => Err(ScriptFault::of_write(&error)),
+    }
+}

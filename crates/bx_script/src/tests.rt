@@ -1,0 +1,227 @@
+use crate::{Line, Lines, ScriptFault, write_bad, write_held, write_result, write_status};
+use bx_advice::BODY_LIMIT;
+use bx_entry::{Input, Refusal};
+use bx_message::Sequence;
+use std::alloc::{AllocError, Global};
+use std::io;
+use std::io::{BufRead, BufReader, Read, Write};
+use std::test::Fail;
+
+// What a line says, in words. Of a long document the length stands in its place.
+fn told(alloc: Global, line: &Line) -> Result<String, AllocError> {
+    match line {
+        Line::Bad => String::from_str(alloc, "bad"),
+        Line::Turned { status } => format!(in alloc; "turned {status}"),
+        Line::Resharded { shards } => format!(in alloc; "shards {shards}"),
+        Line::Handed { callback, input } => {
+            let name = match callback {
+                Some(name) => name.as_str(),
+                None => "-",
+            };
+            told_input(alloc, name, input)
+        }
+    }
+}
+
+fn told_input(alloc: Global, name: &str, input: &Input) -> Result<String, AllocError> {
+    let arrival = match input {
+        Input::Tick(moment) => return format!(in alloc; "tick {moment}"),
+        Input::Post(arrival) => arrival,
+    };
+    let moment = arrival.moment;
+    let mut text = format!(in alloc; "post {moment} {name}")?;
+    for i in 0..arrival.bodies.len() {
+        let body = arrival.bodies.get(i);
+        let length = body.len();
+        text.push_str(" |")?;
+        if length > 9 {
+            text.push_str(format!(in alloc; "{length}")?.as_str())?;
+        } else {
+            text.push_str(String::from_utf8_lossy(alloc, body)?.as_str())?;
+        }
+        text.push('|')?;
+    }
+    Ok(text)
+}
+
+// What the lines of a script say, each before a semicolon.
+fn all_told<R: BufRead>(alloc: Global, reader: &mut R) -> Result<String, ScriptFault> {
+    let mut lines = Lines::new(alloc);
+    let mut text = String::new(alloc);
+    for _ in 0..100 {
+        match lines.next_line(alloc, reader)? {
+            Some(line) => {
+                text.push_str(told(alloc, &line)?.as_str())?;
+                text.push(';')?;
+            }
+            None => return Ok(text),
+        }
+    }
+    Err(ScriptFault::Read)
+}
+
+const SCRIPT: &[u8] =
+    b"0 P []\r\n0 T\r\n\0\n0 P \0\n\n000000000000000000000000000007 T\n100000000000000000000000000007 T\n T\n00 T\n1 G jsonp=cb&message=%5B%5D\n0 G \n0 S 0\n0 S 64\n0 S 65\n0 S 00000000000000000000000000001\n0 T";
+
+const TOLD: &str =
+    "post 0 - |[]\r|;bad;bad;post 0 - |\0|;bad;tick 7;bad;bad;tick 0;post 1 cb |[]|;turned 400;bad;shards 64;bad;shards 1;tick 0;";
+
+// Gives one byte a read, and a fault in place of the read of a number.
+#[derive(Drop)]
+struct Slow {
+    bytes: &'static [u8],
+    fault: Option<(usize, io::ErrorKind)>,
+}
+
+impl Read for Slow {
+    fn read(&mut self, buf: &mut [u8]) -> io::Result<usize> {
+        if let Some((reads, kind)) = self.fault {
+            if reads == 0 {
+                self.fault = None;
+                return Err(io::Error::from(kind));
+            }
+            self.fault = Some((reads - 1, kind));
+        }
+        if self.bytes.is_empty() || buf.is_empty() {
+            return Ok(0);
+        }
+        buf[0] = self.bytes[0];
+        self.bytes = &self.bytes[1..];
+        Ok(1)
+    }
+}
+
+fn told_slowly(
+    alloc: Global,
+    fault: Option<(usize, io::ErrorKind)>,
+) -> Result<Result<String, ScriptFault>, Fail> {
+    let bytes = SCRIPT;
+    let mut reader = BufReader::new(alloc, Slow { bytes, fault })?;
+    Ok(all_told(alloc, &mut reader))
+}
+
+#[test]
+fn lines_say_what_they_say(rt: HostRuntime) -> Result<(), Fail> {
+    let alloc = rt.alloc();
+    let mut all = SCRIPT;
+    assert_eq!(rt; all_told(alloc, &mut all)?.as_str(), TOLD);
+    let mut none: &[u8] = b"";
+    assert_eq!(rt; all_told(alloc, &mut none)?.as_str(), "");
+    assert_eq!(rt; told_slowly(alloc, None)??.as_str(), TOLD);
+    let interrupted = Some((5, io::ErrorKind::Interrupted));
+    assert_eq!(rt; told_slowly(alloc, interrupted)??.as_str(), TOLD);
+    for reads in [0, 1, 6, 7, SCRIPT.len()] {
+        let broken = Some((reads, io::ErrorKind::BrokenPipe));
+        assert_eq!(rt; told_slowly(alloc, broken)?.err(), Some(ScriptFault::Read));
+    }
+    Ok(())
+}
+
+// A line of a head, so many equal bytes and an end, and a line behind it.
+fn long_script(
+    alloc: Global,
+    head: &str,
+    byte: &str,
+    count: usize,
+    end: &str,
+) -> Result<String, AllocError> {
+    let bytes = byte.repeat(alloc, count)?;
+    format!(in alloc; "{head}{bytes}{end}\n5 T\n")
+}
+
+#[test]
+fn long_lines_say_what_they_say(rt: HostRuntime) -> Result<(), Fail> {
+    let alloc = rt.alloc();
+    for (head, byte, count, end, expected) in [
+        ("0 P ", " ", BODY_LIMIT, "", "post 0 - |1048576|;tick 5;"),
+        ("0 P ", " ", BODY_LIMIT + 1, "", "turned 413;tick 5;"),
+        ("", "0", BODY_LIMIT + 40, "3 T", "tick 3;tick 5;"),
+        ("0 S ", "0", BODY_LIMIT, "1", "bad;tick 5;"),
+    ] {
+        let script = long_script(alloc, head, byte, count, end)?;
+        let mut reader = script.as_bytes();
+        assert_eq!(rt; all_told(alloc, &mut reader)?.as_str(), expected, "{head}");
+    }
+    Ok(())
+}
+
+#[test]
+fn what_is_printed(rt: HostRuntime) -> Result<(), Fail> {
+    let alloc = rt.alloc();
+    let mut out = Vec::new(alloc);
+    let name = Some(String::from_str(alloc, "cb")?);
+    let none = Ok(Sequence::new(alloc));
+    write_bad(&mut out, 1)?;
+    write_status(&mut out, 2, 413)?;
+    write_result(alloc, &mut out, 3, &None, false, &none)?;
+    write_result(alloc, &mut out, 4, &name, false, &none)?;
+    write_result(alloc, &mut out, 5, &None, true, &none)?;
+    write_result(alloc, &mut out, 6, &name, false, &Err(Refusal::Ended))?;
+    write_result(alloc, &mut out, 7, &None, true, &Err(Refusal::BadMoment))?;
+    write_held(&mut out, u64::MAX)?;
+    assert_eq!(rt;
+        out.as_slice(),
+        b"1 bad\n2 413\n3 200 []\n4 200 cb([])\n6 503\n7 400\n18446744073709551615 held\n".as_slice()
+    );
+    let mut place = [0u8; 3];
+    let mut short = place.as_mut_slice();
+    assert_eq!(rt; write_bad(&mut short, 1), Err(ScriptFault::Write));
+    Ok(())
+}
+
+// Takes so many writes, and refuses the next.
+#[derive(Drop)]
+struct Broken {
+    held: Vec<u8>,
+    writes: Option<usize>,
+}
+
+impl Write for Broken {
+    fn write(&mut self, buf: &[u8]) -> io::Result<usize> {
+        match self.writes {
+            Some(0) => {
+                self.writes = None;
+                return Err(io::Error::from(io::ErrorKind::BrokenPipe));
+            }
+            Some(writes) => self.writes = Some(writes - 1),
+            None => {}
+        }
+        self.held.extend_from_slice(buf)?;
+        Ok(buf.len())
+    }
+
+    fn flush(&mut self) -> io::Result<()> {
+        Ok(())
+    }
+}
+
+#[test]
+fn a_failed_write_leaves_a_front(rt: HostRuntime) -> Result<(), Fail> {
+    let alloc = rt.alloc();
+    let name = Some(String::from_str(alloc, "cb")?);
+    let none = Ok(Sequence::new(alloc));
+    for writes in 0..4 {
+        let mut writer = Broken {
+            held: Vec::new(alloc),
+            writes: Some(writes),
+        };
+        let written = write_result(alloc, &mut writer, 12, &name, false, &none);
+        assert_eq!(rt; written, Err(ScriptFault::Write), "{writes}");
+        let all = b"12 200 cb([])\n".as_slice();
+        assert!(rt; all.starts_with(writer.held.as_slice()), "{writes}");
+    }
+    Ok(())
+}
+
+#[test]
+fn faults_have_texts(rt: HostRuntime) -> Result<(), Fail> {
+    let alloc = rt.alloc();
+    let text = format!(in alloc;
+        "{}, {}, {}",
+        ScriptFault::Memory,
+        ScriptFault::Read,
+        ScriptFault::Write
+    )?;
+    assert_eq!(rt; text.as_str(), "out of memory, read fault, write fault");
+    Ok(())
+}
