@@ -14,6 +14,7 @@ mod out;
 mod parts;
 mod pass_over;
 mod ready;
+mod resharding;
 mod round;
 mod run;
 #[cfg(test)]
