@@ -139,7 +139,6 @@ module _ {P : Type 0} {g : Ghosts P} where
     pub behind : after ≡ before ++ more
     pub added : added_by new ≡ added_by old ++ map seen_out more
     pub setup : (setup_in new).config ≡ (setup_in old).config
-    pub shards : (setup_in new).shards ≡ (setup_in old).shards
     pub inputs_are : inputs_of new ≡ inputs_of old ++ map read_input inputs
     pub all : added_by new ≡ outs (setup_in new).config (inputs_of new)
 
@@ -149,7 +148,6 @@ module _ {P : Type 0} {g : Ghosts P} where
     behind = run.0.behind;
     added = run.0.added;
     setup = ap (λ s. s.config) run.0.setup;
-    shards = ap (λ s. s.shards) run.0.setup;
     inputs_are = run.1;
     all = run.2;
   }

@@ -16,18 +16,10 @@ use Rattle.bx_fanout.specs.declared.round.Round.{Round}
 use Rattle.bx_laws.specs.Lines.{inputs_in, printed_so_far}
 use Rattle.bx_script.specs.Lines.{said_by, query_taken}
 use Rattle.bx_script.specs.declared.line.Line as script
-use Rattle.bx_script.specs.declared.line.Line.TheVariants.{Bad, Turned, Handed, Resharded}
 
 -- the lines that were dealt with, as the definitions have them
 abbrev pub seen_lines : List script.Line → List Line
 seen_lines ls = map said_by ls
-
--- among how many shards the sessions stand after a line
-abbrev pub shards_after : script.Line → ℕ → ℕ
-shards_after Bad before = before
-shards_after (Turned status) before = before
-shards_after (Handed callback input) before = before
-shards_after (Resharded shards) before = shards
 
 -- What more lines print.
 pub record Prints (config : Config) (old new : List script.Line) (before after : Option (List ℕ)) : Type 0 where
@@ -66,7 +58,6 @@ module _ {P : Type 0} {g : Ghosts P} where
     pub added : added_by new ≡ added_by old ++ more
     pub all : added_by new ≡ outs (setup_in new).config (inputs_of new)
     pub setup : (setup_in new).config ≡ (setup_in old).config
-    pub shards : (setup_in new).shards ≡ (setup_in old).shards
     pub held_are : AllKept keeps (held (setup_in new).config (inputs_of new))
     pub prints : (numbered : List Numbered) → length numbered ≡ length (inputs_of old) → AreKept numbered kept → PrintsOuts (numbered ++ one ∷ []) more before after keeps
 

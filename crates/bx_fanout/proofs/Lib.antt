@@ -15,4 +15,3 @@ pub mod Running
 pub mod Sole
 pub mod Stages
 pub mod Standing
-pub mod Ups

@@ -14,7 +14,6 @@ mod out;
 mod parts;
 mod pass_over;
 mod ready;
-mod resharding;
 mod round;
 mod run;
 #[cfg(test)]

@@ -1,4 +1,4 @@
-//! Five inputs at once and one by one, with one worker and with several, and with another number of shards.
+//! Five inputs at once and one by one, with one worker and with several.
 use crate::{Out, Round};
 use bx_advice::Config;
 use bx_cut::Bodies;
@@ -139,23 +139,6 @@ fn a_connect_is_held_until_its_event(rt: HostRuntime) -> Result<(), Fail> {
         assert_eq!(rt; round.held(alloc)?.as_slice(), expected, "{count} inputs");
         assert_eq!(rt; round.dealt(), count);
     }
-    Ok(())
-}
-
-#[test]
-fn a_held_connect_goes_with_its_session(rt: HostRuntime) -> Result<(), Fail> {
-    let alloc = rt.alloc();
-    let inputs = inputs(alloc, INPUTS.len())?;
-    let mut round = round(alloc, 2)?.ok_or("no round")?;
-    let mut outs = Vec::new(alloc);
-    for index in 0..inputs.len() {
-        if index == 4 {
-            let placing = Arc::new(alloc, ByRemainder)?;
-            round = round.reshard(alloc, 5, placing).map_err(|_| "no memory")?;
-        }
-        run(&rt, alloc, &mut round, &inputs[index..index + 1], &mut outs)?;
-    }
-    assert_eq!(rt; text_of(alloc, &outs)?.as_str(), OUTS);
     Ok(())
 }
 

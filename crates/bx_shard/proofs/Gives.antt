@@ -113,7 +113,7 @@ pub record Unanswered (place p : ℕ) (o : Option ConnectState) : Type 0 where
 held_unanswered : (place p n : ℕ) (o : Option ConnectState) (deadline : Option ℕ) → held_until o n ≡ Some deadline → Unanswered place p o
 held_unanswered place p n None deadline h = absurd (let e : None ≡ Some deadline = h in cc)
 held_unanswered place p n (Some (states.Held session until waker)) deadline h = record { filed = refl; own = λ e. cc }
-held_unanswered place p n (Some (states.Filed session at answer)) deadline h = absurd (let e : None ≡ Some deadline = h in cc)
+held_unanswered place p n (Some (states.Filed at answer)) deadline h = absurd (let e : None ≡ Some deadline = h in cc)
 
 seat_here : (s : State) (n : ℕ) (u : Subscriber) → session_in s n ≡ Some u → seat_in s.sessions n ≡ Some u.seat
 seat_here s n u h =
@@ -137,8 +137,8 @@ due_unanswered s place n u a sound here known due =
     due
 
 -- each connect that the entry answers
-pub given_unanswered : (s : State) (e : Entry) (n : ℕ) (a : Answered) → IsSound s → s.place ≡ e.place → IsGiven s e n a → Unanswered e.place a.place (connect_in s a.place)
-given_unanswered s e n a sound here g =
-    due_unanswered s e.place n g.subscriber a sound here g.here
-    (all_contains (Due e.place g.subscriber.seat.held) (answers s.setup.config e.place e.moment e.kind n g.subscriber) a
-    (answers_due s.setup.config e.place e.moment e.kind n g.subscriber) g.given)
+pub given_unanswered : (s : State) (e : Entry) (a : Answered) → IsSound s → s.place ≡ e.place → IsGiven s e a → Unanswered e.place a.place (connect_in s a.place)
+given_unanswered s e a sound here g =
+    due_unanswered s e.place g.number g.subscriber a sound here g.here
+    (all_contains (Due e.place g.subscriber.seat.held) (answers s.setup.config e.place e.moment e.kind g.number g.subscriber) a
+    (answers_due s.setup.config e.place e.moment e.kind g.number g.subscriber) g.given)

@@ -61,7 +61,7 @@ earlier_or_later moment deadline not_early = by (leb_tells deadline moment)
     by (inr told) = told.1
 
 -- what is filed is not held
-pub not_held : (held : Option HeldConnect) (filed : Option FiledAnswer) (f : FiledAnswer) → is_both held filed ≡ false → filed ≡ Some f → state_by held filed ≡ Some (Filed f.session f.place f.answer)
+pub not_held : (held : Option HeldConnect) (filed : Option FiledAnswer) (f : FiledAnswer) → is_both held filed ≡ false → filed ≡ Some f → state_by held filed ≡ Some (Filed f.place f.answer)
 not_held None filed f apart is = ap (λ o. state_by None o) is
 not_held (Some h) filed f apart is = absurd (true≢false (sym (ap (λ o. is_both (Some h) o) is) ∙ apart))
 

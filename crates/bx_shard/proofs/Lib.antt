@@ -1,11 +1,8 @@
-pub mod Among
 pub mod Applying
 pub mod Closing
 pub mod ConnectLemmas
 pub mod Counting
 pub mod DeadlineLemmas
-pub mod DealLaws
-pub mod Dealt
 pub mod Elements
 pub mod Ends
 pub mod Filings
@@ -14,13 +11,9 @@ pub mod FollowedConnects
 pub mod FollowedEvents
 pub mod Gives
 pub mod Handing
-pub mod HeirLemmas
 pub mod HoldLemmas
 pub mod Holding
 pub mod Holdings
-pub mod Keeps
-pub mod Made
-pub mod MoveLemmas
 pub mod Names
 pub mod Onward
 pub mod Onwards

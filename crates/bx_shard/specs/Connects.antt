@@ -26,7 +26,7 @@ filing_at filed place = lookup (nat_eq place) filed
 -- what became of a connect, by what is held and what is filed for its place
 abbrev pub state_by : Option HeldConnect → Option FiledAnswer → Option ConnectState
 state_by (Some h) filed = Some (Held h.session h.deadline h.waker)
-state_by None (Some f) = Some (Filed f.session f.place f.answer)
+state_by None (Some f) = Some (Filed f.place f.answer)
 state_by None None = None
 
 -- what became of the connect at a place of the list, if it is known
@@ -66,53 +66,46 @@ unwatched_hold h = record h { waker = None }
 abbrev pub held_by : ℕ → Option ℕ → Option ConnectState
 held_by session deadline = Some (Held session deadline None)
 
--- the session of a connect, where it is known
-abbrev pub session_at : Option ConnectState → Option ℕ
-session_at None = None
-session_at (Some (Held session deadline waker)) = Some session
-session_at (Some (Filed session place answer)) = Some session
-
 -- a known connect is answered at this place
 abbrev pub filed_as : ℕ → Answer → Option ConnectState → Option ConnectState
 filed_as place answer None = None
-filed_as place answer (Some (Held session deadline waker)) = Some (Filed session place answer)
-filed_as place answer (Some (Filed session earlier replaced)) = Some (Filed session place answer)
+filed_as place answer (Some state) = Some (Filed place answer)
 
 -- the answer, where it is filed
 abbrev pub filed_answer : Option ConnectState → Option Answer
 filed_answer None = None
 filed_answer (Some (Held session deadline waker)) = None
-filed_answer (Some (Filed session place answer)) = Some answer
+filed_answer (Some (Filed place answer)) = Some answer
 
 -- a filed answer is taken, and nothing is known of its connect from then on
 abbrev pub taken_from : Option ConnectState → Option ConnectState
 taken_from None = None
 taken_from (Some (Held session deadline waker)) = Some (Held session deadline waker)
-taken_from (Some (Filed session place answer)) = None
+taken_from (Some (Filed place answer)) = None
 
 -- what comes of a waker for the connect; after the shard was shut none is stored
 abbrev pub watched : Bool → Waker → Option ConnectState → Watch
 watched shut waker None = Unknown waker
 watched true waker (Some (Held session deadline older)) = Shut waker
 watched false waker (Some (Held session deadline older)) = Stored
-watched shut waker (Some (Filed session place answer)) = Ready waker
+watched shut waker (Some (Filed place answer)) = Ready waker
 
 -- the connect with a waker that is stored
 abbrev pub with_waker : Bool → Waker → Option ConnectState → Option ConnectState
 with_waker shut waker None = None
 with_waker true waker (Some (Held session deadline older)) = Some (Held session deadline older)
 with_waker false waker (Some (Held session deadline older)) = Some (Held session deadline (Some waker))
-with_waker shut waker (Some (Filed session place answer)) = Some (Filed session place answer)
+with_waker shut waker (Some (Filed place answer)) = Some (Filed place answer)
 
 -- the connect without a waker
 abbrev pub unwatched : ConnectState → ConnectState
 unwatched (Held session deadline waker) = Held session deadline None
-unwatched (Filed session place answer) = Filed session place answer
+unwatched (Filed place answer) = Filed place answer
 
 -- whether an answer was filed below this place
 abbrev pub is_filed_below : ℕ → ConnectState → Bool
 is_filed_below before (Held session deadline waker) = false
-is_filed_below before (Filed session place answer) = nat_lt place before
+is_filed_below before (Filed place answer) = nat_lt place before
 
 -- a connect whose answer was filed below this place is known no longer
 abbrev pub unswept : ℕ → Option ConnectState → Option ConnectState

@@ -56,7 +56,7 @@ IsCounted (Some seat) patterns = (seat.patterns ≡ length patterns) × (seat.ov
 abbrev pub held_until : Option ConnectState → ℕ → Option (Option ℕ)
 held_until None n = None
 held_until (Some (Held m deadline waker)) n = if nat_eq m n then Some deadline else None
-held_until (Some (Filed session place answer)) n = None
+held_until (Some (Filed place answer)) n = None
 
 -- until when a hold is the one of the connect at this place, if it is
 abbrev pub ends_for : Option Pending → ℕ → Option (Option ℕ)

@@ -1,11 +1,8 @@
 //! The connects of a shard, from their place in the list until their answers are taken.
-ghost use Rattle.std.specs.Prelude.{◌≡◌, ◌<◌, ℕ, nat_eq, nat_lt, not, Some, None, if◌then◌else◌, OnOk, OnErr, IfSome, IfNone, Option, option_map, option_to_list, is_some, [], ◌++◌};
-ghost use Rattle.std.specs.Map.{keys_of};
-ghost use Rattle.std.specs.Option.{option_or};
-ghost use Rattle.bx_shard.specs.Heirs.{known_as};
+ghost use Rattle.std.specs.Prelude.{◌≡◌, ◌<◌, ℕ, nat_eq, nat_lt, not, Some, None, if◌then◌else◌, OnOk, OnErr, IfSome, IfNone, Option, option_map};
 ghost use Rattle.futures.specs.declared.task.waker.Waker.{Waker};
 ghost use Rattle.bx_shard.specs.declared.connects.ConnectState.TheVariants.{Filed, Held};
-ghost use Rattle.bx_shard.specs.Connects.{AreApart, IsDue, IsHeldUntil, connect_at, count_filed_below, count_held, filed_answer, filed_as, filing_at, held_by, swept, taken_from, unswept, unwatched, watched, with_waker};
+ghost use Rattle.bx_shard.specs.Connects.{IsDue, IsHeldUntil, connect_at, count_filed_below, count_held, filed_answer, filed_as, held_by, swept, taken_from, unswept, unwatched, watched, with_waker};
 ghost use Rattle.bx_shard.specs.Sessions.{filing};
 
 use crate::filing::Filing;
@@ -29,20 +26,18 @@ pub enum ConnectState {
         deadline: Option<u64>,
         waker: Option<Waker>,
     },
-    /// The answer to it, which the session with this number gave, was filed by the entry at this place.
+    /// It was answered by the entry at this place.
     Filed {
-        session: u64,
         place: u64,
         answer: Answer,
     },
 }
 
-/// An answer, with the session of its connect and the place of the entry that gave it.
+/// An answer, with the place of the entry that gave it.
 #[derive(Drop)]
 pub(crate) struct FiledAnswer {
-    pub(crate) session: u64,
-    pub(crate) place: u64,
-    pub(crate) answer: Answer,
+    place: u64,
+    answer: Answer,
 }
 
 /// What became of each connect, by its place in the list: those that are held, and the answers that are filed. The room
@@ -113,20 +108,14 @@ impl Connects {
             place: connect,
             answer,
         } = answered;
+        let filed = FiledAnswer { place, answer };
         match self.held.release(connect) {
-            Some(held) => {
-                let session = held.session;
-                let filed = FiledAnswer {
-                    session,
-                    place,
-                    answer,
-                };
+            Some(_held) => {
                 self.filed.insert(connect, filed).unwrap();
             }
             None => {
                 if let Some(earlier) = self.filed.get_mut(&connect) {
-                    earlier.place = place;
-                    earlier.answer = answer;
+                    *earlier = filed;
                 }
             }
         }
@@ -163,13 +152,13 @@ impl Connects {
 
     /// Gives some answer that is filed, and takes it.
     pub(crate) fn take_any(&mut self) -> Option<Filing>
-        ensures filed { IfSome result (λ f. (session : ℕ) × (connect_at self.old f.connect ≡ Some (Filed session f.place f.answer))) }
+        ensures filed { IfSome result (λ f. connect_at self.old f.connect ≡ Some (Filed f.place f.answer)) }
         ensures taken { IfSome result (λ f. (p : ℕ) → connect_at self.new p
             ≡ (if nat_eq f.connect p then taken_from (connect_at self.old f.connect) else connect_at self.old p)) }
         ensures none { IfNone result ((p : ℕ) → filed_answer (connect_at self.old p) ≡ None) }
         ensures same { IfNone result (self.new ≡ self.old) }
     {
-        let (connect, FiledAnswer { place, answer, .. }) = self.filed.pop()?;
+        let (connect, FiledAnswer { place, answer }) = self.filed.pop()?;
         Some(Filing {
             connect,
             place,
@@ -210,64 +199,5 @@ impl Connects {
         ensures { (p : ℕ) → connect_at self.new p ≡ option_map unwatched (connect_at self.old p) }
     {
         self.held.unwatch_all();
-    }
-
-    /// The places of the connects that are held.
-    pub(crate) fn held_places(&self) -> &[u64]
-        ensures { result.now ≡ keys_of self.now.held }
-    {
-        self.held.places()
-    }
-
-    /// The places of the connects whose answers are filed.
-    pub(crate) fn filed_places(&self) -> &[u64]
-        ensures places { result.now ≡ keys_of self.now.filed }
-        ensures apart { AreApart self.now.held self.now.filed }
-    {
-        self.filed.keys().as_slice()
-    }
-
-    /// The session of the connect at this place, and until when it is held, where it is known.
-    pub(crate) fn known(&self, place: u64) -> Option<(u64, Option<u64>)>
-        ensures { result ≡ known_as (connect_at self.now place) }
-    {
-        if let Some(held) = self.held.known(place) {
-            return Some(held);
-        }
-        let filed = self.filed.get(&place)?;
-        Some((filed.session, None))
-    }
-
-    /// Takes an answer that is filed, the last of them, with the place of its connect.
-    pub(crate) fn pop_filed(&mut self) -> Option<(u64, FiledAnswer)>
-        ensures filed { self.old.filed ≡ self.new.filed ++ option_to_list result }
-        ensures held { self.new.held ≡ self.old.held }
-        ensures none { IfNone result (self.old.filed ≡ []) }
-        ensures once { IfSome result (λ f. filing_at self.new.filed f.0 ≡ None) }
-    {
-        self.filed.pop()
-    }
-
-    /// Makes room for a connect of which nothing is known, as if the session held it until then.
-    pub(crate) fn lend(
-        &mut self,
-        place: u64,
-        session: u64,
-        deadline: Option<u64>,
-    ) -> Result<(), AllocError>
-        ensures { OnOk result ((p : ℕ) → connect_at self.new p
-            ≡ (if nat_eq place p then option_or (connect_at self.old p) (held_by session deadline) else connect_at self.old p)) }
-    {
-        if self.is_known(place) {
-            return Ok(());
-        }
-        self.hold(place, session, deadline)
-    }
-
-    // Whether the connect at this place is known.
-    fn is_known(&self, place: u64) -> bool
-        ensures { result ≡ is_some (connect_at self.now place) }
-    {
-        self.held.has(place) || self.filed.contains_key(&place)
     }
 }

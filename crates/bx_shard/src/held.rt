@@ -1,7 +1,5 @@
 //! The connects of a shard that are held, and when their holds end.
 ghost use Rattle.std.specs.Prelude.{◌≡◌, ◌≤◌, ◌<◌, ◌+◌, ℕ, nat_eq, true, false, is_some, None, Some, [], length, if◌then◌else◌, OnOk, OnErr, IfSome, IfNone, Option, option_map};
-ghost use Rattle.std.specs.Map.{keys_of};
-ghost use Rattle.bx_shard.specs.Heirs.{hold_of};
 ghost use Rattle.futures.specs.declared.task.waker.Waker.{Waker};
 ghost use Rattle.bx_shard.specs.Connects.{hold_at, held_for, stored_at, unwatched_hold, watched_hold};
 ghost use Rattle.bx_shard.specs.Deadlines.{is_held_until};
@@ -17,7 +15,7 @@ use std::marker::Model;
 /// waker is woken where it is dropped.
 #[derive(Drop)]
 pub(crate) struct HeldConnect {
-    pub(crate) session: u64,
+    session: u64,
     deadline: Option<u64>,
     waker: Option<Waker>,
 }
@@ -153,27 +151,5 @@ impl HeldConnects {
                 true
             },
         );
-    }
-
-    /// The places of the connects.
-    pub(crate) fn places(&self) -> &[u64]
-        ensures { result.now ≡ keys_of self.now }
-    {
-        self.by_place.keys().as_slice()
-    }
-
-    /// The session of the connect at this place, and until when it is held, where it is.
-    pub(crate) fn known(&self, place: u64) -> Option<(u64, Option<u64>)>
-        ensures { result ≡ option_map hold_of (hold_at self.now place) }
-    {
-        let held = self.by_place.get(&place)?;
-        Some((held.session, held.deadline))
-    }
-
-    /// Whether the connect at this place is held.
-    pub(crate) fn has(&self, place: u64) -> bool
-        ensures { result ≡ is_some (hold_at self.now place) }
-    {
-        self.by_place.contains_key(&place)
     }
 }

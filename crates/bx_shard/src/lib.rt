@@ -3,16 +3,10 @@
 
 mod connects;
 mod deadlines;
-mod deal_anew;
-mod dealing;
 mod filing;
 mod follow;
-mod heirs;
 mod held;
 mod laws;
-mod lending;
-mod making;
-mod moving;
 mod patterns;
 mod publish;
 mod sessions;
@@ -20,12 +14,11 @@ mod shard;
 mod tick;
 mod watch;
 
-pub use deal_anew::deal;
 pub use filing::Filing;
 pub use laws::{
-    holders_are_apart, holds_at_first, holds_beside, holds_beside_swept, holds_dealt, holds_longer,
-    holds_onwards, holds_shut, holds_still, holds_swept, holds_taken, holds_watched,
-    opened_is_fresh, sessions_are_reached, sessions_ascend, shards_file, shards_step,
+    holds_at_first, holds_beside, holds_beside_swept, holds_longer, holds_onwards, holds_shut,
+    holds_still, holds_swept, holds_taken, holds_watched, opened_is_fresh, sessions_are_reached,
+    sessions_ascend, shards_file, shards_step,
 };
 pub use shard::Shard;
 pub use watch::Watch;

@@ -20,16 +20,12 @@ use std::sync::Arc;
 /// Contracts see its state by the numbers of sessions and the places of connects.
 #[derive(Drop)]
 pub struct Shard<P> {
-    pub(crate) placing: Arc<P>,
-    pub(crate) index: usize,
-    // Among how many shards sessions are placed.
-    pub(crate) shards: usize,
+    placing: Arc<P>,
+    index: usize,
     // How many entries it has applied.
-    pub(crate) place: u64,
-    pub(crate) is_shut: bool,
-    pub(crate) sessions: Sessions,
-    ghost some_shard: { 1 ≤ shards },
-    ghost shards_in_range: { shards ≤ 64 },
+    place: u64,
+    is_shut: bool,
+    sessions: Sessions,
     ghost counted: { (n : ℕ) → is_counted (seat_in sessions n) (patterns_in sessions n) ≡ true },
     ghost held: { AreHeld sessions },
     ghost batches: { (n : ℕ) → has_formed_at_most place (seat_in sessions n) ≡ true },
@@ -52,7 +48,6 @@ impl<P: Placing> Shard<P> {
         ensures config { result.sessions.config ≡ config }
         ensures placing { arc_value result.placing ≡ arc_value placing }
         ensures index { result.index ≡ index }
-        ensures shards { result.shards ≡ config.shards }
         ensures place { (result.place ≡ 0) × (result.is_shut ≡ false) }
         ensures sessions { (n : ℕ) → session_in (state P.place_of result) n ≡ None }
         ensures connects { (p : ℕ) → connect_in (state P.place_of result) p ≡ None }
@@ -61,7 +56,6 @@ impl<P: Placing> Shard<P> {
         Shard {
             placing,
             index,
-            shards: config.shards,
             place: 0,
             is_shut: false,
             sessions: Sessions::new(alloc, config),
@@ -99,7 +93,7 @@ impl<P: Placing> Shard<P> {
     {
         match kind {
             Kind::Opened { session, .. } => {
-                self.placing.place(*session, self.shards) == self.index
+                self.placing.place(*session, self.sessions.config.shards) == self.index
             }
             _ => false,
         }
@@ -123,8 +117,8 @@ impl<P: Placing> Shard<P> {
     /// Some answer that is filed, with the connect that it answers; it is taken with that. Which one is left open, and it
     /// costs the same however many are filed.
     pub fn take_any(&mut self) -> Option<Filing>
-        ensures filed { IfSome result (λ filing. (session : ℕ)
-            × (connect_in (state P.place_of self.old) filing.connect ≡ Some (Filed session filing.place filing.answer))) }
+        ensures filed { IfSome result (λ filing. connect_in (state P.place_of self.old) filing.connect
+            ≡ Some (Filed filing.place filing.answer)) }
         ensures taken { IfSome result (λ filing.
             Took filing.connect (state P.place_of self.old) (state P.place_of self.new)) }
         ensures none { IfNone result ((p : ℕ) → filed_answer (connect_in (state P.place_of self.old) p) ≡ None) }

@@ -16,4 +16,3 @@ pub mod Starting
 pub mod Runs
 pub mod Slowest
 pub mod Upwards
-pub mod Dealing

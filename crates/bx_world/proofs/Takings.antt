@@ -33,12 +33,12 @@ use Rattle.bx_world.proofs.Rows.{each_set, number_there}
 given_filed : (o : Option ConnectState) → filed_answer o ≡ option_map given_of (filed_with_place o)
 given_filed None = refl
 given_filed (Some (states.Held session deadline waker)) = refl
-given_filed (Some (states.Filed session place answer)) = refl
+given_filed (Some (states.Filed place answer)) = refl
 
 none_taken : (o : Option ConnectState) → filed_answer o ≡ None → taken_from o ≡ o
 none_taken None e = refl
 none_taken (Some (states.Held session deadline waker)) e = refl
-none_taken (Some (states.Filed session place answer)) e = cc
+none_taken (Some (states.Filed place answer)) e = cc
 
 -- where none was filed, nothing changed
 as_before : (place : ℕ) (old new : State) → filed_answer (connect_in old place) ≡ None → Took place old new → IsAsBefore old new
@@ -122,7 +122,7 @@ module _ {P : Type 0} (place_of : P → ℕ → ℕ → ℕ) (setup : Setup) (li
 none_placed : (o : Option ConnectState) → filed_answer o ≡ None → filed_with_place o ≡ None
 none_placed None e = refl
 none_placed (Some (states.Held session deadline waker)) e = refl
-none_placed (Some (states.Filed session place answer)) e = cc
+none_placed (Some (states.Filed place answer)) e = cc
 
 module _ {P : Type 0} (place_of : P → ℕ → ℕ → ℕ) (setup : Setup) (list : List Listed) (taken : List ℕ) (first : ℕ) (xs : List (Shard P)) (i : ℕ) (old new : Shard P) where
   abbrev world : WorldState

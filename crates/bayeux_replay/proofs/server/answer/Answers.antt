@@ -1,12 +1,12 @@
-use Rattle.std.proofs.Common.{◌≡◌, ◌+◌, ◌<◌, [], ℕ, codes, decimal, refl, ap, arith, sym, ◌∙◌}
+use Rattle.std.proofs.Common.{◌≡◌, ◌+◌, ◌<◌, [], ℕ, codes, decimal, refl, ap, arith}
 use Rattle.std.specs.BTreeMap.{get}
 use Rattle.std.specs.Ordering.{nat_cmp}
-use Rattle.bayeux_replay.specs.Serving.{seen_lines, shards_after}
+use Rattle.bayeux_replay.specs.Serving.{seen_lines}
 use Rattle.bx_entry.specs.Replay.{line_text}
 use Rattle.bx_fanout.specs.Rounds.{added_by, inputs_of, setup_in}
 use Rattle.bx_script.specs.declared.line.Line.{Line}
 use Rattle.bayeux_replay.proofs.Keeping.{appends_none}
-use Rattle.bayeux_replay.proofs.Steps.{added_dealt, dealt_line, dealt_same, few_dealt, handed_dealt, handed_prints, keeps_dealt, prints_bare}
+use Rattle.bayeux_replay.proofs.Steps.{added_dealt, dealt_line, few_dealt, handed_dealt, handed_prints, keeps_dealt, prints_bare}
 use Rattle.bayeux_replay.proofs.server.answer.Goals as goal
 
 pub hand-requires-clause-few : goal.hand-requires-clause-few
@@ -62,35 +62,13 @@ returns-in_ok-hand-in-Handed-clause-prints g c =
     handed_prints s.round c.hand.new.round s.lines c.push.new.self c.args.line c.in-Handed.callback c.in-Handed.input (g.W.Write.contents c.args.writer.now) (g.W.Write.contents c.hand.new.writer)
     (get nat_cmp s.kept) (get nat_cmp c.hand.new.kept) s.number (setup_in c.hand.new.round).config.limits.some_batch c.requires.serves c.in_ok-hand-in-Handed.ensures c.push.ensures c.in-Handed.is
 
-pub returns-in_ok-round-in-Resharded-clause-serves :
-    goal.returns-in_ok-round-in-Resharded-clause-serves
-returns-in_ok-round-in-Resharded-clause-serves g c =
+pub returns-in-Resharded-clause-serves : goal.returns-in-Resharded-clause-serves
+returns-in-Resharded-clause-serves g c =
     let s = c.args.server in
-    let r = c.in_ok-round-in-Resharded.round in
-    let e = c.in_ok-round-in-Resharded.ensures in
-    dealt_same (setup_in s.round).config (setup_in r).config (seen_lines c.push.new.self) (inputs_of s.round) (inputs_of r) (added_by s.round) (added_by r) (get nat_cmp s.kept) (s.number + 1) e.config e.inputs e.added
-    (dealt_line (setup_in s.round).config s.lines c.push.new.self c.args.line (Line.Resharded c.in-Resharded.shards) (inputs_of s.round) (added_by s.round) (get nat_cmp s.kept) s.number c.push.ensures c.in-Resharded.is (λ n. refl) c.requires.serves)
+    dealt_line (setup_in s.round).config s.lines c.push.new.self c.args.line (Line.Resharded c.in-Resharded.shards) (inputs_of s.round) (added_by s.round) (get nat_cmp s.kept) s.number c.push.ensures c.in-Resharded.is (λ n. refl) c.requires.serves
 
-pub returns-in_ok-round-in-Resharded-clause-prints :
-    goal.returns-in_ok-round-in-Resharded-clause-prints
-returns-in_ok-round-in-Resharded-clause-prints g c =
+pub returns-in-Resharded-clause-prints : goal.returns-in-Resharded-clause-prints
+returns-in-Resharded-clause-prints g c =
     let s = c.args.server in
-    let r = c.in_ok-round-in-Resharded.round in
     let writer = g.W.Write.contents c.args.writer.now in
-    prints_bare (setup_in r).config s.lines c.push.new.self c.args.line (Line.Resharded c.in-Resharded.shards) [] [] writer writer (setup_in r).config.limits.some_batch c.push.ensures c.in-Resharded.is tt refl (appends_none writer)
-
-pub returns-in_ok-write_bad-in-Bad-clause-shards :
-    goal.returns-in_ok-write_bad-in-Bad-clause-shards
-returns-in_ok-write_bad-in-Bad-clause-shards g c = ap (λ (l : Line). shards_after l (setup_in c.args.server.round).shards) (sym c.in-Bad.is)
-
-pub returns-in_ok-write_status-in-Turned-clause-shards :
-    goal.returns-in_ok-write_status-in-Turned-clause-shards
-returns-in_ok-write_status-in-Turned-clause-shards g c = ap (λ (l : Line). shards_after l (setup_in c.args.server.round).shards) (sym c.in-Turned.is)
-
-pub returns-in_ok-hand-in-Handed-clause-shards :
-    goal.returns-in_ok-hand-in-Handed-clause-shards
-returns-in_ok-hand-in-Handed-clause-shards g c = c.in_ok-hand-in-Handed.ensures.shards ∙ ap (λ (l : Line). shards_after l (setup_in c.args.server.round).shards) (sym c.in-Handed.is)
-
-pub returns-in_ok-round-in-Resharded-clause-shards :
-    goal.returns-in_ok-round-in-Resharded-clause-shards
-returns-in_ok-round-in-Resharded-clause-shards g c = c.in_ok-round-in-Resharded.ensures.shards ∙ ap (λ (l : Line). shards_after l (setup_in c.args.server.round).shards) (sym c.in-Resharded.is)
+    prints_bare (setup_in s.round).config s.lines c.push.new.self c.args.line (Line.Resharded c.in-Resharded.shards) [] [] writer writer (setup_in s.round).config.limits.some_batch c.push.ensures c.in-Resharded.is tt refl (appends_none writer)

@@ -38,7 +38,6 @@ returns-in-Ok g c =
       added = run.added;
       all = run.all;
       setup = run.setup;
-      shards = run.shards;
       prints = λ ns many kept. subst (λ (os : List Out). PrintsOuts (ns ++ one ∷ []) (map seen_out os) before after (get nat_cmp c.print_outs.new.kept)) given
           (h (ns ++ one ∷ []) (kept_more ns one (get nat_cmp c.args.kept.now) (get nat_cmp c.insert.new.self) asked (is_at (nat_cmp c.dealt.result)) c.in_ok-insert.ensures.updates.0
           (λ i e. at_is c.dealt.result i e ∙ c.dealt.ensures ∙ sym many) (kept_last ns one asked refl refl c.ticks-tick.ensures) kept));

@@ -10,8 +10,6 @@ invariant_of-self g c =
     let before = connect_at old.sessions.connects in
     let after = connect_at c.watch.new.self in
     record {
-      some_shard = old.some_shard;
-      shards_in_range = old.shards_in_range;
       counted = old.counted;
       held = λ place n.
           at_each (λ o q. held_until q n ≡ held_until o n) old.is_shut c.args.ticket.place c.args.waker before after c.watch.ensures.stored

@@ -1,6 +1,0 @@
-use Rattle.std.proofs.Common.{subst}
-use Rattle.bx_shard.specs.Connects.{AreApart, KnownConnects}
-use Rattle.bx_shard.proofs.connects.Connects.filed_places.Goals as goal
-
-pub returns-clause-apart : goal.returns-clause-apart
-returns-clause-apart c = subst (λ (known : KnownConnects). AreApart known.held known.filed) c.self.view_is c.self.invariant.0
