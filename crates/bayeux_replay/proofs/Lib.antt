@@ -1,3 +1,4 @@
 pub mod Keeping
 pub mod Steps
 pub mod Ready
+pub mod Fronts

@@ -1,13 +1,13 @@
 -- One more line of a server.
-use Rattle.std.proofs.Common.{◌≡◌, ℕ, suc, ◌+◌, ◌<◌, ◌≤◌, Option, Some, None, List, [], ◌∷◌, ◌++◌, length, map, slice_get, Result, Ok, Err, refl, sym, ap, ◌∙◌, subst, arith, append-nil, append_assoc, length-append}
+use Rattle.std.proofs.Common.{◌≡◌, ℕ, ◌+◌, ◌<◌, ◌≤◌, Option, Some, None, List, [], ◌∷◌, ◌++◌, length, map, Result, Ok, Err, refl, sym, ap, ◌∙◌, subst, arith, append-nil, append_assoc, length-append}
 use Rattle.std.proofs.lemmas.List.{map-append, length-map}
 use Rattle.std.specs.Prelude.{IfSome, option_map, string_bytes}
 use Rattle.std.specs.Io.KnownBytes.{Appends}
 use Rattle.std.proofs.Common.{Global, String}
-use Rattle.bayeux_replay.specs.Kept.{AllKept, AreKept, Keeps, PrintsOuts}
+use Rattle.bayeux_replay.specs.Kept.{AllKept, AreKept, Keeps}
 use Rattle.bayeux_replay.specs.Serving.{Dealt, Hands, IsAll, Prints, Reads, held_lines, seen_lines}
 use Rattle.bayeux_replay.specs.declared.kept.Asked.{Asked}
-use Rattle.bayeux_replay.proofs.Keeping.{appends_more, appends_none, appends_same}
+use Rattle.bayeux_replay.proofs.Keeping.{appends_more, appends_none}
 use Rattle.bayeux_replay.proofs.Ready.{none_last}
 use Rattle.bx_advice.specs.declared.config.Config.{Config}
 use Rattle.bx_entry.specs.Inputs.{ReadInput}
@@ -24,7 +24,8 @@ use Rattle.bx_fanout.specs.declared.round.Round.{Round}
 use Rattle.bx_laws.specs.Lines.{AddsOuts, inputs_in, line_prints, outs_text, printed_so_far}
 use Rattle.bx_laws.proofs.Lines.{inputs_go_on, lines_go_on}
 use Rattle.bx_script.specs.Lines.{IsNext, NextLine, query_taken, said_by}
-use Rattle.bx_script.specs.Printing.{numbered}
+use Rattle.bx_script.specs.Printing.{Writes, numbered}
+use Rattle.bx_script.proofs.Fronts.{writes_second}
 use Rattle.bx_script.specs.Reading.{rest_of}
 use Rattle.bx_script.specs.declared.line.Line as script
 
@@ -47,7 +48,7 @@ dealt_bare config ls l inputs added kept number e d =
       number_is = omega (arith, d.number_is, length-append ls (l ∷ []));
     }
 
-seen_more : (ls : List script.Line) (l : script.Line) → seen_lines (ls ++ l ∷ []) ≡ seen_lines ls ++ said_by l ∷ []
+pub seen_more : (ls : List script.Line) (l : script.Line) → seen_lines (ls ++ l ∷ []) ≡ seen_lines ls ++ said_by l ∷ []
 seen_more ls l = map-append said_by ls (l ∷ [])
 
 pub dealt_seen : (config : Config) (ls : List script.Line) (l : script.Line) (inputs : List ReadInput) (added : List Out) (kept : ℕ → Option Asked) (number : ℕ) →
@@ -139,6 +140,7 @@ module _ {P : Type 0} {g : Ghosts P} where
     pub behind : after ≡ before ++ more
     pub added : added_by new ≡ added_by old ++ map seen_out more
     pub setup : (setup_in new).config ≡ (setup_in old).config
+    pub shards : (setup_in new).shards ≡ (setup_in old).shards
     pub inputs_are : inputs_of new ≡ inputs_of old ++ map read_input inputs
     pub all : added_by new ≡ outs (setup_in new).config (inputs_of new)
 
@@ -148,6 +150,7 @@ module _ {P : Type 0} {g : Ghosts P} where
     behind = run.0.behind;
     added = run.0.added;
     setup = ap (λ s. s.config) run.0.setup;
+    shards = ap (λ s. s.shards) run.0.setup;
     inputs_are = run.1;
     all = run.2;
   }
@@ -231,18 +234,18 @@ reads_end (Some xs) (Some ys) c ls next is r n = reads_last xs ys c ls r (subst 
 pub number_more : (n m count : ℕ) (ls ms : List script.Line) (l : script.Line) → ms ≡ ls ++ l ∷ [] → n ≡ length (seen_lines ls) → m ≡ length (seen_lines ms) → n ≡ count → m ≡ count + 1
 number_more n m count ls ms l e f h is = omega (arith, f, h, is, ap (λ (us : List script.Line). length (seen_lines us)) e, ap length (seen_more ls l), length-append (seen_lines ls) (said_by l ∷ []))
 
-printed_all : (config : Config) (bytes : List ℕ) (ls : List script.Line) (a b d : Option (List ℕ)) → seen_lines ls ≡ map (line_of query_taken) (lines_of bytes) → Prints config [] ls a b → Appends b d (held_lines config ls) →
-    Appends a d (replay_text config query_taken bytes)
-printed_all config bytes ls a b d e p h =
+printed_all : {A E : Type 0} (config : Config) (bytes : List ℕ) (ls : List script.Line) (a b d : Option (List ℕ)) (r : Result A E) → seen_lines ls ≡ map (line_of query_taken) (lines_of bytes) → Prints config [] ls a b →
+    Writes b d r (held_lines config ls) → Writes a d r (replay_text config query_taken bytes)
+printed_all config bytes ls a b d r e p h =
     let text : p.text ≡ printed_so_far config (seen_lines ls) = sym p.is in
-    appends_same a d (p.text ++ held_lines config ls) (replay_text config query_taken bytes)
+    subst (Writes a d r)
     (ap (λ (t : List ℕ). t ++ held_lines config ls) text ∙ ap (λ (us : List Line). printed config (inputs_from 1 us) us) e)
-    (appends_more a b d p.text (held_lines config ls) p.appends h)
+    (writes_second a b d r p.text (held_lines config ls) p.appends h)
 
-pub replayed : (config other : Config) (bytes : Option (List ℕ)) (ls : List script.Line) (a b d : Option (List ℕ)) → other ≡ config → IsAll bytes ls → Prints other [] ls a b → Appends b d (held_lines other ls) →
-    IfSome bytes (λ bs. Appends a d (replay_text config query_taken bs))
-replayed config other None ls a b d e all p h = tt
-replayed config other (Some bs) ls a b d e all p h = subst (λ (c : Config). Appends a d (replay_text c query_taken bs)) e (printed_all other bs ls a b d all p h)
+pub replayed : {A E : Type 0} (config other : Config) (bytes : Option (List ℕ)) (ls : List script.Line) (a b d : Option (List ℕ)) (r : Result A E) → other ≡ config → IsAll bytes ls → Prints other [] ls a b → Writes b d r (held_lines other ls) →
+    IfSome bytes (λ bs. Writes a d r (replay_text config query_taken bs))
+replayed config other None ls a b d r e all p h = tt
+replayed config other (Some bs) ls a b d r e all p h = subst (λ (c : Config). Writes a d r (replay_text c query_taken bs)) e (printed_all other bs ls a b d r all p h)
 
 -- ---- what a server keeps
 

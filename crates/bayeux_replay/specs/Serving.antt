@@ -1,5 +1,5 @@
 -- What a server has dealt with of a script, and what was printed of that.
-use Rattle.std.specs.Prelude.{ℕ, ◌≡◌, ◌+◌, ◌++◌, List, [], ◌∷◌, length, map, ⊤, Option, Some, None}
+use Rattle.std.specs.Prelude.{ℕ, ◌≡◌, ◌++◌, List, [], ◌∷◌, length, map, ⊤, Option, Some, None}
 use Rattle.std.specs.BTreeMap.{get}
 use Rattle.std.specs.Io.KnownBytes.{Appends}
 use Rattle.std.specs.Ordering.{nat_cmp}
@@ -13,18 +13,33 @@ use Rattle.bx_entry.specs.Runs.{Out, held, outs}
 use Rattle.bx_entry.specs.declared.Placing.{Ghosts}
 use Rattle.bx_fanout.specs.Rounds.{added_by, inputs_of, setup_in}
 use Rattle.bx_fanout.specs.declared.round.Round.{Round}
-use Rattle.bx_laws.specs.Lines.{inputs_in, printed_so_far}
+use Rattle.bx_laws.specs.Lines.{inputs_in, outs_text, printed_so_far}
 use Rattle.bx_script.specs.Lines.{said_by, query_taken}
+use Rattle.bx_script.specs.Printing.{AppendsFront}
 use Rattle.bx_script.specs.declared.line.Line as script
+use Rattle.bx_script.specs.declared.line.Line.TheVariants.{Bad, Turned, Handed, Resharded}
 
 -- the lines that were dealt with, as the definitions have them
 abbrev pub seen_lines : List script.Line → List Line
 seen_lines ls = map said_by ls
 
+-- among how many shards the sessions stand after a line
+abbrev pub shards_after : script.Line → ℕ → ℕ
+shards_after Bad before = before
+shards_after (Turned status) before = before
+shards_after (Handed callback input) before = before
+shards_after (Resharded shards) before = shards
+
 -- What more lines print.
 pub record Prints (config : Config) (old new : List script.Line) (before after : Option (List ℕ)) : Type 0 where
   pub text : List ℕ
   pub appends : Appends before after text
+  pub is : printed_so_far config (seen_lines new) ≡ printed_so_far config (seen_lines old) ++ text
+
+-- What more lines would print, of which a front is written at a fault.
+pub record PrintsFront (config : Config) (old new : List script.Line) (before after : Option (List ℕ)) : Type 0 where
+  pub text : List ℕ
+  pub front : AppendsFront before after text
   pub is : printed_so_far config (seen_lines new) ≡ printed_so_far config (seen_lines old) ++ text
 
 -- the lines of what was read, where the bytes are known
@@ -58,8 +73,15 @@ module _ {P : Type 0} {g : Ghosts P} where
     pub added : added_by new ≡ added_by old ++ more
     pub all : added_by new ≡ outs (setup_in new).config (inputs_of new)
     pub setup : (setup_in new).config ≡ (setup_in old).config
+    pub shards : (setup_in new).shards ≡ (setup_in old).shards
     pub held_are : AllKept keeps (held (setup_in new).config (inputs_of new))
     pub prints : (numbered : List Numbered) → length numbered ≡ length (inputs_of old) → AreKept numbered kept → PrintsOuts (numbered ++ one ∷ []) more before after keeps
+
+  -- One more input of a round, at a fault: a front of what its outs print is written.
+  pub record HandsFront (old : Round P g) (one : Numbered) (before after : Option (List ℕ)) (kept : ℕ → Option Asked) : Type 0 where
+    pub more : List Out
+    pub adds : outs (setup_in old).config (inputs_of old ++ one.input ∷ []) ≡ outs (setup_in old).config (inputs_of old) ++ more
+    pub prints : (numbered : List Numbered) → length numbered ≡ length (inputs_of old) → AreKept numbered kept → AppendsFront before after (outs_text (numbered ++ one ∷ []) more)
 
   -- A server has dealt with its lines: the outs of their inputs are printed, and it keeps the others.
   abbrev pub Serves : Server P g → Type 0

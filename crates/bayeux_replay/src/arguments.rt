@@ -2,6 +2,7 @@
 ghost use Rattle.std.specs.Prelude.{◌≤◌};
 
 use bx_advice::Config;
+use bx_fanout::MAX_WORKERS;
 use std::{env, io};
 
 /// What standard error says of bad arguments.
@@ -9,8 +10,6 @@ pub const USAGE: &str = "usage: bayeux_replay shards workers timeout interval ma
 
 /// How many arguments there are.
 const COUNT: usize = 5;
-
-const MAX_WORKERS: usize = 16;
 
 /// How the server is run.
 #[derive(Clone, Copy)]

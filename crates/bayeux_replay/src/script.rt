@@ -1,10 +1,10 @@
 //! A run of the server over a script.
-ghost use Rattle.std.specs.Prelude.{◌≡◌, ◌≤◌, [], IfOk, IfSome, OnOk};
-ghost use Rattle.std.specs.Io.KnownBytes.{Appends};
+ghost use Rattle.std.specs.Prelude.{◌≡◌, ◌≤◌, [], IfOk, IfSome, OnErr};
 ghost use Rattle.bayeux_replay.specs.Serving.{IsAll, Prints, Serves, held_lines};
 ghost use Rattle.bx_entry.specs.Replay.{replay_text};
 ghost use Rattle.bx_fanout.specs.Rounds.{setup_in};
 ghost use Rattle.bx_script.specs.Lines.{query_taken};
+ghost use Rattle.bx_script.specs.Printing.{AppendsFront, Writes};
 
 use crate::kept::print_held;
 use crate::server::{Server, answer, new_server};
@@ -18,9 +18,9 @@ use std::thread::Threads;
 
 /// Writes what the server answers to each line that it reads, numbered from 1, and at the end which lines have no
 /// answer yet: what the definition of a replay prints for the script, whatever the number of workers and of shards is.
-/// Sessions stand in the shards in turn; a line that changes the number of shards is read and not carried out yet. It
-/// answers `Memory` where memory was refused, else `Read` where a read failed or there were too many, and `Write`
-/// where a write failed.
+/// Sessions stand in the shards in turn; a line that changes the number of shards deals them anew. It answers `Memory`
+/// where memory was refused, else `Read` where a read failed or there were too many, and `Write` where a write failed;
+/// what was written then is a front of the right output.
 pub fn replay<T: Threads + Sync, R: BufRead, W: Write>(
     rt: &T,
     alloc: Global,
@@ -31,8 +31,8 @@ pub fn replay<T: Threads + Sync, R: BufRead, W: Write>(
 ) -> Result<(), ScriptFault>
     requires some_worker { 1 ≤ workers }
     requires workers_in_range { workers ≤ 16 }
-    ensures { OnOk result (IfSome (R.remaining reader.old)
-        (λ script. Appends (W.contents writer.old) (W.contents writer.new) (replay_text config query_taken script))) }
+    ensures { IfSome (R.remaining reader.old)
+        (λ script. Writes (W.contents writer.old) (W.contents writer.new) result (replay_text config query_taken script)) }
 {
     let placing = Arc::new(alloc, ByRemainder)?;
     let first = new_server(alloc, config, placing, workers)?;
@@ -54,6 +54,8 @@ fn answer_all<T: Threads + Sync, R: BufRead, W: Write>(
     ensures config { IfOk result (λ s. (setup_in s.round).config ≡ (setup_in server.round).config) }
     ensures all { IfOk result (λ s. IsAll (R.remaining reader.old) s.lines) }
     ensures prints { IfOk result (λ s. Prints (setup_in s.round).config [] s.lines (W.contents writer.old) (W.contents writer.new)) }
+    ensures fault { OnErr result (IfSome (R.remaining reader.old) (λ script.
+        AppendsFront (W.contents writer.old) (W.contents writer.new) (replay_text (setup_in server.round).config query_taken script))) }
 {
     let mut lines = Lines::new(alloc);
     for _ in 0..MAX_READS {
@@ -72,7 +74,7 @@ fn finish<W: Write>(
     writer: &mut W,
 ) -> Result<(), ScriptFault>
     requires serves { Serves server.now }
-    ensures { OnOk result (Appends (W.contents writer.old) (W.contents writer.new) (held_lines (setup_in server.now.round).config server.now.lines)) }
+    ensures { Writes (W.contents writer.old) (W.contents writer.new) result (held_lines (setup_in server.now.round).config server.now.lines) }
 {
     let numbers = server.round.held(alloc)?;
     print_held(&server.kept, &numbers, writer)?;

@@ -1,9 +1,9 @@
 //! The server, fed with the lines of a script.
-ghost use Rattle.std.specs.Prelude.{◌≡◌, ◌+◌, ◌++◌, ◌≤◌, ◌<◌, ◌^◌, [], ◌∷◌, length, option_map, string_bytes, IfOk, OnOk};
+ghost use Rattle.std.specs.Prelude.{◌≡◌, ◌+◌, ◌++◌, ◌≤◌, ◌<◌, ◌^◌, [], ◌∷◌, length, option_map, string_bytes, IfOk, OnErr, OnOk};
 ghost use Rattle.std.specs.BTreeMap.{get};
 ghost use Rattle.std.specs.Ordering.{nat_cmp};
 ghost use Rattle.bayeux_replay.specs.Kept.{Keeps};
-ghost use Rattle.bayeux_replay.specs.Serving.{Hands, Prints, Serves};
+ghost use Rattle.bayeux_replay.specs.Serving.{Hands, HandsFront, Prints, PrintsFront, Serves, shards_after};
 ghost use Rattle.bx_entry.specs.Requests.{read_input};
 ghost use Rattle.bx_entry.specs.Runs.{held, outs};
 ghost use Rattle.bx_fanout.specs.Rounds.{added_by, inputs_of, setup_in};
@@ -60,7 +60,7 @@ pub fn new_server<P: Placing + Drop>(
     }
 }
 
-/// Deals with one more line, and prints what comes of it.
+/// Deals with one more line, and prints what comes of it, or at a fault a front of that.
 pub fn answer<T: Threads + Sync, W: Write>(
     rt: &T,
     alloc: Global,
@@ -74,7 +74,9 @@ pub fn answer<T: Threads + Sync, W: Write>(
     ensures serves { IfOk result (λ s. Serves s) }
     ensures lines { IfOk result (λ s. s.lines ≡ server.lines ++ line ∷ []) }
     ensures config { IfOk result (λ s. (setup_in s.round).config ≡ (setup_in server.round).config) }
+    ensures shards { IfOk result (λ s. (setup_in s.round).shards ≡ shards_after line (setup_in server.round).shards) }
     ensures prints { IfOk result (λ s. Prints (setup_in s.round).config server.lines s.lines (W.contents writer.old) (W.contents writer.new)) }
+    ensures fault { OnErr result (PrintsFront (setup_in server.round).config server.lines (server.lines ++ line ∷ []) (W.contents writer.old) (W.contents writer.new)) }
 {
     let Server {
         mut round,
@@ -114,13 +116,15 @@ pub fn answer<T: Threads + Sync, W: Write>(
                 lines,
             })
         }
-        // A change of the number of shards is read and not carried out yet: no answer depends on it.
-        Line::Resharded { .. } => Ok(Server {
-            round,
-            kept,
-            number,
-            lines,
-        }),
+        Line::Resharded { shards } => {
+            let round = reshard(alloc, round, shards)?;
+            Ok(Server {
+                round,
+                kept,
+                number,
+                lines,
+            })
+        }
     }
 }
 
@@ -138,8 +142,10 @@ fn hand<T: Threads + Sync, P: Placing + Send + Sync, W: Write>(
     requires few { length (inputs_of round.old) + 1 ≤ 2 ^ 62 }
     requires added { added_by round.old ≡ outs (setup_in round.old).config (inputs_of round.old) }
     requires kept { Keeps (get nat_cmp kept.old) (held (setup_in round.old).config (inputs_of round.old)) (length (inputs_of round.old)) }
-    ensures { OnOk result (Hands round.old (numbered line (option_map string_bytes callback) (read_input input)) round.new
+    ensures hands { OnOk result (Hands round.old (numbered line (option_map string_bytes callback) (read_input input)) round.new
         (W.contents writer.old) (W.contents writer.new) (get nat_cmp kept.old) (get nat_cmp kept.new)) }
+    ensures fault { OnErr result (HandsFront round.old (numbered line (option_map string_bytes callback) (read_input input))
+        (W.contents writer.old) (W.contents writer.new) (get nat_cmp kept.old)) }
 {
     let tick = ticks(&input);
     let asked = Asked {
@@ -160,4 +166,24 @@ fn ticks(input: &Input) -> bool
     ensures { result ≡ is_tick (read_input input.now) }
 {
     matches!(input, Input::Tick(_))
+}
+
+// The server goes on with so many shards, among which sessions stand in turn.
+fn reshard(
+    alloc: Global,
+    round: Round<ByRemainder>,
+    shards: usize,
+) -> Result<Round<ByRemainder>, ScriptFault>
+    requires some_shard { 1 ≤ shards }
+    requires shards_in_range { shards ≤ 64 }
+    ensures inputs { IfOk result (λ r. inputs_of r ≡ inputs_of round) }
+    ensures added { IfOk result (λ r. added_by r ≡ added_by round) }
+    ensures config { IfOk result (λ r. (setup_in r).config ≡ (setup_in round).config) }
+    ensures shards { IfOk result (λ r. (setup_in r).shards ≡ shards) }
+{
+    let placing = Arc::new(alloc, ByRemainder)?;
+    match round.reshard(alloc, shards, placing) {
+        Ok(round) => Ok(round),
+        Err(_) => Err(ScriptFault::Memory),
+    }
 }

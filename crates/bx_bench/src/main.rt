@@ -3,6 +3,8 @@
 
 mod inputs;
 mod registry;
+mod rounds;
+mod scripts;
 mod sessions;
 mod transports;
 mod tree;
@@ -41,7 +43,13 @@ world-1           the same, and then 900,000 publishes that reach ten sessions e
 world-4-open      the same as world-1-open with 4 shards
 world-4           the same as world-1 with 4 shards
 world-64-open     with 64 shards
-world-64          with 64 shards";
+world-64          with 64 shards
+round-1-open      a round of eight shards and one worker, and 10,000 sessions that are opened and subscribe
+round-1           the same, and then 5,000 publishes that reach a thousand sessions each, and 100,000 connects
+round-2           the same with two workers
+round-4           the same with four workers
+script            prints a script of 1,001,000 lines for the replay
+script-check      serde_json checks the body of each line of such a script on standard input";
 
 fn main(rt: HostRuntime) -> Result<()> {
     let alloc = rt.alloc();
@@ -78,6 +86,12 @@ fn main(rt: HostRuntime) -> Result<()> {
                 "world-4" => worlds::run(alloc, 4)? as usize,
                 "world-64-open" => worlds::opened(alloc, 64)? as usize,
                 "world-64" => worlds::run(alloc, 64)? as usize,
+                "round-1-open" => rounds::opened(&rt, alloc, 1)? as usize,
+                "round-1" => rounds::run(&rt, alloc, 1)? as usize,
+                "round-2" => rounds::run(&rt, alloc, 2)? as usize,
+                "round-4" => rounds::run(&rt, alloc, 4)? as usize,
+                "script" => return scripts::print(&rt),
+                "script-check" => scripts::check(&rt)?,
                 _ => 0,
             };
             println!(rt; "{total}")?;

@@ -7,8 +7,6 @@ mod error;
 mod scan;
 mod split;
 mod string;
-#[cfg(test)]
-mod tests;
 
 pub use bodies::Bodies;
 pub use document::{Document, MAX_MESSAGES, Piece};

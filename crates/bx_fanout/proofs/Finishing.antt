@@ -54,7 +54,7 @@ count-refused (Tick m) n refusal some are = ap (λ (o : Option Refusal). cond (i
 pub grown-refused : (i : Input) (old new : WorldState) (n : Newest) (refusal : Refusal) → new ≡ old → n.refusal ≡ Some refusal → n.slots.items ≡ [] → length new.list ≡ length old.list + count_by i n
 grown-refused i old new n refusal step some are = ap (λ (w : WorldState). length w.list) step ∙ sym (add-zero (length old.list)) ∙ ap (λ (k : ℕ). length old.list + k) (sym (count-refused i n refusal some are))
 
-giving-same : (s setup : Setup) (inputs : List ReadInput) (old new : WorldState) (rows : List Row) (whole : Option Newest) (added : List runs.Out) → s ≡ setup → new.list ≡ old.list → new.taken ≡ old.taken →
+pub giving-same : (s setup : Setup) (inputs : List ReadInput) (old new : WorldState) (rows : List Row) (whole : Option Newest) (added : List runs.Out) → s ≡ setup → new.list ≡ old.list → new.taken ≡ old.taken →
     IsGiving setup inputs old rows whole added → IsGiving s inputs new rows whole added
 giving-same s setup inputs old new rows whole added same list taken i =
     subst (λ (t : Setup). IsGiving t inputs new rows whole added) (sym same) (record {

@@ -15,3 +15,4 @@ pub mod Running
 pub mod Sole
 pub mod Stages
 pub mod Standing
+pub mod Ups

@@ -19,6 +19,10 @@ use Rattle.bx_world.specs.Worlds.{WorldState, given_of}
 abbrev pub IsLevel : WorldState → Type 0
 IsLevel w = (k n : ℕ) → slice_get w.applied k ≡ Some n → length w.list ≤ n
 
+-- this shard has
+abbrev pub IsUp : WorldState → ℕ → Type 0
+IsUp w k = (n : ℕ) → slice_get w.applied k ≡ Some n → length w.list ≤ n
+
 -- what the client gets of the answer to the message at this place, if the list has it
 abbrev pub given_at : Config → List Listed → ℕ → Option Answer
 given_at config list place = option_map given_of (answer config list place)

@@ -23,6 +23,10 @@ module _ {P : Type 0} {g : Ghosts P} where
   abbrev pub added_by : Round P g → List runs.Out
   added_by r = parts.added_by r.parts
 
+  -- every shard has applied the whole list, which is that of the inputs dealt with, and holds what the definitions' shard holds then
+  abbrev pub IsLevel : Round P g → Type 0
+  IsLevel r = parts.IsLevel r.parts
+
   -- What came of a run. Either all inputs were dealt with, all outs are added, and every shard holds what it does at the end of the list; or
   -- memory was refused, and so many of the inputs were dealt with.
   abbrev pub IsRun : Round P g → List Input → List Out → List Out → Round P g → Result (Unit {0}) RoundFault → Type 0

@@ -14,11 +14,10 @@ mod out;
 mod parts;
 mod pass_over;
 mod ready;
+mod resharding;
 mod round;
 mod run;
-#[cfg(test)]
-mod tests;
 
 pub use laws::{open_are_sole, open_is_held, opens_ascend, opens_go_on, outs_add};
 pub use out::{Out, RoundFault};
-pub use round::Round;
+pub use round::{MAX_WORKERS, Round};

@@ -53,7 +53,7 @@ pub(crate) fn new_parts<P: Placing + Drop>(
     ensures stands { IfOk result (λ p. Stands p) }
     ensures inputs { IfOk result (λ p. p.inputs ≡ []) }
     ensures added { IfOk result (λ p. p.added ≡ []) }
-    ensures setup { IfOk result (λ p. setup_of p.world ≡ placed_by config (P.place_of (arc_value placing))) }
+    ensures setup { IfOk result (λ p. setup_of p.world ≡ placed_by config config.shards (P.place_of (arc_value placing))) }
 {
     let world = World::new(alloc, config, placing)?;
     Ok(Parts {

@@ -5,6 +5,7 @@ ghost use Rattle.bx_fanout.specs.Props.{stands-prop};
 
 use crate::out::{Out, RoundFault};
 use crate::parts::{Parts, new_parts};
+use crate::resharding::reshard;
 use crate::run::run_all;
 use bx_advice::Config;
 use bx_entry::{Input, Placing};
@@ -12,6 +13,9 @@ use bx_workers::Gate;
 use std::alloc::{AllocError, Global};
 use std::sync::Arc;
 use std::thread::Threads;
+
+/// How many workers a round can have.
+pub const MAX_WORKERS: usize = 16;
 
 /// Inputs dealt with in order, each answered as one thread would answer it, by many workers.
 ///
@@ -27,10 +31,10 @@ pub struct Round<P: Placing> {
 }
 
 impl<P: Placing> Round<P> {
-    ghost use Rattle.std.specs.Prelude.{◌≡◌, ◌+◌, ◌^◌, ◌&&◌, [], is_some, length, nat_le, IfOk, IfSome};
+    ghost use Rattle.std.specs.Prelude.{◌≡◌, ◌+◌, ◌^◌, ◌&&◌, [], is_some, length, nat_le, IfOk, IfSome, MatchResult};
     ghost use Rattle.std.specs.Arc.{arc_value};
     ghost use Rattle.bx_entry.specs.Runs as runs;
-    ghost use Rattle.bx_fanout.specs.Rounds.{IsRun, added_by, inputs_of, setup_in};
+    ghost use Rattle.bx_fanout.specs.Rounds.{IsLevel, IsRun, added_by, inputs_of, setup_in};
     ghost use Rattle.bx_world.specs.Admissions.{placed_by};
 
     /// A round with so many workers, 1 to 16, that has dealt with no input. None where the workers are not so many.
@@ -45,9 +49,9 @@ impl<P: Placing> Round<P> {
         ensures workers { IfOk result (λ round. is_some round ≡ (nat_le 1 workers && nat_le workers 16)) }
         ensures inputs { IfOk result (λ round. IfSome round (λ r. inputs_of r ≡ [])) }
         ensures added { IfOk result (λ round. IfSome round (λ r. added_by r ≡ [])) }
-        ensures setup { IfOk result (λ round. IfSome round (λ r. setup_in r ≡ placed_by config (P.place_of (arc_value placing)))) }
+        ensures setup { IfOk result (λ round. IfSome round (λ r. setup_in r ≡ placed_by config config.shards (P.place_of (arc_value placing)))) }
     {
-        if workers < 1 || workers > 16 {
+        if workers < 1 || workers > MAX_WORKERS {
             return Ok(None);
         }
         let parts = new_parts(alloc, config, placing)?;
@@ -77,6 +81,33 @@ impl<P: Placing> Round<P> {
         ensures { IsRun self.old inputs.now outs.old.items outs.new.items self.new result }
     {
         run_all(rt, alloc, gate, self.workers, &mut self.parts, inputs, outs)
+    }
+
+    /// Deals the sessions anew among so many shards, 1 to 64, by this placing. First every shard is brought up to the end
+    /// of the list. What was dealt with and what was added stay. Where memory is refused, the round comes back with the
+    /// same shards and placing.
+    pub fn reshard(
+        self,
+        alloc: Global,
+        shards: usize,
+        placing: Arc<P>,
+    ) -> Result<Round<P>, (Round<P>, AllocError)>
+    where
+        P: Drop,
+        requires some_shard { 1 ≤ shards }
+        requires shards_in_range { shards ≤ 64 }
+        ensures inputs { MatchResult result (λ r. inputs_of r ≡ inputs_of self) (λ e. inputs_of e.0 ≡ inputs_of self) }
+        ensures added { MatchResult result (λ r. added_by r ≡ added_by self) (λ e. added_by e.0 ≡ added_by self) }
+        ensures setup { MatchResult result
+            (λ r. setup_in r ≡ record (setup_in self) { shards = shards; placing = P.place_of (arc_value placing) })
+            (λ e. setup_in e.0 ≡ setup_in self) }
+        ensures level { IfOk result (λ r. IsLevel r) }
+    {
+        let Round { parts, workers } = self;
+        match reshard(alloc, parts, shards, placing) {
+            Ok(parts) => Ok(Round { parts, workers }),
+            Err((parts, error)) => Err((Round { parts, workers }, error)),
+        }
     }
 
     /// How many inputs all runs dealt with.

@@ -8,8 +8,6 @@ mod object;
 mod read;
 mod reply;
 mod sequence;
-#[cfg(test)]
-mod tests;
 mod text;
 mod write;
 

@@ -10,10 +10,10 @@ use Rattle.std.proofs.Math.Seq.{drop-append_seam}
 use Rattle.std.proofs.lemmas.Nat.{div-add-mod'}
 use Rattle.std.proofs.lemmas.List.Sums.{fold-append}
 use Rattle.bx_entry.specs.Registry.{Registered, hex_digits, client_id, live_with_id}
+use Rattle.bx_roster.specs.Tables.{IsNamed, IsTable, AllLive, client_at}
+use Rattle.bx_roster.proofs.Slots.{IsTable-bounds, eq-from-test, eq-from-false}
 use Rattle.bx_registry.specs.Ids.{digit_value, with_digit, hex_value, number_in}
-use Rattle.bx_registry.specs.Tables.{IsNamed, IsTable, AllLive, client_at}
 use Rattle.bx_registry.specs.Drafts.{IsSender}
-use Rattle.bx_registry.proofs.Slots.{IsTable-bounds, eq-from-test, eq-from-false}
 
 digit_value-char-by : (d : ℕ) → d < 16 → (b : Bool) → nat_lt d 10 ≡ b → digit_value (cond b (48 + d) (87 + d)) ≡ d
 digit_value-char-by d lt true e = grind (arith, nat_tests)

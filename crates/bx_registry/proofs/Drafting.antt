@@ -5,14 +5,14 @@ use Rattle.std.specs.Option.{option_or}
 use Rattle.std.proofs.lemmas.List.{length-map}
 use Rattle.std.proofs.lemmas.List.Sums.{fold-append}
 use Rattle.bx_entry.specs.Registry.{Registered, extended, closed}
-use Rattle.bx_registry.specs.Rolls.{Members, live_in}
-use Rattle.bx_registry.specs.Tables.{IsTable, AllLive, client_at}
-use Rattle.bx_registry.specs.Edits.{edited, CanEdit, CanEditEach, IsNext}
+use Rattle.bx_roster.specs.Live.{Members, live_in}
+use Rattle.bx_roster.specs.Tables.{IsTable, AllLive, client_at}
+use Rattle.bx_roster.specs.Edits.{edited, CanEdit, CanEditEach, IsNext}
+use Rattle.bx_roster.specs.declared.edit.Edit.{Edit}
+use Rattle.bx_roster.specs.declared.edit.Edit.TheVariants.{Open, Extend, Close}
+use Rattle.bx_roster.proofs.Live.{live_in-extended}
+use Rattle.bx_roster.proofs.Slots.{eq-from-test, eq-from-false, IsTable-filter, IsTable-map, IsTable-push, IsTable-absent, map-absent, live_in-all, AllLive-live, changed-number, changed-client, closing-number, closing-client}
 use Rattle.bx_registry.specs.Drafts.{IsDrafted, client_after}
-use Rattle.bx_registry.specs.declared.change.Edit.{Edit}
-use Rattle.bx_registry.specs.declared.change.Edit.TheVariants.{Open, Extend, Close}
-use Rattle.bx_registry.proofs.Steps.{live_in-extended}
-use Rattle.bx_registry.proofs.Slots.{eq-from-test, eq-from-false, IsTable-filter, IsTable-map, IsTable-push, IsTable-absent, map-absent, live_in-all, AllLive-live, changed-number, changed-client, closing-number, closing-client}
 
 -- ---- each edit
 

@@ -24,17 +24,18 @@ use Rattle.bx_entry.specs.Listing.{Posted}
 use Rattle.bx_entry.specs.declared.entry.Kind.{Kind}
 use Rattle.bx_entry.specs.declared.entry.Kind.TheVariants as entries
 use Rattle.bx_entry.specs.Registry.{Registered, is_version, is_polling, is_text, connect_cases, subscription_cases, publish_cases, cases_of, client_id, closed, count_live, extended, hold_of, is_ack, kind_for, left_by, live_with_id, named_by, refusal, sender_of, slot_for}
-use Rattle.bx_registry.specs.Rolls.{Members, live_in, with_live, newcomer, outcome, judged_by}
-use Rattle.bx_registry.specs.Tables.{client_at, AllLive}
-use Rattle.bx_registry.specs.Edits.{edited, CanEdit}
+use Rattle.bx_roster.specs.Live.{Members, live_in, with_live}
+use Rattle.bx_roster.specs.Tables.{client_at, AllLive}
+use Rattle.bx_roster.specs.Edits.{edited, CanEdit}
+use Rattle.bx_roster.specs.declared.edit.Edit.{Edit}
+use Rattle.bx_roster.specs.declared.edit.Edit.TheVariants.{Open}
+use Rattle.bx_roster.proofs.Slots.{live_in-all, eq-true}
+use Rattle.bx_registry.specs.Rolls.{newcomer, outcome, judged_by}
 use Rattle.bx_registry.specs.Drafts.{IsSender}
 use Rattle.bx_registry.specs.Plans.{planned_at}
 use Rattle.bx_registry.specs.Judgements.{edit_for, IsOutcome}
-use Rattle.bx_registry.specs.declared.change.Edit.{Edit}
-use Rattle.bx_registry.specs.declared.change.Edit.TheVariants.{Open}
 use Rattle.bx_registry.specs.declared.plan.Planned.{Planned}
 use Rattle.bx_registry.specs.declared.plan.Planned.TheVariants.{Ready}
-use Rattle.bx_registry.proofs.Slots.{live_in-all, eq-true}
 use Rattle.bx_registry.proofs.Digits.{drop-client_id}
 
 pub all_three : {T E : Type 0} (r : Result T E) (P Q R S : T → Type 0) → ((x : T) → P x → Q x → R x → S x) → IfOk r P → IfOk r Q → IfOk r R → IfOk r S

@@ -1,8 +1,6 @@
 pub mod Lists
 pub mod Steps
-pub mod Slots
-pub mod Dues
-pub mod Past
+pub mod Known
 pub mod Digits
 pub mod Drafting
 pub mod Judging

@@ -9,13 +9,15 @@ use Rattle.bx_message.specs.Columns.{column_of, is_handshake}
 use Rattle.bx_entry.specs.Listing.{Posted, Listed, Post, listed_from}
 use Rattle.bx_entry.specs.declared.entry.Entry.{Entry}
 use Rattle.bx_entry.specs.Registry.{Registered, named_by, refusal}
-use Rattle.bx_registry.specs.Rolls.{Members, Outcome, Roll, after, found, next, step, outcome, judged_by}
+use Rattle.bx_roster.specs.Live.{Members}
+use Rattle.bx_registry.specs.Rolls.{Outcome, Roll, after, found, next, step, outcome, judged_by}
 use Rattle.bx_registry.specs.Drafts.{Drafted, members_of}
 use Rattle.std.proofs.lemmas.Bool.{ltb-false}
-use Rattle.bx_registry.specs.Edits.{Amendment, CanEditEach, IsPlannedAt, IsWithin, changed, edited, edited_by}
-use Rattle.bx_registry.specs.declared.change.Edit.{Edit}
-use Rattle.bx_registry.specs.declared.change.Edits.{Edits}
-use Rattle.bx_registry.specs.declared.change.Edits.TheVariants.{Each, Sweep}
+use Rattle.bx_roster.specs.Edits.{CanEditEach, edited, edited_by}
+use Rattle.bx_roster.specs.declared.edit.Edit.{Edit}
+use Rattle.bx_roster.specs.declared.edit.Edits.{Edits}
+use Rattle.bx_roster.specs.declared.edit.Edits.TheVariants.{Each, Sweep}
+use Rattle.bx_registry.specs.Changes.{Amendment, IsPlannedAt, IsWithin, changed}
 use Rattle.bx_registry.specs.declared.plan.AdmitFault.TheVariants.{BadMoment, Ended}
 use Rattle.bx_registry.proofs.Drafting.{limit-same}
 use Rattle.bx_registry.specs.Plans.{checked, fault_of, entries_in, slots_in}

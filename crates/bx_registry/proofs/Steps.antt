@@ -1,6 +1,6 @@
 -- What is judged by the sessions is judged by the live ones.
-use Rattle.std.proofs.Common.{◌≡◌, ℕ, ◌+◌, Bool, true, false, List, [], ◌∷◌, ◌++◌, length, map, refl, sym, ap, ◌∙◌, fold, append_assoc, append-nil, length-append}
-use Rattle.std.specs.Prelude.{max, Option, Some, None, if◌then◌else◌}
+use Rattle.std.proofs.Common.{◌≡◌, ℕ, ◌+◌, Bool, List, [], ◌∷◌, ◌++◌, length, map, refl, sym, ap, ◌∙◌, fold, append_assoc, append-nil, length-append}
+use Rattle.std.specs.Prelude.{max, Option, Some, None}
 use Rattle.std.proofs.lemmas.List.{length-map}
 use Rattle.std.proofs.lemmas.List.Elements.{filter-append}
 use Rattle.bx_names.specs.Faults.{first_case}
@@ -14,17 +14,19 @@ use Rattle.bx_message.specs.declared.message.TextMember.TheVariants.{Absent, Not
 use Rattle.bx_message.specs.Columns.{column_of}
 use Rattle.bx_entry.specs.Listing.{Posted, Listed, Post}
 use Rattle.bx_entry.specs.Listing as messages
-use Rattle.bx_entry.specs.Registry.{Registered, Registry, Judged, judge, judged_by, refusal, cases_of, sender_of, named_by, count_live, extended, closed, left_by, swept, overdue, hold_of}
-use Rattle.bx_registry.specs.Rolls.{Roll, roll_of, live_in, step, next, after, found, noted, outcome, Outcome, tick_outcome}
+use Rattle.bx_entry.specs.Registry.{Registered, Registry, Judged, judge, judged_by, refusal, cases_of, sender_of, named_by, count_live, extended, closed, left_by, overdue, hold_of}
+use Rattle.bx_roster.specs.Live.{live_in}
+use Rattle.bx_registry.specs.Rolls.{Roll, roll_of, step, next, after, found, noted, outcome, Outcome, tick_outcome}
 use Rattle.bx_registry.specs.Rolls as rolls
 use Rattle.bx_registry.specs.Laws.{GoesOn, StepsAgree, RunsAgree}
-use Rattle.bx_registry.proofs.Lists.{filter-map-filter, filter-map, filter-more, find-more, filter-filter}
+use Rattle.bx_roster.proofs.Live.{live_in-live, live_in-extended, live_in-closed, live_in-swept}
+use Rattle.bx_registry.proofs.Lists.{filter-more, find-more}
 
 abbrev is_live : Registered → Bool
 is_live r = r.live
 
 count_live-live : (sessions : List Registered) → count_live (live_in sessions) ≡ count_live sessions
-count_live-live sessions = ap length (filter-filter is_live sessions)
+count_live-live sessions = ap length (live_in-live sessions)
 
 pub sender_of-live : (sessions : List Registered) (client : TextMember) → sender_of (live_in sessions) client ≡ sender_of sessions client
 sender_of-live sessions Absent = refl
@@ -52,35 +54,18 @@ named_by-live sessions Disconnect m = sender_of-live sessions m.client
 named_by-live sessions Publish m = sender_of-live sessions m.client
 named_by-live sessions UnknownMeta m = refl
 
-extended-same-by : (number due : ℕ) (r : Registered) (b : Bool) → is_live (if b then record r { due = max r.due due } else r) ≡ is_live r
-extended-same-by number due r true = refl
-extended-same-by number due r false = refl
-
-pub live_in-extended : (number due : ℕ) (sessions : List Registered) → live_in (extended number due sessions) ≡ extended number due (live_in sessions)
-live_in-extended number due sessions = filter-map is_live _ (λ r. extended-same-by number due r _) sessions
-
-closed-stays-by : (r : Registered) (b : Bool) → is_live r ≡ false → is_live (if b then record r { live = false } else r) ≡ false
-closed-stays-by r true e = refl
-closed-stays-by r false e = e
-
-pub live_in-closed : (number : ℕ) (sessions : List Registered) → live_in (closed number (live_in sessions)) ≡ live_in (closed number sessions)
-live_in-closed number sessions = filter-map-filter is_live _ (λ r e. closed-stays-by r _ e) sessions
-
-pub live_in-swept : (moment : ℕ) (sessions : List Registered) → live_in (swept moment (live_in sessions)) ≡ live_in (swept moment sessions)
-live_in-swept moment sessions = filter-map-filter is_live _ (λ r e. closed-stays-by r _ e) sessions
-
 pub overdue-live : (moment : ℕ) (sessions : List Registered) → overdue moment (live_in sessions) ≡ overdue moment sessions
 overdue-live moment sessions = ap (map (λ (r : Registered). r.number)) (filter-more is_live _ sessions)
 
 left_by-live : (column : Column) (number due : ℕ) (sessions : List Registered) →
     live_in (left_by column number (extended number due (live_in sessions))) ≡ live_in (left_by column number (extended number due sessions))
-left_by-live Handshake number due sessions = ap live_in (sym (live_in-extended number due sessions)) ∙ filter-filter is_live (extended number due sessions)
-left_by-live Connect number due sessions = ap live_in (sym (live_in-extended number due sessions)) ∙ filter-filter is_live (extended number due sessions)
-left_by-live Subscribe number due sessions = ap live_in (sym (live_in-extended number due sessions)) ∙ filter-filter is_live (extended number due sessions)
-left_by-live Unsubscribe number due sessions = ap live_in (sym (live_in-extended number due sessions)) ∙ filter-filter is_live (extended number due sessions)
+left_by-live Handshake number due sessions = ap live_in (sym (live_in-extended number due sessions)) ∙ live_in-live (extended number due sessions)
+left_by-live Connect number due sessions = ap live_in (sym (live_in-extended number due sessions)) ∙ live_in-live (extended number due sessions)
+left_by-live Subscribe number due sessions = ap live_in (sym (live_in-extended number due sessions)) ∙ live_in-live (extended number due sessions)
+left_by-live Unsubscribe number due sessions = ap live_in (sym (live_in-extended number due sessions)) ∙ live_in-live (extended number due sessions)
 left_by-live Disconnect number due sessions = ap (λ ss. live_in (closed number ss)) (sym (live_in-extended number due sessions)) ∙ live_in-closed number (extended number due sessions)
-left_by-live Publish number due sessions = ap live_in (sym (live_in-extended number due sessions)) ∙ filter-filter is_live (extended number due sessions)
-left_by-live UnknownMeta number due sessions = ap live_in (sym (live_in-extended number due sessions)) ∙ filter-filter is_live (extended number due sessions)
+left_by-live Publish number due sessions = ap live_in (sym (live_in-extended number due sessions)) ∙ live_in-live (extended number due sessions)
+left_by-live UnknownMeta number due sessions = ap live_in (sym (live_in-extended number due sessions)) ∙ live_in-live (extended number due sessions)
 
 -- ---- one element
 

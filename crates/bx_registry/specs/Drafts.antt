@@ -2,12 +2,12 @@
 use Rattle.std.specs.Prelude.{ℕ, ◌≡◌, ◌<◌, ◌^◌, ◌==◌, true, false, List, length, fold, if◌then◌else◌, Option, Some, None}
 use Rattle.std.specs.Option.{option_or}
 use Rattle.bx_entry.specs.Registry.{Registered}
-use Rattle.bx_registry.specs.Rolls.{Members}
-use Rattle.bx_registry.specs.Tables.{AllLive, IsTable}
-use Rattle.bx_registry.specs.Edits.{edited, CanEditEach}
+use Rattle.bx_roster.specs.Live.{Members}
+use Rattle.bx_roster.specs.Tables.{AllLive, IsTable}
+use Rattle.bx_roster.specs.Edits.{edited, CanEditEach}
+use Rattle.bx_roster.specs.declared.edit.Edit.{Edit}
+use Rattle.bx_roster.specs.declared.edit.Edit.TheVariants.{Open, Extend, Close}
 use Rattle.bx_registry.specs.declared.draft.Sender.{Sender}
-use Rattle.bx_registry.specs.declared.change.Edit.{Edit}
-use Rattle.bx_registry.specs.declared.change.Edit.TheVariants.{Open, Extend, Close}
 
 -- the sessions that the request finds, and the edits of its messages so far
 pub record Drafted : Type 0 where

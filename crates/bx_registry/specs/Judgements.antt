@@ -3,11 +3,12 @@ use Rattle.std.specs.Prelude.{ℕ, ◌≡◌, fold, option_to_list, Option, Some
 use Rattle.bx_message.specs.declared.column.Column.{Column}
 use Rattle.bx_message.specs.declared.column.Column.TheVariants as columns
 use Rattle.bx_entry.specs.declared.entry.Kind.{Kind}
-use Rattle.bx_registry.specs.Rolls.{Members, Outcome}
-use Rattle.bx_registry.specs.Edits.{edited, CanEditEach}
+use Rattle.bx_roster.specs.Live.{Members}
+use Rattle.bx_roster.specs.Edits.{edited, CanEditEach}
+use Rattle.bx_roster.specs.declared.edit.Edit.{Edit}
+use Rattle.bx_roster.specs.declared.edit.Edit.TheVariants.{Extend, Close}
+use Rattle.bx_registry.specs.Rolls.{Outcome}
 use Rattle.bx_registry.specs.Plans.{planned_at}
-use Rattle.bx_registry.specs.declared.change.Edit.{Edit}
-use Rattle.bx_registry.specs.declared.change.Edit.TheVariants.{Extend, Close}
 use Rattle.bx_registry.specs.declared.plan.Planned.{Planned}
 
 -- an accepted message of a session moves its due moment on; a disconnect closes the session

@@ -1,9 +1,7 @@
 pub mod Rolls
 pub mod Laws
-pub mod Tables
-pub mod Queues
 pub mod Ids
-pub mod Edits
+pub mod Changes
 pub mod Drafts
 pub mod Postings
 pub mod Plans

@@ -4,7 +4,8 @@ use Rattle.bx_advice.specs.declared.config.Config.{Config}
 use Rattle.bx_advice.specs.Limits.{greatest_moment}
 use Rattle.bx_entry.specs.Listing.{Listed}
 use Rattle.bx_entry.specs.declared.entry.Entry.{Entry}
-use Rattle.bx_registry.specs.Rolls.{Members, Outcome, Roll, after, found}
+use Rattle.bx_roster.specs.Live.{Members}
+use Rattle.bx_registry.specs.Rolls.{Outcome, Roll, after, found}
 use Rattle.bx_registry.specs.Plans.{planned_at, entries_in, slots_in}
 use Rattle.bx_registry.specs.declared.plan.Planned.{Planned}
 

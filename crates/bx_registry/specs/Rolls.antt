@@ -1,6 +1,6 @@
 -- The registry without what is over: of the sessions the live ones, of the list its length. Which message is refused and why, and what an
 -- accepted one comes to, is said by the words of the registry itself.
-use Rattle.std.specs.Prelude.{ℕ, ◌+◌, max, Bool, List, [], ◌∷◌, ◌++◌, length, filter, fold, if◌then◌else◌, Option, Some, None, option_map}
+use Rattle.std.specs.Prelude.{ℕ, ◌+◌, max, Bool, List, [], ◌∷◌, ◌++◌, length, fold, if◌then◌else◌, Option, Some, None, option_map}
 use Rattle.bx_advice.specs.declared.config.Config.{Config}
 use Rattle.bx_advice.specs.declared.advice.Case.TheVariants.{Failed}
 use Rattle.bx_advice.specs.declared.advice.Case.TheVariants as advice
@@ -14,14 +14,9 @@ use Rattle.bx_entry.specs.declared.entry.Kind.TheVariants as entries
 use Rattle.bx_entry.specs.Listing.{Posted, Listed, Post}
 use Rattle.bx_entry.specs.Listing as messages
 use Rattle.bx_entry.specs.Registry.{Registered, Registry, Judged, PlaceSlot, Ready, NoSlot, client_id, extended, hold_of, is_ack, kind_for, left_by, named_by, overdue, refusal, slot_for, swept}
+use Rattle.bx_roster.specs.Live.{Members, live_in, with_live}
 
 -- ---- the state
-
--- how many sessions may be live, how many were ever opened, and those that are live, in the order of their numbers
-pub record Members : Type 0 where
-  pub limit : ℕ
-  pub opened : ℕ
-  pub live : List Registered
 
 -- the configuration, the sessions, the greatest moment so far, and how many entries the list has
 pub record Roll : Type 0 where
@@ -29,10 +24,6 @@ pub record Roll : Type 0 where
   pub members : Members
   pub clock : ℕ
   pub length : ℕ
-
--- the sessions of a list that are live
-abbrev pub live_in : List Registered → List Registered
-live_in sessions = filter (λ (r : Registered). r.live) sessions
 
 -- what stays of the registry
 abbrev pub roll_of : Config → Registry → Roll
@@ -52,10 +43,6 @@ pub record Outcome : Type 0 where
   pub sender : Option ℕ
   pub hold : ℕ
   pub slot : PlaceSlot
-
--- these sessions in place of those that are live
-abbrev pub with_live : Members → List Registered → Members
-with_live ms live = record ms { live = live }
 
 -- a refused message changes nothing
 abbrev pub refused : Config → Members → Posted → Error → Option Registered → Outcome

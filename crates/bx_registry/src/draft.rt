@@ -2,14 +2,13 @@
 ghost use Rattle.std.specs.Prelude.{◌≡◌, ◌+◌, ◌<◌, ◌≤◌, ◌++◌, ◌∷◌, [], ℕ, length, IfOk, OnOk, OnErr, MatchOption};
 ghost use Rattle.std.specs.Option.{option_copied};
 ghost use Rattle.bx_entry.specs.Registry.{count_live, live_with_id, named_by, sender_of};
-ghost use Rattle.bx_registry.specs.Tables.{AllLive, IsTable, client_at};
+ghost use Rattle.bx_roster.specs.Tables.{AllLive, IsTable, client_at};
+ghost use Rattle.bx_roster.specs.Edits.{CanEdit, CanEditEach};
 ghost use Rattle.bx_registry.specs.Drafts.{Drafted, IsSender, client_after, members_of};
-ghost use Rattle.bx_registry.specs.Edits.{CanEdit, CanEditEach};
 
-use crate::change::Edit;
 use crate::id::number_in;
-use crate::table::Table;
 use bx_message::{Column, Message, Sequence, Text, TextMember};
+use bx_roster::{Edit, Table};
 use std::alloc::{AllocError, AllocFailed, Global};
 use std::marker::Model;
 

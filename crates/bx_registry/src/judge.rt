@@ -13,7 +13,7 @@ ghost use Rattle.bx_message.specs.Columns.{column_of};
 ghost use Rattle.bx_message.specs.Replies.{reply_to};
 ghost use Rattle.bx_entry.specs.declared.entry.Kind.TheVariants as entries;
 ghost use Rattle.bx_entry.specs.Registry.{Registered, acked_by, client_id, event_of, hold_of, is_ack, kind_for, patterns_of, slot_for};
-ghost use Rattle.bx_registry.specs.declared.change.Edit.TheVariants as edits;
+ghost use Rattle.bx_roster.specs.declared.edit.Edit.TheVariants as edits;
 ghost use Rattle.bx_registry.specs.Postings.{posted_of};
 ghost use Rattle.bx_registry.specs.Rolls.{newcomer, outcome};
 ghost use Rattle.bx_entry.specs.Listing as messages;
@@ -21,19 +21,18 @@ ghost use Rattle.bx_registry.specs.Drafts.{members_of, named};
 ghost use Rattle.bx_registry.specs.Plans.{planned_at};
 ghost use Rattle.bx_registry.specs.Judgements.{IsOutcome, edit_for};
 
-use crate::change::Edit;
 use crate::draft::{Draft, Sender};
 use crate::id::client_id;
 use crate::plan::Planned;
 use crate::posted::Posted;
 use crate::refusal::refusal;
-use crate::session::Session;
 use bx_advice::{Case, Config, Error};
 use bx_entry::Kind;
 use bx_message::{
     AckMember, AckReply, Column, Event, Message, RawJson, Reply, Sequence, SharedEvent, Text,
 };
 use bx_names::Pattern;
+use bx_roster::{Edit, Session};
 use std::alloc::{AllocError, AllocFailed, Global};
 
 /// What a message comes to: what it changes of the sessions, its entry's kind, and how it is answered.

@@ -3,7 +3,6 @@
 
 mod change;
 mod draft;
-mod due_queue;
 mod id;
 mod judge;
 mod laws;
@@ -12,11 +11,6 @@ mod planner;
 mod posted;
 mod refusal;
 mod registry;
-mod roster;
-mod session;
-mod table;
-#[cfg(test)]
-mod tests;
 
 pub use change::Change;
 pub use laws::{runs_agree, steps_agree};

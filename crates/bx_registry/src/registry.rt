@@ -5,17 +5,17 @@ ghost use Rattle.bx_entry.specs.Listing.{request};
 ghost use Rattle.bx_entry.specs.Listing as messages;
 ghost use Rattle.bx_entry.specs.Registry.{Registered, empty_registry};
 ghost use Rattle.bx_registry.specs.Rolls.{after, found, next, roll_of, step};
-ghost use Rattle.bx_registry.specs.Edits.{IsPlannedAt, changed};
+ghost use Rattle.bx_registry.specs.Changes.{IsPlannedAt, changed};
 ghost use Rattle.bx_registry.specs.Plans.{checked, entries_in, fault_of, slots_in};
 
-use crate::change::{Change, Edits};
+use crate::change::Change;
 use crate::draft::Draft;
 use crate::plan::{AdmitFault, Plan, TickPlan};
 use crate::planner::{Start, plan_all};
-use crate::table::Table;
 use bx_advice::{Config, MAX_LENGTH, MAX_MOMENT};
 use bx_entry::{Batch, Entry, Kind};
 use bx_message::{Message, Sequence};
+use bx_roster::{Edits, Table};
 use std::alloc::{AllocError, Global};
 use std::marker::Model;
 
@@ -34,7 +34,7 @@ pub struct Registry {
 
 impl Model for Registry {
     ghost use Rattle.bx_registry.specs.Rolls.{Roll};
-    ghost use Rattle.bx_registry.specs.Edits.{IsWithin};
+    ghost use Rattle.bx_registry.specs.Changes.{IsWithin};
 
     ghost Value = { Roll };
 

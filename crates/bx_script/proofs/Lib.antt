@@ -4,3 +4,4 @@ pub mod Parts
 pub mod Says
 pub mod Digits
 pub mod Script
+pub mod Fronts

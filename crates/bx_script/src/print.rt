@@ -1,9 +1,10 @@
-//! What is printed for the lines of a script.
-ghost use Rattle.std.specs.Prelude.{◌≡◌, ◌≢◌, ◌++◌, IfErr, IfOk, OnOk, codes, decimal, option_map, string_bytes};
-ghost use Rattle.std.specs.Io.KnownBytes.{Appends};
+//! What is printed for the lines of a script. At a fault a front of it is written.
+ghost use Rattle.std.specs.Prelude.{◌≡◌, ◌≢◌, ◌++◌, IfErr, IfOk, codes, decimal, option_map, string_bytes};
+ghost use Rattle.std.specs.Io.{WritesAtMost};
+ghost use Rattle.std.specs.Io.KnownBytes.{WriteAppends};
 ghost use Rattle.bx_entry.specs.Inputs.{ReadInput};
 ghost use Rattle.bx_entry.specs.Replay.{line_text, refusal_status, response_text, result_text};
-ghost use Rattle.bx_script.specs.Printing.{is_tick, numbered};
+ghost use Rattle.bx_script.specs.Printing.{Writes, is_tick, numbered};
 
 use crate::error::ScriptFault;
 use bx_entry::Refusal;
@@ -11,12 +12,15 @@ use bx_message::{Item, Sequence};
 use bx_transport::{callback_of, response_of};
 use itoa::Buffer;
 use std::alloc::{AllocError, Global};
-use std::io::Write;
+use std::io::{ErrorKind, Write};
+
+// How often a part of a line is written on at most: 2^40 times.
+const MAX_WRITES: u64 = 1_099_511_627_776;
 
 /// Writes that the line of this number has no known form: `bad`.
 pub fn write_bad<W: Write>(writer: &mut W, number: u64) -> Result<(), ScriptFault>
-    ensures text { OnOk result (Appends (W.contents writer.old) (W.contents writer.new)
-        (line_text number (codes "bad"))) }
+    ensures text { Writes (W.contents writer.old) (W.contents writer.new) result
+        (line_text number (codes "bad")) }
     ensures fault { IfErr result (λ e. e ≢ ScriptFault.Read) }
 {
     write_line(writer, number, b"bad", b"")
@@ -24,8 +28,8 @@ pub fn write_bad<W: Write>(writer: &mut W, number: u64) -> Result<(), ScriptFaul
 
 /// Writes that some message of the line of this number has no answer: `held`.
 pub fn write_held<W: Write>(writer: &mut W, number: u64) -> Result<(), ScriptFault>
-    ensures text { OnOk result (Appends (W.contents writer.old) (W.contents writer.new)
-        (line_text number (codes "held"))) }
+    ensures text { Writes (W.contents writer.old) (W.contents writer.new) result
+        (line_text number (codes "held")) }
     ensures fault { IfErr result (λ e. e ≢ ScriptFault.Read) }
 {
     write_line(writer, number, b"held", b"")
@@ -33,8 +37,8 @@ pub fn write_held<W: Write>(writer: &mut W, number: u64) -> Result<(), ScriptFau
 
 /// Writes with which status the line of this number is refused.
 pub fn write_status<W: Write>(writer: &mut W, number: u64, status: u16) -> Result<(), ScriptFault>
-    ensures text { OnOk result (Appends (W.contents writer.old) (W.contents writer.new)
-        (line_text number (decimal status))) }
+    ensures text { Writes (W.contents writer.old) (W.contents writer.new) result
+        (line_text number (decimal status)) }
     ensures fault { IfErr result (λ e. e ≢ ScriptFault.Read) }
 {
     let mut buffer = Buffer::new();
@@ -52,8 +56,8 @@ pub fn write_result<W: Write>(
     answer: &Result<Sequence<Item>, Refusal>,
 ) -> Result<(), ScriptFault>
     ensures text { (read : ReadInput) → is_tick read ≡ tick
-        → OnOk result (Appends (W.contents writer.old) (W.contents writer.new)
-        (result_text (numbered number (option_map string_bytes callback.now) read) read answer.now)) }
+        → Writes (W.contents writer.old) (W.contents writer.new) result
+        (result_text (numbered number (option_map string_bytes callback.now) read) read answer.now) }
     ensures fault { IfErr result (λ e. e ≢ ScriptFault.Read) }
 {
     match answer {
@@ -70,8 +74,8 @@ fn write_response<W: Write>(
     callback: &Option<String>,
     items: &[Item],
 ) -> Result<(), ScriptFault>
-    ensures text { OnOk result (Appends (W.contents writer.old) (W.contents writer.new)
-        (line_text number (codes "200 " ++ response_text (option_map string_bytes callback.now) items.now))) }
+    ensures text { Writes (W.contents writer.old) (W.contents writer.new) result
+        (line_text number (codes "200 " ++ response_text (option_map string_bytes callback.now) items.now)) }
     ensures fault { IfErr result (λ e. e ≢ ScriptFault.Read) }
 {
     match body_of(alloc, callback, items) {
@@ -108,8 +112,8 @@ fn write_line<W: Write>(
     lead: &[u8],
     text: &[u8],
 ) -> Result<(), ScriptFault>
-    ensures text { OnOk result (Appends (W.contents writer.old) (W.contents writer.new)
-        (line_text number (lead.now ++ text.now))) }
+    ensures text { Writes (W.contents writer.old) (W.contents writer.new) result
+        (line_text number (lead.now ++ text.now)) }
     ensures fault { IfErr result (λ e. e ≢ ScriptFault.Read) }
 {
     let mut buffer = Buffer::new();
@@ -120,12 +124,32 @@ fn write_line<W: Write>(
     put(writer, b"\n")
 }
 
-fn put<W: Write>(writer: &mut W, bytes: &[u8]) -> Result<(), ScriptFault>
-    ensures bytes { OnOk result (Appends (W.contents writer.old) (W.contents writer.new) bytes.now) }
+// Writes all of a text.
+fn put<W: Write>(writer: &mut W, text: &[u8]) -> Result<(), ScriptFault>
+    ensures text { Writes (W.contents writer.old) (W.contents writer.new) result text.now }
     ensures fault { IfErr result (λ e. e ≢ ScriptFault.Read) }
 {
-    match writer.write_all(bytes) {
-        Ok(()) => Ok(()),
+    let mut rest = text;
+    for _ in 0..MAX_WRITES {
+        if rest.is_empty() {
+            return Ok(());
+        }
+        let count = write_on(writer, rest)?;
+        rest = &rest[count..];
+    }
+    Err(ScriptFault::Write)
+}
+
+// Writes some of what is left of a text, or nothing where the write was interrupted, and gives how many bytes that is.
+fn write_on<W: Write>(writer: &mut W, rest: &[u8]) -> Result<usize, ScriptFault>
+    ensures within { WritesAtMost result rest.now }
+    ensures bytes { WriteAppends (W.contents writer.old) (W.contents writer.new) result rest.now }
+    ensures fault { IfErr result (λ e. e ≢ ScriptFault.Read) }
+{
+    match writer.write(rest) {
+        Ok(0) => Err(ScriptFault::Write),
+        Ok(count) => Ok(count),
+        Err(error) if error.kind() == ErrorKind::Interrupted => Ok(0),
         Err(error) => Err(ScriptFault::of_write(&error)),
     }
 }

@@ -213,6 +213,43 @@ fn a_failed_write_leaves_a_front(rt: HostRuntime) -> Result<(), Fail> {
     Ok(())
 }
 
+// Takes two bytes a write, and is interrupted before each.
+#[derive(Drop)]
+struct Halting {
+    held: Vec<u8>,
+    ready: bool,
+}
+
+impl Write for Halting {
+    fn write(&mut self, buf: &[u8]) -> io::Result<usize> {
+        self.ready = !self.ready;
+        if self.ready {
+            return Err(io::Error::from(io::ErrorKind::Interrupted));
+        }
+        let count = buf.len().min(2);
+        self.held.extend_from_slice(&buf[..count])?;
+        Ok(count)
+    }
+
+    fn flush(&mut self) -> io::Result<()> {
+        Ok(())
+    }
+}
+
+#[test]
+fn short_and_interrupted_writes_go_on(rt: HostRuntime) -> Result<(), Fail> {
+    let alloc = rt.alloc();
+    let mut writer = Halting {
+        held: Vec::new(alloc),
+        ready: false,
+    };
+    let none = Ok(Sequence::new(alloc));
+    write_result(alloc, &mut writer, 12, &None, false, &none)?;
+    write_held(&mut writer, 7)?;
+    assert_eq!(rt; writer.held.as_slice(), b"12 200 []\n7 held\n".as_slice());
+    Ok(())
+}
+
 #[test]
 fn faults_have_texts(rt: HostRuntime) -> Result<(), Fail> {
     let alloc = rt.alloc();

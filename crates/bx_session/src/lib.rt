@@ -5,8 +5,6 @@ mod answered;
 mod laws;
 mod pending;
 mod session;
-#[cfg(test)]
-mod tests;
 
 pub use answered::{Answered, Connection, Delivery};
 pub use laws::{

@@ -8,8 +8,8 @@ use Rattle.bx_entry.specs.declared.entry.Kind.{Kind}
 use Rattle.bx_entry.specs.declared.entry.Kind.TheVariants.{Opened, Connect, Subscribe, Unsubscribe, Publish, Disconnect, Refused, Tick}
 use Rattle.bx_session.specs.declared.answered.Answered.{Answered}
 use Rattle.bx_session.specs.Seats.{Seat}
+use Rattle.bx_connects.specs.Connects.{connect_at}
 use Rattle.bx_shard.specs.declared.sessions.Sessions.{Sessions}
-use Rattle.bx_shard.specs.Connects.{connect_at}
 use Rattle.bx_shard.specs.Following.{Followed, GivenBy, next_of, opening, starting}
 use Rattle.bx_shard.specs.Sessions.{IsCounted, is_counted, is_empty, subscriber_in}
 use Rattle.bx_shard.specs.States.{Applied, IsGiven, IsSound, State, begun, opened_by, opens_in, session_after}
@@ -55,7 +55,7 @@ counted_by_test (Some seat) patterns told = (
 module _ (shards : ℕ) (placing : ℕ → ℕ → ℕ) (index : ℕ) (shut : Bool) where
   -- the state of these sessions at this place
   abbrev pub at_place : ℕ → Sessions → State
-  at_place place s = record { setup = record { config = s.config; shards = s.config.shards; placing = placing }; index = index; place = place; shut = shut; sessions = s }
+  at_place place s = record { setup = record { config = s.config; shards = shards; placing = placing }; index = index; place = place; shut = shut; sessions = s }
 
   opening_same : (place : ℕ) (s : Sessions) (kind : Kind) (n : ℕ) → opening (opens_in (at_place place s).setup index kind) s.config kind n ≡ opened_by (at_place place s) kind n
   opening_same place s (Opened m ack) n = refl
@@ -82,33 +82,34 @@ module _ (shards : ℕ) (placing : ℕ → ℕ → ℕ) (index : ℕ) (shut : Bo
   starting_same place s e Refused p = refl
   starting_same place s e (Tick numbers) p = refl
 
-  given_same : (place : ℕ) (s : Sessions) (e : Entry) (a : Answered) → GivenBy s e a → IsGiven (at_place place s) e a
-  given_same place s e a g = record { number = g.number; subscriber = g.subscriber; here = g.here; given = g.given }
+  given_same : (place : ℕ) (s : Sessions) (e : Entry) (n : ℕ) (a : Answered) → GivenBy s e n a → IsGiven (at_place place s) e n a
+  given_same place s e n a g = record { subscriber = g.subscriber; here = g.here; given = g.given }
 
-  given_back : (place : ℕ) (s : Sessions) (e : Entry) (a : Answered) → IsGiven (at_place place s) e a → GivenBy s e a
-  given_back place s e a g = record { number = g.number; subscriber = g.subscriber; here = g.here; given = g.given }
+  given_back : (place : ℕ) (s : Sessions) (e : Entry) (n : ℕ) (a : Answered) → IsGiven (at_place place s) e n a → GivenBy s e n a
+  given_back place s e n a g = record { subscriber = g.subscriber; here = g.here; given = g.given }
 
   -- sessions that have followed an entry
   pub applied : (place : ℕ) (e : Entry) (old new : Sessions) → e.place ≡ place → Followed (opens_in (at_place place old).setup index e.kind) e old new
       → Applied (at_place place old) e (at_place (place + 1) new)
   applied place e old new here f = record {
     place = ap (λ p. p + 1) (sym here);
-    setup = ap (λ (c : Config). record { config = c; shards = c.shards; placing = placing }) f.config;
+    setup = ap (λ (c : Config). record { config = c; shards = shards; placing = placing }) f.config;
     index = refl;
     shut = refl;
     sessions = λ n. f.sessions n ∙ next_same place old e n (subscriber_in old n);
     connects = record {
-      given = λ a g. f.connects.given a (given_back place old e a g);
-      kept = λ p never. f.connects.kept p (λ a g. never a (given_same place old e a g)) ∙ starting_same place old e e.kind p;
+      given = λ n a g. f.connects.given n a (given_back place old e n a g);
+      kept = λ p never. f.connects.kept p (λ n a g. never n a (given_same place old e n a g)) ∙ starting_same place old e e.kind p;
     };
+    known = f.known;
   }
 
   -- nothing is known of the places behind the entry
   pub still_fresh : (place : ℕ) (e : Entry) (old new : Sessions) → e.place ≡ place → IsSound (at_place place old)
       → Followed (opens_in (at_place place old).setup index e.kind) e old new → (p : ℕ) → place + 1 ≤ p → connect_at new.connects p ≡ None
   still_fresh place e old new here sound f p behind =
-      f.connects.kept p (λ a g same.
-      let u = given_unanswered (at_place place old) e a sound (sym here) (given_same place old e a g) in
+      f.connects.kept p (λ n a g same.
+      let u = given_unanswered (at_place place old) e n a sound (sym here) (given_same place old e n a g) in
       let own : a.place ≡ e.place = u.own (ap (connect_at old.connects) same ∙ unknown) in
       absurd (omega (arith, own, same, here, behind)))
       ∙ starting_same place old e e.kind p

@@ -7,8 +7,8 @@ use Rattle.bx_names.specs.Globs.{Glob}
 use Rattle.bx_advice.specs.declared.config.Config.{Config}
 use Rattle.bx_session.specs.Seats.{Seat}
 use Rattle.bx_session.specs.Steps.{deadline_of}
-use Rattle.bx_shard.specs.declared.connects.ConnectState.{ConnectState}
-use Rattle.bx_shard.specs.declared.connects.ConnectState.TheVariants.{Held, Filed}
+use Rattle.bx_connects.specs.declared.connects.ConnectState.{ConnectState}
+use Rattle.bx_connects.specs.declared.connects.ConnectState.TheVariants.{Held, Filed}
 use Rattle.bx_shard.specs.Effects.{released_by}
 use Rattle.bx_shard.specs.Sessions.{forgetting, held_until, holds_until}
 use Rattle.bx_shard.specs.States.{let_go}
@@ -20,7 +20,7 @@ use Rattle.bx_shard.proofs.Ends.{Settles, release_settles}
 abbrev pub parted_from : ℕ → Option ConnectState → Option ConnectState
 parted_from m None = None
 parted_from m (Some (Held session deadline waker)) = cond (nat_eq m session) None (Some (Held session deadline waker))
-parted_from m (Some (Filed place answer)) = Some (Filed place answer)
+parted_from m (Some (Filed session place answer)) = Some (Filed session place answer)
 
 -- a connect that the session holds is let go
 parted_own : (m : ℕ) (o : Option ConnectState) (deadline : Option ℕ) → held_until o m ≡ Some deadline → None ≡ parted_from m o
@@ -30,7 +30,7 @@ parted_own m (Some (Held k d w)) deadline h = by (nat_eq k m) refl h
     by : (b : Bool) → nat_eq k m ≡ b → cond b (Some d) None ≡ Some deadline → None ≡ cond (nat_eq m k) None (Some (Held k d w))
     by true e g = sym (ap (λ c. cond c None (Some (Held k d w))) (eq-eqb m k (sym (eqb-true k m e))))
     by false e g = absurd (true≢false (ap is_none g))
-parted_own m (Some (Filed p a)) deadline h = absurd (true≢false (ap is_none h))
+parted_own m (Some (Filed j p a)) deadline h = absurd (true≢false (ap is_none h))
 
 -- any other connect stays
 parted_other : (m : ℕ) (o : Option ConnectState) → held_until o m ≡ None → o ≡ parted_from m o
@@ -40,7 +40,7 @@ parted_other m (Some (Held k d w)) h = by (nat_eq m k) refl
     by : (b : Bool) → nat_eq m k ≡ b → Some (Held k d w) ≡ cond b None (Some (Held k d w))
     by false e = refl
     by true e = absurd (true≢false (sym (ap is_none (sym (ap (λ c. cond c (Some d) None) (eq-eqb k m (sym (eqb-true m k e)))) ∙ h))))
-parted_other m (Some (Filed p a)) h = refl
+parted_other m (Some (Filed j p a)) h = refl
 
 -- what the end of a session forgets is the connect that it holds
 pub closing_parts : (config : Config) (C : ℕ → Option ConnectState) (S : ℕ → Option Seat) (m : ℕ) → Agree C S
@@ -62,7 +62,7 @@ closing_parts config C S m agree p = settled (release_settles config (S m))
 pub let_go_none : (o : Option ConnectState) → o ≡ let_go [] o
 let_go_none None = refl
 let_go_none (Some (Held k d w)) = refl
-let_go_none (Some (Filed p a)) = refl
+let_go_none (Some (Filed j p a)) = refl
 
 either : {X : Type 0} (a b : Bool) (x : Option X) → cond b None (cond a None x) ≡ cond (a || b) None x
 either true true x = refl
@@ -81,7 +81,7 @@ module _ (numbers : List ℕ) (i : ℕ) (more : i < length numbers) where
       by : (b : Bool) → parted_from (get_or numbers i 0) (cond b None (Some (Held k d w))) ≡ cond (b || nat_eq (get_or numbers i 0) k) None (Some (Held k d w))
       by true = refl
       by false = refl
-  let_go_more (Some (Filed p a)) = refl
+  let_go_more (Some (Filed j p a)) = refl
 
   -- and is gone
   pub gone_more : (n : ℕ) (o : Option Subscriber) → cond (nat_eq (get_or numbers i 0) n) None (cond (list_any (λ m. m == n) (take i numbers)) None o) ≡ cond (list_any (λ m. m == n) (take (i + 1) numbers)) None o

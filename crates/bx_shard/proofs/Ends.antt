@@ -17,10 +17,11 @@ use Rattle.bx_session.specs.declared.answered.Delivery.TheVariants.{Overflowed}
 use Rattle.bx_session.specs.Steps.{answer_to, begun, connect_answer, connected, deadline_of, delivered, delivered_to, delivery, delivery_to, given_from, giving, idle, idle_answer, is_due, overflowed, released, settled, settled_answer, success, ticked, unheld, window_given}
 use Rattle.bx_message.specs.declared.reply.AckReply.TheVariants.{NoAck}
 use Rattle.bx_entry.specs.Keeping.{ack_given}
-use Rattle.bx_shard.specs.declared.connects.ConnectState.{ConnectState}
-use Rattle.bx_shard.specs.Connects.{filed_as, held_by}
+use Rattle.bx_connects.specs.declared.connects.ConnectState.{ConnectState}
+use Rattle.bx_connects.specs.declared.connects.ConnectState.TheVariants.{Held, Filed}
+use Rattle.bx_connects.specs.Connects.{filed_as, filing, held_by}
 use Rattle.bx_shard.specs.Effects.{connect_filing, given_by, holding, released_by, ticked_answer}
-use Rattle.bx_shard.specs.Sessions.{IsCounted, ends_for, filing, forgetting, held_until, holds_until}
+use Rattle.bx_shard.specs.Sessions.{IsCounted, ends_for, forgetting, held_until, holds_until}
 use Rattle.bx_shard.proofs.Ties.{Agree, IsFree, IsNobody, ended, holds_own, still}
 use Rattle.bx_shard.proofs.Ties as ties
 
@@ -47,7 +48,8 @@ Settles before after answered = IsEnd before after answered ⊎ IsKept before af
 
 nobody_filed : (place : ℕ) (a : Answer) (o : Option ConnectState) → IsNobody (filed_as place a o)
 nobody_filed place a None n = refl
-nobody_filed place a (Some s) n = refl
+nobody_filed place a (Some (Held session deadline waker)) n = refl
+nobody_filed place a (Some (Filed session earlier replaced)) n = refl
 
 module _ (C D : ℕ → Option ConnectState) (S T : ℕ → Option Seat) (m : ℕ) (after : Option Seat) (answered : Option Answered) where
   kept_seats : ((n : ℕ) → T n ≡ cond (nat_eq m n) after (S n)) → IsKept (S m) after answered → (n p : ℕ) → holds_until (T n) p ≡ holds_until (S n) p

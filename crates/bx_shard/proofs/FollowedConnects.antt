@@ -17,16 +17,18 @@ use Rattle.bx_session.specs.declared.answered.Answered.{Answered}
 use Rattle.bx_session.specs.Agreement.{connection_answers}
 use Rattle.bx_session.specs.Seats.{Seat, opened, pending}
 use Rattle.bx_session.specs.Steps.{connect_answer, connected, connection, deadline_of, released, unheld}
-use Rattle.bx_shard.specs.declared.connects.ConnectState.{ConnectState}
-use Rattle.bx_shard.specs.declared.connects.ConnectState.TheVariants.{Filed}
+use Rattle.bx_connects.specs.declared.connects.ConnectState.{ConnectState}
+use Rattle.bx_connects.specs.declared.connects.ConnectState.TheVariants.{Filed}
+use Rattle.bx_connects.specs.Connects.{connect_at, filed_as, filing, held_by, session_at}
 use Rattle.bx_shard.specs.declared.sessions.Sessions.{Sessions}
-use Rattle.bx_shard.specs.Connects.{connect_at, filed_as, held_by}
 use Rattle.bx_shard.specs.Effects.{connect_filing, holding, released_by}
 use Rattle.bx_shard.specs.Following.{Followed, GivenBy, next_of, starting}
-use Rattle.bx_shard.specs.Sessions.{AreCounted, AreHeld, IsCounted, filing, held_until, holds_until, patterns_in, seat_in, subscriber_in}
+use Rattle.bx_shard.specs.Sessions.{AreCounted, AreHeld, IsCounted, holds_until, patterns_in, seat_in, subscriber_in}
+use Rattle.bx_shard.specs.States.{Connects}
 use Rattle.bx_shard.specs.Subscribers.{Subscriber, newcomer}
 use Rattle.bx_shard.proofs.Ends.{Settles, connect_settles, unheld_settles, with_hold}
 use Rattle.bx_shard.proofs.Handing.{seat_of_subscriber}
+use Rattle.bx_shard.proofs.Keeps.{filed_known, filing_session, held_session}
 use Rattle.bx_shard.proofs.Ties.{holds_own}
 
 -- ---- answers
@@ -56,32 +58,23 @@ unfiled place None C p never = refl
 unfiled place (Some a) C p never = ap (λ b. cond b (filed_as place a.answer (C a.place)) (C p)) (ne_eqb a.place p (never a refl))
 
 -- the answer to a known connect is filed
-filed : (place : ℕ) (o : Option Answered) (C : ℕ → Option ConnectState) (a : Answered) → o ≡ Some a → is_some (C a.place) ≡ true → filing place o C a.place ≡ Some (Filed place a.answer)
-filed place o C a is known =
+filed : (place n : ℕ) (o : Option Answered) (C : ℕ → Option ConnectState) (a : Answered) → o ≡ Some a → session_at (C a.place) ≡ Some n → filing place o C a.place ≡ Some (Filed n place a.answer)
+filed place n o C a is known =
     ap (λ g. filing place g C a.place) is
-    ∙ ap (λ b. cond b (filed_as place a.answer (C a.place)) (C a.place)) (eq-eqb a.place a.place refl) ∙ by (C a.place) known
-  where
-    by : (state : Option ConnectState) → is_some state ≡ true → filed_as place a.answer state ≡ Some (Filed place a.answer)
-    by None h = absurd (true≢false (sym h))
-    by (Some state) h = refl
+    ∙ ap (λ b. cond b (filed_as place a.answer (C a.place)) (C a.place)) (eq-eqb a.place a.place refl) ∙ filed_known place n a.answer (C a.place) known
 
 -- ---- which connect is answered
 
--- a connect that is held is known
-known_held : (state : Option ConnectState) (n : ℕ) (deadline : Option ℕ) → held_until state n ≡ Some deadline → is_some state ≡ true
-known_held None n deadline h = absurd (true≢false (ap is_none h))
-known_held (Some state) n deadline h = refl
-
--- a seat that lets a connect go answers one that is known
+-- a seat that lets a connect go answers its own
 let_go_known : (config : Config) (case : Case) (s : Sessions) (m : ℕ) (seat : Seat) (a : Answered) → AreHeld s → seat_in s m ≡ Some seat → released config case seat ≡ Some a
-    → is_some (connect_at s.connects a.place) ≡ true
+    → session_at (connect_at s.connects a.place) ≡ Some m
 let_go_known config case s m seat a held here given = by (unheld_settles config case seat)
   where
-    by : Settles (Some seat) (Some (unheld seat)) (released config case seat) → is_some (connect_at s.connects a.place) ≡ true
+    by : Settles (Some seat) (Some (unheld seat)) (released config case seat) → session_at (connect_at s.connects a.place) ≡ Some m
     by (inl end) =
         let own : a.place ≡ end.hold.place = ap (λ o. option_map_or (λ (y : Answered). y.place) o a.place) (sym given ∙ end.given) ∙ end.own in
         let is : seat ≡ end.seat = ap (λ o. option_map_or (λ (y : Seat). y) o seat) end.here in
-        known_held (connect_at s.connects a.place) m (deadline_of end.hold)
+        held_session (connect_at s.connects a.place) m (deadline_of end.hold)
         (held a.place m ∙ ap (λ o. holds_until o a.place) here ∙ ap (λ p. holds_until (Some seat) p) own ∙ ap (λ y. holds_until (Some y) end.hold.place) is
         ∙ holds_own end.seat end.hold end.held)
     by (inr kept) = absurd (true≢false (ap is_none (sym kept.none ∙ given)))
@@ -130,9 +123,10 @@ followed_opened_here stands e m ack old new kind here gone seats others counts h
   config = others.0;
   sessions = λ n. session_of new n (patterns_in old n) _ (ap (λ t. patterns_of t n) others.1) (seats n) ∙ by n (seat_in old n) refl;
   connects = record {
-    given = λ a g. absurd (nowhere a g.given);
+    given = λ n a g. absurd (nowhere a g.given);
     kept = λ p never. ap (λ c. connect_at c p) others.2;
   };
+  known = λ p m k. inl (sym (ap (λ c. session_at (connect_at c p)) others.2) ∙ k);
   counted = counts gone counted;
   held = holds gone held;
 })
@@ -162,9 +156,10 @@ followed_opened_elsewhere stands e m ack old new kind nothing same counted held 
       config = refl;
       sessions = λ n. by n (seat_in old n) refl;
       connects = record {
-        given = λ a g. absurd (nowhere a g.given);
+        given = λ n a g. absurd (nowhere a g.given);
         kept = λ p never. refl;
       };
+      known = λ p m k. inl k;
       counted = counted;
       held = held;
     }))
@@ -202,42 +197,42 @@ module _ (s : Sessions) (m : ℕ) (connect : Pending) (acked : Option ℕ) (seat
 
   -- the superseded connect is another
   apart : (a : Answered) → superseded ≡ Some a → nat_eq connect.place a.place ≡ false
-  apart a given = ne_eqb connect.place a.place (λ same. absurd (true≢false (sym (let_go_known s.config (Failed SupersededConnect) s m seat a held here given)
-      ∙ ap (λ p. is_some (connect_at s.connects p)) (sym same) ∙ ap is_some fresh)))
+  apart a given = ne_eqb connect.place a.place (λ same. absurd (true≢false (ap is_none (sym (ap session_at fresh) ∙ ap (λ p. session_at (connect_at s.connects p)) same
+      ∙ let_go_known s.config (Failed SupersededConnect) s m seat a held here given))))
 
   -- what was known is known
-  begun_known : (p : ℕ) → is_some (connect_at s.connects p) ≡ true → is_some (begun p) ≡ true
+  begun_known : (p : ℕ) → session_at (connect_at s.connects p) ≡ Some m → session_at (begun p) ≡ Some m
   begun_known p known = by (nat_eq connect.place p)
     where
-      by : (b : Bool) → is_some (cond b (held_by m (deadline_of connect)) (connect_at s.connects p)) ≡ true
+      by : (b : Bool) → session_at (cond b (held_by m (deadline_of connect)) (connect_at s.connects p)) ≡ Some m
       by true = refl
       by false = known
 
   -- the fresh one is known
-  begun_own : is_some (begun connect.place) ≡ true
-  begun_own = ap (λ b. is_some (cond b (held_by m (deadline_of connect)) (connect_at s.connects connect.place))) (eq-eqb connect.place connect.place refl)
+  begun_own : session_at (begun connect.place) ≡ Some m
+  begun_own = ap (λ b. session_at (cond b (held_by m (deadline_of connect)) (connect_at s.connects connect.place))) (eq-eqb connect.place connect.place refl)
 
   -- the answer to the superseded one is filed, and its own doesn't replace it
-  first_filed : (a : Answered) → superseded ≡ Some a → after a.place ≡ Some (Filed connect.place a.answer)
+  first_filed : (a : Answered) → superseded ≡ Some a → after a.place ≡ Some (Filed m connect.place a.answer)
   first_filed a given =
       unfiled connect.place answer (λ p. filing connect.place superseded begun p) a.place
       (λ b own same. true≢false (sym (eq-eqb connect.place a.place (sym (own_answer s.config connect acked seat b own) ∙ same)) ∙ apart a given))
-      ∙ filed connect.place superseded begun a given (begun_known a.place (let_go_known s.config (Failed SupersededConnect) s m seat a held here given))
+      ∙ filed connect.place m superseded begun a given (begun_known a.place (let_go_known s.config (Failed SupersededConnect) s m seat a held here given))
 
   -- its own answer is filed
-  own_filed : (a : Answered) → answer ≡ Some a → after a.place ≡ Some (Filed connect.place a.answer)
-  own_filed a given = filed connect.place answer (λ p. filing connect.place superseded begun p) a given
-      (subst (λ p. is_some (filing connect.place superseded begun p) ≡ true) (sym own)
-      (ap is_some (unfiled connect.place superseded begun connect.place (λ b gone same. true≢false (sym (eq-eqb connect.place b.place (sym same)) ∙ apart b gone))) ∙ begun_own))
+  own_filed : (a : Answered) → answer ≡ Some a → after a.place ≡ Some (Filed m connect.place a.answer)
+  own_filed a given = filed connect.place m answer (λ p. filing connect.place superseded begun p) a given
+      (subst (λ p. session_at (filing connect.place superseded begun p) ≡ Some m) (sym own)
+      (ap session_at (unfiled connect.place superseded begun connect.place (λ b gone same. true≢false (sym (eq-eqb connect.place b.place (sym same)) ∙ apart b gone))) ∙ begun_own))
     where
       own : a.place ≡ connect.place
       own = own_answer s.config connect acked seat a given
 
   -- so with each answer
-  each_filed : (a : Answered) → Contains (connection_answers (connection s.config connect acked seat)) a → after a.place ≡ Some (Filed connect.place a.answer)
+  each_filed : (a : Answered) → Contains (connection_answers (connection s.config connect acked seat)) a → after a.place ≡ Some (Filed m connect.place a.answer)
   each_filed a there = by (Contains-append_cases (option_to_list superseded) (option_to_list answer) a there)
     where
-      by : Contains (option_to_list superseded) a ⊎ Contains (option_to_list answer) a → after a.place ≡ Some (Filed connect.place a.answer)
+      by : Contains (option_to_list superseded) a ⊎ Contains (option_to_list answer) a → after a.place ≡ Some (Filed m connect.place a.answer)
       by (inl there) = first_filed a (one_given superseded a there)
       by (inr there) = own_filed a (one_given answer a there)
 
@@ -286,7 +281,8 @@ followed_pending stands e m client id acked hold old new kind fresh seats connec
     of_kind stands e (Connect m client id acked hold) old new kind (record {
       config = others.0;
       sessions = connected_sessions stands e m client id acked hold old new seats others.1;
-      connects = record { given = λ a g. given a g (nat_eq m g.number) refl; kept = kept };
+      connects = record { given = λ n a g. given n a g (nat_eq m n) refl; kept = kept };
+      known = λ p n k. known p n (seat_in old m) refl (sym (ap session_at (connects p)) ∙ k);
       counted = counts counted;
       held = holds held;
     })
@@ -297,15 +293,35 @@ followed_pending stands e m client id acked hold old new kind fresh seats connec
     follows : Entry
     follows = record e { kind = Connect m client id acked hold }
 
-    given : (a : Answered) (g : GivenBy old follows a) (b : Bool) → nat_eq m g.number ≡ b → connect_at new.connects a.place ≡ Some (Filed e.place a.answer)
-    given a g true same =
-        let here : seat_in old m ≡ Some g.subscriber.seat = ap (seat_in old) (eqb-true m g.number same) ∙ seat_here old g.number g.subscriber g.here in
+    given : (n : ℕ) (a : Answered) (g : GivenBy old follows n a) (b : Bool) → nat_eq m n ≡ b → connect_at new.connects a.place ≡ Some (Filed n e.place a.answer)
+    given n a g true same =
+        let here : seat_in old m ≡ Some g.subscriber.seat = ap (seat_in old) (eqb-true m n same) ∙ seat_here old n g.subscriber g.here in
         connects a.place ∙ ap (λ o. connect_filing old.config m connect acked o (connect_at old.connects) a.place) here
         ∙ each_filed old m connect acked g.subscriber.seat held here fresh a
         (subst (λ b. Contains (cond b (connection_answers (connection old.config connect acked g.subscriber.seat)) []) a) same g.given)
-    given a g false other = absurd (nowhere a (subst (λ b. Contains (cond b (connection_answers (connection old.config connect acked g.subscriber.seat)) []) a) other g.given))
+        ∙ ap (λ k. Some (Filed k e.place a.answer)) (eqb-true m n same)
+    given n a g false other = absurd (nowhere a (subst (λ b. Contains (cond b (connection_answers (connection old.config connect acked g.subscriber.seat)) []) a) other g.given))
 
-    kept : (p : ℕ) → ((a : Answered) → GivenBy old follows a → a.place ≢ p) → connect_at new.connects p ≡ starting old follows (Connect m client id acked hold) p
+    known : (p n : ℕ) (o : Option Seat) → seat_in old m ≡ o → session_at (connect_filing old.config m connect acked (seat_in old m) (connect_at old.connects) p) ≡ Some n
+        → (session_at (connect_at old.connects p) ≡ Some n) ⊎ Connects (subscriber_in old) follows p n
+    known p n None gone k = inl (sym (ap (λ o. session_at (connect_filing old.config m connect acked o (connect_at old.connects) p)) gone) ∙ k)
+    known p n (Some seat) here k =
+        by (nat_eq e.place p) refl
+        (sym (ap (λ o. session_at (connect_filing old.config m connect acked o (connect_at old.connects) p)) here
+        ∙ filing_session e.place (connection old.config connect acked seat).answered (λ q. filing e.place (connection old.config connect acked seat).superseded (holding m connect (connect_at old.connects)) q) p
+        ∙ filing_session e.place (connection old.config connect acked seat).superseded (holding m connect (connect_at old.connects)) p) ∙ k)
+      where
+        by : (b : Bool) → nat_eq e.place p ≡ b → session_at (cond b (held_by m (deadline_of connect)) (connect_at old.connects p)) ≡ Some n
+            → (session_at (connect_at old.connects p) ≡ Some n) ⊎ Connects (subscriber_in old) follows p n
+        by true same h = inr (record {
+          place = eqb-true e.place p same;
+          session = h;
+          here = subst (λ j. is_some (subscriber_in old j) ≡ true) (ap (λ o. option_map_or (λ (j : ℕ). j) o m) h)
+              (ap (λ o. is_some (option_map (with_patterns (patterns_in old m)) o)) here);
+        })
+        by false other h = inl h
+
+    kept : (p : ℕ) → ((n : ℕ) (a : Answered) → GivenBy old follows n a → a.place ≢ p) → connect_at new.connects p ≡ starting old follows (Connect m client id acked hold) p
     kept p never = connects p ∙ by (seat_in old m) refl
       where
         by : (o : Option Seat) → seat_in old m ≡ o → connect_filing old.config m connect acked (seat_in old m) (connect_at old.connects) p ≡ starting old follows (Connect m client id acked hold) p
@@ -314,8 +330,7 @@ followed_pending stands e m client id acked hold old new kind fresh seats connec
             ∙ ap (λ o. cond (is_some (option_map (with_patterns (patterns_in old m)) o)) (holding m connect (connect_at old.connects) p) (connect_at old.connects p)) (sym gone)
         by (Some seat) here =
             ap (λ o. connect_filing old.config m connect acked o (connect_at old.connects) p) here
-            ∙ others_kept old m connect acked seat held here fresh p (λ a there. never a (record {
-              number = m;
+            ∙ others_kept old m connect acked seat held here fresh p (λ a there. never m a (record {
               subscriber = with_patterns (patterns_in old m) seat;
               here = session_here old m seat here;
               given = subst (λ b. Contains (cond b (connection_answers (connection old.config connect acked seat)) []) a) (sym (eq-eqb m m refl)) there;
@@ -346,10 +361,11 @@ followed_connect_elsewhere stands e m client id acked hold old new kind gone sam
       config = refl;
       sessions = connected_sessions stands e m client id acked hold old old (λ n. seats n (nat_eq m n) refl) refl;
       connects = record {
-        given = λ a g. given a g (nat_eq m g.number) refl;
+        given = λ n a g. given n a g (nat_eq m n) refl;
         kept = λ p never.
             ap (λ o. cond (is_some (option_map (with_patterns (patterns_in old m)) o)) (holding m (pending e.place client id e.moment hold) (connect_at old.connects) p) (connect_at old.connects p)) (sym gone);
       };
+      known = λ p n k. inl k;
       counted = counted;
       held = held;
     }))
@@ -358,9 +374,9 @@ followed_connect_elsewhere stands e m client id acked hold old new kind gone sam
     seats n true is = ap (seat_in old) (sym (eqb-true m n is)) ∙ gone ∙ ap (λ o. option_map (connected (pending e.place client id e.moment hold) acked) o) (sym gone)
     seats n false is = refl
 
-    given : (a : Answered) (g : GivenBy old (record e { kind = Connect m client id acked hold }) a) (b : Bool) → nat_eq m g.number ≡ b → connect_at old.connects a.place ≡ Some (Filed e.place a.answer)
-    given a g true is = absurd (true≢false (ap is_none (sym gone ∙ ap (seat_in old) (eqb-true m g.number is) ∙ seat_here old g.number g.subscriber g.here)))
-    given a g false is =
+    given : (n : ℕ) (a : Answered) (g : GivenBy old (record e { kind = Connect m client id acked hold }) n a) (b : Bool) → nat_eq m n ≡ b → connect_at old.connects a.place ≡ Some (Filed n e.place a.answer)
+    given n a g true is = absurd (true≢false (ap is_none (sym gone ∙ ap (seat_in old) (eqb-true m n is) ∙ seat_here old n g.subscriber g.here)))
+    given n a g false is =
         absurd (nowhere a (subst (λ b. Contains (cond b (connection_answers (connection old.config (pending e.place client id e.moment hold) acked g.subscriber.seat)) []) a) is g.given))
 
 -- ---- a disconnect
@@ -376,7 +392,8 @@ pub followed_disconnect : (stands : Bool) (e : Entry) (m : ℕ) (old new : Sessi
 followed_disconnect stands e m old new kind seats patterns connects config counts holds counted held = of_kind stands e (Disconnect m) old new kind (record {
   config = config;
   sessions = λ n. session_of new n _ _ (patterns n) (seats n) ∙ left n (nat_eq m n) (seat_in old n) refl;
-  connects = record { given = λ a g. given a g (nat_eq m g.number) refl; kept = kept };
+  connects = record { given = λ n a g. given n a g (nat_eq m n) refl; kept = kept };
+  known = λ p n k. inl (sym (filing_session e.place (released_by old.config (seat_in old m)) (connect_at old.connects) p) ∙ sym (ap session_at (connects p)) ∙ k);
   counted = counts counted;
   held = holds held;
 })
@@ -391,26 +408,26 @@ followed_disconnect stands e m old new kind seats patterns connects config count
     left n true (Some seat) is = ap (λ b. cond b None (Some (with_patterns (patterns_in old n) seat))) (sym is)
     left n false (Some seat) is = ap (λ b. cond b None (Some (with_patterns (patterns_in old n) seat))) (sym is)
 
-    given : (a : Answered) (g : GivenBy old follows a) (b : Bool) → nat_eq m g.number ≡ b → connect_at new.connects a.place ≡ Some (Filed e.place a.answer)
-    given a g true same =
-        let here : seat_in old m ≡ Some g.subscriber.seat = ap (seat_in old) (eqb-true m g.number same) ∙ seat_here old g.number g.subscriber g.here in
+    given : (n : ℕ) (a : Answered) (g : GivenBy old follows n a) (b : Bool) → nat_eq m n ≡ b → connect_at new.connects a.place ≡ Some (Filed n e.place a.answer)
+    given n a g true same =
+        let here : seat_in old m ≡ Some g.subscriber.seat = ap (seat_in old) (eqb-true m n same) ∙ seat_here old n g.subscriber g.here in
         let answered : released old.config Disconnected g.subscriber.seat ≡ Some a =
         one_given (released old.config Disconnected g.subscriber.seat) a
         (subst (λ b. Contains (cond b (option_to_list (released old.config Disconnected g.subscriber.seat)) []) a) same g.given) in
         connects a.place ∙ ap (λ o. filing e.place (released_by old.config o) (connect_at old.connects) a.place) here
-        ∙ filed e.place (released old.config Disconnected g.subscriber.seat) (connect_at old.connects) a answered
+        ∙ filed e.place m (released old.config Disconnected g.subscriber.seat) (connect_at old.connects) a answered
         (let_go_known old.config Disconnected old m g.subscriber.seat a held here answered)
-    given a g false other = absurd (nowhere a (subst (λ b. Contains (cond b (option_to_list (released old.config Disconnected g.subscriber.seat)) []) a) other g.given))
+        ∙ ap (λ k. Some (Filed k e.place a.answer)) (eqb-true m n same)
+    given n a g false other = absurd (nowhere a (subst (λ b. Contains (cond b (option_to_list (released old.config Disconnected g.subscriber.seat)) []) a) other g.given))
 
-    kept : (p : ℕ) → ((a : Answered) → GivenBy old follows a → a.place ≢ p) → connect_at new.connects p ≡ connect_at old.connects p
+    kept : (p : ℕ) → ((n : ℕ) (a : Answered) → GivenBy old follows n a → a.place ≢ p) → connect_at new.connects p ≡ connect_at old.connects p
     kept p never = connects p ∙ by (seat_in old m) refl
       where
         by : (o : Option Seat) → seat_in old m ≡ o → filing e.place (released_by old.config (seat_in old m)) (connect_at old.connects) p ≡ connect_at old.connects p
         by None gone = ap (λ o. filing e.place (released_by old.config o) (connect_at old.connects) p) gone
         by (Some seat) here =
             ap (λ o. filing e.place (released_by old.config o) (connect_at old.connects) p) here
-            ∙ unfiled e.place (released old.config Disconnected seat) (connect_at old.connects) p (λ a answered. never a (record {
-              number = m;
+            ∙ unfiled e.place (released old.config Disconnected seat) (connect_at old.connects) p (λ a answered. never m a (record {
               subscriber = with_patterns (patterns_in old m) seat;
               here = session_here old m seat here;
               given = subst (λ b. Contains (cond b (option_to_list (released old.config Disconnected seat)) []) a) (sym (eq-eqb m m refl))

@@ -1,5 +1,5 @@
 -- The sessions follow a refused message, a subscription, an unsubscription, a publish and a tick.
-use Rattle.std.proofs.Common.{◌≡◌, ◌≢◌, ℕ, nat_eq, ◌==◌, Bool, true, false, cond, Option, Some, None, option_map, List, [], ◌∷◌, slice_index_or, Contains, refl, sym, ap, ◌∙◌, subst, arith}
+use Rattle.std.proofs.Common.{◌≡◌, ◌≢◌, inl, ℕ, nat_eq, ◌==◌, Bool, true, false, cond, Option, Some, None, option_map, List, [], ◌∷◌, slice_index_or, Contains, refl, sym, ap, ◌∙◌, subst, arith}
 use Rattle.std.proofs.lemmas.Bool.{eqb-true}
 use Rattle.std.specs.List.{list_any}
 use Rattle.std.specs.Option.{option_to_list}
@@ -14,15 +14,16 @@ use Rattle.bx_session.specs.declared.answered.Delivery.{Delivery}
 use Rattle.bx_session.specs.declared.answered.Delivery.TheVariants.{Waits, Given, Overflowed}
 use Rattle.bx_session.specs.Agreement.{delivery_answers, entry}
 use Rattle.bx_session.specs.Steps.{delivery, tick_answer, ticked}
-use Rattle.bx_shard.specs.declared.connects.ConnectState.TheVariants.{Filed}
+use Rattle.bx_connects.specs.declared.connects.ConnectState.TheVariants.{Filed}
+use Rattle.bx_connects.specs.Connects.{connect_at, session_at}
 use Rattle.bx_shard.specs.declared.sessions.Sessions.{Sessions}
-use Rattle.bx_shard.specs.Connects.{connect_at}
 use Rattle.bx_shard.specs.Effects.{given_by}
 use Rattle.bx_shard.specs.Following.{Followed, next_of}
 use Rattle.bx_shard.specs.Publishing.{Hears, hearing}
 use Rattle.bx_shard.specs.Sessions.{AreCounted, AreHeld, subscriber_in}
 use Rattle.bx_shard.specs.States.{let_go}
 use Rattle.bx_shard.specs.Subscribers.{Subscriber, hears, reseated, subscribing, unsubscribing}
+use Rattle.bx_shard.proofs.Keeps.{let_go_session}
 
 -- ---- lists of answers
 
@@ -66,7 +67,8 @@ pub followed_refused : (stands : Bool) (e : Entry) (s : Sessions) → e.kind ≡
 followed_refused stands e s is counted held = of_kind stands e s s kinds.Refused is (record {
   config = refl;
   sessions = λ n. as_it_was stands s.config e.place e.moment n (subscriber_in s n);
-  connects = record { given = λ a g. absurd (none_in a g.given); kept = λ p never. refl };
+  connects = record { given = λ n a g. absurd (none_in a g.given); kept = λ p never. refl };
+  known = λ p m k. inl k;
   counted = counted;
   held = held;
 })
@@ -106,7 +108,8 @@ followed_subscribe stands e m patterns old new is sessions config connects count
   sessions = λ n.
       sessions n ∙ at_number (subscribing old.config patterns) m n (subscriber_in old)
       ∙ as_subscribed stands old.config e.place e.moment m patterns n (subscriber_in old n);
-  connects = record { given = λ a g. absurd (none_in a g.given); kept = λ p never. ap (λ c. connect_at c p) connects };
+  connects = record { given = λ n a g. absurd (none_in a g.given); kept = λ p never. ap (λ c. connect_at c p) connects };
+  known = λ p m k. inl (sym (ap (λ c. session_at (connect_at c p)) connects) ∙ k);
   counted = counted;
   held = held;
 })
@@ -120,7 +123,8 @@ followed_unsubscribe stands e m patterns old new is sessions config connects cou
   sessions = λ n.
       sessions n ∙ at_number (unsubscribing patterns) m n (subscriber_in old)
       ∙ as_unsubscribed stands old.config e.place e.moment m patterns n (subscriber_in old n);
-  connects = record { given = λ a g. absurd (none_in a g.given); kept = λ p never. ap (λ c. connect_at c p) connects };
+  connects = record { given = λ n a g. absurd (none_in a g.given); kept = λ p never. ap (λ c. connect_at c p) connects };
+  known = λ p m k. inl (sym (ap (λ c. session_at (connect_at c p)) connects) ∙ k);
   counted = counted;
   held = held;
 })
@@ -156,18 +160,20 @@ module _ (stands : Bool) (config : Config) (place moment : ℕ) (event : Event) 
 -- each session that hears a published event gets it, and its held connect is answered with it
 pub followed_publish : (stands : Bool) (e : Entry) (event : Event) (old new : Sessions) → e.kind ≡ kinds.Publish event
     → ((n : ℕ) → subscriber_in new n ≡ option_map (hearing old.config event) (subscriber_in old n))
-    → ((n : ℕ) (s : Subscriber) (a : Answered) → Hears old event n s a → connect_at new.connects a.place ≡ Some (Filed e.place a.answer))
+    → ((n : ℕ) (s : Subscriber) (a : Answered) → Hears old event n s a → connect_at new.connects a.place ≡ Some (Filed n e.place a.answer))
     → ((p : ℕ) → ((n : ℕ) (s : Subscriber) (a : Answered) → Hears old event n s a → a.place ≢ p) → connect_at new.connects p ≡ connect_at old.connects p)
+    → ((p : ℕ) → session_at (connect_at new.connects p) ≡ session_at (connect_at old.connects p))
     → new.config ≡ old.config → AreCounted new → AreHeld new → Followed stands e old new
-followed_publish stands e event old new is sessions given kept config counted held = of_kind stands e old new (kinds.Publish event) is (record {
+followed_publish stands e event old new is sessions given kept known config counted held = of_kind stands e old new (kinds.Publish event) is (record {
   config = config;
   sessions = λ n. sessions n ∙ as_heard stands old.config e.place e.moment event n (subscriber_in old n);
   connects = record {
-    given = λ a g.
+    given = λ n a g.
         let h : IsHeard old.config event g.subscriber a = is_heard old.config event g.subscriber a g.given in
-        given g.number g.subscriber a (record { here = g.here; hears_it = h.hears_it; given = h.given });
-    kept = λ p never. kept p (λ n s a h. never a (record { number = n; subscriber = s; here = h.here; given = there_heard old.config event s a h.hears_it h.given }));
+        given n g.subscriber a (record { here = g.here; hears_it = h.hears_it; given = h.given });
+    kept = λ p never. kept p (λ n s a h. never n a (record { subscriber = s; here = h.here; given = there_heard old.config event s a h.hears_it h.given }));
   };
+  known = λ p m k. inl (sym (known p) ∙ k);
   counted = counted;
   held = held;
 })
@@ -187,29 +193,30 @@ module _ (stands : Bool) (config : Config) (place moment : ℕ) (numbers : List 
 -- A tick ends the holds that are due, whose connects are answered, and then closes sessions, whose held connects are let go.
 pub followed_tick : (stands : Bool) (e : Entry) (numbers : List ℕ) (old between new : Sessions) → e.kind ≡ kinds.Tick numbers
     → ((n : ℕ) → subscriber_in between n ≡ option_map (λ (s : Subscriber). reseated (ticked e.moment s.seat) s) (subscriber_in old n))
-    → ((n : ℕ) (s : Subscriber) (a : Answered) → subscriber_in old n ≡ Some s → tick_answer old.config e.moment s.seat ≡ Some a → connect_at between.connects a.place ≡ Some (Filed e.place a.answer))
+    → ((n : ℕ) (s : Subscriber) (a : Answered) → subscriber_in old n ≡ Some s → tick_answer old.config e.moment s.seat ≡ Some a → connect_at between.connects a.place ≡ Some (Filed n e.place a.answer))
     → ((p : ℕ) → ((n : ℕ) (s : Subscriber) (a : Answered) → subscriber_in old n ≡ Some s → tick_answer old.config e.moment s.seat ≡ Some a → a.place ≢ p)
     → connect_at between.connects p ≡ connect_at old.connects p)
+    → ((p : ℕ) → session_at (connect_at between.connects p) ≡ session_at (connect_at old.connects p))
     → between.config ≡ old.config
     → ((n : ℕ) → subscriber_in new n ≡ cond (list_any (λ m. m == n) numbers) None (subscriber_in between n))
     → ((p : ℕ) → connect_at new.connects p ≡ let_go numbers (connect_at between.connects p))
     → new.config ≡ between.config → AreCounted new → AreHeld new → Followed stands e old new
-followed_tick stands e numbers old between new is ended given kept config closed gone config_closed counted held = of_kind stands e old new (kinds.Tick numbers) is (record {
+followed_tick stands e numbers old between new is ended given kept known config closed gone config_closed counted held = of_kind stands e old new (kinds.Tick numbers) is (record {
   config = config_closed ∙ config;
   sessions = λ n.
       closed n ∙ ap (λ o. cond (list_any (λ m. m == n) numbers) None o) (ended n)
       ∙ as_ticked stands old.config e.place e.moment numbers n (subscriber_in old n);
   connects = record {
-    given = λ a g.
-        gone a.place ∙ ap (let_go numbers) (given g.number g.subscriber a g.here (from_option (tick_answer old.config e.moment g.subscriber.seat) a g.given));
+    given = λ n a g.
+        gone a.place ∙ ap (let_go numbers) (given n g.subscriber a g.here (from_option (tick_answer old.config e.moment g.subscriber.seat) a g.given));
     kept = λ p never.
-        gone p ∙ ap (let_go numbers) (kept p (λ n s a here answer. never a (record {
-          number = n;
+        gone p ∙ ap (let_go numbers) (kept p (λ n s a here answer. never n a (record {
           subscriber = s;
           here = here;
           given = to_option (tick_answer old.config e.moment s.seat) a answer;
         })));
   };
+  known = λ p m k. inl (sym (known p) ∙ let_go_session numbers (connect_at between.connects p) m (sym (ap session_at (gone p)) ∙ k));
   counted = counted;
   held = held;
 })

@@ -23,8 +23,8 @@ use Rattle.bx_session.specs.Agreement.{connection_answers, delivery_answers}
 use Rattle.bx_session.specs.Seats.{Seat, pending}
 use Rattle.bx_session.specs.Steps.{answer_to, begun, connect_answer, connection, deadline_of, delivery, delivery_to, given_from, idle_answer, is_due, released, settled_answer, success, window_given}
 use Rattle.bx_tree.specs.Patterns.{patterns_of}
-use Rattle.bx_shard.specs.declared.connects.ConnectState.{ConnectState}
-use Rattle.bx_shard.specs.declared.connects.ConnectState.TheVariants as states
+use Rattle.bx_connects.specs.declared.connects.ConnectState.{ConnectState}
+use Rattle.bx_connects.specs.declared.connects.ConnectState.TheVariants as states
 use Rattle.bx_shard.specs.Held.{filed_with_place}
 use Rattle.bx_shard.specs.Sessions.{ends_for, held_until, holds_until, seat_in}
 use Rattle.bx_shard.specs.States.{IsGiven, IsSound, State, connect_in, session_in}
@@ -113,7 +113,7 @@ pub record Unanswered (place p : ℕ) (o : Option ConnectState) : Type 0 where
 held_unanswered : (place p n : ℕ) (o : Option ConnectState) (deadline : Option ℕ) → held_until o n ≡ Some deadline → Unanswered place p o
 held_unanswered place p n None deadline h = absurd (let e : None ≡ Some deadline = h in cc)
 held_unanswered place p n (Some (states.Held session until waker)) deadline h = record { filed = refl; own = λ e. cc }
-held_unanswered place p n (Some (states.Filed at answer)) deadline h = absurd (let e : None ≡ Some deadline = h in cc)
+held_unanswered place p n (Some (states.Filed session at answer)) deadline h = absurd (let e : None ≡ Some deadline = h in cc)
 
 seat_here : (s : State) (n : ℕ) (u : Subscriber) → session_in s n ≡ Some u → seat_in s.sessions n ≡ Some u.seat
 seat_here s n u h =
@@ -137,8 +137,8 @@ due_unanswered s place n u a sound here known due =
     due
 
 -- each connect that the entry answers
-pub given_unanswered : (s : State) (e : Entry) (a : Answered) → IsSound s → s.place ≡ e.place → IsGiven s e a → Unanswered e.place a.place (connect_in s a.place)
-given_unanswered s e a sound here g =
-    due_unanswered s e.place g.number g.subscriber a sound here g.here
-    (all_contains (Due e.place g.subscriber.seat.held) (answers s.setup.config e.place e.moment e.kind g.number g.subscriber) a
-    (answers_due s.setup.config e.place e.moment e.kind g.number g.subscriber) g.given)
+pub given_unanswered : (s : State) (e : Entry) (n : ℕ) (a : Answered) → IsSound s → s.place ≡ e.place → IsGiven s e n a → Unanswered e.place a.place (connect_in s a.place)
+given_unanswered s e n a sound here g =
+    due_unanswered s e.place n g.subscriber a sound here g.here
+    (all_contains (Due e.place g.subscriber.seat.held) (answers s.setup.config e.place e.moment e.kind n g.subscriber) a
+    (answers_due s.setup.config e.place e.moment e.kind n g.subscriber) g.given)

@@ -19,16 +19,17 @@ use Rattle.bx_message.specs.declared.event.Event.{Event}
 use Rattle.bx_session.specs.declared.answered.Answered.{Answered}
 use Rattle.bx_session.specs.Seats.{Seat}
 use Rattle.bx_session.specs.Steps.{Countable, deadline_of, delivered, delivery}
-use Rattle.bx_shard.specs.declared.connects.ConnectState.{ConnectState}
-use Rattle.bx_shard.specs.declared.connects.ConnectState.TheVariants.{Filed}
+use Rattle.bx_connects.specs.declared.connects.ConnectState.{ConnectState}
+use Rattle.bx_connects.specs.declared.connects.ConnectState.TheVariants.{Filed}
+use Rattle.bx_connects.specs.Connects.{connect_at, filed_as, filing, session_at}
 use Rattle.bx_shard.specs.declared.publish.Parcel.{Parcel}
 use Rattle.bx_shard.specs.declared.sessions.Sessions.{Sessions}
-use Rattle.bx_shard.specs.Connects.{connect_at, filed_as}
 use Rattle.bx_shard.specs.Effects.{delivery_filing, given_by}
 use Rattle.bx_shard.specs.Publishing.{hearing, reaches, AllReady, IsReady, NoneFor, Turn, Turns, parcel}
-use Rattle.bx_shard.specs.Sessions.{AreCountable, AreCounted, AreHeld, IsCounted, HasRoom, filing, held_until, holds_until, patterns_in, seat_in, subscriber_in}
+use Rattle.bx_shard.specs.Sessions.{AreCountable, AreCounted, AreHeld, IsCounted, HasRoom, held_until, holds_until, patterns_in, seat_in, subscriber_in}
 use Rattle.bx_shard.specs.Subscribers.{Subscriber, hears, receiving}
 use Rattle.bx_shard.proofs.Ends.{Settles, delivery_settles}
+use Rattle.bx_shard.proofs.Keeps.{delivery_session, filed_known, held_session}
 use Rattle.bx_shard.proofs.Ties.{holds_own}
 
 -- ---- seats
@@ -131,8 +132,8 @@ module _ (config : Config) (place : ℕ) (e : Event) where
       by (inr kept) = absurd (true≢false (ap is_none (sym kept.none ∙ given)))
 
   -- one that is filed is held by nobody
-  not_held : (state : Option ConnectState) (p n : ℕ) (b : Answer) (deadline : Option ℕ) → state ≡ Some (Filed p b) → held_until state n ≡ Some deadline → ⊥
-  not_held state p n b deadline filed held = true≢false (ap is_none (sym (ap (λ o. held_until o n) filed) ∙ held))
+  not_held : (state : Option ConnectState) (j p n : ℕ) (b : Answer) (deadline : Option ℕ) → state ≡ Some (Filed j p b) → held_until state n ≡ Some deadline → ⊥
+  not_held state j p n b deadline filed held = true≢false (ap is_none (sym (ap (λ o. held_until o n) filed) ∙ held))
 
   -- the first parcel is for none of those that get one later
   later_other : (x : Parcel) (xs : List Parcel) (n : ℕ) → NoneFor x.number xs → is_for xs n ≡ true → nat_eq x.number n ≡ false
@@ -182,37 +183,40 @@ module _ (config : Config) (place : ℕ) (e : Event) where
 
   -- each answer is filed
   pub answers_filed : (xs : List Parcel) (old new : Sessions) → AreHeld old → AreOf e xs → AreApart xs → Turns config place xs old new
-      → (n : ℕ) (s : Subscriber) (a : Answered) → Gives old xs n s a → connect_at new.connects a.place ≡ Some (Filed place a.answer)
+      → (n : ℕ) (s : Subscriber) (a : Answered) → Gives old xs n s a → connect_at new.connects a.place ≡ Some (Filed n place a.answer)
   answers_filed [] old new held of apart turns n s a g = absurd (true≢false (sym g.gets))
   answers_filed (x ∷ xs) old new held of apart turns n s a g =
       by (nat_eq x.number n) refl
       (λ gets. answers_filed xs turns.0 new turns.1.held of.1 apart.1 turns.2 n s a (record { gets = gets; here = later_same x xs old turns.0 apart.0 turns.1 n gets ∙ g.here; given = g.given }))
       (λ filed. connects_kept xs turns.0 new of.1 apart.1 turns.2 a.place (λ m t b h same.
       let other = holds_it turns.0 m t b turns.1.held h.here h.given in
-      not_held (connect_at turns.0.connects a.place) place m a.answer other.0 filed (subst (λ q. held_until (connect_at turns.0.connects q) m ≡ Some other.0) same other.1)) ∙ filed)
+      not_held (connect_at turns.0.connects a.place) n place m a.answer other.0 filed (subst (λ q. held_until (connect_at turns.0.connects q) m ≡ Some other.0) same other.1)) ∙ filed)
     where
-      by : (b : Bool) → nat_eq x.number n ≡ b → (is_for xs n ≡ true → connect_at new.connects a.place ≡ Some (Filed place a.answer))
-          → (connect_at turns.0.connects a.place ≡ Some (Filed place a.answer) → connect_at new.connects a.place ≡ Some (Filed place a.answer))
-          → connect_at new.connects a.place ≡ Some (Filed place a.answer)
+      by : (b : Bool) → nat_eq x.number n ≡ b → (is_for xs n ≡ true → connect_at new.connects a.place ≡ Some (Filed n place a.answer))
+          → (connect_at turns.0.connects a.place ≡ Some (Filed n place a.answer) → connect_at new.connects a.place ≡ Some (Filed n place a.answer))
+          → connect_at new.connects a.place ≡ Some (Filed n place a.answer)
       by false other later now = later (sym (ap (λ b. b || is_for xs n) other) ∙ g.gets)
       by true same later now = now (turns.1.connects a.place ∙ at)
         where
           seat : seat_in old x.number ≡ Some s.seat
           seat = ap (seat_in old) (eqb-true x.number n same) ∙ sym (seat_of_subscriber old n) ∙ ap (λ o. option_map (λ (y : Subscriber). y.seat) o) g.here
 
-          known : (o : Option ConnectState) (deadline : Option ℕ) → held_until o n ≡ Some deadline → filed_as place a.answer o ≡ Some (Filed place a.answer)
-          known None deadline h = absurd (true≢false (ap is_none h))
-          known (Some state) deadline h = refl
-
-          at : delivery_filing config place x.keep (seat_in old x.number) (connect_at old.connects) a.place ≡ Some (Filed place a.answer)
+          at : delivery_filing config place x.keep (seat_in old x.number) (connect_at old.connects) a.place ≡ Some (Filed n place a.answer)
           at =
               let holds = holds_it old n s a held g.here g.given in
               ap (λ o. delivery_filing config place x.keep o (connect_at old.connects) a.place) seat
               ∙ ap (λ o. filing place o (connect_at old.connects) a.place) (ap (λ v. given_by (delivery config v s.seat)) of.0 ∙ g.given)
               ∙ ap (λ b. cond b (filed_as place a.answer (connect_at old.connects a.place)) (connect_at old.connects a.place)) (eq-eqb a.place a.place refl)
-              ∙ known (connect_at old.connects a.place) holds.0 holds.1
+              ∙ filed_known place n a.answer (connect_at old.connects a.place) (held_session (connect_at old.connects a.place) n holds.0 holds.1)
 
   -- ---- what stays
+
+  -- no connect changes its session
+  pub sessions_kept : (xs : List Parcel) (old new : Sessions) → Turns config place xs old new → (p : ℕ) → session_at (connect_at new.connects p) ≡ session_at (connect_at old.connects p)
+  sessions_kept [] old new turns p = ap (λ s. session_at (connect_at s.connects p)) (sym turns)
+  sessions_kept (x ∷ xs) old new turns p =
+      sessions_kept xs turns.0 new turns.2 p ∙ ap session_at (turns.1.connects p)
+      ∙ delivery_session config place x.keep (seat_in old x.number) (connect_at old.connects) p
 
   pub held_after : (xs : List Parcel) (old new : Sessions) → AreHeld old → Turns config place xs old new → AreHeld new
   held_after [] old new held turns = subst AreHeld turns held

@@ -1,5 +1,5 @@
 -- What a shard holds stays so: over a longer list, and after a call that left it as it was.
-use Rattle.std.proofs.Common.{◌≡◌, ℕ, zero, suc, ◌<◌, Option, Some, List, [], ◌∷◌, ◌++◌, length, take, map, filter, find, option_map, slice_get, ◌==◌, refl, sym, ap, ◌∙◌, arith, length-append}
+use Rattle.std.proofs.Common.{◌≡◌, ℕ, zero, suc, ◌<◌, Option, Some, None, List, [], ◌∷◌, ◌++◌, length, take, map, filter, find, option_map, slice_get, ◌==◌, refl, sym, ap, ◌∙◌, arith, length-append}
 use Rattle.std.proofs.lemmas.List.{take-append-le}
 use Rattle.bx_advice.specs.declared.config.Config.{Config}
 use Rattle.bx_entry.specs.Listing.{Listed}
@@ -8,9 +8,11 @@ use Rattle.bx_entry.specs.Keeping.{Kept, kept}
 use Rattle.bx_entry.specs.Registry.{Registry, Registered, Judged, registry, entries_of}
 use Rattle.bx_entry.specs.Sessions.{Session, Filed, session}
 use Rattle.bx_laws.proofs.Lists.{judged_length, judged_more}
+use Rattle.bx_connects.specs.Connects.{session_at}
 use Rattle.bx_shard.specs.Shards.{Setup, filed_among, live_among, stands_in}
 use Rattle.bx_shard.specs.Held.{HoldsAtFirst, HoldsLonger, HoldsStill, IsConnectOf, filed_with_place}
 use Rattle.bx_shard.specs.Subscribers.{subscriber_of}
+use Rattle.bx_shard.proofs.Taking.{waits_later}
 
 -- ---- at first, and after a call that changed nothing
 
@@ -25,6 +27,7 @@ holds_at_first setup shard s setup_is index_is place_is sound none_here none_kno
   filed = λ p. ap filed_with_place (none_known p);
   known = λ p t. cc;
   gone = λ p t c. absurd (cc);
+  owned = λ p m k. absurd (let no : None ≡ Some m = sym (ap session_at (none_known p)) ∙ k in cc);
 }
 
 pub holds_still : HoldsStill
@@ -38,6 +41,7 @@ holds_still setup list taken shard n old new h b sound = record {
   filed = λ p. ap filed_with_place (b.connects p) ∙ h.filed p;
   known = h.known;
   gone = λ p t c. let g = h.gone p t c in (g.0, b.connects p ∙ g.1);
+  owned = λ p m k. h.owned p m (sym (ap session_at (b.connects p)) ∙ k);
 }
 
 -- ---- a longer list
@@ -90,4 +94,5 @@ holds_longer setup list more taken shard n s h =
       filed = λ p. h.filed p ∙ ap (λ (xs : List Listed). option_map answer_of (found_answer taken p (sessions_over setup shard xs))) front;
       known = λ p t. omega (arith, h.known p t, length-append list more);
       gone = λ p t c. h.gone p t (connect_before setup list more shard p (h.known p t) c);
+      owned = λ p m k. let o = h.owned p m k in record { waits = waits_later setup.config list more m p o.waits; stands = o.stands };
     }

@@ -8,6 +8,7 @@ use Rattle.std.specs.List.{All}
 use Rattle.std.specs.List.Sorted.{IsStrictlyIncreasing}
 use Rattle.bx_advice.specs.declared.config.Config.{Config}
 use Rattle.bx_entry.specs.declared.entry.Entry.{Entry}
+use Rattle.bx_entry.specs.Listing.{Listed}
 use Rattle.bx_entry.specs.Registry.{Registry, Registered, Judged, judge, registry, entries_of}
 use Rattle.bx_entry.specs.Sessions.{Session, Stage, Unopened, Live, Closed, is_live, unopened, session}
 use Rattle.bx_entry.specs.Keeping.{Kept, kept, kept_run}
@@ -17,7 +18,7 @@ use Rattle.bx_laws.proofs.Lists.{judged_length}
 use Rattle.bx_laws.proofs.Kept.{kept_in_bounds, kept_runs}
 use Rattle.bx_session.specs.Reaching.{was_opened}
 use Rattle.bx_session.proofs.NumberLemmas.{numbers_count}
-use Rattle.bx_shard.specs.Shards.{stands_in}
+use Rattle.bx_shard.specs.Shards.{Setup, shard_at, stands_in}
 use Rattle.bx_shard.specs.Holdings.{ReachedLive, HoldsReached, NumbersAscend, OpenedIsFresh}
 use Rattle.bx_shard.proofs.Elements.{numbers, opens_above, Met, met}
 use Rattle.bx_shard.proofs.Stepping.{held_by, held_cons, numbers_in, held_at, EachNumber, numbers_below, run_number}
@@ -68,6 +69,15 @@ holds_reached setup list taken shard n room =
     (each_held (ReachedLive setup.config n) (λ m. m < 1 + length (registry setup.config (take n list)).sessions) setup.config es (numbers_in setup shard (take n list))
     (λ m q l. session_reached setup.config m n (entries_of (registry setup.config (take n list))) room many l) (numbers_below setup shard (take n list)))
 
+-- ---- standing
+
+each_standing : (setup : Setup) (shard : ℕ) (ns : List ℕ) → EachNumber (λ n. stands_in setup shard n ≡ true) (filter (λ (n : ℕ). stands_in setup shard n) ns)
+each_standing setup shard [] = tt
+each_standing setup shard (n ∷ ns) =
+    let rest : List ℕ = filter (λ (m : ℕ). stands_in setup shard m) ns in
+    let theirs : EachNumber (λ m. stands_in setup shard m ≡ true) (filter (λ (m : ℕ). stands_in setup shard m) ns) = each_standing setup shard ns in
+    cond_both (stands_in setup shard n) (n ∷ rest) rest (EachNumber (λ m. stands_in setup shard m ≡ true)) (λ h. (h, theirs)) (λ h. theirs)
+
 -- ---- numbers
 
 consecutive : (first k : ℕ) (rs : List Registered) → NumberedFrom first rs → k < length (numbers rs) → slice_index (numbers rs) k ≡ first + k
@@ -105,6 +115,15 @@ sessions_ascend setup list taken shard n =
     subst IsStrictlyIncreasing (sym (ap (map (λ (k : Kept). k.number)) (held_at setup list taken shard n) ∙ held_numbers setup.config es (numbers_in setup shard (take n list))))
     (IsStrictlyIncreasing-filter (λ m. is_live (session config m es).stage) (numbers_in setup shard (take n list))
     (IsStrictlyIncreasing-filter (λ m. stands_in setup shard m) (numbers r.sessions) (numbers_ascend 1 r.sessions (numbered config (take n list)))))
+
+-- each session that a shard holds stands in it
+pub holds_stand : (setup : Setup) (list : List Listed) (taken : List ℕ) (shard n : ℕ) → All (λ k. stands_in setup shard k.number ≡ true) (shard_at setup list taken shard n).sessions
+holds_stand setup list taken shard n =
+    let es : List Entry = entries_of (registry setup.config (take n list)) in
+    let r : Registry = registry setup.config (take n list) in
+    subst (All (λ k. stands_in setup shard k.number ≡ true)) (sym (held_at setup list taken shard n))
+    (each_held (λ k. stands_in setup shard k.number ≡ true) (λ m. stands_in setup shard m ≡ true) setup.config es (numbers_in setup shard (take n list))
+    (λ m q l. subst (λ (x : ℕ). stands_in setup shard x ≡ true) (sym (kept_number setup.config m es)) q) (each_standing setup shard (numbers r.sessions)))
 
 pub opened_is_fresh : OpenedIsFresh
 opened_is_fresh setup list taken shard m number ack e there kind =

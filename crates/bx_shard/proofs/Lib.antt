@@ -1,8 +1,9 @@
+pub mod Among
 pub mod Applying
 pub mod Closing
-pub mod ConnectLemmas
 pub mod Counting
-pub mod DeadlineLemmas
+pub mod DealLaws
+pub mod Dealt
 pub mod Elements
 pub mod Ends
 pub mod Filings
@@ -11,9 +12,12 @@ pub mod FollowedConnects
 pub mod FollowedEvents
 pub mod Gives
 pub mod Handing
-pub mod HoldLemmas
+pub mod HeirLemmas
 pub mod Holding
 pub mod Holdings
+pub mod Keeps
+pub mod Made
+pub mod MoveLemmas
 pub mod Names
 pub mod Onward
 pub mod Onwards

@@ -1,5 +1,5 @@
 -- A shard that has applied an entry holds what the definition's shard holds after it.
-use Rattle.std.proofs.Common.{◌≡◌, ◌≢◌, ℕ, ◌+◌, ◌<◌, ◌≤◌, Bool, true, false, cond, ◌&&◌, is_some, Option, Some, None, List, [], ◌∷◌, ◌++◌, length, take, map, filter, flat_map, option_map, slice_get, nat_eq, ◌==◌, refl, sym, ap, ◌∙◌, subst, arith, eqb-true, eq-eqb, length-take}
+use Rattle.std.proofs.Common.{◌≡◌, ◌≢◌, ⊎_elim, ℕ, ◌+◌, ◌<◌, ◌≤◌, Bool, true, false, cond, ◌&&◌, is_some, Option, Some, None, List, [], ◌∷◌, ◌++◌, length, take, map, filter, flat_map, option_map, slice_get, nat_eq, ◌==◌, refl, sym, ap, ◌∙◌, subst, arith, eqb-true, eq-eqb, length-take}
 use Rattle.std.proofs.lemmas.Bool.{and_right, both_ways, cond_both, cond-true, cond-false}
 use Rattle.std.proofs.lemmas.List.{length_push, map-append}
 use Rattle.std.proofs.lemmas.List.Elements.{All-map, filter-append}
@@ -13,7 +13,7 @@ use Rattle.bx_entry.specs.declared.entry.Kind.TheVariants.{Opened, Connect, Subs
 use Rattle.bx_entry.specs.Answers.{answer_of}
 use Rattle.bx_entry.specs.Listing.{Listed}
 use Rattle.bx_entry.specs.Keeping.{Kept, Turn, kept, kept_answers, kept_step, turn_of}
-use Rattle.bx_entry.specs.Registry.{entries}
+use Rattle.bx_entry.specs.Registry.{entries, registry}
 use Rattle.bx_entry.specs.Sessions.{Filed, Live, Session, is_live, unopened}
 use Rattle.bx_laws.proofs.Moves.{either}
 use Rattle.bx_session.specs.declared.answered.Answered.{Answered}
@@ -21,11 +21,11 @@ use Rattle.bx_session.specs.Agreement.{answered_of, entry}
 use Rattle.bx_session.specs.Seats.{pending}
 use Rattle.bx_session.specs.Steps.{deadline_of}
 use Rattle.bx_session.proofs.FilingLemmas.{files_alike}
-use Rattle.bx_shard.specs.declared.connects.ConnectState.{ConnectState}
-use Rattle.bx_shard.specs.declared.connects.ConnectState.TheVariants as states
-use Rattle.bx_shard.specs.Connects.{held_by}
+use Rattle.bx_connects.specs.declared.connects.ConnectState.{ConnectState}
+use Rattle.bx_connects.specs.declared.connects.ConnectState.TheVariants as states
+use Rattle.bx_connects.specs.Connects.{held_by, session_at}
 use Rattle.bx_shard.specs.Effects.{holding}
-use Rattle.bx_shard.specs.Held.{Holds, HoldsOnwards, IsConnectOf, filed_with_place, placed}
+use Rattle.bx_shard.specs.Held.{Holds, HoldsOnwards, IsConnectOf, IsOwn, filed_with_place, placed}
 use Rattle.bx_shard.specs.Holdings.{ReachedLive}
 use Rattle.bx_shard.specs.Shards.{Setup, is_taken, sessions_in, shard_at, stands_in}
 use Rattle.bx_shard.specs.States.{Applied, IsGiven, IsSound, State, begun, connect_in, let_go, opened_by, session_after, session_in}
@@ -35,11 +35,12 @@ use Rattle.bx_shard.proofs.Elements.{Met, met}
 use Rattle.bx_shard.proofs.Filings.{shards_file}
 use Rattle.bx_shard.proofs.Finding.{Apart, GivenBy, apart, contains_found, each_none, find_kept, found_each, given_by, next, none_there, numbers_of, placed_found, steps, steps_found}
 use Rattle.bx_shard.proofs.Gives.{Unanswered, all_contains, given_unanswered}
-use Rattle.bx_shard.proofs.Holdings.{holds_reached, sessions_ascend}
+use Rattle.bx_shard.proofs.Holdings.{holds_reached, holds_stand, sessions_ascend}
 use Rattle.bx_shard.proofs.Names.{Named, entry_named, entry_placed}
 use Rattle.bx_shard.proofs.Onward.{Goes, goes}
 use Rattle.bx_shard.proofs.Stepping.{shards_step}
 use Rattle.bx_shard.proofs.Taking.{connect_of_filed, find_of, none_taken}
+use Rattle.bx_shard.proofs.Waits.{WaitsAt, connect_waits}
 
 -- ---- the sessions
 
@@ -151,29 +152,30 @@ sessions_next s e ks m named reached d known =
 -- ---- the answers that the entry gives
 
 -- a connect for which none is found is given none
-none_given : (s : State) (e : Entry) (ks : List Kept) (p : ℕ) → Named e.kind → AllReached s e ks → Knows s ks → find_of p (answers_by s.setup.config e ks) ≡ None → (a : Answered) → IsGiven s e a → a.place ≢ p
-none_given s e ks p named reached known none a g =
+none_given : (s : State) (e : Entry) (ks : List Kept) (p : ℕ) → Named e.kind → AllReached s e ks → Knows s ks → find_of p (answers_by s.setup.config e ks) ≡ None → (n : ℕ) (a : Answered) → IsGiven s e n a → a.place ≢ p
+none_given s e ks p named reached known none number a g =
     let config : Config = s.setup.config in
     let sub : Kept → Subscriber = subscriber_of config in
     let Not : Answered → Type 0 = λ x. (x.place == p) ≡ false in
     let each : All (λ k. (Goes config k e.place e.moment e.kind) × (find_of p (kept_answers config k e) ≡ None)) ks =
     λ i d l. (all_go s e ks named reached i d l, each_none (λ k. kept_answers config k e) p ks none i d l) in
-    let P : Option Kept → Type 0 = λ o. find_kept g.number ks ≡ o → option_map sub o ≡ Some g.subscriber → Not a in
+    let P : Option Kept → Type 0 = λ o. find_kept number ks ≡ o → option_map sub o ≡ Some g.subscriber → Not a in
     let at_some : (k : Kept) → P (Some k) = λ k f same.
-    let w = found_each (λ j. (Goes config j e.place e.moment e.kind) × (find_of p (kept_answers config j e) ≡ None)) g.number ks k f each in
+    let w = found_each (λ j. (Goes config j e.place e.moment e.kind) × (find_of p (kept_answers config j e) ≡ None)) number ks k f each in
     let one : sub k ≡ g.subscriber = cc in
     let theirs : All Not (map answered_of (kept_answers config k e)) = All-map Not answered_of (kept_answers config k e) (none_there p (kept_answers config k e) w.0.1) in
     let ours : All Not (answers config e.place e.moment e.kind k.number (sub k)) = subst (All Not) w.0.0.answers theirs in
-    let here : All Not (answers config e.place e.moment e.kind g.number g.subscriber) =
-    subst (λ (u : Subscriber). All Not (answers config e.place e.moment e.kind g.number u)) one (subst (λ (n : ℕ). All Not (answers config e.place e.moment e.kind n (sub k))) w.1 ours) in
-    all_contains Not (answers config e.place e.moment e.kind g.number g.subscriber) a here g.given in
+    let here : All Not (answers config e.place e.moment e.kind number g.subscriber) =
+    subst (λ (u : Subscriber). All Not (answers config e.place e.moment e.kind number u)) one (subst (λ (n : ℕ). All Not (answers config e.place e.moment e.kind n (sub k))) w.1 ours) in
+    all_contains Not (answers config e.place e.moment e.kind number g.subscriber) a here g.given in
     let at_none : P None = λ f same. absurd (let no : None ≡ Some g.subscriber = same in cc) in
-    let other : (a.place == p) ≡ false = (elim (find_kept g.number ks) as P [ None ↦ at_none | Some k ↦ at_some k ]) refl (sym (known g.number) ∙ g.here) in
+    let other : (a.place == p) ≡ false = (elim (find_kept number ks) as P [ None ↦ at_none | Some k ↦ at_some k ]) refl (sym (known number) ∙ g.here) in
     λ h. both_ways (a.place == p) other (eq-eqb a.place p h)
 
 -- the answer that is found is given
 record Gave (s : State) (e : Entry) (p : ℕ) (f : Filed) : Type 0 where
-  given : IsGiven s e (answered_of f)
+  number : ℕ
+  given : IsGiven s e number (answered_of f)
   answer : answer_of f ≡ placed e.place (answered_of f).answer
   connect : f.connect ≡ p
 
@@ -186,8 +188,8 @@ gave s e ks p f named reached d known found =
     let w = found_each (λ j. Goes config j e.place e.moment e.kind) k.number ks k b.found (all_go s e ks named reached) in
     let at = placed_found p e.place (kept_answers config k e) f (files_alike config k e) b.gives in
     record {
+      number = k.number;
       given = record {
-        number = k.number;
         subscriber = sub k;
         here = known k.number ∙ ap (option_map sub) b.found;
         given = subst (λ (xs : List Answered). Contains xs (answered_of f)) w.0.answers (contains_found p (kept_answers config k e) f b.gives);
@@ -202,12 +204,12 @@ let_go_filed : (numbers : List ℕ) (o : Option ConnectState) → filed_with_pla
 let_go_filed numbers None = refl
 let_go_filed numbers (Some (states.Held session deadline waker)) =
     cond_both (list_any (λ m. m == session) numbers) None (Some (states.Held session deadline waker)) (λ (o : Option ConnectState). filed_with_place o ≡ None) (λ h. refl) (λ h. refl)
-let_go_filed numbers (Some (states.Filed place answer)) = refl
+let_go_filed numbers (Some (states.Filed session place answer)) = refl
 
 let_go_none : (numbers : List ℕ) (o : Option ConnectState) → o ≡ None → let_go numbers o ≡ None
 let_go_none numbers None h = refl
 let_go_none numbers (Some (states.Held session deadline waker)) h = absurd (let no : Some (states.Held session deadline waker) ≡ None = h in cc)
-let_go_none numbers (Some (states.Filed place answer)) h = absurd (let no : Some (states.Filed place answer) ≡ None = h in cc)
+let_go_none numbers (Some (states.Filed session place answer)) h = absurd (let no : Some (states.Filed session place answer) ≡ None = h in cc)
 
 -- no answer is filed or lost by it
 begun_filed : (s : State) (e : Entry) (kind : Kind) (p : ℕ) → connect_in s e.place ≡ None → filed_with_place (begun s e kind p) ≡ filed_with_place (connect_in s p)
@@ -312,7 +314,7 @@ answered list taken n e s p f b some =
     let h : Holds s.setup list taken s.index n s = b.holds in
     let g : Gave s e p f = gave s e (shard_at s.setup list taken s.index n).sessions p f b.named b.reached b.apart h.sessions some in
     let u : Unanswered e.place p (connect_in s p) =
-    subst (λ (q : ℕ). Unanswered e.place q (connect_in s q)) g.connect (given_unanswered s e (answered_of f) h.sound (h.place_is ∙ sym b.place) g.given) in
+    subst (λ (q : ℕ). Unanswered e.place q (connect_in s q)) g.connect (given_unanswered s e g.number (answered_of f) h.sound (h.place_is ∙ sym b.place) g.given) in
     record {
       gives = g;
       unanswered = u;
@@ -337,8 +339,8 @@ filed_next list taken n e s new p b a =
     ap filed_with_place (unanswered_as list taken n e s new p b a h) ∙ begun_filed s e e.kind p b.fresh ∙ b.holds.filed p ∙ ap (option_map answer_of) (sym (same_filed list taken n e s p b h)) in
     let at_some : (f : Filed) → P (Some f) = λ f h.
     let w : Answers list taken n e s p f = answered list taken n e s p f b h in
-    let here : connect_in new p ≡ Some (states.Filed e.place (answered_of f).answer) =
-    subst (λ (q : ℕ). connect_in new q ≡ Some (states.Filed e.place (answered_of f).answer)) w.gives.connect (a.connects.given (answered_of f) w.gives.given) in
+    let here : connect_in new p ≡ Some (states.Filed w.gives.number e.place (answered_of f).answer) =
+    subst (λ (q : ℕ). connect_in new q ≡ Some (states.Filed w.gives.number e.place (answered_of f).answer)) w.gives.connect (a.connects.given w.gives.number (answered_of f) w.gives.given) in
     let there : filed_then list taken s (n + 1) p ≡ Some f =
     shards_file s.setup list taken s.index n e p b.room b.there (untaken_then taken p w.free) ∙ ap (λ (o : Option Filed). option_or o (given_at list taken n e s p)) w.first ∙ h in
     ap filed_with_place here ∙ ap Some (sym w.gives.answer) ∙ sym (ap (option_map answer_of) there) in
@@ -353,6 +355,27 @@ gone_next list taken n e s new p b a t c =
     let at_none : P None = λ h. unanswered_as list taken n e s new p b a h ∙ begun_none s e e.kind p g.1 other in
     let at_some : (f : Filed) → P (Some f) = λ f h. absurd ((answered list taken n e s p f b h).free t) in
     (below, (elim (given_at list taken n e s p) as P [ None ↦ at_none | Some f ↦ at_some f ]) refl)
+
+-- a session that the shard holds stands in it
+stands_here : (list : List Listed) (taken : List ℕ) (n : ℕ) (e : Entry) (s : State) (m : ℕ) → Before list taken n e s → is_some (session_in s m) ≡ true → stands_in s.setup s.index m ≡ true
+stands_here list taken n e s m b here =
+    let ks : List Kept = (shard_at s.setup list taken s.index n).sessions in
+    let P : Option Kept → Type 0 = λ o. find_kept m ks ≡ o → session_in s m ≡ option_map (subscriber_of s.setup.config) o → stands_in s.setup s.index m ≡ true in
+    let at_none : P None = λ f h. absurd (let no : false ≡ true = sym (ap is_some h) ∙ here in cc) in
+    let at_some : (k : Kept) → P (Some k) = λ k f h.
+    let w = found_each (λ j. stands_in s.setup s.index j.number ≡ true) m ks k f (holds_stand s.setup list taken s.index n) in
+    subst (λ (q : ℕ). stands_in s.setup s.index q ≡ true) w.1 w.0 in
+    (elim (find_kept m ks) as P [ None ↦ at_none | Some k ↦ at_some k ]) refl (b.holds.sessions m)
+
+-- a connect that is known is one of a session that stands in the shard
+owned_next : (list : List Listed) (taken : List ℕ) (n : ℕ) (e : Entry) (s new : State) (p m : ℕ) → Before list taken n e s → Applied s e new → session_at (connect_in new p) ≡ Some m → IsOwn s.setup list s.index p m
+owned_next list taken n e s new p m b a k =
+    ⊎_elim (λ h. b.holds.owned p m h)
+    (λ h. record {
+      waits = subst (λ (q : ℕ). WaitsAt (registry s.setup.config list).judged m q) (sym b.place ∙ h.place) (connect_waits s.setup.config list n m e b.there h.session);
+      stands = stands_here list taken n e s m b h.here;
+    })
+    (a.known p m k)
 
 shorter_by_one : (list : List Listed) (n : ℕ) (x : Listed) → take (n + 1) list ≡ take n list ++ x ∷ [] → n + 1 ≤ length list
 shorter_by_one list n x e =
@@ -374,6 +397,7 @@ onwards list taken n e s new b a sound =
       filed = λ p. filed_next list taken n e s new p b a;
       known = b.holds.known;
       gone = λ p t c. gone_next list taken n e s new p b a t c;
+      owned = λ p m k. owned_next list taken n e s new p m b a k;
     }
 
 -- the same shard, with the setup and the index that it has

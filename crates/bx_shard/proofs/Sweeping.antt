@@ -10,16 +10,17 @@ use Rattle.std.specs.Option.{IsSome}
 use Rattle.bx_entry.specs.Answers.{answer_of}
 use Rattle.bx_entry.specs.Sessions.{Filed, Session}
 use Rattle.bx_laws.proofs.Moves.{either}
-use Rattle.bx_shard.specs.declared.connects.ConnectState.{ConnectState}
-use Rattle.bx_shard.specs.declared.connects.ConnectState.TheVariants as states
-use Rattle.bx_shard.specs.declared.connects.FiledAnswer.{FiledAnswer}
-use Rattle.bx_shard.specs.declared.held.HeldConnect.{HeldConnect}
-use Rattle.bx_shard.specs.Connects.{filed_answer, filing_at, hold_at, state_by, unswept}
+use Rattle.bx_connects.specs.declared.connects.ConnectState.{ConnectState}
+use Rattle.bx_connects.specs.declared.connects.ConnectState.TheVariants as states
+use Rattle.bx_connects.specs.declared.connects.FiledAnswer.{FiledAnswer}
+use Rattle.bx_connects.specs.declared.held.HeldConnect.{HeldConnect}
+use Rattle.bx_connects.specs.Connects.{filed_answer, filing_at, hold_at, session_at, state_by, unswept}
 use Rattle.bx_shard.specs.Shards.{is_taken, sessions_in, shard_at}
 use Rattle.bx_shard.specs.States.{State, connect_in}
 use Rattle.bx_shard.specs.Held.{HoldsBesideSwept, HoldsSwept, IsConnectOf, filed_with_place, is_swept, swept_places}
 use Rattle.bx_shard.proofs.Taking.{connect_of_filed, connect_of_known, filed_below, find_of, none_taken, one_shard, untaken}
 use Rattle.bx_shard.proofs.Untaken.{find_untaken}
+use Rattle.bx_shard.proofs.Keeps.{unswept_session}
 
 -- ---- one connect
 
@@ -27,7 +28,7 @@ use Rattle.bx_shard.proofs.Untaken.{find_untaken}
 filed_then : (before : ℕ) (o : Option ConnectState) → is_swept before o ≡ true → IsSome (filed_answer o)
 filed_then before None h = absurd (true≢false (sym h))
 filed_then before (Some (states.Held session deadline waker)) h = absurd (true≢false (sym h))
-filed_then before (Some (states.Filed place answer)) h = refl
+filed_then before (Some (states.Filed session place answer)) h = refl
 
 gone_then : (before : ℕ) (o : Option ConnectState) → is_swept before o ≡ true → unswept before o ≡ None
 gone_then before None h = refl
@@ -111,6 +112,7 @@ holds_swept setup list taken shard n before old new h swept sound =
       gone = λ p t c. either (is_taken places p) ((p < n) × (connect_in new p ≡ None))
           (λ e. (below p e, here p e))
           (λ e. let g = h.gone p (sym (taken_before taken places p e) ∙ t) c in (g.0, there p e ∙ g.1));
+      owned = λ p m k. h.owned p m (unswept_session before (connect_in old p) m (sym (ap session_at (swept.connects p)) ∙ k));
     }
 
 -- ---- the others
@@ -142,4 +144,5 @@ holds_beside_swept setup list taken shard n before s other m beside h apart g =
           (λ e. g.filed p ∙ sym (ap (option_map answer_of) (same_found taken places p fs e)));
       known = λ p t. either (is_taken places p) (p < length list) (λ e. below p e) (λ e. g.known p (sym (taken_before taken places p e) ∙ t));
       gone = λ p t c. either (is_taken places p) ((p < m) × (connect_in beside p ≡ None)) (λ e. absurd (foreign p e c)) (λ e. g.gone p (sym (taken_before taken places p e) ∙ t) c);
+      owned = g.owned;
     }

@@ -12,12 +12,12 @@ use Rattle.bx_entry.specs.Registry.{Judged, PlaceSlot, Registered, Waiting, entr
 use Rattle.bx_entry.specs.Sessions.{Filed, Session, session}
 use Rattle.bx_laws.proofs.Lists.{find_each, find_true, judged_more}
 use Rattle.bx_laws.proofs.Moves.{either}
-use Rattle.bx_shard.specs.declared.connects.ConnectState.{ConnectState}
-use Rattle.bx_shard.specs.declared.connects.ConnectState.TheVariants as states
-use Rattle.bx_shard.specs.Connects.{filed_answer, taken_from}
+use Rattle.bx_connects.specs.declared.connects.ConnectState.{ConnectState}
+use Rattle.bx_connects.specs.declared.connects.ConnectState.TheVariants as states
+use Rattle.bx_connects.specs.Connects.{filed_answer, session_at, taken_from}
 use Rattle.bx_shard.specs.Shards.{Setup, is_taken, sessions_in, shard_at, stands_in}
 use Rattle.bx_shard.specs.States.{IsSound, State, connect_in}
-use Rattle.bx_shard.specs.Held.{Holds, HoldsBeside, HoldsTaken, IsConnectOf, filed_with_place}
+use Rattle.bx_shard.specs.Held.{Holds, HoldsBeside, HoldsTaken, IsConnectOf, IsOwn, filed_with_place}
 use Rattle.bx_shard.proofs.Untaken.{find_untaken, found_kept}
 use Rattle.bx_shard.proofs.Waits.{WaitsAt, answered_waits}
 
@@ -63,12 +63,12 @@ filed_below s place sound some = either (nat_lt place s.place) (place < s.place)
 pub gone_from : (o : Option ConnectState) → IsSome (filed_answer o) → taken_from o ≡ None
 gone_from None h = cc
 gone_from (Some (states.Held session deadline waker)) h = cc
-gone_from (Some (states.Filed place answer)) h = refl
+gone_from (Some (states.Filed session place answer)) h = refl
 
 none_filed : (o : Option ConnectState) → IsSome (filed_answer o) → filed_with_place o ≡ None → ⊥
 none_filed None h e = cc
 none_filed (Some (states.Held session deadline waker)) h e = cc
-none_filed (Some (states.Filed place answer)) h e = cc
+none_filed (Some (states.Filed session place answer)) h e = cc
 
 -- ---- whose connect it is
 
@@ -97,7 +97,7 @@ found_in setup shard p es (r ∷ rs) f e =
     (elim (find_of p mine) as P [ None ↦ at_none | Some g ↦ at_some g ]) refl whole)
     (λ h. found_in setup shard p es rs f (sym (ap F (cond-false (stands_in setup shard r.number) (r ∷ rest) rest h)) ∙ e))
 
-waits_over : (config : Config) (number p : ℕ) (xs : List Listed) (f : Filed) → find_of p (session config number (entries_of (registry config xs))).answers ≡ Some f → WaitsAt (registry config xs).judged number p
+pub waits_over : (config : Config) (number p : ℕ) (xs : List Listed) (f : Filed) → find_of p (session config number (entries_of (registry config xs))).answers ≡ Some f → WaitsAt (registry config xs).judged number p
 waits_over config number p xs f e =
     let test : Filed → Bool = λ g. g.connect == p in
     let s : Session = session config number (entries_of (registry config xs)) in
@@ -107,7 +107,7 @@ waits_over config number p xs f e =
 abbrev slot_of : Judged → PlaceSlot
 slot_of j = j.slot
 
-waits_later : (config : Config) (xs ys : List Listed) (number p : ℕ) → WaitsAt (registry config xs).judged number p → WaitsAt (registry config (xs ++ ys)).judged number p
+pub waits_later : (config : Config) (xs ys : List Listed) (number p : ℕ) → WaitsAt (registry config xs).judged number p → WaitsAt (registry config (xs ++ ys)).judged number p
 waits_later config xs ys number p w =
     let P : Option Judged → Type 0 = λ o. slice_get (registry config xs).judged p ≡ o → option_map slot_of o ≡ Some (Waiting number) → WaitsAt (registry config (xs ++ ys)).judged number p in
     (elim (slice_get (registry config xs).judged p) as P [ None ↦ λ a b. cc | Some j ↦ λ a b. ap (option_map slot_of) (judged_more config xs ys p j a) ∙ b ]) refl w
@@ -166,6 +166,9 @@ holds_taken setup list taken shard n place old new room h some took sound =
       gone = λ p t c. either (nat_eq place p) ((p < n) × (connect_in new p ≡ None))
           (λ e. let same : place ≡ p = eqb-true place p e in (omega (arith, same, below), here p e))
           (λ e. let g = h.gone p (sym (taken_other taken place p e) ∙ t) c in (g.0, there p e ∙ g.1));
+      owned = λ p m k. either (nat_eq place p) (IsOwn setup list shard p m)
+          (λ e. absurd (let no : None ≡ Some m = sym (ap session_at (here p e)) ∙ k in cc))
+          (λ e. h.owned p m (sym (ap session_at (there p e)) ∙ k));
     }
 
 -- ---- the others
@@ -199,4 +202,5 @@ holds_beside setup list taken shard n place s other m beside room h some apart g
       gone = λ p t c. either (nat_eq place p) ((p < m) × (connect_in beside p ≡ None))
           (λ e. absurd (foreign (subst (IsConnectOf setup list other) (sym (eqb-true place p e)) c)))
           (λ e. g.gone p (sym (taken_other taken place p e) ∙ t) c);
+      owned = g.owned;
     }

@@ -11,13 +11,14 @@ use Rattle.bx_session.specs.declared.answered.Answered.{Answered}
 use Rattle.bx_session.specs.Seats.{Seat}
 use Rattle.bx_session.specs.Steps.{answer_to, deadline_of, is_due, is_due_at, released, tick_answer, ticked, unheld}
 use Rattle.futures.specs.declared.task.waker.Waker.{Waker}
-use Rattle.bx_shard.specs.declared.connects.ConnectState.{ConnectState}
-use Rattle.bx_shard.specs.declared.connects.ConnectState.TheVariants.{Held, Filed}
-use Rattle.bx_shard.specs.Connects.{filed_as}
+use Rattle.bx_connects.specs.declared.connects.ConnectState.{ConnectState}
+use Rattle.bx_connects.specs.declared.connects.ConnectState.TheVariants.{Held, Filed}
+use Rattle.bx_connects.specs.Connects.{filed_as, filing, session_at}
 use Rattle.bx_shard.specs.Effects.{ticked_answer}
-use Rattle.bx_shard.specs.Sessions.{ends_for, filing, held_until, holds_until}
+use Rattle.bx_shard.specs.Sessions.{ends_for, held_until, holds_until}
 use Rattle.bx_shard.specs.Subscribers.{Subscriber, reseated}
 use Rattle.bx_shard.proofs.Closing.{with_patterns}
+use Rattle.bx_shard.proofs.Keeps.{filing_session}
 use Rattle.bx_shard.proofs.Ties.{Agree, holds_own}
 
 -- ---- one seat
@@ -84,7 +85,7 @@ held_by (Some (Held k d w)) n deadline h = by (nat_eq k n) refl h
     by : (b : Bool) → nat_eq k n ≡ b → cond b (Some d) None ≡ Some deadline → IsHeldBy (Some (Held k d w)) n deadline
     by true e g = record { waker = w; is = ap (λ j. Some (Held j d w)) (eqb-true k n e) ∙ ap (λ o. Some (Held n (option_map_or (λ (x : Option ℕ). x) o None) w)) g }
     by false e g = absurd (true≢false (ap is_none g))
-held_by (Some (Filed p a)) n deadline h = absurd (true≢false (ap is_none h))
+held_by (Some (Filed j p a)) n deadline h = absurd (true≢false (ap is_none h))
 
 -- the seat holds the connect at this place until then
 pub record IsHolding (o : Option Seat) (place : ℕ) (deadline : Option ℕ) : Type 0 where
@@ -156,8 +157,9 @@ none_due config moment C S agree fits later n = of (S n) refl
 pub record AreTicked (config : Config) (moment place : ℕ) (S T : ℕ → Option Seat) (C D : ℕ → Option ConnectState) : Type 0 where
   pub seats : (n : ℕ) → option_map (ticked moment) (T n) ≡ option_map (ticked moment) (S n)
   pub left : (n : ℕ) (a : Answered) → ticked_answer config moment (T n) ≡ Some a → ticked_answer config moment (S n) ≡ Some a
-  pub given : (n : ℕ) (a : Answered) → ticked_answer config moment (S n) ≡ Some a → (ticked_answer config moment (T n) ≡ Some a) ⊎ (D a.place ≡ Some (Filed place a.answer))
+  pub given : (n : ℕ) (a : Answered) → ticked_answer config moment (S n) ≡ Some a → (ticked_answer config moment (T n) ≡ Some a) ⊎ (D a.place ≡ Some (Filed n place a.answer))
   pub kept : (p : ℕ) → ((n : ℕ) (a : Answered) → ticked_answer config moment (S n) ≡ Some a → a.place ≢ p) → D p ≡ C p
+  pub known : (p : ℕ) → session_at (D p) ≡ session_at (C p)
 
 pub none_ticked : (config : Config) (moment place : ℕ) (S : ℕ → Option Seat) (C : ℕ → Option ConnectState) → AreTicked config moment place S S C C
 none_ticked config moment place S C = record {
@@ -165,19 +167,20 @@ none_ticked config moment place S C = record {
   left = λ n a e. e;
   given = λ n a e. inl e;
   kept = λ p other. refl;
+  known = λ p. refl;
 }
 
 -- one session more gets the tick, whose connect was held
-module _ (config : Config) (moment place : ℕ) (S T U : ℕ → Option Seat) (C D E : ℕ → Option ConnectState) (m session : ℕ) (deadline : Option ℕ) (waker : Option Waker) (a : Answered) where
-  pub one_ticked : AreTicked config moment place S T C D → ticked_answer config moment (T m) ≡ Some a → D a.place ≡ Some (Held session deadline waker)
+module _ (config : Config) (moment place : ℕ) (S T U : ℕ → Option Seat) (C D E : ℕ → Option ConnectState) (m : ℕ) (deadline : Option ℕ) (waker : Option Waker) (a : Answered) where
+  pub one_ticked : AreTicked config moment place S T C D → ticked_answer config moment (T m) ≡ Some a → D a.place ≡ Some (Held m deadline waker)
       → ((n : ℕ) → U n ≡ cond (nat_eq m n) (option_map (ticked moment) (T m)) (T n)) → ((p : ℕ) → E p ≡ filing place (ticked_answer config moment (T m)) D p)
       → AreTicked config moment place S U C E
-  one_ticked so answer held on at = record { seats = seats; left = left; given = given; kept = kept }
+  one_ticked so answer held on at = record { seats = seats; left = left; given = given; kept = kept; known = λ p. ap session_at (at p) ∙ filing_session place (ticked_answer config moment (T m)) D p ∙ so.known p }
     where
       files : (p : ℕ) → E p ≡ cond (nat_eq a.place p) (filed_as place a.answer (D a.place)) (D p)
       files p = at p ∙ ap (λ o. filing place o D p) answer
 
-      own : E a.place ≡ Some (Filed place a.answer)
+      own : E a.place ≡ Some (Filed m place a.answer)
       own = files a.place ∙ ap (λ b. cond b (filed_as place a.answer (D a.place)) (D a.place)) (eq-eqb a.place a.place refl) ∙ ap (filed_as place a.answer) held
 
       other : (p : ℕ) → nat_eq a.place p ≡ false → E p ≡ D p
@@ -197,21 +200,21 @@ module _ (config : Config) (moment place : ℕ) (S T U : ℕ → Option Seat) (C
           by true f = absurd (true≢false (ap is_none (sym (answered_once config moment (T m)) ∙ f)))
           by false f = so.left n x f
 
-      given : (n : ℕ) (x : Answered) → ticked_answer config moment (S n) ≡ Some x → (ticked_answer config moment (U n) ≡ Some x) ⊎ (E x.place ≡ Some (Filed place x.answer))
+      given : (n : ℕ) (x : Answered) → ticked_answer config moment (S n) ≡ Some x → (ticked_answer config moment (U n) ≡ Some x) ⊎ (E x.place ≡ Some (Filed n place x.answer))
       given n x e = from (so.given n x e)
         where
-          from : (ticked_answer config moment (T n) ≡ Some x) ⊎ (D x.place ≡ Some (Filed place x.answer)) → (ticked_answer config moment (U n) ≡ Some x) ⊎ (E x.place ≡ Some (Filed place x.answer))
+          from : (ticked_answer config moment (T n) ≡ Some x) ⊎ (D x.place ≡ Some (Filed n place x.answer)) → (ticked_answer config moment (U n) ≡ Some x) ⊎ (E x.place ≡ Some (Filed n place x.answer))
           from (inl waits) = by (nat_eq m n) refl
             where
-              by : (b : Bool) → nat_eq m n ≡ b → (ticked_answer config moment (U n) ≡ Some x) ⊎ (E x.place ≡ Some (Filed place x.answer))
+              by : (b : Bool) → nat_eq m n ≡ b → (ticked_answer config moment (U n) ≡ Some x) ⊎ (E x.place ≡ Some (Filed n place x.answer))
               by true f =
                   let same : a ≡ x = ap (λ o. option_map_or (λ (y : Answered). y) o a) (sym answer ∙ ap (λ k. ticked_answer config moment (T k)) (eqb-true m n f) ∙ waits) in
-                  inr (ap (λ (y : Answered). E y.place) (sym same) ∙ own ∙ ap (λ (y : Answered). Some (Filed place y.answer)) same)
+                  inr (ap (λ (y : Answered). E y.place) (sym same) ∙ own ∙ ap (λ (y : Answered). Some (Filed m place y.answer)) same ∙ ap (λ k. Some (Filed k place x.answer)) (eqb-true m n f))
               by false f = inl (ap (ticked_answer config moment) (on n ∙ ap (λ b. cond b (option_map (ticked moment) (T m)) (T n)) f) ∙ waits)
           from (inr filed) = by (nat_eq a.place x.place) refl
             where
-              by : (b : Bool) → nat_eq a.place x.place ≡ b → (ticked_answer config moment (U n) ≡ Some x) ⊎ (E x.place ≡ Some (Filed place x.answer))
-              by true f = absurd (let both : Some (Held session deadline waker) ≡ Some (Filed place x.answer) = sym held ∙ ap D (eqb-true a.place x.place f) ∙ filed in cc)
+              by : (b : Bool) → nat_eq a.place x.place ≡ b → (ticked_answer config moment (U n) ≡ Some x) ⊎ (E x.place ≡ Some (Filed n place x.answer))
+              by true f = absurd (let both : Some (Held m deadline waker) ≡ Some (Filed n place x.answer) = sym held ∙ ap D (eqb-true a.place x.place f) ∙ filed in cc)
               by false f = inr (other x.place f ∙ filed)
 
       kept : (p : ℕ) → ((n : ℕ) (x : Answered) → ticked_answer config moment (S n) ≡ Some x → x.place ≢ p) → E p ≡ C p
@@ -223,10 +226,10 @@ module _ (config : Config) (moment place : ℕ) (S T : ℕ → Option Seat) (C D
   pub all_seats : (n : ℕ) → T n ≡ option_map (ticked moment) (S n)
   all_seats n = sym ((idle n).same) ∙ so.seats n
 
-  pub all_given : (n : ℕ) (a : Answered) → ticked_answer config moment (S n) ≡ Some a → D a.place ≡ Some (Filed place a.answer)
+  pub all_given : (n : ℕ) (a : Answered) → ticked_answer config moment (S n) ≡ Some a → D a.place ≡ Some (Filed n place a.answer)
   all_given n a e = from (so.given n a e)
     where
-      from : (ticked_answer config moment (T n) ≡ Some a) ⊎ (D a.place ≡ Some (Filed place a.answer)) → D a.place ≡ Some (Filed place a.answer)
+      from : (ticked_answer config moment (T n) ≡ Some a) ⊎ (D a.place ≡ Some (Filed n place a.answer)) → D a.place ≡ Some (Filed n place a.answer)
       from (inl waits) = absurd (true≢false (ap is_none (sym ((idle n).none) ∙ waits)))
       from (inr filed) = filed
 

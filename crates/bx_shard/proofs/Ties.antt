@@ -4,8 +4,8 @@ use Rattle.std.proofs.lemmas.Bool.{eqb-true, eq-eqb}
 use Rattle.bx_entry.specs.Sessions.{Pending}
 use Rattle.bx_session.specs.Seats.{Seat}
 use Rattle.bx_session.specs.Steps.{deadline_of}
-use Rattle.bx_shard.specs.declared.connects.ConnectState.{ConnectState}
-use Rattle.bx_shard.specs.declared.connects.ConnectState.TheVariants.{Held, Filed}
+use Rattle.bx_connects.specs.declared.connects.ConnectState.{ConnectState}
+use Rattle.bx_connects.specs.declared.connects.ConnectState.TheVariants.{Held, Filed}
 use Rattle.bx_shard.specs.Sessions.{held_until, ends_for, holds_until}
 
 -- ---- look-ups alone
@@ -33,7 +33,7 @@ held_by_one (Some (Held k d w)) m n deadline h other = by (nat_eq k m) refl h
     by : (b : Bool) → nat_eq k m ≡ b → cond b (Some d) None ≡ Some deadline → cond (nat_eq k n) (Some d) None ≡ None
     by true e g = ap (λ j. cond (nat_eq j n) (Some d) None) (eqb-true k m e) ∙ ap (λ c. cond c (Some d) None) other
     by false e g = absurd (true≢false (ap is_none g))
-held_by_one (Some (Filed p a)) m n deadline h other = refl
+held_by_one (Some (Filed j p a)) m n deadline h other = refl
 
 -- a seat that holds a connect says so
 pub holds_own : (seat : Seat) (q : Pending) → seat.held ≡ Some q → holds_until (Some seat) q.place ≡ Some (deadline_of q)

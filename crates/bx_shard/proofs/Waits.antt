@@ -1,5 +1,5 @@
 -- A session answers a connect only where the connect's slot waits for it.
-use Rattle.std.proofs.Common.{◌≡◌, ℕ, max, Option, Some, None, List, [], ◌∷◌, ◌++◌, length, map, fold, option_map, slice_get, refl, sym, ap, ◌∙◌, subst, eqb-true, append_assoc}
+use Rattle.std.proofs.Common.{◌≡◌, ℕ, zero, suc, max, Option, Some, None, List, [], ◌∷◌, ◌++◌, length, map, fold, option_map, slice_get, refl, sym, ap, ◌∙◌, subst, eqb-true, append_assoc}
 use Rattle.std.proofs.lemmas.List.{length_push}
 use Rattle.bx_advice.specs.declared.config.Config.{Config}
 use Rattle.bx_advice.specs.declared.error.Error.{Error}
@@ -13,6 +13,7 @@ use Rattle.bx_entry.specs.declared.entry.Kind.TheVariants.{Opened, Connect, Subs
 use Rattle.bx_entry.specs.declared.entry.Kind.TheVariants as entries
 use Rattle.bx_entry.specs.Registry.{Registry, Registered, Judged, PlaceSlot, Waiting, judge, judged_by, kind_for, slot_for, named_by, refusal, hold_of, registry, empty_registry, entries_of}
 use Rattle.bx_entry.specs.Sessions.{session, unopened}
+use Rattle.bx_shard.specs.States.{connecting}
 use Rattle.bx_laws.specs.Laws.{PlacesFrom}
 use Rattle.bx_laws.proofs.Runs.{EachEntry}
 use Rattle.bx_laws.proofs.Places.{Only, Allowed, run_only, only_unopened}
@@ -98,3 +99,24 @@ answered_waits config number xs =
     let r : Registry = registry config xs in
     run_only config (WaitsAt r.judged number) number (unopened number) (entries_of r) refl
     (allowed_from number [] r.judged (run_waits config empty_registry xs tt) (entries_in_order config xs)) (only_unopened (WaitsAt r.judged number) number)
+
+-- ---- the slot of a connect
+
+slot_waits : (slot : PlaceSlot) (k : Kind) (m : ℕ) → WaitsBy slot k → connecting k ≡ Some m → slot ≡ Waiting m
+slot_waits slot (Opened n ack) m w h = cc
+slot_waits slot (Connect n client id acked hold) m w h = let same : n ≡ m = cc in w ∙ ap Waiting same
+slot_waits slot (Subscribe n ps) m w h = cc
+slot_waits slot (Unsubscribe n ps) m w h = cc
+slot_waits slot (Publish e) m w h = cc
+slot_waits slot (Disconnect n) m w h = cc
+slot_waits slot Refused m w h = cc
+slot_waits slot (entries.Tick numbers) m w h = cc
+
+judged_waits : (js : List Judged) (n m : ℕ) (e : Entry) → EachWaits js → slice_get (map (λ (j : Judged). j.entry) js) n ≡ Some e → connecting e.kind ≡ Some m → WaitsAt js m n
+judged_waits [] n m e w h k = absurd (let no : None ≡ Some e = h in cc)
+judged_waits (j ∷ js) zero m e w h k = let same : j.entry ≡ e = cc in ap Some (slot_waits j.slot j.entry.kind m w.0 (ap (λ (x : Entry). connecting x.kind) same ∙ k))
+judged_waits (j ∷ js) (suc n) m e w h k = judged_waits js n m e w.1 h k
+
+-- the slot at the place of a connect waits for its session
+pub connect_waits : (config : Config) (xs : List Listed) (n m : ℕ) (e : Entry) → slice_get (entries_of (registry config xs)) n ≡ Some e → connecting e.kind ≡ Some m → WaitsAt (registry config xs).judged m n
+connect_waits config xs n m e h k = judged_waits (registry config xs).judged n m e (run_waits config empty_registry xs tt) h k

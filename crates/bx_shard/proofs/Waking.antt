@@ -3,20 +3,21 @@ use Rattle.std.proofs.Common.{◌≡◌, ℕ, nat_eq, if◌then◌else◌, Bool,
 use Rattle.std.proofs.lemmas.Bool.{cond-true, cond-false}
 use Rattle.futures.specs.declared.task.waker.Waker.{Waker}
 use Rattle.bx_laws.proofs.Moves.{either}
-use Rattle.bx_shard.specs.declared.connects.ConnectState.{ConnectState}
-use Rattle.bx_shard.specs.declared.connects.ConnectState.TheVariants as states
-use Rattle.bx_shard.specs.Connects.{unwatched, with_waker}
+use Rattle.bx_connects.specs.declared.connects.ConnectState.{ConnectState}
+use Rattle.bx_connects.specs.declared.connects.ConnectState.TheVariants as states
+use Rattle.bx_connects.specs.Connects.{session_at, unwatched, with_waker}
 use Rattle.bx_shard.specs.Sessions.{held_until}
 use Rattle.bx_shard.specs.States.{connect_in}
 use Rattle.bx_shard.specs.Held.{HoldsShut, HoldsWatched, filed_with_place}
+use Rattle.bx_shard.proofs.Keeps.{unwatched_session, watched_session}
 
 -- a waker changes no answer that is filed
 watched_filed : (shut : Bool) (waker : Waker) (o : Option ConnectState) → filed_with_place (with_waker shut waker o) ≡ filed_with_place o
 watched_filed shut waker None = refl
 watched_filed true waker (Some (states.Held session deadline older)) = refl
 watched_filed false waker (Some (states.Held session deadline older)) = refl
-watched_filed true waker (Some (states.Filed place answer)) = refl
-watched_filed false waker (Some (states.Filed place answer)) = refl
+watched_filed true waker (Some (states.Filed session place answer)) = refl
+watched_filed false waker (Some (states.Filed session place answer)) = refl
 
 -- nor is a connect known by it that was not
 pub watched_none : (shut : Bool) (waker : Waker) (o : Option ConnectState) → o ≡ None → with_waker shut waker o ≡ None
@@ -26,15 +27,15 @@ watched_none false waker o h = ap (with_waker false waker) h
 unwatched_filed : (o : Option ConnectState) → filed_with_place (option_map unwatched o) ≡ filed_with_place o
 unwatched_filed None = refl
 unwatched_filed (Some (states.Held session deadline older)) = refl
-unwatched_filed (Some (states.Filed place answer)) = refl
+unwatched_filed (Some (states.Filed session place answer)) = refl
 
 -- nor does it change by which session a connect is held, and until when
 pub watched_held : (shut : Bool) (waker : Waker) (o : Option ConnectState) (n : ℕ) → held_until (with_waker shut waker o) n ≡ held_until o n
 watched_held shut waker None n = refl
 watched_held true waker (Some (states.Held session deadline older)) n = refl
 watched_held false waker (Some (states.Held session deadline older)) n = refl
-watched_held true waker (Some (states.Filed place answer)) n = refl
-watched_held false waker (Some (states.Filed place answer)) n = refl
+watched_held true waker (Some (states.Filed session place answer)) n = refl
+watched_held false waker (Some (states.Filed session place answer)) n = refl
 
 -- where a waker was brought for a connect, each is as it was, with a waker or without
 pub at_each : (P : Option ConnectState → Option ConnectState → Type 0) (shut : Bool) (connect : ℕ) (waker : Waker) (old new : ℕ → Option ConnectState) →
@@ -61,6 +62,7 @@ holds_watched setup list taken shard n connect waker old new h w sound = record 
   filed = λ p. at_each (λ o q. filed_with_place q ≡ filed_with_place o) old.shut connect waker (connect_in old) (connect_in new) w.connects (λ o. refl) (λ o. watched_filed old.shut waker o) p ∙ h.filed p;
   known = h.known;
   gone = λ p t c. let g = h.gone p t c in (g.0, at_each (λ o q. o ≡ None → q ≡ None) old.shut connect waker (connect_in old) (connect_in new) w.connects (λ o e. e) (λ o e. watched_none old.shut waker o e) p g.1);
+  owned = λ p m k. h.owned p m (sym (at_each (λ o q. session_at q ≡ session_at o) old.shut connect waker (connect_in old) (connect_in new) w.connects (λ o. refl) (λ o. watched_session old.shut waker o) p) ∙ k);
 }
 
 pub holds_shut : HoldsShut
@@ -74,4 +76,5 @@ holds_shut setup list taken shard n old new h w sound = record {
   filed = λ p. ap filed_with_place (w.connects p) ∙ unwatched_filed (connect_in old p) ∙ h.filed p;
   known = h.known;
   gone = λ p t c. let g = h.gone p t c in (g.0, w.connects p ∙ ap (option_map unwatched) g.1);
+  owned = λ p m k. h.owned p m (sym (ap session_at (w.connects p) ∙ unwatched_session (connect_in old p)) ∙ k);
 }

@@ -9,9 +9,8 @@ use Rattle.bx_session.specs.declared.answered.Delivery.{Delivery}
 use Rattle.bx_session.specs.declared.answered.Delivery.TheVariants.{Waits, Given, Overflowed}
 use Rattle.bx_session.specs.Seats.{Seat}
 use Rattle.bx_session.specs.Steps.{connection, deadline_of, delivery, released, tick_answer}
-use Rattle.bx_shard.specs.declared.connects.ConnectState.{ConnectState}
-use Rattle.bx_shard.specs.Connects.{held_by}
-use Rattle.bx_shard.specs.Sessions.{filing}
+use Rattle.bx_connects.specs.declared.connects.ConnectState.{ConnectState}
+use Rattle.bx_connects.specs.Connects.{filing, held_by}
 
 -- the connects with one more, which this session holds
 abbrev pub holding : ℕ → Pending → (ℕ → Option ConnectState) → ℕ → Option ConnectState

@@ -6,12 +6,12 @@ use Rattle.bx_entry.specs.declared.entry.Kind.{Kind}
 use Rattle.bx_entry.specs.declared.entry.Kind.TheVariants.{Opened, Connect, Subscribe, Unsubscribe, Publish, Disconnect, Refused, Tick}
 use Rattle.bx_session.specs.declared.answered.Answered.{Answered}
 use Rattle.bx_session.specs.Seats.{pending}
+use Rattle.bx_connects.specs.declared.connects.ConnectState.{ConnectState}
+use Rattle.bx_connects.specs.Connects.{connect_at}
 use Rattle.bx_shard.specs.declared.sessions.Sessions.{Sessions}
-use Rattle.bx_shard.specs.declared.connects.ConnectState.{ConnectState}
-use Rattle.bx_shard.specs.Connects.{connect_at}
 use Rattle.bx_shard.specs.Effects.{holding}
 use Rattle.bx_shard.specs.Sessions.{AreCounted, AreHeld, subscriber_in}
-use Rattle.bx_shard.specs.States.{Files, let_go}
+use Rattle.bx_shard.specs.States.{Files, KeepsSessions, let_go}
 use Rattle.bx_shard.specs.Subscribers.{Subscriber, answers, closes, newcomer, onward}
 
 -- the session that an entry opens, if it stands here
@@ -42,9 +42,8 @@ starting s e (Disconnect m) p = connect_at s.connects p
 starting s e Refused p = connect_at s.connects p
 starting s e (Tick numbers) p = let_go numbers (connect_at s.connects p)
 
--- the entry gives this answer to a connect of some session
-pub record GivenBy (s : Sessions) (e : Entry) (a : Answered) : Type 0 where
-  pub number : ℕ
+-- the entry gives this answer to a connect of this session
+pub record GivenBy (s : Sessions) (e : Entry) (number : ℕ) (a : Answered) : Type 0 where
   pub subscriber : Subscriber
   pub here : subscriber_in s number ≡ Some subscriber
   pub given : Contains (answers s.config e.place e.moment e.kind number subscriber) a
@@ -54,5 +53,6 @@ pub record Followed (stands : Bool) (e : Entry) (old new : Sessions) : Type 0 wh
   pub config : new.config ≡ old.config
   pub sessions : (n : ℕ) → subscriber_in new n ≡ next_of stands old.config e n (subscriber_in old n)
   pub connects : Files e.place (GivenBy old e) (starting old e e.kind) (connect_at new.connects)
+  pub known : KeepsSessions (subscriber_in old) e (connect_at old.connects) (connect_at new.connects)
   pub counted : AreCounted new
   pub held : AreHeld new

@@ -9,9 +9,9 @@ use Rattle.bx_entry.specs.Registry.{Judged, Waiting, entries, registry}
 use Rattle.bx_entry.specs.Sessions.{Filed}
 use Rattle.bx_entry.specs.declared.entry.Entry.{Entry}
 use Rattle.bx_message.specs.declared.reply.Answer.{Answer}
-use Rattle.bx_shard.specs.declared.connects.ConnectState.{ConnectState}
-use Rattle.bx_shard.specs.declared.connects.ConnectState.TheVariants as states
-use Rattle.bx_shard.specs.Connects.{filed_answer, is_filed_below, taken_from}
+use Rattle.bx_connects.specs.declared.connects.ConnectState.{ConnectState}
+use Rattle.bx_connects.specs.declared.connects.ConnectState.TheVariants as states
+use Rattle.bx_connects.specs.Connects.{filed_answer, is_filed_below, session_at, taken_from}
 use Rattle.bx_shard.specs.Shards.{Setup, is_taken, shard_at, stands_in}
 use Rattle.bx_shard.specs.States.{Applied, IsAsBefore, IsSound, State, Swept, Watched, WasShut, connect_in, session_in}
 use Rattle.bx_shard.specs.Subscribers.{subscriber_of}
@@ -24,7 +24,7 @@ placed place a = record { place = place; events = a.events; reply = a.reply }
 abbrev pub filed_with_place : Option ConnectState → Option PlacedAnswer
 filed_with_place None = None
 filed_with_place (Some (states.Held session deadline waker)) = None
-filed_with_place (Some (states.Filed place answer)) = Some (placed place answer)
+filed_with_place (Some (states.Filed session place answer)) = Some (placed place answer)
 
 -- the message at a place of the list is an accepted connect of a session that stands in the shard
 pub record IsConnectOf (setup : Setup) (list : List Listed) (shard place : ℕ) : Type 0 where
@@ -32,8 +32,14 @@ pub record IsConnectOf (setup : Setup) (list : List Listed) (shard place : ℕ) 
   pub waits : option_map (λ (j : Judged). j.slot) (slice_get (registry setup.config list).judged place) ≡ Some (Waiting session)
   pub stands : stands_in setup shard session ≡ true
 
+-- the message at a place of the list is an accepted connect of this session, which stands in the shard
+pub record IsOwn (setup : Setup) (list : List Listed) (shard place session : ℕ) : Type 0 where
+  pub waits : option_map (λ (j : Judged). j.slot) (slice_get (registry setup.config list).judged place) ≡ Some (Waiting session)
+  pub stands : stands_in setup shard session ≡ true
+
 -- What the program's shard holds is what the definition's shard holds after the first n entries, when the answers at `taken` were taken. What was
--- taken stands in the list, and of a connect of the shard whose answer was taken nothing is known any longer.
+-- taken stands in the list, and of a connect of the shard whose answer was taken nothing is known any longer. Each connect that is known is one of a
+-- session that stands in the shard.
 pub record Holds (setup : Setup) (list : List Listed) (taken : List ℕ) (shard n : ℕ) (s : State) : Type 0 where
   pub setup_is : s.setup ≡ setup
   pub index_is : s.index ≡ shard
@@ -44,6 +50,7 @@ pub record Holds (setup : Setup) (list : List Listed) (taken : List ℕ) (shard 
   pub filed : (p : ℕ) → filed_with_place (connect_in s p) ≡ option_map answer_of (find (λ (f : Filed). f.connect == p) (shard_at setup list taken shard n).filed)
   pub known : (p : ℕ) → is_taken taken p ≡ true → p < length list
   pub gone : (p : ℕ) → is_taken taken p ≡ true → IsConnectOf setup list shard p → (p < n) × (connect_in s p ≡ None)
+  pub owned : (p m : ℕ) → session_at (connect_in s p) ≡ Some m → IsOwn setup list shard p m
 
 -- so it is of a shard that has applied nothing yet
 abbrev pub HoldsAtFirst : Type 0

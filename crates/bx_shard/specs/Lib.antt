@@ -1,9 +1,10 @@
-pub mod Connects
-pub mod Deadlines
+pub mod Dealing
 pub mod Effects
 pub mod Following
+pub mod Heirs
 pub mod Held
 pub mod Holdings
+pub mod Making
 pub mod Publishing
 pub mod Seen
 pub mod Sessions

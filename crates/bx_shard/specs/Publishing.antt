@@ -9,9 +9,9 @@ use Rattle.bx_message.specs.declared.event.Event.{Event}
 use Rattle.bx_session.specs.declared.answered.Answered.{Answered}
 use Rattle.bx_session.specs.Seats.{Seat}
 use Rattle.bx_session.specs.Steps.{Countable, delivery}
+use Rattle.bx_connects.specs.Connects.{connect_at}
 use Rattle.bx_shard.specs.declared.publish.Parcel.{Parcel}
 use Rattle.bx_shard.specs.declared.sessions.Sessions.{Sessions}
-use Rattle.bx_shard.specs.Connects.{connect_at}
 use Rattle.bx_shard.specs.Effects.{delivery_filing, given_by}
 use Rattle.bx_shard.specs.Sessions.{AreHeld, HasRoom, seat_in, subscriber_in}
 use Rattle.bx_shard.specs.Subscribers.{Subscriber, hears, receiving}

@@ -7,7 +7,7 @@ use Rattle.bx_shard.specs.States.{State}
 
 -- the configuration with the placing by which sessions stand in shards
 abbrev pub setup_in : {P : Type 0} → (P → ℕ → ℕ → ℕ) → Shard P → Setup
-setup_in place_of s = record { config = s.sessions.config; shards = s.sessions.config.shards; placing = place_of (arc_value s.placing) }
+setup_in place_of s = record { config = s.sessions.config; shards = s.shards; placing = place_of (arc_value s.placing) }
 
 -- the state of the shard
 abbrev pub state : {P : Type 0} → (P → ℕ → ℕ → ℕ) → Shard P → State

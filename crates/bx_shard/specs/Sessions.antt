@@ -7,10 +7,10 @@ use Rattle.bx_entry.specs.Sessions.{Pending}
 use Rattle.bx_session.specs.declared.answered.Answered.{Answered}
 use Rattle.bx_session.specs.Seats.{Seat, Seated}
 use Rattle.bx_session.specs.Steps.{Countable, deadline_of}
+use Rattle.bx_connects.specs.declared.connects.ConnectState.{ConnectState}
+use Rattle.bx_connects.specs.declared.connects.ConnectState.TheVariants.{Held, Filed}
+use Rattle.bx_connects.specs.Connects.{connect_at}
 use Rattle.bx_shard.specs.declared.sessions.Sessions.{Sessions}
-use Rattle.bx_shard.specs.declared.connects.ConnectState.{ConnectState}
-use Rattle.bx_shard.specs.declared.connects.ConnectState.TheVariants.{Held, Filed}
-use Rattle.bx_shard.specs.Connects.{connect_at, filed_as}
 use Rattle.bx_shard.specs.Subscribers.{Subscriber}
 
 -- the seat of a session, if it is here
@@ -35,11 +35,6 @@ AreCountable s = (n : ℕ) → IfSome (seat_in s n) Countable
 
 -- ---- answers that are filed
 
--- the connects with an answer filed for one of them, which the entry at this place gives
-abbrev pub filing : ℕ → Option Answered → (ℕ → Option ConnectState) → ℕ → Option ConnectState
-filing place None connects p = connects p
-filing place (Some a) connects p = if nat_eq a.place p then filed_as place a.answer (connects a.place) else connects p
-
 -- nothing is known any longer of the connect that has this answer
 abbrev pub forgetting : Option Answered → (ℕ → Option ConnectState) → ℕ → Option ConnectState
 forgetting None connects p = connects p
@@ -56,7 +51,7 @@ IsCounted (Some seat) patterns = (seat.patterns ≡ length patterns) × (seat.ov
 abbrev pub held_until : Option ConnectState → ℕ → Option (Option ℕ)
 held_until None n = None
 held_until (Some (Held m deadline waker)) n = if nat_eq m n then Some deadline else None
-held_until (Some (Filed place answer)) n = None
+held_until (Some (Filed session place answer)) n = None
 
 -- until when a hold is the one of the connect at this place, if it is
 abbrev pub ends_for : Option Pending → ℕ → Option (Option ℕ)

@@ -1,16 +1,16 @@
 -- A shard as the program holds it, and what one entry does to it.
-use Rattle.std.specs.Prelude.{ℕ, ◌+◌, ◌==◌, ◌&&◌, ◌≡◌, ◌≢◌, ◌≤◌, Bool, true, false, List, if◌then◌else◌, nat_eq, option_map, Option, Some, None, is_some, Contains}
+use Rattle.std.specs.Prelude.{ℕ, ◌⊎◌, ◌+◌, ◌==◌, ◌&&◌, ◌≡◌, ◌≢◌, ◌≤◌, Bool, true, false, List, if◌then◌else◌, nat_eq, option_map, Option, Some, None, is_some, Contains}
 use Rattle.std.specs.List.{list_any}
 use Rattle.bx_entry.specs.declared.entry.Entry.{Entry}
 use Rattle.bx_entry.specs.declared.entry.Kind.{Kind}
 use Rattle.bx_entry.specs.declared.entry.Kind.TheVariants.{Opened, Connect, Subscribe, Unsubscribe, Publish, Disconnect, Refused, Tick}
 use Rattle.bx_session.specs.declared.answered.Answered.{Answered}
 use Rattle.bx_session.specs.Seats.{pending}
+use Rattle.bx_connects.specs.declared.connects.ConnectState.{ConnectState}
+use Rattle.bx_connects.specs.declared.connects.ConnectState.TheVariants.{Held, Filed}
+use Rattle.bx_connects.specs.Connects.{connect_at, session_at, unswept, unwatched, with_waker}
 use Rattle.bx_shard.specs.declared.sessions.Sessions.{Sessions}
-use Rattle.bx_shard.specs.declared.connects.ConnectState.{ConnectState}
-use Rattle.bx_shard.specs.declared.connects.ConnectState.TheVariants.{Held, Filed}
 use Rattle.futures.specs.declared.task.waker.Waker.{Waker}
-use Rattle.bx_shard.specs.Connects.{connect_at, unswept, unwatched, with_waker}
 use Rattle.bx_shard.specs.Effects.{holding}
 use Rattle.bx_shard.specs.Sessions.{AreTied, subscriber_in}
 use Rattle.bx_shard.specs.Shards.{Setup, stands_in}
@@ -56,7 +56,7 @@ session_after s e n (Some subscriber) = if closes e.kind n then None else Some (
 abbrev pub let_go : List ℕ → Option ConnectState → Option ConnectState
 let_go numbers None = None
 let_go numbers (Some (Held session deadline waker)) = if list_any (λ m. m == session) numbers then None else Some (Held session deadline waker)
-let_go numbers (Some (Filed place answer)) = Some (Filed place answer)
+let_go numbers (Some (Filed session place answer)) = Some (Filed session place answer)
 
 -- The connects with the one that the entry is, where its session is here; it is held at first. A session that a tick closes holds none (in a list
 -- it never does, since a session is due no sooner than its hold ends).
@@ -71,17 +71,37 @@ begun s e (Disconnect m) p = connect_in s p
 begun s e Refused p = connect_in s p
 begun s e (Tick numbers) p = let_go numbers (connect_in s p)
 
--- the entry gives this answer to a connect of some session of the shard
-pub record IsGiven (s : State) (e : Entry) (a : Answered) : Type 0 where
-  pub number : ℕ
+-- the entry gives this answer to a connect of this session of the shard
+pub record IsGiven (s : State) (e : Entry) (number : ℕ) (a : Answered) : Type 0 where
   pub subscriber : Subscriber
   pub here : session_in s number ≡ Some subscriber
   pub given : Contains (answers s.setup.config e.place e.moment e.kind number subscriber) a
 
--- the answers are filed at this place, and all other connects are as they were
-pub record Files (place : ℕ) (Given : Answered → Type 0) (old new : ℕ → Option ConnectState) : Type 0 where
-  pub given : (a : Answered) → Given a → new a.place ≡ Some (Filed place a.answer)
-  pub kept : (p : ℕ) → ((a : Answered) → Given a → a.place ≢ p) → new p ≡ old p
+-- the answers that each session gives are filed at this place, and all other connects are as they were
+pub record Files (place : ℕ) (Given : ℕ → Answered → Type 0) (old new : ℕ → Option ConnectState) : Type 0 where
+  pub given : (n : ℕ) (a : Answered) → Given n a → new a.place ≡ Some (Filed n place a.answer)
+  pub kept : (p : ℕ) → ((n : ℕ) (a : Answered) → Given n a → a.place ≢ p) → new p ≡ old p
+
+-- the session of which an entry of this kind is a connect, if it is one
+abbrev pub connecting : Kind → Option ℕ
+connecting (Opened m ack) = None
+connecting (Connect m client id acked hold) = Some m
+connecting (Subscribe m patterns) = None
+connecting (Unsubscribe m patterns) = None
+connecting (Publish e) = None
+connecting (Disconnect m) = None
+connecting Refused = None
+connecting (Tick numbers) = None
+
+-- the entry is the connect at this place, of this one of the sessions
+pub record Connects (sessions : ℕ → Option Subscriber) (e : Entry) (p m : ℕ) : Type 0 where
+  pub place : e.place ≡ p
+  pub session : connecting e.kind ≡ Some m
+  pub here : is_some (sessions m) ≡ true
+
+-- a connect that is known has the session that it had, or is the entry itself
+abbrev pub KeepsSessions : (ℕ → Option Subscriber) → Entry → (ℕ → Option ConnectState) → (ℕ → Option ConnectState) → Type 0
+KeepsSessions sessions e old new = (p m : ℕ) → session_at (new p) ≡ Some m → (session_at (old p) ≡ Some m) ⊎ Connects sessions e p m
 
 -- ---- one entry
 
@@ -93,6 +113,7 @@ pub record Applied (old : State) (e : Entry) (new : State) : Type 0 where
   pub shut : new.shut ≡ old.shut
   pub sessions : (n : ℕ) → session_in new n ≡ session_after old e n (session_in old n)
   pub connects : Files e.place (IsGiven old e) (begun old e e.kind) (connect_in new)
+  pub known : KeepsSessions (session_in old) e (connect_in old) (connect_in new)
 
 -- nothing changed that can be seen
 pub record IsAsBefore (old new : State) : Type 0 where

@@ -1,6 +1,6 @@
 //! Each kind of entry, as the sessions of a shard follow it.
 ghost use Rattle.std.specs.Prelude.{◌≡◌, ◌≤◌, ◌<◌, ℕ, true, None, OnOk, OnErr, IsOk};
-ghost use Rattle.bx_shard.specs.Connects.{connect_at};
+ghost use Rattle.bx_connects.specs.Connects.{connect_at};
 ghost use Rattle.bx_shard.specs.Following.{Followed};
 ghost use Rattle.bx_shard.specs.Sessions.{AreCountable, AreCounted, AreHeld, subscriber_in};
 ghost use Rattle.bx_shard.specs.States.{takes_no_memory};

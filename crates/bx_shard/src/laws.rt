@@ -1,4 +1,5 @@
 //! Laws of what a shard holds, for every configuration, every placing and every list.
+ghost use Rattle.bx_shard.specs.Dealing.{HoldersAreApart, HoldsDealt};
 ghost use Rattle.bx_shard.specs.Held.{HoldsAtFirst, HoldsBeside, HoldsBesideSwept, HoldsLonger, HoldsOnwards, HoldsShut, HoldsStill, HoldsSwept, HoldsTaken, HoldsWatched};
 ghost use Rattle.bx_shard.specs.Holdings.{HoldsReached, NumbersAscend, OpenedIsFresh};
 ghost use Rattle.bx_shard.specs.Steps.{ShardsFile, ShardsStep};
@@ -76,4 +77,14 @@ pub fn holds_swept()
 /// A shard holds the same after a sweep dropped answers from another.
 pub fn holds_beside_swept()
     ensures { HoldsBesideSwept }
+{}
+
+/// Shards that hold what the definition's shards hold are alike, and no session or connect is in two of them.
+pub fn holders_are_apart()
+    ensures { HoldersAreApart }
+{}
+
+/// Shards that were dealt anew hold what the definition's shards hold with the other number of shards and the other placing.
+pub fn holds_dealt()
+    ensures { HoldsDealt }
 {}

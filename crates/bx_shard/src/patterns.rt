@@ -2,7 +2,7 @@
 ghost use Rattle.std.specs.Prelude.{◌≡◌, ◌≢◌, ℕ, nat_eq, Some, None, option_map, if◌then◌else◌, OnOk, OnErr, IfSome, false};
 ghost use Rattle.bx_session.specs.Seats.{Seat};
 ghost use Rattle.bx_session.specs.Steps.{Countable};
-ghost use Rattle.bx_shard.specs.Connects.{connect_at};
+ghost use Rattle.bx_connects.specs.Connects.{connect_at};
 ghost use Rattle.bx_shard.specs.Effects.{delivery_filing};
 ghost use Rattle.bx_shard.specs.Sessions.{AreCounted, AreHeld, HasRoom, IsCounted, patterns_in, seat_in, subscriber_in};
 ghost use Rattle.bx_shard.specs.Subscribers.{receiving, subscribing, unsubscribing};

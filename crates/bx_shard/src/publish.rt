@@ -6,8 +6,8 @@ ghost use Rattle.bx_names.specs.Faults.{name_fault};
 ghost use Rattle.bx_names.specs.Kinds.{is_broadcast};
 ghost use Rattle.bx_names.specs.Segments.{segments};
 ghost use Rattle.bx_session.specs.declared.answered.Answered.{Answered};
-ghost use Rattle.bx_shard.specs.declared.connects.ConnectState.TheVariants.{Filed};
-ghost use Rattle.bx_shard.specs.Connects.{connect_at};
+ghost use Rattle.bx_connects.specs.declared.connects.ConnectState.TheVariants.{Filed};
+ghost use Rattle.bx_connects.specs.Connects.{connect_at, session_at};
 ghost use Rattle.bx_shard.specs.Publishing.{AllReady, Hears, Turns, hearing, parcel, reaches};
 ghost use Rattle.bx_shard.specs.Subscribers.{Subscriber};
 ghost use Rattle.bx_shard.specs.Sessions.{AreCounted, AreCountable, AreHeld, HasRoom, patterns_in, seat_in, subscriber_in};
@@ -121,7 +121,8 @@ impl Sessions {
         ensures sessions { OnOk result ((n : ℕ) → subscriber_in self.new n
             ≡ option_map (hearing self.old.config event.now) (subscriber_in self.old n)) }
         ensures given { OnOk result ((n : ℕ) → (s : Subscriber) → (a : Answered)
-            → Hears self.old event.now n s a → connect_at self.new.connects a.place ≡ Some (Filed place a.answer)) }
+            → Hears self.old event.now n s a → connect_at self.new.connects a.place ≡ Some (Filed n place a.answer)) }
+        ensures known { OnOk result ((p : ℕ) → session_at (connect_at self.new.connects p) ≡ session_at (connect_at self.old.connects p)) }
         ensures kept { OnOk result ((p : ℕ) → ((n : ℕ) → (s : Subscriber) → (a : Answered) → Hears self.old event.now n s a → a.place ≢ p)
             → connect_at self.new.connects p ≡ connect_at self.old.connects p) }
         ensures refused { OnErr result (((n : ℕ) → subscriber_in self.new n ≡ subscriber_in self.old n) × (self.new.connects ≡ self.old.connects)) }

@@ -1,18 +1,21 @@
 //! The sessions that stand in a shard.
-ghost use Rattle.std.specs.Prelude.{◌≡◌, ◌<◌, ◌≤◌, ◌-◌, ℕ, nat_eq, Some, None, [], length, option_map, is_some, if◌then◌else◌, OnOk, OnErr, IfSome, false, Option};
+ghost use Rattle.std.specs.Prelude.{◌≡◌, ◌<◌, ◌≤◌, ◌-◌, ℕ, nat_eq, Some, None, [], length, option_map, is_some, if◌then◌else◌, OnOk, OnErr, IfSome, false, Option, not, ◌&&◌, ◌||◌};
+ghost use Rattle.std.specs.Map.{keys_of};
 ghost use Rattle.bx_tree.specs.Patterns.{patterns_of};
 ghost use Rattle.bx_advice.specs.declared.advice.Case.TheVariants.{Disconnected};
 ghost use Rattle.bx_session.specs.Seats.{Seat, opened};
 ghost use Rattle.bx_session.specs.Steps.{Countable, connected, deadline_of, released, tick_answer, ticked};
 ghost use Rattle.bx_session.specs.declared.answered.Answered.{Answered};
 ghost use Rattle.futures.specs.declared.task.waker.Waker.{Waker};
-ghost use Rattle.bx_shard.specs.declared.connects.ConnectState.TheVariants.{Held};
-ghost use Rattle.bx_shard.specs.Connects.{connect_at, count_held};
-ghost use Rattle.bx_shard.specs.Sessions.{AreCounted, AreHeld, HasRoom, filing, forgetting, patterns_in, seat_in};
+ghost use Rattle.bx_connects.specs.declared.connects.ConnectState.TheVariants.{Held};
+ghost use Rattle.bx_connects.specs.Connects.{connect_at, count_held, filing};
+ghost use Rattle.bx_shard.specs.Sessions.{AreCounted, AreHeld, HasRoom, forgetting, patterns_in, seat_in};
+ghost use Rattle.bx_shard.specs.Heirs.{AreClean};
 ghost use Rattle.bx_shard.specs.Effects.{connect_filing, released_by, ticked_answer};
 
-use crate::connects::Connects;
 use bx_advice::Config;
+use bx_connects::Connects;
+use bx_names::Pattern;
 use bx_session::{Connection, PendingConnect, Session};
 use bx_tree::Tree;
 use indexmap::IndexMap;
@@ -177,5 +180,44 @@ impl Sessions {
         };
         let answered = session.close(&self.config);
         self.connects.file_if(place, answered);
+    }
+
+    /// The numbers of the sessions that are here.
+    pub(crate) fn numbers(&self) -> &[u64]
+        ensures { result.now ≡ keys_of self.now.by_number.entries }
+    {
+        self.by_number.keys().as_slice()
+    }
+
+    /// Makes room for a session and puts its patterns in force, unless one of this number is here.
+    pub(crate) fn lend(
+        &mut self,
+        alloc: Global,
+        number: u64,
+        patterns: &[Pattern],
+    ) -> Result<(), AllocError>
+        requires clean { AreClean self.old }
+        ensures seats { OnOk result ((n : ℕ) → is_some (seat_in self.new n) ≡ (nat_eq number n || is_some (seat_in self.old n))) }
+        ensures patterns { OnOk result ((n : ℕ) → patterns_in self.new n
+            ≡ (if nat_eq number n && not (is_some (seat_in self.old n)) then patterns.now else patterns_in self.old n)) }
+        ensures clean { OnOk result (AreClean self.new) }
+        ensures others { (self.new.config ≡ self.old.config) × (self.new.connects ≡ self.old.connects) }
+    {
+        if self.has(number) {
+            return Ok(());
+        }
+        self.open(alloc, number, false)?;
+        self.tree.copy(alloc, patterns, number)
+    }
+
+    /// Puts a session in the place that was made for one of this number.
+    pub(crate) fn settle(&mut self, number: u64, session: Session)
+        ensures seats { (n : ℕ) → seat_in self.new n
+            ≡ (if nat_eq number n then option_map (λ _. session.seat) (seat_in self.old number) else seat_in self.old n) }
+        ensures others { (self.new.config ≡ self.old.config) × (self.new.tree ≡ self.old.tree) × (self.new.connects ≡ self.old.connects) }
+    {
+        if let Some(lent) = self.by_number.get_mut(&number) {
+            *lent = session;
+        }
     }
 }

@@ -1,12 +1,11 @@
 //! One shard: the sessions that are placed in it, entry by entry.
 ghost use Rattle.std.specs.Prelude.{◌≡◌, ◌≤◌, ℕ, true, None};
-ghost use Rattle.bx_shard.specs.Connects.{connect_at};
+ghost use Rattle.bx_connects.specs.Connects.{connect_at};
 ghost use Rattle.bx_shard.specs.Sessions.{AreHeld, has_formed_at_most, is_counted, patterns_in, seat_in};
 
-use crate::filing::Filing;
 use crate::sessions::Sessions;
-use crate::watch::Watch;
 use bx_advice::Config;
+use bx_connects::{Filing, Watch};
 use bx_entry::{Entry, Kind, Placing, Ticket};
 use bx_message::Answer;
 use futures::task::Waker;
@@ -20,12 +19,16 @@ use std::sync::Arc;
 /// Contracts see its state by the numbers of sessions and the places of connects.
 #[derive(Drop)]
 pub struct Shard<P> {
-    placing: Arc<P>,
-    index: usize,
+    pub(crate) placing: Arc<P>,
+    pub(crate) index: usize,
+    // Among how many shards sessions are placed.
+    pub(crate) shards: usize,
     // How many entries it has applied.
-    place: u64,
-    is_shut: bool,
-    sessions: Sessions,
+    pub(crate) place: u64,
+    pub(crate) is_shut: bool,
+    pub(crate) sessions: Sessions,
+    ghost some_shard: { 1 ≤ shards },
+    ghost shards_in_range: { shards ≤ 64 },
     ghost counted: { (n : ℕ) → is_counted (seat_in sessions n) (patterns_in sessions n) ≡ true },
     ghost held: { AreHeld sessions },
     ghost batches: { (n : ℕ) → has_formed_at_most place (seat_in sessions n) ≡ true },
@@ -37,8 +40,8 @@ impl<P: Placing> Shard<P> {
     ghost use Rattle.std.specs.Arc.{arc_value};
     ghost use Rattle.bx_advice.specs.Limits.{greatest_length};
     ghost use Rattle.bx_entry.specs.declared.entry.Entry.{Entry};
-    ghost use Rattle.bx_shard.specs.Connects.{count_filed_below, filed_answer, watched};
-    ghost use Rattle.bx_shard.specs.declared.connects.ConnectState.TheVariants.{Filed};
+    ghost use Rattle.bx_connects.specs.Connects.{count_filed_below, filed_answer, watched};
+    ghost use Rattle.bx_connects.specs.declared.connects.ConnectState.TheVariants.{Filed};
     ghost use Rattle.bx_shard.specs.Held.{Took};
     ghost use Rattle.bx_shard.specs.States.{Applied, IsAsBefore, IsSound, Swept, Watched, WasShut, connect_in, opens_in, session_in, takes_no_memory};
     ghost use Rattle.bx_shard.specs.Seen.{setup_in, state};
@@ -48,6 +51,7 @@ impl<P: Placing> Shard<P> {
         ensures config { result.sessions.config ≡ config }
         ensures placing { arc_value result.placing ≡ arc_value placing }
         ensures index { result.index ≡ index }
+        ensures shards { result.shards ≡ config.shards }
         ensures place { (result.place ≡ 0) × (result.is_shut ≡ false) }
         ensures sessions { (n : ℕ) → session_in (state P.place_of result) n ≡ None }
         ensures connects { (p : ℕ) → connect_in (state P.place_of result) p ≡ None }
@@ -56,6 +60,7 @@ impl<P: Placing> Shard<P> {
         Shard {
             placing,
             index,
+            shards: config.shards,
             place: 0,
             is_shut: false,
             sessions: Sessions::new(alloc, config),
@@ -93,7 +98,7 @@ impl<P: Placing> Shard<P> {
     {
         match kind {
             Kind::Opened { session, .. } => {
-                self.placing.place(*session, self.sessions.config.shards) == self.index
+                self.placing.place(*session, self.shards) == self.index
             }
             _ => false,
         }
@@ -117,8 +122,8 @@ impl<P: Placing> Shard<P> {
     /// Some answer that is filed, with the connect that it answers; it is taken with that. Which one is left open, and it
     /// costs the same however many are filed.
     pub fn take_any(&mut self) -> Option<Filing>
-        ensures filed { IfSome result (λ filing. connect_in (state P.place_of self.old) filing.connect
-            ≡ Some (Filed filing.place filing.answer)) }
+        ensures filed { IfSome result (λ filing. (session : ℕ)
+            × (connect_in (state P.place_of self.old) filing.connect ≡ Some (Filed session filing.place filing.answer))) }
         ensures taken { IfSome result (λ filing.
             Took filing.connect (state P.place_of self.old) (state P.place_of self.new)) }
         ensures none { IfNone result ((p : ℕ) → filed_answer (connect_in (state P.place_of self.old) p) ≡ None) }

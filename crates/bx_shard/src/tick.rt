@@ -3,8 +3,8 @@ ghost use Rattle.std.specs.Prelude.{◌≡◌, ◌≢◌, ◌==◌, ℕ, Some, N
 ghost use Rattle.std.specs.List.{list_any};
 ghost use Rattle.bx_session.specs.declared.answered.Answered.{Answered};
 ghost use Rattle.bx_session.specs.Steps.{tick_answer, ticked};
-ghost use Rattle.bx_shard.specs.declared.connects.ConnectState.TheVariants.{Filed};
-ghost use Rattle.bx_shard.specs.Connects.{connect_at};
+ghost use Rattle.bx_connects.specs.declared.connects.ConnectState.TheVariants.{Filed};
+ghost use Rattle.bx_connects.specs.Connects.{connect_at, session_at};
 ghost use Rattle.bx_shard.specs.Sessions.{AreCounted, AreHeld, subscriber_in};
 ghost use Rattle.bx_shard.specs.States.{let_go};
 ghost use Rattle.bx_shard.specs.Subscribers.{Subscriber, reseated};
@@ -19,7 +19,8 @@ impl Sessions {
         ensures sessions { (n : ℕ) → subscriber_in self.new n
             ≡ option_map (λ (s : Subscriber). reseated (ticked moment s.seat) s) (subscriber_in self.old n) }
         ensures given { (n : ℕ) → (s : Subscriber) → (a : Answered) → subscriber_in self.old n ≡ Some s
-            → tick_answer self.old.config moment s.seat ≡ Some a → connect_at self.new.connects a.place ≡ Some (Filed place a.answer) }
+            → tick_answer self.old.config moment s.seat ≡ Some a → connect_at self.new.connects a.place ≡ Some (Filed n place a.answer) }
+        ensures known { (p : ℕ) → session_at (connect_at self.new.connects p) ≡ session_at (connect_at self.old.connects p) }
         ensures kept { (p : ℕ) → ((n : ℕ) → (s : Subscriber) → (a : Answered) → subscriber_in self.old n ≡ Some s
             → tick_answer self.old.config moment s.seat ≡ Some a → a.place ≢ p)
             → connect_at self.new.connects p ≡ connect_at self.old.connects p }

@@ -12,6 +12,17 @@ pub(crate) fn is_one_of(patterns: &[Pattern], pattern: &Pattern) -> bool
     patterns.iter().any(|other| pattern == other)
 }
 
+/// A copy of the patterns.
+pub(crate) fn copy_of(alloc: Global, patterns: &[Pattern]) -> Result<Vec<Pattern>, AllocError>
+    ensures { IfOk result (λ copy. copy.items ≡ patterns.now) }
+{
+    let mut copy = Vec::with_capacity(alloc, patterns.len())?;
+    for pattern in patterns {
+        copy.push(pattern.clone()?)?;
+    }
+    Ok(copy)
+}
+
 /// Those of the patterns that are not held yet, in order, each once.
 pub(crate) fn fresh_of(
     alloc: Global,

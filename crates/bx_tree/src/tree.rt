@@ -5,7 +5,7 @@ ghost use Rattle.bx_names.specs.InForce.{in_force, with_pattern, without_pattern
 ghost use Rattle.bx_tree.specs.Patterns.{patterns_of};
 
 use crate::found::Found;
-use crate::fresh::{fresh_of, is_one_of};
+use crate::fresh::{copy_of, fresh_of, is_one_of};
 use crate::nodes::Nodes;
 use crate::sessions::Sessions;
 use bx_names::{ChannelName, Pattern};
@@ -90,6 +90,30 @@ impl Tree {
             Ok(()) => Ok(count),
             Err(fresh) => {
                 self.nodes.remove_each(fresh.as_slice(), number);
+                Err(AllocError)
+            }
+        }
+    }
+
+    /// Puts these patterns in force for a number that has none, in order and as often as they come. Where memory is
+    /// refused all is as before.
+    pub fn copy(
+        &mut self,
+        alloc: Global,
+        list: &[Pattern],
+        number: u64,
+    ) -> Result<(), AllocError>
+        requires none { patterns_of self.old number ≡ [] }
+        ensures own { OnOk result (patterns_of self.new number ≡ list.now) }
+        ensures others { OnOk result ((n : ℕ) → n ≢ number → patterns_of self.new n ≡ patterns_of self.old n) }
+        ensures err { OnErr result (self.new ≡ self.old) }
+    {
+        let copied = copy_of(alloc, list)?;
+        self.nodes.add_each(alloc, list, number)?;
+        match self.sessions.append(number, copied) {
+            Ok(()) => Ok(()),
+            Err(_) => {
+                self.nodes.remove_each(list, number);
                 Err(AllocError)
             }
         }

@@ -84,10 +84,10 @@ all_answered setup roll (Post p ∷ added) =
 all_answered setup roll (Tick moment ∷ added) = all_answered setup (next roll (Tick moment)) added
 
 -- what is planned, once placed, is what the places behind the list give
-pub slots_given : (placing : ℕ → ℕ → ℕ) (roll : Roll) (kept : Entries) (list added : List Listed) → IsAdmitting roll kept list →
-    map (placed_slot placing roll.config.shards) (slots_in (found roll added)) ≡ admitted_slots (placed_by roll.config placing) list added
-slots_given placing roll kept list added a =
-    let setup : Setup = placed_by roll.config placing in
+pub slots_given : (placing : ℕ → ℕ → ℕ) (shards : ℕ) (roll : Roll) (kept : Entries) (list added : List Listed) → IsAdmitting roll kept list →
+    map (placed_slot placing shards) (slots_in (found roll added)) ≡ admitted_slots (placed_by roll.config shards placing) list added
+slots_given placing shards roll kept list added a =
+    let setup : Setup = placed_by roll.config shards placing in
     let slot : Judged → PlaceSlot = λ j. j.slot in
     let before : List Judged = (registry roll.config list).judged in
     let behind : drop (length list) (map slot before ++ map slot (found roll added)) ≡ map slot (found roll added) =
@@ -170,23 +170,19 @@ pub record IsBehind (roll : Roll) (kept : Entries) (list added : List Listed) (n
   pub listed : new_list ≡ list ++ added
 
 -- the fields still belong to one another
-pub still_admitting : (shards : ℕ) (roll : Roll) (kept : Entries) (list added : List Listed) (new_roll : Roll) (new_kept : Entries) (new_list : List Listed) →
-    (shards ≡ roll.config.shards) × IsAdmitting roll kept list → IsBehind roll kept list added new_roll new_kept new_list →
-    (shards ≡ new_roll.config.shards) × IsAdmitting new_roll new_kept new_list
-still_admitting shards roll kept list added new_roll new_kept new_list a b =
-    let on : IsAdmitting (after roll added) (record { all = kept.all ++ entries_in (found roll added); first = kept.first }) (list ++ added) = goes_on roll kept list added a.1 in
-    let same : roll.config ≡ new_roll.config = sym (ap (λ (r : Roll). r.config) (b.registered ∙ roll_on roll kept list added a.1)) in (
-      a.0 ∙ ap (λ (c : Config). c.shards) same,
-      subst (λ (r : Roll). IsAdmitting r new_kept new_list) (sym b.registered)
-          (subst (λ (k : Entries). IsAdmitting (after roll added) k new_list) (sym b.entered)
-          (subst (λ (l : List Listed). IsAdmitting (after roll added) (record { all = kept.all ++ entries_in (found roll added); first = kept.first }) l) (sym b.listed) on)),
-    )
+pub still_admitting : (roll : Roll) (kept : Entries) (list added : List Listed) (new_roll : Roll) (new_kept : Entries) (new_list : List Listed) →
+    IsAdmitting roll kept list → IsBehind roll kept list added new_roll new_kept new_list → IsAdmitting new_roll new_kept new_list
+still_admitting roll kept list added new_roll new_kept new_list a b =
+    let on : IsAdmitting (after roll added) (record { all = kept.all ++ entries_in (found roll added); first = kept.first }) (list ++ added) = goes_on roll kept list added a in
+    subst (λ (r : Roll). IsAdmitting r new_kept new_list) (sym b.registered)
+    (subst (λ (k : Entries). IsAdmitting (after roll added) k new_list) (sym b.entered)
+    (subst (λ (l : List Listed). IsAdmitting (after roll added) (record { all = kept.all ++ entries_in (found roll added); first = kept.first }) l) (sym b.listed) on))
 
 -- and the view is that of the longer list
-pub behind_view : (roll : Roll) (kept : Entries) (list added : List Listed) (new_roll : Roll) (new_kept : Entries) (new_list : List Listed) →
+pub behind_view : (shards : ℕ) (roll : Roll) (kept : Entries) (list added : List Listed) (new_roll : Roll) (new_kept : Entries) (new_list : List Listed) →
     IsAdmitting roll kept list → IsBehind roll kept list added new_roll new_kept new_list →
-    (let new : Admitting = record { config = new_roll.config; list = new_list; first = new_kept.first } in new ≡ record { config = roll.config; list = list ++ added; first = kept.first })
-behind_view roll kept list added new_roll new_kept new_list a b =
+    (let new : Admitting = record { config = new_roll.config; shards = shards; list = new_list; first = new_kept.first } in new ≡ record { config = roll.config; shards = shards; list = list ++ added; first = kept.first })
+behind_view shards roll kept list added new_roll new_kept new_list a b =
     let same : new_roll.config ≡ roll.config = ap (λ (r : Roll). r.config) (b.registered ∙ roll_on roll kept list added a) in
     let first : new_kept.first ≡ kept.first = ap (λ (k : Entries). k.first) b.entered in
     let listed : new_list ≡ list ++ added = b.listed in
@@ -202,16 +198,16 @@ given_fault placing old new input fault (Err f) e same i =
     subst (λ (n : Admitting). IsAdmission placing old input (Err f) n) (sym same) (subst (λ (g : AdmissionFault). IsAdmission placing old input (Err g) old) (sym e) i)
 
 -- an input that was planned is taken
-pub taken : {T : Type 0} (placing : ℕ → ℕ → ℕ) (old new : Admitting) (input : ReadInput) (moment n : ℕ) (r : Result T AdmitFault) (plan : T) (a : Admitted) (roll : Roll) (kept : Entries) (list : List Listed) →
-    record { config = roll.config; list = list; first = kept.first } ≡ old → IsAdmitting roll kept list →
+pub taken : {T : Type 0} (placing : ℕ → ℕ → ℕ) (old new : Admitting) (input : ReadInput) (moment n : ℕ) (r : Result T AdmitFault) (plan : T) (a : Admitted) (shards : ℕ) (roll : Roll) (kept : Entries) (list : List Listed) →
+    record { config = roll.config; shards = shards; list = list; first = kept.first } ≡ old → IsAdmitting roll kept list →
     refusal_of (length old.list) input ≡ refused_beyond moment (length old.list + n) → r ≡ Ok plan → IfSome (fault_of moment (roll.length + n)) (λ f. r ≡ Err f) →
-    a.first ≡ roll.length → a.slots ≡ map (placed_slot placing roll.config.shards) (slots_in (found roll (added_by input))) →
-    new ≡ record { config = roll.config; list = list ++ added_by input; first = kept.first } →
+    a.first ≡ roll.length → a.slots ≡ map (placed_slot placing shards) (slots_in (found roll (added_by input))) →
+    new ≡ record { config = roll.config; shards = shards; list = list ++ added_by input; first = kept.first } →
     IsAdmission placing old input (Ok a) new
-taken placing old new input moment n r plan a roll kept list is at refusal planned fault first slots later =
+taken placing old new input moment n r plan a shards roll kept list is at refusal planned fault first slots later =
     let long : roll.length ≡ length old.list = roll_length roll kept list at ∙ ap (λ (o : Admitting). length o.list) is in (
       refusal ∙ planned_taken moment (length old.list + n) r plan planned (subst (λ (k : ℕ). IfSome (fault_of moment (k + n)) (λ f. r ≡ Err f)) long fault),
       first ∙ long,
-      slots ∙ slots_given placing roll kept list (added_by input) at ∙ ap (λ (o : Admitting). admitted_slots (placed_by o.config placing) o.list (added_by input)) is,
-      later ∙ ap (λ (o : Admitting). record { config = o.config; list = o.list ++ added_by input; first = o.first }) is,
+      slots ∙ slots_given placing shards roll kept list (added_by input) at ∙ ap (λ (o : Admitting). admitted_slots (placed_by o.config o.shards placing) o.list (added_by input)) is,
+      later ∙ ap (λ (o : Admitting). record { config = o.config; shards = o.shards; list = o.list ++ added_by input; first = o.first }) is,
     )

@@ -139,8 +139,8 @@ module _ {P : Type 0} (place_of : P → ℕ → ℕ → ℕ) (setup : Setup) (li
       (gives_refusal setup before i w (ap may_take_memory next ∙ ap not a.takes), same_places there a.same.place)
 
 -- once fewer entries are kept, as long as each shard's next one is
-pub each_from : {P : Type 0} (place_of : P → ℕ → ℕ → ℕ) (placing : ℕ → ℕ → ℕ) (old new : Admitting) (taken : List ℕ) (xs : List (Shard P)) → EachHolds place_of (placed_by old.config placing) old.list taken old.first xs →
-    new ≡ record old { first = new.first } → StandFrom new.first xs → EachHolds place_of (placed_by new.config placing) new.list taken new.first xs
+pub each_from : {P : Type 0} (place_of : P → ℕ → ℕ → ℕ) (placing : ℕ → ℕ → ℕ) (old new : Admitting) (taken : List ℕ) (xs : List (Shard P)) → EachHolds place_of (placed_by old.config old.shards placing) old.list taken old.first xs →
+    new ≡ record old { first = new.first } → StandFrom new.first xs → EachHolds place_of (placed_by new.config new.shards placing) new.list taken new.first xs
 each_from {P} place_of placing old new taken xs each others from =
-    let kept : EachHolds place_of (placed_by old.config placing) old.list taken new.first xs = λ k s e. record { holds = (each k s e).holds; past = from k s e } in
-    subst (λ (a : Admitting). EachHolds place_of (placed_by a.config placing) a.list taken a.first xs) (sym others) kept
+    let kept : EachHolds place_of (placed_by old.config old.shards placing) old.list taken new.first xs = λ k s e. record { holds = (each k s e).holds; past = from k s e } in
+    subst (λ (a : Admitting). EachHolds place_of (placed_by a.config a.shards placing) a.list taken a.first xs) (sym others) kept

@@ -43,10 +43,10 @@ still_bounded placing old new input (Err Memory) is few = subst (λ (b : Admitti
 
 -- ---- what shards hold
 
-pub same_config : (placing : ℕ → ℕ → ℕ) (old new : Admitting) (input : ReadInput) (r : Result Admitted AdmissionFault) → IsAdmission placing old input r new → new.config ≡ old.config
-same_config placing old new input (Ok a) is = ap (λ (b : Admitting). b.config) is.3
-same_config placing old new input (Err (Refused refusal)) is = ap (λ (b : Admitting). b.config) is.1
-same_config placing old new input (Err Memory) is = ap (λ (b : Admitting). b.config) is
+pub same_shards : (placing : ℕ → ℕ → ℕ) (old new : Admitting) (input : ReadInput) (r : Result Admitted AdmissionFault) → IsAdmission placing old input r new → new.shards ≡ old.shards
+same_shards placing old new input (Ok a) is = ap (λ (b : Admitting). b.shards) is.3
+same_shards placing old new input (Err (Refused refusal)) is = ap (λ (b : Admitting). b.shards) is.1
+same_shards placing old new input (Err Memory) is = ap (λ (b : Admitting). b.shards) is
 
 pub same_first : (placing : ℕ → ℕ → ℕ) (old new : Admitting) (input : ReadInput) (r : Result Admitted AdmissionFault) → IsAdmission placing old input r new → new.first ≡ old.first
 same_first placing old new input (Ok a) is = ap (λ (b : Admitting). b.first) is.3
@@ -54,13 +54,13 @@ same_first placing old new input (Err (Refused refusal)) is = ap (λ (b : Admitt
 same_first placing old new input (Err Memory) is = ap (λ (b : Admitting). b.first) is
 
 abbrev pub EachOver : {P : Type 0} → (P → ℕ → ℕ → ℕ) → (ℕ → ℕ → ℕ) → List ℕ → List (Shard P) → Admitting → Type 0
-EachOver place_of placing taken xs a = EachHolds place_of (placed_by a.config placing) a.list taken a.first xs
+EachOver place_of placing taken xs a = EachHolds place_of (placed_by a.config a.shards placing) a.list taken a.first xs
 
 pub each_longer : {P : Type 0} (place_of : P → ℕ → ℕ → ℕ) (placing : ℕ → ℕ → ℕ) (old new : Admitting) (taken : List ℕ) (xs : List (Shard P)) (input : ReadInput) (r : Result Admitted AdmissionFault) →
     IsAdmission placing old input r new → EachOver place_of placing taken xs old → EachOver place_of placing taken xs new
 each_longer place_of placing old new taken xs input (Ok a) is each =
-    let longer : EachHolds place_of (placed_by old.config placing) (old.list ++ added_by input) taken old.first xs =
-    λ k s e. record { holds = holds_longer (placed_by old.config placing) old.list (added_by input) taken k s.place _ (each k s e).holds; past = (each k s e).past } in
+    let longer : EachHolds place_of (placed_by old.config old.shards placing) (old.list ++ added_by input) taken old.first xs =
+    λ k s e. record { holds = holds_longer (placed_by old.config old.shards placing) old.list (added_by input) taken k s.place _ (each k s e).holds; past = (each k s e).past } in
     subst (EachOver place_of placing taken xs) (sym is.3) longer
 each_longer place_of placing old new taken xs input (Err (Refused refusal)) is each = subst (EachOver place_of placing taken xs) (sym is.1) each
 each_longer place_of placing old new taken xs input (Err Memory) is each = subst (EachOver place_of placing taken xs) (sym is) each
@@ -68,25 +68,25 @@ each_longer place_of placing old new taken xs input (Err Memory) is each = subst
 -- ---- what it gives
 
 pub admission_steps : (placing : ℕ → ℕ → ℕ) (old new : Admitting) (applied taken : List ℕ) (input : Input) (r : Result Admitted AdmissionFault) → IsAdmission placing old (read_input input) r new →
-    IsOutput (placed_by old.config placing) (record { list = old.list; applied = applied; taken = taken }) (Admit input) (admission r)
+    IsOutput (placed_by old.config old.shards placing) (record { list = old.list; applied = applied; taken = taken }) (Admit input) (admission r)
     × (record { list = new.list; applied = applied; taken = taken } ≡ after (record { list = old.list; applied = applied; taken = taken }) (Admit input) (admission r))
-    × (placed_by new.config placing ≡ placed_by old.config placing)
+    × (placed_by new.config new.shards placing ≡ placed_by old.config old.shards placing)
 admission_steps placing old new applied taken input (Ok a) is =
-    let setup : Setup = placed_by old.config placing in
+    let setup : Setup = placed_by old.config old.shards placing in
     let w : WorldState = record { list = old.list; applied = applied; taken = taken } in (
       inl (ap (λ (n : ℕ). outs.Admitted n a.slots) is.1 ∙ ap (outs.Admitted (length old.list)) is.2 ∙ ap (output_admit setup w (read_input input)) (sym is.0)),
       ap (λ (b : Admitting). record { list = b.list; applied = applied; taken = taken }) is.3,
-      ap (λ (b : Admitting). placed_by b.config placing) is.3,
+      ap (λ (b : Admitting). placed_by b.config b.shards placing) is.3,
     )
 admission_steps placing old new applied taken input (Err (Refused refusal)) is =
-    let setup : Setup = placed_by old.config placing in
+    let setup : Setup = placed_by old.config old.shards placing in
     let w : WorldState = record { list = old.list; applied = applied; taken = taken } in (
       inl (ap (output_admit setup w (read_input input)) (sym is.0)),
       ap (λ (b : Admitting). record { list = b.list; applied = applied; taken = taken }) is.1,
-      ap (λ (b : Admitting). placed_by b.config placing) is.1,
+      ap (λ (b : Admitting). placed_by b.config b.shards placing) is.1,
     )
 admission_steps placing old new applied taken input (Err Memory) is = (
   inr (refl, refl),
   ap (λ (b : Admitting). record { list = b.list; applied = applied; taken = taken }) is,
-  ap (λ (b : Admitting). placed_by b.config placing) is,
+  ap (λ (b : Admitting). placed_by b.config b.shards placing) is,
 )

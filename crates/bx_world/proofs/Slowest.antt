@@ -6,7 +6,7 @@ use Rattle.std.proofs.lemmas.Bool.{cases_lt, eq-eqb, or_right}
 use Rattle.std.proofs.lemmas.List.{map-set}
 use Rattle.std.proofs.lemmas.Option.{slice_get-map}
 use Rattle.bx_shard.specs.declared.shard.Shard.{Shard}
-use Rattle.bx_world.specs.Held.{StandFrom, some_stands_at}
+use Rattle.bx_world.specs.Held.{StandFrom, StandWithin, some_stands_at}
 use Rattle.bx_world.proofs.Rows.{number_there}
 
 -- ---- numbers
@@ -39,15 +39,20 @@ among_from [] first p from h = absurd (let no : false ≡ true = h in cc)
 among_from (n ∷ ns) first p from h =
     or_split (n == p) (among p ns) (first ≤ p) h (λ e. subst (λ (m : ℕ). first ≤ m) (eqb-true n p e) (from 0 n refl)) (λ e. among_from ns first p (λ k m g. from (suc k) m g) e)
 
-some_zero : (n : ℕ) → 1 ≤ n → among 0 (replicate n 0) ≡ true
-some_zero zero h = absurd (omega (arith, h))
-some_zero (suc n) h = refl
+among_within : (ns : List ℕ) (end p : ℕ) → ((k n : ℕ) → slice_get ns k ≡ Some n → n ≤ end) → among p ns ≡ true → p ≤ end
+among_within [] end p within h = absurd (let no : false ≡ true = h in cc)
+among_within (n ∷ ns) end p within h =
+    or_split (n == p) (among p ns) (p ≤ end) h (λ e. subst (λ (m : ℕ). m ≤ end) (eqb-true n p e) (within 0 n refl)) (λ e. among_within ns end p (λ k m g. within (suc k) m g) e)
+
+some_there : (n p : ℕ) → 1 ≤ n → among p (replicate n p) ≡ true
+some_there zero p h = absurd (omega (arith, h))
+some_there (suc n) p h = or_left (p == p) (among p (replicate n p)) (eq-eqb p p refl)
 
 -- ---- shards
 
--- the program's worlds begin so
-pub zero_first : {P : Type 0} (xs : List (Shard P)) (n : ℕ) → map (λ (s : Shard P). s.place) xs ≡ replicate n 0 → 1 ≤ n → some_stands_at 0 xs ≡ true
-zero_first xs n e h = ap (among 0) e ∙ some_zero n h
+-- where all stand at a place, some does
+pub all_stand : {P : Type 0} (xs : List (Shard P)) (n p : ℕ) → map (λ (s : Shard P). s.place) xs ≡ replicate n p → 1 ≤ n → some_stands_at p xs ≡ true
+all_stand xs n p e h = ap (among p) e ∙ some_there n p h
 
 -- the places stay
 pub same_slowest : {P : Type 0} (xs ys : List (Shard P)) (first : ℕ) → map (λ (s : Shard P). s.place) ys ≡ map (λ (s : Shard P). s.place) xs → some_stands_at first xs ≡ true → some_stands_at first ys ≡ true
@@ -72,6 +77,15 @@ not_below {P} xs first p from h =
     from_place : (k n : ℕ) (o : Option (Shard P)) → slice_get xs k ≡ o → option_map (λ (s : Shard P). s.place) o ≡ Some n → first ≤ n
     from_place k n None e g = absurd (cc)
     from_place k n (Some s) e g = let same : s.place ≡ n = cc in subst (λ (m : ℕ). first ≤ m) same (from k s e)
+
+-- nor above where all do
+pub not_above : {P : Type 0} (xs : List (Shard P)) (end p : ℕ) → StandWithin end xs → some_stands_at p xs ≡ true → p ≤ end
+not_above {P} xs end p within h =
+    among_within (map (λ (s : Shard P). s.place) xs) end p (λ k n e. place_within k n (slice_get xs k) refl (sym (slice_get-map (λ (s : Shard P). s.place) xs k) ∙ e)) h
+  where
+    place_within : (k n : ℕ) (o : Option (Shard P)) → slice_get xs k ≡ o → option_map (λ (s : Shard P). s.place) o ≡ Some n → n ≤ end
+    place_within k n None e g = absurd (cc)
+    place_within k n (Some s) e g = let same : s.place ≡ n = cc in subst (λ (m : ℕ). m ≤ end) same (within k s e)
 
 -- so the least of the places is where the entries begin
 pub greatest_of : {P : Type 0} (xs : List (Shard P)) (first p : ℕ) → StandFrom first xs → some_stands_at p xs ≡ true → some_stands_at (max first p) xs ≡ true

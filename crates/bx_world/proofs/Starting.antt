@@ -16,6 +16,7 @@ use Rattle.bx_world.specs.Worlds.{WorldState, new_world}
 -- a shard of this index that has applied nothing
 pub record IsFirst {P : Type 0} (place_of : P → ℕ → ℕ → ℕ) (config : Config) (placing : P) (k : ℕ) (s : Shard P) : Type 0 where
   pub config_is : s.sessions.config ≡ config
+  pub shards_is : s.shards ≡ config.shards
   pub placing_is : arc_value s.placing ≡ placing
   pub index_is : s.index ≡ k
   pub place_is : s.place ≡ 0
@@ -42,39 +43,42 @@ pub one_more_first : {P : Type 0} (place_of : P → ℕ → ℕ → ℕ) (config
     AreFirst place_of config placing (xs ++ y ∷ [])
 one_more_first place_of config placing xs n y e each here = each_push (IsFirst place_of config placing) xs y each (subst (λ (k : ℕ). IsFirst place_of config placing k y) (sym e) here)
 
-setup_is : {P : Type 0} (place_of : P → ℕ → ℕ → ℕ) (config : Config) (placing : P) (k : ℕ) (s : Shard P) → IsFirst place_of config placing k s → setup_in place_of s ≡ placed_by config (place_of placing)
+setup_is : {P : Type 0} (place_of : P → ℕ → ℕ → ℕ) (config : Config) (placing : P) (k : ℕ) (s : Shard P) → IsFirst place_of config placing k s → setup_in place_of s ≡ placed_by config config.shards (place_of placing)
 setup_is {P} place_of config placing k s h =
-    ap (λ (c : Config). placed_by c (place_of (arc_value s.placing))) h.config_is ∙ ap (λ (p : P). placed_by config (place_of p)) h.placing_is
+    ap (λ (c : Config). placed_by c s.shards (place_of (arc_value s.placing))) h.config_is
+    ∙ ap (λ (n : ℕ). placed_by config n (place_of (arc_value s.placing))) h.shards_is
+    ∙ ap (λ (p : P). placed_by config config.shards (place_of p)) h.placing_is
 
-pub first_hold : {P : Type 0} (place_of : P → ℕ → ℕ → ℕ) (config : Config) (placing : P) (xs : List (Shard P)) → AreFirst place_of config placing xs → EachHolds place_of (placed_by config (place_of placing)) [] [] 0 xs
+pub first_hold : {P : Type 0} (place_of : P → ℕ → ℕ → ℕ) (config : Config) (placing : P) (xs : List (Shard P)) → AreFirst place_of config placing xs → EachHolds place_of (placed_by config config.shards (place_of placing)) [] [] 0 xs
 first_hold place_of config placing xs each k s e =
     let h : IsFirst place_of config placing k s = each k s e in
     record {
-      holds = subst (λ (n : ℕ). Holds (placed_by config (place_of placing)) [] [] k n (state place_of s)) (sym h.place_is)
-          (holds_at_first (placed_by config (place_of placing)) k (state place_of s) (setup_is place_of config placing k s h) h.index_is h.place_is h.sound h.sessions h.connects);
+      holds = subst (λ (n : ℕ). Holds (placed_by config config.shards (place_of placing)) [] [] k n (state place_of s)) (sym h.place_is)
+          (holds_at_first (placed_by config config.shards (place_of placing)) k (state place_of s) (setup_is place_of config placing k s h) h.index_is h.place_is h.sound h.sessions h.connects);
       past = omega arith;
     }
 
-all_zero : {X : Type 0} (f : X → ℕ) (xs : List X) (n : ℕ) → length xs ≡ n → ((k : ℕ) (x : X) → slice_get xs k ≡ Some x → f x ≡ 0) → map f xs ≡ replicate n 0
-all_zero f [] zero e each = refl
-all_zero f [] (suc n) e each = absurd (omega (arith, e))
-all_zero f (x ∷ xs) zero e each = absurd (omega (arith, e))
-all_zero f (x ∷ xs) (suc n) e each =
-    ap (λ (m : ℕ). m ∷ map f xs) (each 0 x refl) ∙ ap (λ (ms : List ℕ). 0 ∷ ms) (all_zero f xs n (omega (arith, e)) (λ k v g. each (suc k) v g))
+-- a row of which each element has the same number
+pub all_same : {X : Type 0} (f : X → ℕ) (xs : List X) (n m : ℕ) → length xs ≡ n → ((k : ℕ) (x : X) → slice_get xs k ≡ Some x → f x ≡ m) → map f xs ≡ replicate n m
+all_same f [] zero m e each = refl
+all_same f [] (suc n) m e each = absurd (omega (arith, e))
+all_same f (x ∷ xs) zero m e each = absurd (omega (arith, e))
+all_same f (x ∷ xs) (suc n) m e each =
+    ap (λ (i : ℕ). i ∷ map f xs) (each 0 x refl) ∙ ap (λ (is : List ℕ). m ∷ is) (all_same f xs n m (omega (arith, e)) (λ k v g. each (suc k) v g))
 
 pub first_places : {P : Type 0} (place_of : P → ℕ → ℕ → ℕ) (config : Config) (placing : P) (xs : List (Shard P)) (n : ℕ) → length xs ≡ n → AreFirst place_of config placing xs → map (λ (s : Shard P). s.place) xs ≡ replicate n 0
-first_places {P} place_of config placing xs n e each = all_zero (λ (s : Shard P). s.place) xs n e (λ k s g. (each k s g).place_is)
+first_places {P} place_of config placing xs n e each = all_same (λ (s : Shard P). s.place) xs n 0 e (λ k s g. (each k s g).place_is)
 
 -- and the world with them
-pub world_first : (placing : ℕ → ℕ → ℕ) (config : Config) (a : Admitting) (ns taken : List ℕ) → a ≡ record { config = config; list = []; first = 0 } → ns ≡ replicate config.shards 0 → taken ≡ [] →
-    record { list = a.list; applied = ns; taken = taken } ≡ new_world (placed_by a.config placing)
+pub world_first : (placing : ℕ → ℕ → ℕ) (config : Config) (a : Admitting) (ns taken : List ℕ) → a ≡ record { config = config; shards = config.shards; list = []; first = 0 } → ns ≡ replicate config.shards 0 → taken ≡ [] →
+    record { list = a.list; applied = ns; taken = taken } ≡ new_world (placed_by a.config a.shards placing)
 world_first placing config a ns taken e n t =
     let listed : a.list ≡ [] = ap (λ (b : Admitting). b.list) e in
-    let places : ns ≡ replicate a.config.shards 0 = n ∙ sym (ap (λ (b : Admitting). replicate b.config.shards 0) e) in
+    let places : ns ≡ replicate a.shards 0 = n ∙ sym (ap (λ (b : Admitting). replicate b.shards 0) e) in
     let one : WorldState = record { list = a.list; applied = ns; taken = taken } in
     let two : WorldState = record { list = []; applied = ns; taken = taken } in
     let three : WorldState = record { list = []; applied = ns; taken = [] } in
     let first : one ≡ two = ap (λ (xs : List Listed). record { list = xs; applied = ns; taken = taken }) listed in
     let second : two ≡ three = ap (λ (xs : List ℕ). record { list = []; applied = ns; taken = xs }) t in
-    let third : three ≡ new_world (placed_by a.config placing) = ap (λ (xs : List ℕ). record { list = []; applied = xs; taken = [] }) places in
+    let third : three ≡ new_world (placed_by a.config a.shards placing) = ap (λ (xs : List ℕ). record { list = []; applied = xs; taken = [] }) places in
     first ∙ second ∙ third

@@ -12,13 +12,13 @@ use Rattle.bx_entry.specs.Sessions.{Filed}
 use Rattle.bx_entry.specs.declared.entry.Ticket.{Ticket}
 use Rattle.bx_laws.proofs.Moves.{either}
 use Rattle.bx_message.specs.declared.reply.Answer.{Answer}
-use Rattle.bx_shard.specs.Connects.{filed_answer, taken_from}
+use Rattle.bx_connects.specs.Connects.{filed_answer, taken_from}
 use Rattle.bx_shard.specs.Held.{Holds, Took, filed_with_place}
 use Rattle.bx_shard.specs.Seen.{state}
 use Rattle.bx_shard.specs.Shards.{Setup, shard_at}
 use Rattle.bx_shard.specs.States.{IsAsBefore, IsSound, State, connect_in}
-use Rattle.bx_shard.specs.declared.connects.ConnectState.{ConnectState}
-use Rattle.bx_shard.specs.declared.connects.ConnectState.TheVariants as states
+use Rattle.bx_connects.specs.declared.connects.ConnectState.{ConnectState}
+use Rattle.bx_connects.specs.declared.connects.ConnectState.TheVariants as states
 use Rattle.bx_shard.specs.declared.shard.Shard.{Shard}
 use Rattle.bx_shard.proofs.Holding.{holds_still}
 use Rattle.bx_shard.proofs.Taking.{holds_beside, holds_taken}
@@ -33,12 +33,12 @@ use Rattle.bx_world.proofs.Rows.{each_set, number_there}
 given_filed : (o : Option ConnectState) → filed_answer o ≡ option_map given_of (filed_with_place o)
 given_filed None = refl
 given_filed (Some (states.Held session deadline waker)) = refl
-given_filed (Some (states.Filed place answer)) = refl
+given_filed (Some (states.Filed session place answer)) = refl
 
 none_taken : (o : Option ConnectState) → filed_answer o ≡ None → taken_from o ≡ o
 none_taken None e = refl
 none_taken (Some (states.Held session deadline waker)) e = refl
-none_taken (Some (states.Filed place answer)) e = cc
+none_taken (Some (states.Filed session place answer)) e = cc
 
 -- where none was filed, nothing changed
 as_before : (place : ℕ) (old new : State) → filed_answer (connect_in old place) ≡ None → Took place old new → IsAsBefore old new
@@ -122,7 +122,7 @@ module _ {P : Type 0} (place_of : P → ℕ → ℕ → ℕ) (setup : Setup) (li
 none_placed : (o : Option ConnectState) → filed_answer o ≡ None → filed_with_place o ≡ None
 none_placed None e = refl
 none_placed (Some (states.Held session deadline waker)) e = refl
-none_placed (Some (states.Filed place answer)) e = cc
+none_placed (Some (states.Filed session place answer)) e = cc
 
 module _ {P : Type 0} (place_of : P → ℕ → ℕ → ℕ) (setup : Setup) (list : List Listed) (taken : List ℕ) (first : ℕ) (xs : List (Shard P)) (i : ℕ) (old new : Shard P) where
   abbrev world : WorldState

@@ -17,9 +17,10 @@ use Rattle.bx_world.specs.declared.step.Admitted.{Admitted}
 use Rattle.bx_world.specs.declared.step.AdmissionFault.{AdmissionFault}
 use Rattle.bx_world.specs.declared.step.AdmissionFault.TheVariants.{Refused, Memory}
 
--- the configuration, the list, and the place from which on its entries are kept
+-- the configuration, among how many shards sessions are placed, the list, and the place from which on its entries are kept
 pub record Admitting : Type 0 where
   pub config : Config
+  pub shards : ℕ
   pub list : List Listed
   pub first : ℕ
 
@@ -32,9 +33,9 @@ pub record IsAdmitting (roll : Roll) (kept : Entries) (list : List Listed) : Typ
   pub registered : roll ≡ roll_of roll.config (registry roll.config list)
   pub entered : kept.all ≡ entries roll.config list
 
--- this configuration with a placing of sessions
-abbrev pub placed_by : Config → (ℕ → ℕ → ℕ) → Setup
-placed_by config placing = record { config = config; shards = config.shards; placing = placing }
+-- this configuration with so many shards and a placing of sessions
+abbrev pub placed_by : Config → ℕ → (ℕ → ℕ → ℕ) → Setup
+placed_by config shards placing = record { config = config; shards = shards; placing = placing }
 
 -- a message's answer, with the shard among so many in which a connect's session stands
 abbrev pub placed_slot : (ℕ → ℕ → ℕ) → ℕ → Planned → Slot
@@ -47,7 +48,7 @@ abbrev pub IsAdmission : (ℕ → ℕ → ℕ) → Admitting → ReadInput → R
 IsAdmission placing old input (Ok a) new =
     (refusal_of (length old.list) input ≡ None)
     × (a.first ≡ length old.list)
-    × (a.slots ≡ admitted_slots (placed_by old.config placing) old.list (added_by input))
+    × (a.slots ≡ admitted_slots (placed_by old.config old.shards placing) old.list (added_by input))
     × (new ≡ record old { list = old.list ++ added_by input })
 IsAdmission placing old input (Err (Refused refusal)) new = (refusal_of (length old.list) input ≡ Some refusal) × (new ≡ old)
 IsAdmission placing old input (Err Memory) new = new ≡ old

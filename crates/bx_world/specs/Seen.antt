@@ -14,9 +14,9 @@ use Rattle.bx_world.specs.declared.step.StepOut.{StepOut}
 use Rattle.bx_world.specs.declared.world.World.{World}
 
 module _ {P : Type 0} {g : Ghosts P} where
-  -- the configuration with the placing
+  -- the configuration with the number of shards and the placing
   abbrev pub setup_of : World P g → Setup
-  setup_of w = placed_by w.admission.config (g.place_of (arc_value w.placing))
+  setup_of w = placed_by w.admission.config w.admission.shards (g.place_of (arc_value w.placing))
 
   -- the list, how far each shard has come, and what was taken
   abbrev pub world_of : World P g → WorldState

@@ -33,25 +33,26 @@ pub(crate) struct Admission {
 }
 
 impl Model for Admission {
-    ghost use Rattle.std.specs.Prelude.{◌≡◌};
+    ghost use Rattle.std.specs.Prelude.{◌≤◌};
     ghost use Rattle.bx_world.specs.Admissions.{Admitting, IsAdmitting};
 
     ghost Value = { Admitting };
 
     ghost view = { λ a. record {
       config = a.registry.config;
+      shards = a.shards;
       list = a.listing;
       first = a.backlog.contents.first;
     } };
 
     ghost invariant = { λ a.
-        (a.shards ≡ a.registry.config.shards) × IsAdmitting a.registry a.backlog.contents a.listing };
+        (1 ≤ a.shards) × (a.shards ≤ 64) × IsAdmitting a.registry a.backlog.contents a.listing };
 }
 
 impl Admission {
     /// An empty list.
     pub(crate) fn new(alloc: Global, config: Config) -> Result<Admission, AllocError>
-        ensures { IfOk result (λ a. a ≡ record { config = config; list = []; first = 0 }) }
+        ensures { IfOk result (λ a. a ≡ record { config = config; shards = config.shards; list = []; first = 0 }) }
     {
         Ok(Admission {
             shards: config.shards,
@@ -127,6 +128,15 @@ impl Admission {
         ensures { self.new ≡ record self.old { first = max self.old.first place } }
     {
         self.backlog.forget(place);
+    }
+
+    /// Places the sessions among so many shards from here on.
+    pub(crate) fn reshard(&mut self, shards: usize)
+        requires some_shard { 1 ≤ shards }
+        requires shards_in_range { shards ≤ 64 }
+        ensures { self.new ≡ record self.old { shards = shards } }
+    {
+        self.shards = shards;
     }
 
     /// Has so many workers bring the shards up to the end of the list. Says how many stayed behind.

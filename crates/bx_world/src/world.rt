@@ -13,7 +13,7 @@ use bx_advice::Config;
 use bx_entry::{Arrival, Input, Placing, Ticket};
 use bx_history::History;
 use bx_message::Answer;
-use bx_shard::{Filing, Shard};
+use bx_shard::{Filing, Shard, deal};
 use bx_workers::Gate;
 use std::alloc::{AllocError, Global};
 use std::sync::Arc;
@@ -31,14 +31,16 @@ pub struct World<P: Placing> {
     shards: Vec<Shard<P>>,
     taken: History<u64>,
     ghost bounded: { length admission.list ≤ greatest_length },
-    ghost counted: { length shards.items ≡ admission.config.shards },
-    ghost holding: { EachHolds P.place_of (placed_by admission.config (P.place_of (arc_value placing)))
+    ghost some_shard: { 1 ≤ admission.shards },
+    ghost shards_in_range: { admission.shards ≤ 64 },
+    ghost counted: { length shards.items ≡ admission.shards },
+    ghost holding: { EachHolds P.place_of (placed_by admission.config admission.shards (P.place_of (arc_value placing)))
         admission.list taken admission.first shards.items } by { Prim.hlevel holds_props },
     ghost slowest: { some_stands_at admission.first shards.items ≡ true },
 }
 
 impl<P: Placing> World<P> {
-    ghost use Rattle.std.specs.Prelude.{ℕ, None, Some, false, slice_get, count_by, nat_lt, Err, IfOk, IfSome, IfNone};
+    ghost use Rattle.std.specs.Prelude.{ℕ, None, Some, false, slice_get, count_by, nat_lt, replicate, Err, IfOk, IfErr, IfSome, IfNone};
     ghost use Rattle.bx_entry.specs.Inputs.{refusal_of};
     ghost use Rattle.bx_entry.specs.Requests.{read_input};
     ghost use Rattle.bx_entry.specs.declared.entry.Entry.{Entry};
@@ -55,7 +57,7 @@ impl<P: Placing> World<P> {
     pub fn new(alloc: Global, config: Config, placing: Arc<P>) -> Result<World<P>, AllocError>
     where
         P: Drop,
-        ensures setup { IfOk result (λ w. setup_of w ≡ placed_by config (P.place_of (arc_value placing))) }
+        ensures setup { IfOk result (λ w. setup_of w ≡ placed_by config config.shards (P.place_of (arc_value placing))) }
         ensures world { IfOk result (λ w. world_of w ≡ new_world (setup_of w)) }
     {
         let mut shards = Vec::with_capacity(alloc, config.shards)?;
@@ -155,6 +157,55 @@ impl<P: Placing> World<P> {
         let filing = self.shards.get_mut(shard)?.take_any()?;
         self.taken.push(&filing.connect);
         Some(filing)
+    }
+
+    /// Deals the sessions anew among so many shards, by this placing. Every shard has applied the whole list. The list and
+    /// what was taken stay. Where memory is refused, the world comes back as it was.
+    pub fn reshard(
+        self,
+        alloc: Global,
+        shards: usize,
+        placing: Arc<P>,
+    ) -> Result<World<P>, (World<P>, AllocError)>
+    where
+        P: Drop,
+        requires some_shard { 1 ≤ shards }
+        requires shards_in_range { shards ≤ 64 }
+        requires level { (k n : ℕ) → slice_get (world_of self).applied k ≡ Some n → length (world_of self).list ≤ n }
+        ensures world { IfOk result (λ w. world_of w ≡ record (world_of self) { applied = replicate shards (length (world_of self).list) }) }
+        ensures setup { IfOk result (λ w. setup_of w ≡ record (setup_of self) { shards = shards; placing = P.place_of (arc_value placing) }) }
+        ensures same { IfErr result (λ e. e.0 ≡ self) }
+    {
+        let own = match placing.clone() {
+            Ok(own) => own,
+            Err(error) => return Err((self, error)),
+        };
+        let World {
+            placing: former,
+            mut admission,
+            shards: row,
+            taken,
+        } = self;
+        match deal(alloc, row, shards, own) {
+            Ok(row) => {
+                admission.reshard(shards);
+                Ok(World {
+                    placing,
+                    admission,
+                    shards: row,
+                    taken,
+                })
+            }
+            Err((row, error)) => {
+                let world = World {
+                    placing: former,
+                    admission,
+                    shards: row,
+                    taken,
+                };
+                Err((world, error))
+            }
+        }
     }
 
     /// Makes these steps one after another, and adds what each gives behind the earlier outputs. Where there is no memory

@@ -1,4 +1,4 @@
-use Rattle.std.proofs.Common.{◌≡◌, ℕ, List, false, ap, take, get_or, sym, subst, ◌∙◌}
+use Rattle.std.proofs.Common.{◌≡◌, ◌+◌, ℕ, List, codes, false, ap, drop, take, get_or, refl, sym, subst, ◌∙◌}
 use Rattle.std.proofs.lemmas.List.{take_more}
 use Rattle.std.specs.BTreeMap.{get}
 use Rattle.std.specs.Io.KnownBytes.{Appends}
@@ -6,7 +6,10 @@ use Rattle.std.specs.Ordering.{nat_cmp}
 use Rattle.bayeux_replay.specs.Kept.{held_texts}
 use Rattle.std.specs.Option.{option_copied}
 use Rattle.std.specs.Prelude.{IsSome, is_some}
-use Rattle.bayeux_replay.proofs.Keeping.{held_printed}
+use Rattle.bayeux_replay.proofs.Fronts.{held_front, numbers_split}
+use Rattle.bayeux_replay.proofs.Keeping.{held_printed, held_same}
+use Rattle.bx_entry.specs.Replay.{line_text}
+use Rattle.bx_script.proofs.Fronts.{fault_writes}
 use Rattle.bayeux_replay.proofs.Ready.{kept_at}
 use Rattle.bayeux_replay.proofs.kept.print_held.Goals as goal
 
@@ -27,3 +30,13 @@ unreachable-requires g c =
     let none : is_some (get nat_cmp c.args.kept.now (get_or ns c.loop-number.number-index 0)) ≡ false =
     ap is_some (sym c.get.ensures.value) ∙ ap (λ o. is_some (option_copied o)) c.in_default.is in
     cc
+
+pub returns-in_err-write_held : goal.returns-in_err-write_held
+returns-in_err-write_held g c = λ numbered kept.
+    let ns = c.args.numbers.now in
+    let index = c.loop-number.number-index in
+    let i = get_or ns index 0 in
+    let a = c.in-Some.asked.now in
+    fault_writes (g.W.Write.contents c.args.writer.now) (g.W.Write.contents c.write_held.new.writer) c.from_residual.result (held_texts numbered ns) (held_texts numbered ns) refl c.from_residual.ensures.0
+    (held_front numbered ns (take index ns) i (drop (index + 1) ns) (g.W.Write.contents c.args.writer.now) (g.W.Write.contents c.loop-number.writer) (g.W.Write.contents c.write_held.new.writer) (line_text a.line (codes "held")) (numbers_split ns index c.loop-number-test.true)
+    (held_same numbered i a (λ (line : ℕ). line_text line (codes "held")) (kept i a (sym c.in-Some.ensures.value)) (λ n. refl)) (c.loop-number.invariant numbered kept) c.in_err-write_held.ensures.text)

@@ -8,6 +8,7 @@ use Rattle.bayeux_replay.proofs.Ready.{kept_less_one, next_kept, past_all}
 use Rattle.bx_entry.specs.Runs as runs
 use Rattle.bx_fanout.specs.Stages.{seen_out}
 use Rattle.bx_fanout.specs.declared.out.Out.{Out}
+use Rattle.bayeux_replay.proofs.Fronts.{err_of, outs_front, outs_split}
 use Rattle.bayeux_replay.proofs.kept.print_outs.Goals as goal
 
 pub loop-out-init : goal.loop-out-init
@@ -48,3 +49,13 @@ returns-clause-prints g c = λ numbered kept.
     let all : c.loop-out.out-index ≡ length os = omega arith in
     subst (λ (us : List Out). PrintsOuts numbered (map seen_out us) (g.W.Write.contents c.args.writer.now) (g.W.Write.contents c.loop-out.writer) (get nat_cmp c.loop-out.kept))
     (ap (λ (n : ℕ). take n os) all ∙ take-length os) (c.loop-out.invariant.prints numbered kept)
+
+pub returns-in_err-print_out-clause-fault : goal.returns-in_err-print_out-clause-fault
+returns-in_err-print_out-clause-fault g c = err_of c.from_residual.result
+    (λ numbered kept.
+    let os = c.args.outs.now in
+    let index = c.loop-out.out-index in
+    let o = c.out-item.result in
+    let p = c.loop-out.invariant.prints numbered kept in
+    outs_front numbered (map seen_out os) (map seen_out (take index os)) (seen_out o) (map seen_out (drop (index + 1) os)) (g.W.Write.contents c.args.writer.now) (g.W.Write.contents c.loop-out.writer) (g.W.Write.contents c.print_out.new.writer)
+    (outs_split os index o c.loop-out-test.true c.out-item.is) p.appends (c.in_err-print_out.ensures.fault numbered p.kept))

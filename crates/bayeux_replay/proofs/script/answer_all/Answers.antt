@@ -1,8 +1,9 @@
-use Rattle.std.proofs.Common.{◌≡◌, ◌<◌, ℕ, List, length, refl, ap, arith, ◌∙◌}
+use Rattle.std.proofs.Common.{List, [], ◌∷◌, ◌++◌, length, refl, ap, arith, ◌∙◌}
 use Rattle.bayeux_replay.specs.Serving.{seen_lines}
 use Rattle.bx_fanout.specs.Rounds.{setup_in}
 use Rattle.bx_script.specs.declared.line.Line.{Line}
 use Rattle.bayeux_replay.proofs.Steps.{number_more, prints_more, prints_none, reads_end, reads_more, reads_none}
+use Rattle.bayeux_replay.proofs.Fronts.{err_of, prints_all, prints_some, whole_front}
 use Rattle.bayeux_replay.proofs.script.answer_all.Goals as goal
 
 pub loop-init : goal.loop-init
@@ -48,3 +49,38 @@ loop-preserved g c =
       reads = reads_more (g.R.Read.remaining c.args.reader.now) (g.R.Read.remaining c.loop.reader) (g.R.Read.remaining c.next_line.new.reader) old.lines new.lines c.in_ok-line.field-0 c.in-Some.line c.in-Some.is e.lines i.reads c.in_ok-line.ensures.next;
       prints = prints_more (setup_in old.round).config (setup_in new.round).config old.lines new.lines (g.W.Write.contents c.args.writer.now) (g.W.Write.contents c.loop.writer) (g.W.Write.contents c.answer.new.writer) e.config i.prints e.prints;
     }
+
+pub returns-in_err-line-clause-fault : goal.returns-in_err-line-clause-fault
+returns-in_err-line-clause-fault g c =
+    let s = c.loop.server in
+    let i = c.loop.invariant in
+    let config = (setup_in s.round).config in
+    let first = g.W.Write.contents c.args.writer.now in
+    let before = g.W.Write.contents c.loop.writer in
+    err_of c.from_residual.result
+    (whole_front (setup_in c.args.server.round).config config (g.R.Read.remaining c.args.reader.now) (g.R.Read.remaining c.loop.reader) s.lines first before i.config config.limits.some_batch i.reads
+    (prints_all config s.lines first before i.prints))
+
+pub returns-in_err-server-clause-fault : goal.returns-in_err-server-clause-fault
+returns-in_err-server-clause-fault g c =
+    let s = c.loop.server in
+    let i = c.loop.invariant in
+    let config = (setup_in s.round).config in
+    let line = c.in-Some.line in
+    let first = g.W.Write.contents c.args.writer.now in
+    let before = g.W.Write.contents c.loop.writer in
+    let after = g.W.Write.contents c.answer.new.writer in
+    err_of c.from_residual-in_err-server.result
+    (whole_front (setup_in c.args.server.round).config config (g.R.Read.remaining c.args.reader.now) (g.R.Read.remaining c.next_line.new.reader) (s.lines ++ line ∷ []) first after i.config config.limits.some_batch
+    (reads_more (g.R.Read.remaining c.args.reader.now) (g.R.Read.remaining c.loop.reader) (g.R.Read.remaining c.next_line.new.reader) s.lines (s.lines ++ line ∷ []) c.in_ok-line.field-0 line c.in-Some.is refl i.reads c.in_ok-line.ensures.next)
+    (prints_some config s.lines (s.lines ++ line ∷ []) first before after i.prints c.in_err-server.ensures.fault))
+
+pub returns-clause-fault : goal.returns-clause-fault
+returns-clause-fault g c =
+    let s = c.loop.server in
+    let i = c.loop.invariant in
+    let config = (setup_in s.round).config in
+    let first = g.W.Write.contents c.args.writer.now in
+    let before = g.W.Write.contents c.loop.writer in
+    whole_front (setup_in c.args.server.round).config config (g.R.Read.remaining c.args.reader.now) (g.R.Read.remaining c.loop.reader) s.lines first before i.config config.limits.some_batch i.reads
+    (prints_all config s.lines first before i.prints)

@@ -17,8 +17,8 @@ pub returns-clause-drained : goal.returns-clause-drained
 returns-clause-drained g c =
     let inv = c.loop-shard.invariant in
     let w = c.args.world.now in
-    let all : c.loop-shard.shard ≡ w.admission.config.shards = omega (arith, c.requires.shards) in
+    let all : c.loop-shard.shard ≡ w.admission.shards = omega (arith, c.requires.shards) in
     draining-last (setup_of w) (world_of w) (world_of c.loop-shard.world) c.args.desk.now c.loop-shard.desk inv.list inv.applied
-    (λ session. g.met.P.Placing.is_below (arc_value w.placing) session w.admission.config.shards w.admission.config.some_shard w.admission.config.shards_in_range)
+    (λ session. g.met.P.Placing.is_below (arc_value w.placing) session w.admission.shards w.some_shard w.shards_in_range)
     c.requires.can
     (subst (Draining (setup_of w) c.args.desk.now (world_of c.loop-shard.world) c.loop-shard.desk) all inv.draining)

@@ -39,9 +39,9 @@ returns-clause-draining g c = λ before d.
     let inv = c.loop-filing.invariant in
     let none = at-none c.take_any.result c.in_default.is c.take_any.ensures.none in
     let w = c.loop-filing.world in
-    let many : length (world_of w).applied ≡ w.admission.config.shards = length-map w.shards.items (λ (s : Shard g.row.P.Denot). s.place) ∙ w.counted in
+    let many : length (world_of w).applied ≡ w.admission.shards = length-map w.shards.items (λ (s : Shard g.row.P.Denot). s.place) ∙ w.counted in
     let placed : AllPlaced (setup_of w) (world_of w) = λ session.
-    let below : g.P.Placing.place_of (arc_value w.placing) session w.admission.config.shards < w.admission.config.shards = g.met.P.Placing.is_below (arc_value w.placing) session w.admission.config.shards w.admission.config.some_shard w.admission.config.shards_in_range in
+    let below : g.P.Placing.place_of (arc_value w.placing) session w.admission.shards < w.admission.shards = g.met.P.Placing.is_below (arc_value w.placing) session w.admission.shards w.some_shard w.shards_in_range in
     omega arith in
     let next = draining-next (setup_of c.args.world.now) before (world_of w) c.loop-filing.desk c.args.shard c.args.world.now.admission.config.limits.some_batch
     (subst (λ (s : Setup). AllPlaced s (world_of w)) inv.setup placed)

@@ -7,7 +7,7 @@ use Rattle.bx_message.specs.Columns.{column_of}
 use Rattle.bx_message.specs.Replies.{reply_to}
 use Rattle.bx_entry.specs.Listing.{Posted}
 use Rattle.bx_entry.specs.Registry.{named_by, kind_for, slot_for, hold_of}
-use Rattle.bx_registry.specs.Rolls.{Members}
+use Rattle.bx_roster.specs.Live.{Members}
 use Rattle.bx_registry.specs.Postings.{posted_of}
 use Rattle.bx_registry.specs.Drafts.{members_of, named}
 use Rattle.bx_registry.specs.Plans.{planned_at}

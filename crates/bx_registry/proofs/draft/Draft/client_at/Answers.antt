@@ -1,9 +1,9 @@
 use Rattle.std.proofs.Common.{List, fold, ap, sym, ◌∙◌}
 use Rattle.std.proofs.lemmas.List.{take_all}
-use Rattle.bx_registry.specs.Rolls.{Members}
-use Rattle.bx_registry.specs.Tables.{client_at}
+use Rattle.bx_roster.specs.Live.{Members}
+use Rattle.bx_roster.specs.Tables.{client_at}
+use Rattle.bx_roster.specs.declared.edit.Edit.{Edit}
 use Rattle.bx_registry.specs.Drafts.{Drafted, client_after, members_of}
-use Rattle.bx_registry.specs.declared.change.Edit.{Edit}
 use Rattle.bx_registry.proofs.Drafting.{client_at-all}
 use Rattle.bx_registry.proofs.draft.Draft.client_at.Goals as goal
 

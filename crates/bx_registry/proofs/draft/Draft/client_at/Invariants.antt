@@ -1,6 +1,6 @@
 use Rattle.std.proofs.Common.{◌≡◌, take, fold}
 use Rattle.std.specs.Option.{option_copied}
-use Rattle.bx_registry.specs.Tables.{client_at}
+use Rattle.bx_roster.specs.Tables.{client_at}
 use Rattle.bx_registry.specs.Drafts.{client_after}
 use Rattle.bx_registry.proofs.draft.Draft.client_at.Given as goal
 

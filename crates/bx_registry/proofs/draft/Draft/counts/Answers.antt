@@ -1,8 +1,8 @@
 use Rattle.std.proofs.Common.{length, fold, ap, sym, ◌∙◌}
 use Rattle.bx_entry.specs.Registry.{count_live}
-use Rattle.bx_registry.specs.Edits.{edited}
+use Rattle.bx_roster.specs.Edits.{edited}
+use Rattle.bx_roster.proofs.Slots.{live_in-all}
 use Rattle.bx_registry.specs.Drafts.{Drafted, members_of}
-use Rattle.bx_registry.proofs.Slots.{live_in-all}
 use Rattle.bx_registry.proofs.draft.Draft.counts.Goals as goal
 
 pub returns-clause-live : goal.returns-clause-live

@@ -1,9 +1,9 @@
 use Rattle.std.proofs.Common.{ℕ, ◌<◌, List, length, fold, ap, sym, subst, ◌∙◌, arith}
 use Rattle.bx_entry.specs.Registry.{Registered}
-use Rattle.bx_registry.specs.Rolls.{Members}
-use Rattle.bx_registry.specs.Edits.{edited, CanEdit, IsNext}
+use Rattle.bx_roster.specs.Live.{Members}
+use Rattle.bx_roster.specs.Edits.{edited, CanEdit, IsNext}
+use Rattle.bx_roster.specs.declared.edit.Edit.{Edit}
 use Rattle.bx_registry.specs.Drafts.{Drafted, IsDrafted, members_of}
-use Rattle.bx_registry.specs.declared.change.Edit.{Edit}
 use Rattle.bx_registry.proofs.Drafting.{limit-same, pushed-open, pushed-extend, pushed-close}
 use Rattle.bx_registry.proofs.draft.Draft.push.Goals.{in-Open, in-Extend, in-Close}
 use Rattle.bx_registry.proofs.draft.Draft.push.Goals as goal

@@ -1,6 +1,6 @@
 use Rattle.std.proofs.Common.{sym, subst}
 use Rattle.bx_registry.specs.Rolls.{Roll}
-use Rattle.bx_registry.specs.Edits.{Amendment, IsPlannedAt}
+use Rattle.bx_registry.specs.Changes.{Amendment, IsPlannedAt}
 use Rattle.bx_registry.proofs.Planning.{planned-within}
 use Rattle.bx_registry.proofs.registry.Registry.commit.Goals as goal
 

@@ -3,7 +3,7 @@ use Rattle.std.specs.Prelude.{◌==◌, is_some}
 use Rattle.std.specs.List.{list_any}
 use Rattle.bx_entry.specs.Registry.{Registered}
 use Rattle.bx_registry.specs.Rolls.{Roll}
-use Rattle.bx_registry.proofs.Slots.{is_some_client_at, is_some_copied}
+use Rattle.bx_registry.proofs.Known.{is_some_client_at, is_some_copied}
 use Rattle.bx_registry.proofs.registry.Registry.live.Goals as goal
 
 pub returns : goal.returns

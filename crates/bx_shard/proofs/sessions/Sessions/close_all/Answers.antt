@@ -1,7 +1,7 @@
 use Rattle.std.proofs.Common.{◌==◌, nat_eq, None, cond, get_or, ap, ◌∙◌, refl}
 use Rattle.std.specs.List.{list_any}
 use Rattle.std.proofs.lemmas.List.{take_all}
-use Rattle.bx_shard.specs.Connects.{connect_at}
+use Rattle.bx_connects.specs.Connects.{connect_at}
 use Rattle.bx_shard.specs.Sessions.{patterns_in, seat_in, subscriber_in}
 use Rattle.bx_shard.specs.States.{let_go}
 use Rattle.bx_shard.proofs.Closing.{closing_parts, gone, gone_more, let_go_more, let_go_none, parted_from}

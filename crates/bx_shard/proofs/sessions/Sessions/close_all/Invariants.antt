@@ -1,6 +1,6 @@
 use Rattle.std.proofs.Common.{◌≡◌, ◌==◌, ℕ, None, take, if◌then◌else◌}
 use Rattle.std.specs.List.{list_any}
-use Rattle.bx_shard.specs.Connects.{connect_at}
+use Rattle.bx_connects.specs.Connects.{connect_at}
 use Rattle.bx_shard.specs.Sessions.{AreCounted, AreHeld, subscriber_in}
 use Rattle.bx_shard.specs.States.{let_go}
 use Rattle.bx_shard.proofs.sessions.Sessions.close_all.Given as goal

@@ -1,8 +1,8 @@
 use Rattle.std.proofs.Common.{Some, ap, ◌∙◌, refl}
 use Rattle.bx_tree.specs.Patterns.{patterns_of}
-use Rattle.bx_shard.specs.Connects.{connect_at}
+use Rattle.bx_connects.specs.Connects.{connect_at, filing}
 use Rattle.bx_shard.specs.Effects.{ticked_answer}
-use Rattle.bx_shard.specs.Sessions.{filing, patterns_in, seat_in}
+use Rattle.bx_shard.specs.Sessions.{patterns_in, seat_in}
 use Rattle.bx_shard.proofs.Closing.{with_patterns}
 use Rattle.bx_shard.proofs.Ticking.{all_given, all_seats, answer_there, due_answered, none_due, none_ticked, one_ticked, reseated_all, subscriber_there}
 use Rattle.bx_shard.proofs.sessions.Sessions.end_holds.Goals as goal
@@ -34,7 +34,7 @@ loop-number-preserved c =
     let answered = due_answered old.config c.args.moment (connect_at before.connects) (seat_in before) number due.place due.deadline due.held.waker loop.held due.held.held due.due in
     record {
       ticked = one_ticked old.config c.args.moment c.args.place (seat_in old) (seat_in before) (seat_in after)
-          (connect_at old.connects) (connect_at before.connects) (connect_at after.connects) number number (Some due.deadline) due.held.waker answered.answer
+          (connect_at old.connects) (connect_at before.connects) (connect_at after.connects) number (Some due.deadline) due.held.waker answered.answer
           loop.ticked answered.given (ap (connect_at before.connects) answered.own ∙ due.held.held) c.tick.ensures.seats
           (λ p. c.tick.ensures.connects p ∙ ap (λ config. filing c.args.place (ticked_answer config c.args.moment (seat_in before number)) (connect_at before.connects) p) loop.config);
       counted = λ counted. c.tick.ensures.counted (loop.counted counted);
@@ -69,3 +69,6 @@ returns-clause-kept c = λ p none.
     let old = c.args.self.now in
     c.loop-number.invariant.ticked.kept p
     (λ n a e. let s = subscriber_there old.config c.args.moment (patterns_in old n) (seat_in old n) a e in none n s.subscriber a s.here s.given)
+
+pub returns-clause-known : goal.returns-clause-known
+returns-clause-known c = λ p. c.loop-number.invariant.ticked.known p

@@ -15,7 +15,7 @@ pub returns-in_ok-publish-in-Publish-clause-done : goal.returns-in_ok-publish-in
 returns-in_ok-publish-in-Publish-clause-done c =
     let h = c.in_ok-publish-in-Publish.ensures in
     followed_publish c.args.stands c.args.entry.now c.in-Publish.event c.args.self.now c.publish.new.self c.in-Publish.is
-    h.sessions h.given h.kept c.publish.ensures.config c.publish.ensures.counted c.publish.ensures.held
+    h.sessions h.given h.kept h.known c.publish.ensures.config c.publish.ensures.counted c.publish.ensures.held
 
 pub returns-in-Disconnect-clause-done : goal.returns-in-Disconnect-clause-done
 returns-in-Disconnect-clause-done c =
@@ -29,4 +29,4 @@ returns-in-Tick-clause-done c =
     let k = c.close_all.ensures in
     followed_tick c.args.stands c.args.entry.now c.as_slice-in-Tick.result.now c.args.self.now c.end_holds.new.self c.close_all.new.self
     (c.in-Tick.is ∙ ap (λ (ns : List ℕ). kinds.Tick ns) (sym c.as_slice-in-Tick.ensures))
-    h.sessions h.given h.kept h.config k.sessions k.connects k.config (k.counted (h.counted c.requires.counted)) k.held
+    h.sessions h.given h.kept h.known h.config k.sessions k.connects k.config (k.counted (h.counted c.requires.counted)) k.held

@@ -1,5 +1,5 @@
 use Rattle.std.proofs.Common.{◌≡◌, ℕ, nat_eq, false, cond, option_map, subst, sym, ap, ◌∙◌}
-use Rattle.bx_shard.specs.Connects.{connect_at}
+use Rattle.bx_connects.specs.Connects.{connect_at}
 use Rattle.bx_shard.specs.Effects.{delivery_filing}
 use Rattle.bx_shard.specs.Publishing.{AllReady, Turn, Turns}
 use Rattle.bx_shard.specs.Sessions.{seat_in, subscriber_in}

@@ -2,7 +2,7 @@ use Rattle.std.proofs.Common.{rules, ◌≡◌, ◌<◌, ℕ, map, length, slice
 use Rattle.bx_shard.specs.declared.publish.Parcel.{Parcel}
 use Rattle.bx_shard.specs.Publishing.{AllReady, Turns, parcel}
 use Rattle.bx_shard.specs.Sessions.{HasRoom}
-use Rattle.bx_shard.proofs.Handing.{all_hear, answers_filed, are_apart, are_of, are_ready, config_after, connects_kept, hears_if, held_after, same_subscriber}
+use Rattle.bx_shard.proofs.Handing.{all_hear, answers_filed, are_apart, are_of, are_ready, config_after, connects_kept, hears_if, held_after, same_subscriber, sessions_kept}
 use Rattle.bx_shard.proofs.sessions.Sessions.publish.Goals as goal
 
 pub hand_out-requires-clause-ready : goal.hand_out-requires-clause-ready
@@ -55,6 +55,15 @@ returns-clause-kept c = λ p never.
       given = gives.given;
     }))
     ∙ (search rules)
+
+pub returns-clause-known : goal.returns-clause-known
+returns-clause-known c = λ p.
+    let s = c.args.self.now in
+    let t = c.reserve_all.new.self in
+    let e = c.args.event.now in
+    let ns = c.in_ok-numbers.numbers.items in
+    let turns : Turns s.config c.args.place (map (parcel e) ns) t c.hand_out.new.self = search rules in
+    sessions_kept s.config c.args.place e (map (parcel e) ns) t c.hand_out.new.self turns p ∙ (search rules)
 
 pub returns-clause-held : goal.returns-clause-held
 returns-clause-held c =

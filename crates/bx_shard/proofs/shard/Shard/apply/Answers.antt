@@ -18,10 +18,12 @@ invariant_of-self-2 g c =
       fresh = old.fresh;
     } in
     record {
+      some_shard = old.some_shard;
+      shards_in_range = old.shards_in_range;
       counted = λ n. counted_test (seat_in new n) (patterns_in new n) (c.follow.ensures.counted n);
       held = c.follow.ensures.held;
       batches = formed_few _ e old.place old.sessions new followed.sessions old.batches;
-      fresh = still_fresh old.sessions.config.shards _ old.index old.is_shut old.place e old.sessions new c.requires.next sound followed;
+      fresh = still_fresh old.shards _ old.index old.is_shut old.place e old.sessions new c.requires.next sound followed;
     }
 
 pub returns-clause-done : goal.returns-clause-done
@@ -30,4 +32,4 @@ returns-clause-done g c =
     let e = c.args.entry.now in
     let new = c.follow.new.self in
     let followed : Followed (opens_in (setup_in g.P.Placing.place_of old) old.index e.kind) e old.sessions new = search rules in
-    applied old.sessions.config.shards _ old.index old.is_shut old.place e old.sessions new c.requires.next followed
+    applied old.shards _ old.index old.is_shut old.place e old.sessions new c.requires.next followed

@@ -1,5 +1,5 @@
 use Rattle.std.proofs.Common.{◌≡◌, ◌∙◌, refl, None}
-use Rattle.bx_shard.specs.Connects.{connect_at}
+use Rattle.bx_connects.specs.Connects.{connect_at}
 use Rattle.bx_shard.specs.Sessions.{held_until}
 use Rattle.bx_shard.proofs.Waking.{at_each, watched_held, watched_none}
 use Rattle.bx_shard.proofs.shard.Shard.watch.Goals as goal
@@ -10,6 +10,8 @@ invariant_of-self g c =
     let before = connect_at old.sessions.connects in
     let after = connect_at c.watch.new.self in
     record {
+      some_shard = old.some_shard;
+      shards_in_range = old.shards_in_range;
       counted = old.counted;
       held = λ place n.
           at_each (λ o q. held_until q n ≡ held_until o n) old.is_shut c.args.ticket.place c.args.waker before after c.watch.ensures.stored

@@ -24,7 +24,7 @@ returns-in_err-batch g c =
     let ms : List Message = c.deref.result.now in
     let read : read_by moment nonce (request_messages (texts_of c.args.arrival.now.bodies)) ≡ Request moment nonce ms =
     ap (read_by moment nonce) c.in_ok-messages.ensures.messages ∙ ap (Request moment nonce) (sym c.deref.ensures.value) in
-    let long : was.registry.length ≡ length old.list = roll_length was.registry was.backlog.contents was.listing c.self.invariant.1 ∙ ap (λ (a : Admitting). length a.list) c.self.view_is in
+    let long : was.registry.length ≡ length old.list = roll_length was.registry was.backlog.contents was.listing c.self.invariant.2 ∙ ap (λ (a : Admitting). length a.list) c.self.view_is in
     given_fault (g.P.Placing.place_of c.args.placing.now) old old (read_by moment nonce (request_messages (texts_of c.args.arrival.now.bodies))) (of_planning c.in_err-batch.field-0.0) c.from_residual-in_err-batch.result c.from_residual-in_err-batch.ensures.1 refl
     (subst (λ (input : ReadInput). IsAdmission (g.P.Placing.place_of c.args.placing.now) old input (Err (of_planning c.in_err-batch.field-0.0)) old) (sym read)
     (not_planned (g.P.Placing.place_of c.args.placing.now) old (Request moment nonce ms) moment (length old.list + length ms) c.plan.result c.in_err-batch.field-0.0 refl c.in_err-batch.was
@@ -43,9 +43,12 @@ behind g c =
     }
 
 pub invariant_of-self-2 : goal.invariant_of-self-2
-invariant_of-self-2 g c =
-    still_admitting c.self.inside.shards c.self.inside.registry c.self.inside.backlog.contents c.self.inside.listing (request c.args.arrival.now.moment c.args.arrival.now.nonce c.deref.result.now)
-    c.commit.new.self c.append.new.self.contents c.post.new.self c.self.invariant (behind g c)
+invariant_of-self-2 g c = (
+  c.self.invariant.0,
+  c.self.invariant.1,
+  still_admitting c.self.inside.registry c.self.inside.backlog.contents c.self.inside.listing (request c.args.arrival.now.moment c.args.arrival.now.nonce c.deref.result.now)
+      c.commit.new.self c.append.new.self.contents c.post.new.self c.self.invariant.2 (behind g c),
+)
 
 pub returns : goal.returns
 returns g c =
@@ -55,12 +58,11 @@ returns g c =
     let ms : List Message = c.deref.result.now in
     let read : read_by moment nonce (request_messages (texts_of c.args.arrival.now.bodies)) ≡ Request moment nonce ms =
     ap (read_by moment nonce) c.in_ok-messages.ensures.messages ∙ ap (Request moment nonce) (sym c.deref.ensures.value) in
-    let new : Admitting = record { config = c.commit.new.self.config; list = c.post.new.self; first = c.append.new.self.contents.first } in
-    let slots : c.in_ok-slots.slots ≡ map (placed_slot (g.P.Placing.place_of c.args.placing.now) was.registry.config.shards) (slots_in (found was.registry (request moment nonce ms))) =
+    let new : Admitting = record { config = c.commit.new.self.config; shards = was.shards; list = c.post.new.self; first = c.append.new.self.contents.first } in
+    let slots : c.in_ok-slots.slots ≡ map (placed_slot (g.P.Placing.place_of c.args.placing.now) was.shards) (slots_in (found was.registry (request moment nonce ms))) =
     c.in_ok-slots.ensures
-    ∙ ap (λ (shards : ℕ). map (placed_slot (g.P.Placing.place_of c.args.placing.now) shards) c.in_ok-batch.field-0.slots) c.self.invariant.0
-    ∙ ap (map (placed_slot (g.P.Placing.place_of c.args.placing.now) was.registry.config.shards)) c.in_ok-batch.ensures.slots in
+    ∙ ap (map (placed_slot (g.P.Placing.place_of c.args.placing.now) was.shards)) c.in_ok-batch.ensures.slots in
     subst (λ (input : ReadInput). IsAdmission (g.P.Placing.place_of c.args.placing.now) c.args.self.now input (Ok (record { first = c.in_ok-batch.field-0.batch.first; slots = c.in_ok-slots.slots })) new) (sym read)
-    (taken (g.P.Placing.place_of c.args.placing.now) c.args.self.now new (Request moment nonce ms) moment (length ms) c.plan.result c.in_ok-batch.field-0 _ was.registry was.backlog.contents was.listing
-    c.self.view_is c.self.invariant.1 refl c.in_ok-batch.was c.plan.ensures.fault c.in_ok-batch.ensures.first slots
-    (behind_view was.registry was.backlog.contents was.listing (request moment nonce ms) c.commit.new.self c.append.new.self.contents c.post.new.self c.self.invariant.1 (behind g c)))
+    (taken (g.P.Placing.place_of c.args.placing.now) c.args.self.now new (Request moment nonce ms) moment (length ms) c.plan.result c.in_ok-batch.field-0 _ was.shards was.registry was.backlog.contents was.listing
+    c.self.view_is c.self.invariant.2 refl c.in_ok-batch.was c.plan.ensures.fault c.in_ok-batch.ensures.first slots
+    (behind_view was.shards was.registry was.backlog.contents was.listing (request moment nonce ms) c.commit.new.self c.append.new.self.contents c.post.new.self c.self.invariant.2 (behind g c)))

@@ -1,12 +1,11 @@
-use Rattle.std.proofs.Common.{◌≡◌, ℕ, true, ◌∙◌, map, sym, ap, subst}
+use Rattle.std.proofs.Common.{◌≡◌, ◌≤◌, ℕ, true, ◌∙◌, map, sym, subst}
 use Rattle.std.specs.Arc.{arc_value}
-use Rattle.bx_advice.specs.declared.config.Config.{Config}
 use Rattle.bx_entry.specs.Requests.{read_input}
 use Rattle.bx_entry.specs.declared.input.Input.TheVariants.{Post}
 use Rattle.bx_shard.specs.declared.shard.Shard.{Shard}
 use Rattle.bx_world.specs.Admissions.{IsAdmission}
 use Rattle.bx_world.specs.Held.{some_stands_at}
-use Rattle.bx_world.proofs.Growing.{admission_steps, each_longer, same_config, same_first, still_bounded}
+use Rattle.bx_world.proofs.Growing.{admission_steps, each_longer, same_first, same_shards, still_bounded}
 use Rattle.bx_world.proofs.world.World.admit.Goals as goal
 
 pub invariant_of-self : goal.invariant_of-self
@@ -17,7 +16,9 @@ invariant_of-self g c =
     let is = subst (λ (p : g.row.P.Denot). IsAdmission (g.P.Placing.place_of p) w.admission (read_input (Post c.args.arrival.now)) c.post.result now) c.deref.ensures c.post.ensures in
     record {
       bounded = still_bounded placing w.admission now (read_input (Post c.args.arrival.now)) c.post.result is w.bounded;
-      counted = w.counted ∙ sym (ap (λ (config : Config). config.shards) (same_config placing w.admission now (read_input (Post c.args.arrival.now)) c.post.result is));
+      some_shard = subst (λ (n : ℕ). 1 ≤ n) (sym (same_shards placing w.admission now (read_input (Post c.args.arrival.now)) c.post.result is)) w.some_shard;
+      shards_in_range = subst (λ (n : ℕ). n ≤ 64) (sym (same_shards placing w.admission now (read_input (Post c.args.arrival.now)) c.post.result is)) w.shards_in_range;
+      counted = w.counted ∙ sym (same_shards placing w.admission now (read_input (Post c.args.arrival.now)) c.post.result is);
       holding = each_longer g.P.Placing.place_of placing w.admission now w.taken w.shards.items (read_input (Post c.args.arrival.now)) c.post.result is w.holding;
       slowest = subst (λ (first : ℕ). some_stands_at first w.shards.items ≡ true) (sym (same_first placing w.admission now (read_input (Post c.args.arrival.now)) c.post.result is)) w.slowest;
     }

@@ -21,8 +21,8 @@ forget_applied-requires-clause-first g c = λ k s e.
     let here : i < w.shards.len = c.in-Some.ensures.variant.0 (refl {a = true}) in
     let there : slice_get w.shards.items i ≡ Some old = slice_get_read w.shards.items w.shards.len i old (omega (arith, w.shards.ok.0)) here c.in-Some.ensures.value in
     let room : 0 < w.admission.config.limits.batch = omega (arith, w.admission.config.limits.some_batch) in
-    let each : EachHolds place_of (placed_by w.admission.config placing) w.admission.list w.taken w.admission.first (slice_set w.shards.items i new) =
-    each_applied place_of (placed_by w.admission.config placing) w.admission.list w.taken w.admission.first w.shards.items i old new c.apply_next-applied.result room there w.holding c.apply_next-applied.ensures in
+    let each : EachHolds place_of (placed_by w.admission.config w.admission.shards placing) w.admission.list w.taken w.admission.first (slice_set w.shards.items i new) =
+    each_applied place_of (placed_by w.admission.config w.admission.shards placing) w.admission.list w.taken w.admission.first w.shards.items i old new c.apply_next-applied.result room there w.holding c.apply_next-applied.ensures in
     (each k s (ap (λ (xs : List (Shard g.row.P.Denot)). slice_get xs k) (sym c.deref.ensures.value) ∙ e)).past
 
 pub forget_applied-requires-clause-end : goal.forget_applied-requires-clause-end
@@ -36,15 +36,14 @@ forget_applied-requires-clause-end g c = λ k s e.
     let here : i < w.shards.len = c.in-Some.ensures.variant.0 (refl {a = true}) in
     let there : slice_get w.shards.items i ≡ Some old = slice_get_read w.shards.items w.shards.len i old (omega (arith, w.shards.ok.0)) here c.in-Some.ensures.value in
     let room : 0 < w.admission.config.limits.batch = omega (arith, w.admission.config.limits.some_batch) in
-    let each : EachHolds place_of (placed_by w.admission.config placing) w.admission.list w.taken w.admission.first (slice_set w.shards.items i new) =
-    each_applied place_of (placed_by w.admission.config placing) w.admission.list w.taken w.admission.first w.shards.items i old new c.apply_next-applied.result room there w.holding c.apply_next-applied.ensures in
+    let each : EachHolds place_of (placed_by w.admission.config w.admission.shards placing) w.admission.list w.taken w.admission.first (slice_set w.shards.items i new) =
+    each_applied place_of (placed_by w.admission.config w.admission.shards placing) w.admission.list w.taken w.admission.first w.shards.items i old new c.apply_next-applied.result room there w.holding c.apply_next-applied.ensures in
     (each k s (ap (λ (xs : List (Shard g.row.P.Denot)). slice_get xs k) (sym c.deref.ensures.value) ∙ e)).holds.within
 
 pub forget_applied-requires-clause-some : goal.forget_applied-requires-clause-some
 forget_applied-requires-clause-some g c =
     let w = c.args.self.now in
-    let some : 1 ≤ w.admission.config.shards = w.admission.config.some_shard in
-    subst (λ (xs : List (Shard g.row.P.Denot)). 1 ≤ length xs) (sym c.deref.ensures.value) (omega (arith, length-set w.shards.items c.args.shard c.apply_next-applied.new.shard, w.counted, some))
+    subst (λ (xs : List (Shard g.row.P.Denot)). 1 ≤ length xs) (sym c.deref.ensures.value) (omega (arith, length-set w.shards.items c.args.shard c.apply_next-applied.new.shard, w.counted, w.some_shard))
 
 pub forget_applied-requires-clause-slowest : goal.forget_applied-requires-clause-slowest
 forget_applied-requires-clause-slowest g c = λ ahead.
@@ -68,12 +67,14 @@ invariant_of-self-2 g c =
     let here : i < w.shards.len = c.in-Some.ensures.variant.0 (refl {a = true}) in
     let there : slice_get w.shards.items i ≡ Some old = slice_get_read w.shards.items w.shards.len i old (omega (arith, w.shards.ok.0)) here c.in-Some.ensures.value in
     let room : 0 < w.admission.config.limits.batch = omega (arith, w.admission.config.limits.some_batch) in
-    let each : EachHolds place_of (placed_by w.admission.config placing) w.admission.list w.taken w.admission.first (slice_set w.shards.items i new) =
-    each_applied place_of (placed_by w.admission.config placing) w.admission.list w.taken w.admission.first w.shards.items i old new c.apply_next-applied.result room there w.holding c.apply_next-applied.ensures in
+    let each : EachHolds place_of (placed_by w.admission.config w.admission.shards placing) w.admission.list w.taken w.admission.first (slice_set w.shards.items i new) =
+    each_applied place_of (placed_by w.admission.config w.admission.shards placing) w.admission.list w.taken w.admission.first w.shards.items i old new c.apply_next-applied.result room there w.holding c.apply_next-applied.ensures in
     let others = c.forget_applied.ensures.others in
     record {
       bounded = subst (λ (a : Admitting). length a.list ≤ greatest_length) (sym others) w.bounded;
-      counted = length-set w.shards.items i new ∙ w.counted ∙ sym (ap (λ (a : Admitting). a.config.shards) others);
+      some_shard = subst (λ (a : Admitting). 1 ≤ a.shards) (sym others) w.some_shard;
+      shards_in_range = subst (λ (a : Admitting). a.shards ≤ 64) (sym others) w.shards_in_range;
+      counted = length-set w.shards.items i new ∙ w.counted ∙ sym (ap (λ (a : Admitting). a.shards) others);
       holding = each_from place_of placing w.admission c.forget_applied.new.admission w.taken (slice_set w.shards.items i new) each others
           (λ k s e. c.forget_applied.ensures.first k s (ap (λ (xs : List (Shard g.row.P.Denot)). slice_get xs k) c.deref.ensures.value ∙ e));
       slowest = subst (λ (xs : List (Shard g.row.P.Denot)). some_stands_at c.forget_applied.new.admission.first xs ≡ true) c.deref.ensures.value c.forget_applied.ensures.slowest;
@@ -90,9 +91,9 @@ returns g c =
     let here : i < w.shards.len = c.in-Some.ensures.variant.0 (refl {a = true}) in
     let there : slice_get w.shards.items i ≡ Some old = slice_get_read w.shards.items w.shards.len i old (omega (arith, w.shards.ok.0)) here c.in-Some.ensures.value in
     let others = c.forget_applied.ensures.others in
-    let steps = application_steps place_of (placed_by w.admission.config placing) w.admission.list w.taken w.admission.first w.shards.items i old new c.apply_next-applied.result there w.holding c.apply_next-applied.ensures in
+    let steps = application_steps place_of (placed_by w.admission.config w.admission.shards placing) w.admission.list w.taken w.admission.first w.shards.items i old new c.apply_next-applied.result there w.holding c.apply_next-applied.ensures in
     record {
       output = steps.0;
       world = ap (λ (a : Admitting). record { list = a.list; applied = map (λ (s : Shard g.row.P.Denot). s.place) (slice_set w.shards.items i new); taken = w.taken }) others ∙ steps.1;
-      setup = ap (λ (a : Admitting). placed_by a.config placing) others;
+      setup = ap (λ (a : Admitting). placed_by a.config a.shards placing) others;
     }

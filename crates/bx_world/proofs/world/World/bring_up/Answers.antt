@@ -25,11 +25,11 @@ brought : (g : _) (c : After-bring_up-behind g) → BroughtUp g.P.Placing.place_
 brought g c = subst (λ (xs : List (Shard g.row.P.Denot)). BroughtUp g.P.Placing.place_of (entries_kept c.args.self.now.admission) xs c.bring_up-behind.new.shards) c.deref_mut.ensures.value c.bring_up-behind.ensures.brought
 
 holds : (g : _) (c : After-bring_up-behind g) →
-    EachHolds g.P.Placing.place_of (placed_by c.args.self.now.admission.config (g.P.Placing.place_of (arc_value c.args.self.now.placing))) c.args.self.now.admission.list c.args.self.now.taken c.args.self.now.admission.first c.bring_up-behind.new.shards
+    EachHolds g.P.Placing.place_of (placed_by c.args.self.now.admission.config c.args.self.now.admission.shards (g.P.Placing.place_of (arc_value c.args.self.now.placing))) c.args.self.now.admission.list c.args.self.now.taken c.args.self.now.admission.first c.bring_up-behind.new.shards
 holds g c =
     let w = c.args.self.now in
     let room : 0 < w.admission.config.limits.batch = omega (arith, w.admission.config.limits.some_batch) in
-    each_upward w.admission g.P.Placing.place_of (placed_by w.admission.config (g.P.Placing.place_of (arc_value w.placing))) w.taken w.shards.items c.bring_up-behind.new.shards refl room w.holding (brought g c)
+    each_upward w.admission g.P.Placing.place_of (placed_by w.admission.config w.admission.shards (g.P.Placing.place_of (arc_value w.placing))) w.taken w.shards.items c.bring_up-behind.new.shards refl room w.holding (brought g c)
 
 -- what the shards' row holds then
 abbrev now : (g : _) (c : After-bring_up-behind g) → List (Shard g.row.P.Denot)
@@ -66,8 +66,10 @@ invariant_of-self g c =
     let from : StandFrom new.first ys = λ k s e. c.forget_applied.ensures.first k s (ap (λ (xs : List (Shard g.row.P.Denot)). slice_get xs k) (c.deref.ensures.value ∙ back g before) ∙ e) in
     record {
       bounded = subst (λ (a : Admitting). length a.list ≤ greatest_length) (sym (whole g after)) w.bounded;
-      counted = ap (λ (xs : List (Shard g.row.P.Denot)). length xs) (back g before) ∙ (brought g before).all ∙ w.counted ∙ sym (ap (λ (a : Admitting). a.config.shards) (whole g after));
-      holding = subst (EachHolds place_of (placed_by new.config placing) new.list w.taken new.first) (sym (back g before)) (each_from place_of placing w.admission new w.taken ys (holds g before) (whole g after) from);
+      some_shard = subst (λ (a : Admitting). 1 ≤ a.shards) (sym (whole g after)) w.some_shard;
+      shards_in_range = subst (λ (a : Admitting). a.shards ≤ 64) (sym (whole g after)) w.shards_in_range;
+      counted = ap (λ (xs : List (Shard g.row.P.Denot)). length xs) (back g before) ∙ (brought g before).all ∙ w.counted ∙ sym (ap (λ (a : Admitting). a.shards) (whole g after));
+      holding = subst (EachHolds place_of (placed_by new.config new.shards placing) new.list w.taken new.first) (sym (back g before)) (each_from place_of placing w.admission new w.taken ys (holds g before) (whole g after) from);
       slowest = subst (λ (xs : List (Shard g.row.P.Denot)). some_stands_at new.first xs ≡ true) c.deref.ensures.value c.forget_applied.ensures.slowest;
     }
 

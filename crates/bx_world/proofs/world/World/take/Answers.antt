@@ -2,7 +2,7 @@ use Rattle.std.proofs.Common.{◌≡◌, ◌<◌, ℕ, List, Option, Some, None,
 use Rattle.std.specs.Arc.{arc_value}
 use Rattle.std.proofs.lemmas.List.{length-set}
 use Rattle.std.proofs.lemmas.Option.{slice_get_read}
-use Rattle.bx_shard.specs.Connects.{filed_answer}
+use Rattle.bx_connects.specs.Connects.{filed_answer}
 use Rattle.bx_shard.specs.Held.{Took}
 use Rattle.bx_shard.specs.Seen.{state}
 use Rattle.bx_shard.specs.States.{connect_in}
@@ -24,7 +24,7 @@ invariant_of-self-in-Break-branch-2 g c =
     let old = c.in_ok-get_mut.field-0.now in
     let new = c.take.new.self in
     let place_of = g.P.Placing.place_of in
-    let setup = placed_by w.admission.config (g.P.Placing.place_of (arc_value w.placing)) in
+    let setup = placed_by w.admission.config w.admission.shards (g.P.Placing.place_of (arc_value w.placing)) in
     let here : t.shard < w.shards.len = c.in_ok-get_mut.ensures.variant.0 (refl {a = true}) in
     let there : slice_get w.shards.items t.shard ≡ Some old = slice_get_read w.shards.items w.shards.len t.shard old (omega (arith, w.shards.ok.0)) here c.in_ok-get_mut.ensures.value in
     let mine : nat_eq t.shard old.index ≡ true = own place_of setup w.admission.list w.taken w.admission.first w.shards.items t old new there w.holding in
@@ -32,6 +32,8 @@ invariant_of-self-in-Break-branch-2 g c =
     let none : None ≡ filed_answer (connect_in (state place_of old) t.place) = answered place_of setup w.admission.list w.taken w.admission.first w.shards.items t old new None there w.holding c.in_err-answer.ensures.answer in
     record {
       bounded = w.bounded;
+      some_shard = w.some_shard;
+      shards_in_range = w.shards_in_range;
       counted = length-set w.shards.items t.shard new ∙ w.counted;
       holding = each_still place_of setup w.admission.list w.taken w.admission.first w.shards.items t old new there w.holding none took c.take.ensures.sound;
       slowest = same_slowest w.shards.items (slice_set w.shards.items t.shard new) w.admission.first (same_places place_of setup w.admission.list w.taken w.admission.first w.shards.items t old new there took.place_is) w.slowest;
@@ -44,7 +46,7 @@ returns-in_err-answer g c =
     let old = c.in_ok-get_mut.field-0.now in
     let new = c.take.new.self in
     let place_of = g.P.Placing.place_of in
-    let setup = placed_by w.admission.config (g.P.Placing.place_of (arc_value w.placing)) in
+    let setup = placed_by w.admission.config w.admission.shards (g.P.Placing.place_of (arc_value w.placing)) in
     let here : t.shard < w.shards.len = c.in_ok-get_mut.ensures.variant.0 (refl {a = true}) in
     let there : slice_get w.shards.items t.shard ≡ Some old = slice_get_read w.shards.items w.shards.len t.shard old (omega (arith, w.shards.ok.0)) here c.in_ok-get_mut.ensures.value in
     let mine : nat_eq t.shard old.index ≡ true = own place_of setup w.admission.list w.taken w.admission.first w.shards.items t old new there w.holding in
@@ -66,7 +68,7 @@ invariant_of-self-2 g c =
     let old = c.in_ok-get_mut.field-0.now in
     let new = c.take.new.self in
     let place_of = g.P.Placing.place_of in
-    let setup = placed_by w.admission.config (g.P.Placing.place_of (arc_value w.placing)) in
+    let setup = placed_by w.admission.config w.admission.shards (g.P.Placing.place_of (arc_value w.placing)) in
     let here : t.shard < w.shards.len = c.in_ok-get_mut.ensures.variant.0 (refl {a = true}) in
     let there : slice_get w.shards.items t.shard ≡ Some old = slice_get_read w.shards.items w.shards.len t.shard old (omega (arith, w.shards.ok.0)) here c.in_ok-get_mut.ensures.value in
     let mine : nat_eq t.shard old.index ≡ true = own place_of setup w.admission.list w.taken w.admission.first w.shards.items t old new there w.holding in
@@ -76,6 +78,8 @@ invariant_of-self-2 g c =
     let room : 0 < w.admission.config.limits.batch = omega (arith, w.admission.config.limits.some_batch) in
     record {
       bounded = w.bounded;
+      some_shard = w.some_shard;
+      shards_in_range = w.shards_in_range;
       counted = length-set w.shards.items t.shard new ∙ w.counted;
       holding = subst (λ (taken : List ℕ). EachHolds place_of setup w.admission.list taken w.admission.first (slice_set w.shards.items t.shard new)) (sym c.push.ensures)
           (each_taken place_of setup w.admission.list w.taken w.admission.first w.shards.items t old new a room there w.holding some took c.take.ensures.sound);
@@ -89,7 +93,7 @@ returns g c =
     let old = c.in_ok-get_mut.field-0.now in
     let new = c.take.new.self in
     let place_of = g.P.Placing.place_of in
-    let setup = placed_by w.admission.config (g.P.Placing.place_of (arc_value w.placing)) in
+    let setup = placed_by w.admission.config w.admission.shards (g.P.Placing.place_of (arc_value w.placing)) in
     let here : t.shard < w.shards.len = c.in_ok-get_mut.ensures.variant.0 (refl {a = true}) in
     let there : slice_get w.shards.items t.shard ≡ Some old = slice_get_read w.shards.items w.shards.len t.shard old (omega (arith, w.shards.ok.0)) here c.in_ok-get_mut.ensures.value in
     let mine : nat_eq t.shard old.index ≡ true = own place_of setup w.admission.list w.taken w.admission.first w.shards.items t old new there w.holding in

@@ -4,11 +4,11 @@ use Rattle.std.specs.Arc.{arc_value}
 use Rattle.std.proofs.lemmas.List.{length-set}
 use Rattle.std.proofs.lemmas.Option.{slice_get_read}
 use Rattle.bx_entry.specs.declared.entry.Ticket.{Ticket}
-use Rattle.bx_shard.specs.Connects.{filed_answer}
+use Rattle.bx_connects.specs.Connects.{filed_answer}
 use Rattle.bx_shard.specs.Held.{Took}
 use Rattle.bx_shard.specs.Seen.{state}
 use Rattle.bx_shard.specs.States.{connect_in}
-use Rattle.bx_shard.specs.declared.filing.Filing.{Filing}
+use Rattle.bx_connects.specs.declared.filing.Filing.{Filing}
 use Rattle.bx_shard.specs.declared.shard.Shard.{Shard}
 use Rattle.bx_world.specs.Admissions.{placed_by}
 use Rattle.bx_world.specs.Held.{EachHolds}
@@ -24,13 +24,15 @@ invariant_of-self-in-Break-branch-2 g c =
     let old = c.in_ok-get_mut.field-0.now in
     let new = c.take_any.new.self in
     let place_of = g.P.Placing.place_of in
-    let setup = placed_by w.admission.config (g.P.Placing.place_of (arc_value w.placing)) in
+    let setup = placed_by w.admission.config w.admission.shards (g.P.Placing.place_of (arc_value w.placing)) in
     let here : i < w.shards.len = c.in_ok-get_mut.ensures.variant.0 (refl {a = true}) in
     let there : slice_get w.shards.items i ≡ Some old = slice_get_read w.shards.items w.shards.len i old (omega (arith, w.shards.ok.0)) here c.in_ok-get_mut.ensures.value in
     let same : new ≡ old = c.in_err-filing.ensures.same in
     let t : Ticket = record { place = 0; shard = i } in
     record {
       bounded = w.bounded;
+      some_shard = w.some_shard;
+      shards_in_range = w.shards_in_range;
       counted = length-set w.shards.items i new ∙ w.counted;
       holding = each_same place_of setup w.admission.list w.taken w.admission.first w.shards.items i old new there w.holding same;
       slowest = same_slowest w.shards.items (slice_set w.shards.items i new) w.admission.first
@@ -44,7 +46,7 @@ returns-in_err-filing-clause-none g c =
     let old = c.in_ok-get_mut.field-0.now in
     let new = c.take_any.new.self in
     let place_of = g.P.Placing.place_of in
-    let setup = placed_by w.admission.config (g.P.Placing.place_of (arc_value w.placing)) in
+    let setup = placed_by w.admission.config w.admission.shards (g.P.Placing.place_of (arc_value w.placing)) in
     let here : i < w.shards.len = c.in_ok-get_mut.ensures.variant.0 (refl {a = true}) in
     let there : slice_get w.shards.items i ≡ Some old = slice_get_read w.shards.items w.shards.len i old (omega (arith, w.shards.ok.0)) here c.in_ok-get_mut.ensures.value in
     let same : new ≡ old = c.in_err-filing.ensures.same in
@@ -67,14 +69,16 @@ invariant_of-self-2 g c =
     let old = c.in_ok-get_mut.field-0.now in
     let new = c.take_any.new.self in
     let place_of = g.P.Placing.place_of in
-    let setup = placed_by w.admission.config (g.P.Placing.place_of (arc_value w.placing)) in
+    let setup = placed_by w.admission.config w.admission.shards (g.P.Placing.place_of (arc_value w.placing)) in
     let here : t.shard < w.shards.len = c.in_ok-get_mut.ensures.variant.0 (refl {a = true}) in
     let there : slice_get w.shards.items t.shard ≡ Some old = slice_get_read w.shards.items w.shards.len t.shard old (omega (arith, w.shards.ok.0)) here c.in_ok-get_mut.ensures.value in
     let took : Took t.place (state place_of old) (state place_of new) = c.in_ok-filing.ensures.taken in
-    let some : Some filing.answer ≡ filed_answer (connect_in (state place_of old) t.place) = sym (ap filed_answer c.in_ok-filing.ensures.filed) in
+    let some : Some filing.answer ≡ filed_answer (connect_in (state place_of old) t.place) = sym (ap filed_answer c.in_ok-filing.ensures.filed.1) in
     let room : 0 < w.admission.config.limits.batch = omega (arith, w.admission.config.limits.some_batch) in
     record {
       bounded = w.bounded;
+      some_shard = w.some_shard;
+      shards_in_range = w.shards_in_range;
       counted = length-set w.shards.items t.shard new ∙ w.counted;
       holding = subst (λ (taken : List ℕ). EachHolds place_of setup w.admission.list taken w.admission.first (slice_set w.shards.items t.shard new)) (sym c.push.ensures)
           (each_taken place_of setup w.admission.list w.taken w.admission.first w.shards.items t old new filing.answer room there w.holding some took c.take_any.ensures.sound);
@@ -89,11 +93,11 @@ returns-clause-some g c =
     let old = c.in_ok-get_mut.field-0.now in
     let new = c.take_any.new.self in
     let place_of = g.P.Placing.place_of in
-    let setup = placed_by w.admission.config (g.P.Placing.place_of (arc_value w.placing)) in
+    let setup = placed_by w.admission.config w.admission.shards (g.P.Placing.place_of (arc_value w.placing)) in
     let here : t.shard < w.shards.len = c.in_ok-get_mut.ensures.variant.0 (refl {a = true}) in
     let there : slice_get w.shards.items t.shard ≡ Some old = slice_get_read w.shards.items w.shards.len t.shard old (omega (arith, w.shards.ok.0)) here c.in_ok-get_mut.ensures.value in
     let took : Took t.place (state place_of old) (state place_of new) = c.in_ok-filing.ensures.taken in
-    let some : Some filing.answer ≡ filed_answer (connect_in (state place_of old) t.place) = sym (ap filed_answer c.in_ok-filing.ensures.filed) in
+    let some : Some filing.answer ≡ filed_answer (connect_in (state place_of old) t.place) = sym (ap filed_answer c.in_ok-filing.ensures.filed.1) in
     let places = same_places place_of setup w.admission.list w.taken w.admission.first w.shards.items t old new there took.place_is in
     record {
       output = taking_gives place_of setup w.admission.list w.taken w.admission.first w.shards.items t old new (Some filing.answer) there w.holding some;

@@ -1,0 +1,128 @@
+//! Rounds of workers, from JSON to outs. Each answers a number that rests on all of its work.
+use anyhow::{Result, anyhow};
+use bx_advice::Config;
+use bx_cut::Bodies;
+use bx_entry::{Arrival, ByRemainder, Input};
+use bx_fanout::{Out, Round};
+use bx_workers::OpenGate;
+use std::alloc::Global;
+use std::sync::Arc;
+use std::thread::Threads;
+
+const SHARDS: usize = 8;
+
+const SESSIONS: u64 = 10_000;
+
+// Each session subscribes to one room by two patterns, so that a publish reaches a thousand sessions.
+const ROOMS: u64 = 10;
+
+const TURNS: u64 = 10;
+
+// How often a room is published to in a turn.
+const PUBLISHES: u64 = 50;
+
+fn request(body: String) -> Input {
+    Input::Post(Arrival {
+        moment: 0,
+        nonce: 0,
+        bodies: Bodies::Whole(body.into_bytes()),
+    })
+}
+
+// A handshake of the session of this number, and its subscription.
+fn open(alloc: Global, number: u64) -> Result<String> {
+    let hello =
+        "{\"channel\":\"/meta/handshake\",\"version\":\"1.0\",\"supportedConnectionTypes\":[\"long-polling\"]}";
+    let room = number % ROOMS;
+    Ok(format!(in alloc;
+        "[{hello},{{\"channel\":\"/meta/subscribe\",\"clientId\":\"{number:048x}\",\"subscription\":[\"/room/{room}/*\",\"/room/{room}/**\"]}}]"
+    )?)
+}
+
+fn publish(alloc: Global, room: u64) -> Result<String> {
+    let sender = 1u64;
+    Ok(format!(in alloc;
+        "[{{\"channel\":\"/room/{room}/news\",\"clientId\":\"{sender:048x}\",\"data\":{{\"symbol\":\"GOOG\",\"price\":1234.5}}}}]"
+    )?)
+}
+
+// A connect of a session, which is answered at once.
+fn connect(alloc: Global, number: u64) -> Result<String> {
+    Ok(format!(in alloc;
+        "[{{\"channel\":\"/meta/connect\",\"clientId\":\"{number:048x}\",\"connectionType\":\"long-polling\",\"advice\":{{\"timeout\":0}}}}]"
+    )?)
+}
+
+// The requests that open the sessions.
+fn openings(alloc: Global) -> Result<Vec<Input>> {
+    let mut inputs = Vec::new(alloc);
+    for number in 1..=SESSIONS {
+        inputs.push(request(open(alloc, number)?))?;
+    }
+    Ok(inputs)
+}
+
+// Publishes to all rooms in turn.
+fn publishes(alloc: Global) -> Result<Vec<Input>> {
+    let mut inputs = Vec::new(alloc);
+    for _ in 0..PUBLISHES {
+        for room in 0..ROOMS {
+            inputs.push(request(publish(alloc, room)?))?;
+        }
+    }
+    Ok(inputs)
+}
+
+// A connect of each session.
+fn connects(alloc: Global) -> Result<Vec<Input>> {
+    let mut inputs = Vec::new(alloc);
+    for number in 1..=SESSIONS {
+        inputs.push(request(connect(alloc, number)?))?;
+    }
+    Ok(inputs)
+}
+
+// Deals with these inputs, and says how many items their outs have.
+fn serve<R: Threads + Sync>(
+    rt: &R,
+    alloc: Global,
+    round: &mut Round<ByRemainder>,
+    inputs: &[Input],
+) -> Result<u64> {
+    let mut outs = Vec::new(alloc);
+    let ran = round.run(rt, alloc, &OpenGate, inputs, &mut outs);
+    ran.map_err(|_| anyhow!("no memory"))?;
+    let mut items = 0u64;
+    for out in &outs {
+        if let Ok(response) = &out.result {
+            items = items.wrapping_add(response.len() as u64);
+        }
+    }
+    Ok(items)
+}
+
+fn new_round(alloc: Global, workers: usize) -> Result<Round<ByRemainder>> {
+    let config = Config::new(SHARDS, 30_000, 0, 10_000).ok_or(anyhow!("no configuration"))?;
+    let placing = Arc::new(alloc, ByRemainder)?;
+    Round::new(alloc, config, placing, workers)?.ok_or(anyhow!("no such number of workers"))
+}
+
+/// 10,000 sessions are opened, each subscribed to one of ten rooms by two patterns.
+pub fn opened<R: Threads + Sync>(rt: &R, alloc: Global, workers: usize) -> Result<u64> {
+    let mut round = new_round(alloc, workers)?;
+    serve(rt, alloc, &mut round, openings(alloc)?.as_slice())
+}
+
+/// The same, and then 5,000 publishes that reach a thousand sessions each, a request each, in ten turns, after each of
+/// which every session connects and is given what waits.
+pub fn run<R: Threads + Sync>(rt: &R, alloc: Global, workers: usize) -> Result<u64> {
+    let mut round = new_round(alloc, workers)?;
+    let mut items = serve(rt, alloc, &mut round, openings(alloc)?.as_slice())?;
+    let publishes = publishes(alloc)?;
+    let connects = connects(alloc)?;
+    for _ in 0..TURNS {
+        items = items.wrapping_add(serve(rt, alloc, &mut round, publishes.as_slice())?);
+        items = items.wrapping_add(serve(rt, alloc, &mut round, connects.as_slice())?);
+    }
+    Ok(items)
+}

@@ -1,0 +1,3 @@
+pub mod ConnectLemmas
+pub mod DeadlineLemmas
+pub mod HoldLemmas

@@ -1,0 +1,16 @@
+use Rattle.std.proofs.Common.{rules, ap, sym, ◌∙◌, option_map}
+use Rattle.bx_connects.specs.Connects.{hold_at, unwatched_hold}
+use Rattle.bx_connects.specs.Deadlines.{is_held_until}
+use Rattle.bx_connects.proofs.ConnectLemmas.{lookup-turned}
+use Rattle.bx_connects.proofs.HoldLemmas.{unwatched_still}
+use Rattle.bx_connects.proofs.held.HeldConnects.unwatch_all.Goals as goal
+
+pub invariant_of-self : goal.invariant_of-self
+invariant_of-self c = λ p s d.
+    c.self.invariant p s d ∙ sym (unwatched_still (hold_at c.self.inside.by_place.entries p) s d)
+    ∙ sym (ap (λ o. is_held_until o s d) (lookup-turned _ unwatched_hold _ (λ k v b w g call. search rules) _ _ c.retain.ensures.filtered p))
+
+pub returns-clause-unwatched : goal.returns-clause-unwatched
+returns-clause-unwatched c = λ p.
+    lookup-turned _ unwatched_hold _ (λ k v b w g call. search rules) _ _ c.retain.ensures.filtered p
+    ∙ ap (λ es. option_map unwatched_hold (hold_at es p)) c.self.view_is

@@ -1,0 +1,34 @@
+-- The holds of a shard by their deadlines.
+use Rattle.std.specs.Prelude.{ℕ, ◌≡◌, nat_eq, ◌&&◌, Bool, false, List, Option, Some, None}
+use Rattle.std.specs.Ordering.{nat_cmp, ordering_then}
+use Rattle.std.specs.declared.cmp.Ordering.{Ordering}
+use Rattle.std.specs.BTreeSet.{contains}
+use Rattle.bx_connects.specs.declared.deadlines.Deadlines.{Deadlines}
+use Rattle.bx_connects.specs.declared.held.HeldConnect.{HeldConnect}
+use Rattle.bx_connects.specs.Connects.{hold_at}
+
+-- A hold: the moment at which it ends, the place of its connect, and the number of its session. An earlier deadline comes first.
+abbrev pub hold_cmp : ℕ × ℕ × ℕ → ℕ × ℕ × ℕ → Ordering
+hold_cmp x y = ordering_then (ordering_then (nat_cmp x.0 y.0) (nat_cmp x.1 y.1)) (nat_cmp x.2 y.2)
+
+-- whether two holds are one
+abbrev pub same_hold : ℕ × ℕ × ℕ → ℕ × ℕ × ℕ → Bool
+same_hold x y = nat_eq x.0 y.0 && nat_eq x.1 y.1 && nat_eq x.2 y.2
+
+-- whether a hold is noted
+abbrev pub is_noted : Deadlines → ℕ × ℕ × ℕ → Bool
+is_noted deadlines hold = contains hold_cmp deadlines.holds hold
+
+-- whether a deadline is this moment, if there is one
+abbrev pub ends_at : Option ℕ → ℕ → Bool
+ends_at None moment = false
+ends_at (Some deadline) moment = nat_eq deadline moment
+
+-- whether a connect is held by this session until this moment
+abbrev pub is_held_until : Option HeldConnect → ℕ → ℕ → Bool
+is_held_until None session deadline = false
+is_held_until (Some h) session deadline = ends_at h.deadline deadline && nat_eq h.session session
+
+-- the holds that have a deadline are noted, and no others
+abbrev pub AreNoted : List (ℕ × HeldConnect) → Deadlines → Type 0
+AreNoted held deadlines = (place session deadline : ℕ) → is_noted deadlines (deadline, place, session) ≡ is_held_until (hold_at held place) session deadline

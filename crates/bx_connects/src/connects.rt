@@ -1,0 +1,275 @@
+//! The connects of a shard, from their place in the list until their answers are taken.
+ghost use Rattle.std.specs.Prelude.{◌≡◌, ◌<◌, ℕ, nat_eq, nat_lt, not, Some, None, if◌then◌else◌, OnOk, OnErr, IfSome, IfNone, Option, option_map, option_to_list, is_some, [], ◌++◌};
+ghost use Rattle.std.specs.Map.{keys_of};
+ghost use Rattle.std.specs.Option.{option_or};
+ghost use Rattle.futures.specs.declared.task.waker.Waker.{Waker};
+ghost use Rattle.bx_connects.specs.declared.connects.ConnectState.TheVariants.{Filed, Held};
+ghost use Rattle.bx_connects.specs.Connects.{AreApart, IsDue, IsHeldUntil, connect_at, count_filed_below, count_held, filed_answer, filed_as, filing, filing_at, held_by, known_as, swept, taken_from, unswept, unwatched, watched, with_waker};
+
+use crate::filing::Filing;
+use crate::held::HeldConnects;
+use crate::watch::Watch;
+use bx_message::Answer;
+use bx_session::Answered;
+use futures::task::Waker;
+use indexmap::IndexMap;
+use std::alloc::{AllocError, Global};
+use std::marker::Model;
+
+/// What became of a connect, as contracts see it. A waker stands beside a held connect alone, so that no filed answer has
+/// one left.
+#[derive(Drop)]
+pub enum ConnectState {
+    /// It is held by the session with this number, until a tick at or past the deadline, if a tick can be that late.
+    /// A waker is woken where it is dropped.
+    Held {
+        session: u64,
+        deadline: Option<u64>,
+        waker: Option<Waker>,
+    },
+    /// The answer to it, which the session with this number gave, was filed by the entry at this place.
+    Filed {
+        session: u64,
+        place: u64,
+        answer: Answer,
+    },
+}
+
+/// An answer, with the session of its connect and the place of the entry that gave it.
+#[derive(Drop)]
+pub struct FiledAnswer {
+    /// The number of the session that gave it.
+    pub session: u64,
+    /// The place of the entry that gave it.
+    pub place: u64,
+    /// The answer.
+    pub answer: Answer,
+}
+
+/// What became of each connect, by its place in the list: those that are held, and the answers that are filed. The room
+/// for a connect's answer and for a waker is there from the first on, so that filing takes no memory.
+#[derive(Drop)]
+pub struct Connects {
+    held: HeldConnects,
+    filed: IndexMap<u64, FiledAnswer>,
+}
+
+impl Model for Connects {
+    ghost use Rattle.std.specs.Prelude.{◌≤◌, length};
+    ghost use Rattle.indexmap.specs.IndexMap.{spare};
+    ghost use Rattle.bx_connects.specs.Connects.{AreApart, KnownConnects};
+
+    ghost Value = { KnownConnects };
+
+    ghost view = { λ c. record { held = c.held; filed = c.filed.entries } };
+
+    ghost invariant = { λ c. AreApart c.held c.filed.entries × (length c.held ≤ spare c.filed) };
+}
+
+impl Connects {
+    /// No connect is known.
+    pub fn new(alloc: Global) -> Connects
+        ensures { (p : ℕ) → connect_at result p ≡ None }
+    {
+        Connects {
+            held: HeldConnects::new(alloc),
+            filed: IndexMap::new(alloc),
+        }
+    }
+
+    /// A session holds the connect at this place, of which nothing was known, until this moment.
+    pub fn hold(
+        &mut self,
+        place: u64,
+        session: u64,
+        deadline: Option<u64>,
+    ) -> Result<(), AllocError>
+        requires { connect_at self.old place ≡ None }
+        ensures ok { OnOk result ((p : ℕ) → connect_at self.new p
+            ≡ (if nat_eq place p then held_by session deadline else connect_at self.old p)) }
+        ensures err { OnErr result ((p : ℕ) → connect_at self.new p ≡ connect_at self.old p) }
+    {
+        self.filed.reserve(self.held.len() + 1)?;
+        self.held.hold(place, session, deadline)
+    }
+
+    /// Nothing is known of the connect at this place any longer.
+    pub fn forget(&mut self, place: u64)
+        ensures { (p : ℕ) → connect_at self.new p ≡ (if nat_eq place p then None else connect_at self.old p) }
+    {
+        if self.held.release(place).is_none() {
+            drop(self.filed.swap_remove(&place));
+        }
+    }
+
+    /// Files the answer to a held connect, which the entry at this place gives. A waker beside it is woken.
+    pub fn file(&mut self, place: u64, answered: Answered)
+        ensures filed { (p : ℕ) → connect_at self.new p
+            ≡ (if nat_eq answered.place p then filed_as place answered.answer (connect_at self.old answered.place)
+            else connect_at self.old p) }
+        ensures fewer { (session : ℕ) → (deadline : Option ℕ) → (waker : Option Waker)
+            → connect_at self.old answered.place ≡ Some (Held session deadline waker) → count_held self.new < count_held self.old }
+    {
+        let Answered {
+            place: connect,
+            answer,
+        } = answered;
+        match self.held.release(connect) {
+            Some(held) => {
+                let session = held.session;
+                let filed = FiledAnswer {
+                    session,
+                    place,
+                    answer,
+                };
+                self.filed.insert(connect, filed).unwrap();
+            }
+            None => {
+                if let Some(earlier) = self.filed.get_mut(&connect) {
+                    earlier.place = place;
+                    earlier.answer = answer;
+                }
+            }
+        }
+    }
+
+    /// Files an answer, where there is one.
+    pub fn file_if(&mut self, place: u64, answered: Option<Answered>)
+        ensures { (p : ℕ) → connect_at self.new p ≡ filing place answered (connect_at self.old) p }
+    {
+        if let Some(answered) = answered {
+            self.file(place, answered);
+        }
+    }
+
+    /// The session of a held connect whose deadline is this moment or before it.
+    pub fn first_due(&self, moment: u64) -> Option<u64>
+        ensures due { IfSome result (λ session. IsDue self.now session moment) }
+        ensures none { IfNone result ((place session deadline : ℕ)
+            → IsHeldUntil self.now place session (Some deadline) → moment < deadline) }
+    {
+        let (_, _, session) = self.held.first_due(moment)?;
+        Some(session)
+    }
+
+    /// Gives the answer to the connect at this place, and takes it.
+    pub fn take(&mut self, place: u64) -> Option<Answer>
+        ensures answer { result ≡ filed_answer (connect_at self.old place) }
+        ensures taken { (p : ℕ) → connect_at self.new p
+            ≡ (if nat_eq place p then taken_from (connect_at self.old place) else connect_at self.old p) }
+    {
+        let FiledAnswer { answer, .. } = self.filed.swap_remove(&place)?;
+        Some(answer)
+    }
+
+    /// Gives some answer that is filed, and takes it.
+    pub fn take_any(&mut self) -> Option<Filing>
+        ensures filed { IfSome result (λ f. (session : ℕ) × (connect_at self.old f.connect ≡ Some (Filed session f.place f.answer))) }
+        ensures taken { IfSome result (λ f. (p : ℕ) → connect_at self.new p
+            ≡ (if nat_eq f.connect p then taken_from (connect_at self.old f.connect) else connect_at self.old p)) }
+        ensures none { IfNone result ((p : ℕ) → filed_answer (connect_at self.old p) ≡ None) }
+        ensures same { IfNone result (self.new ≡ self.old) }
+    {
+        let (connect, FiledAnswer { place, answer, .. }) = self.filed.pop()?;
+        Some(Filing {
+            connect,
+            place,
+            answer,
+        })
+    }
+
+    /// Stores a waker beside the connect at this place, where it is held and the shard is not shut.
+    pub fn watch(&mut self, place: u64, waker: Waker, is_shut: bool) -> Watch
+        ensures watch { result ≡ watched is_shut waker (connect_at self.old place) }
+        ensures stored { (p : ℕ) → connect_at self.new p
+            ≡ (if nat_eq place p then with_waker is_shut waker (connect_at self.old place) else connect_at self.old p) }
+    {
+        if self.filed.contains_key(&place) {
+            return Watch::Ready(waker);
+        }
+        self.held.watch(place, waker, is_shut)
+    }
+
+    /// Drops the answers that were filed below this place, and says how many they were. It costs the answers that are
+    /// filed, not the connects that are held.
+    pub fn sweep(&mut self, before: u64) -> usize
+        ensures swept { self.new ≡ swept before self.old }
+        ensures kept { (p : ℕ) → connect_at self.new p ≡ unswept before (connect_at self.old p) }
+        ensures count { result ≡ count_filed_below before self.old }
+    {
+        let len = self.filed.len();
+        self.filed.retain(
+            |_place: &u64, filed: &mut FiledAnswer| -> bool
+                ensures { (result ≡ not (nat_lt filed.old.place before)) × (filed.new ≡ filed.old) }
+            { filed.place >= before },
+        );
+        len - self.filed.len()
+    }
+
+    /// Drops all wakers, which wakes them. It costs the connects that are held, not the answers that are filed.
+    pub fn unwatch_all(&mut self)
+        ensures { (p : ℕ) → connect_at self.new p ≡ option_map unwatched (connect_at self.old p) }
+    {
+        self.held.unwatch_all();
+    }
+
+    /// The places of the connects that are held.
+    pub fn held_places(&self) -> &[u64]
+        ensures { result.now ≡ keys_of self.now.held }
+    {
+        self.held.places()
+    }
+
+    /// The places of the connects whose answers are filed.
+    pub fn filed_places(&self) -> &[u64]
+        ensures places { result.now ≡ keys_of self.now.filed }
+        ensures apart { AreApart self.now.held self.now.filed }
+    {
+        self.filed.keys().as_slice()
+    }
+
+    /// The session of the connect at this place, and until when it is held, where it is known.
+    pub fn known(&self, place: u64) -> Option<(u64, Option<u64>)>
+        ensures { result ≡ known_as (connect_at self.now place) }
+    {
+        if let Some(held) = self.held.known(place) {
+            return Some(held);
+        }
+        let filed = self.filed.get(&place)?;
+        Some((filed.session, None))
+    }
+
+    /// Takes an answer that is filed, the last of them, with the place of its connect.
+    pub fn pop_filed(&mut self) -> Option<(u64, FiledAnswer)>
+        ensures filed { self.old.filed ≡ self.new.filed ++ option_to_list result }
+        ensures held { self.new.held ≡ self.old.held }
+        ensures none { IfNone result (self.old.filed ≡ []) }
+        ensures once { IfSome result (λ f. filing_at self.new.filed f.0 ≡ None) }
+    {
+        self.filed.pop()
+    }
+
+    /// Makes room for a connect of which nothing is known, as if the session held it until then.
+    pub fn lend(
+        &mut self,
+        place: u64,
+        session: u64,
+        deadline: Option<u64>,
+    ) -> Result<(), AllocError>
+        ensures ok { OnOk result ((p : ℕ) → connect_at self.new p
+            ≡ (if nat_eq place p then option_or (connect_at self.old p) (held_by session deadline) else connect_at self.old p)) }
+        ensures err { OnErr result ((p : ℕ) → connect_at self.new p ≡ connect_at self.old p) }
+    {
+        if self.is_known(place) {
+            return Ok(());
+        }
+        self.hold(place, session, deadline)
+    }
+
+    // Whether the connect at this place is known.
+    fn is_known(&self, place: u64) -> bool
+        ensures { result ≡ is_some (connect_at self.now place) }
+    {
+        self.held.has(place) || self.filed.contains_key(&place)
+    }
+}

@@ -1,0 +1,55 @@
+//! When the holds of a shard end.
+ghost use Rattle.std.specs.Prelude.{◌≡◌, ◌≤◌, ◌<◌, ℕ, true, false, None, if◌then◌else◌, OnOk, OnErr, IfSome, IfNone};
+ghost use Rattle.bx_connects.specs.Deadlines.{is_noted, same_hold};
+
+use std::alloc::{AllocError, Global};
+use std::collections::BTreeSet;
+
+/// A hold: the moment at which it ends, in milliseconds, the place of its connect, and the number of its session.
+pub(crate) type Hold = (u64, u64, u64);
+
+/// The holds of a shard, those that end first before the others, so that a tick looks at those that end and one more.
+#[derive(Drop)]
+pub(crate) struct Deadlines {
+    holds: BTreeSet<Hold>,
+}
+
+impl Deadlines {
+    /// No hold.
+    pub(crate) fn new(alloc: Global) -> Deadlines
+        ensures { (q : ℕ × ℕ × ℕ) → is_noted result q ≡ false }
+    {
+        Deadlines {
+            holds: BTreeSet::new(alloc),
+        }
+    }
+
+    /// Notes a hold.
+    pub(crate) fn note(&mut self, hold: Hold) -> Result<(), AllocError>
+        ensures ok { OnOk result ((q : ℕ × ℕ × ℕ) → is_noted self.new q
+            ≡ (if same_hold hold q then true else is_noted self.old q)) }
+        ensures err { OnErr result ((q : ℕ × ℕ × ℕ) → is_noted self.new q ≡ is_noted self.old q) }
+    {
+        self.holds.insert(hold)?;
+        Ok(())
+    }
+
+    /// Notes a hold no longer.
+    pub(crate) fn forget(&mut self, hold: Hold)
+        ensures { (q : ℕ × ℕ × ℕ) → is_noted self.new q
+            ≡ (if same_hold hold q then false else is_noted self.old q) }
+    {
+        self.holds.remove(&hold);
+    }
+
+    /// A hold that ends at this moment or before it, if there is one.
+    pub(crate) fn first_due(&self, moment: u64) -> Option<Hold>
+        ensures due { IfSome result (λ hold. hold.0 ≤ moment) }
+        ensures noted { IfSome result (λ hold. is_noted self.now hold ≡ true) }
+        ensures none { IfNone result ((q : ℕ × ℕ × ℕ) → q.0 ≤ moment → is_noted self.now q ≡ false) }
+    {
+        let hold = *self.holds.first()?;
+        let (deadline, _, _) = hold;
+        if deadline <= moment { Some(hold) } else { None }
+    }
+}

@@ -1,0 +1,12 @@
+//! Connects that are held, and the answers that are filed for them.
+#![tactic(auto)]
+
+mod connects;
+mod deadlines;
+mod filing;
+mod held;
+mod watch;
+
+pub use connects::{ConnectState, Connects, FiledAnswer};
+pub use filing::Filing;
+pub use watch::Watch;

@@ -1,0 +1,381 @@
+//! Messages as they are read, and replies, events and responses down to their bytes.
+use bx_advice::{Case, Config, Error};
+use bx_cut::Document;
+use bx_message::{
+    AckMember, AckReply, Column, Event, Item, Message, MessageError, RawJson, Reply, Sequence,
+    SharedEvent, Text, TextMember, body_text, event_text, reply_text,
+};
+use std::alloc::{AllocError, Global};
+use std::test::Fail;
+
+fn config() -> Result<Config, Fail> {
+    Ok(Config::new(2, 30_000, 0, 10_000).ok_or("no configuration")?)
+}
+
+fn json(alloc: Global, json: Option<&str>) -> Result<Option<RawJson>, AllocError> {
+    match json {
+        Some(json) => Ok(Some(RawJson::new(alloc, json)?)),
+        None => Ok(None),
+    }
+}
+
+// A message with these members and no others.
+fn message(
+    alloc: Global,
+    channel: &str,
+    id: Option<&str>,
+    subscription: Option<&str>,
+) -> Result<Message, AllocError> {
+    Ok(Message {
+        channel: Text::new(alloc, channel)?,
+        id: json(alloc, id)?,
+        client: TextMember::Absent,
+        version: TextMember::Absent,
+        supported: Sequence::new(alloc),
+        connection: TextMember::Absent,
+        subscription: json(alloc, subscription)?,
+        texts: Sequence::new(alloc),
+        listed: false,
+        payload: None,
+        ack: AckMember::NoAck,
+        timeout: None,
+    })
+}
+
+#[test]
+fn replies_have_their_members(rt: HostRuntime) -> Result<(), Fail> {
+    let alloc = rt.alloc();
+    let no_ack = AckReply::NoAck;
+    let table = [
+        (
+            "/meta/handshake",
+            Some("\"1\""),
+            Case::Opened,
+            no_ack,
+            r#"{"advice":{"interval":0,"reconnect":"retry","timeout":30000},"channel":"/meta/handshake","clientId":"Z1","id":"1","successful":true,"supportedConnectionTypes":["long-polling","callback-polling"],"version":"1.0"}"#,
+        ),
+        (
+            "/meta/handshake",
+            None,
+            Case::Opened,
+            AckReply::AckTrue,
+            r#"{"advice":{"interval":0,"reconnect":"retry","timeout":30000},"channel":"/meta/handshake","clientId":"Z1","ext":{"ack":true},"successful":true,"supportedConnectionTypes":["long-polling","callback-polling"],"version":"1.0"}"#,
+        ),
+        (
+            "/meta/connect",
+            None,
+            Case::Connected,
+            AckReply::AckNumber(18_446_744_073_709_551_615),
+            r#"{"advice":{"interval":0,"reconnect":"retry","timeout":30000},"channel":"/meta/connect","clientId":"Z1","ext":{"ack":18446744073709551615},"successful":true}"#,
+        ),
+        (
+            "/meta/connect",
+            None,
+            Case::Failed(Error::QueueOverflow),
+            no_ack,
+            r#"{"advice":{"interval":0,"reconnect":"handshake"},"channel":"/meta/connect","clientId":"Z1","error":"413::Queue overflow","successful":false}"#,
+        ),
+        (
+            "/meta/unsubscribe",
+            Some("-1.5E+3"),
+            Case::Failed(Error::MissingSubscription),
+            no_ack,
+            r#"{"channel":"/meta/unsubscribe","clientId":"Z1","error":"400::Missing subscription","id":-1.5E+3,"subscription":["/a", 1],"successful":false}"#,
+        ),
+        (
+            "/meta/disconnect",
+            None,
+            Case::Done,
+            no_ack,
+            r#"{"channel":"/meta/disconnect","clientId":"Z1","successful":true}"#,
+        ),
+        (
+            "/a/b",
+            Some("\"q\""),
+            Case::Done,
+            no_ack,
+            r#"{"channel":"/a/b","id":"q","successful":true}"#,
+        ),
+        (
+            "/a\"\\\n\u{1}\u{7f}\u{2028}é",
+            None,
+            Case::Failed(Error::InvalidChannel),
+            no_ack,
+            "{\"channel\":\"/a\\\"\\\\\\n\\u0001\u{7f}\u{2028}é\",\"error\":\"400::Invalid channel\",\"successful\":false}",
+        ),
+    ];
+    let client = Text::new(alloc, "Z1")?;
+    for (channel, id, case, ack, wanted) in table {
+        let message = message(alloc, channel, id, Some("[\"/a\", 1]"))?;
+        let column = Column::of(channel);
+        let reply = Reply::to_message(&config()?, column, &message, Some(&client), case, ack)?;
+        let text = reply_text(alloc, &reply)?;
+        assert_eq!(rt; text.as_slice(), wanted.as_bytes(), "{wanted}");
+    }
+    Ok(())
+}
+
+#[test]
+fn a_refused_handshake_has_no_client(rt: HostRuntime) -> Result<(), Fail> {
+    let alloc = rt.alloc();
+    let message = message(alloc, "/meta/handshake", None, None)?;
+    let case = Case::Failed(Error::UnsupportedVersion);
+    let ack = AckReply::NoAck;
+    let reply = Reply::to_message(&config()?, Column::Handshake, &message, None, case, ack)?;
+    let text = reply_text(alloc, &reply)?;
+    let wanted =
+        r#"{"advice":{"interval":0,"reconnect":"none"},"channel":"/meta/handshake","error":"400::Unsupported version","successful":false,"supportedConnectionTypes":["long-polling","callback-polling"],"version":"1.0"}"#;
+    assert_eq!(rt; text.as_slice(), wanted.as_bytes());
+    Ok(())
+}
+
+#[test]
+fn events_are_their_publishes(rt: HostRuntime) -> Result<(), Fail> {
+    let alloc = rt.alloc();
+    let table = [
+        ("/a/b", "7", None, r#"{"channel":"/a/b","data":7}"#),
+        (
+            "/a/b",
+            r#"{"a" : 1.50}"#,
+            Some("\"q\""),
+            r#"{"channel":"/a/b","data":{"a" : 1.50},"id":"q"}"#,
+        ),
+        (
+            "/é",
+            "\"\\u0041\"",
+            Some("0"),
+            r#"{"channel":"/é","data":"\u0041","id":0}"#,
+        ),
+    ];
+    for (channel, payload, id, wanted) in table {
+        let event = Event {
+            channel: Text::new(alloc, channel)?,
+            payload: RawJson::new(alloc, payload)?,
+            id: json(alloc, id)?,
+        };
+        let text = event_text(alloc, &event)?;
+        assert_eq!(rt; text.as_slice(), wanted.as_bytes(), "{wanted}");
+    }
+    Ok(())
+}
+
+#[test]
+fn a_body_is_the_array_of_its_items(rt: HostRuntime) -> Result<(), Fail> {
+    let alloc = rt.alloc();
+    let mut items = Vec::new(alloc);
+    let empty = body_text(alloc, items.as_slice())?;
+    assert_eq!(rt; empty.as_slice(), b"[]".as_slice());
+
+    let event = SharedEvent::new(
+        alloc,
+        Event {
+            channel: Text::new(alloc, "/a/b")?,
+            payload: RawJson::new(alloc, "7")?,
+            id: None,
+        },
+    )?;
+    items.push(Item::EventItem(event.clone()?))?;
+    items.push(Item::EventItem(event))?;
+    let client = Text::new(alloc, "Z1")?;
+    let id = RawJson::new(alloc, "12")?;
+    let ack = AckReply::AckNumber(1);
+    items.push(Item::ReplyItem(Reply::to_connect(
+        alloc,
+        &config()?,
+        &client,
+        Some(&id),
+        Case::Connected,
+        ack,
+    )?))?;
+    let text = body_text(alloc, items.as_slice())?;
+    let wanted =
+        r#"[{"channel":"/a/b","data":7},{"channel":"/a/b","data":7},{"advice":{"interval":0,"reconnect":"retry","timeout":30000},"channel":"/meta/connect","clientId":"Z1","ext":{"ack":1},"id":12,"successful":true}]"#;
+    assert_eq!(rt; text.as_slice(), wanted.as_bytes());
+    Ok(())
+}
+
+#[test]
+fn columns_go_by_the_whole_channel(rt: HostRuntime) {
+    for (channel, column) in [
+        ("/meta/handshake", Column::Handshake),
+        ("/meta/connect", Column::Connect),
+        ("/meta/connect/", Column::UnknownMeta),
+        ("/meta/", Column::UnknownMeta),
+        ("/meta", Column::Publish),
+        ("/META/connect", Column::Publish),
+        ("", Column::Publish),
+    ] {
+        assert_eq!(rt; Column::of(channel), column, "{channel}");
+    }
+}
+
+fn add(out: &mut String, name: &str, value: &str) -> Result<(), AllocError> {
+    out.push(' ')?;
+    out.push_str(name)?;
+    out.push('=')?;
+    out.push_str(value)
+}
+
+fn add_text(out: &mut String, name: &str, member: &TextMember) -> Result<(), AllocError> {
+    match member {
+        TextMember::Absent => Ok(()),
+        TextMember::NotText => add(out, name, "?"),
+        TextMember::Text(text) => add(out, name, text.as_str()),
+    }
+}
+
+fn add_json(out: &mut String, name: &str, json: &Option<RawJson>) -> Result<(), AllocError> {
+    match json {
+        Some(json) => add(out, name, json.as_str()),
+        None => Ok(()),
+    }
+}
+
+fn add_texts(out: &mut String, name: &str, texts: &Sequence<Text>) -> Result<(), AllocError> {
+    for text in texts.as_slice() {
+        add(out, name, text.as_str())?;
+    }
+    Ok(())
+}
+
+// The fields that a message has, in the order of the record.
+fn shown(alloc: Global, m: &Message) -> Result<String, AllocError> {
+    let mut out = String::from_str(alloc, m.channel.as_str())?;
+    add_json(&mut out, "id", &m.id)?;
+    add_text(&mut out, "client", &m.client)?;
+    add_text(&mut out, "version", &m.version)?;
+    add_texts(&mut out, "type", &m.supported)?;
+    add_text(&mut out, "connection", &m.connection)?;
+    add_json(&mut out, "subscription", &m.subscription)?;
+    add_texts(&mut out, "text", &m.texts)?;
+    if m.listed {
+        out.push_str(" listed")?;
+    }
+    add_json(&mut out, "data", &m.payload)?;
+    match m.ack {
+        AckMember::NoAck => {}
+        AckMember::AckTrue => add(&mut out, "ack", "true")?,
+        AckMember::AckNumber(n) => add(&mut out, "ack", format!(in alloc; "{n}")?.as_str())?,
+    }
+    if let Some(n) = m.timeout {
+        add(&mut out, "timeout", format!(in alloc; "{n}")?.as_str())?;
+    }
+    Ok(out)
+}
+
+// The fields of the message with the channel `/a` and these members behind it.
+fn read_with(alloc: Global, members: &str) -> Result<String, Fail> {
+    let body = format!(in alloc; r#"{{"channel":"/a"{members}}}"#)?;
+    let document = Document::read(alloc, body.as_bytes())?;
+    let piece = document.pieces().first().ok_or("no message")?;
+    Ok(shown(alloc, &Message::read(alloc, piece)?)?)
+}
+
+#[test]
+fn members_are_the_fields(rt: HostRuntime) -> Result<(), Fail> {
+    let table = [
+        ("", "/a"),
+        (r#","channel":"/b""#, "/b"),
+        (r#","\u0063hannel":"\/b\u002f\u00e9""#, "/b/é"),
+        (r#","Channel":"/b","other":1"#, "/a"),
+        (r#","id":"x\u0041""#, r#"/a id="x\u0041""#),
+        (r#","id":1.5E+3"#, "/a id=1.5E+3"),
+        (r#","id": -0 "#, "/a id=-0"),
+        (r#","id":1,"id":"""#, r#"/a id="""#),
+        (r#","id":1,"id":null"#, "/a"),
+        (r#","id":true"#, "/a"),
+        (r#","id":{"id":1}"#, "/a"),
+        (r#","id":[1]"#, "/a"),
+        (r#","clientId":"c""#, "/a client=c"),
+        (r#","clientId":"\u0063""#, "/a client=c"),
+        (r#","clientId":"c","clientId":5"#, "/a client=?"),
+        (r#","clientId":null"#, "/a client=?"),
+        (r#","version":"1.0""#, "/a version=1.0"),
+        (r#","version":1"#, "/a version=?"),
+        (
+            r#","supportedConnectionTypes":["long-polling", 1,["x"],"\u0079"]"#,
+            "/a type=long-polling type=y",
+        ),
+        (r#","supportedConnectionTypes":"long-polling""#, "/a"),
+        (r#","supportedConnectionTypes":{"a":"b"}"#, "/a"),
+        (
+            r#","connectionType":"websocket""#,
+            "/a connection=websocket",
+        ),
+        (r#","connectionType":null"#, "/a connection=?"),
+        (
+            r#","subscription":"/\u0061""#,
+            r#"/a subscription="/\u0061" text=/a listed"#,
+        ),
+        (
+            r#","subscription":["/a", "/b"]"#,
+            r#"/a subscription=["/a", "/b"] text=/a text=/b listed"#,
+        ),
+        (r#","subscription":[]"#, "/a subscription=[] listed"),
+        (
+            r#","subscription":["/a",1]"#,
+            r#"/a subscription=["/a",1] text=/a"#,
+        ),
+        (r#","subscription":[["/a"]]"#, r#"/a subscription=[["/a"]]"#),
+        (
+            r#","subscription":{"a":"/a"}"#,
+            r#"/a subscription={"a":"/a"}"#,
+        ),
+        (r#","subscription":null"#, "/a subscription=null"),
+        (r#","subscription":5"#, "/a subscription=5"),
+        (
+            r#","data":1,"data": {"a" : 1.50} "#,
+            r#"/a data={"a" : 1.50}"#,
+        ),
+        (r#","data":null"#, "/a data=null"),
+        (r#","ext":{"ack":true}"#, "/a ack=true"),
+        (r#","ext":{"ack":0}"#, "/a ack=0"),
+        (r#","ext":{"ack": 7 }"#, "/a ack=7"),
+        (
+            r#","ext":{"ack":18446744073709551615}"#,
+            "/a ack=18446744073709551615",
+        ),
+        (r#","ext":{"ack":18446744073709551616}"#, "/a"),
+        (r#","ext":{"ack":-1}"#, "/a"),
+        (r#","ext":{"ack":-0}"#, "/a"),
+        (r#","ext":{"ack":1.0}"#, "/a"),
+        (r#","ext":{"ack":1e0}"#, "/a"),
+        (r#","ext":{"ack":"5"}"#, "/a"),
+        (r#","ext":{"ack":false}"#, "/a"),
+        (r#","ext":{"ack":1,"\u0061ck":true}"#, "/a ack=true"),
+        (r#","ext":{"ack":1},"ext":[{"ack":1}]"#, "/a"),
+        (r#","ext":"ack""#, "/a"),
+        (r#","advice":{"timeout":0}"#, "/a timeout=0"),
+        (r#","advice":{"timeout":"5"}"#, "/a"),
+        (r#","advice":{"timeout":-5}"#, "/a"),
+        (r#","advice":{"interval":5}"#, "/a"),
+        (r#","advice":{"timeout":5},"advice":5"#, "/a"),
+    ];
+    for (members, wanted) in table {
+        let fields = read_with(rt.alloc(), members)?;
+        assert_eq!(rt; fields.as_str(), wanted, "{members}");
+    }
+    Ok(())
+}
+
+#[test]
+fn a_message_has_a_channel(rt: HostRuntime) -> Result<(), Fail> {
+    let alloc = rt.alloc();
+    for body in [
+        "{}",
+        r#"{"channel":1}"#,
+        r#"{"channel":null}"#,
+        r#"{"channel":["/a"]}"#,
+        r#"{"channel":"/a","channel":{}}"#,
+        r#"{"Channel":"/a"}"#,
+        r#"{"data":{"channel":"/a"}}"#,
+    ] {
+        let document = Document::read(alloc, body.as_bytes())?;
+        let piece = document.pieces().first().ok_or("no message")?;
+        match Message::read(alloc, piece) {
+            Ok(_) => assert!(rt; false, "{body}"),
+            Err(error) => assert_eq!(rt; error, MessageError::NoChannel, "{body}"),
+        }
+    }
+    Ok(())
+}

@@ -1,0 +1,284 @@
+-- The entries of a queue, the sessions that they file, and what a tick makes of them.
+use Rattle.std.proofs.Common.{◌≡◌, ◌≢◌, ℕ, ◌+◌, ◌<◌, ◌≤◌, Bool, true, false, List, [], ◌∷◌, ◌++◌, append_assoc, append-nil, length, length-append, get_or, take, drop, map, refl, sym, ap, subst, ◌∙◌, cond, arith}
+use Rattle.std.specs.Prelude.{◌&&◌, ◌||◌, ◌==◌, nat_lt, nat_le, not, Some, None, if◌then◌else◌}
+use Rattle.std.specs.List.{filter, list_any}
+use Rattle.std.specs.List.Sorted.{IsPermutation}
+use Rattle.std.specs.BinaryHeap.{IsUpperBound}
+use Rattle.std.specs.Ordering.{is_lt, nat_cmp, ordering_then}
+use Rattle.std.specs.declared.cmp.Ordering.{Ordering}
+use Rattle.std.specs.declared.cmp.Ordering.TheVariants.{Less, Equal, Greater}
+use Rattle.std.proofs.Math.Bool.{and-false}
+use Rattle.std.proofs.lemmas.Map.Keys.{ge_from_not_lt}
+use Rattle.std.proofs.lemmas.Bool.Decides.{nat_tests}
+use Rattle.std.proofs.lemmas.List.{take_more, take-append-drop}
+use Rattle.std.proofs.lemmas.List.Elements.{All-nil, All-cons, All-head, All-tail, filter-append}
+use Rattle.std.proofs.lemmas.List.Sorted.{length_permutation, IsPermutation-sym, IsPermutation-trans, IsPermutation-middle, IsPermutation-append_right, list_any-IsPermutation}
+use Rattle.bx_entry.specs.Registry.{Registered, extended, closed, swept, is_overdue}
+use Rattle.bx_roster.specs.Live.{Members, live_in, with_live}
+use Rattle.bx_roster.specs.Tables.{IsTable, IsAbsent, AllLive, due_at}
+use Rattle.bx_roster.specs.Queues.{AllFiled, IsFrom, Queue, due_order, entries, files}
+use Rattle.bx_roster.specs.declared.due_queue.Due.{Due}
+use Rattle.bx_roster.proofs.Live.{live_in-swept}
+use Rattle.bx_roster.proofs.Slots.{eq-true, eq-false, eq-from-test, eq-from-false, IsTable-absent, map-absent, live_in-all, changed-due, changed-number, closing-due, closing-number}
+
+-- ---- tests
+
+pub or-true : (b : Bool) → (b || true) ≡ true
+or-true true = refl
+or-true false = refl
+
+and-left : (a b : Bool) → (a && b) ≡ true → a ≡ true
+and-left true b e = refl
+and-left false b e = e
+
+and-right : (a b : Bool) → (a && b) ≡ true → b ≡ true
+and-right true b e = e
+and-right false b e = cc
+
+le-from-test : (a b : ℕ) → nat_le a b ≡ true → a ≤ b
+le-from-test a b e = grind (arith, nat_tests)
+
+pub le-test : (a b : ℕ) → a ≤ b → nat_le a b ≡ true
+le-test a b le = grind (arith, nat_tests)
+
+pub lt-from-test : (a b : ℕ) → nat_lt a b ≡ true → a < b
+lt-from-test a b e = grind (arith, nat_tests)
+
+not-less : (a b : ℕ) → b ≤ a → nat_lt a b ≡ false
+not-less a b le = grind (arith, nat_tests)
+
+-- ---- entries of a session
+
+pub files-number : (r : Registered) (d : Due) → files r d ≡ true → d.number ≡ r.number
+files-number r d e = eq-from-test d.number r.number (and-left (d.number == r.number) (nat_le d.moment.0 r.due) e)
+
+files-due : (r : Registered) (d : Due) → files r d ≡ true → d.moment.0 ≤ r.due
+files-due r d e = le-from-test d.moment.0 r.due (and-right (d.number == r.number) (nat_le d.moment.0 r.due) e)
+
+pub files-from : (r : Registered) (d : Due) → d.number ≡ r.number → d.moment.0 ≤ r.due → files r d ≡ true
+files-from r d same le = ap (λ (b : Bool). b && nat_le d.moment.0 r.due) (eq-true d.number r.number same) ∙ le-test d.moment.0 r.due le
+
+files-other : (r : Registered) (d : Due) → r.number ≢ d.number → files r d ≡ false
+files-other r d ne = ap (λ (b : Bool). b && nat_le d.moment.0 r.due) (eq-false d.number r.number (λ e. ne (sym e)))
+
+files-later : (r s : Registered) (d : Due) → s.number ≡ r.number → r.due ≤ s.due → files r d ≡ true → files s d ≡ true
+files-later r s d same later e = let le : d.moment.0 ≤ r.due = files-due r d e in files-from s d (files-number r d e ∙ sym same) (omega arith)
+
+any-later-by : (r s : Registered) (d : Due) (es : List Due) → s.number ≡ r.number → r.due ≤ s.due → (list_any (files r) es ≡ true → list_any (files s) es ≡ true) →
+    (b : Bool) → files r d ≡ b → (b || list_any (files r) es) ≡ true → list_any (files s) (d ∷ es) ≡ true
+any-later-by r s d es same later ih true e any = ap (λ (b : Bool). b || list_any (files s) es) (files-later r s d same later e)
+any-later-by r s d es same later ih false e any = ap (λ (b : Bool). files s d || b) (ih any) ∙ or-true (files s d)
+
+any-later : (r s : Registered) (es : List Due) → s.number ≡ r.number → r.due ≤ s.due → list_any (files r) es ≡ true → list_any (files s) es ≡ true
+any-later r s [] same later any = any
+any-later r s (d ∷ es) same later any = any-later-by r s d es same later (any-later r s es same later) (files r d) refl any
+
+-- an entry of another session does not count
+any-other : (r : Registered) (d : Due) (es : List Due) → r.number ≢ d.number → list_any (files r) (d ∷ es) ≡ true → list_any (files r) es ≡ true
+any-other r d es ne any = ap (λ (b : Bool). b || list_any (files r) es) (sym (files-other r d ne)) ∙ any
+
+-- ---- sessions that are filed
+
+pub filed-permuted : (es new : List Due) (rs : List Registered) → IsPermutation es new → AllFiled es rs → AllFiled new rs
+filed-permuted es new [] p all = tt
+filed-permuted es new (r ∷ rs) p all = (sym (list_any-IsPermutation (files r) es new p) ∙ all.0, filed-permuted es new rs p all.1)
+
+pub filed-cons : (d : Due) (es : List Due) (rs : List Registered) → AllFiled es rs → AllFiled (d ∷ es) rs
+filed-cons d es [] all = tt
+filed-cons d es (r ∷ rs) all = (ap (λ (b : Bool). files r d || b) all.0 ∙ or-true (files r d), filed-cons d es rs all.1)
+
+pub filed-map : (es : List Due) (g : Registered → Registered) (rs : List Registered) → ((r : Registered) → (g r).number ≡ r.number) → ((r : Registered) → r.due ≤ (g r).due) →
+    AllFiled es rs → AllFiled es (map g rs)
+filed-map es g [] same later all = tt
+filed-map es g (r ∷ rs) same later all = (any-later r (g r) es (same r) (later r) all.0, filed-map es g rs same later all.1)
+
+filed-by : (es : List Due) (r : Registered) (kept : List Registered) → list_any (files r) es ≡ true → AllFiled es kept → (b : Bool) → AllFiled es (cond b (r ∷ kept) kept)
+filed-by es r kept any all true = (any, all)
+filed-by es r kept any all false = all
+
+pub filed-filter : (es : List Due) (p : Registered → Bool) (rs : List Registered) → AllFiled es rs → AllFiled es (filter p rs)
+filed-filter es p [] all = tt
+filed-filter es p (r ∷ rs) all = filed-by es r (filter p rs) all.0 (filed-filter es p rs all.1) (p r)
+
+pub filed-append : (es : List Due) (rs ss : List Registered) → AllFiled es rs → AllFiled es ss → AllFiled es (rs ++ ss)
+filed-append es [] ss a b = b
+filed-append es (r ∷ rs) ss a b = (a.0, filed-append es rs ss a.1 b)
+
+-- a due moment that moves on, and a session that is closed
+pub filed-extended : (es : List Due) (n due : ℕ) (rs : List Registered) → AllFiled es rs → AllFiled es (live_in (extended n due rs))
+filed-extended es n due rs all = filed-filter es (λ r. r.live) (extended n due rs) (filed-map es _ rs (λ r. changed-number due r _) (λ r. changed-due n due r _) all)
+
+pub filed-closed : (es : List Due) (n : ℕ) (rs : List Registered) → AllFiled es rs → AllFiled es (live_in (closed n rs))
+filed-closed es n rs all = filed-filter es (λ r. r.live) (closed n rs) (filed-map es _ rs (λ r. closing-number r _) (λ r. closing-due r _) all)
+
+-- ---- one entry more, and one less
+
+pub entries-filed : (d : Due) (late waiting late' waiting' : List Due) → late' ≡ late → IsPermutation (d ∷ waiting) waiting' → IsPermutation (d ∷ (late ++ waiting)) (late' ++ waiting')
+entries-filed d late waiting late' waiting' e p =
+    rw e (IsPermutation-trans (d ∷ (late ++ waiting)) (late ++ d ∷ waiting) (late ++ waiting')
+    (IsPermutation-sym (late ++ d ∷ waiting) (d ∷ (late ++ waiting)) (IsPermutation-middle late d waiting)) (IsPermutation-append_right late (d ∷ waiting) waiting' p))
+
+pub entries-taken : (d : Due) (late waiting late' waiting' : List Due) → late ≡ late' ++ d ∷ [] → waiting' ≡ waiting → IsPermutation (late ++ waiting) (d ∷ (late' ++ waiting'))
+entries-taken d late waiting late' waiting' e f = rw (e, f) (subst (λ (es : List Due). IsPermutation es (d ∷ (late' ++ waiting))) (sym (append_assoc late' (d ∷ []) waiting)) (IsPermutation-middle late' d waiting))
+
+-- one more session, with an entry of its own
+pub filed-push : (d : Due) (late waiting late' waiting' : List Due) (rs : List Registered) (r : Registered) → late' ≡ late → IsPermutation (d ∷ waiting) waiting' → d.number ≡ r.number → d.moment.0 ≡ r.due →
+    AllFiled (late ++ waiting) rs → AllFiled (late' ++ waiting') (rs ++ r ∷ [])
+filed-push d late waiting late' waiting' rs r e p same moment all =
+    let here : files r d ≡ true = files-from r d same (omega (arith, moment)) in
+    filed-permuted (d ∷ (late ++ waiting)) (late' ++ waiting') (rs ++ r ∷ []) (entries-filed d late waiting late' waiting' e p)
+    (filed-append (d ∷ (late ++ waiting)) rs (r ∷ []) (filed-cons d (late ++ waiting) rs all) (ap (λ (b : Bool). b || list_any (files r) (late ++ waiting)) here, tt))
+
+pub length-push : (d : Due) (late waiting late' waiting' : List Due) → late' ≡ late → IsPermutation (d ∷ waiting) waiting' → length (late' ++ waiting') ≡ length (late ++ waiting) + 1
+length-push d late waiting late' waiting' e p =
+    omega (arith, length_permutation (d ∷ (late ++ waiting)) (late' ++ waiting') (entries-filed d late waiting late' waiting' e p))
+
+-- one more session of a list
+live-more : (rs : List Registered) (i : ℕ) (x : Registered) → i < length rs → x ≡ get_or rs i x → (b : Bool) → x.live ≡ b → live_in (take (i + 1) rs) ≡ live_in (take i rs) ++ cond b (x ∷ []) []
+live-more rs i x h is b e =
+    ap live_in (take_more rs i x h ∙ ap (λ (y : Registered). take i rs ++ y ∷ []) (sym is)) ∙ filter-append (λ r. r.live) (take i rs) (x ∷ [])
+    ∙ ap (λ (c : Bool). live_in (take i rs) ++ cond c (x ∷ []) []) e
+
+pub filed-more : (d : Due) (q new : Queue) (rs : List Registered) (i : ℕ) (x : Registered) → i < length rs → x ≡ get_or rs i x → x.live ≡ true → d.number ≡ x.number → d.moment.0 ≡ x.due →
+    new.late ≡ q.late → IsPermutation (d ∷ q.waiting) new.waiting → AllFiled (entries q) (live_in (take i rs)) → AllFiled (entries new) (live_in (take (i + 1) rs))
+filed-more d q new rs i x h is lives same moment e p all =
+    rw (live-more rs i x h is true lives) (filed-push d q.late q.waiting new.late new.waiting (live_in (take i rs)) x e p same moment all)
+
+pub length-more : (d : Due) (q new : Queue) (rs : List Registered) (i : ℕ) (x : Registered) → i < length rs → x ≡ get_or rs i x → x.live ≡ true →
+    new.late ≡ q.late → IsPermutation (d ∷ q.waiting) new.waiting → length (entries q) ≡ length (live_in (take i rs)) → length (entries new) ≡ length (live_in (take (i + 1) rs))
+length-more d q new rs i x h is lives e p count =
+    omega (arith, ap length (live-more rs i x h is true lives), length-append (live_in (take i rs)) (x ∷ []), length-push d q.late q.waiting new.late new.waiting e p, count)
+
+pub live-skipped : (rs : List Registered) (i : ℕ) (x : Registered) → i < length rs → x ≡ get_or rs i x → x.live ≡ false → live_in (take (i + 1) rs) ≡ live_in (take i rs)
+live-skipped rs i x h is dead = live-more rs i x h is false dead ∙ append-nil (live_in (take i rs))
+
+-- of those that are live some are left
+pub live-left : (rs : List Registered) (i : ℕ) (x : Registered) → i < length rs → x ≡ get_or rs i x → x.live ≡ true → length (live_in (take i rs)) < length (live_in rs)
+live-left rs i x h is lives =
+    let whole : live_in rs ≡ live_in (take (i + 1) rs) ++ live_in (drop (i + 1) rs) = ap live_in (sym (take-append-drop (i + 1) rs)) ∙ filter-append (λ r. r.live) (take (i + 1) rs) (drop (i + 1) rs) in
+    omega (arith, ap length whole, length-append (live_in (take (i + 1) rs)) (live_in (drop (i + 1) rs)), ap length (live-more rs i x h is true lives), length-append (live_in (take i rs)) (x ∷ []))
+
+-- an entry whose session is not there may go
+pub filed-absent : (d : Due) (es : List Due) (rs : List Registered) → IsAbsent d.number rs → AllFiled (d ∷ es) rs → AllFiled es rs
+filed-absent d es [] a all = tt
+filed-absent d es (r ∷ rs) a all = (any-other r d es a.0 all.0, filed-absent d es rs a.1 all.1)
+
+none-absent-by : (n : ℕ) (r : Registered) (rs : List Registered) → (due_at n rs ≡ None → IsAbsent n rs) → (b : Bool) → (r.number == n) ≡ b → (if b then Some r.due else due_at n rs) ≡ None → IsAbsent n (r ∷ rs)
+none-absent-by n r rs ih true e none = cc
+none-absent-by n r rs ih false e none = (eq-from-false r.number n e, ih none)
+
+pub none-absent : (n : ℕ) (rs : List Registered) → due_at n rs ≡ None → IsAbsent n rs
+none-absent n [] none = tt
+none-absent n (r ∷ rs) none = none-absent-by n r rs (none-absent n rs) (r.number == n) refl none
+
+-- an entry whose session is closed may go
+gone-by : (d : Due) (es : List Due) (r : Registered) (rs : List Registered) → list_any (files r) (d ∷ es) ≡ true → AllFiled es (live_in (closed d.number rs)) →
+    (b : Bool) → (r.number == d.number) ≡ b → AllFiled es (live_in ((if b then record r { live = false } else r) ∷ closed d.number rs))
+gone-by d es r rs any ih true e = ih
+gone-by d es r rs any ih false e = filed-by es r (live_in (closed d.number rs)) (any-other r d es (eq-from-false r.number d.number e) any) ih r.live
+
+pub filed-gone : (d : Due) (es : List Due) (rs : List Registered) → AllFiled (d ∷ es) rs → AllFiled es (live_in (closed d.number rs))
+filed-gone d es [] all = tt
+filed-gone d es (r ∷ rs) all = gone-by d es r rs all.0 (filed-gone d es rs all.1) (r.number == d.number) refl
+
+-- an entry moves on to the session's due moment
+moved-by : (d e : Due) (es : List Due) (due high : ℕ) (r : Registered) (rs : List Registered) → e.number ≡ d.number → e.moment.0 ≡ due → IsTable r.number high rs → list_any (files r) (d ∷ es) ≡ true →
+    AllFiled (d ∷ es) rs → (due_at d.number rs ≡ Some due → AllFiled (e ∷ es) rs) → (b : Bool) → (r.number == d.number) ≡ b → (if b then Some r.due else due_at d.number rs) ≡ Some due → AllFiled (e ∷ es) (r ∷ rs)
+moved-by d e es due high r rs same moment t any all ih true f is =
+    let here : r.number ≡ d.number = eq-from-test r.number d.number f in
+    let at : r.due ≡ due = cc in
+    let yes : files r e ≡ true = files-from r e (same ∙ sym here) (omega (arith, at, moment)) in
+    (ap (λ (b : Bool). b || list_any (files r) es) yes, filed-cons e es rs (filed-absent d es rs (IsTable-absent r.number high d.number rs (omega (arith, here)) t) all))
+moved-by d e es due high r rs same moment t any all ih false f is =
+    (ap (λ (b : Bool). files r e || b) (any-other r d es (eq-from-false r.number d.number f) any) ∙ or-true (files r e), ih is)
+
+pub filed-moved : (d e : Due) (es : List Due) (due low high : ℕ) (rs : List Registered) → e.number ≡ d.number → e.moment.0 ≡ due → IsTable low high rs → AllFiled (d ∷ es) rs →
+    due_at d.number rs ≡ Some due → AllFiled (e ∷ es) rs
+filed-moved d e es due low high [] same moment t all is = tt
+filed-moved d e es due low high (r ∷ rs) same moment t all is =
+    moved-by d e es due high r rs same moment t.2 all.0 all.1 (filed-moved d e es due r.number high rs same moment t.2 all.1) (r.number == d.number) refl is
+
+-- ---- what a tick leaves
+
+abbrev pub stays : ℕ → Registered → Bool
+stays moment r = r.live && nat_le moment r.due
+
+stays-by : (moment : ℕ) (r : Registered) (kept : List Registered) → (b : Bool) → r.live ≡ b → (c : Bool) → nat_lt r.due moment ≡ c → nat_le moment r.due ≡ not c →
+    cond (b && nat_le moment r.due) (r ∷ kept) kept ≡ live_in ((if b && nat_lt r.due moment then record r { live = false } else r) ∷ []) ++ kept
+stays-by moment r kept false e c f g = ap (λ (t : Bool). cond t (r ∷ []) [] ++ kept) (sym e)
+stays-by moment r kept true e true f g =
+    ap (λ (t : Bool). cond t (r ∷ kept) kept) g ∙ ap (λ (t : Bool). live_in ((if t then record r { live = false } else r) ∷ []) ++ kept) (sym f)
+stays-by moment r kept true e false f g =
+    ap (λ (t : Bool). cond t (r ∷ kept) kept) g ∙ ap (λ (t : Bool). cond t (r ∷ []) [] ++ kept) (sym e) ∙ ap (λ (t : Bool). live_in ((if t then record r { live = false } else r) ∷ []) ++ kept) (sym f)
+
+less-or-not : (a b : ℕ) (c : Bool) → nat_lt a b ≡ c → nat_le b a ≡ not c
+less-or-not a b true e = grind (arith, nat_tests)
+less-or-not a b false e = grind (arith, nat_tests)
+
+pub stays-swept : (moment : ℕ) (rs : List Registered) → filter (stays moment) rs ≡ live_in (swept moment rs)
+stays-swept moment [] = refl
+stays-swept moment (r ∷ rs) =
+    stays-by moment r (filter (stays moment) rs) r.live refl (nat_lt r.due moment) refl (less-or-not r.due moment (nat_lt r.due moment) refl)
+    ∙ ap (λ (ys : List Registered). live_in ((if is_overdue moment r then record r { live = false } else r) ∷ []) ++ ys) (stays-swept moment rs)
+    ∙ sym (filter-append (λ s. s.live) ((if is_overdue moment r then record r { live = false } else r) ∷ []) (swept moment rs))
+
+lt-test : (a b : ℕ) → a < b → nat_lt a b ≡ true
+lt-test a b less = grind (arith, nat_tests)
+
+-- where no entry stands before a moment, no session that is filed is due before it
+from-by : (m : ℕ) (r : Registered) (d : Due) (es : List Due) → IsFrom m (d ∷ es) → (list_any (files r) es ≡ true → m ≤ r.due) → (b : Bool) → files r d ≡ b → (b || list_any (files r) es) ≡ true → m ≤ r.due
+from-by m r d es from ih true e any = let at : m ≤ d.moment.0 = All-head (λ (x : Due). m ≤ x.moment.0) d es from in omega (arith, at, files-due r d e)
+from-by m r d es from ih false e any = ih any
+
+pub due-from : (m : ℕ) (r : Registered) (es : List Due) → IsFrom m es → list_any (files r) es ≡ true → m ≤ r.due
+due-from m r [] from any = cc
+due-from m r (d ∷ es) from any = from-by m r d es from (due-from m r es (All-tail (λ (x : Due). m ≤ x.moment.0) d es from)) (files r d) refl any
+
+-- then a tick at that moment leaves all of them
+pub none-swept : (m : ℕ) (es : List Due) (rs : List Registered) → IsFrom m es → AllFiled es rs → swept m rs ≡ rs
+none-swept m es [] from all = refl
+none-swept m es (r ∷ rs) from all =
+    let no : is_overdue m r ≡ false = ap (λ (b : Bool). r.live && b) (not-less r.due m (due-from m r es from all.0)) ∙ and-false r.live in
+    ap (λ (b : Bool). (if b then record r { live = false } else r) ∷ swept m rs) no ∙ ap (λ (ys : List Registered). r ∷ ys) (none-swept m es rs from all.1)
+
+pub settled : (m : ℕ) (late waiting : List Due) (ms : Members) → late ≡ [] → IsFrom m waiting → AllFiled (late ++ waiting) ms.live → AllLive ms.live →
+    with_live ms (live_in (swept m ms.live)) ≡ ms
+settled m late waiting ms none from filed all =
+    let es : AllFiled waiting ms.live = subst (λ (l : List Due). AllFiled (l ++ waiting) ms.live) none filed in
+    ap (with_live ms) (ap live_in (none-swept m waiting ms.live from es) ∙ live_in-all ms.live all)
+
+-- a session that goes at a tick may be closed before it
+goes : (m : ℕ) (r : Registered) → r.due < m → stays m r ≡ false
+goes m r late = ap (λ (b : Bool). r.live && b) (less-or-not r.due m true (lt-test r.due m late)) ∙ and-false r.live
+
+closed-by : (n m due high : ℕ) (r : Registered) (rs : List Registered) → due < m → IsTable r.number high rs →
+    (due_at n rs ≡ Some due → filter (stays m) (closed n rs) ≡ filter (stays m) rs) → (b : Bool) → (r.number == n) ≡ b → (if b then Some r.due else due_at n rs) ≡ Some due →
+    filter (stays m) ((if b then record r { live = false } else r) ∷ closed n rs) ≡ filter (stays m) (r ∷ rs)
+closed-by n m due high r rs late t ih true e is =
+    let here : r.number ≡ n = eq-from-test r.number n e in
+    let at : r.due ≡ due = cc in
+    let same : closed n rs ≡ rs = map-absent n (λ s. record s { live = false }) rs (IsTable-absent r.number high n rs (omega (arith, here)) t) in
+    ap (filter (stays m)) same ∙ ap (λ (b : Bool). cond b (r ∷ filter (stays m) rs) (filter (stays m) rs)) (sym (goes m r (omega (arith, at, late))))
+closed-by n m due high r rs late t ih false e is = ap (λ (ys : List Registered). cond (stays m r) (r ∷ ys) ys) (ih is)
+
+closed-stays : (n m due low high : ℕ) (rs : List Registered) → due < m → IsTable low high rs → due_at n rs ≡ Some due → filter (stays m) (closed n rs) ≡ filter (stays m) rs
+closed-stays n m due low high [] late t is = refl
+closed-stays n m due low high (r ∷ rs) late t is = closed-by n m due high r rs late t.2 (closed-stays n m due r.number high rs late t.2) (r.number == n) refl is
+
+pub closed-swept : (n m due low high : ℕ) (rs : List Registered) → due < m → IsTable low high rs → due_at n rs ≡ Some due → live_in (swept m (live_in (closed n rs))) ≡ live_in (swept m rs)
+closed-swept n m due low high rs late t is =
+    live_in-swept m (closed n rs) ∙ sym (stays-swept m (closed n rs)) ∙ closed-stays n m due low high rs late t is ∙ stays-swept m rs
+
+-- ---- the first of a heap
+
+first-not-lt : (a b : Ordering) → is_lt (ordering_then a b) ≡ false → is_lt a ≡ false
+first-not-lt Less b e = e
+first-not-lt Equal b e = refl
+first-not-lt Greater b e = refl
+
+-- no entry stands before the first one
+pub from-first : (m : ℕ) (x : Due) (es : List Due) → m ≤ x.moment.0 → IsUpperBound due_order x es → IsFrom m es
+from-first m x [] le bound = All-nil (λ (d : Due). m ≤ d.moment.0)
+from-first m x (d ∷ es) le bound =
+    let up : x.moment.0 ≤ d.moment.0 = ge_from_not_lt d.moment.0 x.moment.0 (first-not-lt (nat_cmp d.moment.0 x.moment.0) (nat_cmp x.number d.number) bound.0) in
+    All-cons (λ (y : Due). m ≤ y.moment.0) d es (omega arith) (from-first m x es le bound.1)

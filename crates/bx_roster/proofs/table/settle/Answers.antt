@@ -1,0 +1,37 @@
+use Rattle.std.proofs.Common.{◌≤◌, ◌∷◌, ap, refl, sym}
+use Rattle.std.proofs.lemmas.List.Elements.{All-cons}
+use Rattle.std.proofs.lemmas.List.Sorted.{All-permutation}
+use Rattle.bx_roster.specs.Live.{with_live}
+use Rattle.bx_roster.specs.Queues.{entries}
+use Rattle.bx_roster.specs.declared.due_queue.Due.{Due}
+use Rattle.bx_roster.proofs.Dues.{filed-permuted, filed-moved, filed-gone, filed-absent, entries-filed, closed-swept, none-absent}
+use Rattle.bx_roster.proofs.table.settle.Goals as goal
+
+pub returns-in-Some-clause-filed : goal.returns-in-Some-clause-filed
+returns-in-Some-clause-filed c =
+    let q = c.args.queue.now in
+    let new = c.file.new.self in
+    let ms = c.args.roster.now in
+    let d : Due = record { moment = record { 0 = c.in-Some.moved }; number = c.args.due.number } in
+    filed-permuted (d ∷ entries q) (entries new) ms.live
+    (entries-filed d q.late q.waiting new.late new.waiting c.file.ensures.late c.file.ensures.waiting)
+    (filed-moved c.args.due d (entries q) c.in-Some.moved 0 ms.opened ms.live refl refl c.requires.roster.table c.requires.filed (sym c.in-Some.ensures))
+
+pub returns-in-Some-clause-from : goal.returns-in-Some-clause-from
+returns-in-Some-clause-from c =
+    let d : Due = record { moment = record { 0 = c.in-Some.moved }; number = c.args.due.number } in
+    λ from. All-permutation (λ (x : Due). c.args.moment ≤ x.moment.0) (d ∷ c.args.queue.now.waiting) c.file.new.self.waiting c.file.ensures.waiting
+    (All-cons (λ (x : Due). c.args.moment ≤ x.moment.0) d c.args.queue.now.waiting c.if-moved-moment.true from)
+
+pub returns-in-Some-2-clause-filed : goal.returns-in-Some-2-clause-filed
+returns-in-Some-2-clause-filed c = rw c.close.ensures.closed (filed-gone c.args.due (entries c.args.queue.now) c.args.roster.now.live c.requires.filed)
+
+pub returns-in-Some-2-clause-swept : goal.returns-in-Some-2-clause-swept
+returns-in-Some-2-clause-swept c =
+    let ms = c.args.roster.now in
+    rw c.close.ensures.closed
+    (ap (with_live ms) (closed-swept c.args.due.number c.args.moment c.in-Some.moved 0 ms.opened ms.live c.if-moved-moment.false c.requires.roster.table (sym c.in-Some.ensures)))
+
+pub returns-in-None-clause-filed : goal.returns-in-None-clause-filed
+returns-in-None-clause-filed c =
+    filed-absent c.args.due (entries c.args.queue.now) c.args.roster.now.live (none-absent c.args.due.number c.args.roster.now.live (sym c.in-None.ensures)) c.requires.filed

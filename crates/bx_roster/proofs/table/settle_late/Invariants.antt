@@ -1,0 +1,13 @@
+use Rattle.std.proofs.Common.{◌≡◌, length}
+use Rattle.bx_entry.specs.Registry.{swept}
+use Rattle.bx_roster.specs.Live.{live_in, with_live}
+use Rattle.bx_roster.specs.Queues.{AllFiled, IsFrom, IsRoster, entries}
+use Rattle.bx_roster.proofs.table.settle_late.Given as goal
+
+abbrev pub invariant-loop-due : goal.invariant-loop-due
+invariant-loop-due l =
+    IsRoster l.roster × AllFiled (entries l.queue) l.roster.live × IsFrom l.moment l.queue.waiting × (l.queue.room ≡ l.fn.queue.room)
+    × (with_live l.roster (live_in (swept l.moment l.roster.live)) ≡ with_live l.fn.roster (live_in (swept l.moment l.fn.roster.live)))
+
+abbrev pub decreases-loop-due : goal.decreases-loop-due
+decreases-loop-due l = length l.queue.late

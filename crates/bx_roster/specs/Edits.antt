@@ -1,0 +1,44 @@
+-- What edits make of the live sessions.
+use Rattle.std.specs.Prelude.{◌≡◌, ◌+◌, ◌<◌, ◌^◌, true, List, [], ◌∷◌, ◌++◌, length, fold, IsSome}
+use Rattle.bx_entry.specs.Registry.{Registered, extended, closed, swept}
+use Rattle.bx_roster.specs.Live.{Members, with_live, live_in}
+use Rattle.bx_roster.specs.Tables.{IsNamed, client_at}
+use Rattle.bx_roster.specs.declared.edit.Edit.{Edit}
+use Rattle.bx_roster.specs.declared.edit.Edit.TheVariants.{Open, Extend, Close}
+use Rattle.bx_roster.specs.declared.edit.Edits.{Edits}
+use Rattle.bx_roster.specs.declared.edit.Edits.TheVariants.{Each, Sweep}
+
+-- the sessions after one edit: one more session, a due moment moved on, or a session closed
+abbrev pub edited : Members → Edit → Members
+edited ms (Open s) = record ms { opened = s.number; live = ms.live ++ s ∷ [] }
+edited ms (Extend number due) = with_live ms (live_in (extended number due ms.live))
+edited ms (Close number) = with_live ms (live_in (closed number ms.live))
+
+-- the sessions after these edits in order, or after all that are overdue are closed
+abbrev pub edited_by : Members → Edits → Members
+edited_by ms (Each edits) = fold edited ms edits
+edited_by ms (Sweep moment) = with_live ms (live_in (swept moment ms.live))
+
+-- a session to be opened is the next one, and finds room
+pub record IsNext (ms : Members) (s : Registered) : Type 0 where
+  pub room : length ms.live < ms.limit
+  pub number : s.number ≡ ms.opened + 1
+  pub small : s.number < 2 ^ 64
+  pub named : IsNamed s
+  pub live : s.live ≡ true
+
+-- an edit can be made at these sessions: what is opened is the next, what is closed is live
+abbrev pub CanEdit : Members → Edit → Type 0
+CanEdit ms (Open s) = IsNext ms s
+CanEdit ms (Extend number due) = Unit {0}
+CanEdit ms (Close number) = IsSome (client_at number ms.live)
+
+-- so can each of these, one after another
+abbrev pub CanEditEach : Members → List Edit → Type 0
+CanEditEach ms [] = Unit {0}
+CanEditEach ms (e ∷ es) = CanEdit ms e × CanEditEach (edited ms e) es
+
+-- so can all edits of a change
+abbrev pub CanEditBy : Members → Edits → Type 0
+CanEditBy ms (Each edits) = CanEditEach ms edits
+CanEditBy ms (Sweep moment) = Unit {0}

@@ -1,0 +1,4 @@
+pub mod Live
+pub mod Tables
+pub mod Queues
+pub mod Edits

@@ -1,0 +1,40 @@
+-- The table of sessions that a registry keeps, in the order of their numbers, closed ones among them.
+use Rattle.std.specs.Prelude.{ℕ, ◌≡◌, ◌≢◌, ◌<◌, ◌≤◌, ◌==◌, true, List, [], ◌∷◌, length, drop, if◌then◌else◌, Option, Some, None}
+use Rattle.bx_entry.specs.Registry.{Registered, hex_digits}
+use Rattle.bx_roster.specs.Live.{live_in}
+
+-- a client id ends in the digits of its session's number
+abbrev pub IsNamed : Registered → Type 0
+IsNamed r = drop 32 r.client ≡ hex_digits 16 r.number
+
+-- the numbers ascend from above `low` to `high` at most, and each client id ends in its session's number
+abbrev pub IsTable : ℕ → ℕ → List Registered → Type 0
+IsTable low high [] = low ≤ high
+IsTable low high (r ∷ rs) = (low < r.number) × IsNamed r × IsTable r.number high rs
+
+-- no session has this number
+abbrev pub IsAbsent : ℕ → List Registered → Type 0
+IsAbsent number [] = Unit {0}
+IsAbsent number (r ∷ rs) = (r.number ≢ number) × IsAbsent number rs
+
+-- each session is live
+abbrev pub AllLive : List Registered → Type 0
+AllLive [] = Unit {0}
+AllLive (r ∷ rs) = (r.live ≡ true) × AllLive rs
+
+-- the client id of the first session with this number
+abbrev pub client_at : ℕ → List Registered → Option (List ℕ)
+client_at number [] = None
+client_at number (r ∷ rs) = if r.number == number then Some r.client else client_at number rs
+
+-- the due moment of the first session with this number
+abbrev pub due_at : ℕ → List Registered → Option ℕ
+due_at number [] = None
+due_at number (r ∷ rs) = if r.number == number then Some r.due else due_at number rs
+
+-- a table with room for as many live sessions as there may be, so many of them live
+pub record IsKept (slots : List Registered) (capacity limit count opened : ℕ) : Type 0 where
+  pub room : limit ≤ capacity
+  pub fits : count ≤ limit
+  pub counted : count ≡ length (live_in slots)
+  pub table : IsTable 0 opened slots

@@ -1,0 +1,12 @@
+//! The live sessions by their numbers, and which of them are overdue.
+#![tactic(auto)]
+
+mod due_queue;
+mod edit;
+mod roster;
+mod session;
+mod table;
+
+pub use edit::{Edit, Edits};
+pub use session::Session;
+pub use table::Table;

@@ -1,0 +1,32 @@
+//! A session as the registry knows it.
+use bx_message::Text;
+use std::marker::Model;
+
+/// A session that was opened.
+#[derive(Drop)]
+pub struct Session {
+    /// Sessions are counted from 1 on, in the order in which they were opened.
+    pub number: u64,
+    /// Its client id, which ends in the digits of its number.
+    pub client: Text,
+    /// Whether it acknowledges.
+    pub ack: bool,
+    /// A tick behind this moment closes it, in milliseconds.
+    pub due: u64,
+    /// Whether it was not closed.
+    pub live: bool,
+}
+
+impl Model for Session {
+    ghost use Rattle.bx_entry.specs.Registry.{Registered};
+
+    ghost Value = { Registered };
+
+    ghost view = { λ s. record {
+      number = s.number;
+      client = s.client;
+      ack = s.ack;
+      due = s.due;
+      live = s.live;
+    } };
+}
