@@ -3,6 +3,7 @@ ghost use Rattle.std.specs.Prelude.{◌≤◌};
 
 mod acknowledged;
 mod events;
+mod faults;
 mod held;
 mod limits;
 mod lines;

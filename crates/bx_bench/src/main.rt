@@ -48,6 +48,9 @@ round-1-open      a round of eight shards and one worker, and 10,000 sessions th
 round-1           the same, and then 5,000 publishes that reach a thousand sessions each, and 100,000 connects
 round-2           the same with two workers
 round-4           the same with four workers
+waiting-1         the opening, and then 10,000 publishes that reach a thousand sessions each, by one worker; their events wait
+waiting-2         the same with two workers
+waiting-4         the same with four workers
 script            prints a script of 1,001,000 lines for the replay
 script-check      serde_json checks the body of each line of such a script on standard input";
 
@@ -90,6 +93,9 @@ fn main(rt: HostRuntime) -> Result<()> {
                 "round-1" => rounds::run(&rt, alloc, 1)? as usize,
                 "round-2" => rounds::run(&rt, alloc, 2)? as usize,
                 "round-4" => rounds::run(&rt, alloc, 4)? as usize,
+                "waiting-1" => rounds::waiting(&rt, alloc, 1)? as usize,
+                "waiting-2" => rounds::waiting(&rt, alloc, 2)? as usize,
+                "waiting-4" => rounds::waiting(&rt, alloc, 4)? as usize,
                 "script" => return scripts::print(&rt),
                 "script-check" => scripts::check(&rt)?,
                 _ => 0,

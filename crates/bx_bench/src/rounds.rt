@@ -21,6 +21,12 @@ const TURNS: u64 = 10;
 // How often a room is published to in a turn.
 const PUBLISHES: u64 = 50;
 
+// After so many turns 1,000 events wait for each session that does not connect.
+const TURNS_OF_WAITING: u64 = 20;
+
+// More than any workload has.
+const MOST_INPUTS: usize = 1_000_000_000;
+
 fn request(body: String) -> Input {
     Input::Post(Arrival {
         moment: 0,
@@ -89,6 +95,9 @@ fn serve<R: Threads + Sync>(
     round: &mut Round<ByRemainder>,
     inputs: &[Input],
 ) -> Result<u64> {
+    if round.dealt() > MOST_INPUTS || inputs.len() > MOST_INPUTS {
+        return Err(anyhow!("too many inputs"));
+    }
     let mut outs = Vec::new(alloc);
     let ran = round.run(rt, alloc, &OpenGate, inputs, &mut outs);
     ran.map_err(|_| anyhow!("no memory"))?;
@@ -123,6 +132,17 @@ pub fn run<R: Threads + Sync>(rt: &R, alloc: Global, workers: usize) -> Result<u
     for _ in 0..TURNS {
         items = items.wrapping_add(serve(rt, alloc, &mut round, publishes.as_slice())?);
         items = items.wrapping_add(serve(rt, alloc, &mut round, connects.as_slice())?);
+    }
+    Ok(items)
+}
+
+/// The same opening, and then 10,000 publishes that reach a thousand sessions each, a request each. Their events wait.
+pub fn waiting<R: Threads + Sync>(rt: &R, alloc: Global, workers: usize) -> Result<u64> {
+    let mut round = new_round(alloc, workers)?;
+    let mut items = serve(rt, alloc, &mut round, openings(alloc)?.as_slice())?;
+    let publishes = publishes(alloc)?;
+    for _ in 0..TURNS_OF_WAITING {
+        items = items.wrapping_add(serve(rt, alloc, &mut round, publishes.as_slice())?);
     }
     Ok(items)
 }

@@ -97,12 +97,7 @@ impl Tree {
 
     /// Puts these patterns in force for a number that has none, in order and as often as they come. Where memory is
     /// refused all is as before.
-    pub fn copy(
-        &mut self,
-        alloc: Global,
-        list: &[Pattern],
-        number: u64,
-    ) -> Result<(), AllocError>
+    pub fn copy(&mut self, alloc: Global, list: &[Pattern], number: u64) -> Result<(), AllocError>
         requires none { patterns_of self.old number ≡ [] }
         ensures own { OnOk result (patterns_of self.new number ≡ list.now) }
         ensures others { OnOk result ((n : ℕ) → n ≢ number → patterns_of self.new n ≡ patterns_of self.old n) }

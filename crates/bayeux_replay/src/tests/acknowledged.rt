@@ -2,7 +2,7 @@
 use super::{Run, check_all};
 use std::test::Fail;
 
-const RUNS: [Run; 4] = [
+pub const RUNS: [Run; 4] = [
     (
         "a number with a sign acknowledges nothing",
         "0 P [<handshake_ack>]\n0 P [<poll_ack 1 -1>]\n",

@@ -2,7 +2,7 @@
 use super::{Run, check_all};
 use std::test::Fail;
 
-const HOLDS: [Run; 5] = [
+pub const HOLDS: [Run; 5] = [
     (
         "an event ends a hold",
         "0 P [<handshake>]\n0 P [<handshake>]\n0 P [<subscribe 1 /a/*>]\n10 P [<connect 1>]\n20 P [<publish 2 /a/b 7>]\n",

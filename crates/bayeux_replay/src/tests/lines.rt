@@ -1,9 +1,9 @@
 //! Lines and bodies of all forms.
-use super::words::repeated;
+use super::words::{repeated, spelled};
 use super::{Run, check, check_all};
 use std::test::Fail;
 
-const RUNS: [Run; 8] = [
+const RUNS: [Run; 10] = [
     (
         "a handshake repeats its id",
         r#"0 P [{"channel":"/meta/handshake","version":"1.0","supportedConnectionTypes":["long-polling"],"id":"1"}]
@@ -42,6 +42,16 @@ const RUNS: [Run; 8] = [
         "4611686018427387905 P []\n4611686018427387905 T\n18446744073709551616 P []\n18446744073709551616 T\n00004611686018427387904 T\n00004611686018427387904 P []\n",
         "1 400\n2 400\n3 bad\n4 bad\n6 200 []\n",
     ),
+    (
+        "numbers of thirty digits",
+        "123456789012345678901234567890 P []\n000000000000000000000000000007 P []\n0 S 123456789012345678901234567890\n",
+        "1 bad\n2 200 []\n3 bad\n",
+    ),
+    (
+        "zero bytes, and ends of lines with a carriage return",
+        "\0\n0\0 P []\n0 P \0\n0 P [\0]\n0 T\0\n0 P []\r\n0 S 3\r\n",
+        "1 bad\n2 bad\n3 400\n4 400\n5 bad\n6 200 []\n7 bad\n",
+    ),
 ];
 
 #[test]
@@ -61,6 +71,52 @@ fn a_request_has_at_most_so_many_messages(rt: HostRuntime) -> Result<(), Fail> {
         &rt,
         alloc,
         "as many messages as may be, and one more",
+        script.as_str(),
+        expected.as_str(),
+    )
+}
+
+#[test]
+fn a_front_of_a_body_is_refused_whole(rt: HostRuntime) -> Result<(), Fail> {
+    let alloc = rt.alloc();
+    let body = spelled(alloc, "[<publish 1 /a/b 7>]")?;
+    let mut script = format!(in alloc; "0 P [<handshake>]\n")?;
+    let mut expected = format!(in alloc; "1 200 [<opened 1>]\n")?;
+    let count = body.len();
+    for length in 0..count {
+        let front = body.get(..length).ok_or("no text")?;
+        script.push_str(format!(in alloc; "0 P {front}\n")?.as_str())?;
+        expected.push_str(format!(in alloc; "{} 400\n", length.saturating_add(2))?.as_str())?;
+    }
+    script.push_str("0 P [<handshake>]\n")?;
+    expected.push_str(format!(in alloc;
+        "{} 200 [<opened 2>]\n",
+        count.saturating_add(2)
+    )?.as_str())?;
+    check(
+        &rt,
+        alloc,
+        "each front of a body",
+        script.as_str(),
+        expected.as_str(),
+    )
+}
+
+#[test]
+fn data_is_nested_so_deep_and_no_deeper(rt: HostRuntime) -> Result<(), Fail> {
+    let alloc = rt.alloc();
+    let open = "[".repeat(alloc, 125)?;
+    let close = "]".repeat(alloc, 125)?;
+    let script = format!(in alloc;
+        "0 P [<handshake>]\n0 P [<subscribe 1 /a/b>,<publish 1 /a/b {open}{close}>]\n0 P [<publish 1 /a/b [{open}{close}]>]\n0 P [<poll 1>]\n"
+    )?;
+    let expected = format!(in alloc;
+        "1 200 [<opened 1>]\n2 200 [<subscribed 1 /a/b>,<published /a/b>]\n3 400\n4 200 [<event /a/b {open}{close}>,<connected 1>]\n"
+    )?;
+    check(
+        &rt,
+        alloc,
+        "data of nested arrays",
         script.as_str(),
         expected.as_str(),
     )

@@ -1,6 +1,9 @@
 //! Other numbers of shards in the middle of a script.
-use super::{Run, check_all};
+use super::{Run, acknowledged, check, check_all, held};
+use std::alloc::Global;
+use std::process::Abort;
 use std::test::Fail;
+use std::thread::Threads;
 
 const RUNS: [Run; 2] = [
     (
@@ -18,4 +21,55 @@ const RUNS: [Run; 2] = [
 #[test]
 fn sessions_are_dealt_anew(rt: HostRuntime) -> Result<(), Fail> {
     check_all(&rt, rt.alloc(), &RUNS)
+}
+
+// The script with another number of shards behind so many of its lines.
+fn with_shards(alloc: Global, script: &str, count: usize) -> Result<String, Fail> {
+    let mut text = String::new(alloc);
+    for (index, line) in script.lines().enumerate() {
+        if index == count {
+            text.push_str("0 S 5\n")?;
+        }
+        text.push_str(line)?;
+        text.push('\n')?;
+    }
+    Ok(text)
+}
+
+// What is printed, where each line behind so many has a number one higher.
+fn moved(alloc: Global, expected: &str, count: usize) -> Result<String, Fail> {
+    let mut text = String::new(alloc);
+    for line in expected.lines() {
+        let (digits, rest) = line.split_once(' ').ok_or("no number")?;
+        let mut number: usize = digits.parse().ok().ok_or("no digits")?;
+        if number > count {
+            number = number.saturating_add(1);
+        }
+        text.push_str(format!(in alloc; "{number} {rest}\n")?.as_str())?;
+    }
+    Ok(text)
+}
+
+// Scripts print the same with another number of shards between any two of their lines.
+fn check_between<R: Abort + Threads + Sync>(
+    rt: &R,
+    alloc: Global,
+    runs: &[Run],
+) -> Result<(), Fail> {
+    for (about, script, expected) in runs {
+        for count in 1..script.lines().count() {
+            let script = with_shards(alloc, script, count)?;
+            let expected = moved(alloc, expected, count)?;
+            check(rt, alloc, about, script.as_str(), expected.as_str())?;
+        }
+    }
+    Ok(())
+}
+
+#[test]
+fn sessions_may_be_dealt_anew_between_any_lines(rt: HostRuntime) -> Result<(), Fail> {
+    let alloc = rt.alloc();
+    check_between(&rt, alloc, &held::HOLDS[..1])?;
+    check_between(&rt, alloc, &held::HOLDS[3..4])?;
+    check_between(&rt, alloc, &acknowledged::RUNS[1..2])
 }
