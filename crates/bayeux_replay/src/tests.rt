@@ -16,6 +16,7 @@ use crate::script::replay;
 use bx_advice::{BODY_LIMIT, Config};
 use bx_script::ScriptFault;
 use std::alloc::Global;
+use std::io::BufReader;
 use std::process::Abort;
 use std::test::Fail;
 use std::thread::Threads;
@@ -28,7 +29,7 @@ fn config(shards: usize) -> Result<Config, Fail> {
     Ok(Config::new(shards, 30_000, 0, 10_000).ok_or("no configuration")?)
 }
 
-// What the program prints for a script.
+// What the program prints for a script, of which it is given a few thousand bytes a read.
 fn printed<T: Threads + Sync>(
     rt: &T,
     alloc: Global,
@@ -40,7 +41,7 @@ fn printed<T: Threads + Sync>(
     requires workers_in_range { workers ≤ 16 }
 {
     let mut written = Vec::new(alloc);
-    let mut reader = script;
+    let mut reader = BufReader::new(alloc, script)?;
     let config = config(shards)?;
     replay(rt, alloc, config, workers, &mut reader, &mut written).map_err(failed)?;
     Ok(written)
