@@ -219,12 +219,14 @@ fn a_connect_is_held_until_its_event(rt: HostRuntime) -> Result<(), Fail> {
 fn a_held_connect_goes_with_its_session(rt: HostRuntime) -> Result<(), Fail> {
     let alloc = rt.alloc();
     let inputs = inputs(alloc, INPUTS.len())?;
+    let held = inputs.get(..4).ok_or("too few inputs")?;
+    let event = inputs.get(4..).ok_or("too few inputs")?;
     let mut round = round(alloc, &[0, 1, 2], 2)?.ok_or("no round")?;
     let mut outs = Vec::new(alloc);
-    run(&rt, alloc, &OpenGate, &mut round, &inputs[..4], &mut outs)?;
+    run(&rt, alloc, &OpenGate, &mut round, held, &mut outs)?;
     let placing = Arc::new(alloc, ByTable::new(alloc, &[4, 3])?)?;
     let mut round = round.reshard(alloc, 5, placing).map_err(|_| "no memory")?;
-    run(&rt, alloc, &OpenGate, &mut round, &inputs[4..], &mut outs)?;
+    run(&rt, alloc, &OpenGate, &mut round, event, &mut outs)?;
     check(&rt, alloc, &outs)
 }
 
