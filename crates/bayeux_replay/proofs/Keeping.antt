@@ -34,11 +34,6 @@ appends_none (Some a) = sym (append-nil a)
 pub appends_same : (a b : Option (List ℕ)) (xs ys : List ℕ) → xs ≡ ys → Appends a b xs → Appends a b ys
 appends_same a b xs ys e h = subst (Appends a b) e h
 
-pub keeps_appends : (a b : Option (List ℕ)) → Keeps a b → Appends a b []
-keeps_appends None b h = tt
-keeps_appends (Some a) None h = absurd h
-keeps_appends (Some a) (Some b) h = h ∙ sym (append-nil a)
-
 -- ---- an out, by what was kept of its input
 
 pub out_same : (numbered : List Numbered) (o : Out) (a : Asked) (k : IsKept numbered o.input a) →
@@ -111,10 +106,6 @@ outs_more numbered os us a b c kept new p q =
     }
 
 -- ---- steps
-
-pub on_ok : {A E P Q : Type 0} (r : Result A E) → (P → Q) → OnOk r P → OnOk r Q
-on_ok (Ok x) f h = f h
-on_ok (Err e) f h = h
 
 pub on_ok_both : {A E P Q R : Type 0} (r : Result A E) → (P → Q → R) → OnOk r P → OnOk r Q → OnOk r R
 on_ok_both (Ok x) f h k = f h k

@@ -42,7 +42,7 @@ AllKept kept (i ∷ is) = IsSome (kept i) × AllKept (without i kept) is
 abbrev pub inputs_given : List fanout.Out → List ℕ
 inputs_given os = map (λ (o : fanout.Out). o.input) os
 
--- these inputs are kept, and whatever is kept is one of the first so many
+-- these inputs are kept, and nothing is kept under the next number
 pub record Keeps (kept : ℕ → Option Asked) (is : List ℕ) (count : ℕ) : Type 0 where
   pub all : AllKept kept is
   pub none : kept count ≡ None

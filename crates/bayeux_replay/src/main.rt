@@ -9,10 +9,12 @@ mod server;
 mod tests;
 
 use arguments::{Arguments, USAGE};
+use bx_entry::ByRemainder;
 use bx_script::ScriptFault;
 use std::io;
 use std::io::{BufReader, BufWriter};
 use std::process::ExitCode;
+use std::sync::Arc;
 use std::thread::Threads;
 
 fn main(rt: HostRuntime) -> ExitCode {
@@ -43,7 +45,16 @@ fn run<T: Threads + Sync>(
         &error,
     ))?;
     let Arguments { config, workers } = arguments;
-    script::replay(threads, alloc, config, workers, &mut reader, &mut writer)
+    let placing = Arc::new(alloc, ByRemainder)?;
+    script::replay(
+        threads,
+        alloc,
+        config,
+        placing,
+        workers,
+        &mut reader,
+        &mut writer,
+    )
 }
 
 fn failed(rt: &HostRuntime, fault: ScriptFault) -> ExitCode {

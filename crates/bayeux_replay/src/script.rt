@@ -9,7 +9,7 @@ ghost use Rattle.bx_script.specs.Printing.{AppendsFront, Writes};
 use crate::kept::print_held;
 use crate::server::{Server, answer, new_server};
 use bx_advice::Config;
-use bx_entry::ByRemainder;
+use bx_entry::Placing;
 use bx_script::{Lines, MAX_READS, ScriptFault};
 use std::alloc::Global;
 use std::io::{BufRead, Write};
@@ -17,14 +17,15 @@ use std::sync::Arc;
 use std::thread::Threads;
 
 /// Writes what the server answers to each line that it reads, numbered from 1, and at the end which lines have no
-/// answer yet: what the definition of a replay prints for the script, whatever the number of workers and of shards is.
-/// Sessions stand in the shards in turn; a line that changes the number of shards deals them anew. It answers `Memory`
-/// where memory was refused, else `Read` where a read failed or there were too many, and `Write` where a write failed;
-/// what was written then is a front of the right output.
-pub fn replay<T: Threads + Sync, R: BufRead, W: Write>(
+/// answer yet: what the definition of a replay prints for the script, whatever the number of workers and of shards is, and
+/// wherever sessions are placed. A line that changes the number of shards deals them anew by the same placing. It answers
+/// `Memory` where memory was refused, else `Read` where a read failed or there were too many, and `Write` where a write
+/// failed; what was written then is a front of the right output.
+pub fn replay<T: Threads + Sync, P: Placing + Drop + Send + Sync, R: BufRead, W: Write>(
     rt: &T,
     alloc: Global,
     config: Config,
+    placing: Arc<P>,
     workers: usize,
     reader: &mut R,
     writer: &mut W,
@@ -34,20 +35,21 @@ pub fn replay<T: Threads + Sync, R: BufRead, W: Write>(
     ensures { IfSome (R.remaining reader.old)
         (λ script. Writes (W.contents writer.old) (W.contents writer.new) result (replay_text config query_taken script)) }
 {
-    let placing = Arc::new(alloc, ByRemainder)?;
-    let first = new_server(alloc, config, placing, workers)?;
-    let server = answer_all(rt, alloc, first, reader, writer)?;
+    let own = placing.clone()?;
+    let first = new_server(alloc, config, own, workers)?;
+    let server = answer_all(rt, alloc, &placing, first, reader, writer)?;
     finish(alloc, &server, writer)
 }
 
 // Deals with all lines that the reader has.
-fn answer_all<T: Threads + Sync, R: BufRead, W: Write>(
+fn answer_all<T: Threads + Sync, P: Placing + Drop + Send + Sync, R: BufRead, W: Write>(
     rt: &T,
     alloc: Global,
-    mut server: Server<ByRemainder>,
+    placing: &Arc<P>,
+    mut server: Server<P>,
     reader: &mut R,
     writer: &mut W,
-) -> Result<Server<ByRemainder>, ScriptFault>
+) -> Result<Server<P>, ScriptFault>
     requires serves { Serves server }
     requires none { server.lines ≡ [] }
     ensures serves { IfOk result (λ s. Serves s) }
@@ -62,15 +64,15 @@ fn answer_all<T: Threads + Sync, R: BufRead, W: Write>(
         let Some(line) = lines.next_line(alloc, reader)? else {
             return Ok(server);
         };
-        server = answer(rt, alloc, server, line, writer)?;
+        server = answer(rt, alloc, placing, server, line, writer)?;
     }
     Err(ScriptFault::Read)
 }
 
 // Writes which lines have no answer.
-fn finish<W: Write>(
+fn finish<P: Placing, W: Write>(
     alloc: Global,
-    server: &Server<ByRemainder>,
+    server: &Server<P>,
     writer: &mut W,
 ) -> Result<(), ScriptFault>
     requires serves { Serves server.now }

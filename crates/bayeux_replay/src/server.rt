@@ -12,7 +12,7 @@ ghost use Rattle.bx_script.specs.Printing.{is_tick, numbered};
 
 use crate::kept::{Asked, print_outs};
 use bx_advice::Config;
-use bx_entry::{ByRemainder, Input, Placing};
+use bx_entry::{Input, Placing};
 use bx_fanout::{Round, RoundFault};
 use bx_history::History;
 use bx_script::{Line, ScriptFault, write_bad, write_status};
@@ -61,13 +61,14 @@ pub fn new_server<P: Placing + Drop>(
 }
 
 /// Deals with one more line, and prints what comes of it, or at a fault a front of that.
-pub fn answer<T: Threads + Sync, W: Write>(
+pub fn answer<T: Threads + Sync, P: Placing + Drop + Send + Sync, W: Write>(
     rt: &T,
     alloc: Global,
-    server: Server<ByRemainder>,
+    placing: &Arc<P>,
+    server: Server<P>,
     line: Line,
     writer: &mut W,
-) -> Result<Server<ByRemainder>, ScriptFault>
+) -> Result<Server<P>, ScriptFault>
     requires serves { Serves server }
     requires few { server.number < 2 ^ 62 }
     requires in_range { InRange line }
@@ -117,7 +118,7 @@ pub fn answer<T: Threads + Sync, W: Write>(
             })
         }
         Line::Resharded { shards } => {
-            let round = reshard(alloc, round, shards)?;
+            let round = reshard(alloc, round, shards, placing)?;
             Ok(Server {
                 round,
                 kept,
@@ -168,12 +169,13 @@ fn ticks(input: &Input) -> bool
     matches!(input, Input::Tick(_))
 }
 
-// The server goes on with so many shards, among which sessions stand in turn.
-fn reshard(
+// The server goes on with so many shards, among which sessions are placed as before.
+fn reshard<P: Placing + Drop>(
     alloc: Global,
-    round: Round<ByRemainder>,
+    round: Round<P>,
     shards: usize,
-) -> Result<Round<ByRemainder>, ScriptFault>
+    placing: &Arc<P>,
+) -> Result<Round<P>, ScriptFault>
     requires some_shard { 1 ≤ shards }
     requires shards_in_range { shards ≤ 64 }
     ensures inputs { IfOk result (λ r. inputs_of r ≡ inputs_of round) }
@@ -181,8 +183,7 @@ fn reshard(
     ensures config { IfOk result (λ r. (setup_in r).config ≡ (setup_in round).config) }
     ensures shards { IfOk result (λ r. (setup_in r).shards ≡ shards) }
 {
-    let placing = Arc::new(alloc, ByRemainder)?;
-    match round.reshard(alloc, shards, placing) {
+    match round.reshard(alloc, shards, placing.clone()?) {
         Ok(round) => Ok(round),
         Err(_) => Err(ScriptFault::Memory),
     }

@@ -14,10 +14,12 @@ mod words;
 
 use crate::script::replay;
 use bx_advice::{BODY_LIMIT, Config};
+use bx_entry::{AllFirst, ByRemainder, ByTable, Placing};
 use bx_script::ScriptFault;
 use std::alloc::Global;
 use std::io::BufReader;
 use std::process::Abort;
+use std::sync::Arc;
 use std::test::Fail;
 use std::thread::Threads;
 use words::spelled;
@@ -29,7 +31,7 @@ fn config(shards: usize) -> Result<Config, Fail> {
     Ok(Config::new(shards, 30_000, 0, 10_000).ok_or("no configuration")?)
 }
 
-// What the program prints for a script, of which it is given a few thousand bytes a read.
+// What the program prints for a script, of which it is given a few thousand bytes a read. Sessions are placed in turn.
 fn printed<T: Threads + Sync>(
     rt: &T,
     alloc: Global,
@@ -40,10 +42,35 @@ fn printed<T: Threads + Sync>(
     requires some_worker { 1 ≤ workers }
     requires workers_in_range { workers ≤ 16 }
 {
+    placed(rt, alloc, shards, ByRemainder, workers, script)
+}
+
+// The same by this placing.
+fn placed<T: Threads + Sync, P: Placing + Drop + Send + Sync>(
+    rt: &T,
+    alloc: Global,
+    shards: usize,
+    placing: P,
+    workers: usize,
+    script: &[u8],
+) -> Result<Vec<u8>, Fail>
+    requires some_worker { 1 ≤ workers }
+    requires workers_in_range { workers ≤ 16 }
+{
     let mut written = Vec::new(alloc);
     let mut reader = BufReader::new(alloc, script)?;
     let config = config(shards)?;
-    replay(rt, alloc, config, workers, &mut reader, &mut written).map_err(failed)?;
+    let placing = Arc::new(alloc, placing)?;
+    replay(
+        rt,
+        alloc,
+        config,
+        placing,
+        workers,
+        &mut reader,
+        &mut written,
+    )
+    .map_err(failed)?;
     Ok(written)
 }
 
@@ -51,7 +78,7 @@ fn failed(_fault: ScriptFault) -> Fail {
     Fail::from("the run failed")
 }
 
-// A script prints the same with any number of shards and workers. Both texts are written in words.
+// A script prints the same with any number of shards and workers, and wherever sessions are placed. Both texts are written in words.
 fn check<R: Abort + Threads + Sync>(
     rt: &R,
     alloc: Global,
@@ -67,6 +94,15 @@ fn check<R: Abort + Threads + Sync>(
         let written = printed(rt, alloc, shards, workers, script)?;
         assert_eq!(rt; written.as_slice(), expected, "{about}, {shards} shards");
     }
+    let together = placed(rt, alloc, 3, AllFirst, 2, script)?;
+    assert_eq!(rt;
+        together.as_slice(),
+        expected,
+        "{about}, all in the first shard"
+    );
+    let table = ByTable::new(alloc, &[1, 0, 0])?;
+    let by_table = placed(rt, alloc, 3, table, 2, script)?;
+    assert_eq!(rt; by_table.as_slice(), expected, "{about}, by a table");
     Ok(())
 }
 

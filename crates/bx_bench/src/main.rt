@@ -12,7 +12,9 @@ mod workloads;
 mod worlds;
 
 use anyhow::Result;
+use std::alloc::Global;
 use std::env;
+use std::thread::Threads;
 
 const LIST: &str = "\
 check-many   serde_json checks a body of 1 MB with 256 messages, 20 times
@@ -51,57 +53,110 @@ round-4           the same with four workers
 waiting-1         the opening, and then 10,000 publishes that reach a thousand sessions each, by one worker; their events wait
 waiting-2         the same with two workers
 waiting-4         the same with four workers
-script            prints a script of 1,001,000 lines for the replay
-script-check      serde_json checks the body of each line of such a script on standard input";
+script-check      serde_json checks the body of each line of a script on standard input";
 
 fn main(rt: HostRuntime) -> Result<()> {
-    let alloc = rt.alloc();
     match env::args(&rt)?.nth(1) {
         None => rt.println(LIST)?,
         Some(name) => {
             let total = match name.as_str() {
-                "check-many" => workloads::check(alloc, inputs::many(alloc)?.as_slice())?,
-                "cut-many" => workloads::cut(alloc, inputs::many(alloc)?.as_slice())?,
-                "check-one" => workloads::check(alloc, inputs::one(alloc)?.as_slice())?,
-                "cut-one" => workloads::cut(alloc, inputs::one(alloc)?.as_slice())?,
-                "value-texts" => workloads::value_texts(alloc)?,
-                "item-texts" => workloads::item_texts(alloc)?,
-                "take-plain" => transports::plain(alloc)?,
-                "take-form" => transports::form(alloc)?,
-                "sessions-open" => sessions::open(alloc)?,
-                "sessions-wait" => sessions::wait(alloc)?,
-                "sessions-batches" => sessions::batches(alloc)?,
-                "sessions-holds" => sessions::holds(alloc)?,
-                "tree-build" => tree::build(alloc)?,
-                "tree-find" => tree::find(alloc)?,
-                "plain-build" => tree::plain_build(alloc)?,
-                "plain-find" => tree::plain_find(alloc)?,
-                "tree-100" => tree::grown(alloc, 100, 1_000_000)?,
-                "tree-100000" => tree::grown(alloc, 100_000, 1_000_000)?,
-                "tree-100000-build" => tree::grown(alloc, 100_000, 0)?,
-                "registry-open" => registry::open(alloc)? as usize,
-                "registry-publish" => registry::publish(alloc)? as usize,
-                "registry-hundreds" => registry::publish_hundreds(alloc)? as usize,
-                "registry-tick" => registry::tick(alloc)? as usize,
-                "world-1-open" => worlds::opened(alloc, 1)? as usize,
-                "world-1" => worlds::run(alloc, 1)? as usize,
-                "world-4-open" => worlds::opened(alloc, 4)? as usize,
-                "world-4" => worlds::run(alloc, 4)? as usize,
-                "world-64-open" => worlds::opened(alloc, 64)? as usize,
-                "world-64" => worlds::run(alloc, 64)? as usize,
-                "round-1-open" => rounds::opened(&rt, alloc, 1)? as usize,
-                "round-1" => rounds::run(&rt, alloc, 1)? as usize,
-                "round-2" => rounds::run(&rt, alloc, 2)? as usize,
-                "round-4" => rounds::run(&rt, alloc, 4)? as usize,
-                "waiting-1" => rounds::waiting(&rt, alloc, 1)? as usize,
-                "waiting-2" => rounds::waiting(&rt, alloc, 2)? as usize,
-                "waiting-4" => rounds::waiting(&rt, alloc, 4)? as usize,
-                "script" => return scripts::print(&rt),
                 "script-check" => scripts::check(&rt)?,
-                _ => 0,
+                name => run(&rt, rt.alloc(), name)?,
             };
             println!(rt; "{total}")?;
         }
     }
     Ok(())
+}
+
+// Runs the workload of this name; none of another name.
+fn run<R: Threads + Sync>(rt: &R, alloc: Global, name: &str) -> Result<usize> {
+    match name.split_once('-').map_or(name, |parts| parts.0) {
+        "check" | "cut" => cuts(alloc, name),
+        "value" | "item" | "take" => texts(alloc, name),
+        "sessions" => deliveries(alloc, name),
+        "tree" | "plain" => finds(alloc, name),
+        "registry" => plans(alloc, name),
+        "world" => serves(alloc, name),
+        "round" | "waiting" => runs(rt, alloc, name),
+        _ => Ok(0),
+    }
+}
+
+fn cuts(alloc: Global, name: &str) -> Result<usize> {
+    match name {
+        "check-many" => workloads::check(alloc, inputs::many(alloc)?.as_slice()),
+        "cut-many" => workloads::cut(alloc, inputs::many(alloc)?.as_slice()),
+        "check-one" => workloads::check(alloc, inputs::one(alloc)?.as_slice()),
+        "cut-one" => workloads::cut(alloc, inputs::one(alloc)?.as_slice()),
+        _ => Ok(0),
+    }
+}
+
+fn texts(alloc: Global, name: &str) -> Result<usize> {
+    match name {
+        "value-texts" => workloads::value_texts(alloc),
+        "item-texts" => workloads::item_texts(alloc),
+        "take-plain" => transports::plain(alloc),
+        "take-form" => transports::form(alloc),
+        _ => Ok(0),
+    }
+}
+
+fn deliveries(alloc: Global, name: &str) -> Result<usize> {
+    match name {
+        "sessions-open" => sessions::open(alloc),
+        "sessions-wait" => sessions::wait(alloc),
+        "sessions-batches" => sessions::batches(alloc),
+        "sessions-holds" => sessions::holds(alloc),
+        _ => Ok(0),
+    }
+}
+
+fn finds(alloc: Global, name: &str) -> Result<usize> {
+    match name {
+        "tree-build" => tree::build(alloc),
+        "tree-find" => tree::find(alloc),
+        "plain-build" => tree::plain_build(alloc),
+        "plain-find" => tree::plain_find(alloc),
+        "tree-100" => tree::grown(alloc, 100, 1_000_000),
+        "tree-100000" => tree::grown(alloc, 100_000, 1_000_000),
+        "tree-100000-build" => tree::grown(alloc, 100_000, 0),
+        _ => Ok(0),
+    }
+}
+
+fn plans(alloc: Global, name: &str) -> Result<usize> {
+    match name {
+        "registry-open" => registry::open(alloc),
+        "registry-publish" => registry::publish(alloc),
+        "registry-hundreds" => registry::publish_hundreds(alloc),
+        "registry-tick" => registry::tick(alloc),
+        _ => Ok(0),
+    }
+}
+
+fn serves(alloc: Global, name: &str) -> Result<usize> {
+    match name {
+        "world-1-open" => worlds::opened(alloc, 1),
+        "world-1" => worlds::run(alloc, 1),
+        "world-4-open" => worlds::opened(alloc, 4),
+        "world-4" => worlds::run(alloc, 4),
+        "world-64-open" => worlds::opened(alloc, 64),
+        "world-64" => worlds::run(alloc, 64),
+        _ => Ok(0),
+    }
+}
+
+fn runs<R: Threads + Sync>(rt: &R, alloc: Global, name: &str) -> Result<usize> {
+    match name {
+        "round-1-open" => rounds::opened(rt, alloc, 1),
+        "round-1" => rounds::run(rt, alloc, 1),
+        "round-2" => rounds::run(rt, alloc, 2),
+        "round-4" => rounds::run(rt, alloc, 4),
+        "waiting-1" => rounds::waiting(rt, alloc, 1),
+        "waiting-2" => rounds::waiting(rt, alloc, 2),
+        "waiting-4" => rounds::waiting(rt, alloc, 4),
+        _ => Ok(0),
+    }
 }

@@ -94,17 +94,17 @@ fn serve<R: Threads + Sync>(
     alloc: Global,
     round: &mut Round<ByRemainder>,
     inputs: &[Input],
-) -> Result<u64> {
+) -> Result<usize> {
     if round.dealt() > MOST_INPUTS || inputs.len() > MOST_INPUTS {
         return Err(anyhow!("too many inputs"));
     }
     let mut outs = Vec::new(alloc);
     let ran = round.run(rt, alloc, &OpenGate, inputs, &mut outs);
     ran.map_err(|_| anyhow!("no memory"))?;
-    let mut items = 0u64;
+    let mut items = 0usize;
     for out in &outs {
         if let Ok(response) = &out.result {
-            items = items.wrapping_add(response.len() as u64);
+            items = items.wrapping_add(response.len());
         }
     }
     Ok(items)
@@ -117,32 +117,69 @@ fn new_round(alloc: Global, workers: usize) -> Result<Round<ByRemainder>> {
 }
 
 /// 10,000 sessions are opened, each subscribed to one of ten rooms by two patterns.
-pub fn opened<R: Threads + Sync>(rt: &R, alloc: Global, workers: usize) -> Result<u64> {
+pub fn opened<R: Threads + Sync>(rt: &R, alloc: Global, workers: usize) -> Result<usize> {
     let mut round = new_round(alloc, workers)?;
-    serve(rt, alloc, &mut round, openings(alloc)?.as_slice())
+    open_all(rt, alloc, &mut round)
+}
+
+fn open_all<R: Threads + Sync>(
+    rt: &R,
+    alloc: Global,
+    round: &mut Round<ByRemainder>,
+) -> Result<usize> {
+    serve(rt, alloc, round, &openings(alloc)?)
 }
 
 /// The same, and then 5,000 publishes that reach a thousand sessions each, a request each, in ten turns, after each of
 /// which every session connects and is given what waits.
-pub fn run<R: Threads + Sync>(rt: &R, alloc: Global, workers: usize) -> Result<u64> {
+pub fn run<R: Threads + Sync>(rt: &R, alloc: Global, workers: usize) -> Result<usize> {
     let mut round = new_round(alloc, workers)?;
-    let mut items = serve(rt, alloc, &mut round, openings(alloc)?.as_slice())?;
+    run_in(rt, alloc, &mut round)
+}
+
+fn run_in<R: Threads + Sync>(
+    rt: &R,
+    alloc: Global,
+    round: &mut Round<ByRemainder>,
+) -> Result<usize> {
+    let items = open_all(rt, alloc, round)?;
     let publishes = publishes(alloc)?;
     let connects = connects(alloc)?;
+    let more = serve_in_turns(rt, alloc, round, &publishes, &connects)?;
+    Ok(items.wrapping_add(more))
+}
+
+// The publishes and then the connects, in so many turns.
+fn serve_in_turns<R: Threads + Sync>(
+    rt: &R,
+    alloc: Global,
+    round: &mut Round<ByRemainder>,
+    publishes: &[Input],
+    connects: &[Input],
+) -> Result<usize> {
+    let mut items = 0usize;
     for _ in 0..TURNS {
-        items = items.wrapping_add(serve(rt, alloc, &mut round, publishes.as_slice())?);
-        items = items.wrapping_add(serve(rt, alloc, &mut round, connects.as_slice())?);
+        items = items.wrapping_add(serve(rt, alloc, round, publishes)?);
+        items = items.wrapping_add(serve(rt, alloc, round, connects)?);
     }
     Ok(items)
 }
 
 /// The same opening, and then 10,000 publishes that reach a thousand sessions each, a request each. Their events wait.
-pub fn waiting<R: Threads + Sync>(rt: &R, alloc: Global, workers: usize) -> Result<u64> {
+pub fn waiting<R: Threads + Sync>(rt: &R, alloc: Global, workers: usize) -> Result<usize> {
     let mut round = new_round(alloc, workers)?;
-    let mut items = serve(rt, alloc, &mut round, openings(alloc)?.as_slice())?;
+    wait_in(rt, alloc, &mut round)
+}
+
+fn wait_in<R: Threads + Sync>(
+    rt: &R,
+    alloc: Global,
+    round: &mut Round<ByRemainder>,
+) -> Result<usize> {
+    let mut items = open_all(rt, alloc, round)?;
     let publishes = publishes(alloc)?;
     for _ in 0..TURNS_OF_WAITING {
-        items = items.wrapping_add(serve(rt, alloc, &mut round, publishes.as_slice())?);
+        items = items.wrapping_add(serve(rt, alloc, round, &publishes)?);
     }
     Ok(items)
 }

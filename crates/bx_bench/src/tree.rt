@@ -19,16 +19,25 @@ const PLAIN_FINDS: u64 = 100;
 
 /// 10,000 sessions with ten patterns each: the tree is made.
 pub fn build(alloc: Global) -> Result<usize> {
-    Ok(many_sessions(alloc)?.count(0))
+    let mut tree = Tree::new(alloc);
+    put_all(alloc, &mut tree)
 }
 
 /// The same, and then 1,000,000 finds in it.
 pub fn find(alloc: Global) -> Result<usize> {
-    let tree = many_sessions(alloc)?;
-    let names = names(alloc)?;
+    let mut tree = Tree::new(alloc);
+    put_and_find(alloc, &mut tree)
+}
+
+fn put_and_find(alloc: Global, tree: &mut Tree) -> Result<usize> {
+    put_all(alloc, tree)?;
+    find_all(alloc, tree, &names(alloc)?)
+}
+
+fn find_all(alloc: Global, tree: &Tree, names: &[ChannelName]) -> Result<usize> {
     let mut total = 0usize;
-    for round in 0..TREE_FINDS {
-        if let Some(name) = names.get((round % NAMES) as usize) {
+    for _ in 0..TREE_FINDS / NAMES {
+        for name in names {
             total = total.saturating_add(tree.find(alloc, name)?.numbers.len());
         }
     }
@@ -42,30 +51,38 @@ pub fn plain_build(alloc: Global) -> Result<usize> {
 
 /// The same, and then 100 finds in it, each a walk over all pairs.
 pub fn plain_find(alloc: Global) -> Result<usize> {
-    let pairs = pairs(alloc)?;
-    let names = names(alloc)?;
+    Ok(find_plainly(&pairs(alloc)?, &names(alloc)?))
+}
+
+fn find_plainly(pairs: &[(u64, Pattern)], names: &[ChannelName]) -> usize {
     let mut total = 0usize;
-    for round in 0..PLAIN_FINDS {
-        if let Some(name) = names.get((round % NAMES) as usize) {
+    for _ in 0..PLAIN_FINDS / NAMES {
+        for name in names {
             let found = pairs.iter().filter(|pair| matches(&pair.1, name)).count();
             total = total.saturating_add(found);
         }
     }
-    Ok(total)
+    total
 }
 
 /// So many sessions with a pattern of their own: the tree is made, and there are so many finds in it, each of
 /// which finds one session.
 pub fn grown(alloc: Global, sessions: u64, finds: u64) -> Result<usize> {
     let mut tree = Tree::new(alloc);
+    grow_and_find(alloc, &mut tree, sessions, finds)
+}
+
+fn grow_and_find(alloc: Global, tree: &mut Tree, sessions: u64, finds: u64) -> Result<usize> {
     for number in 0..sessions {
-        let text = format!(in alloc; "/x/{number}")?;
-        tree.add(alloc, &Pattern::read(alloc, text.as_str())?, number)?;
+        tree.add(alloc, &pattern(alloc, "/x/", number, "")?, number)?;
     }
-    let name = ChannelName::read(alloc, "/x/7")?;
+    find_one(alloc, tree, &name(alloc, "/x/7")?, finds)
+}
+
+fn find_one(alloc: Global, tree: &Tree, name: &ChannelName, finds: u64) -> Result<usize> {
     let mut total = 0usize;
     for _ in 0..finds {
-        total = total.saturating_add(tree.find(alloc, &name)?.numbers.len());
+        total = total.saturating_add(tree.find(alloc, name)?.numbers.len());
     }
     Ok(total)
 }
@@ -75,25 +92,30 @@ const NAMES: u64 = 4;
 // Of a stock, which 14 sessions ask for; a room, which 10 do; what is below a session's own; and one of no session.
 fn names(alloc: Global) -> Result<Vec<ChannelName>> {
     let mut names = Vec::new(alloc);
-    for text in [
-        "/stock/4711",
-        "/room/17/talk",
-        "/user/4711/inbox",
-        "/nobody/asks/for/this",
-    ] {
-        names.push(ChannelName::read(alloc, text)?)?;
-    }
+    names.push(name(alloc, "/stock/4711")?)?;
+    names.push(name(alloc, "/room/17/talk")?)?;
+    names.push(name(alloc, "/user/4711/inbox")?)?;
+    names.push(name(alloc, "/nobody/asks/for/this")?)?;
     Ok(names)
 }
 
-fn many_sessions(alloc: Global) -> Result<Tree> {
-    let mut tree = Tree::new(alloc);
+fn name(alloc: Global, text: &str) -> Result<ChannelName> {
+    Ok(ChannelName::read(alloc, text)?)
+}
+
+// The patterns of all sessions; says how many the first has.
+fn put_all(alloc: Global, tree: &mut Tree) -> Result<usize> {
     for number in 0..SESSIONS {
-        for pattern in &patterns(alloc, number)? {
-            tree.add(alloc, pattern, number)?;
-        }
+        put(alloc, tree, number, &patterns(alloc, number)?)?;
     }
-    Ok(tree)
+    Ok(tree.count(0))
+}
+
+fn put(alloc: Global, tree: &mut Tree, number: u64, patterns: &[Pattern]) -> Result<()> {
+    for pattern in patterns {
+        tree.add(alloc, pattern, number)?;
+    }
+    Ok(())
 }
 
 fn pairs(alloc: Global) -> Result<Vec<(u64, Pattern)>> {
@@ -106,19 +128,21 @@ fn pairs(alloc: Global) -> Result<Vec<(u64, Pattern)>> {
     Ok(pairs)
 }
 
+// The patterns of the session of this number.
 fn patterns(alloc: Global, number: u64) -> Result<Vec<Pattern>> {
     let mut patterns = Vec::new(alloc);
-    let room = number % ROOMS;
-    let own = format!(in alloc; "/user/{number}")?;
-    patterns.push(Pattern::read(alloc, own.as_str())?)?;
-    let below = format!(in alloc; "/user/{number}/*")?;
-    patterns.push(Pattern::read(alloc, below.as_str())?)?;
-    let talk = format!(in alloc; "/room/{room}/**")?;
-    patterns.push(Pattern::read(alloc, talk.as_str())?)?;
+    patterns.push(pattern(alloc, "/user/", number, "")?)?;
+    patterns.push(pattern(alloc, "/user/", number, "/*")?)?;
+    patterns.push(pattern(alloc, "/room/", number % ROOMS, "/**")?)?;
     for k in 0..STOCKS_OF_ONE {
         let stock = number.wrapping_mul(STOCKS_OF_ONE).wrapping_add(k) % STOCKS;
-        let text = format!(in alloc; "/stock/{stock}")?;
-        patterns.push(Pattern::read(alloc, text.as_str())?)?;
+        patterns.push(pattern(alloc, "/stock/", stock, "")?)?;
     }
     Ok(patterns)
+}
+
+// The pattern of these two texts and the number between them.
+fn pattern(alloc: Global, before: &str, number: u64, behind: &str) -> Result<Pattern> {
+    let text = format!(in alloc; "{before}{number}{behind}")?;
+    Ok(Pattern::read(alloc, text.as_str())?)
 }

@@ -77,20 +77,22 @@ impl Server {
     }
 }
 
-// Opens the sessions, each with one subscription.
-fn open(alloc: Global, server: &mut Server) -> Result<()> {
+// Opens the sessions, each with one subscription. Says how many entries that makes.
+fn open(alloc: Global, server: &mut Server) -> Result<usize> {
     for number in 1..=SESSIONS {
-        let hello =
-            "{\"channel\":\"/meta/handshake\",\"version\":\"1.0\",\"supportedConnectionTypes\":[\"long-polling\"]}";
-        let channel = number % CHANNELS;
-        server.serve(
-            alloc,
-            format!(in alloc;
-                "[{hello},{{\"channel\":\"/meta/subscribe\",\"clientId\":\"{number:048x}\",\"subscription\":\"/stock/{channel}\"}}]"
-            )?,
-        )?;
+        server.serve(alloc, opening(alloc, number)?)?;
     }
-    Ok(())
+    Ok(server.entries as usize)
+}
+
+// A handshake of the session of this number, and its subscription.
+fn opening(alloc: Global, number: u64) -> Result<String> {
+    let hello =
+        "{\"channel\":\"/meta/handshake\",\"version\":\"1.0\",\"supportedConnectionTypes\":[\"long-polling\"]}";
+    let channel = number % CHANNELS;
+    Ok(format!(in alloc;
+        "[{hello},{{\"channel\":\"/meta/subscribe\",\"clientId\":\"{number:048x}\",\"subscription\":\"/stock/{channel}\"}}]"
+    )?)
 }
 
 // A request with publishes to so many channels from this one on.
@@ -117,27 +119,43 @@ fn connect(alloc: Global, number: u64) -> Result<String> {
 }
 
 /// 10,000 sessions are opened, in so many shards.
-pub fn opened(alloc: Global, shards: usize) -> Result<u64> {
+pub fn opened(alloc: Global, shards: usize) -> Result<usize> {
     let mut server = Server::new(alloc, shards)?;
-    open(alloc, &mut server)?;
-    Ok(server.entries)
+    open(alloc, &mut server)
 }
 
 /// The same, and then 900,000 publishes that reach ten sessions each, 100 in a request, and 100,000 connects that
 /// give what waits.
-pub fn run(alloc: Global, shards: usize) -> Result<u64> {
+pub fn run(alloc: Global, shards: usize) -> Result<usize> {
     let mut server = Server::new(alloc, shards)?;
-    open(alloc, &mut server)?;
+    run_in(alloc, &mut server)
+}
+
+fn run_in(alloc: Global, server: &mut Server) -> Result<usize> {
+    open(alloc, server)?;
     let mut events = 0u64;
     for _ in 0..ROUNDS {
-        for _ in 0..90 {
-            for request in 0..CHANNELS / PUBLISHES {
-                server.serve(alloc, publishes(alloc, request.wrapping_mul(PUBLISHES))?)?;
-            }
-        }
-        for number in 1..=SESSIONS {
-            events = events.wrapping_add(server.serve(alloc, connect(alloc, number)?)?);
+        publish_all(alloc, server)?;
+        events = events.wrapping_add(connect_all(alloc, server)?);
+    }
+    Ok(server.entries.wrapping_add(events) as usize)
+}
+
+// 90 publishes to each channel.
+fn publish_all(alloc: Global, server: &mut Server) -> Result<()> {
+    for _ in 0..90 {
+        for request in 0..CHANNELS / PUBLISHES {
+            server.serve(alloc, publishes(alloc, request.wrapping_mul(PUBLISHES))?)?;
         }
     }
-    Ok(server.entries.wrapping_add(events))
+    Ok(())
+}
+
+// A connect of each session. Says how many events they are given.
+fn connect_all(alloc: Global, server: &mut Server) -> Result<u64> {
+    let mut events = 0u64;
+    for number in 1..=SESSIONS {
+        events = events.wrapping_add(server.serve(alloc, connect(alloc, number)?)?);
+    }
+    Ok(events)
 }

@@ -5,8 +5,6 @@ mod entry;
 mod input;
 mod placing;
 mod read;
-#[cfg(test)]
-mod tests;
 
 pub use entry::{Batch, Entry, Kind, Slot, Ticket};
 pub use input::{Arrival, BodyFault, Input, Refusal};

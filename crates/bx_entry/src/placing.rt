@@ -84,23 +84,3 @@ impl Placing for ByTable {
         usize::from(self.table[row]) % shards
     }
 }
-
-#[cfg(test)]
-mod tests {
-    use super::*;
-    use std::test::Fail;
-
-    #[test]
-    fn places_by_rule(rt: HostRuntime) -> Result<(), Fail> {
-        assert_eq!(rt; ByRemainder.place(1, 2), 1);
-        assert_eq!(rt; ByRemainder.place(2, 2), 0);
-        assert_eq!(rt; AllFirst.place(7, 2), 0);
-        let table = ByTable::new(rt.alloc(), &[1, 0, 0])?;
-        for (number, shard) in [(1, 0), (2, 0), (3, 1)] {
-            assert_eq!(rt; table.place(number, 2), shard, "session {number}");
-        }
-        let empty = ByTable::new(rt.alloc(), &[])?;
-        assert_eq!(rt; empty.place(5, 2), 0);
-        Ok(())
-    }
-}

@@ -75,9 +75,9 @@ module _ {P : Type 0} {g : Ghosts P} where
       }
 
   -- and where the input is whole with them, and no connect is held
-  pub stands-whole : (p : Parts P g) (n m : Newest) (last : Option Newest) (behind : ℕ) → p.newest ≡ Some n → last ≡ None → p.desk ≡ [] → ((setup : Setup) (w : WorldState) → IsCollected setup w n → IsCollected setup w m) → Collects n m →
-      m.slots.items ≡ [] → Stands p → Stands (record p { newest = last; whole = Some m; behind = behind })
-  stands-whole p n m last behind is gone bare so_far collects none i =
+  pub stands-whole : (p : Parts P g) (n m : Newest) (last : Option Newest) (reached : ℕ) → p.newest ≡ Some n → last ≡ None → p.desk ≡ [] → ((setup : Setup) (w : WorldState) → IsCollected setup w n → IsCollected setup w m) → Collects n m →
+      m.slots.items ≡ [] → Stands p → Stands (record p { newest = last; whole = Some m; reached = reached })
+  stands-whole p n m last reached is gone bare so_far collects none i =
       let inputs : List ReadInput = map read_input p.inputs in
       let added : List runs.Out = map seen_out p.added in
       let batch = p.world.admission.config.limits.some_batch in

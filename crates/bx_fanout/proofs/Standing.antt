@@ -43,13 +43,13 @@ module _ {P : Type 0} {g : Ghosts P} where
     staged = staged-same (setup_of v) (setup_of p.world) (map read_input p.inputs) (world_of p.world) (world_of v) p.desk p.newest p.whole (map seen_out p.added) setup list taken i.staged;
   }
 
-  -- so many inputs were passed over
-  pub stands-behind : (p : Parts P g) (behind : ℕ) → Stands p → Stands (record p { behind = behind })
-  stands-behind p behind i = record { shards = i.shards; counted = i.counted; ended = i.ended; staged = i.staged }
+  -- the shards were seen to have come up to here
+  pub stands-reached : (p : Parts P g) (reached : ℕ) → Stands p → Stands (record p { reached = reached })
+  stands-reached p reached i = record { shards = i.shards; counted = i.counted; ended = i.ended; staged = i.staged }
 
   -- the shards were brought up
-  pub stands-level : (p : Parts P g) (v : World P g) → setup_of v ≡ setup_of p.world → (world_of v).list ≡ (world_of p.world).list → (world_of v).taken ≡ (world_of p.world).taken → Stands p → Stands (record p { world = v; behind = 0 })
-  stands-level p v setup list taken i = stands-behind (record p { world = v }) 0 (stands-over p v setup list taken i)
+  pub stands-level : (p : Parts P g) (v : World P g) → setup_of v ≡ setup_of p.world → (world_of v).list ≡ (world_of p.world).list → (world_of v).taken ≡ (world_of p.world).taken → Stands p → Stands (record p { world = v; reached = p.end })
+  stands-level p v setup list taken i = stands-reached (record p { world = v }) p.end (stands-over p v setup list taken i)
 
   -- sessions were dealt anew among so many shards
   pub stands-dealt : (p : Parts P g) (v : World P g) (shards : ℕ) (placing : ℕ → ℕ → ℕ) → setup_of v ≡ record (setup_of p.world) { shards = shards; placing = placing } →

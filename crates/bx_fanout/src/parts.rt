@@ -1,5 +1,5 @@
 //! The parts of a round, and its steps.
-ghost use Rattle.std.specs.Prelude.{ℕ, ◌≡◌, ◌+◌, ◌++◌, ◌≤◌, ◌<◌, ◌^◌, [], ◌∷◌, length, slice_get, IsTrue, None, Some, IfOk, OnErr, OnOk};
+ghost use Rattle.std.specs.Prelude.{ℕ, ◌≡◌, ◌+◌, ◌-◌, ◌++◌, ◌≤◌, ◌<◌, ◌^◌, [], ◌∷◌, length, slice_get, IsTrue, None, Some, IfOk, OnErr, OnOk};
 ghost use Rattle.bx_fanout.specs.Newests.{IsLevel};
 ghost use Rattle.bx_fanout.specs.Parts.{AddsOuts, IsCalm, IsDone, Stands, count_by};
 ghost use Rattle.std.specs.Arc.{arc_value};
@@ -38,8 +38,8 @@ pub(crate) struct Parts<P: Placing> {
     pub(crate) dealt: usize,
     /// How long the list is.
     pub(crate) end: u64,
-    /// How many inputs were passed over since the shards were brought up last.
-    pub(crate) behind: usize,
+    /// Where the list ended when all shards were there last.
+    pub(crate) reached: u64,
     pub(crate) inputs: History<Input>,
     pub(crate) added: History<Out>,
 }
@@ -64,7 +64,7 @@ pub(crate) fn new_parts<P: Placing + Drop>(
         whole: None,
         dealt: 0,
         end: 0,
-        behind: 0,
+        reached: 0,
         inputs: History::new(),
         added: History::new(),
     })
@@ -89,25 +89,37 @@ pub(crate) fn finish<R: Threads + Sync, G: Gate + Sync, P: Placing + Send + Sync
 {
     let workers = workers_for(parts, workers);
     level(rt, alloc, gate, workers, &mut parts.world)?;
-    parts.behind = 0;
+    parts.reached = parts.end;
     collect_last(alloc, parts)
 }
 
-// How many of so many workers bring the shards up. A sole connect is an entry for one session, so one worker does where
-// nothing else is left to be applied.
-fn workers_for<P: Placing>(parts: &Parts<P>, workers: usize) -> usize
+/// How many events make it worth to start and join threads, which takes as long as some hundred deliveries.
+const SHARED_WORK: u64 = 1_024;
+
+/// How many of so many workers bring the shards up. A connect reaches its own session alone, and any other entry gives
+/// each session one event at the most: one worker does where few events can come of the entries that shards lack.
+pub(crate) fn workers_for<P: Placing>(parts: &Parts<P>, workers: usize) -> usize
     requires some_worker { 1 ≤ workers }
     ensures some_worker { 1 ≤ result }
     ensures no_more { result ≤ workers }
 {
-    let Some(newest) = &parts.newest else {
-        return workers;
+    let sessions = parts.world.sessions() as u64;
+    let entries = match &parts.newest {
+        Some(newest) if waits_alone(newest) => lacking(parts).saturating_sub(1),
+        _ => lacking(parts),
     };
-    if parts.behind == 0 && waits_alone(newest) {
+    if entries.saturating_mul(sessions) < SHARED_WORK {
         1
     } else {
         workers
     }
+}
+
+/// How many entries the list got since all shards were at its end: as many as any shard lacks, or more.
+pub(crate) fn lacking<P: Placing>(parts: &Parts<P>) -> u64
+    ensures { result ≡ parts.now.end - parts.now.reached }
+{
+    parts.end.saturating_sub(parts.reached)
 }
 
 // Whether its only message is a connect, the answer to which is not here.

@@ -4,18 +4,19 @@ ghost use Rattle.bx_fanout.specs.Parts.{IsCalm, IsSettled, Stands};
 ghost use Rattle.bx_world.specs.Seen.{setup_of};
 
 use crate::level::level;
-use crate::parts::Parts;
+use crate::parts::{Parts, lacking, workers_for};
 use crate::ready::collect_ready;
 use bx_entry::Placing;
 use bx_workers::Gate;
 use std::alloc::{AllocError, Global};
 use std::thread::Threads;
 
-/// How many inputs are passed over in a row at the most.
-const DEFERRED_LIMIT: usize = 1_024;
+/// Up to how many entries the shards may lack where an input is passed over.
+const DEFERRED_LIMIT: u64 = 1_024;
 
-/// Brings the last input to its end where no connect is held and all its messages are answered at once, and says whether
-/// nothing is left to be collected. The shards stay as they are: nobody waits for what they would file.
+/// Brings the last input to its end where no connect is held, the shards lack few entries, and all its messages are
+/// answered at once, and says whether nothing is left to be collected. The shards stay as they are: nobody waits for what
+/// they would file.
 pub(crate) fn pass_over<P: Placing>(alloc: Global, parts: &mut Parts<P>) -> Result<bool, AllocError>
     requires stands { Stands parts.old }
     ensures stands { Stands parts.new }
@@ -27,14 +28,13 @@ pub(crate) fn pass_over<P: Placing>(alloc: Global, parts: &mut Parts<P>) -> Resu
     let Some(mut newest) = parts.newest.take() else {
         return Ok(true);
     };
-    if parts.behind >= DEFERRED_LIMIT || !parts.desk.is_empty() {
+    if lacking(parts) > DEFERRED_LIMIT || !parts.desk.is_empty() {
         parts.newest = Some(newest);
         return Ok(false);
     }
     match collect_ready(alloc, &mut newest) {
         Ok(true) => {
             parts.whole = Some(newest);
-            parts.behind += 1;
             Ok(true)
         }
         Ok(false) => {
@@ -66,8 +66,8 @@ pub(crate) fn catch_up<R: Threads + Sync, G: Gate + Sync, P: Placing + Send + Sy
     ensures added { parts.new.added ≡ parts.old.added }
     ensures setup { setup_of parts.new.world ≡ setup_of parts.old.world }
 {
-    let workers = if parts.behind == 0 { 1 } else { workers };
+    let workers = workers_for(parts, workers);
     level(rt, alloc, gate, workers, &mut parts.world)?;
-    parts.behind = 0;
+    parts.reached = parts.end;
     Ok(())
 }

@@ -67,7 +67,7 @@ fn deal_anew<P: Placing + Drop>(
         whole,
         dealt,
         end,
-        behind,
+        reached,
         inputs,
         added,
     } = parts;
@@ -80,7 +80,7 @@ fn deal_anew<P: Placing + Drop>(
             whole,
             dealt,
             end,
-            behind,
+            reached,
             inputs,
             added,
         }),
@@ -93,7 +93,7 @@ fn deal_anew<P: Placing + Drop>(
                 whole,
                 dealt,
                 end,
-                behind,
+                reached,
                 inputs,
                 added,
             };
@@ -112,7 +112,7 @@ fn finish_here<P: Placing>(alloc: Global, parts: &mut Parts<P>) -> Result<(), Al
     ensures setup { setup_of parts.new.world ≡ setup_of parts.old.world }
 {
     bring_up_all(alloc, &mut parts.world, parts.shards)?;
-    parts.behind = 0;
+    parts.reached = parts.end;
     collect_last(alloc, parts)
 }
 

@@ -7,7 +7,7 @@ use bx_entry::{Arrival, ByTable, Input};
 use bx_fanout::{Out, Round};
 use bx_message::body_text;
 use bx_workers::{Gate, OpenGate};
-use std::alloc::Global;
+use std::alloc::{AllocError, Global};
 use std::hint;
 use std::process::Abort;
 use std::sync::Arc;
@@ -15,8 +15,18 @@ use std::sync::atomic::{AtomicBool, Ordering};
 use std::test::Fail;
 use std::thread::Threads;
 
-// Two handshakes, a subscription and a connect of the first session, and an event from the second one that answers the
-// connect. Each with its moment.
+// How many sessions are opened before the inputs, a request each. They hear nothing; but with fewer live sessions one worker
+// does for so few entries.
+const CROWD: usize = 1_024;
+
+// More than any test has.
+const MOST_INPUTS: usize = 10_000;
+
+const HANDSHAKE: &str =
+    r#"{"channel":"/meta/handshake","version":"1.0","supportedConnectionTypes":["long-polling"]}"#;
+
+// Two handshakes, a subscription and a connect of the first of these sessions, and an event from the second one that
+// answers the connect. Each with its moment.
 const INPUTS: [(u64, &str); 5] = [
     (
         0,
@@ -28,37 +38,37 @@ const INPUTS: [(u64, &str); 5] = [
     ),
     (
         0,
-        r#"{"channel":"/meta/subscribe","clientId":"000000000000000000000000000000000000000000000001","subscription":"/a/*"}"#,
+        r#"{"channel":"/meta/subscribe","clientId":"000000000000000000000000000000000000000000000401","subscription":"/a/*"}"#,
     ),
     (
         10,
-        r#"{"channel":"/meta/connect","clientId":"000000000000000000000000000000000000000000000001","connectionType":"long-polling"}"#,
+        r#"{"channel":"/meta/connect","clientId":"000000000000000000000000000000000000000000000401","connectionType":"long-polling"}"#,
     ),
     (
         20,
-        r#"{"channel":"/a/b","clientId":"000000000000000000000000000000000000000000000002","data":7}"#,
+        r#"{"channel":"/a/b","clientId":"000000000000000000000000000000000000000000000402","data":7}"#,
     ),
 ];
 
 // The number of each out and its response, in the order in which they are added.
 const OUTS: [(usize, &str); 5] = [
     (
-        0,
-        r#"[{"advice":{"interval":0,"reconnect":"retry","timeout":30000},"channel":"/meta/handshake","clientId":"000000000000000000000000000000000000000000000001","successful":true,"supportedConnectionTypes":["long-polling","callback-polling"],"version":"1.0"}]"#,
+        1_024,
+        r#"[{"advice":{"interval":0,"reconnect":"retry","timeout":30000},"channel":"/meta/handshake","clientId":"000000000000000000000000000000000000000000000401","successful":true,"supportedConnectionTypes":["long-polling","callback-polling"],"version":"1.0"}]"#,
     ),
     (
-        1,
-        r#"[{"advice":{"interval":0,"reconnect":"retry","timeout":30000},"channel":"/meta/handshake","clientId":"000000000000000000000000000000000000000000000002","successful":true,"supportedConnectionTypes":["long-polling","callback-polling"],"version":"1.0"}]"#,
+        1_025,
+        r#"[{"advice":{"interval":0,"reconnect":"retry","timeout":30000},"channel":"/meta/handshake","clientId":"000000000000000000000000000000000000000000000402","successful":true,"supportedConnectionTypes":["long-polling","callback-polling"],"version":"1.0"}]"#,
     ),
     (
-        2,
-        r#"[{"channel":"/meta/subscribe","clientId":"000000000000000000000000000000000000000000000001","subscription":"/a/*","successful":true}]"#,
+        1_026,
+        r#"[{"channel":"/meta/subscribe","clientId":"000000000000000000000000000000000000000000000401","subscription":"/a/*","successful":true}]"#,
     ),
     (
-        3,
-        r#"[{"channel":"/a/b","data":7},{"advice":{"interval":0,"reconnect":"retry","timeout":30000},"channel":"/meta/connect","clientId":"000000000000000000000000000000000000000000000001","successful":true}]"#,
+        1_027,
+        r#"[{"channel":"/a/b","data":7},{"advice":{"interval":0,"reconnect":"retry","timeout":30000},"channel":"/meta/connect","clientId":"000000000000000000000000000000000000000000000401","successful":true}]"#,
     ),
-    (4, r#"[{"channel":"/a/b","successful":true}]"#),
+    (1_028, r#"[{"channel":"/a/b","successful":true}]"#),
 ];
 
 // In which shards sessions stand, over and over: in turn, all in the first shard, and some together.
@@ -69,22 +79,44 @@ const LOOKS: u32 = 10_000_000;
 
 // So many of the inputs.
 fn inputs(alloc: Global, count: usize) -> Result<Vec<Input>, Fail> {
+    requests(alloc, INPUTS.get(..count).ok_or("too few inputs")?)
+}
+
+// A request of each of these moments and bodies.
+fn requests(alloc: Global, table: &[(u64, &str)]) -> Result<Vec<Input>, Fail> {
     let mut inputs = Vec::new(alloc);
-    for (moment, body) in INPUTS.iter().take(count) {
-        inputs.push(Input::Post(Arrival {
-            moment: *moment,
-            nonce: 0,
-            bodies: Bodies::Whole(body.as_bytes().to_vec(alloc)?),
-        }))?;
+    for (moment, body) in table {
+        inputs.push(request(*moment, body.as_bytes().to_vec(alloc)?))?;
     }
     Ok(inputs)
 }
 
-// A round of three shards, in which sessions stand by this table.
+fn request(moment: u64, body: Vec<u8>) -> Input {
+    Input::Post(Arrival {
+        moment,
+        nonce: 0,
+        bodies: Bodies::Whole(body),
+    })
+}
+
+// The requests of the crowd.
+fn crowd(alloc: Global) -> Result<Vec<Input>, AllocError> {
+    let mut inputs = Vec::new(alloc);
+    for _ in 0..CROWD {
+        inputs.push(request(0, HANDSHAKE.as_bytes().to_vec(alloc)?))?;
+    }
+    Ok(inputs)
+}
+
+// A round of two shards, in which sessions stand by this table.
 fn round(alloc: Global, table: &[u8], workers: usize) -> Result<Option<Round<ByTable>>, Fail> {
-    let config = Config::new(3, 30_000, 0, 10_000).ok_or("no configuration")?;
+    let config = Config::new(2, 30_000, 0, 10_000).ok_or("no configuration")?;
     let placing = Arc::new(alloc, ByTable::new(alloc, table)?)?;
     Ok(Round::new(alloc, config, placing, workers)?)
+}
+
+fn some_round(alloc: Global, table: &[u8], workers: usize) -> Result<Round<ByTable>, Fail> {
+    Ok(round(alloc, table, workers)?.ok_or("no round")?)
 }
 
 // Deals with these inputs, as one run.
@@ -96,7 +128,7 @@ fn run<R: Threads + Sync, G: Gate + Sync>(
     inputs: &[Input],
     outs: &mut Vec<Out>,
 ) -> Result<(), Fail> {
-    if round.dealt() > 100 || inputs.len() > 100 {
+    if round.dealt() > MOST_INPUTS || inputs.len() > MOST_INPUTS {
         return Err(Fail::from("too many inputs"));
     }
     round
@@ -105,24 +137,33 @@ fn run<R: Threads + Sync, G: Gate + Sync>(
     Ok(())
 }
 
-// What the inputs give, so many of them in a run.
-fn given<R: Threads + Sync, G: Gate + Sync>(
+// Opens the sessions of the crowd.
+fn open_crowd<R: Threads + Sync>(
+    rt: &R,
+    alloc: Global,
+    round: &mut Round<ByTable>,
+) -> Result<(), Fail> {
+    let mut outs = Vec::new(alloc);
+    run(rt, alloc, &OpenGate, round, &crowd(alloc)?, &mut outs)
+}
+
+// Behind the crowd, the inputs give the right outs, so many of them in a run.
+fn check_given<R: Abort + Threads + Sync, G: Gate + Sync>(
     rt: &R,
     alloc: Global,
     gate: &G,
-    table: &[u8],
-    workers: usize,
+    round: &mut Round<ByTable>,
     at_once: usize,
-) -> Result<Vec<Out>, Fail>
+) -> Result<(), Fail>
     requires { 1 ≤ at_once }
 {
+    open_crowd(rt, alloc, round)?;
     let inputs = inputs(alloc, INPUTS.len())?;
-    let mut round = round(alloc, table, workers)?.ok_or("no round")?;
     let mut outs = Vec::new(alloc);
     for part in inputs.chunks(at_once) {
-        run(rt, alloc, gate, &mut round, part, &mut outs)?;
+        run(rt, alloc, gate, round, part, &mut outs)?;
     }
-    Ok(outs)
+    check(rt, alloc, &outs)
 }
 
 fn check<R: Abort>(rt: &R, alloc: Global, outs: &[Out]) -> Result<(), Fail> {
@@ -143,8 +184,8 @@ fn one_run_gives_what_several_give(rt: HostRuntime) -> Result<(), Fail> {
     let alloc = rt.alloc();
     for table in TABLES {
         for (workers, at_once) in [(1, 5), (1, 1), (16, 5), (16, 1)] {
-            let outs = given(&rt, alloc, &OpenGate, table, workers, at_once)?;
-            check(&rt, alloc, &outs)?;
+            let mut round = some_round(alloc, table, workers)?;
+            check_given(&rt, alloc, &OpenGate, &mut round, at_once)?;
         }
     }
     Ok(())
@@ -156,6 +197,14 @@ struct Holding {
     held: usize,
     is_free: AtomicBool,
     gave_up: AtomicBool,
+}
+
+fn gate_for(held: usize) -> Holding {
+    Holding {
+        held,
+        is_free: AtomicBool::new(false),
+        gave_up: AtomicBool::new(false),
+    }
 }
 
 impl Gate for Holding {
@@ -185,12 +234,9 @@ impl Gate for Holding {
 fn workers_run_beside_one_another(rt: HostRuntime) -> Result<(), Fail> {
     let alloc = rt.alloc();
     for held in [0, 1] {
-        let gate = Holding {
-            held,
-            is_free: AtomicBool::new(false),
-            gave_up: AtomicBool::new(false),
-        };
-        check(&rt, alloc, &given(&rt, alloc, &gate, &[0, 1, 2], 2, 5)?)?;
+        let gate = gate_for(held);
+        let mut round = some_round(alloc, &[0, 1, 2], 2)?;
+        check_given(&rt, alloc, &gate, &mut round, 5)?;
         assert!(rt;
             gate.is_free.load(Ordering::SeqCst),
             "worker {held} was alone"
@@ -200,34 +246,124 @@ fn workers_run_beside_one_another(rt: HostRuntime) -> Result<(), Fail> {
     Ok(())
 }
 
-#[test]
-fn a_connect_is_held_until_its_event(rt: HostRuntime) -> Result<(), Fail> {
-    let alloc = rt.alloc();
-    let held: [(usize, &[usize]); 3] = [(3, &[]), (4, &[3]), (5, &[])];
-    for (count, expected) in held {
-        let inputs = inputs(alloc, count)?;
-        let mut round = round(alloc, &[0, 1, 2], 2)?.ok_or("no round")?;
-        let mut outs = Vec::new(alloc);
-        run(&rt, alloc, &OpenGate, &mut round, &inputs, &mut outs)?;
-        assert_eq!(rt; round.held(alloc)?.as_slice(), expected, "{count} inputs");
-        assert_eq!(rt; round.dealt(), count);
-    }
+// Behind the crowd and so many of the inputs, these connects are held.
+fn check_held<R: Abort + Threads + Sync>(
+    rt: &R,
+    alloc: Global,
+    round: &mut Round<ByTable>,
+    count: usize,
+    expected: &[usize],
+) -> Result<(), Fail> {
+    open_crowd(rt, alloc, round)?;
+    let mut outs = Vec::new(alloc);
+    run(
+        rt,
+        alloc,
+        &OpenGate,
+        round,
+        &inputs(alloc, count)?,
+        &mut outs,
+    )?;
+    assert_eq!(rt; round.held(alloc)?.as_slice(), expected, "{count} inputs");
+    assert_eq!(rt; round.dealt(), count.saturating_add(CROWD));
     Ok(())
 }
 
 #[test]
-fn a_held_connect_goes_with_its_session(rt: HostRuntime) -> Result<(), Fail> {
+fn a_connect_is_held_until_its_event(rt: HostRuntime) -> Result<(), Fail> {
     let alloc = rt.alloc();
+    let held: [(usize, &[usize]); 3] = [(3, &[]), (4, &[1_027]), (5, &[])];
+    for (count, expected) in held {
+        let mut round = some_round(alloc, &[0, 1, 2], 2)?;
+        check_held(&rt, alloc, &mut round, count, expected)?;
+    }
+    Ok(())
+}
+
+// Deals with the crowd and all inputs but the last one, so that a connect is held.
+fn hold<R: Threads + Sync>(
+    rt: &R,
+    alloc: Global,
+    round: &mut Round<ByTable>,
+    outs: &mut Vec<Out>,
+) -> Result<(), Fail> {
+    open_crowd(rt, alloc, round)?;
     let inputs = inputs(alloc, INPUTS.len())?;
     let held = inputs.get(..4).ok_or("too few inputs")?;
+    run(rt, alloc, &OpenGate, round, held, outs)
+}
+
+// Deals with the last input, and checks all outs.
+fn answer_held<R: Abort + Threads + Sync, G: Gate + Sync>(
+    rt: &R,
+    alloc: Global,
+    gate: &G,
+    round: &mut Round<ByTable>,
+    outs: &mut Vec<Out>,
+) -> Result<(), Fail> {
+    let inputs = inputs(alloc, INPUTS.len())?;
     let event = inputs.get(4..).ok_or("too few inputs")?;
-    let mut round = round(alloc, &[0, 1, 2], 2)?.ok_or("no round")?;
-    let mut outs = Vec::new(alloc);
-    run(&rt, alloc, &OpenGate, &mut round, held, &mut outs)?;
+    run(rt, alloc, gate, round, event, outs)?;
+    check(rt, alloc, outs)
+}
+
+// The round with five shards and another table.
+fn moved(alloc: Global, round: Round<ByTable>) -> Result<Round<ByTable>, Fail> {
     let placing = Arc::new(alloc, ByTable::new(alloc, &[4, 3])?)?;
-    let mut round = round.reshard(alloc, 5, placing).map_err(|_| "no memory")?;
-    run(&rt, alloc, &OpenGate, &mut round, event, &mut outs)?;
-    check(&rt, alloc, &outs)
+    Ok(round.reshard(alloc, 5, placing).map_err(|_| "no memory")?)
+}
+
+// The workers are there after the move as well.
+#[test]
+fn a_held_connect_goes_with_its_session(rt: HostRuntime) -> Result<(), Fail> {
+    let alloc = rt.alloc();
+    let gate = gate_for(0);
+    let mut outs = Vec::new(alloc);
+    let mut round = some_round(alloc, &[0, 1, 2], 2)?;
+    hold(&rt, alloc, &mut round, &mut outs)?;
+    let mut round = moved(alloc, round)?;
+    answer_held(&rt, alloc, &gate, &mut round, &mut outs)?;
+    assert!(rt; !gate.gave_up.load(Ordering::SeqCst));
+    Ok(())
+}
+
+// A handshake and two connects of its session, of which the second ends the first.
+const CONNECTS: [(u64, &str); 3] = [
+    (0, HANDSHAKE),
+    (
+        1,
+        r#"{"channel":"/meta/connect","clientId":"000000000000000000000000000000000000000000000001","connectionType":"long-polling"}"#,
+    ),
+    (
+        2,
+        r#"{"channel":"/meta/connect","clientId":"000000000000000000000000000000000000000000000001","connectionType":"long-polling"}"#,
+    ),
+];
+
+fn check_newer_held<R: Abort + Threads + Sync>(
+    rt: &R,
+    alloc: Global,
+    round: &mut Round<ByTable>,
+) -> Result<(), Fail> {
+    let mut outs = Vec::new(alloc);
+    run(
+        rt,
+        alloc,
+        &OpenGate,
+        round,
+        &requests(alloc, &CONNECTS)?,
+        &mut outs,
+    )?;
+    assert_eq!(rt; round.held(alloc)?.as_slice(), [2].as_slice());
+    assert_eq!(rt; round.dealt(), 3);
+    Ok(())
+}
+
+#[test]
+fn a_newer_connect_is_held(rt: HostRuntime) -> Result<(), Fail> {
+    let alloc = rt.alloc();
+    let mut round = some_round(alloc, &[0, 1, 2], 2)?;
+    check_newer_held(&rt, alloc, &mut round)
 }
 
 #[test]

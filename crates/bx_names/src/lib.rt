@@ -12,8 +12,6 @@ mod name;
 mod pattern;
 mod segments;
 mod tail;
-#[cfg(test)]
-mod tests;
 
 pub use error::NameError;
 pub use fault::{name_fault, pattern_fault};

@@ -65,6 +65,13 @@ impl Registry {
         *length
     }
 
+    /// How many sessions are live.
+    pub fn sessions(&self) -> usize
+        ensures { result ≡ length self.now.members.live }
+    {
+        self.table.counts().0
+    }
+
     /// Whether the session with this number is live.
     pub fn live(&self, number: u64) -> bool
         ensures { result ≡ list_any (λ (r : Registered). r.number == number) self.now.members.live }

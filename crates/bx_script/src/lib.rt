@@ -8,8 +8,6 @@ mod lines;
 mod number;
 mod part;
 mod print;
-#[cfg(test)]
-mod tests;
 
 pub use error::ScriptFault;
 pub use line::Line;

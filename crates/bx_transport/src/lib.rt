@@ -8,8 +8,6 @@ mod form;
 mod laws;
 mod request;
 mod response;
-#[cfg(test)]
-mod tests;
 
 pub use error::TransportError;
 pub use laws::scripts_read_the_same;

@@ -7,8 +7,6 @@ mod nodes;
 mod own_path;
 mod path_lists;
 mod sessions;
-#[cfg(test)]
-mod tests;
 mod tree;
 
 pub use found::Found;

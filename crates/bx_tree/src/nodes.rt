@@ -33,15 +33,6 @@ impl Nodes {
         }
     }
 
-    /// How many lists there are.
-    #[cfg(test)]
-    pub(crate) fn len(&self) -> usize {
-        self.exact
-            .len()
-            .saturating_add(self.one.len())
-            .saturating_add(self.many.len())
-    }
-
     /// Lets a number stand for a pattern. Nothing changes where memory is refused.
     pub(crate) fn add(
         &mut self,

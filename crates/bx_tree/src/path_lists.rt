@@ -28,12 +28,6 @@ impl PathLists {
         }
     }
 
-    /// How many paths have numbers.
-    #[cfg(test)]
-    pub(crate) fn len(&self) -> usize {
-        self.by_path.len()
-    }
-
     /// The numbers at a path, in order. This alone reaches a list for a walk, and counts that it did.
     pub(crate) fn reach(&self, path: &str, visited: &mut usize) -> Option<&BTreeSet<u64>>
         requires { visited.old + 1 < 2 ^ 64 }

@@ -187,10 +187,4 @@ impl Tree {
         found.settle();
         Ok(found)
     }
-
-    /// How many lists the tree keeps: one for each pattern that is in force for some number.
-    #[cfg(test)]
-    pub(crate) fn list_count(&self) -> usize {
-        self.nodes.len()
-    }
 }

@@ -11,7 +11,7 @@ use bx_shard::Shard;
 use std::alloc::{AllocError, Global};
 use std::hint;
 use std::sync::Arc;
-use std::sync::atomic::{AtomicBool, Ordering};
+use std::sync::atomic::{AtomicBool, AtomicU64, Ordering};
 use std::test::Fail;
 use std::thread::Threads;
 
@@ -166,6 +166,58 @@ fn workers_run_beside_one_another(rt: HostRuntime) -> Result<(), Fail> {
         let (_shards, behind) = brought_up(&rt, alloc, &gate, 2, 2)?;
         assert_eq!(rt; behind, 0);
         assert!(rt; !gate.gave_up.load(Ordering::SeqCst), "worker {held}");
+    }
+    Ok(())
+}
+
+// Counts the calls of a gate, and adds up 10 to the power of each worker, so that each worker has a digit.
+#[derive(Drop)]
+struct Counting {
+    before: AtomicU64,
+    after: AtomicU64,
+}
+
+fn digit(worker: usize) -> u64 {
+    match worker {
+        0 => 1,
+        1 => 10,
+        2 => 100,
+        _ => 1_000,
+    }
+}
+
+impl Gate for Counting {
+    fn before(&self, worker: usize) {
+        self.before.fetch_add(digit(worker), Ordering::SeqCst);
+    }
+
+    fn after(&self, worker: usize) {
+        self.after.fetch_add(digit(worker), Ordering::SeqCst);
+    }
+}
+
+// No clause says which workers there are: those that have a part of the shards, which are as many in each part but the
+// last. Each passes the gate once.
+#[test]
+fn each_worker_passes_the_gate_once(rt: HostRuntime) -> Result<(), Fail> {
+    let alloc = rt.alloc();
+    for (workers, count, passed) in [(1, 5, 1), (2, 5, 11), (3, 5, 111), (2, 1, 1), (4, 6, 111)] {
+        let gate = Counting {
+            before: AtomicU64::new(0),
+            after: AtomicU64::new(0),
+        };
+        let (_shards, behind) = brought_up(&rt, alloc, &gate, workers, count)?;
+        assert_eq!(rt; behind, 0);
+        assert_eq!(rt;
+            gate.before.load(Ordering::SeqCst),
+            passed,
+            "{workers} workers"
+        );
+        assert_eq!(rt;
+            gate.after.load(Ordering::SeqCst),
+            passed,
+            "{workers} workers"
+        );
     }
     Ok(())
 }

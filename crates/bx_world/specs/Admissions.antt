@@ -1,9 +1,9 @@
 -- The admission side of the world: the list, who is live, and the entries that some shard has not applied yet.
-use Rattle.std.specs.Prelude.{ℕ, ◌≡◌, length, List, drop, ◌++◌, Result, Ok, Err, Some, None}
+use Rattle.std.specs.Prelude.{ℕ, ◌≡◌, length, List, drop, filter, ◌++◌, Result, Ok, Err, Some, None}
 use Rattle.bx_advice.specs.declared.config.Config.{Config}
 use Rattle.bx_entry.specs.Inputs.{ReadInput, added_by, refusal_of}
 use Rattle.bx_entry.specs.Listing.{Listed}
-use Rattle.bx_entry.specs.Registry.{registry, entries}
+use Rattle.bx_entry.specs.Registry.{Registered, Registry, registry, entries}
 use Rattle.bx_entry.specs.declared.entry.Entry.{Entry}
 use Rattle.bx_entry.specs.declared.entry.Slot.{Slot}
 use Rattle.bx_entry.specs.declared.entry.Slot.TheVariants as answers
@@ -32,6 +32,10 @@ entries_kept a = drop a.first (entries a.config a.list)
 pub record IsAdmitting (roll : Roll) (kept : Entries) (list : List Listed) : Type 0 where
   pub registered : roll ≡ roll_of roll.config (registry roll.config list)
   pub entered : kept.all ≡ entries roll.config list
+
+-- how many sessions are live
+abbrev pub count_live : Registry → ℕ
+count_live r = length (filter (λ (s : Registered). s.live) r.sessions)
 
 -- this configuration with so many shards and a placing of sessions
 abbrev pub placed_by : Config → ℕ → (ℕ → ℕ → ℕ) → Setup

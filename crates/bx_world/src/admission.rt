@@ -2,11 +2,11 @@
 ghost use Rattle.std.specs.Prelude.{ℕ, ◌≡◌, ◌≤◌, [], length, map, slice_get, option_map, max, IfOk, IfSome, Err};
 ghost use Rattle.bx_advice.specs.Limits.{greatest_length};
 ghost use Rattle.bx_entry.specs.Inputs.{refusal_of};
-ghost use Rattle.bx_entry.specs.Registry.{entries};
+ghost use Rattle.bx_entry.specs.Registry.{entries, registry};
 ghost use Rattle.bx_entry.specs.Requests.{read_input};
 ghost use Rattle.bx_entry.specs.declared.input.Input.TheVariants.{Post, Tick};
 ghost use Rattle.bx_workers.specs.Upward.{BroughtUp, count_behind};
-ghost use Rattle.bx_world.specs.Admissions.{IsAdmission, entries_kept, placed_slot};
+ghost use Rattle.bx_world.specs.Admissions.{IsAdmission, count_live, entries_kept, placed_slot};
 ghost use Rattle.bx_world.specs.Held.{StandFrom, StandWithin};
 ghost use Rattle.bx_world.specs.declared.step.AdmissionFault.TheVariants.{Refused};
 
@@ -105,6 +105,13 @@ impl Admission {
             first,
             slots: Sequence::new(alloc),
         })
+    }
+
+    /// How many sessions are live.
+    pub(crate) fn sessions(&self) -> usize
+        ensures { result ≡ count_live (registry self.now.config self.now.list) }
+    {
+        self.registry.sessions()
     }
 
     /// The entry at a place from which on entries are kept; none at the end of the list.

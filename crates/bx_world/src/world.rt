@@ -2,8 +2,8 @@
 ghost use Rattle.std.specs.Prelude.{◌≡◌, ◌<◌, ◌≤◌, length, true};
 ghost use Rattle.std.specs.Arc.{arc_value};
 ghost use Rattle.bx_advice.specs.Limits.{greatest_length};
-ghost use Rattle.bx_entry.specs.Registry.{entries};
-ghost use Rattle.bx_world.specs.Admissions.{placed_by};
+ghost use Rattle.bx_entry.specs.Registry.{entries, registry};
+ghost use Rattle.bx_world.specs.Admissions.{count_live, placed_by};
 ghost use Rattle.bx_world.specs.Held.{EachHolds, IsApplication, StandFrom, StandWithin, some_stands_at};
 ghost use Rattle.bx_world.specs.Props.{holds_props};
 
@@ -145,6 +145,13 @@ impl<P: Placing> World<P> {
             .bring_up(rt, alloc, gate, workers, &mut self.shards);
         forget_applied(&mut self.admission, &self.shards, first);
         behind
+    }
+
+    /// How many sessions are live.
+    pub fn sessions(&self) -> usize
+        ensures { result ≡ count_live (registry (setup_of self.now).config (world_of self.now).list) }
+    {
+        self.admission.sessions()
     }
 
     /// Some answer that the shard of this index has filed, which is taken with that; none where it has filed none, or

@@ -2,10 +2,12 @@
 use super::config;
 use super::words::spelled;
 use crate::script::replay;
+use bx_entry::ByRemainder;
 use bx_script::ScriptFault;
 use std::alloc::Global;
 use std::io;
 use std::io::{BufReader, ErrorKind, Read, Write};
+use std::sync::Arc;
 use std::test::Fail;
 
 const SCRIPT: &str = "0 P [<handshake>]\n0 P [<connect 1>]\nx\n0 P {\n1 P [<connect 1>]\n";
@@ -69,7 +71,15 @@ fn a_failed_read_leaves_a_front(rt: HostRuntime) -> Result<(), Fail> {
         let bytes = script.as_bytes();
         let mut reader = BufReader::new(alloc, Reader { bytes, reads })?;
         let mut written = Vec::new(alloc);
-        let result = replay(&rt, alloc, config(2)?, 2, &mut reader, &mut written);
+        let result = replay(
+            &rt,
+            alloc,
+            config(2)?,
+            in_turn(alloc)?,
+            2,
+            &mut reader,
+            &mut written,
+        );
         if result.is_ok() {
             assert_eq!(rt; written.as_slice(), right.as_bytes());
             return Ok(());
@@ -81,6 +91,10 @@ fn a_failed_read_leaves_a_front(rt: HostRuntime) -> Result<(), Fail> {
         );
     }
     Err(Fail::from("more reads than there may be"))
+}
+
+fn in_turn(alloc: Global) -> Result<Arc<ByRemainder>, Fail> {
+    Ok(Arc::new(alloc, ByRemainder)?)
 }
 
 fn new_writer(alloc: Global, writes: usize, flushes: bool) -> Writer {
@@ -99,7 +113,15 @@ fn a_failed_write_leaves_a_front(rt: HostRuntime) -> Result<(), Fail> {
     for writes in 0..100 {
         let mut reader = script.as_bytes();
         let mut writer = new_writer(alloc, writes, true);
-        let result = replay(&rt, alloc, config(2)?, 2, &mut reader, &mut writer);
+        let result = replay(
+            &rt,
+            alloc,
+            config(2)?,
+            in_turn(alloc)?,
+            2,
+            &mut reader,
+            &mut writer,
+        );
         let written = writer.written.as_slice();
         if result.is_ok() {
             assert_eq!(rt; written, right.as_bytes());
@@ -118,7 +140,15 @@ fn a_failed_flush_is_a_write_fault(rt: HostRuntime) -> Result<(), Fail> {
     let right = spelled(alloc, WRITTEN)?;
     let mut reader = script.as_bytes();
     let mut writer = new_writer(alloc, 100, false);
-    let result = replay(&rt, alloc, config(2)?, 2, &mut reader, &mut writer);
+    let result = replay(
+        &rt,
+        alloc,
+        config(2)?,
+        in_turn(alloc)?,
+        2,
+        &mut reader,
+        &mut writer,
+    );
     assert_eq!(rt; result, Err(ScriptFault::Write));
     assert_eq!(rt; writer.written.as_slice(), right.as_bytes());
     Ok(())

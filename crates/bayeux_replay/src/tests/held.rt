@@ -33,7 +33,7 @@ pub const HOLDS: [Run; 5] = [
     ),
 ];
 
-const CLOCK: [Run; 5] = [
+pub const CLOCK: [Run; 5] = [
     (
         "a tick at its deadline ends a hold",
         "0 P [<handshake>]\n0 P [<connect 1>]\n29999 T\n30000 T\n",

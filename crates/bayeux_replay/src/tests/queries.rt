@@ -2,7 +2,7 @@
 use super::{Run, check_all};
 use std::test::Fail;
 
-const RUNS: [Run; 2] = [
+const RUNS: [Run; 3] = [
     (
         "a callback gets the response",
         r#"0 P [<handshake>]
@@ -26,6 +26,11 @@ const RUNS: [Run; 2] = [
         "the callback of a held connect gets its answer later",
         "0 P [<handshake>]\n0 G jsonp=f&message=[<connect 1>]\n30000 T\n30000 G jsonp=g&message=[<connect 1>]\n",
         "1 200 [<opened 1>]\n2 200 f([<connected 1>])\n4 held\n",
+    ),
+    (
+        "a query has several documents",
+        "0 G message=[]&message=[<handshake>]\n0 G message=[<connect 1>]&message=[<connect 1>]\n",
+        "1 200 jsonpcallback([<opened 1>])\n2 200 jsonpcallback([<connected 1>,<connected 1>])\n",
     ),
 ];
 

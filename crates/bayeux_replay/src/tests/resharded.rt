@@ -69,7 +69,8 @@ fn check_between<R: Abort + Threads + Sync>(
 #[test]
 fn sessions_may_be_dealt_anew_between_any_lines(rt: HostRuntime) -> Result<(), Fail> {
     let alloc = rt.alloc();
-    check_between(&rt, alloc, &held::HOLDS[..1])?;
+    check_between(&rt, alloc, &held::HOLDS[..2])?;
     check_between(&rt, alloc, &held::HOLDS[3..4])?;
+    check_between(&rt, alloc, &held::CLOCK[2..3])?;
     check_between(&rt, alloc, &acknowledged::RUNS[1..2])
 }

@@ -4,8 +4,8 @@ use Rattle.bayeux_replay.proofs.Fronts.{fault_known, none_known}
 use Rattle.bayeux_replay.proofs.Steps.{replayed}
 use Rattle.bayeux_replay.proofs.script.replay.Goals as goal
 
-pub returns-in_err-placing : goal.returns-in_err-placing
-returns-in_err-placing g c = none_known c.args.config (g.R.Read.remaining c.args.reader.now) (g.W.Write.contents c.args.writer.now) c.from_residual.result c.from_residual.ensures.0
+pub returns-in_err-own : goal.returns-in_err-own
+returns-in_err-own g c = none_known c.args.config (g.R.Read.remaining c.args.reader.now) (g.W.Write.contents c.args.writer.now) c.from_residual.result c.from_residual.ensures.0
 
 pub returns-in_err-first : goal.returns-in_err-first
 returns-in_err-first g c =

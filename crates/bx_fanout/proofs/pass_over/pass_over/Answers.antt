@@ -12,7 +12,7 @@ returns-in-Ok-true-clause-stands g c =
     let bare : p.desk ≡ [] = c.if-not-is_empty.ensures.0 refl in
     let test = c.in-Ok-true.field-0-test in
     let yes : IsTrue c.in-Ok-true.field-0 = cc in
-    stands-whole p c.in-Some.newest m c.take.new.self (p.behind + 1) is c.take.ensures.after bare c.in-Ok-true.ensures.so_far c.in-Ok-true.ensures.collects (c.in-Ok-true.ensures.whole yes) c.requires.stands
+    stands-whole p c.in-Some.newest m c.take.new.self p.reached is c.take.ensures.after bare c.in-Ok-true.ensures.so_far c.in-Ok-true.ensures.collects (c.in-Ok-true.ensures.whole yes) c.requires.stands
 
 pub returns-in-Ok-false-clause-stands : goal.returns-in-Ok-false-clause-stands
 returns-in-Ok-false-clause-stands g c =

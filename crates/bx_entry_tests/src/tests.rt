@@ -1,7 +1,6 @@
-//! Requests of several documents.
-use crate::input::BodyFault;
-use crate::read::{ReadFault, read_messages};
+//! Requests of several documents, and where sessions are placed.
 use bx_cut::Bodies;
+use bx_entry::{AllFirst, BodyFault, ByRemainder, ByTable, Placing, ReadFault, read_messages};
 use std::alloc::Global;
 use std::test::Fail;
 
@@ -84,5 +83,19 @@ fn messages_are_counted_over_all_documents(rt: HostRuntime) -> Result<(), Fail> 
         let found = channels(rt.alloc(), &[first.as_str(), second.as_str()])?;
         assert_eq!(rt; found.is_ok(), is_ok);
     }
+    Ok(())
+}
+
+#[test]
+fn places_by_rule(rt: HostRuntime) -> Result<(), Fail> {
+    assert_eq!(rt; ByRemainder.place(1, 2), 1);
+    assert_eq!(rt; ByRemainder.place(2, 2), 0);
+    assert_eq!(rt; AllFirst.place(7, 2), 0);
+    let table = ByTable::new(rt.alloc(), &[1, 0, 0])?;
+    for (number, shard) in [(1, 0), (2, 0), (3, 1)] {
+        assert_eq!(rt; table.place(number, 2), shard, "session {number}");
+    }
+    let empty = ByTable::new(rt.alloc(), &[])?;
+    assert_eq!(rt; empty.place(5, 2), 0);
     Ok(())
 }

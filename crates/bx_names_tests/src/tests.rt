@@ -1,4 +1,5 @@
-use crate::{
+//! Names and patterns at their edges, and which match.
+use bx_names::{
     ChannelKind, ChannelName, MAX_NAME_BYTES, MAX_NAME_SEGMENTS, NameError, Pattern, Tail, kind_of,
     matches, name_fault, pattern_fault,
 };

@@ -1,7 +1,8 @@
-use crate::{Line, Lines, ScriptFault, write_bad, write_held, write_result, write_status};
+//! What the lines of a script say, and what is printed for them.
 use bx_advice::BODY_LIMIT;
 use bx_entry::{Input, Refusal};
 use bx_message::Sequence;
+use bx_script::{Line, Lines, ScriptFault, write_bad, write_held, write_result, write_status};
 use std::alloc::{AllocError, Global};
 use std::io;
 use std::io::{BufRead, BufReader, Read, Write};

@@ -1,7 +1,8 @@
-use crate::{TransportError, callback_of, read_get, read_post, response_of};
+//! What bodies and queries hand on, and responses down to their bytes.
 use bx_advice::{BODY_LIMIT, Case, Config};
 use bx_cut::Bodies;
 use bx_message::{AckReply, Event, Item, RawJson, Reply, SharedEvent, Text};
+use bx_transport::{TransportError, callback_of, read_get, read_post, response_of};
 use std::alloc::{AllocError, Global};
 use std::test::Fail;
 

@@ -1,0 +1,280 @@
+//! Patterns put in force, found and taken out of force, alone and in crowds.
+ghost use Rattle.std.specs.Prelude.{◌<◌};
+
+use bx_names::{ChannelName, Pattern, matches};
+use bx_tree::Tree;
+use std::alloc::{AllocError, Global};
+use std::process::Abort;
+use std::test::Fail;
+
+// The patterns with these texts.
+fn read_all(alloc: Global, texts: &[&str]) -> Result<Vec<Pattern>, Fail> {
+    let mut patterns = Vec::new(alloc);
+    for text in texts {
+        patterns.push(Pattern::read(alloc, text)?)?;
+    }
+    Ok(patterns)
+}
+
+// The texts of the patterns, each with a blank behind it.
+fn texts_of(alloc: Global, patterns: &[Pattern]) -> Result<String, AllocError> {
+    let mut all = String::new(alloc);
+    for pattern in patterns {
+        all.push_str(pattern.as_str())?;
+        all.push(' ')?;
+    }
+    Ok(all)
+}
+
+// Whether the patterns of a number have these texts, each with a blank behind it.
+fn has_texts(alloc: Global, tree: &Tree, number: u64, texts: &str) -> Result<bool, AllocError> {
+    Ok(texts_of(alloc, tree.patterns(number))?.as_str() == texts)
+}
+
+// Puts `/a/*` and `/a/**` in force for 1, and `/a/b` for 2.
+fn plant(alloc: Global, tree: &mut Tree) -> Result<(), Fail> {
+    for (text, number) in [("/a/*", 1), ("/a/**", 1), ("/a/b", 2)] {
+        tree.add(alloc, &Pattern::read(alloc, text)?, number)?;
+    }
+    Ok(())
+}
+
+// Names below `/a` and beside it, with the numbers that are found for them and the most lists that are reached.
+fn assert_finds(rt: &impl Abort, alloc: Global, tree: &Tree) -> Result<(), Fail> {
+    let table: [(&str, &[u64], usize); 7] = [
+        ("/a/b", &[1, 2], 9),
+        ("/a/c", &[1], 9),
+        ("/a/b/c", &[1], 12),
+        ("/a/b/c/d", &[1], 15),
+        ("/a", &[], 6),
+        ("/b", &[], 6),
+        ("/ab/b", &[], 9),
+    ];
+    for (name, numbers, most) in table {
+        let found = tree.find(alloc, &ChannelName::read(alloc, name)?)?;
+        assert_eq!(rt; found.numbers.as_slice(), numbers, "{name}");
+        assert!(rt; found.visited <= most, "{name}");
+    }
+    Ok(())
+}
+
+// Takes a pattern out, and says whether it was there, where `has` and `remove` agree on that.
+fn remove(alloc: Global, tree: &mut Tree, text: &str, number: u64) -> Result<bool, Fail> {
+    let pattern = Pattern::read(alloc, text)?;
+    let is_there = tree.has(&pattern, number);
+    if tree.remove(&pattern, number) == is_there {
+        Ok(is_there)
+    } else {
+        Err(Fail::from("a pattern is there and not there"))
+    }
+}
+
+// Takes patterns out one by one, and checks which of 1 are left.
+fn assert_removes(rt: &impl Abort, alloc: Global, tree: &mut Tree) -> Result<(), Fail> {
+    for (text, number, is_there, left) in [
+        ("/a/**", 2, false, "/a/* /a/** "),
+        ("/a/*", 1, true, "/a/** "),
+        ("/a/*", 1, false, "/a/** "),
+        ("/a/**", 1, true, ""),
+    ] {
+        let is_right = remove(alloc, tree, text, number)? == is_there;
+        assert!(rt;
+            is_right && has_texts(alloc, tree, 1, left)?,
+            "{text} of {number}"
+        );
+    }
+    Ok(())
+}
+
+// Adds a pattern for those who have it and for one who has it not.
+fn assert_adds(rt: &impl Abort, alloc: Global, tree: &mut Tree) -> Result<(), Fail> {
+    let pattern = Pattern::read(alloc, "/a/b")?;
+    for (number, is_added) in [(2, false), (1, true), (1, false)] {
+        let added = tree.add(alloc, &pattern, number)?;
+        assert!(rt; added == is_added && tree.count(number) == 1, "{number}");
+    }
+    Ok(())
+}
+
+fn assert_one_by_one(rt: &impl Abort, alloc: Global, tree: &mut Tree) -> Result<(), Fail> {
+    plant(alloc, tree)?;
+    assert_finds(rt, alloc, tree)?;
+    assert_removes(rt, alloc, tree)?;
+    assert_adds(rt, alloc, tree)
+}
+
+#[test]
+fn patterns_come_and_go_one_by_one(rt: HostRuntime) -> Result<(), Fail> {
+    let mut tree = Tree::new(rt.alloc());
+    assert_one_by_one(&rt, rt.alloc(), &mut tree)
+}
+
+// Several patterns, one of them twice and one that 1 has already.
+fn assert_several_come(rt: &impl Abort, alloc: Global, tree: &mut Tree) -> Result<(), Fail> {
+    let several = read_all(alloc, &["/b", "/a/*", "/b", "/c/*"])?;
+    assert_eq!(rt; tree.add_all(alloc, several.as_slice(), 1)?, 2);
+    assert!(rt; has_texts(alloc, tree, 1, "/a/* /a/** /b /c/* ")?);
+    assert_eq!(rt; tree.remove_all(3), 0);
+    tree.copy(alloc, several.as_slice(), 3)?;
+    assert!(rt; has_texts(alloc, tree, 3, "/b /a/* /b /c/* ")?);
+    Ok(())
+}
+
+// Several patterns, one of them named twice and one that is not there, and all of a number.
+fn assert_several_go(rt: &impl Abort, alloc: Global, tree: &mut Tree) -> Result<(), Fail> {
+    let several = read_all(alloc, &["/c/*", "/d", "/b", "/c/*"])?;
+    assert_eq!(rt; tree.remove_each(several.as_slice(), 1), 2);
+    assert!(rt; has_texts(alloc, tree, 1, "/a/* /a/** ")?);
+    assert_eq!(rt; tree.remove_all(3), 4);
+    assert_eq!(rt; tree.count(3), 0);
+    Ok(())
+}
+
+fn assert_at_once(rt: &impl Abort, alloc: Global, tree: &mut Tree) -> Result<(), Fail> {
+    plant(alloc, tree)?;
+    assert_several_come(rt, alloc, tree)?;
+    assert_several_go(rt, alloc, tree)?;
+    assert_finds(rt, alloc, tree)
+}
+
+#[test]
+fn several_come_and_go_at_once(rt: HostRuntime) -> Result<(), Fail> {
+    let mut tree = Tree::new(rt.alloc());
+    assert_at_once(&rt, rt.alloc(), &mut tree)
+}
+
+// Gives each of 10,000 sessions a pattern of its own.
+fn crowd(alloc: Global, tree: &mut Tree) -> Result<(), Fail> {
+    for number in 10..10_010 {
+        let text = format!(in alloc; "/x{number}")?;
+        tree.add(alloc, &Pattern::read(alloc, text.as_str())?, number)?;
+    }
+    Ok(())
+}
+
+// Few lists are reached for a name of 32 segments.
+fn assert_finds_deep(rt: &impl Abort, alloc: Global, tree: &Tree) -> Result<(), Fail> {
+    let text = "/a".repeat(alloc, 32)?;
+    let found = tree.find(alloc, &ChannelName::read(alloc, text.as_str())?)?;
+    assert_eq!(rt; found.numbers.as_slice(), [1].as_slice());
+    assert!(rt; found.visited <= 99);
+    Ok(())
+}
+
+fn assert_few_visited(rt: &impl Abort, alloc: Global, tree: &mut Tree) -> Result<(), Fail> {
+    plant(alloc, tree)?;
+    crowd(alloc, tree)?;
+    assert_finds(rt, alloc, tree)?;
+    assert_finds_deep(rt, alloc, tree)
+}
+
+#[test]
+fn visits_few_lists(rt: HostRuntime) -> Result<(), Fail> {
+    let mut tree = Tree::new(rt.alloc());
+    assert_few_visited(&rt, rt.alloc(), &mut tree)
+}
+
+// A linear congruence: its next number, below a bound.
+fn draw(state: &mut u64, bound: u64) -> u64
+    requires { 0 < bound }
+    ensures { result < bound }
+{
+    *state = state
+        .wrapping_mul(6_364_136_223_846_793_005)
+        .wrapping_add(1_442_695_040_888_963_407);
+    (*state >> 33) % bound
+}
+
+// A path of one to four segments of two letters, and one of the endings.
+fn drawn_text(alloc: Global, state: &mut u64, endings: &[&str]) -> Result<String, AllocError> {
+    let mut text = String::new(alloc);
+    for _ in 0..1 + draw(state, 4) {
+        text.push_str(if draw(state, 2) == 0 { "/a" } else { "/b" })?;
+    }
+    let ending = draw(state, 4) as usize;
+    text.push_str(endings.get(ending).copied().unwrap_or(""))?;
+    Ok(text)
+}
+
+const SESSIONS: u64 = 6;
+
+// The numbers that have a pattern which matches, from a plain list of pairs.
+fn plain_find(
+    alloc: Global,
+    pairs: &[(u64, Pattern)],
+    name: &ChannelName,
+) -> Result<Vec<u64>, AllocError> {
+    let mut numbers = Vec::new(alloc);
+    for number in 0..SESSIONS {
+        if pairs
+            .iter()
+            .any(|pair| pair.0 == number && matches(&pair.1, name))
+        {
+            numbers.push(number)?;
+        }
+    }
+    Ok(numbers)
+}
+
+// A plain list of pairs beside the tree.
+#[derive(Drop)]
+struct Both {
+    tree: Tree,
+    pairs: Vec<(u64, Pattern)>,
+}
+
+// Does one drawn thing to both, and says whether the tree's answer is the list's.
+fn change(alloc: Global, state: &mut u64, both: &mut Both) -> Result<bool, Fail> {
+    let number = draw(state, SESSIONS);
+    let text = drawn_text(alloc, state, &["/*", "/**"])?;
+    let pattern = Pattern::read(alloc, text.as_str())?;
+    let there = both
+        .pairs
+        .iter()
+        .any(|pair| pair.0 == number && pair.1 == pattern);
+    let step = draw(state, 20);
+    if step == 0 {
+        both.tree.remove_all(number);
+        both.pairs.retain(|pair| pair.0 != number);
+        Ok(true)
+    } else if step <= 8 {
+        let removed = both.tree.remove(&pattern, number);
+        both.pairs
+            .retain(|pair| pair.0 != number || pair.1 != pattern);
+        Ok(removed == there)
+    } else {
+        let added = both.tree.add(alloc, &pattern, number)?;
+        if !there {
+            both.pairs.push((number, pattern))?;
+        }
+        Ok(added != there)
+    }
+}
+
+// Whether both find the same for a drawn name.
+fn agrees(alloc: Global, state: &mut u64, both: &Both) -> Result<bool, Fail> {
+    let text = drawn_text(alloc, state, &[])?;
+    let name = ChannelName::read(alloc, text.as_str())?;
+    let expected = plain_find(alloc, both.pairs.as_slice(), &name)?;
+    let found = both.tree.find(alloc, &name)?;
+    Ok(found.numbers.as_slice() == expected.as_slice() && found.visited <= 15)
+}
+
+// Tree and list agree all along 2,000 drawn steps.
+fn assert_agree(rt: &impl Abort, alloc: Global, both: &mut Both) -> Result<(), Fail> {
+    let mut state = 20_260_101;
+    for step in 0..2_000 {
+        assert!(rt; change(alloc, &mut state, both)?, "{step}");
+        assert!(rt; agrees(alloc, &mut state, both)?, "{step}");
+    }
+    Ok(())
+}
+
+#[test]
+fn agrees_with_a_plain_list(rt: HostRuntime) -> Result<(), Fail> {
+    let mut both = Both {
+        tree: Tree::new(rt.alloc()),
+        pairs: Vec::new(rt.alloc()),
+    };
+    assert_agree(&rt, rt.alloc(), &mut both)
+}
