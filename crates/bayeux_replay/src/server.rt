@@ -65,7 +65,7 @@ pub fn answer<T: Threads + Sync, P: Placing + Drop + Send + Sync, W: Write>(
     rt: &T,
     alloc: Global,
     placing: &Arc<P>,
-    server: Server<P>,
+    mut server: Server<P>,
     line: Line,
     writer: &mut W,
 ) -> Result<Server<P>, ScriptFault>
@@ -79,45 +79,30 @@ pub fn answer<T: Threads + Sync, P: Placing + Drop + Send + Sync, W: Write>(
     ensures prints { IfOk result (λ s. Prints (setup_in s.round).config server.lines s.lines (W.contents writer.old) (W.contents writer.new)) }
     ensures fault { OnErr result (PrintsFront (setup_in server.round).config server.lines (server.lines ++ line ∷ []) (W.contents writer.old) (W.contents writer.new)) }
 {
-    let Server {
-        mut round,
-        mut kept,
-        number,
-        mut lines,
-    } = server;
-    lines.push(&line);
-    let number = number + 1;
+    server.lines.push(&line);
+    server.number += 1;
+    let number = server.number;
     match line {
         Line::Bad => {
             write_bad(writer, number)?;
-            Ok(Server {
-                round,
-                kept,
-                number,
-                lines,
-            })
+            Ok(server)
         }
         Line::Turned { status } => {
             write_status(writer, number, status)?;
-            Ok(Server {
-                round,
-                kept,
-                number,
-                lines,
-            })
+            Ok(server)
         }
         Line::Handed { callback, input } => {
-            hand(
-                rt, alloc, &mut round, &mut kept, number, callback, input, writer,
-            )?;
-            Ok(Server {
-                round,
-                kept,
-                number,
-                lines,
-            })
+            let (round, kept) = (&mut server.round, &mut server.kept);
+            hand(rt, alloc, round, kept, number, callback, input, writer)?;
+            Ok(server)
         }
         Line::Resharded { shards } => {
+            let Server {
+                round,
+                kept,
+                lines,
+                ..
+            } = server;
             let round = reshard(alloc, round, shards, placing)?;
             Ok(Server {
                 round,

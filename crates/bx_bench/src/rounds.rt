@@ -1,4 +1,5 @@
-//! Rounds of workers, from JSON to outs. Each answers a number that rests on all of its work.
+//! Rounds of workers, from JSON to outs. Each answers a number that rests on all of its work. A round is left as it is at
+//! the end: a server goes on, and one thread would take what waits apart.
 use anyhow::{Result, anyhow};
 use bx_advice::Config;
 use bx_cut::Bodies;
@@ -6,6 +7,7 @@ use bx_entry::{Arrival, ByRemainder, Input};
 use bx_fanout::{Out, Round};
 use bx_workers::OpenGate;
 use std::alloc::Global;
+use std::mem;
 use std::sync::Arc;
 use std::thread::Threads;
 
@@ -119,7 +121,9 @@ fn new_round(alloc: Global, workers: usize) -> Result<Round<ByRemainder>> {
 /// 10,000 sessions are opened, each subscribed to one of ten rooms by two patterns.
 pub fn opened<R: Threads + Sync>(rt: &R, alloc: Global, workers: usize) -> Result<usize> {
     let mut round = new_round(alloc, workers)?;
-    open_all(rt, alloc, &mut round)
+    let items = open_all(rt, alloc, &mut round);
+    mem::forget(round);
+    items
 }
 
 fn open_all<R: Threads + Sync>(
@@ -134,7 +138,9 @@ fn open_all<R: Threads + Sync>(
 /// which every session connects and is given what waits.
 pub fn run<R: Threads + Sync>(rt: &R, alloc: Global, workers: usize) -> Result<usize> {
     let mut round = new_round(alloc, workers)?;
-    run_in(rt, alloc, &mut round)
+    let items = run_in(rt, alloc, &mut round);
+    mem::forget(round);
+    items
 }
 
 fn run_in<R: Threads + Sync>(
@@ -168,7 +174,9 @@ fn serve_in_turns<R: Threads + Sync>(
 /// The same opening, and then 10,000 publishes that reach a thousand sessions each, a request each. Their events wait.
 pub fn waiting<R: Threads + Sync>(rt: &R, alloc: Global, workers: usize) -> Result<usize> {
     let mut round = new_round(alloc, workers)?;
-    wait_in(rt, alloc, &mut round)
+    let items = wait_in(rt, alloc, &mut round);
+    mem::forget(round);
+    items
 }
 
 fn wait_in<R: Threads + Sync>(

@@ -16,13 +16,9 @@ pub struct Event {
 }
 
 /// An event that all its receivers share. Contracts see it as the event itself.
-///
-/// Handles that were cloned from one another share a count of them, which each clone and each drop changes. A handle that
-/// was made apart begins a count of its own, so that threads that clone and drop handles of the same event need not wait
-/// for one another.
 #[derive(Drop)]
 pub struct SharedEvent {
-    event: Arc<Arc<Event>>,
+    event: Arc<Event>,
 }
 
 impl Model for SharedEvent {
@@ -31,7 +27,7 @@ impl Model for SharedEvent {
 
     ghost Value = { Event };
 
-    ghost view = { λ s. arc_value (arc_value s.event) };
+    ghost view = { λ s. arc_value s.event };
 }
 
 impl SharedEvent {
@@ -39,15 +35,7 @@ impl SharedEvent {
     pub fn new(alloc: Global, event: Event) -> Result<SharedEvent, AllocError>
         ensures { IfOk result (λ s. s ≡ event) }
     {
-        let event = Arc::new(alloc, Arc::new(alloc, event)?)?;
-        Ok(SharedEvent { event })
-    }
-
-    /// A handle of the same event that counts its clones apart from this one's.
-    pub fn apart(&self, alloc: Global) -> Result<SharedEvent, AllocError>
-        ensures { IfOk result (λ s. s ≡ self.now) }
-    {
-        let event = Arc::new(alloc, Arc::try_clone(&*self.event)?)?;
+        let event = Arc::new(alloc, event)?;
         Ok(SharedEvent { event })
     }
 

@@ -26,20 +26,37 @@ fn message(
     id: Option<&str>,
     subscription: Option<&str>,
 ) -> Result<Message, AllocError> {
+    let subscription = json(alloc, subscription)?;
+    let id = json(alloc, id)?;
+    let channel = Text::new(alloc, channel)?;
     Ok(Message {
-        channel: Text::new(alloc, channel)?,
-        id: json(alloc, id)?,
+        channel,
+        id,
         client: TextMember::Absent,
         version: TextMember::Absent,
         supported: Sequence::new(alloc),
         connection: TextMember::Absent,
-        subscription: json(alloc, subscription)?,
+        subscription,
         texts: Sequence::new(alloc),
         listed: false,
         payload: None,
         ack: AckMember::NoAck,
         timeout: None,
     })
+}
+
+// The text of the reply to a message.
+fn replied(
+    alloc: Global,
+    config: &Config,
+    message: &Message,
+    client: Option<&Text>,
+    case: Case,
+    ack: AckReply,
+) -> Result<Vec<u8>, Fail> {
+    let column = Column::of(message.channel.as_str());
+    let reply = Reply::to_message(config, column, message, client, case, ack)?;
+    Ok(reply_text(alloc, &reply)?)
 }
 
 #[test]
@@ -104,12 +121,11 @@ fn replies_have_their_members(rt: HostRuntime) -> Result<(), Fail> {
             "{\"channel\":\"/a\\\"\\\\\\n\\u0001\u{7f}\u{2028}é\",\"error\":\"400::Invalid channel\",\"successful\":false}",
         ),
     ];
+    let config = config()?;
     let client = Text::new(alloc, "Z1")?;
     for (channel, id, case, ack, wanted) in table {
         let message = message(alloc, channel, id, Some("[\"/a\", 1]"))?;
-        let column = Column::of(channel);
-        let reply = Reply::to_message(&config()?, column, &message, Some(&client), case, ack)?;
-        let text = reply_text(alloc, &reply)?;
+        let text = replied(alloc, &config, &message, Some(&client), case, ack)?;
         assert_eq!(rt; text.as_slice(), wanted.as_bytes(), "{wanted}");
     }
     Ok(())
@@ -120,9 +136,7 @@ fn a_refused_handshake_has_no_client(rt: HostRuntime) -> Result<(), Fail> {
     let alloc = rt.alloc();
     let message = message(alloc, "/meta/handshake", None, None)?;
     let case = Case::Failed(Error::UnsupportedVersion);
-    let ack = AckReply::NoAck;
-    let reply = Reply::to_message(&config()?, Column::Handshake, &message, None, case, ack)?;
-    let text = reply_text(alloc, &reply)?;
+    let text = replied(alloc, &config()?, &message, None, case, AckReply::NoAck)?;
     let wanted =
         r#"{"advice":{"interval":0,"reconnect":"none"},"channel":"/meta/handshake","error":"400::Unsupported version","successful":false,"supportedConnectionTypes":["long-polling","callback-polling"],"version":"1.0"}"#;
     assert_eq!(rt; text.as_slice(), wanted.as_bytes());
@@ -238,28 +252,41 @@ fn add_texts(out: &mut String, name: &str, texts: &Sequence<Text>) -> Result<(),
     Ok(())
 }
 
-// The fields that a message has, in the order of the record.
-fn shown(alloc: Global, m: &Message) -> Result<String, AllocError> {
-    let mut out = String::from_str(alloc, m.channel.as_str())?;
-    add_json(&mut out, "id", &m.id)?;
-    add_text(&mut out, "client", &m.client)?;
-    add_text(&mut out, "version", &m.version)?;
-    add_texts(&mut out, "type", &m.supported)?;
-    add_text(&mut out, "connection", &m.connection)?;
-    add_json(&mut out, "subscription", &m.subscription)?;
-    add_texts(&mut out, "text", &m.texts)?;
+fn add_number(alloc: Global, out: &mut String, name: &str, number: u64) -> Result<(), AllocError> {
+    add(out, name, format!(in alloc; "{number}")?.as_str())
+}
+
+fn add_ack(alloc: Global, out: &mut String, ack: AckMember) -> Result<(), AllocError> {
+    match ack {
+        AckMember::NoAck => Ok(()),
+        AckMember::AckTrue => add(out, "ack", "true"),
+        AckMember::AckNumber(number) => add_number(alloc, out, "ack", number),
+    }
+}
+
+// The fields that a message has behind its channel, in the order of the record.
+fn add_fields(alloc: Global, out: &mut String, m: &Message) -> Result<(), AllocError> {
+    add_json(out, "id", &m.id)?;
+    add_text(out, "client", &m.client)?;
+    add_text(out, "version", &m.version)?;
+    add_texts(out, "type", &m.supported)?;
+    add_text(out, "connection", &m.connection)?;
+    add_json(out, "subscription", &m.subscription)?;
+    add_texts(out, "text", &m.texts)?;
     if m.listed {
         out.push_str(" listed")?;
     }
-    add_json(&mut out, "data", &m.payload)?;
-    match m.ack {
-        AckMember::NoAck => {}
-        AckMember::AckTrue => add(&mut out, "ack", "true")?,
-        AckMember::AckNumber(n) => add(&mut out, "ack", format!(in alloc; "{n}")?.as_str())?,
+    add_json(out, "data", &m.payload)?;
+    add_ack(alloc, out, m.ack)?;
+    match m.timeout {
+        Some(timeout) => add_number(alloc, out, "timeout", timeout),
+        None => Ok(()),
     }
-    if let Some(n) = m.timeout {
-        add(&mut out, "timeout", format!(in alloc; "{n}")?.as_str())?;
-    }
+}
+
+fn shown(alloc: Global, m: &Message) -> Result<String, AllocError> {
+    let mut out = String::from_str(alloc, m.channel.as_str())?;
+    add_fields(alloc, &mut out, m)?;
     Ok(out)
 }
 

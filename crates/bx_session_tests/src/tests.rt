@@ -1,7 +1,7 @@
 //! One session by what its client sees.
 use bx_advice::{Case, Config, Reconnect};
-use bx_message::{AckReply, Event, RawJson, SharedEvent, Text};
-use bx_session::{Answered, Delivery, PendingConnect, Session};
+use bx_message::{AckReply, Event, RawJson, Reply, SharedEvent, Text};
+use bx_session::{Answered, Connection, Delivery, PendingConnect, Session};
 use std::alloc::{AllocError, Global};
 use std::process::Abort;
 use std::test::Fail;
@@ -39,99 +39,131 @@ fn event(alloc: Global, number: u64) -> Result<SharedEvent, AllocError> {
 fn numbers(alloc: Global, answered: &Answered) -> Result<Vec<u64>, Fail> {
     let mut numbers = Vec::new(alloc);
     for event in answered.answer.events.as_slice() {
-        let number = event.event().payload.as_str().parse::<u64>();
-        numbers.push(number.map_err(|_| "no number")?)?;
+        let number = event.event().payload.as_str().parse().ok();
+        numbers.push(number.ok_or("no number")?)?;
     }
     Ok(numbers)
 }
 
-// An answer as its place, its outcome, its `ack` and its events, of which only the ends where they are many.
-fn text_of(alloc: Global, answered: &Answered) -> Result<String, Fail> {
+// Writes an answer as its place, its outcome, its `ack` and its events.
+fn push_text(alloc: Global, answered: &Answered, text: &mut String) -> Result<(), Fail> {
     let outcome = match answered.answer.reply.case {
         Case::Connected => "ok",
         Case::Disconnected => "left",
         Case::Failed(error) => error.text(),
         _ => "other",
     };
-    let ack = match answered.answer.reply.ack {
-        AckReply::AckNumber(number) => format!(in alloc; "ack {number}")?,
-        AckReply::AckTrue => format!(in alloc; "ack true")?,
-        AckReply::NoAck => format!(in alloc; "plain")?,
-    };
-    let numbers = numbers(alloc, answered)?;
     let place = answered.place;
-    let events = match numbers.as_slice() {
-        [] => format!(in alloc; "none")?,
-        [one] => format!(in alloc; "{one}")?,
-        [first, .., last] => format!(in alloc; "{first}..{last}")?,
-    };
-    let count = numbers.len();
-    Ok(format!(in alloc; "{place} {outcome} {ack} {count}: {events};")?)
+    text.push_str(format!(in alloc; "{place} {outcome} ")?.as_str())?;
+    push_ack(alloc, answered.answer.reply.ack, text)?;
+    push_numbers(alloc, &numbers(alloc, answered)?, text)?;
+    Ok(())
 }
 
-fn push_answer(
-    alloc: Global,
-    answers: &mut Vec<Answered>,
-    answered: Option<Answered>,
-) -> Result<(), Fail> {
+fn push_ack(alloc: Global, ack: AckReply, text: &mut String) -> Result<(), AllocError> {
+    match ack {
+        AckReply::AckNumber(number) => text.push_str(format!(in alloc; "ack {number} ")?.as_str()),
+        AckReply::AckTrue => text.push_str("ack true "),
+        AckReply::NoAck => text.push_str("plain "),
+    }
+}
+
+// How many numbers there are, and the first and the last of them.
+fn push_numbers(alloc: Global, numbers: &[u64], text: &mut String) -> Result<(), AllocError> {
+    let count = numbers.len();
+    match numbers {
+        [] => text.push_str("0: none;"),
+        [one] => text.push_str(format!(in alloc; "1: {one};")?.as_str()),
+        [first, .., last] => {
+            text.push_str(format!(in alloc; "{count}: {first}..{last};")?.as_str())
+        }
+    }
+}
+
+fn push_answer(answers: &mut Vec<Answered>, answered: Option<Answered>) -> Result<(), Fail> {
     if let Some(answered) = answered {
         answers.push(answered)?;
     }
     Ok(())
 }
 
-fn connect(
+fn pending(
     alloc: Global,
-    session: &mut Session,
     place: u64,
-    acked: Option<u64>,
     moment: u64,
     hold: u64,
-) -> Result<Vec<Answered>, Fail> {
+) -> Result<PendingConnect, AllocError> {
     let client = Text::new(alloc, "Z1")?;
     let id = RawJson::new(alloc, "\"7\"")?;
-    let connect = PendingConnect::new(alloc, place, &client, Some(&id), moment, hold)?;
-    let mut answers = Vec::new(alloc);
-    if session.last_batch() < MANY {
-        let connection = session.connect(alloc, &config()?, connect, acked)?;
-        push_answer(alloc, &mut answers, connection.superseded)?;
-        push_answer(alloc, &mut answers, connection.answered)?;
-    }
-    Ok(answers)
+    PendingConnect::new(alloc, place, &client, Some(&id), moment, hold)
 }
 
-fn publish(alloc: Global, session: &mut Session, number: u64) -> Result<Option<Answered>, Fail> {
+fn connect(
+    alloc: Global,
+    config: &Config,
+    session: &mut Session,
+    connect: PendingConnect,
+    acked: Option<u64>,
+    answers: &mut Vec<Answered>,
+) -> Result<(), Fail> {
+    if session.last_batch() < MANY {
+        let Connection {
+            superseded,
+            answered,
+        } = session.connect(alloc, config, connect, acked)?;
+        push_both(answers, superseded, answered)?;
+    }
+    Ok(())
+}
+
+fn push_both(
+    answers: &mut Vec<Answered>,
+    first: Option<Answered>,
+    second: Option<Answered>,
+) -> Result<(), Fail> {
+    push_answer(answers, first)?;
+    push_answer(answers, second)
+}
+
+fn publish(
+    alloc: Global,
+    config: &Config,
+    session: &mut Session,
+    number: u64,
+    answers: &mut Vec<Answered>,
+) -> Result<(), Fail> {
     session.reserve()?;
     let keep = event(alloc, number)?;
     let give = keep.clone()?;
     if session.is_overflowed() || session.last_batch() >= MANY {
-        return Ok(None);
+        return Ok(());
     }
-    match session.deliver(&config()?, keep, give) {
-        Delivery::Given(answered) => Ok(Some(answered)),
-        Delivery::Waits | Delivery::Overflowed => Ok(None),
+    match session.deliver(config, keep, give) {
+        Delivery::Given(answered) => push_answer(answers, Some(answered)),
+        Delivery::Waits | Delivery::Overflowed => Ok(()),
     }
 }
 
 fn apply(
     alloc: Global,
+    config: &Config,
     session: &mut Session,
     place: u64,
     step: Step,
-) -> Result<Vec<Answered>, Fail> {
-    let mut answers = Vec::new(alloc);
+    answers: &mut Vec<Answered>,
+) -> Result<(), Fail> {
     match step {
         Step::Publish(first, count) => {
             for i in 0..count {
-                let answered = publish(alloc, session, first.saturating_add(i))?;
-                push_answer(alloc, &mut answers, answered)?;
+                publish(alloc, config, session, first.saturating_add(i), answers)?;
             }
         }
         Step::Connect(acked, moment, hold) => {
-            return connect(alloc, session, place, acked, moment, hold);
+            let pending = pending(alloc, place, moment, hold)?;
+            connect(alloc, config, session, pending, acked, answers)?;
         }
         Step::Subscribe(fresh) => {
-            let overflows = session.subscribe(&config()?, fresh);
+            let overflows = session.subscribe(config, fresh);
             if overflows != session.is_overflowed() {
                 return Err(Fail::from("the overflow is told wrongly"));
             }
@@ -141,39 +173,53 @@ fn apply(
                 session.unsubscribe(gone);
             }
         }
-        Step::Tick(moment) => {
-            let answered = session.tick(&config()?, moment);
-            push_answer(alloc, &mut answers, answered)?;
-        }
-        Step::Close => {
-            let answered = session.close(&config()?);
-            push_answer(alloc, &mut answers, answered)?;
-        }
+        Step::Tick(moment) => push_answer(answers, session.tick(config, moment))?,
+        Step::Close => push_answer(answers, session.close(config))?,
     }
-    Ok(answers)
+    Ok(())
 }
 
-// Applies the steps at places from 0 on, and compares what each answers.
-fn run(rt: &impl Abort, alloc: Global, ack: bool, steps: &[(Step, &str)]) -> Result<Session, Fail> {
-    let mut session = Session::open(alloc, &config()?, 7, ack);
+// What a step at this place is answered, as text.
+fn told(
+    alloc: Global,
+    config: &Config,
+    session: &mut Session,
+    place: u64,
+    step: Step,
+) -> Result<String, Fail> {
+    let mut answers = Vec::new(alloc);
+    apply(alloc, config, session, place, step, &mut answers)?;
+    let mut text = String::new(alloc);
+    for answered in answers.as_slice() {
+        push_text(alloc, answered, &mut text)?;
+    }
+    Ok(text)
+}
+
+// Applies the steps at places from 0 on, and compares what each is answered.
+fn run(
+    rt: &impl Abort,
+    alloc: Global,
+    session: &mut Session,
+    steps: &[(Step, &str)],
+) -> Result<(), Fail> {
+    let config = config()?;
     let mut place = 0u64;
     for (step, expected) in steps {
-        let mut text = String::new(alloc);
-        for answered in apply(alloc, &mut session, place, *step)?.as_slice() {
-            text.push_str(text_of(alloc, answered)?.as_str())?;
-        }
+        let text = told(alloc, &config, session, place, *step)?;
         assert_eq!(rt; text.as_str(), *expected, "at place {place}");
         place = place.saturating_add(1);
     }
-    Ok(session)
+    Ok(())
 }
 
 #[test]
 fn batches_are_given_until_they_are_acknowledged(rt: HostRuntime) -> Result<(), Fail> {
-    let session = run(
+    let mut session = Session::open(rt.alloc(), &config()?, 7, true);
+    run(
         &rt,
         rt.alloc(),
-        true,
+        &mut session,
         &[
             (Step::Connect(None, 0, 0), "0 ok ack 0 0: none;"),
             (Step::Publish(1, 2), ""),
@@ -201,10 +247,11 @@ fn batches_are_given_until_they_are_acknowledged(rt: HostRuntime) -> Result<(), 
 
 #[test]
 fn plain_sessions_forget_what_they_give(rt: HostRuntime) -> Result<(), Fail> {
+    let mut session = Session::open(rt.alloc(), &config()?, 7, false);
     run(
         &rt,
         rt.alloc(),
-        false,
+        &mut session,
         &[
             (Step::Publish(0, 300), ""),
             (Step::Connect(Some(9), 0, 9), "1 ok plain 256: 0..255;"),
@@ -214,16 +261,16 @@ fn plain_sessions_forget_what_they_give(rt: HostRuntime) -> Result<(), Fail> {
             (Step::Connect(None, 0, 0), "5 ok plain 1: 301;"),
             (Step::Connect(None, 0, 0), "6 ok plain 0: none;"),
         ],
-    )?;
-    Ok(())
+    )
 }
 
 #[test]
 fn holds_end(rt: HostRuntime) -> Result<(), Fail> {
-    let session = run(
+    let mut session = Session::open(rt.alloc(), &config()?, 7, true);
+    run(
         &rt,
         rt.alloc(),
-        true,
+        &mut session,
         &[
             (Step::Connect(None, 1_000, 500), ""),
             (Step::Tick(1_499), ""),
@@ -245,10 +292,11 @@ fn holds_end(rt: HostRuntime) -> Result<(), Fail> {
 
 #[test]
 fn overflows_drop_the_events(rt: HostRuntime) -> Result<(), Fail> {
-    let session = run(
+    let mut session = Session::open(rt.alloc(), &config()?, 7, true);
+    run(
         &rt,
         rt.alloc(),
-        true,
+        &mut session,
         &[
             (Step::Publish(0, 1_024), ""),
             (Step::Connect(None, 0, 9), "1 ok ack 1 256: 0..255;"),
@@ -273,10 +321,11 @@ fn overflows_drop_the_events(rt: HostRuntime) -> Result<(), Fail> {
 
 #[test]
 fn patterns_past_their_limit_leave_a_connect_held(rt: HostRuntime) -> Result<(), Fail> {
+    let mut session = Session::open(rt.alloc(), &config()?, 7, true);
     run(
         &rt,
         rt.alloc(),
-        true,
+        &mut session,
         &[
             (Step::Subscribe(1_024), ""),
             (Step::Unsubscribe(1), ""),
@@ -289,17 +338,11 @@ fn patterns_past_their_limit_leave_a_connect_held(rt: HostRuntime) -> Result<(),
                 "6 413::Queue overflow plain 0: none;",
             ),
         ],
-    )?;
-    Ok(())
+    )
 }
 
-#[test]
-fn replies_repeat_what_the_connect_had(rt: HostRuntime) -> Result<(), Fail> {
-    let alloc = rt.alloc();
-    let mut session = Session::open(alloc, &config()?, 7, true);
-    connect(alloc, &mut session, 3, None, 0, 9)?;
-    let answered = session.close(&config()?).ok_or("no answer")?;
-    let reply = &answered.answer.reply;
+// The reply to a connect that a disconnect ended.
+fn check_reply(rt: &impl Abort, reply: &Reply) -> Result<(), Fail> {
     assert_eq!(rt; reply.channel.as_str(), "/meta/connect");
     let client = reply.client.as_ref().ok_or("no client id")?;
     assert_eq!(rt; client.as_str(), "Z1");
@@ -308,6 +351,21 @@ fn replies_repeat_what_the_connect_had(rt: HostRuntime) -> Result<(), Fail> {
     let advice = reply.advice.ok_or("no advice")?;
     assert_eq!(rt; advice.reconnect, Reconnect::Never);
     Ok(())
+}
+
+#[test]
+fn replies_repeat_what_the_connect_had(rt: HostRuntime) -> Result<(), Fail> {
+    let alloc = rt.alloc();
+    let config = config()?;
+    let pending = pending(alloc, 3, 0, 9)?;
+    let mut session = Session::open(alloc, &config, 7, true);
+    let mut answers = Vec::new(alloc);
+    connect(alloc, &config, &mut session, pending, None, &mut answers)?;
+    assert!(rt; answers.is_empty());
+    match session.close(&config) {
+        Some(answered) => check_reply(&rt, &answered.answer.reply),
+        None => Err(Fail::from("no answer")),
+    }
 }
 
 // What a client knows of an acknowledging session: which event it is to get next, the first of those that
@@ -375,10 +433,34 @@ fn step_of(random: u64, seen: &Seen, place: u64) -> Step {
     }
 }
 
+// A step at this place, as the client sees it.
+fn see(
+    rt: &impl Abort,
+    alloc: Global,
+    config: &Config,
+    session: &mut Session,
+    seen: &mut Seen,
+    place: u64,
+    step: Step,
+) -> Result<(), Fail> {
+    match step {
+        Step::Publish(first, count) => seen.published = first.saturating_add(count),
+        Step::Connect(acked, ..) => seen.acknowledges(acked),
+        _ => {}
+    }
+    let mut answers = Vec::new(alloc);
+    apply(alloc, config, session, place, step, &mut answers)?;
+    for answered in answers.as_slice() {
+        seen.gets(rt, alloc, answered)?;
+    }
+    Ok(())
+}
+
 #[test]
 fn each_event_comes_once_and_in_order(rt: HostRuntime) -> Result<(), Fail> {
     let alloc = rt.alloc();
-    let mut session = Session::open(alloc, &config()?, 7, true);
+    let config = config()?;
+    let mut session = Session::open(alloc, &config, 7, true);
     let mut seen = Seen {
         published: 0,
         done: 0,
@@ -390,14 +472,7 @@ fn each_event_comes_once_and_in_order(rt: HostRuntime) -> Result<(), Fail> {
         state = state.wrapping_mul(6_364_136_223_846_793_005);
         state = state.wrapping_add(1_442_695_040_888_963_407);
         let step = step_of(state >> 33, &seen, place);
-        match step {
-            Step::Publish(first, count) => seen.published = first.saturating_add(count),
-            Step::Connect(acked, ..) => seen.acknowledges(acked),
-            _ => {}
-        }
-        for answered in apply(alloc, &mut session, place, step)?.as_slice() {
-            seen.gets(&rt, alloc, answered)?;
-        }
+        see(&rt, alloc, &config, &mut session, &mut seen, place, step)?;
     }
     assert!(rt; !session.is_overflowed());
     assert!(rt; seen.done > 10_000, "{} acknowledged", seen.done);

@@ -44,25 +44,6 @@ fn parcels_for(
     Ok(parcels)
 }
 
-// From how many receivers on an event's handles count apart from those in other shards.
-const SEVERAL: usize = 8;
-
-// A parcel for each of these sessions. All shards get an event through one handle: where several sessions of this one
-// get it, their handles count apart, so that workers do not wait for one another at each of them.
-fn parcels_apart(
-    alloc: Global,
-    numbers: &[u64],
-    event: &SharedEvent,
-) -> Result<Vec<Parcel>, AllocError>
-    ensures { IfOk result (λ parcels. parcels.items ≡ map (parcel event.now) numbers.now) }
-{
-    if numbers.len() < SEVERAL {
-        return parcels_for(alloc, numbers, event);
-    }
-    let own = event.apart(alloc)?;
-    parcels_for(alloc, numbers, &own)
-}
-
 // Whether a channel of this name is neither a meta nor a service channel.
 fn is_broadcast(channel: &str) -> bool
     ensures { result ≡ is_broadcast channel.now }
@@ -150,7 +131,7 @@ impl Sessions {
         ensures config { self.new.config ≡ self.old.config }
     {
         let numbers = self.receivers(alloc, event.event())?;
-        let parcels = parcels_apart(alloc, numbers.as_slice(), event)?;
+        let parcels = parcels_for(alloc, numbers.as_slice(), event)?;
         self.reserve_all(parcels.as_slice())?;
         self.hand_out(place, parcels);
         Ok(())

@@ -2,7 +2,7 @@
 use super::{Run, check_all};
 use std::test::Fail;
 
-pub const HOLDS: [Run; 5] = [
+pub const HOLDS: [Run; 6] = [
     (
         "an event ends a hold",
         "0 P [<handshake>]\n0 P [<handshake>]\n0 P [<subscribe 1 /a/*>]\n10 P [<connect 1>]\n20 P [<publish 2 /a/b 7>]\n",
@@ -30,6 +30,11 @@ pub const HOLDS: [Run; 5] = [
         "lines that are refused end no hold",
         "0 P [<handshake>]\n1 P [<connect 1>]\nx\n2 P [{\n2 P [<disconnect 2>]\n40000 S 3\n",
         "1 200 [<opened 1>]\n3 bad\n4 400\n5 200 [<unknown /meta/disconnect>]\n2 held\n",
+    ),
+    (
+        "an event for eight sessions, one of which holds a connect",
+        "0 P [<handshake>]\n0 P [<handshake>]\n0 P [<handshake>]\n0 P [<handshake>]\n0 P [<handshake>]\n0 P [<handshake>]\n0 P [<handshake>]\n0 P [<handshake>]\n0 P [<subscribe 1 /a/b>,<subscribe 2 /a/b>,<subscribe 3 /a/b>,<subscribe 4 /a/b>,<subscribe 5 /a/b>,<subscribe 6 /a/b>,<subscribe 7 /a/b>,<subscribe 8 /a/b>]\n1 P [<connect 3>]\n2 P [<publish 1 /a/b 7>]\n2 P [<poll 1>,<poll 2>,<poll 8>]\n",
+        "1 200 [<opened 1>]\n2 200 [<opened 2>]\n3 200 [<opened 3>]\n4 200 [<opened 4>]\n5 200 [<opened 5>]\n6 200 [<opened 6>]\n7 200 [<opened 7>]\n8 200 [<opened 8>]\n9 200 [<subscribed 1 /a/b>,<subscribed 2 /a/b>,<subscribed 3 /a/b>,<subscribed 4 /a/b>,<subscribed 5 /a/b>,<subscribed 6 /a/b>,<subscribed 7 /a/b>,<subscribed 8 /a/b>]\n10 200 [<event /a/b 7>,<connected 3>]\n11 200 [<published /a/b>]\n12 200 [<event /a/b 7>,<connected 1>,<event /a/b 7>,<connected 2>,<event /a/b 7>,<connected 8>]\n",
     ),
 ];
 
