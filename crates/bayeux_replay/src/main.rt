@@ -2,14 +2,10 @@
 #![tactic(auto)]
 
 mod arguments;
-mod kept;
-mod script;
-mod server;
-#[cfg(test)]
-mod tests;
 
 use arguments::{Arguments, USAGE};
 use bx_entry::ByRemainder;
+use bx_replay::replay;
 use bx_script::ScriptFault;
 use std::io;
 use std::io::{BufReader, BufWriter};
@@ -46,7 +42,7 @@ fn run<T: Threads + Sync>(
     ))?;
     let Arguments { config, workers } = arguments;
     let placing = Arc::new(alloc, ByRemainder)?;
-    script::replay(
+    replay(
         threads,
         alloc,
         config,

@@ -1,0 +1,91 @@
+//! The inputs whose outs are not printed yet.
+ghost use Rattle.std.specs.Prelude.{◌≡◌, ◌++◌, ℕ, [], ◌∷◌, List, IsSome, map, if◌then◌else◌, OnErr, OnOk};
+ghost use Rattle.std.specs.BTreeMap.{get, is_at};
+ghost use Rattle.std.specs.Ordering.{nat_cmp};
+ghost use Rattle.bx_replay.specs.Kept.{AllKept, AreKept, PrintsOuts, held_texts, inputs_given};
+ghost use Rattle.bx_entry.specs.Replay.{Numbered};
+ghost use Rattle.bx_fanout.specs.Stages.{seen_out};
+ghost use Rattle.bx_laws.specs.Lines.{outs_text};
+ghost use Rattle.bx_script.specs.Printing.{AppendsFront, Writes};
+
+use bx_fanout::Out;
+use bx_script::{ScriptFault, write_held, write_result};
+use std::alloc::Global;
+use std::collections::BTreeMap;
+use std::io::Write;
+
+/// What is kept of an input until its out is printed.
+#[derive(Drop)]
+pub struct Asked {
+    /// The number of its line.
+    pub line: u64,
+    /// The function that is called with its response.
+    pub callback: Option<String>,
+    /// Of a tick that is taken nothing is printed.
+    pub tick: bool,
+}
+
+/// Prints these outs in order, and lets go of what was kept of their inputs. At a fault a front of that is printed.
+pub fn print_outs<W: Write>(
+    alloc: Global,
+    kept: &mut BTreeMap<usize, Asked>,
+    outs: &[Out],
+    writer: &mut W,
+) -> Result<(), ScriptFault>
+    requires kept { AllKept (get nat_cmp kept.old) (inputs_given outs.now) }
+    ensures others { OnOk result ((others : List ℕ) → AllKept (get nat_cmp kept.old) (inputs_given outs.now ++ others) → AllKept (get nat_cmp kept.new) others) }
+    ensures prints { OnOk result ((numbered : List Numbered) → AreKept numbered (get nat_cmp kept.old) →
+        PrintsOuts numbered (map seen_out outs.now) (W.contents writer.old) (W.contents writer.new) (get nat_cmp kept.new)) }
+    ensures fault { OnErr result ((numbered : List Numbered) → AreKept numbered (get nat_cmp kept.old) →
+        AppendsFront (W.contents writer.old) (W.contents writer.new) (outs_text numbered (map seen_out outs.now))) }
+{
+    for out in outs {
+        print_out(alloc, kept, out, writer)?;
+    }
+    Ok(())
+}
+
+fn print_out<W: Write>(
+    alloc: Global,
+    kept: &mut BTreeMap<usize, Asked>,
+    out: &Out,
+    writer: &mut W,
+) -> Result<(), ScriptFault>
+    requires kept { IsSome (get nat_cmp kept.old out.now.input) }
+    ensures others { OnOk result ((i : ℕ) → get nat_cmp kept.new i ≡ (if is_at (nat_cmp out.now.input) i then None else get nat_cmp kept.old i)) }
+    ensures prints { OnOk result ((numbered : List Numbered) → AreKept numbered (get nat_cmp kept.old) →
+        PrintsOuts numbered (seen_out out.now ∷ []) (W.contents writer.old) (W.contents writer.new) (get nat_cmp kept.new)) }
+    ensures fault { OnErr result ((numbered : List Numbered) → AreKept numbered (get nat_cmp kept.old) →
+        AppendsFront (W.contents writer.old) (W.contents writer.new) (outs_text numbered (seen_out out.now ∷ []))) }
+{
+    let Some(asked) = kept.remove(&out.input) else {
+        unreachable!()
+    };
+    write_result(
+        alloc,
+        writer,
+        asked.line,
+        &asked.callback,
+        asked.tick,
+        &out.result,
+    )
+}
+
+/// Prints that the inputs of these numbers are held, or at a fault a front of that.
+pub fn print_held<W: Write>(
+    kept: &BTreeMap<usize, Asked>,
+    numbers: &[usize],
+    writer: &mut W,
+) -> Result<(), ScriptFault>
+    requires kept { AllKept (get nat_cmp kept.now) numbers.now }
+    ensures { (numbered : List Numbered) → AreKept numbered (get nat_cmp kept.now) →
+        Writes (W.contents writer.old) (W.contents writer.new) result (held_texts numbered numbers.now) }
+{
+    for number in numbers {
+        let Some(asked) = kept.get(number) else {
+            unreachable!()
+        };
+        write_held(writer, asked.line)?;
+    }
+    Ok(())
+}

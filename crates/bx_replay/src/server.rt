@@ -1,0 +1,175 @@
+//! The server, fed with the lines of a script.
+ghost use Rattle.std.specs.Prelude.{◌≡◌, ◌+◌, ◌++◌, ◌≤◌, ◌<◌, ◌^◌, [], ◌∷◌, length, option_map, string_bytes, IfOk, OnErr, OnOk};
+ghost use Rattle.std.specs.BTreeMap.{get};
+ghost use Rattle.std.specs.Ordering.{nat_cmp};
+ghost use Rattle.bx_replay.specs.Kept.{Keeps};
+ghost use Rattle.bx_replay.specs.Serving.{Hands, HandsFront, Prints, PrintsFront, Serves, shards_after};
+ghost use Rattle.bx_entry.specs.Requests.{read_input};
+ghost use Rattle.bx_entry.specs.Runs.{held, outs};
+ghost use Rattle.bx_fanout.specs.Rounds.{added_by, inputs_of, setup_in};
+ghost use Rattle.bx_script.specs.Lines.{InRange};
+ghost use Rattle.bx_script.specs.Printing.{is_tick, numbered};
+
+use crate::kept::{Asked, print_outs};
+use bx_advice::Config;
+use bx_entry::{Input, Placing};
+use bx_fanout::{Round, RoundFault};
+use bx_history::History;
+use bx_script::{Line, ScriptFault, write_bad, write_status};
+use bx_workers::OpenGate;
+use std::alloc::Global;
+use std::collections::BTreeMap;
+use std::io::Write;
+use std::sync::Arc;
+use std::thread::Threads;
+
+/// What the program has of a script so far.
+#[derive(Drop)]
+pub struct Server<P: Placing> {
+    pub round: Round<P>,
+    /// The inputs whose outs are not printed yet, by their numbers.
+    pub kept: BTreeMap<usize, Asked>,
+    /// How many lines were dealt with.
+    pub number: u64,
+    /// These lines.
+    pub lines: History<Line>,
+}
+
+/// A server that has dealt with no line.
+pub fn new_server<P: Placing + Drop>(
+    alloc: Global,
+    config: Config,
+    placing: Arc<P>,
+    workers: usize,
+) -> Result<Server<P>, ScriptFault>
+    requires some_worker { 1 ≤ workers }
+    requires workers_in_range { workers ≤ 16 }
+    ensures serves { IfOk result (λ s. Serves s) }
+    ensures lines { IfOk result (λ s. s.lines ≡ []) }
+    ensures config { IfOk result (λ s. (setup_in s.round).config ≡ config) }
+{
+    match Round::new(alloc, config, placing, workers) {
+        Ok(Some(round)) => Ok(Server {
+            round,
+            kept: BTreeMap::new(alloc),
+            number: 0,
+            lines: History::new(),
+        }),
+        Ok(None) => unreachable!(),
+        Err(_) => Err(ScriptFault::Memory),
+    }
+}
+
+/// Deals with one more line, and prints what comes of it, or at a fault a front of that.
+pub fn answer<T: Threads + Sync, P: Placing + Drop + Send + Sync, W: Write>(
+    rt: &T,
+    alloc: Global,
+    placing: &Arc<P>,
+    mut server: Server<P>,
+    line: Line,
+    writer: &mut W,
+) -> Result<Server<P>, ScriptFault>
+    requires serves { Serves server }
+    requires few { server.number < 2 ^ 62 }
+    requires in_range { InRange line }
+    ensures serves { IfOk result (λ s. Serves s) }
+    ensures lines { IfOk result (λ s. s.lines ≡ server.lines ++ line ∷ []) }
+    ensures config { IfOk result (λ s. (setup_in s.round).config ≡ (setup_in server.round).config) }
+    ensures shards { IfOk result (λ s. (setup_in s.round).shards ≡ shards_after line (setup_in server.round).shards) }
+    ensures prints { IfOk result (λ s. Prints (setup_in s.round).config server.lines s.lines (W.contents writer.old) (W.contents writer.new)) }
+    ensures fault { OnErr result (PrintsFront (setup_in server.round).config server.lines (server.lines ++ line ∷ []) (W.contents writer.old) (W.contents writer.new)) }
+{
+    server.lines.push(&line);
+    server.number += 1;
+    let number = server.number;
+    match line {
+        Line::Bad => {
+            write_bad(writer, number)?;
+            Ok(server)
+        }
+        Line::Turned { status } => {
+            write_status(writer, number, status)?;
+            Ok(server)
+        }
+        Line::Handed { callback, input } => {
+            let (round, kept) = (&mut server.round, &mut server.kept);
+            hand(rt, alloc, round, kept, number, callback, input, writer)?;
+            Ok(server)
+        }
+        Line::Resharded { shards } => {
+            let Server {
+                round,
+                kept,
+                lines,
+                ..
+            } = server;
+            let round = reshard(alloc, round, shards, placing)?;
+            Ok(Server {
+                round,
+                kept,
+                number,
+                lines,
+            })
+        }
+    }
+}
+
+// Deals with one more input, and prints the outs that come of it.
+fn hand<T: Threads + Sync, P: Placing + Send + Sync, W: Write>(
+    rt: &T,
+    alloc: Global,
+    round: &mut Round<P>,
+    kept: &mut BTreeMap<usize, Asked>,
+    line: u64,
+    callback: Option<String>,
+    input: Input,
+    writer: &mut W,
+) -> Result<(), ScriptFault>
+    requires few { length (inputs_of round.old) + 1 ≤ 2 ^ 62 }
+    requires added { added_by round.old ≡ outs (setup_in round.old).config (inputs_of round.old) }
+    requires kept { Keeps (get nat_cmp kept.old) (held (setup_in round.old).config (inputs_of round.old)) (length (inputs_of round.old)) }
+    ensures hands { OnOk result (Hands round.old (numbered line (option_map string_bytes callback) (read_input input)) round.new
+        (W.contents writer.old) (W.contents writer.new) (get nat_cmp kept.old) (get nat_cmp kept.new)) }
+    ensures fault { OnErr result (HandsFront round.old (numbered line (option_map string_bytes callback) (read_input input))
+        (W.contents writer.old) (W.contents writer.new) (get nat_cmp kept.old)) }
+{
+    let tick = ticks(&input);
+    let asked = Asked {
+        line,
+        callback,
+        tick,
+    };
+    kept.insert(round.dealt(), asked)?;
+    let inputs = [input];
+    let mut outs = Vec::new(alloc);
+    match round.run(rt, alloc, &OpenGate, &inputs, &mut outs) {
+        Ok(()) => print_outs(alloc, kept, &outs, writer),
+        Err(RoundFault::Memory { .. }) => Err(ScriptFault::Memory),
+    }
+}
+
+fn ticks(input: &Input) -> bool
+    ensures { result ≡ is_tick (read_input input.now) }
+{
+    matches!(input, Input::Tick(_))
+}
+
+// The server goes on with so many shards, among which sessions are placed as before.
+fn reshard<P: Placing + Drop>(
+    alloc: Global,
+    round: Round<P>,
+    shards: usize,
+    placing: &Arc<P>,
+) -> Result<Round<P>, ScriptFault>
+    requires some_shard { 1 ≤ shards }
+    requires shards_in_range { shards ≤ 64 }
+    ensures inputs { IfOk result (λ r. inputs_of r ≡ inputs_of round) }
+    ensures added { IfOk result (λ r. added_by r ≡ added_by round) }
+    ensures config { IfOk result (λ r. (setup_in r).config ≡ (setup_in round).config) }
+    ensures shards { IfOk result (λ r. (setup_in r).shards ≡ shards) }
+{
+    match round.reshard(alloc, shards, placing.clone()?) {
+        Ok(round) => Ok(round),
+        Err(_) => Err(ScriptFault::Memory),
+    }
+}
