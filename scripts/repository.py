@@ -131,10 +131,12 @@ class Line:
 class Work:
     """One crate's commands, each begun when the one before it has ended well. What they say goes into a file in the crate's out/."""
 
-    def __init__(self, name, commands, jobs):
+    def __init__(self, name, commands, jobs, is_first):
+        """Begins the first command, with so many jobs; crates that are not the first give way to it."""
         self.name = name
         self.room = CHECK + FURTHER_JOB * (jobs - 1)
-        self.left = [[it.replace("JOBS", str(jobs)) for it in words] for words in commands]
+        first = [] if is_first else ["nice"]
+        self.left = [first + [it.replace("JOBS", str(jobs)) for it in words] for words in commands]
         self.begin = time.monotonic()
         os.makedirs(f"{TOP}/crates/{name}/out", exist_ok=True)
         self.log = open(f"{TOP}/crates/{name}/out/run.log", "w+b")
@@ -185,7 +187,8 @@ def run(tasks):
             idle, free = PROCESSORS - len(working), memory - sum(it.room for it in working)
             if is_ready and idle and (free >= CHECK or not working):
                 left.remove(name)
-                working.append(Work(name, tasks[name], max(1, min(idle, int(1 + (free - CHECK) / FURTHER_JOB)))))
+                jobs = max(1, min(idle, int(1 + (free - CHECK) / FURTHER_JOB)))
+                working.append(Work(name, tasks[name], jobs, all(chain[it.name] <= chain[name] for it in working)))
         time.sleep(PAUSE)
         for work in [it for it in working if not it.is_at_work()]:
             working.remove(work)
