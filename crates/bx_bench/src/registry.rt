@@ -91,7 +91,7 @@ fn admit(alloc: Global, registry: &mut Registry, messages: &[Message]) -> Result
 pub fn open(alloc: Global) -> Result<usize> {
     let mut registry = new_registry(alloc)?;
     open_all(alloc, &mut registry, PUBLISHERS)?;
-    Ok(registry.len() as usize)
+    Ok(registry.entries() as usize)
 }
 
 /// 1,000,000 publishes, each a request, in turn by 10,000 sessions.
@@ -114,7 +114,7 @@ fn publish_in(alloc: Global, registry: &mut Registry, at_once: usize) -> Result<
     for _ in 0..PUBLISHES / PUBLISHERS {
         admit_each(alloc, registry, &publishes, at_once)?;
     }
-    Ok(registry.len() as usize)
+    Ok(registry.entries() as usize)
 }
 
 // Admits so many of the publishes a request.
@@ -144,7 +144,7 @@ fn tick_in(alloc: Global, registry: &mut Registry) -> Result<usize> {
     for _ in 0..TICKS {
         closed = closed.wrapping_add(admit_tick(alloc, registry)?);
     }
-    Ok(registry.len().wrapping_add(closed) as usize)
+    Ok(registry.entries().wrapping_add(closed) as usize)
 }
 
 // Plans and commits a tick, and says how many sessions it closes.

@@ -1,5 +1,5 @@
 -- What a round has dealt with, and what its runs have added.
-use Rattle.std.specs.Prelude.{List, Result}
+use Rattle.std.specs.Prelude.{ℕ, List, Result}
 use Rattle.bx_entry.specs.Inputs.{ReadInput}
 use Rattle.bx_entry.specs.Runs as runs
 use Rattle.bx_entry.specs.declared.Placing.{Ghosts}
@@ -14,6 +14,10 @@ module _ {P : Type 0} {g : Ghosts P} where
   -- the configuration with the placing
   abbrev pub setup_in : Round P g → Setup
   setup_in r = parts.setup_in r.parts
+
+  -- how many workers it has
+  abbrev pub workers_in : Round P g → ℕ
+  workers_in r = r.workers
 
   -- the inputs dealt with, over all runs
   abbrev pub inputs_of : Round P g → List ReadInput

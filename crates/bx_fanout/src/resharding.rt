@@ -1,13 +1,14 @@
 //! Another number of shards.
-ghost use Rattle.std.specs.Prelude.{ℕ, ◌≡◌, ◌≤◌, length, slice_get, MatchResult, IfOk, OnOk, Some};
+ghost use Rattle.std.specs.Prelude.{ℕ, ◌≡◌, ◌≤◌, true, length, slice_get, MatchResult, IfOk, OnErr, OnOk, Some};
 ghost use Rattle.std.specs.Arc.{arc_value};
 ghost use Rattle.bx_fanout.specs.Newests.{IsLevel, IsUp};
 ghost use Rattle.bx_fanout.specs.Parts.{IsDone, Stands};
 ghost use Rattle.bx_fanout.specs.Runs as runs;
 ghost use Rattle.bx_world.specs.Seen.{setup_of, world_of};
+ghost use Rattle.bx_world.specs.Worlds.{may_refuse};
+ghost use Rattle.bx_world.specs.declared.step.Step.TheVariants.{Apply};
 
 use crate::parts::{Parts, collect_last};
-use bx_advice::MAX_LENGTH;
 use bx_entry::Placing;
 use bx_world::{Applied, World};
 use std::alloc::{AllocError, Global};
@@ -136,20 +137,21 @@ fn bring_up_all<P: Placing>(
     Ok(())
 }
 
-// Brings the shard of this index up to the end of the list, which has at most so many entries.
+// Brings the shard of this index up to the end of the list. Where memory is refused, it stands before an entry for which it
+// can be.
 fn bring_up<P: Placing>(alloc: Global, world: &mut World<P>, shard: usize) -> Result<(), AllocError>
     ensures up { OnOk result (IsUp (world_of world.new) shard) }
+    ensures stopped { OnErr result (may_refuse (setup_of world.new) (world_of world.new) (Apply shard) ≡ true) }
     ensures others { (k : ℕ) → IsUp (world_of world.old) k → IsUp (world_of world.new) k }
     ensures list { (world_of world.new).list ≡ (world_of world.old).list }
     ensures taken { (world_of world.new).taken ≡ (world_of world.old).taken }
     ensures setup { setup_of world.new ≡ setup_of world.old }
 {
-    for _ in 0..MAX_LENGTH {
+    loop {
         match world.apply(alloc, shard) {
             Applied::Done => {}
             Applied::Level => return Ok(()),
             Applied::Memory => return Err(AllocError),
         }
     }
-    Err(AllocError)
 }

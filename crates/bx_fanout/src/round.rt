@@ -19,8 +19,8 @@ pub const MAX_WORKERS: usize = 16;
 
 /// Inputs dealt with in order, each answered as one thread would answer it, by many workers.
 ///
-/// Contracts see the configuration with its placing, the inputs that all runs dealt with, and the outs that all runs
-/// added.
+/// Contracts see the configuration with its placing, how many workers there are, the inputs that all runs dealt with, and the
+/// outs that all runs added.
 #[derive(Drop)]
 pub struct Round<P: Placing> {
     parts: Parts<P>,
@@ -34,7 +34,7 @@ impl<P: Placing> Round<P> {
     ghost use Rattle.std.specs.Prelude.{◌≡◌, ◌+◌, ◌^◌, ◌&&◌, [], is_some, length, nat_le, IfOk, IfSome, MatchResult};
     ghost use Rattle.std.specs.Arc.{arc_value};
     ghost use Rattle.bx_entry.specs.Runs as runs;
-    ghost use Rattle.bx_fanout.specs.Rounds.{IsLevel, IsRun, added_by, inputs_of, setup_in};
+    ghost use Rattle.bx_fanout.specs.Rounds.{IsLevel, IsRun, added_by, inputs_of, setup_in, workers_in};
     ghost use Rattle.bx_world.specs.Admissions.{placed_by};
 
     /// A round with so many workers, 1 to 16, that has dealt with no input. None where the workers are not so many.
@@ -46,7 +46,8 @@ impl<P: Placing> Round<P> {
     ) -> Result<Option<Round<P>>, AllocError>
     where
         P: Drop,
-        ensures workers { IfOk result (λ round. is_some round ≡ (nat_le 1 workers && nat_le workers 16)) }
+        ensures some { IfOk result (λ round. is_some round ≡ (nat_le 1 workers && nat_le workers 16)) }
+        ensures workers { IfOk result (λ round. IfSome round (λ r. workers_in r ≡ workers)) }
         ensures inputs { IfOk result (λ round. IfSome round (λ r. inputs_of r ≡ [])) }
         ensures added { IfOk result (λ round. IfSome round (λ r. added_by r ≡ [])) }
         ensures setup { IfOk result (λ round. IfSome round (λ r. setup_in r ≡ placed_by config config.shards (P.place_of (arc_value placing)))) }
@@ -79,7 +80,8 @@ impl<P: Placing> Round<P> {
     where
         P: Send + Sync,
         requires few { length (inputs_of self.old) + length inputs.now ≤ 2 ^ 62 }
-        ensures { IsRun self.old inputs.now outs.old.items outs.new.items self.new result }
+        ensures run { IsRun self.old inputs.now outs.old.items outs.new.items self.new result }
+        ensures workers { workers_in self.new ≡ workers_in self.old }
     {
         run_all(rt, alloc, gate, self.workers, &mut self.parts, inputs, outs)
     }
@@ -102,6 +104,7 @@ impl<P: Placing> Round<P> {
         ensures setup { MatchResult result
             (λ r. setup_in r ≡ record (setup_in self) { shards = shards; placing = P.place_of (arc_value placing) })
             (λ e. setup_in e.0 ≡ setup_in self) }
+        ensures workers { MatchResult result (λ r. workers_in r ≡ workers_in self) (λ e. workers_in e.0 ≡ workers_in self) }
         ensures level { IfOk result (λ r. IsLevel r) }
     {
         let Round { parts, workers } = self;

@@ -1,5 +1,8 @@
 -- What the judging of a message hands on.
-use Rattle.std.specs.Prelude.{ℕ, ◌≡◌, fold, option_to_list, Option, Some}
+use Rattle.std.specs.Prelude.{ℕ, ◌≡◌, ⊤, Bool, false, List, fold, is_some, option_to_list, Option, Some}
+use Rattle.std.specs.List.{list_any}
+use Rattle.bx_names.specs.Faults.{pattern_fault}
+use Rattle.bx_message.specs.declared.message.Message.{Message}
 use Rattle.bx_message.specs.declared.column.Column.{Column}
 use Rattle.bx_message.specs.declared.column.Column.TheVariants as columns
 use Rattle.bx_entry.specs.declared.entry.Kind.{Kind}
@@ -27,3 +30,17 @@ pub record IsOutcome (ms : Members) (place : ℕ) (o : Outcome) (edit : Option E
   pub can : CanEditEach ms (option_to_list edit)
   pub what : kind ≡ o.kind
   pub answer : planned_at place o.slot ≡ Some slot
+
+-- whether some text does not read as a pattern
+abbrev pub has_fault : List (List ℕ) → Bool
+has_fault texts = list_any (λ text. is_some (pattern_fault text)) texts
+
+-- where a message of this column names patterns, each of them reads as one
+abbrev pub AreReadable : Column → Message → Type 0
+AreReadable columns.Handshake message = ⊤
+AreReadable columns.Connect message = ⊤
+AreReadable columns.Subscribe message = has_fault message.texts ≡ false
+AreReadable columns.Unsubscribe message = has_fault message.texts ≡ false
+AreReadable columns.Disconnect message = ⊤
+AreReadable columns.Publish message = ⊤
+AreReadable columns.UnknownMeta message = ⊤

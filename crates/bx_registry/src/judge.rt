@@ -1,6 +1,7 @@
 //! What a message comes to.
-ghost use Rattle.std.specs.Prelude.{◌≡◌, ◌+◌, ◌<◌, ◌≤◌, ◌^◌, ℕ, Some, None, List, length, min, unwrap_or, map, filter, not, if◌then◌else◌, is_some, IfOk, Option, option_map};
+ghost use Rattle.std.specs.Prelude.{◌≡◌, ◌+◌, ◌<◌, ◌≤◌, ◌^◌, ℕ, Some, None, List, false, length, min, unwrap_or, map, filter, not, if◌then◌else◌, is_some, IfOk, Option, option_map};
 ghost use Rattle.std.specs.Option.{option_copied};
+ghost use Rattle.bx_names.specs.Faults.{pattern_fault};
 ghost use Rattle.bx_names.specs.Globs.{Glob, glob_of};
 ghost use Rattle.bx_names.specs.Kinds.{is_service};
 ghost use Rattle.bx_names.specs.Segments.{segments};
@@ -19,7 +20,7 @@ ghost use Rattle.bx_registry.specs.Rolls.{newcomer, outcome};
 ghost use Rattle.bx_entry.specs.Listing as messages;
 ghost use Rattle.bx_registry.specs.Drafts.{members_of, named};
 ghost use Rattle.bx_registry.specs.Plans.{planned_at};
-ghost use Rattle.bx_registry.specs.Judgements.{IsOutcome, edit_for};
+ghost use Rattle.bx_registry.specs.Judgements.{AreReadable, IsOutcome, edit_for, has_fault};
 
 use crate::draft::{Draft, Sender};
 use crate::id::client_id;
@@ -31,7 +32,7 @@ use bx_entry::Kind;
 use bx_message::{
     AckMember, AckReply, Column, Event, Message, RawJson, Reply, Sequence, SharedEvent, Text,
 };
-use bx_names::Pattern;
+use bx_names::{NameError, Pattern};
 use bx_roster::{Edit, Session};
 use std::alloc::{AllocError, AllocFailed, Global};
 
@@ -113,6 +114,7 @@ fn serve(
     sender: &Sender<'_>,
 ) -> Result<Judgement, AllocError>
     requires column { column ≡ column_of posted.message.now.channel }
+    requires readable { AreReadable column posted.message.now }
     requires moment { moment ≤ greatest_moment }
     ensures edit { IfOk result (λ j. j.edit ≡ Some (edit_for column sender.now.number
         (moment + hold_of config.now (posted_of posted.entry) + config.now.max_interval))) }
@@ -139,6 +141,7 @@ fn kind_for(
     sender: &Sender<'_>,
     hold: u64,
 ) -> Result<Kind, AllocError>
+    requires { AreReadable column message.now }
     ensures { IfOk result (λ kind. (p : messages.Posted) → p.message ≡ message.now
         → kind ≡ kind_for column p (named sender.now) hold) }
 {
@@ -309,6 +312,7 @@ fn edit_for(column: Column, number: u64, due: u64) -> Edit
 
 // The subscription's patterns, without those of service channels.
 fn patterns_of(alloc: Global, message: &Message) -> Result<Sequence<Pattern>, AllocError>
+    requires { has_fault message.now.texts ≡ false }
     ensures { IfOk result (λ ps. ps ≡ patterns_of message.now) }
 {
     let mut patterns = Sequence::new(alloc);
@@ -326,13 +330,15 @@ fn is_service(text: &str) -> bool
     text.starts_with("/service/")
 }
 
-// A text that was tested reads as a pattern.
+// A text without a fault reads as a pattern, where there is memory.
 fn pattern_of(alloc: Global, text: &str) -> Result<Pattern, AllocError>
+    requires { pattern_fault text.now ≡ None }
     ensures { IfOk result (λ p. p ≡ glob_of (segments text.now)) }
 {
     match Pattern::read(alloc, text) {
         Ok(pattern) => Ok(pattern),
-        Err(_) => Err(AllocError),
+        Err(NameError::Memory) => Err(AllocError),
+        Err(_) => unreachable!(),
     }
 }
 

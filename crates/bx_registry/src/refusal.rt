@@ -1,10 +1,11 @@
 //! Which message is refused, and why.
-ghost use Rattle.std.specs.Prelude.{◌≡◌, List, length, nat_lt, nat_le, not, is_some, is_none};
+ghost use Rattle.std.specs.Prelude.{◌≡◌, List, None, length, nat_lt, nat_le, not, is_some, is_none};
 ghost use Rattle.std.specs.List.{list_any};
 ghost use Rattle.bx_names.specs.Faults.{name_fault, pattern_fault};
 ghost use Rattle.bx_names.specs.Kinds.{is_meta};
 ghost use Rattle.bx_message.specs.Columns.{column_of};
 ghost use Rattle.bx_entry.specs.Registry.{Registered, count_live, is_connection, is_polling, is_text, is_version, named_by, refusal};
+ghost use Rattle.bx_registry.specs.Judgements.{AreReadable};
 ghost use Rattle.bx_registry.specs.Postings.{posted_of};
 
 use crate::posted::Posted;
@@ -22,9 +23,10 @@ pub(crate) fn refusal(
     posted: Posted<'_>,
 ) -> Option<Error>
     requires { column ≡ column_of posted.message.now.channel }
-    ensures { (sessions : List Registered) → live ≡ count_live sessions
+    ensures table { (sessions : List Registered) → live ≡ count_live sessions
         → known ≡ is_some (named_by sessions column posted.entry.message.now)
         → result ≡ refusal config.now sessions (posted_of posted.entry) }
+    ensures readable { result ≡ None → AreReadable column posted.entry.message.now }
 {
     let message = posted.message;
     match column {

@@ -58,7 +58,7 @@ impl Registry {
     }
 
     /// How many entries the list has.
-    pub fn len(&self) -> u64
+    pub fn entries(&self) -> u64
         ensures { result ≡ self.now.length }
     {
         let Registry { length, .. } = self;

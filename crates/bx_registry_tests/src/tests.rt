@@ -81,7 +81,7 @@ fn a_plan_changes_nothing(rt: HostRuntime) -> Result<(), Fail> {
     assert_eq!(rt; plan.batch.first, 0);
     assert_eq!(rt; plan.batch.entries.len(), 1);
     assert_eq!(rt; case_of(&plan), Some(Case::Opened));
-    assert_eq!(rt; registry.len(), 0);
+    assert_eq!(rt; registry.entries(), 0);
     assert!(rt; !registry.live(1));
     Ok(())
 }
@@ -98,7 +98,7 @@ fn a_session_is_opened_and_closed(rt: HostRuntime) -> Result<(), Fail> {
     let closed = tick(alloc, &mut registry, 10_001)?;
     assert_eq!(rt; closed.as_slice(), [1].as_slice());
     assert!(rt; !registry.live(1));
-    assert_eq!(rt; registry.len(), 3);
+    assert_eq!(rt; registry.entries(), 3);
     Ok(())
 }
 
@@ -113,7 +113,7 @@ fn moments_have_an_end(rt: HostRuntime) -> Result<(), Fail> {
     assert_eq!(rt; refused, Some(AdmitFault::BadMoment));
     let last = registry.plan_tick(alloc, late - 1)?;
     assert_eq!(rt; last.entry.place, 0);
-    assert_eq!(rt; registry.len(), 0);
+    assert_eq!(rt; registry.entries(), 0);
     Ok(())
 }
 

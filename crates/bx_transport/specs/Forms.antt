@@ -1,20 +1,32 @@
 -- The parameters of a form or a query, by the words of `form_urlencoded`.
-use Rattle.std.specs.Prelude.{ℕ, ◌==◌, ◌||◌, ◌&&◌, Bool, false, List, map, filter, fold, length, nat_lt, nat_le, codes, Option, Some, None, unwrap_or}
-use Rattle.std.specs.List.{before_first, list_any, list_all}
-use Rattle.std.specs.Char.{is_ascii_alphanumeric, to_ascii_lowercase}
+use Rattle.std.specs.Prelude.{ℕ, ◌-◌, ◌==◌, ◌||◌, ◌&&◌, Bool, false, List, map, filter, fold, take, drop, length, nat_lt, nat_le, codes, Option, Some, None, unwrap_or}
+use Rattle.std.specs.List.{before_first, list_any, list_all, prefix_len, suffix_len}
+use Rattle.std.specs.Char.{is_ascii_alphanumeric, is_ascii_whitespace, to_ascii_lowercase}
 use Rattle.std.specs.Str.{bytes_eq}
 use Rattle.std.specs.Str.Lossy.{utf8_lossy}
 use Rattle.form_urlencoded.specs.Form.{decode, raw_pairs}
 
 -- ---- which bodies are forms
 
--- what ends a media type in front of its parameters
-abbrev pub ends_type : ℕ → Bool
-ends_type byte = (byte == 59) || (byte == 32) || (byte == 9)
+-- what ends a media type, in front of its parameters
+abbrev pub is_semicolon : ℕ → Bool
+is_semicolon byte = byte == 59
+
+-- a text without the blanks in front of it
+abbrev pub behind_blanks : List ℕ → List ℕ
+behind_blanks text = drop (prefix_len is_ascii_whitespace text) text
+
+-- a text without the blanks behind it
+abbrev pub before_blanks : List ℕ → List ℕ
+before_blanks text = take (length text - suffix_len is_ascii_whitespace text) text
+
+-- the media type of a content type: what stands in front of the first semicolon, without the blanks round it
+abbrev pub media_type_of : List ℕ → List ℕ
+media_type_of content_type = before_blanks (behind_blanks (before_first is_semicolon content_type))
 
 -- whether a content type is that of a form, without ASCII case
 abbrev pub is_form_type : List ℕ → Bool
-is_form_type content_type = bytes_eq (map to_ascii_lowercase (before_first ends_type content_type)) (codes "application/x-www-form-urlencoded")
+is_form_type content_type = bytes_eq (map to_ascii_lowercase (media_type_of content_type)) (codes "application/x-www-form-urlencoded")
 
 -- where there is no content type, there is no form
 abbrev pub is_form : Option (List ℕ) → Bool

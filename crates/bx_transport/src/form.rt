@@ -1,8 +1,8 @@
 // Forms and queries.
-ghost use Rattle.std.specs.Prelude.{◌≡◌, ◌++◌, ◌∷◌, [], IfOk, OnOk, map, option_map, codes, string_bytes};
+ghost use Rattle.std.specs.Prelude.{◌≡◌, ◌++◌, ◌∷◌, [], IfOk, OnOk, map, option_map, position, codes, string_bytes};
 ghost use Rattle.std.specs.List.{before_first};
 ghost use Rattle.std.specs.Cow.{cow_str_bytes};
-ghost use Rattle.bx_transport.specs.Forms.{ends_type, is_form, last_of, latest, text_of, values_among, values_of};
+ghost use Rattle.bx_transport.specs.Forms.{is_form, is_semicolon, last_of, latest, media_type_of, text_of, values_among, values_of};
 
 use form_urlencoded::{decode, raw_pairs};
 use std::alloc::{AllocError, Global};
@@ -21,21 +21,28 @@ pub(crate) fn is_form(content_type: Option<&[u8]>) -> bool
     }
 }
 
-// What stands in front of any parameters.
+// What stands in front of any parameters, without the blanks round it.
 fn media_type(content_type: &[u8]) -> &[u8]
-    ensures { result.now ≡ before_first ends_type content_type.now }
+    ensures { result.now ≡ media_type_of content_type.now }
 {
-    let mut end = 0;
-    while end < content_type.len() && !ends_type(content_type[end]) {
-        end += 1;
-    }
-    &content_type[..end]
+    before_parameters(content_type).trim_ascii()
 }
 
-fn ends_type(byte: u8) -> bool
-    ensures { result ≡ ends_type byte }
+// What stands in front of the first semicolon.
+fn before_parameters(content_type: &[u8]) -> &[u8]
+    ensures { result.now ≡ before_first is_semicolon content_type.now }
 {
-    matches!(byte, b';' | b' ' | b'\t')
+    match semicolon_in(content_type) {
+        Some(end) => &content_type[..end],
+        None => content_type,
+    }
+}
+
+// The index of the first semicolon.
+fn semicolon_in(content_type: &[u8]) -> Option<usize>
+    ensures { result ≡ position is_semicolon content_type.now }
+{
+    content_type.iter().position(|byte| *byte == b';')
 }
 
 // What a form or a query has for the server.

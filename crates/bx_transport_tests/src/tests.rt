@@ -53,7 +53,15 @@ fn content_types_tell_forms(rt: HostRuntime) -> Result<(), Fail> {
             "|[]|[]|",
         ),
         (Some("application/x-www-form-urlencoded;"), "|[]|[]|"),
-        (Some("APPLICATION/X-WWW-FORM-URLENCODED ;a=b"), "|[]|[]|"),
+        (
+            Some("\t APPLICATION/X-WWW-FORM-URLENCODED \t;a=b"),
+            "|[]|[]|",
+        ),
+        (Some(" application/x-www-form-urlencoded "), "|[]|[]|"),
+        (
+            Some("application/x-www-form-urlencoded x"),
+            "|message=[]&x=1&message=[]|",
+        ),
         (
             Some("application/x-www-form-urlencode"),
             "|message=[]&x=1&message=[]|",

@@ -26,7 +26,7 @@ returns-in-Some c =
     let col : c.of-column.result ≡ column_of p.message.channel = c.of-column.ensures ∙ ap column_of c.as_str.ensures in
     let found : IsFound o (named_by ms.live (column_of p.message.channel) p.message) = subst (λ (column : Column). IsFound o (named_by ms.live column p.message)) col c.named_by-sender.ensures in
     let known : c.is_some.result ≡ is_some (named_by ms.live c.of-column.result p.message) = c.is_some.ensures ∙ found-known o (named_by ms.live c.of-column.result p.message) c.named_by-sender.ensures in
-    let fault = sym (c.in-Some.ensures ms.live c.counts-live.ensures.live known) in
+    let fault = sym (c.in-Some.ensures.table ms.live c.counts-live.ensures.live known) in
     all_three c.refuse.result _ _ _ _ (λ j e f g.
     refused-outcome config ms c.args.moment c.args.place p c.in-Some.error j.edit j.kind j.slot (option_map (λ (s : Sender). s.client.now) o) fault
     (found-client o (named_by ms.live (column_of p.message.channel) p.message) found) e f
@@ -42,7 +42,7 @@ returns-in-None-sender c =
     let col : c.of-column.result ≡ column_of p.message.channel = c.of-column.ensures ∙ ap column_of c.as_str.ensures in
     let found : IsFound o (named_by ms.live (column_of p.message.channel) p.message) = subst (λ (column : Column). IsFound o (named_by ms.live column p.message)) col c.named_by-sender.ensures in
     let known : c.is_some.result ≡ is_some (named_by ms.live c.of-column.result p.message) = c.is_some.ensures ∙ found-known o (named_by ms.live c.of-column.result p.message) c.named_by-sender.ensures in
-    let fault = sym (c.in-None.ensures ms.live c.counts-live.ensures.live known) in
+    let fault = sym (c.in-None.ensures.table ms.live c.counts-live.ensures.live known) in
     let none : named_by ms.live (column_of p.message.channel) p.message ≡ None = subst (λ (s : Option Sender). IsFound s (named_by ms.live (column_of p.message.channel) p.message)) c.in-None-sender.is found in
     all_three c.open.result _ _ _ _ (λ j e f g.
     opened-outcome config ms c.args.moment c.args.place (c.counts-live.result.1 + 1) p j.edit j.kind j.slot c.counts-live.ensures.all c.requires.limit
@@ -58,7 +58,7 @@ returns-in-Some-sender c =
     let col : c.of-column.result ≡ column_of p.message.channel = c.of-column.ensures ∙ ap column_of c.as_str.ensures in
     let found : IsFound o (named_by ms.live (column_of p.message.channel) p.message) = subst (λ (column : Column). IsFound o (named_by ms.live column p.message)) col c.named_by-sender.ensures in
     let known : c.is_some.result ≡ is_some (named_by ms.live c.of-column.result p.message) = c.is_some.ensures ∙ found-known o (named_by ms.live c.of-column.result p.message) c.named_by-sender.ensures in
-    let fault = sym (c.in-None.ensures ms.live c.counts-live.ensures.live known) in
+    let fault = sym (c.in-None.ensures.table ms.live c.counts-live.ensures.live known) in
     let s : Sender = c.in-Some-sender.sender in
     let who = subst (λ (x : Option Sender). IsFound x (named_by ms.live (column_of p.message.channel) p.message)) c.in-Some-sender.is found in
     all_three c.serve.result _ _ _ _ (λ j e f g.

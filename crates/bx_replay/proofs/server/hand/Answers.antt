@@ -28,7 +28,7 @@ returns-in-Ok-clause-hands g c =
     let asked : Asked = record { line = c.args.line; callback = c.args.callback; tick = c.ticks-tick.result } in
     let before = g.W.Write.contents c.args.writer.now in
     let after = g.W.Write.contents c.print_outs.new.writer in
-    let run = ran old (c.args.input ∷ []) c.new-outs.result.items c.run.new.outs.items new c.run.result c.in-Ok.field-0 c.in-Ok.is c.run.ensures in
+    let run = ran old (c.args.input ∷ []) c.new-outs.result.items c.run.new.outs.items new c.run.result c.in-Ok.field-0 c.in-Ok.is c.run.ensures.run in
     let given : c.deref.result.now ≡ run.more = c.deref.ensures.value ∙ run.behind ∙ ap (λ (os : List Out). os ++ run.more) c.new-outs.ensures.items in
     let read = read_input c.args.input in
     let kept = kept_given (setup_in old).config (inputs_of old) (inputs_of new) read (added_by old) (added_by new) run.more c.dealt.result asked (get nat_cmp c.args.kept.now) (get nat_cmp c.insert.new.self) (setup_in old).config.limits.some_batch
@@ -54,7 +54,7 @@ print_outs-requires g c =
     let old = c.args.round.now in
     let new = c.run.new.self in
     let asked : Asked = record { line = c.args.line; callback = c.args.callback; tick = c.ticks-tick.result } in
-    let run = ran old (c.args.input ∷ []) c.new-outs.result.items c.run.new.outs.items new c.run.result c.in-Ok.field-0 c.in-Ok.is c.run.ensures in
+    let run = ran old (c.args.input ∷ []) c.new-outs.result.items c.run.new.outs.items new c.run.result c.in-Ok.field-0 c.in-Ok.is c.run.ensures.run in
     let given : c.deref.result.now ≡ run.more = c.deref.ensures.value ∙ run.behind ∙ ap (λ (os : List Out). os ++ run.more) c.new-outs.ensures.items in
     let kept = kept_given (setup_in old).config (inputs_of old) (inputs_of new) (read_input c.args.input) (added_by old) (added_by new) run.more c.dealt.result asked (get nat_cmp c.args.kept.now) (get nat_cmp c.insert.new.self) (setup_in old).config.limits.some_batch
     c.requires.kept c.dealt.ensures c.in_ok-insert.ensures.updates.0 c.requires.added run.inputs_are (run.all ∙ ap (λ (config : Config). outs config (inputs_of new)) run.setup) run.added in
@@ -68,7 +68,7 @@ returns-in-Ok-clause-fault g c =
     let asked : Asked = record { line = c.args.line; callback = c.args.callback; tick = c.ticks-tick.result } in
     let before = g.W.Write.contents c.args.writer.now in
     let after = g.W.Write.contents c.print_outs.new.writer in
-    let run = ran old (c.args.input ∷ []) c.new-outs.result.items c.run.new.outs.items new c.run.result c.in-Ok.field-0 c.in-Ok.is c.run.ensures in
+    let run = ran old (c.args.input ∷ []) c.new-outs.result.items c.run.new.outs.items new c.run.result c.in-Ok.field-0 c.in-Ok.is c.run.ensures.run in
     let given : c.deref.result.now ≡ run.more = c.deref.ensures.value ∙ run.behind ∙ ap (λ (os : List Out). os ++ run.more) c.new-outs.ensures.items in
     on_err_weaker c.print_outs.result
     (λ h. record {
