@@ -1,5 +1,5 @@
 -- Numbers among others.
-use Rattle.std.proofs.Common.{◌≡◌, ℕ, eqb, List, Contains}
+use Rattle.std.proofs.Common.{◌≡◌, ◌↔◌, ℕ, Bool, IsTrue, Result, Ok, Err, IfOk, OnOk, eqb, List, Contains, sym, ◌∙◌}
 use Rattle.std.specs.Bool.{Decides, one_answer}
 use Rattle.std.specs.List.{dedup}
 use Rattle.std.proofs.lemmas.Bool.{eqb-true}
@@ -17,3 +17,11 @@ is_among-dedup xs n =
     let left = is_among-decides (dedup eqb xs) n in
     one_answer {P = Contains xs n} (is_among (dedup eqb xs) n) (is_among xs n)
     (λ e. Contains-from_dedup eqb xs n (left.0 e), λ h. left.1 (Contains-dedup_nat xs n h)) (is_among-decides xs n)
+
+-- numbers that are those which a walk comes by are those with a pattern that matches
+pub exact_if_met : {V E : Type 0} (r : Result V E) (numbers : V → List ℕ) (met fits : ℕ → Bool) (Whole : Type 0) → (Whole → (n : ℕ) → met n ≡ fits n) → IfOk r (λ v. (n : ℕ) → is_among (numbers v) n ≡ met n) → OnOk r Whole → IfOk r (λ v. (n : ℕ) → (Contains (numbers v) n ↔ IsTrue (fits n)))
+exact_if_met (Ok v) numbers met fits Whole same told whole = λ n.
+    let is = told n ∙ same whole n in
+    let in_list = is_among-decides (numbers v) n in
+    (λ h. sym is ∙ in_list.1 h, λ h. in_list.0 (is ∙ h))
+exact_if_met (Err e) numbers met fits Whole same told whole = tt

@@ -1,5 +1,5 @@
 -- Segments that no slash cuts, and the paths that they make.
-use Rattle.std.proofs.Common.{◌≡◌, ℕ, zero, suc, Bool, true, false, Ok, List, [], ◌∷◌, ◌++◌, take, length, cond, refl, sym, ap, subst, ◌∙◌, append-nil, ◌-◌}
+use Rattle.std.proofs.Common.{◌≡◌, ℕ, zero, suc, Bool, true, false, Ok, List, [], ◌∷◌, ◌++◌, take, length, ◌<◌, cond, refl, sym, ap, subst, ◌∙◌, append-nil, ◌-◌}
 use Rattle.std.specs.List.{onto_first}
 use Rattle.std.specs.Bool.{one_answer}
 use Rattle.std.specs.Str.{bytes_eq}
@@ -10,7 +10,7 @@ use Rattle.bx_names.specs.Faults.{pattern_fault, read_name, read_pattern}
 use Rattle.bx_names.specs.Equality.{same_segments-decides}
 use Rattle.bx_names.specs.declared.tail.Tail.{Tail}
 use Rattle.bx_names.specs.declared.tail.Tail.TheVariants.{Exact, One, Many}
-use Rattle.bx_names.proofs.PathLemmas.{parts-append}
+use Rattle.bx_names.proofs.PathLemmas.{parts-append, parts_some}
 use Rattle.bx_names.proofs.FaultLemmas.{name_text, read_by-ok}
 use Rattle.bx_tree.specs.Whole.{AreWhole}
 
@@ -37,6 +37,11 @@ whole_take (suc k) (s ∷ ss) h = (h.0, whole_take k ss h.1)
 -- a name's segments are whole
 pub whole_name : (text : List ℕ) (name : List (List ℕ)) → read_name text ≡ Ok name → AreWhole name
 whole_name text name h = subst AreWhole ((name_text text name h).is) (whole_segments text)
+
+-- and there is one
+pub some_segment : (text : List ℕ) (name : List (List ℕ)) → read_name text ≡ Ok name → 0 < length name
+some_segment [] name h = cc
+some_segment (x ∷ xs) name h = subst (λ (ss : List (List ℕ)). 0 < length ss) (name_text (x ∷ xs) name h).is (parts_some xs)
 
 whole_ending : (tail : Tail) (ss : List (List ℕ)) → AreWhole ss → AreWhole (ending_in tail ss).segments
 whole_ending Exact ss h = h

@@ -9,7 +9,7 @@ use Rattle.bx_names.specs.Globs.{Glob}
 use Rattle.bx_names.specs.InForce.{in_force}
 use Rattle.bx_names.specs.declared.tail.Tail.{Tail}
 use Rattle.bx_names.specs.declared.tail.Tail.TheVariants.{Exact, One, Many}
-use Rattle.bx_tree.specs.declared.path_lists.PathLists.{PathLists}
+use Rattle.bx_tree.specs.declared.nodes.path_lists.PathLists.{PathLists}
 use Rattle.bx_tree.specs.declared.nodes.Nodes.{Nodes}
 use Rattle.bx_tree.specs.Whole.{AreWhole}
 use Rattle.bx_tree.specs.Patterns.{patterns_of}

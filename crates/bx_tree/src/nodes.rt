@@ -1,15 +1,19 @@
-ghost use Rattle.std.specs.Prelude.{◌≡◌, ℕ, ◌+◌, ◌*◌, ◌≤◌, ◌==◌, ◌&&◌, ◌||◌, not, false, [], OnOk, OnErr, IfOk, length};
+ghost use Rattle.std.specs.Prelude.{◌≡◌, ℕ, ◌+◌, ◌==◌, ◌&&◌, ◌||◌, not, false, [], OnOk, OnErr, IfOk, length};
 ghost use Rattle.std.specs.List.{list_any};
+ghost use Rattle.std.specs.List.Sorted.{IsStrictlyIncreasing};
 ghost use Rattle.bx_names.specs.Globs.{Glob, same_glob};
 ghost use Rattle.bx_names.specs.InForce.{in_force};
 ghost use Rattle.bx_tree.specs.Whole.{AreWhole};
 ghost use Rattle.bx_tree.specs.Lists.{stands_for};
 ghost use Rattle.bx_tree.specs.Walks.{is_among, is_met};
 
-use crate::found::Found;
+mod found;
+mod path_lists;
+
 use crate::own_path::own_path;
-use crate::path_lists::PathLists;
 use bx_names::{ChannelName, Pattern, Tail};
+pub use found::Found;
+use path_lists::PathLists;
 use std::alloc::{AllocError, Global};
 
 /// The three lists at each path: those of the patterns that are the path, those of the path and a `*`, and those of
@@ -96,10 +100,24 @@ impl Nodes {
         }
     }
 
-    /// Walks along a name from the empty path, and collects the numbers that it comes by.
-    pub(crate) fn walk(&self, alloc: Global, name: &ChannelName) -> Result<Found, AllocError>
+    /// What a walk along a name comes by: the numbers ascending, each once, and how many lists were looked at. It
+    /// knows the three lists at each path, and no session's patterns.
+    pub(crate) fn find(&self, alloc: Global, name: &ChannelName) -> Result<Found, AllocError>
         ensures numbers { IfOk result (λ found. (n : ℕ) → is_among found.numbers.items n ≡ is_met self.now [] name.now n) }
-        ensures visited { IfOk result (λ found. found.visited ≤ 2 * length name.now + 1) }
+        ensures ascending { IfOk result (λ found. IsStrictlyIncreasing found.numbers.items) }
+        ensures visited { IfOk result (λ found. found.visited ≡ length name.now + 2) }
+        ensures whole { OnOk result (AreWhole name.now) }
+    {
+        let mut found = self.walk(alloc, name)?;
+        found.settle();
+        Ok(found)
+    }
+
+    /// Walks along a name from the empty path, and collects the numbers that it comes by: above each segment it looks
+    /// at the list of `**`, above the last at that of `*` too, and below it at the list of the name itself.
+    fn walk(&self, alloc: Global, name: &ChannelName) -> Result<Found, AllocError>
+        ensures numbers { IfOk result (λ found. (n : ℕ) → is_among found.numbers.items n ≡ is_met self.now [] name.now n) }
+        ensures visited { IfOk result (λ found. found.visited ≡ length name.now + 2) }
         ensures whole { OnOk result (AreWhole name.now) }
     {
         let mut found = Found {

@@ -1,12 +1,11 @@
-ghost use Rattle.std.specs.Prelude.{◌≡◌, ◌≢◌, ◌↔◌, ℕ, ◌+◌, ◌*◌, ◌≤◌, [], IsTrue, not, length, fold, OnOk, OnErr, IfOk, Contains};
+ghost use Rattle.std.specs.Prelude.{◌≡◌, ◌≢◌, ◌↔◌, ℕ, ◌+◌, [], IsTrue, not, length, fold, OnOk, OnErr, IfOk, Contains};
 ghost use Rattle.std.specs.List.Sorted.{IsStrictlyIncreasing};
 ghost use Rattle.bx_names.specs.Globs.{any_matches};
 ghost use Rattle.bx_names.specs.InForce.{in_force, with_pattern, without_pattern};
 ghost use Rattle.bx_tree.specs.Patterns.{patterns_of};
 
-use crate::found::Found;
 use crate::fresh::{copy_of, fresh_of, is_one_of};
-use crate::nodes::Nodes;
+use crate::nodes::{Found, Nodes};
 use crate::sessions::Sessions;
 use bx_names::{ChannelName, Pattern};
 use std::alloc::{AllocError, Global};
@@ -176,15 +175,14 @@ impl Tree {
         self.sessions.patterns(number)
     }
 
-    /// The numbers that have a pattern which matches the name, and how many lists were reached to find them.
+    /// The numbers that have a pattern which matches the name, and how many lists were looked at to find them: those
+    /// of `**` above each segment of the name, that of `*` above the last, and that of the name itself.
     pub fn find(&self, alloc: Global, name: &ChannelName) -> Result<Found, AllocError>
         ensures exact { IfOk result (λ found. (n : ℕ)
             → (Contains found.numbers.items n ↔ IsTrue (any_matches (patterns_of self.now n) name.now))) }
         ensures ascending { IfOk result (λ found. IsStrictlyIncreasing found.numbers.items) }
-        ensures visited { IfOk result (λ found. found.visited ≤ 3 * length name.now + 3) }
+        ensures visited { IfOk result (λ found. found.visited ≡ length name.now + 2) }
     {
-        let mut found = self.nodes.walk(alloc, name)?;
-        found.settle();
-        Ok(found)
+        self.nodes.find(alloc, name)
     }
 }

@@ -1,4 +1,4 @@
-use Rattle.std.proofs.Common.{◌≡◌, ℕ, ◌||◌, ◌+◌, ◌*◌, ◌≤◌, length, [], string_bytes}
+use Rattle.std.proofs.Common.{◌≡◌, ℕ, ◌||◌, ◌+◌, ◌<◌, ◌≤◌, length, [], string_bytes}
 use Rattle.bx_tree.specs.Walks.{is_among, is_met}
 use Rattle.bx_tree.proofs.nodes.Nodes.walk.Given as goal
 
@@ -7,5 +7,6 @@ invariant-loop-segment l = record {
   met : (n : ℕ) → (is_among l.found.numbers.items n || is_met l.self (string_bytes l.path) l.segment-iterator n) ≡ is_met l.self [] l.name n;
   left : l.left ≡ length l.segment-iterator;
   short : length l.segment-iterator ≤ length l.name;
-  visited : l.found.visited + 2 * length l.segment-iterator ≤ 2 * length l.name;
+  ahead : 0 < length l.segment-iterator → l.found.visited + length l.segment-iterator ≡ length l.name;
+  last : length l.segment-iterator ≡ 0 → 0 < length l.name → l.found.visited ≡ length l.name + 1;
 }

@@ -6,7 +6,7 @@ use Rattle.std.proofs.lemmas.Map.Text.{hash_map_updates_text}
 use Rattle.bx_tree.proofs.StandsLemmas.{added, has, at_path, elsewhere, changed_at, unchanged_at, or_idle, on_err}
 use Rattle.bx_tree.specs.Kept.{is_kept}
 use Rattle.bx_tree.proofs.KeptLemmas.{occupied_if_any, after_insert, kept_after, after_put}
-use Rattle.bx_tree.proofs.path_lists.PathLists.add.Goals as goal
+use Rattle.bx_tree.proofs.nodes.path_lists.PathLists.add.Goals as goal
 
 pub invariant_of-self : goal.invariant_of-self
 invariant_of-self c =

@@ -8,7 +8,7 @@ use std::collections::BTreeSet;
 
 /// The numbers that stand at each path of segments, as at `/a/b` or at the empty path. No list is empty.
 #[derive(Drop)]
-pub(crate) struct PathLists {
+pub(super) struct PathLists {
     by_path: IndexMap<String, BTreeSet<u64>>,
     ghost no_empty: { (path : List ℕ) → is_kept (get_by_text by_path path) ≡ true },
 }
@@ -20,7 +20,7 @@ impl PathLists {
     ghost use Rattle.bx_tree.specs.Lists.{stands_at};
 
     /// No number at any path.
-    pub(crate) fn new(alloc: Global) -> PathLists
+    pub(super) fn new(alloc: Global) -> PathLists
         ensures { (path : List ℕ) → (number : ℕ) → stands_at result path number ≡ false }
     {
         PathLists {
@@ -29,7 +29,7 @@ impl PathLists {
     }
 
     /// The numbers at a path, in order. This alone reaches a list for a walk, and counts that it did.
-    pub(crate) fn reach(&self, path: &str, visited: &mut usize) -> Option<&BTreeSet<u64>>
+    pub(super) fn reach(&self, path: &str, visited: &mut usize) -> Option<&BTreeSet<u64>>
         requires { visited.old + 1 < 2 ^ 64 }
         ensures list { option_copied result ≡ get_by_text self.now.by_path path.now }
         ensures visited { visited.new ≡ visited.old + 1 }
@@ -39,7 +39,7 @@ impl PathLists {
     }
 
     /// Puts a number at a path. Nothing changes where memory is refused.
-    pub(crate) fn add(&mut self, alloc: Global, path: &str, number: u64) -> Result<(), AllocError>
+    pub(super) fn add(&mut self, alloc: Global, path: &str, number: u64) -> Result<(), AllocError>
         ensures ok { OnOk result ((other : List ℕ) → (n : ℕ)
             → stands_at self.new other n ≡ (stands_at self.old other n || (bytes_eq path.now other && (n == number)))) }
         ensures err { OnErr result ((other : List ℕ) → (n : ℕ) → stands_at self.new other n ≡ stands_at self.old other n) }
@@ -56,7 +56,7 @@ impl PathLists {
     }
 
     /// Takes a number away from a path, if it is there, and the path's list where that leaves it empty.
-    pub(crate) fn remove(&mut self, path: &str, number: u64)
+    pub(super) fn remove(&mut self, path: &str, number: u64)
         ensures { (other : List ℕ) → (n : ℕ)
             → stands_at self.new other n ≡ (stands_at self.old other n && not (bytes_eq path.now other && (n == number))) }
     {

@@ -4,7 +4,7 @@ use Rattle.std.proofs.lemmas.Map.Text.{hash_map_updates_text}
 use Rattle.bx_tree.proofs.StandsLemmas.{removed, contains_none, has, at_path, elsewhere, changed_at, not_idle}
 use Rattle.bx_tree.specs.Kept.{is_kept}
 use Rattle.bx_tree.proofs.KeptLemmas.{occupied_unless_empty, kept_after}
-use Rattle.bx_tree.proofs.path_lists.PathLists.remove.Goals as goal
+use Rattle.bx_tree.proofs.nodes.path_lists.PathLists.remove.Goals as goal
 
 pub invariant_of-self-then-is_empty : goal.invariant_of-self-then-is_empty
 invariant_of-self-then-is_empty c =

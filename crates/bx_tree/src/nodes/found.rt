@@ -3,7 +3,7 @@ ghost use Rattle.std.specs.List.Sorted.{IsStrictlyIncreasing};
 ghost use Rattle.bx_tree.specs.Lists.{stands_at};
 ghost use Rattle.bx_tree.specs.Walks.{is_among};
 
-use crate::path_lists::PathLists;
+use super::path_lists::PathLists;
 use std::alloc::AllocError;
 
 /// What was found for a name.
@@ -11,13 +11,13 @@ use std::alloc::AllocError;
 pub struct Found {
     /// The numbers of the sessions, ascending, each once.
     pub numbers: Vec<u64>,
-    /// How many lists were reached.
+    /// How many lists were looked at.
     pub visited: usize,
 }
 
 impl Found {
-    /// Reaches the list at a path and adds its numbers behind the others.
-    pub(crate) fn reach(&mut self, lists: &PathLists, path: &str) -> Result<(), AllocError>
+    /// Looks at the list at a path, counts that, and adds its numbers behind the others.
+    pub(super) fn reach(&mut self, lists: &PathLists, path: &str) -> Result<(), AllocError>
         requires { self.old.visited + 1 < 2 ^ 64 }
         ensures numbers { OnOk result ((n : ℕ)
             → is_among self.new.numbers.items n ≡ (is_among self.old.numbers.items n || stands_at lists.now path.now n)) }
@@ -32,7 +32,7 @@ impl Found {
     }
 
     /// Puts the numbers in order, each once.
-    pub(crate) fn settle(&mut self)
+    pub(super) fn settle(&mut self)
         ensures ascending { IsStrictlyIncreasing self.new.numbers.items }
         ensures same { (n : ℕ) → is_among self.new.numbers.items n ≡ is_among self.old.numbers.items n }
         ensures visited { self.new.visited ≡ self.old.visited }
