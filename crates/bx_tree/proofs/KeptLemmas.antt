@@ -3,13 +3,14 @@ use Rattle.std.proofs.Common.{◌≡◌, ℕ, Bool, true, false, IsTrue, cond, O
 use Rattle.std.specs.List.{list_any}
 use Rattle.std.specs.Map.{update, lookup}
 use Rattle.std.specs.Ordering.{nat_cmp}
-use Rattle.std.specs.String.{string_eq}
+use Rattle.std.specs.String.{string_cmp}
+use Rattle.std.specs.Cmp.Lexicographic.{slice_cmp}
 use Rattle.std.specs.Str.{bytes_eq}
 use Rattle.std.specs.BTreeSet as sorted
 use Rattle.std.specs.BTreeSet.{BTreeSet}
-use Rattle.std.specs.HashMap as hash
-use Rattle.std.specs.HashMap.{HashMap, get_by_text}
-use Rattle.std.proofs.lemmas.Map.Text.{hash_map_updates_text}
+use Rattle.std.specs.BTreeMap as tree
+use Rattle.std.specs.BTreeMap.{BTreeMap, get_by_text, is_at}
+use Rattle.std.proofs.lemmas.Map.Text.{btree_map_updates_text}
 use Rattle.bx_tree.specs.Kept.{is_occupied, is_kept}
 
 pub occupied_if_any : (p : ℕ → Bool) (ns : List ℕ) → list_any p ns ≡ true → is_occupied ns ≡ true
@@ -32,6 +33,6 @@ kept_after path before after w told own others other = ap is_kept (told other) �
     by true e = own
     by false e = others other e
 
-pub after_put : {Y S V E : Type 0} (r : Result V E) (path : List ℕ) (m n : HashMap (String Y) (BTreeSet ℕ) S) (list : BTreeSet ℕ) → is_occupied list.keys ≡ true → ((other : List ℕ) → is_kept (get_by_text m other) ≡ true) → OnOk r (hash.UpdatesBy string_eq (λ k. bytes_eq path (string_bytes k)) m n (Some list)) → OnErr r (n.entries ≡ m.entries) → (other : List ℕ) → is_kept (get_by_text n other) ≡ true
-after_put (Ok x) path m n list own others ok err = kept_after path (get_by_text m) (get_by_text n) (Some list) (hash_map_updates_text path m n (Some list) ok) own (λ other e. others other)
-after_put (Err e) path m n list own others ok err = λ other. ap (λ es. is_kept (lookup (λ k. bytes_eq other (string_bytes k)) es)) err ∙ others other
+pub after_put : {Y V E : Type 0} (r : Result V E) (path : List ℕ) (m n : BTreeMap (String Y) (BTreeSet ℕ)) (list : BTreeSet ℕ) → is_occupied list.keys ≡ true → ((other : List ℕ) → is_kept (get_by_text m other) ≡ true) → OnOk r (tree.UpdatesBy string_cmp (λ k. slice_cmp nat_cmp path (string_bytes k)) m n (Some list)) → OnErr r (n.entries ≡ m.entries) → (other : List ℕ) → is_kept (get_by_text n other) ≡ true
+after_put (Ok x) path m n list own others ok err = kept_after path (get_by_text m) (get_by_text n) (Some list) (btree_map_updates_text path m n (Some list) ok) own (λ other e. others other)
+after_put (Err e) path m n list own others ok err = λ other. ap (λ es. is_kept (lookup (is_at (λ k. slice_cmp nat_cmp other (string_bytes k))) es)) err ∙ others other

@@ -1,22 +1,24 @@
 ghost use Rattle.std.specs.Prelude.{◌≡◌, ℕ, true, List};
-ghost use Rattle.std.specs.HashMap.{get_by_text};
+ghost use Rattle.std.specs.BTreeMap.{get_by_text};
 ghost use Rattle.bx_tree.specs.Kept.{is_kept};
 
-use indexmap::IndexMap;
 use std::alloc::{AllocError, Global};
-use std::collections::BTreeSet;
+use std::collections::{BTreeMap, BTreeSet};
 
 /// The numbers that stand at each path of segments, as at `/a/b` or at the empty path. No list is empty.
+///
+/// The map is ordered, since clients choose the paths: whoever knows how a hash map spreads its keys can send paths
+/// that fall on one place of it.
 #[derive(Drop)]
 pub(super) struct PathLists {
-    by_path: IndexMap<String, BTreeSet<u64>>,
+    by_path: BTreeMap<String, BTreeSet<u64>>,
     ghost no_empty: { (path : List ℕ) → is_kept (get_by_text by_path path) ≡ true },
 }
 
 impl PathLists {
     ghost use Rattle.std.specs.Prelude.{◌≡◌, ℕ, ◌+◌, ◌<◌, ◌^◌, ◌==◌, ◌&&◌, ◌||◌, not, false, List, OnOk, OnErr, bytes_eq};
     ghost use Rattle.std.specs.Option.{option_copied};
-    ghost use Rattle.std.specs.HashMap.{get_by_text};
+    ghost use Rattle.std.specs.BTreeMap.{get_by_text};
     ghost use Rattle.bx_tree.specs.Lists.{stands_at};
 
     /// No number at any path.
@@ -24,7 +26,7 @@ impl PathLists {
         ensures { (path : List ℕ) → (number : ℕ) → stands_at result path number ≡ false }
     {
         PathLists {
-            by_path: IndexMap::new(alloc),
+            by_path: BTreeMap::new(alloc),
         }
     }
 
@@ -65,7 +67,7 @@ impl PathLists {
         };
         numbers.remove(&number);
         if numbers.is_empty() {
-            self.by_path.swap_remove(path);
+            self.by_path.remove(path);
         }
     }
 }

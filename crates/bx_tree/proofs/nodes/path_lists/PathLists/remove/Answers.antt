@@ -1,6 +1,6 @@
 use Rattle.std.proofs.Common.{Some, None, not, ◌&&◌, ◌==◌, refl, sym, ap, ◌∙◌, rules}
-use Rattle.std.specs.HashMap.{get_by_text}
-use Rattle.std.proofs.lemmas.Map.Text.{hash_map_updates_text}
+use Rattle.std.specs.BTreeMap.{get_by_text}
+use Rattle.std.proofs.lemmas.Map.Text.{btree_map_updates_text}
 use Rattle.bx_tree.proofs.StandsLemmas.{removed, contains_none, has, at_path, elsewhere, changed_at, not_idle}
 use Rattle.bx_tree.specs.Kept.{is_kept}
 use Rattle.bx_tree.proofs.KeptLemmas.{occupied_unless_empty, kept_after}
@@ -11,10 +11,10 @@ invariant_of-self-then-is_empty c =
     let path = c.args.path.now in
     let left = c.remove.new.self in
     let mid = c.get_mut.follows.lender left in
-    let told = hash_map_updates_text path c.args.self.now.by_path mid (Some left) ((c.get_mut.follows.holds left).3 (search rules)) in
-    let gone = hash_map_updates_text path mid c.swap_remove.new.self None c.swap_remove.ensures.updates in
+    let told = btree_map_updates_text path c.args.self.now.by_path mid (Some left) ((c.get_mut.follows.holds left).3 (search rules)) in
+    let gone = btree_map_updates_text path mid c.remove-then-is_empty.new.self None c.remove-then-is_empty.ensures.updates in
     record {
-      no_empty = kept_after path (get_by_text mid) (get_by_text c.swap_remove.new.self) None gone refl
+      no_empty = kept_after path (get_by_text mid) (get_by_text c.remove-then-is_empty.new.self) None gone refl
           (λ other e. ap is_kept (elsewhere path (get_by_text c.args.self.now.by_path) (get_by_text mid) (Some left) told other e) ∙ c.args.self.now.no_empty other);
     }
 
@@ -23,7 +23,7 @@ invariant_of-self-else-is_empty c =
     let path = c.args.path.now in
     let left = c.remove.new.self in
     let after = c.get_mut.follows.lender left in
-    let told = hash_map_updates_text path c.args.self.now.by_path after (Some left) ((c.get_mut.follows.holds left).3 (search rules)) in
+    let told = btree_map_updates_text path c.args.self.now.by_path after (Some left) ((c.get_mut.follows.holds left).3 (search rules)) in
     let occupied = occupied_unless_empty left.keys c.is_empty.result c.is_empty.ensures c.if-is_empty.false in
     record { no_empty = kept_after path (get_by_text c.args.self.now.by_path) (get_by_text after) (Some left) told occupied (λ other e. c.args.self.now.no_empty other) }
 
@@ -34,9 +34,9 @@ returns-then-is_empty c =
     let left = c.remove.new.self in
     let before = get_by_text c.args.self.now.by_path in
     let mid = get_by_text (c.get_mut.follows.lender left) in
-    let after = get_by_text c.swap_remove.new.self in
-    let told = hash_map_updates_text path c.args.self.now.by_path (c.get_mut.follows.lender left) (Some left) ((c.get_mut.follows.holds left).3 (search rules)) in
-    let gone = hash_map_updates_text path (c.get_mut.follows.lender left) c.swap_remove.new.self None c.swap_remove.ensures.updates in
+    let after = get_by_text c.remove-then-is_empty.new.self in
+    let told = btree_map_updates_text path c.args.self.now.by_path (c.get_mut.follows.lender left) (Some left) ((c.get_mut.follows.holds left).3 (search rules)) in
+    let gone = btree_map_updates_text path (c.get_mut.follows.lender left) c.remove-then-is_empty.new.self None c.remove-then-is_empty.ensures.updates in
     changed_at (λ a b. a && not b) not_idle path number before after
     (λ other e. elsewhere path mid after None gone other e ∙ elsewhere path before mid (Some left) told other e)
     (λ n. ap (λ o. has o n) (at_path path mid after None gone)
@@ -51,7 +51,7 @@ returns-else-is_empty c =
     let left = c.remove.new.self in
     let before = get_by_text c.args.self.now.by_path in
     let after = get_by_text (c.get_mut.follows.lender left) in
-    let told = hash_map_updates_text path c.args.self.now.by_path (c.get_mut.follows.lender left) (Some left) ((c.get_mut.follows.holds left).3 (search rules)) in
+    let told = btree_map_updates_text path c.args.self.now.by_path (c.get_mut.follows.lender left) (Some left) ((c.get_mut.follows.holds left).3 (search rules)) in
     changed_at (λ a b. a && not b) not_idle path number before after (elsewhere path before after (Some left) told) (λ n.
     ap (λ o. has o n) (at_path path before after (Some left) told)
     ∙ removed c.in-Some.numbers.now left number c.remove.ensures.updates n
