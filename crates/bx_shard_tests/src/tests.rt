@@ -1,0 +1,333 @@
+//! One shard by what whoever waits for its answers sees: which wakers are woken and when, and which answers are there.
+use bx_advice::Config;
+use bx_entry::{ByRemainder, Entry, Kind, Ticket};
+use bx_message::{Event, RawJson, Sequence, SharedEvent, Text, event_text, reply_text};
+use bx_names::Pattern;
+use bx_shard::{Shard, Watch};
+use futures::task::{Poll, Source, Waker};
+use futures::test::MockTask;
+use std::alloc::{AllocError, Global};
+use std::process::Abort;
+use std::sync::Arc;
+use std::test::Fail;
+
+// More entries than any test has.
+const MOST_ENTRIES: u64 = 100;
+
+// What an entry of the list says.
+#[derive(Clone, Copy, Debug)]
+enum Deed {
+    Open(u64),
+    Subscribe(u64, &'static str),
+    Connect(u64),
+    // A channel; the data is 7.
+    Publish(&'static str),
+}
+
+// Two sessions, of which the first subscribes and connects.
+const HELD: [Deed; 4] = [
+    Deed::Open(1),
+    Deed::Open(2),
+    Deed::Subscribe(1, "/a/*"),
+    Deed::Connect(1),
+];
+
+// What answers the connect, by an event at place 4.
+const ANSWER: &str =
+    r#"{"channel":"/a/b","data":7}{"advice":{"interval":0,"reconnect":"retry","timeout":30000},"channel":"/meta/connect","clientId":"000000000000000000000000000000000000000000000001","successful":true}"#;
+
+// Two sessions with connects at places 4 and 5.
+const BOTH_HELD: [Deed; 6] = [
+    Deed::Open(1),
+    Deed::Open(2),
+    Deed::Subscribe(1, "/a/*"),
+    Deed::Subscribe(2, "/b/*"),
+    Deed::Connect(1),
+    Deed::Connect(2),
+];
+
+// An event for each of them, at places 6 and 7, and a further connect of the first at place 8.
+const ANSWERS: [Deed; 3] = [
+    Deed::Publish("/a/b"),
+    Deed::Publish("/b/c"),
+    Deed::Connect(1),
+];
+
+fn subscribe(alloc: Global, session: u64, pattern: &str) -> Result<Kind, Fail> {
+    let pattern = Pattern::read(alloc, pattern).map_err(|_| "no pattern")?;
+    let mut patterns = Sequence::new(alloc);
+    patterns.push(pattern)?;
+    Ok(Kind::Subscribe { session, patterns })
+}
+
+// The client id is 32 zeros and the session's number in 16 hexadecimal digits.
+fn connect(alloc: Global, session: u64) -> Result<Kind, AllocError> {
+    Ok(Kind::Connect {
+        session,
+        client: Text::from_string(format!(in alloc; "{session:048x}")?)?,
+        id: None,
+        acked: None,
+        hold: 30_000,
+    })
+}
+
+fn publish(alloc: Global, channel: &str) -> Result<Kind, AllocError> {
+    let event = Event {
+        channel: Text::new(alloc, channel)?,
+        payload: RawJson::new(alloc, "7")?,
+        id: None,
+    };
+    Ok(Kind::Publish(SharedEvent::new(alloc, event)?))
+}
+
+fn kind(alloc: Global, deed: Deed) -> Result<Kind, Fail> {
+    match deed {
+        Deed::Open(session) => Ok(Kind::Opened {
+            session,
+            ack: false,
+        }),
+        Deed::Subscribe(session, pattern) => subscribe(alloc, session, pattern),
+        Deed::Connect(session) => Ok(connect(alloc, session)?),
+        Deed::Publish(channel) => Ok(publish(alloc, channel)?),
+    }
+}
+
+// Applies entries that say this.
+fn apply(alloc: Global, shard: &mut Shard<ByRemainder>, deeds: &[Deed]) -> Result<(), Fail> {
+    for deed in deeds {
+        let place = shard.place();
+        if place > MOST_ENTRIES {
+            return Err(Fail::from("too many entries"));
+        }
+        let kind = kind(alloc, *deed)?;
+        let entry = Entry {
+            place,
+            moment: 0,
+            kind,
+        };
+        shard.apply(alloc, &entry)?;
+    }
+    Ok(())
+}
+
+// The only shard, after entries that say this.
+fn shard(alloc: Global, deeds: &[Deed]) -> Result<Shard<ByRemainder>, Fail> {
+    let config = Config::new(1, 30_000, 0, 10_000).ok_or("no configuration")?;
+    let placing = Arc::new(alloc, ByRemainder)?;
+    let mut shard = Shard::new(alloc, 0, config, placing);
+    apply(alloc, &mut shard, deeds)?;
+    Ok(shard)
+}
+
+// The ticket of the connect at this place.
+fn ticket(place: u64) -> Ticket {
+    Ticket { place, shard: 0 }
+}
+
+// A waker of this task.
+fn waker(task: &MockTask) -> Result<Waker, Fail> {
+    let mut slot = None;
+    let source = Source::new();
+    task.enter(|cx| {
+        let _: Poll<()> = cx.register(&source, &mut slot);
+    });
+    Ok(slot.ok_or("no waker")?)
+}
+
+// Whether the task was woken since this was asked, or a waker of it was made.
+fn was_woken(task: &MockTask) -> bool {
+    let woken = task.is_woken();
+    task.enter(|_cx| ());
+    woken
+}
+
+// Has this task wait for the connect at this place.
+fn watch(shard: &mut Shard<ByRemainder>, place: u64, task: &MockTask) -> Result<Watch, Fail> {
+    Ok(shard.watch(ticket(place), waker(task)?))
+}
+
+fn check_stored<R: Abort>(
+    rt: &R,
+    shard: &mut Shard<ByRemainder>,
+    place: u64,
+    task: &MockTask,
+) -> Result<(), Fail> {
+    let watch = watch(shard, place, task)?;
+    assert!(rt; matches!(watch, Watch::Stored), "place {place}");
+    assert!(rt; !task.is_woken(), "place {place}");
+    Ok(())
+}
+
+// The answer to the connect at this place, which is taken: the texts of its events and of its reply.
+fn taken(
+    alloc: Global,
+    shard: &mut Shard<ByRemainder>,
+    place: u64,
+) -> Result<Option<Vec<u8>>, AllocError> {
+    let Some(answer) = shard.take(ticket(place)) else {
+        return Ok(None);
+    };
+    let mut text = Vec::new(alloc);
+    for event in answer.events.as_slice() {
+        text.extend_from_slice(&event_text(alloc, event.event())?)?;
+    }
+    text.extend_from_slice(&reply_text(alloc, &answer.reply)?)?;
+    Ok(Some(text))
+}
+
+// While the connect at place 3 is held, no answer is given, and a waker is stored; once it is answered, that waker is woken,
+// and the answer is given once.
+fn check_answered<R: Abort>(
+    rt: &R,
+    alloc: Global,
+    shard: &mut Shard<ByRemainder>,
+    task: &MockTask,
+) -> Result<(), Fail> {
+    assert!(rt; shard.take(ticket(3)).is_none());
+    check_stored(rt, shard, 3, task)?;
+    apply(alloc, shard, &[Deed::Publish("/a/b")])?;
+    assert!(rt; was_woken(task));
+    assert!(rt; matches!(watch(shard, 3, task)?, Watch::Ready(_)));
+    let answer = taken(alloc, shard, 3)?.ok_or("no answer")?;
+    assert_eq!(rt; answer.as_slice(), ANSWER.as_bytes());
+    assert!(rt; shard.take(ticket(3)).is_none());
+    assert!(rt; matches!(watch(shard, 3, task)?, Watch::Unknown(_)));
+    Ok(())
+}
+
+#[test]
+fn an_answer_wakes_who_waits_for_it(rt: HostRuntime) -> Result<(), Fail> {
+    let alloc = rt.alloc();
+    let task = MockTask::new(&rt)?;
+    check_answered(&rt, alloc, &mut shard(alloc, &HELD)?, &task)
+}
+
+// A waker of one task, and then one of another, are left for the same connect: the first task is woken by that, and the
+// other one by the answer.
+fn check_replaced<R: Abort>(
+    rt: &R,
+    alloc: Global,
+    shard: &mut Shard<ByRemainder>,
+    older: &MockTask,
+    newer: &MockTask,
+) -> Result<(), Fail> {
+    check_stored(rt, shard, 3, older)?;
+    check_stored(rt, shard, 3, newer)?;
+    assert!(rt; was_woken(older));
+    apply(alloc, shard, &[Deed::Publish("/a/b")])?;
+    assert!(rt; was_woken(newer));
+    assert!(rt; !was_woken(older));
+    assert!(rt; shard.take(ticket(3)).is_some());
+    assert!(rt; !was_woken(newer));
+    Ok(())
+}
+
+#[test]
+fn a_newer_waker_replaces_an_older_one(rt: HostRuntime) -> Result<(), Fail> {
+    let alloc = rt.alloc();
+    let (older, newer) = (MockTask::new(&rt)?, MockTask::new(&rt)?);
+    check_replaced(&rt, alloc, &mut shard(alloc, &HELD)?, &older, &newer)
+}
+
+// Two wakers are stored. Both are woken as the shard is shut, none is stored from then on, and later answers wake nobody
+// and can be taken.
+fn check_shut<R: Abort>(
+    rt: &R,
+    alloc: Global,
+    shard: &mut Shard<ByRemainder>,
+    first: &MockTask,
+    second: &MockTask,
+) -> Result<(), Fail> {
+    check_stored(rt, shard, 4, first)?;
+    check_stored(rt, shard, 5, second)?;
+    shard.shut();
+    assert!(rt; was_woken(first) && was_woken(second));
+    for place in [4, 5] {
+        assert!(rt;
+            matches!(watch(shard, place, first)?, Watch::Shut(_)),
+            "place {place}"
+        );
+        assert!(rt; was_woken(first), "the waker is given back, and dropped");
+    }
+    apply(alloc, shard, &ANSWERS)?;
+    assert!(rt; !was_woken(first) && !was_woken(second));
+    for place in [4, 5] {
+        assert!(rt; shard.take(ticket(place)).is_some(), "place {place}");
+    }
+    Ok(())
+}
+
+#[test]
+fn a_shard_that_is_shut_wakes_all(rt: HostRuntime) -> Result<(), Fail> {
+    let alloc = rt.alloc();
+    let (first, second) = (MockTask::new(&rt)?, MockTask::new(&rt)?);
+    check_shut(&rt, alloc, &mut shard(alloc, &BOTH_HELD)?, &first, &second)
+}
+
+// Sweeps below each of these places in turn drop so many answers.
+fn check_sweeps<R: Abort>(rt: &R, shard: &mut Shard<ByRemainder>, sweeps: &[(u64, usize)]) {
+    for (before, dropped) in sweeps {
+        assert_eq!(rt; shard.sweep(*before), *dropped, "below {before}");
+    }
+}
+
+// An answer that no sweep reached, and a connect that is held, are still there.
+fn check_kept<R: Abort>(
+    rt: &R,
+    shard: &mut Shard<ByRemainder>,
+    task: &MockTask,
+) -> Result<(), Fail> {
+    check_sweeps(rt, shard, &[(0, 0), (6, 0), (7, 1), (7, 0)]);
+    assert!(rt; shard.take(ticket(4)).is_none());
+    assert!(rt; shard.take(ticket(5)).is_some());
+    check_sweeps(rt, shard, &[(100, 0)]);
+    check_stored(rt, shard, 8, task)
+}
+
+#[test]
+fn a_sweep_drops_what_was_filed_before(rt: HostRuntime) -> Result<(), Fail> {
+    let alloc = rt.alloc();
+    let task = MockTask::new(&rt)?;
+    let mut filed = shard(alloc, &BOTH_HELD)?;
+    apply(alloc, &mut filed, &ANSWERS)?;
+    check_kept(&rt, &mut filed, &task)
+}
+
+#[test]
+fn a_sweep_counts_what_it_drops(rt: HostRuntime) -> Result<(), Fail> {
+    let alloc = rt.alloc();
+    let mut one = shard(alloc, &HELD)?;
+    apply(alloc, &mut one, &[Deed::Publish("/a/b")])?;
+    check_sweeps(&rt, &mut one, &[(4, 0), (5, 1), (5, 0)]);
+    let mut two = shard(alloc, &BOTH_HELD)?;
+    apply(alloc, &mut two, &ANSWERS)?;
+    check_sweeps(&rt, &mut two, &[(8, 2), (8, 0)]);
+    Ok(())
+}
+
+// No connect of this shard: another shard's ticket, the place of another entry, and a place that the list has not reached.
+fn check_unknown<R: Abort>(
+    rt: &R,
+    shard: &mut Shard<ByRemainder>,
+    task: &MockTask,
+) -> Result<(), Fail> {
+    for (place, index) in [(3, 1), (2, 0), (4, 0)] {
+        let ticket = Ticket {
+            place,
+            shard: index,
+        };
+        let watch = shard.watch(ticket, waker(task)?);
+        assert!(rt; matches!(watch, Watch::Unknown(_)), "place {place}");
+        assert!(rt; !task.is_woken(), "the waker is given back");
+        drop(watch);
+        assert!(rt; shard.take(ticket).is_none(), "place {place}");
+    }
+    Ok(())
+}
+
+#[test]
+fn only_a_connect_of_the_shard_is_waited_for(rt: HostRuntime) -> Result<(), Fail> {
+    let alloc = rt.alloc();
+    let task = MockTask::new(&rt)?;
+    check_unknown(&rt, &mut shard(alloc, &HELD)?, &task)
+}
