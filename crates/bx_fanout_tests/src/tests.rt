@@ -11,9 +11,9 @@ use std::alloc::{AllocError, Global};
 use std::hint;
 use std::process::Abort;
 use std::sync::Arc;
-use std::sync::atomic::{AtomicBool, Ordering};
+use std::sync::atomic::{AtomicBool, AtomicU16, Ordering};
 use std::test::Fail;
-use std::thread::Threads;
+use std::thread::{Threads, yield_now};
 
 // How many sessions are opened before the inputs, a request each. They hear nothing; but with fewer live sessions one worker
 // does for so few entries.
@@ -108,15 +108,21 @@ fn crowd(alloc: Global) -> Result<Vec<Input>, AllocError> {
     Ok(inputs)
 }
 
-// A round of two shards, in which sessions stand by this table.
-fn round(alloc: Global, table: &[u8], workers: usize) -> Result<Option<Round<ByTable>>, Fail> {
-    let config = Config::new(2, 30_000, 0, 10_000).ok_or("no configuration")?;
+// A round of so many shards, in which sessions stand by this table.
+fn round(
+    alloc: Global,
+    shards: usize,
+    table: &[u8],
+    workers: usize,
+) -> Result<Option<Round<ByTable>>, Fail> {
+    let config = Config::new(shards, 30_000, 0, 10_000).ok_or("no configuration")?;
     let placing = Arc::new(alloc, ByTable::new(alloc, table)?)?;
     Ok(Round::new(alloc, config, placing, workers)?)
 }
 
+// The same with two shards.
 fn some_round(alloc: Global, table: &[u8], workers: usize) -> Result<Round<ByTable>, Fail> {
-    Ok(round(alloc, table, workers)?.ok_or("no round")?)
+    Ok(round(alloc, 2, table, workers)?.ok_or("no round")?)
 }
 
 // Deals with these inputs, as one run.
@@ -281,16 +287,17 @@ fn a_connect_is_held_until_its_event(rt: HostRuntime) -> Result<(), Fail> {
 }
 
 // Deals with the crowd and all inputs but the last one, so that a connect is held.
-fn hold<R: Threads + Sync>(
+fn hold<R: Threads + Sync, G: Gate + Sync>(
     rt: &R,
     alloc: Global,
+    gate: &G,
     round: &mut Round<ByTable>,
     outs: &mut Vec<Out>,
 ) -> Result<(), Fail> {
     open_crowd(rt, alloc, round)?;
     let inputs = inputs(alloc, INPUTS.len())?;
     let held = inputs.get(..4).ok_or("too few inputs")?;
-    run(rt, alloc, &OpenGate, round, held, outs)
+    run(rt, alloc, gate, round, held, outs)
 }
 
 // Deals with the last input, and checks all outs.
@@ -307,10 +314,21 @@ fn answer_held<R: Abort + Threads + Sync, G: Gate + Sync>(
     check(rt, alloc, outs)
 }
 
-// The round with five shards and another table.
-fn moved(alloc: Global, round: Round<ByTable>) -> Result<Round<ByTable>, Fail> {
-    let placing = Arc::new(alloc, ByTable::new(alloc, &[4, 3])?)?;
-    Ok(round.reshard(alloc, 5, placing).map_err(|_| "no memory")?)
+// The round with so many shards and another table.
+fn moved(
+    alloc: Global,
+    round: Round<ByTable>,
+    shards: usize,
+    table: &[u8],
+) -> Result<Round<ByTable>, Fail>
+    requires { (1 ≤ shards) × (shards ≤ 64) }
+{
+    let placing = Arc::new(alloc, ByTable::new(alloc, table)?)?;
+    Ok(
+        round
+            .reshard(alloc, shards, placing)
+            .map_err(|_| "no memory")?,
+    )
 }
 
 // The workers are there after the move as well.
@@ -320,10 +338,87 @@ fn a_held_connect_goes_with_its_session(rt: HostRuntime) -> Result<(), Fail> {
     let gate = gate_for(0);
     let mut outs = Vec::new(alloc);
     let mut round = some_round(alloc, &[0, 1, 2], 2)?;
-    hold(&rt, alloc, &mut round, &mut outs)?;
-    let mut round = moved(alloc, round)?;
+    hold(&rt, alloc, &OpenGate, &mut round, &mut outs)?;
+    let mut round = moved(alloc, round, 5, &[4, 3])?;
     answer_held(&rt, alloc, &gate, &mut round, &mut outs)?;
     assert!(rt; !gate.gave_up.load(Ordering::SeqCst));
+    Ok(())
+}
+
+// At which workers wait until all of a team are there.
+#[derive(Drop)]
+struct Meeting {
+    // A bit for each worker of the team.
+    team: u16,
+    came: AtomicU16,
+    went: AtomicU16,
+    gave_up: AtomicBool,
+}
+
+fn meeting_of(team: u16) -> Meeting {
+    Meeting {
+        team,
+        came: AtomicU16::new(0),
+        went: AtomicU16::new(0),
+        gave_up: AtomicBool::new(false),
+    }
+}
+
+fn bit(worker: usize) -> u16 {
+    if worker < 16 { 1 << worker } else { 0 }
+}
+
+impl Gate for Meeting {
+    fn before(&self, worker: usize) {
+        self.came.fetch_or(bit(worker), Ordering::SeqCst);
+        for _ in 0..LOOKS {
+            let are_there = self.came.load(Ordering::SeqCst) == self.team;
+            if are_there || self.gave_up.load(Ordering::SeqCst) {
+                return;
+            }
+            yield_now();
+        }
+        self.gave_up.store(true, Ordering::SeqCst);
+    }
+
+    fn after(&self, worker: usize) {
+        self.went.fetch_or(bit(worker), Ordering::SeqCst);
+    }
+}
+
+// The team was there, all at once, and each of it was done.
+fn check_met<R: Abort>(rt: &R, meeting: &Meeting) {
+    let (team, went) = (meeting.team, meeting.went.load(Ordering::SeqCst));
+    assert!(rt; !meeting.gave_up.load(Ordering::SeqCst), "team {team:b}");
+    assert_eq!(rt; went, team, "team {team:b}");
+}
+
+// No clause says how many threads there are: where they are fewer than the workers, whoever came gives up here.
+#[test]
+fn as_many_threads_run_as_workers(rt: HostRuntime) -> Result<(), Fail> {
+    let alloc = rt.alloc();
+    let table = [3, 62, 17, 40, 9];
+    for (shards, workers, team) in [(64, 16, 0xffff), (4, 4, 0b1111)] {
+        let meeting = meeting_of(team);
+        let mut round = round(alloc, shards, &table, workers)?.ok_or("no round")?;
+        check_given(&rt, alloc, &meeting, &mut round, 5)?;
+        check_met(&rt, &meeting);
+    }
+    Ok(())
+}
+
+// Of sixteen workers four find a shard; among more shards, into which a held connect goes with its session, all do.
+#[test]
+fn more_shards_have_more_workers(rt: HostRuntime) -> Result<(), Fail> {
+    let alloc = rt.alloc();
+    let (four, all) = (meeting_of(0b1111), meeting_of(0xffff));
+    let mut outs = Vec::new(alloc);
+    let mut round = round(alloc, 4, &[0, 1, 2, 3], 16)?.ok_or("no round")?;
+    hold(&rt, alloc, &four, &mut round, &mut outs)?;
+    check_met(&rt, &four);
+    let mut round = moved(alloc, round, 64, &[3, 62, 17, 40, 9])?;
+    answer_held(&rt, alloc, &all, &mut round, &mut outs)?;
+    check_met(&rt, &all);
     Ok(())
 }
 
@@ -370,7 +465,7 @@ fn a_newer_connect_is_held(rt: HostRuntime) -> Result<(), Fail> {
 fn a_round_has_1_to_16_workers(rt: HostRuntime) -> Result<(), Fail> {
     for workers in [0, 17] {
         assert!(rt;
-            round(rt.alloc(), &[0, 1, 2], workers)?.is_none(),
+            round(rt.alloc(), 2, &[0, 1, 2], workers)?.is_none(),
             "{workers} workers"
         );
     }
