@@ -58,7 +58,8 @@ pub struct Batch {
     pub entries: Sequence<Entry>,
 }
 
-/// Where the answer to a connect is filed.
+/// Where the answer to a connect is filed: under its place, in this shard. It is good for as long as the sessions are dealt
+/// among the shards as they are: once they are dealt anew, the answer may stand in another shard.
 #[derive(Clone, Copy, Debug, PartialEq, Eq)]
 pub struct Ticket {
     /// The connect's place in the list.

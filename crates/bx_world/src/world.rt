@@ -104,7 +104,8 @@ impl<P: Placing> World<P> {
         applied
     }
 
-    /// The answer that is filed under a ticket, which is taken with that: it is given once.
+    /// The answer that is filed under a ticket, which is taken with that: it is given once. A ticket from before the sessions
+    /// were dealt anew finds nothing where its session went to another shard, though its answer may be filed there.
     pub fn take(&mut self, ticket: Ticket) -> Option<Answer>
         ensures { Steps self.old (Take ticket) (Taken result) self.new }
     {
@@ -167,7 +168,8 @@ impl<P: Placing> World<P> {
     }
 
     /// Deals the sessions anew among so many shards, by this placing. Every shard has applied the whole list. The list and
-    /// what was taken stay. Where memory is refused, the world comes back as it was.
+    /// what was taken stay, and what was filed goes with its session: tickets of old are not good any more. Where memory is
+    /// refused, the world comes back as it was.
     pub fn reshard(
         self,
         alloc: Global,
