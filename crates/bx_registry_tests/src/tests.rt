@@ -1,7 +1,7 @@
 //! Plans by what they say of entries and answers.
 use bx_advice::{Case, Config, Error, Limits};
 use bx_entry::Kind;
-use bx_message::{AckMember, Message, Sequence, Text, TextMember};
+use bx_message::{AckMember, Message, Sequence, Text, TextMember, reply_text};
 use bx_registry::{AdmitFault, Plan, Planned, Registry, TickPlan};
 use std::alloc::{AllocError, Global};
 use std::process::Abort;
@@ -27,6 +27,10 @@ fn hello(alloc: Global) -> Result<Message, AllocError> {
     })
 }
 
+// What is answered to the first handshake of a server.
+const OPENED: &[u8] =
+    br#"{"advice":{"interval":0,"reconnect":"retry","timeout":30000},"channel":"/meta/handshake","clientId":"000000000000000000000000000000000000000000000001","successful":true,"supportedConnectionTypes":["long-polling","callback-polling"],"version":"1.0"}"#;
+
 // A server that takes so many sessions.
 fn config(sessions: usize) -> Config {
     Config {
@@ -49,6 +53,14 @@ fn case_of(plan: &Plan) -> Option<Case> {
     match plan.slots.as_slice().first() {
         Some(Planned::Ready(reply)) => Some(reply.case),
         _ => None,
+    }
+}
+
+// The reply to the first message, as a client gets it; nothing where it waits.
+fn first_reply(alloc: Global, plan: &Plan) -> Result<Vec<u8>, AllocError> {
+    match plan.slots.as_slice().first() {
+        Some(Planned::Ready(reply)) => reply_text(alloc, reply),
+        _ => Ok(Vec::new(alloc)),
     }
 }
 
@@ -81,6 +93,8 @@ fn a_plan_changes_nothing(rt: HostRuntime) -> Result<(), Fail> {
     assert_eq!(rt; plan.batch.first, 0);
     assert_eq!(rt; plan.batch.entries.len(), 1);
     assert_eq!(rt; case_of(&plan), Some(Case::Opened));
+    let reply = first_reply(alloc, &plan)?;
+    assert_eq!(rt; reply.as_slice(), OPENED);
     assert_eq!(rt; registry.entries(), 0);
     assert!(rt; !registry.live(1));
     Ok(())
