@@ -323,7 +323,7 @@ fn no_order_of_the_shards_matters(rt: HostRuntime) -> Result<(), Fail> {
     Ok(())
 }
 
-// The admissions of a request and of a tick: the place of the first message, and how many are answered.
+// A tick past the greatest moment is refused and changes nothing; one at that moment is the first entry of the list.
 fn check_calls<R: Abort, P: Placing>(
     rt: &R,
     alloc: Global,
