@@ -8,4 +8,5 @@ returns-clause-whole c = whole_name c.as_str.result.now c.args.name.now c.as_str
 pub returns-clause-visited : goal.returns-clause-visited
 returns-clause-visited c =
     let some = some_segment c.as_str.result.now c.args.name.now c.as_str.ensures.reads_back in
-    omega (arith, c.in_ok-reach-3.ensures.visited, c.loop-segment.invariant.last (search rules) some)
+    let last = c.loop-segment.invariant.last (search rules) some in
+    grind arith

@@ -1,6 +1,6 @@
-use Rattle.std.proofs.Common.{◌≡◌, ◌==◌, ◌&&◌, ◌||◌, not, Bool, true, false, [], sym, ap, subst, ◌∙◌, refl}
+use Rattle.std.proofs.Common.{◌≡◌, ◌&&◌, Bool, true, false, sym, ap, subst, ◌∙◌, refl}
 use Rattle.bx_names.specs.InForce.{in_force}
-use Rattle.bx_tree.specs.Lists.{stands_for, IsIndexOf}
+use Rattle.bx_tree.specs.Lists.{IsIndexOf}
 use Rattle.bx_tree.proofs.FreshLemmas.{AreApart}
 use Rattle.bx_tree.specs.Patterns.{patterns_of}
 use Rattle.bx_tree.proofs.IndexLemmas.{index_kept}
