@@ -1,20 +1,20 @@
 //! Reads a script of requests on standard input and writes what the server answers.
 #![tactic(auto)]
 
-mod arguments;
-
-use arguments::{Arguments, USAGE};
 use bx_entry::ByRemainder;
-use bx_replay::replay;
-use bx_script::ScriptFault;
-use std::io;
+use bx_replay::{Arguments, replay};
+use bx_script::{Lines, Output, ScriptFault};
 use std::io::{BufReader, BufWriter};
 use std::process::ExitCode;
 use std::sync::Arc;
 use std::thread::Threads;
+use std::{env, io};
+
+/// What standard error says of bad arguments.
+const USAGE: &str = "usage: bayeux_replay shards workers timeout interval max_interval";
 
 fn main(rt: HostRuntime) -> ExitCode {
-    let arguments = match arguments::read(&rt) {
+    let arguments = match arguments(&rt) {
         Ok(Some(arguments)) => arguments,
         Ok(None) => {
             let _ = rt.eprintln(USAGE);
@@ -28,16 +28,23 @@ fn main(rt: HostRuntime) -> ExitCode {
     }
 }
 
+// The arguments that the process was given; none where they are not what the usage says.
+fn arguments(rt: &HostRuntime) -> io::Result<Option<Arguments>> {
+    let mut words = Vec::new(rt.alloc());
+    for word in env::args(rt)?.skip(1) {
+        words.push(word)?;
+    }
+    Ok(Arguments::read(&words))
+}
+
 fn run<T: Threads + Sync>(
     rt: &HostRuntime,
     threads: &T,
     arguments: Arguments,
 ) -> Result<(), ScriptFault> {
     let alloc = rt.alloc();
-    let mut reader = BufReader::new(alloc, rt.reader()).map_err(|error| ScriptFault::of_read(
-        &error,
-    ))?;
-    let mut writer = BufWriter::new(alloc, io::writer(rt)).map_err(|error| ScriptFault::of_write(
+    let reader = BufReader::new(alloc, rt.reader()).map_err(|error| ScriptFault::of_read(&error))?;
+    let writer = BufWriter::new(alloc, io::writer(rt)).map_err(|error| ScriptFault::of_write(
         &error,
     ))?;
     let Arguments { config, workers } = arguments;
@@ -48,8 +55,8 @@ fn run<T: Threads + Sync>(
         config,
         placing,
         workers,
-        &mut reader,
-        &mut writer,
+        &mut Lines::new(alloc, reader),
+        &mut Output::new(writer),
     )
 }
 

@@ -231,8 +231,8 @@ reads_end None b c ls next is r n = tt
 reads_end (Some xs) None c ls next is r n = absurd r
 reads_end (Some xs) (Some ys) c ls next is r n = reads_last xs ys c ls r (subst (λ (o : Option script.Line). IsNext o ys c) is n)
 
-pub number_more : (n m count : ℕ) (ls ms : List script.Line) (l : script.Line) → ms ≡ ls ++ l ∷ [] → n ≡ length (seen_lines ls) → m ≡ length (seen_lines ms) → n ≡ count → m ≡ count + 1
-number_more n m count ls ms l e f h is = omega (arith, f, h, is, ap (λ (us : List script.Line). length (seen_lines us)) e, ap length (seen_more ls l), length-append (seen_lines ls) (said_by l ∷ []))
+pub number_more : (n m : ℕ) (ls ms : List script.Line) (l : script.Line) → ms ≡ ls ++ l ∷ [] → n ≡ length (seen_lines ls) → m ≡ length (seen_lines ms) → m ≡ n + 1
+number_more n m ls ms l e f h = omega (arith, f, h, ap (λ (us : List script.Line). length (seen_lines us)) e, ap length (seen_more ls l), length-append (seen_lines ls) (said_by l ∷ []))
 
 printed_all : {A E : Type 0} (config : Config) (bytes : List ℕ) (ls : List script.Line) (a b d : Option (List ℕ)) (r : Result A E) → seen_lines ls ≡ map (line_of query_taken) (lines_of bytes) → Prints config [] ls a b →
     Writes b d r (held_lines config ls) → Writes a d r (replay_text config query_taken bytes)

@@ -1,2 +1,5 @@
+pub mod Arguments
+pub mod Faults
 pub mod Kept
 pub mod Serving
+pub mod Settings

@@ -1,15 +1,16 @@
 //! The inputs whose outs are not printed yet.
-ghost use Rattle.std.specs.Prelude.{◌≡◌, ◌++◌, ℕ, [], ◌∷◌, List, IsSome, map, if◌then◌else◌, OnErr, OnOk};
+ghost use Rattle.std.specs.Prelude.{◌≡◌, ◌++◌, ℕ, [], ◌∷◌, List, IsSome, map, if◌then◌else◌, IfErr, OnErr, OnOk};
 ghost use Rattle.std.specs.BTreeMap.{get, is_at};
 ghost use Rattle.std.specs.Ordering.{nat_cmp};
 ghost use Rattle.bx_replay.specs.Kept.{AllKept, AreKept, PrintsOuts, held_texts, inputs_given};
 ghost use Rattle.bx_entry.specs.Replay.{Numbered};
 ghost use Rattle.bx_fanout.specs.Stages.{seen_out};
 ghost use Rattle.bx_laws.specs.Lines.{outs_text};
+ghost use Rattle.bx_script.specs.Output.{IsWriteFault, written};
 ghost use Rattle.bx_script.specs.Printing.{AppendsFront, Writes};
 
 use bx_fanout::Out;
-use bx_script::{ScriptFault, write_held, write_result};
+use bx_script::{Output, ScriptFault, write_held, write_result};
 use std::alloc::Global;
 use std::collections::BTreeMap;
 use std::io::Write;
@@ -30,14 +31,15 @@ pub fn print_outs<W: Write>(
     alloc: Global,
     kept: &mut BTreeMap<usize, Asked>,
     outs: &[Out],
-    writer: &mut W,
+    writer: &mut Output<W>,
 ) -> Result<(), ScriptFault>
     requires kept { AllKept (get nat_cmp kept.old) (inputs_given outs.now) }
     ensures others { OnOk result ((others : List ℕ) → AllKept (get nat_cmp kept.old) (inputs_given outs.now ++ others) → AllKept (get nat_cmp kept.new) others) }
     ensures prints { OnOk result ((numbered : List Numbered) → AreKept numbered (get nat_cmp kept.old) →
-        PrintsOuts numbered (map seen_out outs.now) (W.contents writer.old) (W.contents writer.new) (get nat_cmp kept.new)) }
+        PrintsOuts numbered (map seen_out outs.now) (written W.contents writer.old) (written W.contents writer.new) (get nat_cmp kept.new)) }
     ensures fault { OnErr result ((numbered : List Numbered) → AreKept numbered (get nat_cmp kept.old) →
-        AppendsFront (W.contents writer.old) (W.contents writer.new) (outs_text numbered (map seen_out outs.now))) }
+        AppendsFront (written W.contents writer.old) (written W.contents writer.new) (outs_text numbered (map seen_out outs.now))) }
+    ensures reason { IfErr result (IsWriteFault writer.new) }
 {
     for out in outs {
         print_out(alloc, kept, out, writer)?;
@@ -49,14 +51,15 @@ fn print_out<W: Write>(
     alloc: Global,
     kept: &mut BTreeMap<usize, Asked>,
     out: &Out,
-    writer: &mut W,
+    writer: &mut Output<W>,
 ) -> Result<(), ScriptFault>
     requires kept { IsSome (get nat_cmp kept.old out.now.input) }
     ensures others { OnOk result ((i : ℕ) → get nat_cmp kept.new i ≡ (if is_at (nat_cmp out.now.input) i then None else get nat_cmp kept.old i)) }
     ensures prints { OnOk result ((numbered : List Numbered) → AreKept numbered (get nat_cmp kept.old) →
-        PrintsOuts numbered (seen_out out.now ∷ []) (W.contents writer.old) (W.contents writer.new) (get nat_cmp kept.new)) }
+        PrintsOuts numbered (seen_out out.now ∷ []) (written W.contents writer.old) (written W.contents writer.new) (get nat_cmp kept.new)) }
     ensures fault { OnErr result ((numbered : List Numbered) → AreKept numbered (get nat_cmp kept.old) →
-        AppendsFront (W.contents writer.old) (W.contents writer.new) (outs_text numbered (seen_out out.now ∷ []))) }
+        AppendsFront (written W.contents writer.old) (written W.contents writer.new) (outs_text numbered (seen_out out.now ∷ []))) }
+    ensures reason { IfErr result (IsWriteFault writer.new) }
 {
     let Some(asked) = kept.remove(&out.input) else {
         unreachable!()
@@ -75,11 +78,12 @@ fn print_out<W: Write>(
 pub fn print_held<W: Write>(
     kept: &BTreeMap<usize, Asked>,
     numbers: &[usize],
-    writer: &mut W,
+    writer: &mut Output<W>,
 ) -> Result<(), ScriptFault>
     requires kept { AllKept (get nat_cmp kept.now) numbers.now }
-    ensures { (numbered : List Numbered) → AreKept numbered (get nat_cmp kept.now) →
-        Writes (W.contents writer.old) (W.contents writer.new) result (held_texts numbered numbers.now) }
+    ensures text { (numbered : List Numbered) → AreKept numbered (get nat_cmp kept.now) →
+        Writes (written W.contents writer.old) (written W.contents writer.new) result (held_texts numbered numbers.now) }
+    ensures reason { IfErr result (IsWriteFault writer.new) }
 {
     for number in numbers {
         let Some(asked) = kept.get(number) else {

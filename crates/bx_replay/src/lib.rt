@@ -1,8 +1,11 @@
-//! A run of the server over a script: what it reads, line by line, and what it prints.
+//! A run of the server over a script: what it reads, line by line, and what it prints; and the arguments that say how
+//! it is run.
 #![tactic(auto)]
 
+mod arguments;
 mod kept;
 mod script;
 mod server;
 
+pub use arguments::Arguments;
 pub use script::replay;

@@ -1,16 +1,18 @@
 //! A run of the server over a script.
-ghost use Rattle.std.specs.Prelude.{◌≡◌, ◌≤◌, [], IfOk, IfSome, OnErr};
+ghost use Rattle.std.specs.Prelude.{◌≡◌, ◌≤◌, [], IfErr, IfOk, IfSome, OnErr};
 ghost use Rattle.bx_replay.specs.Serving.{IsAll, Prints, Serves, held_lines};
 ghost use Rattle.bx_entry.specs.Replay.{replay_text};
 ghost use Rattle.bx_fanout.specs.Rounds.{setup_in};
-ghost use Rattle.bx_script.specs.Lines.{query_taken};
+ghost use Rattle.bx_replay.specs.Faults.{IsReplayFault};
+ghost use Rattle.bx_script.specs.Lines.{query_taken, unread};
+ghost use Rattle.bx_script.specs.Output.{IsWriteFault, written};
 ghost use Rattle.bx_script.specs.Printing.{AppendsFront, Writes};
 
 use crate::kept::print_held;
 use crate::server::{Server, answer, new_server};
 use bx_advice::Config;
 use bx_entry::Placing;
-use bx_script::{Lines, MAX_READS, ScriptFault};
+use bx_script::{Lines, Output, ScriptFault};
 use std::alloc::Global;
 use std::io::{BufRead, Write};
 use std::sync::Arc;
@@ -19,25 +21,26 @@ use std::thread::Threads;
 /// Writes what the server answers to each line that it reads, numbered from 1, and at the end which lines have no
 /// answer yet: what the definition of a replay prints for the script, whatever the number of workers and of shards is, and
 /// wherever sessions are placed. A line that changes the number of shards deals them anew by the same placing. It answers
-/// `Memory` where memory was refused, else `Read` where a read failed or there were too many, and `Write` where a write
-/// failed; what was written then is a front of the right output.
+/// `Memory` where memory was refused, `Read` only where a read failed or there were as many as there may be, and `Write`
+/// only where a write failed; what was written then is a front of the right output.
 pub fn replay<T: Threads + Sync, P: Placing + Drop + Send + Sync, R: BufRead, W: Write>(
     rt: &T,
     alloc: Global,
     config: Config,
     placing: Arc<P>,
     workers: usize,
-    reader: &mut R,
-    writer: &mut W,
+    lines: &mut Lines<R>,
+    writer: &mut Output<W>,
 ) -> Result<(), ScriptFault>
     requires some_worker { 1 ≤ workers }
     requires workers_in_range { workers ≤ 16 }
-    ensures { IfSome (R.remaining reader.old)
-        (λ script. Writes (W.contents writer.old) (W.contents writer.new) result (replay_text config query_taken script)) }
+    ensures text { IfSome (unread R.remaining lines.old)
+        (λ script. Writes (written W.contents writer.old) (written W.contents writer.new) result (replay_text config query_taken script)) }
+    ensures reason { IfErr result (IsReplayFault lines.new writer.new) }
 {
     let own = placing.clone()?;
     let first = new_server(alloc, config, own, workers)?;
-    let server = answer_all(rt, alloc, &placing, first, reader, writer)?;
+    let server = answer_all(rt, alloc, &placing, first, lines, writer)?;
     finish(alloc, &server, writer)
 }
 
@@ -47,41 +50,38 @@ fn answer_all<T: Threads + Sync, P: Placing + Drop + Send + Sync, R: BufRead, W:
     alloc: Global,
     placing: &Arc<P>,
     mut server: Server<P>,
-    reader: &mut R,
-    writer: &mut W,
+    lines: &mut Lines<R>,
+    writer: &mut Output<W>,
 ) -> Result<Server<P>, ScriptFault>
     requires serves { Serves server }
     requires none { server.lines ≡ [] }
     ensures serves { IfOk result (λ s. Serves s) }
     ensures config { IfOk result (λ s. (setup_in s.round).config ≡ (setup_in server.round).config) }
-    ensures all { IfOk result (λ s. IsAll (R.remaining reader.old) s.lines) }
-    ensures prints { IfOk result (λ s. Prints (setup_in s.round).config [] s.lines (W.contents writer.old) (W.contents writer.new)) }
-    ensures fault { OnErr result (IfSome (R.remaining reader.old) (λ script.
-        AppendsFront (W.contents writer.old) (W.contents writer.new) (replay_text (setup_in server.round).config query_taken script))) }
+    ensures all { IfOk result (λ s. IsAll (unread R.remaining lines.old) s.lines) }
+    ensures prints { IfOk result (λ s. Prints (setup_in s.round).config [] s.lines (written W.contents writer.old) (written W.contents writer.new)) }
+    ensures fault { OnErr result (IfSome (unread R.remaining lines.old) (λ script.
+        AppendsFront (written W.contents writer.old) (written W.contents writer.new) (replay_text (setup_in server.round).config query_taken script))) }
+    ensures reason { IfErr result (IsReplayFault lines.new writer.new) }
 {
-    let mut lines = Lines::new(alloc);
-    for _ in 0..MAX_READS {
-        let Some(line) = lines.next_line(alloc, reader)? else {
+    loop {
+        let Some(line) = lines.next_line(alloc)? else {
             return Ok(server);
         };
         server = answer(rt, alloc, placing, server, line, writer)?;
     }
-    Err(ScriptFault::Read)
 }
 
 // Writes which lines have no answer.
 fn finish<P: Placing, W: Write>(
     alloc: Global,
     server: &Server<P>,
-    writer: &mut W,
+    writer: &mut Output<W>,
 ) -> Result<(), ScriptFault>
     requires serves { Serves server.now }
-    ensures { Writes (W.contents writer.old) (W.contents writer.new) result (held_lines (setup_in server.now.round).config server.now.lines) }
+    ensures text { Writes (written W.contents writer.old) (written W.contents writer.new) result (held_lines (setup_in server.now.round).config server.now.lines) }
+    ensures reason { IfErr result (IsWriteFault writer.new) }
 {
     let numbers = server.round.held(alloc)?;
     print_held(&server.kept, &numbers, writer)?;
-    match writer.flush() {
-        Ok(()) => Ok(()),
-        Err(error) => Err(ScriptFault::of_write(&error)),
-    }
+    writer.flush()
 }

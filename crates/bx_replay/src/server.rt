@@ -1,5 +1,5 @@
 //! The server, fed with the lines of a script.
-ghost use Rattle.std.specs.Prelude.{◌≡◌, ◌+◌, ◌++◌, ◌≤◌, ◌<◌, ◌^◌, [], ◌∷◌, length, option_map, string_bytes, IfOk, OnErr, OnOk};
+ghost use Rattle.std.specs.Prelude.{◌≡◌, ◌+◌, ◌++◌, ◌≤◌, ◌<◌, ◌^◌, [], ◌∷◌, length, option_map, string_bytes, IfErr, IfOk, OnErr, OnOk};
 ghost use Rattle.std.specs.BTreeMap.{get};
 ghost use Rattle.std.specs.Ordering.{nat_cmp};
 ghost use Rattle.bx_replay.specs.Kept.{Keeps};
@@ -8,6 +8,7 @@ ghost use Rattle.bx_entry.specs.Requests.{read_input};
 ghost use Rattle.bx_entry.specs.Runs.{held, outs};
 ghost use Rattle.bx_fanout.specs.Rounds.{added_by, inputs_of, setup_in};
 ghost use Rattle.bx_script.specs.Lines.{InRange};
+ghost use Rattle.bx_script.specs.Output.{IsWriteFault, written};
 ghost use Rattle.bx_script.specs.Printing.{is_tick, numbered};
 
 use crate::kept::{Asked, print_outs};
@@ -15,7 +16,7 @@ use bx_advice::Config;
 use bx_entry::{Input, Placing};
 use bx_fanout::{Round, RoundFault};
 use bx_history::History;
-use bx_script::{Line, ScriptFault, write_bad, write_status};
+use bx_script::{Line, Output, ScriptFault, write_bad, write_status};
 use bx_workers::OpenGate;
 use std::alloc::Global;
 use std::collections::BTreeMap;
@@ -47,6 +48,7 @@ pub fn new_server<P: Placing + Drop>(
     ensures serves { IfOk result (λ s. Serves s) }
     ensures lines { IfOk result (λ s. s.lines ≡ []) }
     ensures config { IfOk result (λ s. (setup_in s.round).config ≡ config) }
+    ensures reason { IfErr result (λ e. e ≡ ScriptFault.Memory) }
 {
     match Round::new(alloc, config, placing, workers) {
         Ok(Some(round)) => Ok(Server {
@@ -67,7 +69,7 @@ pub fn answer<T: Threads + Sync, P: Placing + Drop + Send + Sync, W: Write>(
     placing: &Arc<P>,
     mut server: Server<P>,
     line: Line,
-    writer: &mut W,
+    writer: &mut Output<W>,
 ) -> Result<Server<P>, ScriptFault>
     requires serves { Serves server }
     requires few { server.number < 2 ^ 62 }
@@ -76,8 +78,9 @@ pub fn answer<T: Threads + Sync, P: Placing + Drop + Send + Sync, W: Write>(
     ensures lines { IfOk result (λ s. s.lines ≡ server.lines ++ line ∷ []) }
     ensures config { IfOk result (λ s. (setup_in s.round).config ≡ (setup_in server.round).config) }
     ensures shards { IfOk result (λ s. (setup_in s.round).shards ≡ shards_after line (setup_in server.round).shards) }
-    ensures prints { IfOk result (λ s. Prints (setup_in s.round).config server.lines s.lines (W.contents writer.old) (W.contents writer.new)) }
-    ensures fault { OnErr result (PrintsFront (setup_in server.round).config server.lines (server.lines ++ line ∷ []) (W.contents writer.old) (W.contents writer.new)) }
+    ensures prints { IfOk result (λ s. Prints (setup_in s.round).config server.lines s.lines (written W.contents writer.old) (written W.contents writer.new)) }
+    ensures fault { OnErr result (PrintsFront (setup_in server.round).config server.lines (server.lines ++ line ∷ []) (written W.contents writer.old) (written W.contents writer.new)) }
+    ensures reason { IfErr result (IsWriteFault writer.new) }
 {
     server.lines.push(&line);
     server.number += 1;
@@ -123,15 +126,16 @@ fn hand<T: Threads + Sync, P: Placing + Send + Sync, W: Write>(
     line: u64,
     callback: Option<String>,
     input: Input,
-    writer: &mut W,
+    writer: &mut Output<W>,
 ) -> Result<(), ScriptFault>
     requires few { length (inputs_of round.old) + 1 ≤ 2 ^ 62 }
     requires added { added_by round.old ≡ outs (setup_in round.old).config (inputs_of round.old) }
     requires kept { Keeps (get nat_cmp kept.old) (held (setup_in round.old).config (inputs_of round.old)) (length (inputs_of round.old)) }
     ensures hands { OnOk result (Hands round.old (numbered line (option_map string_bytes callback) (read_input input)) round.new
-        (W.contents writer.old) (W.contents writer.new) (get nat_cmp kept.old) (get nat_cmp kept.new)) }
+        (written W.contents writer.old) (written W.contents writer.new) (get nat_cmp kept.old) (get nat_cmp kept.new)) }
     ensures fault { OnErr result (HandsFront round.old (numbered line (option_map string_bytes callback) (read_input input))
-        (W.contents writer.old) (W.contents writer.new) (get nat_cmp kept.old)) }
+        (written W.contents writer.old) (written W.contents writer.new) (get nat_cmp kept.old)) }
+    ensures reason { IfErr result (IsWriteFault writer.new) }
 {
     let tick = ticks(&input);
     let asked = Asked {
@@ -167,6 +171,7 @@ fn reshard<P: Placing + Drop>(
     ensures added { IfOk result (λ r. added_by r ≡ added_by round) }
     ensures config { IfOk result (λ r. (setup_in r).config ≡ (setup_in round).config) }
     ensures shards { IfOk result (λ r. (setup_in r).shards ≡ shards) }
+    ensures reason { IfErr result (λ e. e ≡ ScriptFault.Memory) }
 {
     match round.reshard(alloc, shards, placing.clone()?) {
         Ok(round) => Ok(round),

@@ -2,6 +2,7 @@
 ghost use Rattle.std.specs.Prelude.{◌≤◌};
 
 mod acknowledged;
+mod arguments;
 mod events;
 mod faults;
 mod held;
@@ -15,7 +16,7 @@ mod words;
 use bx_advice::{BODY_LIMIT, Config};
 use bx_entry::{AllFirst, ByRemainder, ByTable, Placing};
 use bx_replay::replay;
-use bx_script::ScriptFault;
+use bx_script::{Lines, Output, ScriptFault};
 use std::alloc::Global;
 use std::io::BufReader;
 use std::process::Abort;
@@ -58,19 +59,11 @@ fn placed<T: Threads + Sync, P: Placing + Drop + Send + Sync>(
     requires workers_in_range { workers ≤ 16 }
 {
     let mut written = Vec::new(alloc);
-    let mut reader = BufReader::new(alloc, script)?;
+    let mut lines = Lines::new(alloc, BufReader::new(alloc, script)?);
+    let mut output = Output::new(&mut written);
     let config = config(shards)?;
     let placing = Arc::new(alloc, placing)?;
-    replay(
-        rt,
-        alloc,
-        config,
-        placing,
-        workers,
-        &mut reader,
-        &mut written,
-    )
-    .map_err(failed)?;
+    replay(rt, alloc, config, placing, workers, &mut lines, &mut output).map_err(failed)?;
     Ok(written)
 }
 

@@ -41,6 +41,11 @@ fault_writes a b (Err x) text whole e h f = subst (AppendsFront a b) (sym e) f
 pub front_all : (a b c : Option (List ℕ)) (text : List ℕ) → Appends a b text → Keeps b c → AppendsFront a c text
 front_all a b c text h k = record { written = text; unwritten = []; whole = sym (append-nil text); appends = Appends-kept a b c text h k }
 
+-- the same, whatever came then
+pub writes_all : {A E : Type 0} (a b c : Option (List ℕ)) (r : Result A E) (text : List ℕ) → Appends a b text → Keeps b c → Writes a c r text
+writes_all a b c (Ok x) text h k = Appends-kept a b c text h k
+writes_all a b c (Err x) text h k = front_all a b c text h k
+
 -- ---- what a result says
 
 pub writes_ok : {A E : Type 0} (a b : Option (List ℕ)) (r : Result A E) (text : List ℕ) → Writes a b r text → OnOk r (Appends a b text)

@@ -1,5 +1,7 @@
 pub mod Digits
 pub mod Kept
 pub mod Lines
+pub mod Output
 pub mod Printing
 pub mod Reading
+pub mod Reads

@@ -7,6 +7,8 @@ use Rattle.bx_transport.specs.declared.error.TransportError.{TransportError}
 use Rattle.bx_transport.specs.declared.error.TransportError.TheVariants.{TooLarge, BadName, NoMessage, Memory}
 use Rattle.bx_transport.specs.Transports.{get_taken}
 use Rattle.bx_script.specs.Reading.{first_of, rest_of}
+use Rattle.bx_script.specs.Reads.{HasEnded, IsReadFault}
+use Rattle.bx_script.specs.declared.error.ScriptFault.{ScriptFault}
 use Rattle.bx_script.specs.declared.line.Line.{Line}
 use Rattle.bx_script.specs.declared.line.Line.TheVariants.{Bad, Turned, Handed, Resharded}
 use Rattle.bx_script.specs.declared.lines.Lines.{Lines}
@@ -44,17 +46,29 @@ InRange (Turned status) = ⊤
 InRange (Handed callback input) = ⊤
 InRange (Resharded shards) = (1 ≤ shards) × (shards ≤ 64)
 
+-- what is left of the script
+abbrev pub unread : {R : Type 0} → (R → Option (List ℕ)) → Lines R → Option (List ℕ)
+unread remaining lines = remaining lines.reader
+
 -- how often the script may be read on
-abbrev pub reads_left : Lines → ℕ
-reads_left lines = lines.reads_left
+abbrev pub reads_left : {R : Type 0} → Lines R → ℕ
+reads_left lines = lines.reads.left
+
+-- a read of the script failed, or there were as many as there may be
+abbrev pub CannotRead : {R : Type 0} → Lines R → Type 0
+CannotRead lines = HasEnded lines.reads
+
+-- why what reads a script may end
+abbrev pub IsFault : {R : Type 0} → Lines R → ScriptFault → Type 0
+IsFault lines fault = IsReadFault lines.reads fault
 
 -- the next line of a script says what the first says, and the others are left
-pub record NextLine (line : Line) (script : List ℕ) (unread : Option (List ℕ)) : Type 0 where
+pub record NextLine (line : Line) (script : List ℕ) (rest : Option (List ℕ)) : Type 0 where
   pub said : said_by line ≡ line_of query_taken (first_of script)
   pub behind : lines_of script ≡ first_of script ∷ lines_of (rest_of script)
-  pub left : unread ≡ Some (rest_of script)
+  pub left : rest ≡ Some (rest_of script)
 
 -- what comes next: nothing where the script is at its end, else its first line
 abbrev pub IsNext : Option Line → List ℕ → Option (List ℕ) → Type 0
-IsNext None script unread = (script ≡ []) × (unread ≡ Some [])
-IsNext (Some line) script unread = NextLine line script unread
+IsNext None script rest = (script ≡ []) × (rest ≡ Some [])
+IsNext (Some line) script rest = NextLine line script rest

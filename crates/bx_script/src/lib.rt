@@ -6,10 +6,14 @@ mod kept;
 mod line;
 mod lines;
 mod number;
+mod output;
 mod part;
 mod print;
 
 pub use error::ScriptFault;
 pub use line::Line;
-pub use lines::{Lines, MAX_READS};
+pub use lines::Lines;
+pub use number::number_of;
+pub use output::{MAX_INTERRUPTIONS, Output};
+pub use part::MAX_READS;
 pub use print::{write_bad, write_held, write_result, write_status};

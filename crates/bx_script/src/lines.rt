@@ -1,54 +1,48 @@
 //! The lines of a script, one after another.
-ghost use Rattle.std.specs.Prelude.{◌≡◌, ◌≢◌, ◌<◌, ◌^◌, IfErr, IfOk, IfSome, OnOk};
-ghost use Rattle.bx_script.specs.Lines.{InRange, IsNext, reads_left};
+ghost use Rattle.std.specs.Prelude.{◌≡◌, ◌<◌, ◌^◌, IfErr, IfOk, IfSome, OnOk};
+ghost use Rattle.bx_script.specs.Lines.{CannotRead, InRange, IsFault, IsNext, reads_left, unread};
 
 use crate::error::ScriptFault;
 use crate::line::Line;
-use crate::part::read_text;
+use crate::part::Reads;
 use std::alloc::Global;
 use std::io::BufRead;
 
-/// How often a script is read on at most: 2^40 times.
-pub const MAX_READS: u64 = 1_099_511_627_776;
-
 /// The reading of a script, line by line, of which a bounded part of one line is kept.
 #[derive(Drop)]
-pub struct Lines {
+pub struct Lines<R> {
+    reader: R,
     kept: Vec<u8>,
-    reads_left: u64,
+    reads: Reads,
 }
 
-impl Lines {
-    /// The script may be read [`MAX_READS`] times.
-    pub fn new(alloc: Global) -> Lines
-        ensures { reads_left result ≡ 2 ^ 40 }
+impl<R: BufRead> Lines<R> {
+    /// The script may be read [`MAX_READS`](crate::MAX_READS) times, and no read has failed.
+    pub fn new(alloc: Global, reader: R) -> Lines<R>
+        ensures script { unread R.remaining result ≡ R.remaining reader }
+        ensures reads { reads_left result ≡ 2 ^ 40 }
+        ensures sound { ¬ CannotRead result }
     {
         Lines {
+            reader,
             kept: Vec::new(alloc),
-            reads_left: MAX_READS,
+            reads: Reads::new(),
         }
     }
 
     /// What the next line says; none at the script's end. A line ends at a line feed, which is no part of it, or with
     /// the script. Of a long line what tells nothing is read and not kept. It answers `Memory`, or `Read` where a read
     /// fails or there were as many as there may be; some part of the script is lost then.
-    pub fn next_line<R: BufRead>(
-        &mut self,
-        alloc: Global,
-        reader: &mut R,
-    ) -> Result<Option<Line>, ScriptFault>
-        ensures next { IfOk result (λ next. IfSome (R.remaining reader.old)
-            (λ script. IsNext next script (R.remaining reader.new))) }
+    pub fn next_line(&mut self, alloc: Global) -> Result<Option<Line>, ScriptFault>
+        ensures next { IfOk result (λ next. IfSome (unread R.remaining self.old)
+            (λ script. IsNext next script (unread R.remaining self.new))) }
         ensures shards { IfOk result (λ next. IfSome next InRange) }
         ensures reads { OnOk result (reads_left self.new < reads_left self.old) }
-        ensures fault { IfErr result (λ e. e ≢ ScriptFault.Write) }
+        ensures fault { IfErr result (IsFault self.new) }
     {
-        if !read_text(reader, &mut self.kept, &mut self.reads_left)? {
+        if !self.reads.read_text(&mut self.reader, &mut self.kept)? {
             return Ok(None);
         }
-        match Line::read(alloc, self.kept.as_slice()) {
-            Ok(line) => Ok(Some(line)),
-            Err(_) => Err(ScriptFault::Memory),
-        }
+        Ok(Some(Line::read(alloc, self.kept.as_slice())?))
     }
 }

@@ -3,8 +3,8 @@ ghost use Rattle.std.specs.Prelude.{◌≡◌};
 ghost use Rattle.bx_message.specs.Fields.{number_of};
 ghost use Rattle.bx_script.specs.Digits.{number_after, with_digit};
 
-// The number that digits alone say, at most 2^64-1, with any zeros before it.
-pub(crate) fn number_of(digits: &[u8]) -> Option<u64>
+/// The number that digits alone say, at most 2^64-1, with any zeros before it.
+pub fn number_of(digits: &[u8]) -> Option<u64>
     ensures { result ≡ number_of digits.now }
 {
     if digits.is_empty() {

@@ -1,5 +1,5 @@
 //! The reading of a line.
-ghost use Rattle.std.specs.Prelude.{◌≡◌, ◌≢◌, ◌<◌, IfOk, ◌≤◌, OnOk, IfErr, length, position};
+ghost use Rattle.std.specs.Prelude.{◌≡◌, ◌<◌, ◌^◌, IfOk, ◌≤◌, OnOk, IfErr, length, position};
 ghost use Rattle.bx_script.specs.Reading.{IsCut, ReadsLine, ReadsPart};
 ghost use Rattle.bx_entry.specs.Replay.{is_newline};
 
@@ -20,50 +20,79 @@ enum Step {
     End,
 }
 
-// Reads a line and keeps of it what tells what it says. It gives whether there was a line.
-pub(crate) fn read_text<R: BufRead>(
-    reader: &mut R,
-    kept: &mut Vec<u8>,
-    reads_left: &mut u64,
-) -> Result<bool, ScriptFault>
-    ensures line { IfOk result (λ found. ReadsLine found (R.remaining reader.old) (R.remaining reader.new) kept.new.items) }
-    ensures reads { OnOk result (reads_left.new < reads_left.old) }
-    ensures fault { IfErr result (λ e. e ≢ ScriptFault.Write) }
-{
-    kept.clear();
-    let mut began = false;
-    while *reads_left > 0 {
-        *reads_left -= 1;
-        match read_part(reader, kept)? {
-            Step::Again => {}
-            Step::More => began = true,
-            Step::Line => return Ok(true),
-            Step::End => return Ok(began),
-        }
-    }
-    Err(ScriptFault::Read)
+/// How often a script is read on at most: 2^40 times.
+pub const MAX_READS: u64 = 1_099_511_627_776;
+
+/// How often a script may still be read on, and whether a read of it failed.
+#[derive(Drop)]
+pub struct Reads {
+    left: u64,
+    failed: bool,
+    ghost few: { left ≤ 2 ^ 40 },
 }
 
-// Reads what the reader has at hand, up to the end of the line.
-fn read_part<R: BufRead>(reader: &mut R, kept: &mut Vec<u8>) -> Result<Step, ScriptFault>
-    ensures part { IfOk result (λ step. ReadsPart step (R.remaining reader.old) (R.remaining reader.new)
-        kept.old.items kept.new.items) }
-    ensures fault { IfErr result (λ e. e ≢ ScriptFault.Write) }
-{
-    let shown = match reader.fill_buf() {
-        Ok(shown) => shown,
-        Err(error) => {
-            return if error.kind() == ErrorKind::Interrupted {
-                Ok(Step::Again)
-            } else {
-                Err(ScriptFault::of_read(&error))
-            };
+impl Reads {
+    ghost use Rattle.bx_script.specs.Reads.{HasEnded, IsReadFault};
+
+    // The script may be read so often.
+    pub(crate) fn new() -> Reads
+        ensures left { result.left ≡ 2 ^ 40 }
+        ensures sound { ¬ HasEnded result }
+    {
+        Reads {
+            left: MAX_READS,
+            failed: false,
         }
-    };
-    let (length, used, step) = cut(shown);
-    keep(kept, &shown[..length])?;
-    reader.consume(used);
-    Ok(step)
+    }
+
+    // Reads a line and keeps of it what tells what it says. It gives whether there was a line.
+    pub(crate) fn read_text<R: BufRead>(
+        &mut self,
+        reader: &mut R,
+        kept: &mut Vec<u8>,
+    ) -> Result<bool, ScriptFault>
+        ensures line { IfOk result (λ found. ReadsLine found (R.remaining reader.old) (R.remaining reader.new) kept.new.items) }
+        ensures fewer { OnOk result (self.new.left < self.old.left) }
+        ensures fault { IfErr result (IsReadFault self.new) }
+    {
+        kept.clear();
+        let mut began = false;
+        while self.left > 0 {
+            self.left -= 1;
+            match self.read_part(reader, kept)? {
+                Step::Again => {}
+                Step::More => began = true,
+                Step::Line => return Ok(true),
+                Step::End => return Ok(began),
+            }
+        }
+        Err(ScriptFault::Read)
+    }
+
+    // Reads what the reader has at hand, up to the end of the line.
+    fn read_part<R: BufRead>(
+        &mut self,
+        reader: &mut R,
+        kept: &mut Vec<u8>,
+    ) -> Result<Step, ScriptFault>
+        ensures part { IfOk result (λ step. ReadsPart step (R.remaining reader.old) (R.remaining reader.new)
+            kept.old.items kept.new.items) }
+        ensures left { self.new.left ≡ self.old.left }
+        ensures fault { IfErr result (IsReadFault self.new) }
+    {
+        let shown = match reader.fill_buf() {
+            Ok(shown) => shown,
+            Err(error) if error.kind() == ErrorKind::Interrupted => return Ok(Step::Again),
+            Err(error) => {
+                self.failed = true;
+                return Err(ScriptFault::of_read(&error));
+            }
+        };
+        let (length, used, step) = cut(shown);
+        keep(kept, &shown[..length])?;
+        reader.consume(used);
+        Ok(step)
+    }
 }
 
 // How many of the bytes stand in the line, how many are read with its end, and what comes of reading these.

@@ -1,45 +1,50 @@
-//! What is printed for the lines of a script. At a fault a front of it is written.
-ghost use Rattle.std.specs.Prelude.{◌≡◌, ◌≢◌, ◌++◌, IfErr, IfOk, codes, decimal, option_map, string_bytes};
-ghost use Rattle.std.specs.Io.{WritesAtMost};
-ghost use Rattle.std.specs.Io.KnownBytes.{WriteAppends};
+//! What is printed for the lines of a script. At a fault a front of it is written; a fault comes only where a write failed,
+//! or, where a response is written, where memory was refused.
+ghost use Rattle.std.specs.Prelude.{◌≡◌, ◌≢◌, ◌++◌, IfErr, IfOk, OnErr, codes, decimal, option_map, string_bytes};
 ghost use Rattle.bx_entry.specs.Inputs.{ReadInput};
 ghost use Rattle.bx_entry.specs.Replay.{line_text, refusal_status, response_text, result_text};
+ghost use Rattle.bx_script.specs.Output.{HasFailed, IsWriteFault, written};
 ghost use Rattle.bx_script.specs.Printing.{Writes, is_tick, numbered};
 
 use crate::error::ScriptFault;
+use crate::output::Output;
 use bx_entry::Refusal;
 use bx_message::{Item, Sequence};
 use bx_transport::{callback_of, response_of};
 use itoa::Buffer;
 use std::alloc::{AllocError, Global};
-use std::io::{ErrorKind, Write};
-
-// How often a part of a line is written on at most: 2^40 times.
-const MAX_WRITES: u64 = 1_099_511_627_776;
+use std::io::Write;
 
 /// Writes that the line of this number has no known form: `bad`.
-pub fn write_bad<W: Write>(writer: &mut W, number: u64) -> Result<(), ScriptFault>
-    ensures text { Writes (W.contents writer.old) (W.contents writer.new) result
+pub fn write_bad<W: Write>(writer: &mut Output<W>, number: u64) -> Result<(), ScriptFault>
+    ensures text { Writes (written W.contents writer.old) (written W.contents writer.new) result
         (line_text number (codes "bad")) }
     ensures fault { IfErr result (λ e. e ≢ ScriptFault.Read) }
+    ensures failed { OnErr result (HasFailed writer.new) }
 {
     write_line(writer, number, b"bad", b"")
 }
 
 /// Writes that some message of the line of this number has no answer: `held`.
-pub fn write_held<W: Write>(writer: &mut W, number: u64) -> Result<(), ScriptFault>
-    ensures text { Writes (W.contents writer.old) (W.contents writer.new) result
+pub fn write_held<W: Write>(writer: &mut Output<W>, number: u64) -> Result<(), ScriptFault>
+    ensures text { Writes (written W.contents writer.old) (written W.contents writer.new) result
         (line_text number (codes "held")) }
     ensures fault { IfErr result (λ e. e ≢ ScriptFault.Read) }
+    ensures failed { OnErr result (HasFailed writer.new) }
 {
     write_line(writer, number, b"held", b"")
 }
 
 /// Writes with which status the line of this number is refused.
-pub fn write_status<W: Write>(writer: &mut W, number: u64, status: u16) -> Result<(), ScriptFault>
-    ensures text { Writes (W.contents writer.old) (W.contents writer.new) result
+pub fn write_status<W: Write>(
+    writer: &mut Output<W>,
+    number: u64,
+    status: u16,
+) -> Result<(), ScriptFault>
+    ensures text { Writes (written W.contents writer.old) (written W.contents writer.new) result
         (line_text number (decimal status)) }
     ensures fault { IfErr result (λ e. e ≢ ScriptFault.Read) }
+    ensures failed { OnErr result (HasFailed writer.new) }
 {
     let mut buffer = Buffer::new();
     write_line(writer, number, b"", buffer.format(status).as_bytes())
@@ -49,16 +54,16 @@ pub fn write_status<W: Write>(writer: &mut W, number: u64, status: u16) -> Resul
 /// array or the call of the callback with it. For a tick that is not refused it writes nothing.
 pub fn write_result<W: Write>(
     alloc: Global,
-    writer: &mut W,
+    writer: &mut Output<W>,
     number: u64,
     callback: &Option<String>,
     tick: bool,
     answer: &Result<Sequence<Item>, Refusal>,
 ) -> Result<(), ScriptFault>
     ensures text { (read : ReadInput) → is_tick read ≡ tick
-        → Writes (W.contents writer.old) (W.contents writer.new) result
+        → Writes (written W.contents writer.old) (written W.contents writer.new) result
         (result_text (numbered number (option_map string_bytes callback.now) read) read answer.now) }
-    ensures fault { IfErr result (λ e. e ≢ ScriptFault.Read) }
+    ensures fault { IfErr result (IsWriteFault writer.new) }
 {
     match answer {
         Err(refusal) => write_status(writer, number, status_of(*refusal)),
@@ -69,19 +74,17 @@ pub fn write_result<W: Write>(
 
 fn write_response<W: Write>(
     alloc: Global,
-    writer: &mut W,
+    writer: &mut Output<W>,
     number: u64,
     callback: &Option<String>,
     items: &[Item],
 ) -> Result<(), ScriptFault>
-    ensures text { Writes (W.contents writer.old) (W.contents writer.new) result
+    ensures text { Writes (written W.contents writer.old) (written W.contents writer.new) result
         (line_text number (codes "200 " ++ response_text (option_map string_bytes callback.now) items.now)) }
-    ensures fault { IfErr result (λ e. e ≢ ScriptFault.Read) }
+    ensures fault { IfErr result (IsWriteFault writer.new) }
 {
-    match body_of(alloc, callback, items) {
-        Ok(body) => write_line(writer, number, b"200 ", body.as_slice()),
-        Err(_) => Err(ScriptFault::Memory),
-    }
+    let body = body_of(alloc, callback, items)?;
+    write_line(writer, number, b"200 ", body.as_slice())
 }
 
 // The body of a response.
@@ -107,14 +110,15 @@ fn status_of(refusal: Refusal) -> u16
 
 // Writes a line: its number, and a text in two parts.
 fn write_line<W: Write>(
-    writer: &mut W,
+    writer: &mut Output<W>,
     number: u64,
     lead: &[u8],
     text: &[u8],
 ) -> Result<(), ScriptFault>
-    ensures text { Writes (W.contents writer.old) (W.contents writer.new) result
+    ensures text { Writes (written W.contents writer.old) (written W.contents writer.new) result
         (line_text number (lead.now ++ text.now)) }
     ensures fault { IfErr result (λ e. e ≢ ScriptFault.Read) }
+    ensures failed { OnErr result (HasFailed writer.new) }
 {
     let mut buffer = Buffer::new();
     put(writer, buffer.format(number).as_bytes())?;
@@ -125,31 +129,15 @@ fn write_line<W: Write>(
 }
 
 // Writes all of a text.
-fn put<W: Write>(writer: &mut W, text: &[u8]) -> Result<(), ScriptFault>
-    ensures text { Writes (W.contents writer.old) (W.contents writer.new) result text.now }
+fn put<W: Write>(writer: &mut Output<W>, text: &[u8]) -> Result<(), ScriptFault>
+    ensures text { Writes (written W.contents writer.old) (written W.contents writer.new) result text.now }
     ensures fault { IfErr result (λ e. e ≢ ScriptFault.Read) }
+    ensures failed { OnErr result (HasFailed writer.new) }
 {
     let mut rest = text;
-    for _ in 0..MAX_WRITES {
-        if rest.is_empty() {
-            return Ok(());
-        }
-        let count = write_on(writer, rest)?;
+    while !rest.is_empty() {
+        let count = writer.write_some(rest)?;
         rest = &rest[count..];
     }
-    Err(ScriptFault::Write)
-}
-
-// Writes some of what is left of a text, or nothing where the write was interrupted, and gives how many bytes that is.
-fn write_on<W: Write>(writer: &mut W, rest: &[u8]) -> Result<usize, ScriptFault>
-    ensures within { WritesAtMost result rest.now }
-    ensures bytes { WriteAppends (W.contents writer.old) (W.contents writer.new) result rest.now }
-    ensures fault { IfErr result (λ e. e ≢ ScriptFault.Read) }
-{
-    match writer.write(rest) {
-        Ok(0) => Err(ScriptFault::Write),
-        Ok(count) => Ok(count),
-        Err(error) if error.kind() == ErrorKind::Interrupted => Ok(0),
-        Err(error) => Err(ScriptFault::of_write(&error)),
-    }
+    Ok(())
 }

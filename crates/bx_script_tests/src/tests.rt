@@ -2,7 +2,9 @@
 use bx_advice::BODY_LIMIT;
 use bx_entry::{Input, Refusal};
 use bx_message::Sequence;
-use bx_script::{Line, Lines, ScriptFault, write_bad, write_held, write_result, write_status};
+use bx_script::{
+    Line, Lines, Output, ScriptFault, number_of, write_bad, write_held, write_result, write_status,
+};
 use std::alloc::{AllocError, Global};
 use std::io;
 use std::io::{BufRead, BufReader, Read, Write};
@@ -47,10 +49,10 @@ fn told_input(alloc: Global, name: &str, input: &Input) -> Result<String, AllocE
 
 // What the lines of a script say, each before a semicolon.
 fn all_told<R: BufRead>(alloc: Global, reader: &mut R) -> Result<String, ScriptFault> {
-    let mut lines = Lines::new(alloc);
+    let mut lines = Lines::new(alloc, reader);
     let mut text = String::new(alloc);
     for _ in 0..100 {
-        match lines.next_line(alloc, reader)? {
+        match lines.next_line(alloc)? {
             Some(line) => {
                 text.push_str(told(alloc, &line)?.as_str())?;
                 text.push(';')?;
@@ -118,6 +120,21 @@ fn lines_say_what_they_say(rt: HostRuntime) -> Result<(), Fail> {
     Ok(())
 }
 
+#[test]
+fn a_script_has_thousands_of_lines(rt: HostRuntime) -> Result<(), Fail> {
+    let alloc = rt.alloc();
+    let script = "7 T\n".repeat(alloc, 5_000)?;
+    let mut lines = Lines::new(alloc, script.as_bytes());
+    for count in 0..5_001 {
+        let Some(line) = lines.next_line(alloc)? else {
+            assert_eq!(rt; count, 5_000);
+            return Ok(());
+        };
+        assert!(rt; matches!(line, Line::Handed { .. }), "{count}");
+    }
+    Err(Fail::from("more lines than the script has"))
+}
+
 // A line of a head, so many equal bytes and an end, and a line behind it.
 fn long_script(
     alloc: Global,
@@ -149,7 +166,8 @@ fn long_lines_say_what_they_say(rt: HostRuntime) -> Result<(), Fail> {
 #[test]
 fn what_is_printed(rt: HostRuntime) -> Result<(), Fail> {
     let alloc = rt.alloc();
-    let mut out = Vec::new(alloc);
+    let mut written = Vec::new(alloc);
+    let mut out = Output::new(&mut written);
     let name = Some(String::from_str(alloc, "cb")?);
     let none = Ok(Sequence::new(alloc));
     write_bad(&mut out, 1)?;
@@ -161,11 +179,11 @@ fn what_is_printed(rt: HostRuntime) -> Result<(), Fail> {
     write_result(alloc, &mut out, 7, &None, true, &Err(Refusal::BadMoment))?;
     write_held(&mut out, u64::MAX)?;
     assert_eq!(rt;
-        out.as_slice(),
+        written.as_slice(),
         b"1 bad\n2 413\n3 200 []\n4 200 cb([])\n6 503\n7 400\n18446744073709551615 held\n".as_slice()
     );
     let mut place = [0u8; 3];
-    let mut short = place.as_mut_slice();
+    let mut short = Output::new(place.as_mut_slice());
     assert_eq!(rt; write_bad(&mut short, 1), Err(ScriptFault::Write));
     Ok(())
 }
@@ -206,7 +224,8 @@ fn a_failed_write_leaves_a_front(rt: HostRuntime) -> Result<(), Fail> {
             held: Vec::new(alloc),
             writes: Some(writes),
         };
-        let written = write_result(alloc, &mut writer, 12, &name, false, &none);
+        let mut out = Output::new(&mut writer);
+        let written = write_result(alloc, &mut out, 12, &name, false, &none);
         assert_eq!(rt; written, Err(ScriptFault::Write), "{writes}");
         let all = b"12 200 cb([])\n".as_slice();
         assert!(rt; all.starts_with(writer.held.as_slice()), "{writes}");
@@ -245,10 +264,92 @@ fn short_and_interrupted_writes_go_on(rt: HostRuntime) -> Result<(), Fail> {
         ready: false,
     };
     let none = Ok(Sequence::new(alloc));
-    write_result(alloc, &mut writer, 12, &None, false, &none)?;
-    write_held(&mut writer, 7)?;
+    let mut out = Output::new(&mut writer);
+    write_result(alloc, &mut out, 12, &None, false, &none)?;
+    write_held(&mut out, 7)?;
     assert_eq!(rt; writer.held.as_slice(), b"12 200 []\n7 held\n".as_slice());
     Ok(())
+}
+
+// Takes one byte a write.
+#[derive(Drop)]
+struct Narrow {
+    held: Vec<u8>,
+}
+
+impl Write for Narrow {
+    fn write(&mut self, buf: &[u8]) -> io::Result<usize> {
+        let count = buf.len().min(1);
+        self.held.extend_from_slice(&buf[..count])?;
+        Ok(count)
+    }
+
+    fn flush(&mut self) -> io::Result<()> {
+        Ok(())
+    }
+}
+
+#[test]
+fn a_long_text_is_written_byte_by_byte(rt: HostRuntime) -> Result<(), Fail> {
+    let alloc = rt.alloc();
+    let name = "f".repeat(alloc, 100_000)?;
+    let expected = format!(in alloc; "12 200 {name}([])\n")?;
+    let mut writer = Narrow {
+        held: Vec::new(alloc),
+    };
+    let none = Ok(Sequence::new(alloc));
+    let mut out = Output::new(&mut writer);
+    write_result(alloc, &mut out, 12, &Some(name), false, &none)?;
+    assert_eq!(rt; writer.held.as_slice(), expected.as_bytes());
+    Ok(())
+}
+
+// Is interrupted so often, and then takes all.
+#[derive(Drop)]
+struct Interrupted {
+    held: Vec<u8>,
+    interruptions: usize,
+}
+
+impl Write for Interrupted {
+    fn write(&mut self, buf: &[u8]) -> io::Result<usize> {
+        if self.interruptions > 0 {
+            self.interruptions -= 1;
+            return Err(io::Error::from(io::ErrorKind::Interrupted));
+        }
+        self.held.extend_from_slice(buf)?;
+        Ok(buf.len())
+    }
+
+    fn flush(&mut self) -> io::Result<()> {
+        Ok(())
+    }
+}
+
+#[test]
+fn a_write_is_tried_after_many_interruptions(rt: HostRuntime) -> Result<(), Fail> {
+    let mut writer = Interrupted {
+        held: Vec::new(rt.alloc()),
+        interruptions: 100_000,
+    };
+    write_bad(&mut Output::new(&mut writer), 7)?;
+    assert_eq!(rt; writer.held.as_slice(), b"7 bad\n".as_slice());
+    Ok(())
+}
+
+#[test]
+fn digits_say_numbers(rt: HostRuntime) {
+    for (digits, number) in [
+        ("", None),
+        ("0", Some(0)),
+        ("007", Some(7)),
+        ("+5", None),
+        ("5a", None),
+        ("18446744073709551615", Some(u64::MAX)),
+        ("18446744073709551616", None),
+    ] {
+        assert_eq!(rt; number_of(digits.as_bytes()), number, "{digits}");
+    }
 }
 
 #[test]

@@ -2,7 +2,7 @@
 use super::{Run, check_all};
 use std::test::Fail;
 
-const RUNS: [Run; 5] = [
+const RUNS: [Run; 6] = [
     (
         "an event comes once, however many patterns match it",
         "0 P [<handshake>]\n0 P [<subscribe 1 /a/*>,<subscribe 1 /a/**>,<publish 1 /a/b 1>,<publish 1 /a 2>]\n0 P [<poll 1>]\n",
@@ -12,6 +12,11 @@ const RUNS: [Run; 5] = [
         "a publish to a service channel reaches no client",
         "0 P [<handshake>]\n0 P [<subscribe 1 /**>,<publish 1 /service/x 1>]\n0 P [<poll 1>]\n",
         "1 200 [<opened 1>]\n2 200 [<subscribed 1 /**>,<published /service/x>]\n3 200 [<connected 1>]\n",
+    ),
+    (
+        "a subscription gets nothing of what its request published before it",
+        "0 P [<handshake>]\n0 P [<publish 1 /a/b 1>,<subscribe 1 /a/b>]\n0 P [<poll 1>]\n",
+        "1 200 [<opened 1>]\n2 200 [<published /a/b>,<subscribed 1 /a/b>]\n3 200 [<connected 1>]\n",
     ),
     (
         "two connects in one request",

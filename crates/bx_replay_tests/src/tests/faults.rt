@@ -3,7 +3,7 @@ use super::config;
 use super::words::spelled;
 use bx_entry::ByRemainder;
 use bx_replay::replay;
-use bx_script::ScriptFault;
+use bx_script::{Lines, Output, ScriptFault};
 use std::alloc::Global;
 use std::io;
 use std::io::{BufReader, ErrorKind, Read, Write};
@@ -69,7 +69,7 @@ fn a_failed_read_leaves_a_front(rt: HostRuntime) -> Result<(), Fail> {
     let right = spelled(alloc, WRITTEN)?;
     for reads in 0..100 {
         let bytes = script.as_bytes();
-        let mut reader = BufReader::new(alloc, Reader { bytes, reads })?;
+        let reader = BufReader::new(alloc, Reader { bytes, reads })?;
         let mut written = Vec::new(alloc);
         let result = replay(
             &rt,
@@ -77,8 +77,8 @@ fn a_failed_read_leaves_a_front(rt: HostRuntime) -> Result<(), Fail> {
             config(2)?,
             in_turn(alloc)?,
             2,
-            &mut reader,
-            &mut written,
+            &mut Lines::new(alloc, reader),
+            &mut Output::new(&mut written),
         );
         if result.is_ok() {
             assert_eq!(rt; written.as_slice(), right.as_bytes());
@@ -111,7 +111,6 @@ fn a_failed_write_leaves_a_front(rt: HostRuntime) -> Result<(), Fail> {
     let script = spelled(alloc, SCRIPT)?;
     let right = spelled(alloc, WRITTEN)?;
     for writes in 0..100 {
-        let mut reader = script.as_bytes();
         let mut writer = new_writer(alloc, writes, true);
         let result = replay(
             &rt,
@@ -119,8 +118,8 @@ fn a_failed_write_leaves_a_front(rt: HostRuntime) -> Result<(), Fail> {
             config(2)?,
             in_turn(alloc)?,
             2,
-            &mut reader,
-            &mut writer,
+            &mut Lines::new(alloc, script.as_bytes()),
+            &mut Output::new(&mut writer),
         );
         let written = writer.written.as_slice();
         if result.is_ok() {
@@ -138,7 +137,6 @@ fn a_failed_flush_is_a_write_fault(rt: HostRuntime) -> Result<(), Fail> {
     let alloc = rt.alloc();
     let script = spelled(alloc, SCRIPT)?;
     let right = spelled(alloc, WRITTEN)?;
-    let mut reader = script.as_bytes();
     let mut writer = new_writer(alloc, 100, false);
     let result = replay(
         &rt,
@@ -146,8 +144,8 @@ fn a_failed_flush_is_a_write_fault(rt: HostRuntime) -> Result<(), Fail> {
         config(2)?,
         in_turn(alloc)?,
         2,
-        &mut reader,
-        &mut writer,
+        &mut Lines::new(alloc, script.as_bytes()),
+        &mut Output::new(&mut writer),
     );
     assert_eq!(rt; result, Err(ScriptFault::Write));
     assert_eq!(rt; writer.written.as_slice(), right.as_bytes());

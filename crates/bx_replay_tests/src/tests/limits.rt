@@ -1,8 +1,9 @@
-//! Sessions at the limits of their events and patterns.
-use super::check;
+//! Sessions at the limits of their events and patterns, requests at the limit of their messages, and a long script.
 use super::words::repeated;
+use super::{check, printed};
 use std::alloc::Global;
 use std::test::Fail;
+use std::thread::Threads;
 
 #[test]
 fn too_many_events_are_dropped(rt: HostRuntime) -> Result<(), Fail> {
@@ -77,4 +78,59 @@ fn a_hold_outlasts_too_many_patterns(rt: HostRuntime) -> Result<(), Fail> {
         script.as_str(),
         expected.as_str(),
     )
+}
+
+const PING: &str = r#"{"channel":"/meta/ping"}"#;
+
+const PING_REPLY: &str =
+    r#"{"channel":"/meta/ping","error":"404::Unknown meta channel","successful":false}"#;
+
+// What a request comes to with so many messages in one document and so many in another.
+fn pinged<T: Threads + Sync>(
+    rt: &T,
+    alloc: Global,
+    first: usize,
+    second: usize,
+) -> Result<Vec<u8>, Fail> {
+    let first = repeated(alloc, PING, first)?;
+    let second = repeated(alloc, PING, second)?;
+    let script = format!(in alloc; "0 G message=[{first}]&jsonp=f&message=[{second}]\n")?;
+    printed(rt, alloc, 2, 2, script.as_bytes())
+}
+
+#[test]
+fn messages_are_counted_over_all_documents(rt: HostRuntime) -> Result<(), Fail> {
+    let alloc = rt.alloc();
+    let replies = repeated(alloc, PING_REPLY, 256)?;
+    let expected = format!(in alloc; "1 200 f([{replies}])\n")?;
+    for (first, second) in [(57, 199), (255, 1), (0, 256)] {
+        let written = pinged(&rt, alloc, first, second)?;
+        assert_eq!(rt;
+            written.as_slice(),
+            expected.as_bytes(),
+            "{first} and {second}"
+        );
+    }
+    for (first, second) in [(57, 200), (256, 1), (257, 0)] {
+        let written = pinged(&rt, alloc, first, second)?;
+        assert_eq!(rt;
+            written.as_slice(),
+            b"1 400\n".as_slice(),
+            "{first} and {second}"
+        );
+    }
+    Ok(())
+}
+
+#[test]
+fn a_script_has_thousands_of_lines(rt: HostRuntime) -> Result<(), Fail> {
+    let alloc = rt.alloc();
+    let script = "x\n".repeat(alloc, 5_000)?;
+    let mut expected = String::new(alloc);
+    for line in 1..5_001 {
+        expected.push_str(format!(in alloc; "{line} bad\n")?.as_str())?;
+    }
+    let written = printed(&rt, alloc, 2, 2, script.as_bytes())?;
+    assert_eq!(rt; written.as_slice(), expected.as_bytes());
+    Ok(())
 }

@@ -11,15 +11,16 @@ use Rattle.bx_replay.proofs.Keeping.{held_printed, held_same}
 use Rattle.bx_entry.specs.Replay.{line_text}
 use Rattle.bx_script.proofs.Fronts.{fault_writes}
 use Rattle.bx_replay.proofs.Ready.{kept_at}
+use Rattle.bx_script.specs.Output.{written}
 use Rattle.bx_replay.proofs.kept.print_held.Goals as goal
 
 pub loop-number-preserved : goal.loop-number-preserved
 loop-number-preserved g c = λ numbered kept.
     let ns = c.args.numbers.now in
     let index = c.loop-number.number-index in
-    let first = g.W.Write.contents c.args.writer.now in
-    let before = g.W.Write.contents c.loop-number.writer in
-    let after = g.W.Write.contents c.write_held.new.writer in
+    let first = written g.W.Write.contents c.args.writer.now in
+    let before = written g.W.Write.contents c.loop-number.writer in
+    let after = written g.W.Write.contents c.write_held.new.writer in
     subst (λ (is : List ℕ). Appends first after (held_texts numbered is)) (sym (take_more ns index 0 c.loop-number-test.true))
     (held_printed numbered (take index ns) (get_or ns index 0) c.in-Some.asked.now (get nat_cmp c.args.kept.now) first before after (sym c.in-Some.ensures.value) kept (c.loop-number.invariant numbered kept) c.in_ok-write_held.ensures.text)
 
@@ -31,12 +32,12 @@ unreachable-requires g c =
     ap is_some (sym c.get.ensures.value) ∙ ap (λ o. is_some (option_copied o)) c.in_default.is in
     cc
 
-pub returns-in_err-write_held : goal.returns-in_err-write_held
-returns-in_err-write_held g c = λ numbered kept.
+pub returns-in_err-write_held-clause-text : goal.returns-in_err-write_held-clause-text
+returns-in_err-write_held-clause-text g c = λ numbered kept.
     let ns = c.args.numbers.now in
     let index = c.loop-number.number-index in
     let i = get_or ns index 0 in
     let a = c.in-Some.asked.now in
-    fault_writes (g.W.Write.contents c.args.writer.now) (g.W.Write.contents c.write_held.new.writer) c.from_residual.result (held_texts numbered ns) (held_texts numbered ns) refl c.from_residual.ensures.0
-    (held_front numbered ns (take index ns) i (drop (index + 1) ns) (g.W.Write.contents c.args.writer.now) (g.W.Write.contents c.loop-number.writer) (g.W.Write.contents c.write_held.new.writer) (line_text a.line (codes "held")) (numbers_split ns index c.loop-number-test.true)
+    fault_writes (written g.W.Write.contents c.args.writer.now) (written g.W.Write.contents c.write_held.new.writer) c.from_residual.result (held_texts numbered ns) (held_texts numbered ns) refl c.from_residual.ensures.0
+    (held_front numbered ns (take index ns) i (drop (index + 1) ns) (written g.W.Write.contents c.args.writer.now) (written g.W.Write.contents c.loop-number.writer) (written g.W.Write.contents c.write_held.new.writer) (line_text a.line (codes "held")) (numbers_split ns index c.loop-number-test.true)
     (held_same numbered i a (λ (line : ℕ). line_text line (codes "held")) (kept i a (sym c.in-Some.ensures.value)) (λ n. refl)) (c.loop-number.invariant numbered kept) c.in_err-write_held.ensures.text)

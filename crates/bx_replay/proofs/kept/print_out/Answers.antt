@@ -8,6 +8,7 @@ use Rattle.bx_script.specs.Printing as script
 use Rattle.bx_replay.proofs.Keeping.{TicksAs, ok_of, on_ok_each, out_printed}
 use Rattle.bx_replay.proofs.Fronts.{out_front}
 use Rattle.bx_script.proofs.Fronts.{writes_ok}
+use Rattle.bx_script.specs.Output.{written}
 use Rattle.bx_replay.proofs.kept.print_out.Goals as goal
 
 pub returns-clause-prints : goal.returns-clause-prints
@@ -17,10 +18,10 @@ returns-clause-prints g c =
     let old = c.args.kept.now in
     let new = c.remove.new.self in
     on_ok_each c.write_result.result
-    (λ (r : TicksAs a.tick). Appends (g.W.Write.contents c.args.writer.now) (g.W.Write.contents c.write_result.new.writer) (result_text (script.numbered a.line (option_map string_bytes a.callback) r.read) r.read o.result))
-    (λ r. writes_ok (g.W.Write.contents c.args.writer.now) (g.W.Write.contents c.write_result.new.writer) c.write_result.result (result_text (script.numbered a.line (option_map string_bytes a.callback) r.read) r.read o.result)
+    (λ (r : TicksAs a.tick). Appends (written g.W.Write.contents c.args.writer.now) (written g.W.Write.contents c.write_result.new.writer) (result_text (script.numbered a.line (option_map string_bytes a.callback) r.read) r.read o.result))
+    (λ r. writes_ok (written g.W.Write.contents c.args.writer.now) (written g.W.Write.contents c.write_result.new.writer) c.write_result.result (result_text (script.numbered a.line (option_map string_bytes a.callback) r.read) r.read o.result)
     (c.write_result.ensures.text r.read r.ticks))
-    (λ h numbered kept. out_printed numbered (seen_out o) c.in-Some.asked (get nat_cmp old) (get nat_cmp new) (is_at (nat_cmp o.input)) (g.W.Write.contents c.args.writer.now) (g.W.Write.contents c.write_result.new.writer)
+    (λ h numbered kept. out_printed numbered (seen_out o) c.in-Some.asked (get nat_cmp old) (get nat_cmp new) (is_at (nat_cmp o.input)) (written g.W.Write.contents c.args.writer.now) (written g.W.Write.contents c.write_result.new.writer)
     (sym c.remove.ensures.value ∙ c.in-Some.is) c.remove.ensures.updates.0 h kept)
 
 pub returns-clause-others : goal.returns-clause-others
@@ -29,5 +30,5 @@ returns-clause-others g c = ok_of c.write_result.result c.remove.ensures.updates
 pub returns-clause-fault : goal.returns-clause-fault
 returns-clause-fault g c =
     let o = c.args.out.now in
-    out_front (seen_out o) c.in-Some.asked (get nat_cmp c.args.kept.now) (g.W.Write.contents c.args.writer.now) (g.W.Write.contents c.write_result.new.writer) c.write_result.result
+    out_front (seen_out o) c.in-Some.asked (get nat_cmp c.args.kept.now) (written g.W.Write.contents c.args.writer.now) (written g.W.Write.contents c.write_result.new.writer) c.write_result.result
     (sym c.remove.ensures.value ∙ c.in-Some.is) (λ r. c.write_result.ensures.text r.read r.ticks)

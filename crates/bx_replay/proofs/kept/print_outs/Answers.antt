@@ -9,12 +9,13 @@ use Rattle.bx_entry.specs.Runs as runs
 use Rattle.bx_fanout.specs.Stages.{seen_out}
 use Rattle.bx_fanout.specs.declared.out.Out.{Out}
 use Rattle.bx_replay.proofs.Fronts.{err_of, outs_front, outs_split}
+use Rattle.bx_script.specs.Output.{written}
 use Rattle.bx_replay.proofs.kept.print_outs.Goals as goal
 
 pub loop-out-init : goal.loop-out-init
 loop-out-init g c = record {
   others = λ others h. h;
-  prints = λ numbered kept. outs_none numbered (g.W.Write.contents c.args.writer.now) (get nat_cmp c.args.kept.now) kept;
+  prints = λ numbered kept. outs_none numbered (written g.W.Write.contents c.args.writer.now) (get nat_cmp c.args.kept.now) kept;
 }
 
 pub print_out-requires : goal.print_out-requires
@@ -27,9 +28,9 @@ pub loop-out-preserved : goal.loop-out-preserved
 loop-out-preserved g c =
     let os = c.args.outs.now in
     let index = c.loop-out.out-index in
-    let first = g.W.Write.contents c.args.writer.now in
-    let before = g.W.Write.contents c.loop-out.writer in
-    let after = g.W.Write.contents c.print_out.new.writer in
+    let first = written g.W.Write.contents c.args.writer.now in
+    let before = written g.W.Write.contents c.loop-out.writer in
+    let after = written g.W.Write.contents c.print_out.new.writer in
     record {
       others = λ others h. kept_less_one (inputs_given (drop (index + 1) os) ++ others) c.out-item.result.input (get nat_cmp c.loop-out.kept) (get nat_cmp c.print_out.new.kept) c.in_ok-print_out.ensures.others
           (next_kept os index c.out-item.result others (get nat_cmp c.loop-out.kept) c.loop-out-test.true c.out-item.is (c.loop-out.invariant.others others h)).1;
@@ -47,7 +48,7 @@ pub returns-clause-prints : goal.returns-clause-prints
 returns-clause-prints g c = λ numbered kept.
     let os = c.args.outs.now in
     let all : c.loop-out.out-index ≡ length os = omega arith in
-    subst (λ (us : List Out). PrintsOuts numbered (map seen_out us) (g.W.Write.contents c.args.writer.now) (g.W.Write.contents c.loop-out.writer) (get nat_cmp c.loop-out.kept))
+    subst (λ (us : List Out). PrintsOuts numbered (map seen_out us) (written g.W.Write.contents c.args.writer.now) (written g.W.Write.contents c.loop-out.writer) (get nat_cmp c.loop-out.kept))
     (ap (λ (n : ℕ). take n os) all ∙ take-length os) (c.loop-out.invariant.prints numbered kept)
 
 pub returns-in_err-print_out-clause-fault : goal.returns-in_err-print_out-clause-fault
@@ -57,5 +58,5 @@ returns-in_err-print_out-clause-fault g c = err_of c.from_residual.result
     let index = c.loop-out.out-index in
     let o = c.out-item.result in
     let p = c.loop-out.invariant.prints numbered kept in
-    outs_front numbered (map seen_out os) (map seen_out (take index os)) (seen_out o) (map seen_out (drop (index + 1) os)) (g.W.Write.contents c.args.writer.now) (g.W.Write.contents c.loop-out.writer) (g.W.Write.contents c.print_out.new.writer)
+    outs_front numbered (map seen_out os) (map seen_out (take index os)) (seen_out o) (map seen_out (drop (index + 1) os)) (written g.W.Write.contents c.args.writer.now) (written g.W.Write.contents c.loop-out.writer) (written g.W.Write.contents c.print_out.new.writer)
     (outs_split os index o c.loop-out-test.true c.out-item.is) p.appends (c.in_err-print_out.ensures.fault numbered p.kept))

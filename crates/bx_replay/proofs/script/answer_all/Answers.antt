@@ -4,83 +4,75 @@ use Rattle.bx_fanout.specs.Rounds.{setup_in}
 use Rattle.bx_script.specs.declared.line.Line.{Line}
 use Rattle.bx_replay.proofs.Steps.{number_more, prints_more, prints_none, reads_end, reads_more, reads_none}
 use Rattle.bx_replay.proofs.Fronts.{err_of, prints_all, prints_some, whole_front}
+use Rattle.bx_script.specs.Output.{written}
+use Rattle.bx_script.specs.Lines.{unread}
 use Rattle.bx_replay.proofs.script.answer_all.Goals as goal
 
-pub loop-init : goal.loop-init
-loop-init g c =
+pub loop-server-init : goal.loop-server-init
+loop-server-init g c =
     let s = c.args.server in
     record {
       serves = c.requires.serves;
       config = refl;
-      number = c.requires.serves.number_is ∙ ap (λ (ls : List Line). length (seen_lines ls)) c.requires.none;
-      reads = reads_none (g.R.Read.remaining c.args.reader.now) s.lines c.requires.none;
-      prints = prints_none (setup_in s.round).config s.lines (g.W.Write.contents c.args.writer.now) c.requires.none;
+      number = omega (arith, c.requires.serves.number_is ∙ ap (λ (ls : List Line). length (seen_lines ls)) c.requires.none, c.args.lines.now.reads.few);
+      reads = reads_none (unread g.R.Read.remaining c.args.lines.now) s.lines c.requires.none;
+      prints = prints_none (setup_in s.round).config s.lines (written g.W.Write.contents c.args.writer.now) c.requires.none;
     }
 
 pub returns-in_default-clause-serves : goal.returns-in_default-clause-serves
-returns-in_default-clause-serves g c = c.loop.invariant.serves
+returns-in_default-clause-serves g c = c.loop-server.invariant.serves
 
 pub returns-in_default-clause-config : goal.returns-in_default-clause-config
-returns-in_default-clause-config g c = c.loop.invariant.config
+returns-in_default-clause-config g c = c.loop-server.invariant.config
 
 pub returns-in_default-clause-all : goal.returns-in_default-clause-all
 returns-in_default-clause-all g c =
-    reads_end (g.R.Read.remaining c.args.reader.now) (g.R.Read.remaining c.loop.reader) (g.R.Read.remaining c.next_line.new.reader) c.loop.server.lines c.in_ok-line.field-0 c.in_default.is c.loop.invariant.reads c.in_ok-line.ensures.next
+    reads_end (unread g.R.Read.remaining c.args.lines.now) (unread g.R.Read.remaining c.loop-server.lines) (unread g.R.Read.remaining c.next_line.new.self) c.loop-server.server.lines c.in_ok-line.field-0 c.in_default.is c.loop-server.invariant.reads c.in_ok-line.ensures.next
 
 pub returns-in_default-clause-prints : goal.returns-in_default-clause-prints
-returns-in_default-clause-prints g c = c.loop.invariant.prints
+returns-in_default-clause-prints g c = c.loop-server.invariant.prints
 
 pub answer-requires-clause-serves : goal.answer-requires-clause-serves
-answer-requires-clause-serves g c κs within = c.loop.invariant.serves
+answer-requires-clause-serves g c κs within = c.loop-server.invariant.serves
 
 pub answer-requires-clause-few : goal.answer-requires-clause-few
-answer-requires-clause-few g c κs within = omega (arith, c.loop.invariant.number, c.loop-test.true)
+answer-requires-clause-few g c κs within = omega (arith, c.loop-server.invariant.number)
 
-pub loop-preserved : goal.loop-preserved
-loop-preserved g c =
-    let old = c.loop.server in
+pub loop-server-preserved : goal.loop-server-preserved
+loop-server-preserved g c =
+    let old = c.loop-server.server in
     let new = c.in_ok-server.server in
     let e = c.in_ok-server.ensures in
-    let i = c.loop.invariant in
+    let i = c.loop-server.invariant in
     record {
       serves = e.serves;
       config = e.config ∙ i.config;
-      number = number_more old.number new.number c.loop.counter old.lines new.lines c.in-Some.line e.lines i.serves.number_is e.serves.number_is i.number;
-      reads = reads_more (g.R.Read.remaining c.args.reader.now) (g.R.Read.remaining c.loop.reader) (g.R.Read.remaining c.next_line.new.reader) old.lines new.lines c.in_ok-line.field-0 c.in-Some.line c.in-Some.is e.lines i.reads c.in_ok-line.ensures.next;
-      prints = prints_more (setup_in old.round).config (setup_in new.round).config old.lines new.lines (g.W.Write.contents c.args.writer.now) (g.W.Write.contents c.loop.writer) (g.W.Write.contents c.answer.new.writer) e.config i.prints e.prints;
+      number = omega (arith, i.number, number_more old.number new.number old.lines new.lines c.in-Some.line e.lines i.serves.number_is e.serves.number_is, c.in_ok-line.ensures.reads);
+      reads = reads_more (unread g.R.Read.remaining c.args.lines.now) (unread g.R.Read.remaining c.loop-server.lines) (unread g.R.Read.remaining c.next_line.new.self) old.lines new.lines c.in_ok-line.field-0 c.in-Some.line c.in-Some.is e.lines i.reads c.in_ok-line.ensures.next;
+      prints = prints_more (setup_in old.round).config (setup_in new.round).config old.lines new.lines (written g.W.Write.contents c.args.writer.now) (written g.W.Write.contents c.loop-server.writer) (written g.W.Write.contents c.answer.new.writer) e.config i.prints e.prints;
     }
 
 pub returns-in_err-line-clause-fault : goal.returns-in_err-line-clause-fault
 returns-in_err-line-clause-fault g c =
-    let s = c.loop.server in
-    let i = c.loop.invariant in
+    let s = c.loop-server.server in
+    let i = c.loop-server.invariant in
     let config = (setup_in s.round).config in
-    let first = g.W.Write.contents c.args.writer.now in
-    let before = g.W.Write.contents c.loop.writer in
+    let first = written g.W.Write.contents c.args.writer.now in
+    let before = written g.W.Write.contents c.loop-server.writer in
     err_of c.from_residual.result
-    (whole_front (setup_in c.args.server.round).config config (g.R.Read.remaining c.args.reader.now) (g.R.Read.remaining c.loop.reader) s.lines first before i.config config.limits.some_batch i.reads
+    (whole_front (setup_in c.args.server.round).config config (unread g.R.Read.remaining c.args.lines.now) (unread g.R.Read.remaining c.loop-server.lines) s.lines first before i.config config.limits.some_batch i.reads
     (prints_all config s.lines first before i.prints))
 
 pub returns-in_err-server-clause-fault : goal.returns-in_err-server-clause-fault
 returns-in_err-server-clause-fault g c =
-    let s = c.loop.server in
-    let i = c.loop.invariant in
+    let s = c.loop-server.server in
+    let i = c.loop-server.invariant in
     let config = (setup_in s.round).config in
     let line = c.in-Some.line in
-    let first = g.W.Write.contents c.args.writer.now in
-    let before = g.W.Write.contents c.loop.writer in
-    let after = g.W.Write.contents c.answer.new.writer in
+    let first = written g.W.Write.contents c.args.writer.now in
+    let before = written g.W.Write.contents c.loop-server.writer in
+    let after = written g.W.Write.contents c.answer.new.writer in
     err_of c.from_residual-in_err-server.result
-    (whole_front (setup_in c.args.server.round).config config (g.R.Read.remaining c.args.reader.now) (g.R.Read.remaining c.next_line.new.reader) (s.lines ++ line ∷ []) first after i.config config.limits.some_batch
-    (reads_more (g.R.Read.remaining c.args.reader.now) (g.R.Read.remaining c.loop.reader) (g.R.Read.remaining c.next_line.new.reader) s.lines (s.lines ++ line ∷ []) c.in_ok-line.field-0 line c.in-Some.is refl i.reads c.in_ok-line.ensures.next)
+    (whole_front (setup_in c.args.server.round).config config (unread g.R.Read.remaining c.args.lines.now) (unread g.R.Read.remaining c.next_line.new.self) (s.lines ++ line ∷ []) first after i.config config.limits.some_batch
+    (reads_more (unread g.R.Read.remaining c.args.lines.now) (unread g.R.Read.remaining c.loop-server.lines) (unread g.R.Read.remaining c.next_line.new.self) s.lines (s.lines ++ line ∷ []) c.in_ok-line.field-0 line c.in-Some.is refl i.reads c.in_ok-line.ensures.next)
     (prints_some config s.lines (s.lines ++ line ∷ []) first before after i.prints c.in_err-server.ensures.fault))
-
-pub returns-clause-fault : goal.returns-clause-fault
-returns-clause-fault g c =
-    let s = c.loop.server in
-    let i = c.loop.invariant in
-    let config = (setup_in s.round).config in
-    let first = g.W.Write.contents c.args.writer.now in
-    let before = g.W.Write.contents c.loop.writer in
-    whole_front (setup_in c.args.server.round).config config (g.R.Read.remaining c.args.reader.now) (g.R.Read.remaining c.loop.reader) s.lines first before i.config config.limits.some_batch i.reads
-    (prints_all config s.lines first before i.prints)

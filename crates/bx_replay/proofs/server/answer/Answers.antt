@@ -9,6 +9,7 @@ use Rattle.bx_replay.proofs.Keeping.{appends_none}
 use Rattle.bx_replay.proofs.Steps.{added_dealt, dealt_line, dealt_same, few_dealt, handed_dealt, handed_prints, keeps_dealt, prints_bare}
 use Rattle.bx_replay.proofs.Fronts.{err_of, front_line, handed_front}
 use Rattle.bx_script.proofs.Fronts.{front_none}
+use Rattle.bx_script.specs.Output.{written}
 use Rattle.bx_replay.proofs.server.answer.Goals as goal
 
 pub hand-requires-clause-few : goal.hand-requires-clause-few
@@ -36,7 +37,7 @@ pub returns-in_ok-write_bad-in-Bad-clause-prints :
     goal.returns-in_ok-write_bad-in-Bad-clause-prints
 returns-in_ok-write_bad-in-Bad-clause-prints g c =
     let s = c.args.server in
-    prints_bare (setup_in s.round).config s.lines c.push.new.self c.args.line Line.Bad [] (line_text (s.number + 1) (codes "bad")) (g.W.Write.contents c.args.writer.now) (g.W.Write.contents c.write_bad.new.writer)
+    prints_bare (setup_in s.round).config s.lines c.push.new.self c.args.line Line.Bad [] (line_text (s.number + 1) (codes "bad")) (written g.W.Write.contents c.args.writer.now) (written g.W.Write.contents c.write_bad.new.writer)
     (setup_in s.round).config.limits.some_batch c.push.ensures c.in-Bad.is tt (ap (λ (n : ℕ). line_text (n + 1) (codes "bad")) c.requires.serves.number_is) c.in_ok-write_bad-in-Bad.ensures.text
 
 pub returns-in_ok-write_status-in-Turned-clause-serves :
@@ -49,19 +50,19 @@ pub returns-in_ok-write_status-in-Turned-clause-prints :
     goal.returns-in_ok-write_status-in-Turned-clause-prints
 returns-in_ok-write_status-in-Turned-clause-prints g c =
     let s = c.args.server in
-    prints_bare (setup_in s.round).config s.lines c.push.new.self c.args.line (Line.Turned c.in-Turned.status) [] (line_text (s.number + 1) (decimal c.in-Turned.status)) (g.W.Write.contents c.args.writer.now) (g.W.Write.contents c.write_status.new.writer)
+    prints_bare (setup_in s.round).config s.lines c.push.new.self c.args.line (Line.Turned c.in-Turned.status) [] (line_text (s.number + 1) (decimal c.in-Turned.status)) (written g.W.Write.contents c.args.writer.now) (written g.W.Write.contents c.write_status.new.writer)
     (setup_in s.round).config.limits.some_batch c.push.ensures c.in-Turned.is tt (ap (λ (n : ℕ). line_text (n + 1) (decimal c.in-Turned.status)) c.requires.serves.number_is) c.in_ok-write_status-in-Turned.ensures.text
 
 pub returns-in_ok-hand-in-Handed-clause-serves : goal.returns-in_ok-hand-in-Handed-clause-serves
 returns-in_ok-hand-in-Handed-clause-serves g c =
     let s = c.args.server in
-    handed_dealt s.round c.hand.new.round s.lines c.push.new.self c.args.line c.in-Handed.callback c.in-Handed.input (g.W.Write.contents c.args.writer.now) (g.W.Write.contents c.hand.new.writer)
+    handed_dealt s.round c.hand.new.round s.lines c.push.new.self c.args.line c.in-Handed.callback c.in-Handed.input (written g.W.Write.contents c.args.writer.now) (written g.W.Write.contents c.hand.new.writer)
     (get nat_cmp s.kept) (get nat_cmp c.hand.new.kept) s.number c.requires.serves c.in_ok-hand-in-Handed.ensures.hands c.push.ensures c.in-Handed.is
 
 pub returns-in_ok-hand-in-Handed-clause-prints : goal.returns-in_ok-hand-in-Handed-clause-prints
 returns-in_ok-hand-in-Handed-clause-prints g c =
     let s = c.args.server in
-    handed_prints s.round c.hand.new.round s.lines c.push.new.self c.args.line c.in-Handed.callback c.in-Handed.input (g.W.Write.contents c.args.writer.now) (g.W.Write.contents c.hand.new.writer)
+    handed_prints s.round c.hand.new.round s.lines c.push.new.self c.args.line c.in-Handed.callback c.in-Handed.input (written g.W.Write.contents c.args.writer.now) (written g.W.Write.contents c.hand.new.writer)
     (get nat_cmp s.kept) (get nat_cmp c.hand.new.kept) s.number (setup_in c.hand.new.round).config.limits.some_batch c.requires.serves c.in_ok-hand-in-Handed.ensures.hands c.push.ensures c.in-Handed.is
 
 pub returns-in_ok-round-in-Resharded-clause-serves :
@@ -78,7 +79,7 @@ pub returns-in_ok-round-in-Resharded-clause-prints :
 returns-in_ok-round-in-Resharded-clause-prints g c =
     let s = c.args.server in
     let r = c.in_ok-round-in-Resharded.round in
-    let writer = g.W.Write.contents c.args.writer.now in
+    let writer = written g.W.Write.contents c.args.writer.now in
     prints_bare (setup_in r).config s.lines c.push.new.self c.args.line (Line.Resharded c.in-Resharded.shards) [] [] writer writer (setup_in r).config.limits.some_batch c.push.ensures c.in-Resharded.is tt refl (appends_none writer)
 
 pub returns-in_ok-write_bad-in-Bad-clause-shards :
@@ -102,7 +103,7 @@ pub returns-in_err-write_bad-in-Bad-clause-fault :
 returns-in_err-write_bad-in-Bad-clause-fault g c =
     let s = c.args.server in
     err_of c.from_residual.result
-    (front_line (setup_in s.round).config s.lines c.args.line Line.Bad [] (line_text (s.number + 1) (codes "bad")) (g.W.Write.contents c.args.writer.now) (g.W.Write.contents c.write_bad.new.writer)
+    (front_line (setup_in s.round).config s.lines c.args.line Line.Bad [] (line_text (s.number + 1) (codes "bad")) (written g.W.Write.contents c.args.writer.now) (written g.W.Write.contents c.write_bad.new.writer)
     (setup_in s.round).config.limits.some_batch c.in-Bad.is tt (ap (λ (n : ℕ). line_text (n + 1) (codes "bad")) c.requires.serves.number_is) c.in_err-write_bad-in-Bad.ensures.text)
 
 pub returns-in_err-write_status-in-Turned-clause-fault :
@@ -110,20 +111,20 @@ pub returns-in_err-write_status-in-Turned-clause-fault :
 returns-in_err-write_status-in-Turned-clause-fault g c =
     let s = c.args.server in
     err_of c.from_residual-in_err-write_status-in-Turned.result
-    (front_line (setup_in s.round).config s.lines c.args.line (Line.Turned c.in-Turned.status) [] (line_text (s.number + 1) (decimal c.in-Turned.status)) (g.W.Write.contents c.args.writer.now) (g.W.Write.contents c.write_status.new.writer)
+    (front_line (setup_in s.round).config s.lines c.args.line (Line.Turned c.in-Turned.status) [] (line_text (s.number + 1) (decimal c.in-Turned.status)) (written g.W.Write.contents c.args.writer.now) (written g.W.Write.contents c.write_status.new.writer)
     (setup_in s.round).config.limits.some_batch c.in-Turned.is tt (ap (λ (n : ℕ). line_text (n + 1) (decimal c.in-Turned.status)) c.requires.serves.number_is) c.in_err-write_status-in-Turned.ensures.text)
 
 pub returns-in_err-hand-in-Handed-clause-fault : goal.returns-in_err-hand-in-Handed-clause-fault
 returns-in_err-hand-in-Handed-clause-fault g c =
     let s = c.args.server in
     err_of c.from_residual-in_err-hand-in-Handed.result
-    (handed_front s.round s.lines c.args.line c.in-Handed.callback c.in-Handed.input (g.W.Write.contents c.args.writer.now) (g.W.Write.contents c.hand.new.writer) (get nat_cmp s.kept) s.number
+    (handed_front s.round s.lines c.args.line c.in-Handed.callback c.in-Handed.input (written g.W.Write.contents c.args.writer.now) (written g.W.Write.contents c.hand.new.writer) (get nat_cmp s.kept) s.number
     (setup_in s.round).config.limits.some_batch c.requires.serves c.in_err-hand-in-Handed.ensures.fault c.in-Handed.is)
 
 pub returns-in_err-round-in-Resharded-clause-fault :
     goal.returns-in_err-round-in-Resharded-clause-fault
 returns-in_err-round-in-Resharded-clause-fault g c =
     let s = c.args.server in
-    let writer = g.W.Write.contents c.args.writer.now in
+    let writer = written g.W.Write.contents c.args.writer.now in
     err_of c.from_residual-in_err-round-in-Resharded.result
     (front_line (setup_in s.round).config s.lines c.args.line (Line.Resharded c.in-Resharded.shards) [] [] writer writer (setup_in s.round).config.limits.some_batch c.in-Resharded.is tt refl (front_none writer []))

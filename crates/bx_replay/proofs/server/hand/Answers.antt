@@ -18,6 +18,7 @@ use Rattle.bx_replay.proofs.Fronts.{err_of, hands_none}
 use Rattle.bx_replay.proofs.Keeping.{at_is, kept_last, kept_more, on_ok_both}
 use Rattle.bx_replay.proofs.Ready.{kept_front, kept_given}
 use Rattle.bx_replay.proofs.Steps.{ran}
+use Rattle.bx_script.specs.Output.{written}
 use Rattle.bx_replay.proofs.server.hand.Goals as goal
 
 pub returns-in-Ok-clause-hands : goal.returns-in-Ok-clause-hands
@@ -26,8 +27,8 @@ returns-in-Ok-clause-hands g c =
     let new = c.run.new.self in
     let one : Numbered = numbered c.args.line (option_map string_bytes c.args.callback) (read_input c.args.input) in
     let asked : Asked = record { line = c.args.line; callback = c.args.callback; tick = c.ticks-tick.result } in
-    let before = g.W.Write.contents c.args.writer.now in
-    let after = g.W.Write.contents c.print_outs.new.writer in
+    let before = written g.W.Write.contents c.args.writer.now in
+    let after = written g.W.Write.contents c.print_outs.new.writer in
     let run = ran old (c.args.input ∷ []) c.new-outs.result.items c.run.new.outs.items new c.run.result c.in-Ok.field-0 c.in-Ok.is c.run.ensures.run in
     let given : c.deref.result.now ≡ run.more = c.deref.ensures.value ∙ run.behind ∙ ap (λ (os : List Out). os ++ run.more) c.new-outs.ensures.items in
     let read = read_input c.args.input in
@@ -66,8 +67,8 @@ returns-in-Ok-clause-fault g c =
     let new = c.run.new.self in
     let one : Numbered = numbered c.args.line (option_map string_bytes c.args.callback) (read_input c.args.input) in
     let asked : Asked = record { line = c.args.line; callback = c.args.callback; tick = c.ticks-tick.result } in
-    let before = g.W.Write.contents c.args.writer.now in
-    let after = g.W.Write.contents c.print_outs.new.writer in
+    let before = written g.W.Write.contents c.args.writer.now in
+    let after = written g.W.Write.contents c.print_outs.new.writer in
     let run = ran old (c.args.input ∷ []) c.new-outs.result.items c.run.new.outs.items new c.run.result c.in-Ok.field-0 c.in-Ok.is c.run.ensures.run in
     let given : c.deref.result.now ≡ run.more = c.deref.ensures.value ∙ run.behind ∙ ap (λ (os : List Out). os ++ run.more) c.new-outs.ensures.items in
     on_err_weaker c.print_outs.result
@@ -84,10 +85,10 @@ returns-in-Ok-clause-fault g c =
 pub returns-clause-fault : goal.returns-clause-fault
 returns-clause-fault g c =
     let old = c.args.round.now in
-    hands_none old (numbered c.args.line (option_map string_bytes c.args.callback) (read_input c.args.input)) (g.W.Write.contents c.args.writer.now) (get nat_cmp c.args.kept.now) (setup_in old).config.limits.some_batch
+    hands_none old (numbered c.args.line (option_map string_bytes c.args.callback) (read_input c.args.input)) (written g.W.Write.contents c.args.writer.now) (get nat_cmp c.args.kept.now) (setup_in old).config.limits.some_batch
 
 pub returns-in_err-insert-clause-fault : goal.returns-in_err-insert-clause-fault
 returns-in_err-insert-clause-fault g c =
     let old = c.args.round.now in
     err_of c.from_residual.result
-    (hands_none old (numbered c.args.line (option_map string_bytes c.args.callback) (read_input c.args.input)) (g.W.Write.contents c.args.writer.now) (get nat_cmp c.args.kept.now) (setup_in old).config.limits.some_batch)
+    (hands_none old (numbered c.args.line (option_map string_bytes c.args.callback) (read_input c.args.input)) (written g.W.Write.contents c.args.writer.now) (get nat_cmp c.args.kept.now) (setup_in old).config.limits.some_batch)

@@ -3,10 +3,10 @@ use Rattle.std.proofs.lemmas.List.{take_rest}
 use Rattle.std.proofs.KnownBytes.{Appends-trans}
 use Rattle.bx_script.proofs.print.put.Goals as goal
 
-pub loop-preserved : goal.loop-preserved
-loop-preserved g c =
-    let (done, split, appended) = c.loop.invariant in
-    let rest = c.loop.rest.now in
+pub loop-rest-preserved : goal.loop-rest-preserved
+loop-rest-preserved g c =
+    let (done, split, appended) = c.loop-rest.invariant in
+    let rest = c.loop-rest.rest.now in
     let n = c.in_ok-count.count in (
       done ++ take n rest,
       split ∙ ap (λ l. done ++ l) (sym (take-append-drop n rest)) ∙ sym (append_assoc done (take n rest) (drop n rest)) ∙ ap (λ l. (done ++ take n rest) ++ l) (sym (take_rest rest n)),

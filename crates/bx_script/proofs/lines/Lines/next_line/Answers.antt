@@ -5,8 +5,8 @@ use Rattle.bx_script.specs.Reading.{ReadsLine}
 use Rattle.bx_script.proofs.Script.{is_next}
 use Rattle.bx_script.proofs.lines.Lines.next_line.Goals as goal
 
-pub returns-in-Ok-clause-next : goal.returns-in-Ok-clause-next
-returns-in-Ok-clause-next g c =
+pub returns-clause-next : goal.returns-clause-next
+returns-clause-next g c =
     let found : c.in_ok-read_text.field-0 ≡ true = search rules in
-    let read = subst (λ b. ReadsLine b (g.R.Read.remaining c.args.reader.now) (g.R.Read.remaining c.read_text.new.reader) c.read_text.new.kept.items) found c.in_ok-read_text.ensures.line in
-    is_next c.in-Ok.line _ _ _ read (c.in-Ok.ensures.said ∙ ap (line_of query_taken) c.as_slice.ensures.value)
+    let read = subst (λ b. ReadsLine b (g.R.Read.remaining c.args.self.now.reader) (g.R.Read.remaining c.read_text.new.reader) c.read_text.new.kept.items) found c.in_ok-read_text.ensures.line in
+    is_next c.in_ok-read.field-0 _ _ _ read (c.in_ok-read.ensures.said ∙ ap (line_of query_taken) c.as_slice.ensures.value)

@@ -2,7 +2,7 @@ use Rattle.std.proofs.Common.{subst}
 use Rattle.std.specs.Io.BufRead.{FillKeeps}
 use Rattle.std.proofs.BufReadLemmas.{Consumes_shown}
 use Rattle.bx_script.proofs.Parts.{reads_part}
-use Rattle.bx_script.proofs.part.read_part.Goals as goal
+use Rattle.bx_script.proofs.part.Reads.read_part.Goals as goal
 
 pub returns-clause-part : goal.returns-clause-part
 returns-clause-part g c =

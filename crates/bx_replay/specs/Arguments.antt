@@ -1,0 +1,13 @@
+-- What the arguments of the program come to.
+use Rattle.bx_replay.specs.Settings.{Settings}
+use Rattle.bx_replay.specs.declared.arguments.Arguments.{Arguments}
+
+-- how the server is run by them
+abbrev pub run_by : Arguments → Settings
+run_by arguments = record {
+  shards = arguments.config.shards;
+  workers = arguments.workers;
+  timeout = arguments.config.timeout;
+  interval = arguments.config.interval;
+  max_interval = arguments.config.max_interval;
+}
