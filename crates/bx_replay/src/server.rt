@@ -50,16 +50,15 @@ pub fn new_server<P: Placing + Drop>(
     ensures config { IfOk result (λ s. (setup_in s.round).config ≡ config) }
     ensures reason { IfErr result (λ e. e ≡ ScriptFault.Memory) }
 {
-    match Round::new(alloc, config, placing, workers) {
-        Ok(Some(round)) => Ok(Server {
-            round,
-            kept: BTreeMap::new(alloc),
-            number: 0,
-            lines: History::new(),
-        }),
-        Ok(None) => unreachable!(),
-        Err(_) => Err(ScriptFault::Memory),
-    }
+    let Some(round) = Round::new(alloc, config, placing, workers)? else {
+        unreachable!()
+    };
+    Ok(Server {
+        round,
+        kept: BTreeMap::new(alloc),
+        number: 0,
+        lines: History::new(),
+    })
 }
 
 /// Deals with one more line, and prints what comes of it, or at a fault a front of that.

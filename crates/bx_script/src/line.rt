@@ -1,15 +1,15 @@
 //! What a line says.
-ghost use Rattle.std.specs.Prelude.{◌≡◌, IfOk, option_map, position, string_bytes};
+ghost use Rattle.std.specs.Prelude.{◌≡◌, ◌≢◌, IfOk, OnOk, option_map, position, string_bytes};
 ghost use Rattle.std.specs.List.{after_first, before_first};
 ghost use Rattle.bx_cut.specs.Bodies.{texts_of};
-ghost use Rattle.bx_entry.specs.Replay.{Documents, body_taken, command, handed_by, is_space, line_of, resharded_by, reshards};
-ghost use Rattle.bx_script.specs.Lines.{InRange, query_taken, said_by};
+ghost use Rattle.bx_entry.specs.Replay.{Documents, Turned, body_taken, command, handed_by, is_space, line_of, resharded_by, reshards};
+ghost use Rattle.bx_script.specs.Lines.{InRange, query_status, query_taken, said_by};
 
 use crate::number::number_of;
 use bx_advice::{BODY_LIMIT, MAX_SHARDS};
 use bx_cut::Bodies;
 use bx_entry::{Arrival, Input};
-use bx_transport::{TransportError, read_get};
+use bx_transport::{TransportError, read_get, read_post};
 use std::alloc::{AllocError, Global};
 
 /// What a line of a script says.
@@ -87,15 +87,14 @@ fn read_command(alloc: Global, moment: u64, rest: &[u8]) -> Result<Line, AllocEr
     }
 }
 
-// A POST with this body.
+// A POST with this body, of no content type.
 fn read_body(alloc: Global, moment: u64, body: &[u8]) -> Result<Line, AllocError>
     ensures { IfOk result (λ line. said_by line ≡ handed_by moment (body_taken body.now)) }
 {
-    if body.len() > BODY_LIMIT {
-        return Ok(Line::Turned { status: 413 });
+    match read_post(alloc, None, body) {
+        Ok(bodies) => Ok(request(moment, None, bodies)),
+        Err(error) => turned(error),
     }
-    let bodies = Bodies::Whole(Vec::from_slice(alloc, body)?);
-    Ok(request(moment, None, bodies))
 }
 
 // A GET with this query.
@@ -104,9 +103,19 @@ fn read_query(alloc: Global, moment: u64, query: &[u8]) -> Result<Line, AllocErr
 {
     match read_get(alloc, query) {
         Ok((name, bodies)) => Ok(request(moment, Some(name), bodies)),
-        Err(TransportError::Memory) => Err(AllocError),
-        Err(TransportError::TooLarge) => Ok(Line::Turned { status: 413 }),
-        Err(_) => Ok(Line::Turned { status: 400 }),
+        Err(error) => turned(error),
+    }
+}
+
+// What a line comes to whose body or query is not taken for this.
+fn turned(error: TransportError) -> Result<Line, AllocError>
+    ensures status { IfOk result (λ line. said_by line ≡ Turned (query_status error)) }
+    ensures reason { OnOk result (error ≢ TransportError.Memory) }
+{
+    match error {
+        TransportError::Memory => Err(AllocError),
+        TransportError::TooLarge => Ok(Line::Turned { status: 413 }),
+        TransportError::BadName | TransportError::NoMessage => Ok(Line::Turned { status: 400 }),
     }
 }
 
