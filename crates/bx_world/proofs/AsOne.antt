@@ -1,11 +1,28 @@
 -- What holds of every schedule, gathered.
-use Rattle.bx_world.specs.Headline.{Headline}
+use Rattle.std.proofs.Common.{◌≡◌, ℕ, ◌+◌, ◌-◌, ◌≤◌, List, take, drop, sym, ap, ◌∙◌, subst, arith, ◌++◌}
+use Rattle.std.proofs.Math.Seq.{take-add}
+use Rattle.bx_advice.specs.declared.config.Config.{Config}
+use Rattle.bx_entry.specs.Listing.{Listed}
+use Rattle.bx_entry.specs.Registry.{entries}
+use Rattle.bx_entry.specs.Sessions.{session}
+use Rattle.bx_entry.specs.declared.entry.Entry.{Entry}
+use Rattle.bx_laws.proofs.Done.{done_never_falls}
+use Rattle.bx_world.specs.Headline.{Headline, session_before}
 use Rattle.bx_world.proofs.Takes.{list_is_admitted, takes_are_answers}
 use Rattle.bx_world.proofs.Files.{none_taken_twice}
 use Rattle.bx_world.proofs.Replies.{replies_are_answers}
 use Rattle.bx_world.proofs.Giving.{none_given_again}
 use Rattle.bx_world.proofs.Repeats.{batches_repeat}
 use Rattle.bx_world.proofs.Apart.{plain_given_once}
+
+-- what was given for good behind fewer entries was so behind more
+done_rises : (config : Config) (list : List Listed) (number m n : ℕ) → m ≤ n → (session_before config list number m).done ≤ (session_before config list number n).done
+done_rises config list number m n fewer =
+    let count : n ≡ m + (n - m) = omega (arith, fewer) in
+    let parts : take n (entries config list) ≡ take m (entries config list) ++ take (n - m) (drop m (entries config list)) =
+    ap (λ (j : ℕ). take j (entries config list)) count ∙ take-add m (n - m) (entries config list) in
+    subst (λ (xs : List Entry). (session config number (take m (entries config list))).done ≤ (session config number xs).done) (sym parts)
+    (done_never_falls config number (take m (entries config list)) (take (n - m) (drop m (entries config list))))
 
 pub headline : Headline
 headline setup first steps outs last room r = record {
@@ -14,6 +31,7 @@ headline setup first steps outs last room r = record {
   replied = replies_are_answers setup first steps outs last room r;
   once = none_taken_twice setup first steps outs last r;
   again = batches_repeat setup first steps outs last room r;
+  done = done_rises setup.config last.list;
   never = none_given_again setup first steps outs last room r;
   apart = plain_given_once setup first steps outs last room r;
 }

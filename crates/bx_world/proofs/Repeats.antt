@@ -1,5 +1,6 @@
 -- A connect that acknowledges nothing new is given the batch again that an earlier connect was given.
 use Rattle.std.proofs.Common.{◌≡◌, ℕ, zero, suc, ◌+◌, ◌<◌, ◌≤◌, ◌==◌, Bool, Some, List, [], ◌∷◌, ◌++◌, length, take, drop, find, fold, option_map, slice_get, refl, sym, ap, ◌∙◌, subst, arith, append_assoc, length-append, length-take}
+use Rattle.std.proofs.Math.Seq.{take-append_seam}
 use Rattle.std.proofs.lemmas.List.Sums.{fold-append}
 use Rattle.bx_advice.specs.declared.config.Config.{Config}
 use Rattle.bx_message.specs.declared.reply.Answer.{Answer}
@@ -7,7 +8,7 @@ use Rattle.bx_message.specs.declared.reply.AckReply.TheVariants.{AckNumber}
 use Rattle.bx_entry.specs.Listing.{Listed}
 use Rattle.bx_entry.specs.declared.entry.Entry.{Entry}
 use Rattle.bx_entry.specs.Registry.{Waiting, registry, entries}
-use Rattle.bx_entry.specs.Sessions.{Session, Filed, step, session, unopened}
+use Rattle.bx_entry.specs.Sessions.{Session, Filed, batch, step, session, unopened}
 use Rattle.bx_entry.specs.Answers.{answer_of, events_of, answer}
 use Rattle.bx_laws.specs.Laws.{Each, PlacesFrom, LastAnswer, Repetition}
 use Rattle.bx_laws.proofs.Batches.{batch_repeats}
@@ -109,23 +110,45 @@ given_again config list steps outs number place room d a =
     let whole_length : length (take place (entries config list)) ≡ length r.before + suc (length r.between) = ap length r.split ∙ length-append r.before (r.forming ∷ r.between) in
     let front_length : length (r.before ++ r.forming ∷ []) ≡ length r.before + 1 = length-append r.before (r.forming ∷ []) in
     omega (arith, whole_length, front_length, length-take place (entries config list)) in
+    -- the entry at which the batch was formed, and what the session is before it and behind it
+    let front_length : length (r.before ++ r.forming ∷ []) ≡ length r.before + 1 = length-append r.before (r.forming ∷ []) in
+    let behind_is : take (length r.before + 1) (entries config list) ≡ r.before ++ r.forming ∷ [] =
+    ap (λ (n : ℕ). take n (entries config list)) (sym front_length)
+    ∙ ap (take (length (r.before ++ r.forming ∷ []))) (sym split)
+    ∙ take-append_seam (r.before ++ r.forming ∷ []) (r.between ++ a.entry ∷ drop (place + 1) (entries config list)) in
+    let before_is : take (length r.before) (entries config list) ≡ r.before =
+    ap (take (length r.before)) (sym split ∙ append_assoc r.before (r.forming ∷ []) (r.between ++ a.entry ∷ drop (place + 1) (entries config list)))
+    ∙ take-append_seam r.before ((r.forming ∷ []) ++ (r.between ++ a.entry ∷ drop (place + 1) (entries config list))) in
+    let session_behind : session config number (take (length r.before + 1) (entries config list)) ≡ step config (session config number r.before) r.forming =
+    ap (session config number) behind_is ∙ formed in
     let former_is : (b : Answer) → Gave steps outs r.same.first.connect b → given_of (answer_of r.same.first) ≡ b = λ b g. given_is config list r.same.first steps outs b d first.answer g in
     let later_is : (b : Answer) → Gave steps outs place b → given_of (answer_of r.same.again) ≡ b = λ b g.
     given_is config list r.same.again steps outs b d again.answer (subst (λ (n : ℕ). Gave steps outs n b) (sym at) g) in
+    let whole_batch : events_of r.same.again.publications ≡ events_of (batch (session config number (take place (entries config list)))) =
+    ap events_of (gives_batch config number (take place (entries config list)) a.entry a.client a.id a.acked a.hold r.same.again room a.outstanding a.overflow a.connect a.repeats r.same.given) in
     record {
       former = r.same.first.connect;
       earlier = omega (arith, first.below, count);
       waits = first.waits;
+      filed = r.same.first;
+      formed = record {
+        forming = length r.before;
+        earlier = omega (arith, count, front_length);
+        grew = ap (λ (u : Session). u.num) session_behind ∙ r.grew ∙ ap (λ (xs : List Entry). (session config number xs).num + 1) (sym before_is);
+        current = ap (λ (u : Session). u.num) session_behind ∙ r.current;
+        last = subst (λ (u : Session). LastAnswer u r.same.first) (sym session_behind) r.same.formed;
+      };
       first = answer_of r.same.first;
       again = answer_of r.same.again;
+      first_is = refl;
       answered = first.answer;
       answered_again = subst (λ (n : ℕ). answer config list n ≡ Some (answer_of r.same.again)) at again.answer;
       at_once = r.same.place ∙ here;
       first_number = r.same.number ∙ ap AckNumber r.current;
       again_number = r.same.same_number ∙ ap AckNumber r.current;
       events = ap events_of r.same.same;
-      given = λ b g. sym (ap (λ (x : Answer). x.events) (later_is b g))
-          ∙ ap events_of (gives_batch config number (take place (entries config list)) a.entry a.client a.id a.acked a.hold r.same.again room a.outstanding a.overflow a.connect a.repeats r.same.given);
+      batch_is = whole_batch;
+      given = λ b g. sym (ap (λ (x : Answer). x.events) (later_is b g)) ∙ whole_batch;
       numbered = λ b g. sym (ap (λ (c : Answer). c.reply.ack) (former_is b g)) ∙ r.same.number ∙ ap AckNumber r.current;
       numbered_again = λ b g. sym (ap (λ (c : Answer). c.reply.ack) (later_is b g)) ∙ r.same.same_number ∙ ap AckNumber r.current;
       same = λ b c g h. sym (ap (λ (x : Answer). x.events) (later_is c h)) ∙ ap events_of r.same.same ∙ ap (λ (x : Answer). x.events) (former_is b g);

@@ -15,8 +15,8 @@ use Rattle.bx_entry.specs.declared.entry.Ticket.{Ticket}
 use Rattle.bx_entry.specs.declared.input.Input.{Input}
 use Rattle.bx_entry.specs.Registry.{PlaceSlot, Waiting, Judged, registry, entries}
 use Rattle.bx_entry.specs.Sessions.{Session, Filed, batch, session}
-use Rattle.bx_entry.specs.Answers.{PlacedAnswer, answer, events_of}
-use Rattle.bx_laws.specs.Laws.{Repeats, AllBelow}
+use Rattle.bx_entry.specs.Answers.{PlacedAnswer, answer, answer_of, events_of}
+use Rattle.bx_laws.specs.Laws.{Repeats, LastAnswer, AllBelow}
 use Rattle.bx_shard.specs.Shards.{Setup}
 use Rattle.bx_world.specs.Worlds.{WorldState, Runs}
 use Rattle.bx_world.specs.Schedules.{admitted_in, EachTook, EachNew, taken_places}
@@ -130,20 +130,33 @@ pub record AsksAgain (config : Config) (list : List Listed) (number place : ℕ)
   pub overflow : (session_before config list number place).overflow ≡ false
   pub repeats : Repeats (session_before config list number place).num acked
 
--- The connect is answered at once, with the outstanding batch and its number. An earlier connect of the session was answered with that number and
--- the very same events. These are their answers over the list, and the answers that were taken are these.
+-- The answer that formed the outstanding batch: the last one that the session gave behind the entry at which the number of its batches grew to the
+-- one that is outstanding.
+pub record FormedBy (config : Config) (list : List Listed) (number place : ℕ) (filed : Filed) : Type 0 where
+  pub forming : ℕ
+  pub earlier : forming < place
+  pub grew : (session_before config list number (forming + 1)).num ≡ (session_before config list number forming).num + 1
+  pub current : (session_before config list number (forming + 1)).num ≡ (session_before config list number place).num
+  pub last : LastAnswer (session_before config list number (forming + 1)) filed
+
+-- The connect is answered at once, with the outstanding batch and its number. An earlier connect of the session was given the answer that formed that
+-- batch, with that number and the very same events. These are their answers over the list, and the answers that were taken are these.
 pub record GivenAgain (config : Config) (list : List Listed) (steps : List Step) (outs : List StepOut) (number place : ℕ) : Type 0 where
   pub former : ℕ
   pub earlier : former < place
   pub waits : slot_at config list former ≡ Some (Waiting number)
+  pub filed : Filed
+  pub formed : FormedBy config list number place filed
   pub first : PlacedAnswer
   pub again : PlacedAnswer
+  pub first_is : first ≡ answer_of filed
   pub answered : answer config list former ≡ Some first
   pub answered_again : answer config list place ≡ Some again
   pub at_once : again.place ≡ place
   pub first_number : first.reply.ack ≡ AckNumber (session_before config list number place).num
   pub again_number : again.reply.ack ≡ AckNumber (session_before config list number place).num
   pub events : again.events ≡ first.events
+  pub batch_is : again.events ≡ events_of (batch (session_before config list number place))
   pub given : (a : Answer) → Gave steps outs place a → a.events ≡ events_of (batch (session_before config list number place))
   pub numbered : (a : Answer) → Gave steps outs former a → a.reply.ack ≡ AckNumber (session_before config list number place).num
   pub numbered_again : (a : Answer) → Gave steps outs place a → a.reply.ack ≡ AckNumber (session_before config list number place).num
@@ -207,6 +220,8 @@ pub record AsOneThread (setup : Setup) (first : WorldState) (steps : List Step) 
   pub once : EachNew first.taken (taken_places steps outs)
   -- a connect that repeats its acknowledgement is given the same batch
   pub again : (number place : ℕ) → AsksAgain setup.config last.list number place → GivenAgain setup.config last.list steps outs number place
+  -- how many of a session's events were given for good never falls
+  pub done : (number m n : ℕ) → m ≤ n → (session_before setup.config last.list number m).done ≤ (session_before setup.config last.list number n).done
   -- what was acknowledged is never given again
   pub never : (number place : ℕ) (a : Answer) → slot_at setup.config last.list place ≡ Some (Waiting number) → Gave steps outs place a → GivenLater setup.config last.list number place a
   -- no event stands in two answers of a session that does not acknowledge

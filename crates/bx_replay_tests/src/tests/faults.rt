@@ -7,12 +7,22 @@ use bx_script::{Lines, Output, ScriptFault};
 use std::alloc::Global;
 use std::io;
 use std::io::{BufReader, ErrorKind, Read, Write};
+use std::process::Abort;
 use std::sync::Arc;
 use std::test::Fail;
+use std::thread::Threads;
 
-const SCRIPT: &str = "0 P [<handshake>]\n0 P [<connect 1>]\nx\n0 P {\n1 P [<connect 1>]\n";
-
-const WRITTEN: &str = "1 200 [<opened 1>]\n3 bad\n4 400\n2 200 [<superseded 1>]\n5 held\n";
+// Scripts, and what each prints: lines of all kinds, and an event that answers a connect.
+const RUNS: [(&str, &str); 2] = [
+    (
+        "0 P [<handshake>]\n0 P [<connect 1>]\nx\n0 P {\n1 P [<connect 1>]\n",
+        "1 200 [<opened 1>]\n3 bad\n4 400\n2 200 [<superseded 1>]\n5 held\n",
+    ),
+    (
+        "0 P [<handshake>]\n0 P [<handshake>]\n0 P [<subscribe 1 /a/*>]\n10 P [<connect 1>]\n20 P [<publish 2 /a/b 7>]\n",
+        "1 200 [<opened 1>]\n2 200 [<opened 2>]\n3 200 [<subscribed 1 /a/*>]\n4 200 [<event /a/b 7>,<connected 1>]\n5 200 [<published /a/b>]\n",
+    ),
+];
 
 // Gives a few bytes a read, and fails behind so many reads.
 #[derive(Drop)]
@@ -62,17 +72,19 @@ impl Write for Writer {
     }
 }
 
-#[test]
-fn a_failed_read_leaves_a_front(rt: HostRuntime) -> Result<(), Fail> {
-    let alloc = rt.alloc();
-    let script = spelled(alloc, SCRIPT)?;
-    let right = spelled(alloc, WRITTEN)?;
+// Runs a script by a reader that fails behind no read, behind one, and so on, until it does not fail.
+fn check_reads<R: Abort + Threads + Sync>(
+    rt: &R,
+    alloc: Global,
+    script: &str,
+    right: &str,
+) -> Result<(), Fail> {
     for reads in 0..100 {
         let bytes = script.as_bytes();
         let reader = BufReader::new(alloc, Reader { bytes, reads })?;
         let mut written = Vec::new(alloc);
         let result = replay(
-            &rt,
+            rt,
             alloc,
             config(2)?,
             in_turn(alloc)?,
@@ -93,6 +105,17 @@ fn a_failed_read_leaves_a_front(rt: HostRuntime) -> Result<(), Fail> {
     Err(Fail::from("more reads than there may be"))
 }
 
+#[test]
+fn a_failed_read_leaves_a_front(rt: HostRuntime) -> Result<(), Fail> {
+    let alloc = rt.alloc();
+    for (script, right) in RUNS {
+        let script = spelled(alloc, script)?;
+        let right = spelled(alloc, right)?;
+        check_reads(&rt, alloc, script.as_str(), right.as_str())?;
+    }
+    Ok(())
+}
+
 fn in_turn(alloc: Global) -> Result<Arc<ByRemainder>, Fail> {
     Ok(Arc::new(alloc, ByRemainder)?)
 }
@@ -105,15 +128,17 @@ fn new_writer(alloc: Global, writes: usize, flushes: bool) -> Writer {
     }
 }
 
-#[test]
-fn a_failed_write_leaves_a_front(rt: HostRuntime) -> Result<(), Fail> {
-    let alloc = rt.alloc();
-    let script = spelled(alloc, SCRIPT)?;
-    let right = spelled(alloc, WRITTEN)?;
+// Runs a script with a writer that fails behind no write, behind one, and so on, until it does not fail.
+fn check_writes<R: Abort + Threads + Sync>(
+    rt: &R,
+    alloc: Global,
+    script: &str,
+    right: &str,
+) -> Result<(), Fail> {
     for writes in 0..100 {
         let mut writer = new_writer(alloc, writes, true);
         let result = replay(
-            &rt,
+            rt,
             alloc,
             config(2)?,
             in_turn(alloc)?,
@@ -133,10 +158,22 @@ fn a_failed_write_leaves_a_front(rt: HostRuntime) -> Result<(), Fail> {
 }
 
 #[test]
+fn a_failed_write_leaves_a_front(rt: HostRuntime) -> Result<(), Fail> {
+    let alloc = rt.alloc();
+    for (script, right) in RUNS {
+        let script = spelled(alloc, script)?;
+        let right = spelled(alloc, right)?;
+        check_writes(&rt, alloc, script.as_str(), right.as_str())?;
+    }
+    Ok(())
+}
+
+#[test]
 fn a_failed_flush_is_a_write_fault(rt: HostRuntime) -> Result<(), Fail> {
     let alloc = rt.alloc();
-    let script = spelled(alloc, SCRIPT)?;
-    let right = spelled(alloc, WRITTEN)?;
+    let (script, right) = RUNS[0];
+    let script = spelled(alloc, script)?;
+    let right = spelled(alloc, right)?;
     let mut writer = new_writer(alloc, 100, false);
     let result = replay(
         &rt,

@@ -79,7 +79,10 @@ fn a_request_has_at_most_so_many_messages(rt: HostRuntime) -> Result<(), Fail> {
 #[test]
 fn a_front_of_a_body_is_refused_whole(rt: HostRuntime) -> Result<(), Fail> {
     let alloc = rt.alloc();
-    let body = spelled(alloc, "[<publish 1 /a/b 7>]")?;
+    let body = spelled(
+        alloc,
+        r#"[{"channel":"/a/b","clientId":"<client 1>","data":1,"data":{"a" : 1.50},"id":"q"}]"#,
+    )?;
     let mut script = format!(in alloc; "0 P [<handshake>]\n")?;
     let mut expected = format!(in alloc; "1 200 [<opened 1>]\n")?;
     let count = body.len();
