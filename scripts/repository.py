@@ -167,16 +167,17 @@ class Work:
 
 
 def kept_checks(names):
-    """Returns for each of these crates the commands that prove it over what is kept."""
+    """Returns for each of these crates the call of `rt` that proves it over what is kept."""
     verbs = {name: "check" if is_program(name) else "lib" for name in names}
     return {name: [["rt", verb, "--jobs", "JOBS"]] for name, verb in verbs.items()}
 
 
-def run(tasks):
+def run(tasks, at_once=PROCESSORS):
     """Runs each crate's commands once those of the crates below it have ended, and returns the crates where one failed.
 
-    Of the crates that are ready that with the longest chain above it goes first, and gets all processors that are left.
-    Nothing is begun any more once something has failed.
+    Of the crates that are ready that with the longest chain above it goes first, and gets all processors that are left. At most
+    so many crates are at work at once: one where the commands are calls of `rt`, which wait for one another where they read the
+    same libraries. Nothing is begun any more once something has failed.
     """
     lower, chain = libraries(), chains(list(tasks))
     left = sorted(tasks, key=lambda it: -chain[it])
@@ -185,7 +186,7 @@ def run(tasks):
         for name in [] if failed else list(left):
             is_ready = not any(it in left or it in [work.name for work in working] for it in lower[name])
             idle, free = PROCESSORS - len(working), memory - sum(it.room for it in working)
-            if is_ready and idle and (free >= CHECK or not working):
+            if is_ready and len(working) < at_once and (free >= CHECK or not working):
                 left.remove(name)
                 jobs = max(1, min(idle, int(1 + (free - CHECK) / FURTHER_JOB)))
                 working.append(Work(name, tasks[name], jobs, all(chain[it.name] <= chain[name] for it in working)))
