@@ -1,0 +1,19 @@
+//! One writer publishes batches of entries, and readers take them from a ring that they never wait for.
+#![tactic(auto)]
+
+mod batch;
+mod front;
+mod law;
+mod leaf;
+mod moves;
+mod reader;
+mod ring;
+mod writer;
+
+pub use batch::{Bundle, entry_of};
+pub use front::{Book, Front, Note, Opened};
+pub use law::{Law, Naming, Step};
+pub use leaf::Leaf;
+pub use reader::{LogReader, Memory, Next};
+pub use ring::{Change, Op, Ring};
+pub use writer::{LogWriter, MOST, Pen, Refusal, log_pair};
