@@ -10,7 +10,8 @@ use Rattle.bx_message.specs.declared.reply.Answer.{Answer}
 use Rattle.bx_shard.specs.Shards.{Setup}
 use Rattle.bx_world.specs.Headline.{EachSlot}
 use Rattle.bx_world.specs.Seen.{setup_of, world_of}
-use Rattle.bx_world.specs.Worlds.{WorldState, given_of}
+use Rattle.bx_world.specs.Worlds.{WorldState}
+use Rattle.bx_shard.specs.Held.{given_of}
 use Rattle.bx_fanout.specs.Desks.{Row}
 use Rattle.bx_fanout.specs.Newests.{Collects, IsCollected, NextBy, NextReady, NoneTakenFrom, next_place}
 use Rattle.bx_fanout.specs.Parts.{Stands}

@@ -3,7 +3,7 @@ ghost use Rattle.std.specs.Prelude.{ℕ, ◌≡◌, ◌+◌, ◌-◌, ◌++◌, 
 ghost use Rattle.bx_fanout.specs.Newests.{IsLevel};
 ghost use Rattle.bx_fanout.specs.Parts.{AddsOuts, IsCalm, IsDone, Stands, count_by};
 ghost use Rattle.std.specs.Arc.{arc_value};
-ghost use Rattle.bx_world.specs.Admissions.{placed_by};
+ghost use Rattle.bx_admission.specs.Slots.{placed_by};
 ghost use Rattle.bx_world.specs.Seen.{setup_of, world_of};
 
 use crate::bring_in::bring_in;

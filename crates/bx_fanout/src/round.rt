@@ -35,7 +35,7 @@ impl<P: Placing> Round<P> {
     ghost use Rattle.std.specs.Arc.{arc_value};
     ghost use Rattle.bx_entry.specs.Runs as runs;
     ghost use Rattle.bx_fanout.specs.Rounds.{IsLevel, IsRun, added_by, inputs_of, setup_in, workers_in};
-    ghost use Rattle.bx_world.specs.Admissions.{placed_by};
+    ghost use Rattle.bx_admission.specs.Slots.{placed_by};
 
     /// A round with so many workers, 1 to 16, that has dealt with no input. None where the workers are not so many.
     pub fn new(

@@ -11,6 +11,7 @@ pub mod Finding
 pub mod FollowedConnects
 pub mod FollowedEvents
 pub mod Gives
+pub mod Given
 pub mod Handing
 pub mod HeirLemmas
 pub mod Holding

@@ -1,9 +1,9 @@
 -- The program's shard holds what the definition's shard holds.
-use Rattle.std.specs.Prelude.{ℕ, ◌+◌, ◌<◌, ◌≤◌, ◌==◌, ◌≡◌, ◌≢◌, length, Bool, true, false, List, [], ◌∷◌, ◌++◌, filter, find, slice_get, nat_eq, if◌then◌else◌, Option, Some, None, option_map, IsSome}
+use Rattle.std.specs.Prelude.{ℕ, ◌+◌, ◌<◌, ◌≤◌, ◌==◌, ◌≡◌, ◌≢◌, length, Bool, true, false, List, [], ◌∷◌, ◌++◌, filter, find, slice_get, nat_eq, if◌then◌else◌, Option, Some, None, option_map, IsSome, take}
 use Rattle.std.specs.Map.{keys_of}
 use Rattle.futures.specs.declared.task.waker.Waker.{Waker}
 use Rattle.bx_entry.specs.Listing.{Listed}
-use Rattle.bx_entry.specs.Answers.{PlacedAnswer, answer_of}
+use Rattle.bx_entry.specs.Answers.{PlacedAnswer, answer, answer_of}
 use Rattle.bx_entry.specs.Keeping.{Kept}
 use Rattle.bx_entry.specs.Registry.{Judged, Waiting, entries, registry}
 use Rattle.bx_entry.specs.Sessions.{Filed}
@@ -19,6 +19,10 @@ use Rattle.bx_shard.specs.Subscribers.{subscriber_of}
 -- an answer with the place of the entry that gave it
 abbrev pub placed : ℕ → Answer → PlacedAnswer
 placed place a = record { place = place; events = a.events; reply = a.reply }
+
+-- what a client gets of an answer
+abbrev pub given_of : PlacedAnswer → Answer
+given_of a = record { events = a.events; reply = a.reply }
 
 -- the answer to a connect with that place, where it is filed
 abbrev pub filed_with_place : Option ConnectState → Option PlacedAnswer
@@ -119,3 +123,10 @@ HoldsSwept = (setup : Setup) (list : List Listed) (taken : List ℕ) (shard n be
 abbrev pub HoldsBesideSwept : Type 0
 HoldsBesideSwept = (setup : Setup) (list : List Listed) (taken : List ℕ) (shard n before : ℕ) (s : State) (other m : ℕ) (beside : State) →
     Holds setup list taken shard n s → other ≢ shard → Holds setup list taken other m beside → Holds setup list (taken ++ swept_places before s) other m beside
+
+-- ---- what it gives
+
+-- what is filed for a connect is what one thread gives it over the entries that the shard has applied
+abbrev pub FiledIsGiven : Type 0
+FiledIsGiven = (setup : Setup) (list : List Listed) (taken : List ℕ) (shard n place : ℕ) (s : State) (a : Answer) → Holds setup list taken shard n s →
+    filed_answer (connect_in s place) ≡ Some a → option_map given_of (answer setup.config (take n list) place) ≡ Some a

@@ -5,6 +5,7 @@ pub mod Heirs
 pub mod Held
 pub mod Holdings
 pub mod Making
+pub mod Props
 pub mod Publishing
 pub mod Seen
 pub mod Sessions

@@ -1,6 +1,6 @@
 //! Laws of what a shard holds, for every configuration, every placing and every list.
 ghost use Rattle.bx_shard.specs.Dealing.{HoldersAreApart, HoldsDealt};
-ghost use Rattle.bx_shard.specs.Held.{HoldsAtFirst, HoldsBeside, HoldsBesideSwept, HoldsLonger, HoldsOnwards, HoldsShut, HoldsStill, HoldsSwept, HoldsTaken, HoldsWatched};
+ghost use Rattle.bx_shard.specs.Held.{FiledIsGiven, HoldsAtFirst, HoldsBeside, HoldsBesideSwept, HoldsLonger, HoldsOnwards, HoldsShut, HoldsStill, HoldsSwept, HoldsTaken, HoldsWatched};
 ghost use Rattle.bx_shard.specs.Holdings.{HoldsReached, NumbersAscend, OpenedIsFresh};
 ghost use Rattle.bx_shard.specs.Steps.{ShardsFile, ShardsStep};
 
@@ -87,4 +87,9 @@ pub fn holders_are_apart()
 /// Shards that were dealt anew hold what the definition's shards hold with the other number of shards and the other placing.
 pub fn holds_dealt()
     ensures { HoldsDealt }
+{}
+
+/// What a shard has filed for a connect is what one thread gives it over the entries that the shard has applied.
+pub fn filed_is_given()
+    ensures { FiledIsGiven }
 {}

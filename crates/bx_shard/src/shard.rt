@@ -67,6 +67,13 @@ impl<P: Placing> Shard<P> {
         }
     }
 
+    /// Which shard it is, counted from 0.
+    pub fn index(&self) -> usize
+        ensures { result ≡ self.now.index }
+    {
+        self.index
+    }
+
     /// How many entries the shard has applied: the place of the next.
     pub fn place(&self) -> u64
         ensures place { result ≡ self.now.place }

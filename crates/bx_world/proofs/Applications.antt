@@ -7,9 +7,9 @@ use Rattle.std.proofs.lemmas.List.{length-map, map-set}
 use Rattle.std.proofs.lemmas.Option.{slice_get_within, slice_get-get_or, get_or_from_slice_get, none-some}
 use Rattle.bx_advice.specs.declared.config.Config.{Config}
 use Rattle.bx_entry.specs.Listing.{Listed}
-use Rattle.bx_entry.specs.Registry.{Judged, entries, registry}
+use Rattle.bx_entry.specs.Registry.{entries}
 use Rattle.bx_entry.specs.declared.entry.Entry.{Entry}
-use Rattle.bx_laws.proofs.Lists.{judged_length}
+use Rattle.bx_laws.proofs.Lists.{entries_length}
 use Rattle.bx_shard.specs.Held.{Holds}
 use Rattle.bx_shard.specs.Seen.{state}
 use Rattle.bx_shard.specs.Shards.{Setup}
@@ -17,7 +17,8 @@ use Rattle.bx_shard.specs.declared.shard.Shard.{Shard}
 use Rattle.bx_shard.proofs.Holding.{holds_still}
 use Rattle.bx_shard.proofs.Names.{entry_placed}
 use Rattle.bx_shard.proofs.Onwards.{holds_onwards}
-use Rattle.bx_world.specs.Admissions.{Admitting, placed_by}
+use Rattle.bx_world.specs.Admissions.{Admitting}
+use Rattle.bx_admission.specs.Slots.{placed_by}
 use Rattle.bx_world.specs.Held.{StandFrom, EachHolds, HasApplied, HasStayed, HoldsFrom, IsApplication}
 use Rattle.bx_world.specs.Outputs.{application}
 use Rattle.bx_world.specs.Worlds.{WorldState, IsOutput, after, is_level, may_take_memory, next_entry}
@@ -28,9 +29,6 @@ use Rattle.bx_world.specs.declared.step.StepOut.TheVariants as outs
 use Rattle.bx_world.proofs.Rows.{each_set, number_there}
 
 -- ---- places of the list
-
-pub entries_length : (config : Config) (list : List Listed) → length (entries config list) ≡ length list
-entries_length config list = length-map (registry config list).judged (λ (j : Judged). j.entry) ∙ judged_length config list
 
 -- a place that has an entry is one of the list
 pub place_within : (config : Config) (list : List Listed) (n : ℕ) (e : Entry) → slice_get (entries config list) n ≡ Some e → n < length list

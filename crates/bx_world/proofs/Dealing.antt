@@ -16,7 +16,7 @@ use Rattle.bx_shard.specs.States.{State}
 use Rattle.bx_shard.specs.declared.shard.Shard.{Shard}
 use Rattle.bx_shard.proofs.DealLaws.{holds_dealt}
 use Rattle.bx_world.specs.Held.{EachHolds, some_stands_at}
-use Rattle.bx_world.specs.Props.{holds_props}
+use Rattle.bx_shard.specs.Props.{holds_props}
 use Rattle.bx_world.specs.Seen.{setup_of}
 use Rattle.bx_world.specs.declared.world.World.{World}
 use Rattle.bx_world.proofs.Slowest.{all_stand, not_below, not_above}

@@ -10,7 +10,8 @@ use Rattle.bx_registry.proofs.Planning.{length-listed}
 use Rattle.bx_shard.specs.Shards.{Setup}
 use Rattle.bx_shard.specs.declared.shard.Shard.{Shard}
 use Rattle.bx_shard.proofs.Holding.{holds_longer}
-use Rattle.bx_world.specs.Admissions.{Admitting, IsAdmission, placed_by}
+use Rattle.bx_world.specs.Admissions.{Admitting, IsAdmission}
+use Rattle.bx_admission.specs.Slots.{placed_by}
 use Rattle.bx_world.specs.Held.{EachHolds}
 use Rattle.bx_world.specs.Outputs.{admission}
 use Rattle.bx_world.specs.Worlds.{WorldState, IsOutput, after, output_admit}

@@ -16,7 +16,7 @@ use Rattle.bx_laws.proofs.Counts.{all_in_step, unopened_in_step}
 use Rattle.bx_laws.proofs.Lists.{find_each, entries_in_order}
 use Rattle.bx_laws.proofs.Runs.{Grown, run_grown, all_places}
 use Rattle.bx_shard.proofs.Waits.{WaitsAt, answered_waits}
-use Rattle.bx_world.specs.Worlds.{given_of}
+use Rattle.bx_shard.specs.Held.{given_of}
 use Rattle.bx_world.specs.Schedules.{EachTook}
 use Rattle.bx_world.specs.Headline.{slot_at, Gave, AsksAgain, GivenAgain, BatchesRepeat}
 use Rattle.bx_world.specs.declared.step.Step.{Step}
@@ -24,7 +24,8 @@ use Rattle.bx_world.specs.declared.step.StepOut.{StepOut}
 use Rattle.bx_world.proofs.Giving.{places_front, gave_answer}
 use Rattle.bx_world.proofs.InTurn.{Rising, InTurn, session_turn, turn_below, find_middle}
 use Rattle.bx_world.proofs.Outstanding.{gives_batch}
-use Rattle.bx_world.proofs.Takes.{takes_are_answers, session_answer}
+use Rattle.bx_shard.proofs.Given.{session_answer}
+use Rattle.bx_world.proofs.Takes.{takes_are_answers}
 
 -- ---- the answer that was given last
 
@@ -55,7 +56,7 @@ last_answer config list number es more f room whole l =
     record {
       below = last_of (λ h. h.connect < length es) l.0 f (subst (λ (fs : List Filed). Each (λ h. h.connect < length es) fs) l.1 (turn_below (length es) s (session_turn config number es (places_front 0 es more order))));
       waits = find_each (λ h. WaitsAt (registry config list).judged number h.connect) test t.answers f found (answered_waits config number list).answers;
-      answer = session_answer config number f.connect list f (answer_of f) refl found;
+      answer = session_answer config number f.connect list f found;
     }
 
 -- what was given for its connect is what it has

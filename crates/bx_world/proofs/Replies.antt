@@ -18,7 +18,8 @@ use Rattle.bx_entry.specs.declared.input.Input.{Input}
 use Rattle.bx_entry.specs.declared.input.Refusal.{Refusal}
 use Rattle.bx_entry.specs.Inputs.{refusal_of}
 use Rattle.bx_shard.specs.Shards.{Setup}
-use Rattle.bx_world.specs.Worlds.{WorldState, IsOutput, Runs, after, given_by, given_from, admitted_slots, output_admit}
+use Rattle.bx_world.specs.Worlds.{WorldState, IsOutput, Runs, after, output_admit}
+use Rattle.bx_admission.specs.Slots.{given_by, given_from, admitted_slots}
 use Rattle.bx_world.specs.declared.step.Step.{Step}
 use Rattle.bx_world.specs.declared.step.Step.TheVariants.{Admit, Apply, Take}
 use Rattle.bx_world.specs.declared.step.StepOut.{StepOut}

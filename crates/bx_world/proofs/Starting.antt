@@ -9,7 +9,8 @@ use Rattle.bx_shard.specs.Seen.{setup_in, state}
 use Rattle.bx_shard.specs.States.{IsSound, connect_in, session_in}
 use Rattle.bx_shard.specs.declared.shard.Shard.{Shard}
 use Rattle.bx_shard.proofs.Holding.{holds_at_first}
-use Rattle.bx_world.specs.Admissions.{Admitting, placed_by}
+use Rattle.bx_world.specs.Admissions.{Admitting}
+use Rattle.bx_admission.specs.Slots.{placed_by}
 use Rattle.bx_world.specs.Held.{EachHolds}
 use Rattle.bx_world.specs.Worlds.{WorldState, new_world}
 

@@ -1,8 +1,8 @@
 -- What a taking gives, and what the shards hold after it.
-use Rattle.std.proofs.Common.{◌≡◌, ℕ, ◌<◌, ◌≤◌, ◌==◌, true, Option, Some, None, List, [], ◌∷◌, ◌++◌, length, map, find, option_map, nat_eq, nat_lt, slice_get, slice_set, refl, sym, ap, ◌∙◌, subst, arith, inl, eqb-true}
+use Rattle.std.proofs.Common.{◌≡◌, ℕ, ◌<◌, ◌≤◌, ◌==◌, true, Option, Some, None, List, [], ◌∷◌, ◌++◌, length, map, find, option_map, nat_eq, nat_lt, slice_get, slice_set, refl, sym, ap, ◌∙◌, subst, arith, inl}
 use Rattle.std.specs.Prelude.{slice_index, if◌then◌else◌}
 use Rattle.std.specs.Option.{IsSome}
-use Rattle.std.proofs.lemmas.Bool.{cond-true, cond-false, lt-ltb, eq-eqb}
+use Rattle.std.proofs.lemmas.Bool.{cond-true, lt-ltb, eq-eqb}
 use Rattle.std.proofs.lemmas.List.{length-map}
 use Rattle.std.proofs.lemmas.Option.{slice_get_within, get_or_from_slice_get}
 use Rattle.std.proofs.Math.Seq.{map-set_same}
@@ -10,48 +10,25 @@ use Rattle.bx_entry.specs.Answers.{PlacedAnswer, answer_of}
 use Rattle.bx_entry.specs.Listing.{Listed}
 use Rattle.bx_entry.specs.Sessions.{Filed}
 use Rattle.bx_entry.specs.declared.entry.Ticket.{Ticket}
-use Rattle.bx_laws.proofs.Moves.{either}
 use Rattle.bx_message.specs.declared.reply.Answer.{Answer}
-use Rattle.bx_connects.specs.Connects.{filed_answer, taken_from}
-use Rattle.bx_shard.specs.Held.{Holds, Took, filed_with_place}
+use Rattle.bx_connects.specs.Connects.{filed_answer}
+use Rattle.bx_shard.specs.Held.{Holds, Took, filed_with_place, given_of}
 use Rattle.bx_shard.specs.Seen.{state}
 use Rattle.bx_shard.specs.Shards.{Setup, shard_at}
-use Rattle.bx_shard.specs.States.{IsAsBefore, IsSound, State, connect_in}
+use Rattle.bx_shard.specs.States.{IsSound, connect_in}
 use Rattle.bx_connects.specs.declared.connects.ConnectState.{ConnectState}
 use Rattle.bx_connects.specs.declared.connects.ConnectState.TheVariants as states
 use Rattle.bx_shard.specs.declared.shard.Shard.{Shard}
+use Rattle.bx_shard.proofs.Given.{as_before, given_filed}
 use Rattle.bx_shard.proofs.Holding.{holds_still}
 use Rattle.bx_shard.proofs.Taking.{holds_beside, holds_taken}
 use Rattle.bx_world.specs.Held.{EachHolds, HoldsFrom}
-use Rattle.bx_world.specs.Worlds.{WorldState, IsOutput, filed_under, given_of}
+use Rattle.bx_world.specs.Worlds.{WorldState, IsOutput, filed_under}
 use Rattle.bx_world.specs.declared.step.Step.TheVariants.{Take}
 use Rattle.bx_world.specs.declared.step.StepOut.TheVariants.{Taken}
 use Rattle.bx_world.proofs.Rows.{each_set, number_there}
 
 -- ---- one connect
-
-given_filed : (o : Option ConnectState) → filed_answer o ≡ option_map given_of (filed_with_place o)
-given_filed None = refl
-given_filed (Some (states.Held session deadline waker)) = refl
-given_filed (Some (states.Filed session place answer)) = refl
-
-none_taken : (o : Option ConnectState) → filed_answer o ≡ None → taken_from o ≡ o
-none_taken None e = refl
-none_taken (Some (states.Held session deadline waker)) e = refl
-none_taken (Some (states.Filed session place answer)) e = cc
-
--- where none was filed, nothing changed
-as_before : (place : ℕ) (old new : State) → filed_answer (connect_in old place) ≡ None → Took place old new → IsAsBefore old new
-as_before place old new none took = record {
-  place = took.place_is;
-  setup = took.setup_is;
-  index = took.index_is;
-  shut = took.shut_is;
-  sessions = took.sessions;
-  connects = λ p. either (nat_eq place p) (connect_in new p ≡ connect_in old p)
-      (λ e. took.connects p ∙ cond-true (nat_eq place p) (taken_from (connect_in old place)) (connect_in old p) e ∙ none_taken (connect_in old place) none ∙ ap (connect_in old) (eqb-true place p e))
-      (λ e. took.connects p ∙ cond-false (nat_eq place p) (taken_from (connect_in old place)) (connect_in old p) e);
-}
 
 some_filed : (o : Option Answer) (a : Answer) → Some a ≡ o → IsSome o
 some_filed o a e = subst IsSome e refl

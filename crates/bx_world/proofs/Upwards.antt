@@ -15,7 +15,8 @@ use Rattle.bx_shard.proofs.Names.{entry_placed}
 use Rattle.bx_workers.specs.Upward.{AreConsecutive, AreOf, AreWithin, BroughtUp, WentOn, count_behind, end_of, first_of, is_behind}
 use Rattle.bx_world.specs.Admissions.{Admitting, entries_kept}
 use Rattle.bx_world.specs.Held.{EachHolds, HoldsFrom, StandFrom, StandWithin}
-use Rattle.bx_world.proofs.Applications.{entries_length, place_within}
+use Rattle.bx_laws.proofs.Lists.{entries_length}
+use Rattle.bx_world.proofs.Applications.{place_within}
 
 -- ---- rows
 

@@ -1,6 +1,6 @@
 -- What a server of many shards gives, in the words of the subject: for every schedule of admissions, applications and takings, from whatever
 -- world it begins in, for every number of shards and every placing of sessions.
-use Rattle.std.specs.Prelude.{ℕ, ◌+◌, ◌≡◌, ◌<◌, ◌≤◌, ◌⊎◌, ◌==◌, false, List, [], ◌∷◌, ◌++◌, length, take, drop, find, if◌then◌else◌, Option, Some, None, option_map, slice_get, ⊤}
+use Rattle.std.specs.Prelude.{if◌then◌else◌, ℕ, ◌+◌, ◌≡◌, ◌<◌, ◌≤◌, ◌⊎◌, ◌==◌, false, List, [], ◌∷◌, ◌++◌, length, take, drop, find, Option, Some, None, option_map, slice_get, ⊤}
 use Rattle.bx_advice.specs.declared.config.Config.{Config}
 use Rattle.bx_message.specs.declared.reply.Answer.{Answer}
 use Rattle.bx_message.specs.declared.reply.AckReply.TheVariants.{AckNumber}

@@ -4,6 +4,5 @@ pub mod Headline
 pub mod Outputs
 pub mod Backlogs
 pub mod Admissions
-pub mod Props
 pub mod Held
 pub mod Seen

@@ -6,7 +6,7 @@ use Rattle.bx_shard.specs.Held.{Holds}
 use Rattle.bx_shard.specs.Seen.{state}
 use Rattle.bx_shard.specs.Shards.{Setup}
 use Rattle.bx_shard.specs.declared.shard.Shard.{Shard}
-use Rattle.bx_world.specs.Admissions.{placed_by}
+use Rattle.bx_admission.specs.Slots.{placed_by}
 use Rattle.bx_world.specs.Headline.{AsOneThread}
 use Rattle.bx_world.specs.Worlds.{WorldState, IsOutput, Runs, after}
 use Rattle.bx_world.specs.declared.step.Step.{Step}

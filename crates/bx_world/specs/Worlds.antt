@@ -1,17 +1,17 @@
 -- The world of shards, step by step: admission, application and taking.
-use Rattle.std.specs.Prelude.{ℕ, find, ◌+◌, ◌==◌, ◌||◌, ◌&&◌, ◌≡◌, ◌⊎◌, not, Bool, true, false, List, [], ◌∷◌, ◌++◌, length, drop, map, replicate, nat_lt, if◌then◌else◌, slice_get, slice_index, slice_set, Option, Some, None, option_map}
-use Rattle.bx_message.specs.declared.reply.Answer.{Answer}
+use Rattle.std.specs.Prelude.{if◌then◌else◌, ℕ, find, ◌+◌, ◌==◌, ◌||◌, ◌&&◌, ◌≡◌, ◌⊎◌, not, Bool, true, false, List, [], ◌∷◌, ◌++◌, length, replicate, nat_lt, slice_get, slice_index, slice_set, Option, Some, None, option_map}
 use Rattle.bx_entry.specs.Listing.{Listed}
 use Rattle.bx_entry.specs.Inputs.{ReadInput, added_by, refusal_of}
 use Rattle.bx_entry.specs.Requests.{read_input}
 use Rattle.bx_entry.specs.declared.entry.Entry.{Entry}
-use Rattle.bx_entry.specs.declared.entry.Slot.{Slot}
 use Rattle.bx_entry.specs.declared.entry.Slot.TheVariants as answers
 use Rattle.bx_entry.specs.declared.entry.Ticket.{Ticket}
 use Rattle.bx_entry.specs.declared.input.Refusal.{Refusal}
-use Rattle.bx_entry.specs.Registry.{PlaceSlot, Ready, Waiting, NoSlot, Judged, Registry, registry, entries}
+use Rattle.bx_entry.specs.Registry.{entries}
 use Rattle.bx_entry.specs.Sessions.{Filed}
 use Rattle.bx_entry.specs.Answers.{PlacedAnswer, answer_of}
+use Rattle.bx_admission.specs.Slots.{admitted_slots}
+use Rattle.bx_shard.specs.Held.{given_of}
 use Rattle.bx_shard.specs.Shards.{Setup, shard_at}
 use Rattle.bx_shard.specs.States.{takes_no_memory}
 use Rattle.bx_world.specs.declared.step.Step.{Step}
@@ -33,32 +33,9 @@ new_world setup = record { list = []; applied = replicate setup.shards 0; taken 
 
 -- ---- what a step gives
 
--- what a slot gives to its sender, a message's reply or the ticket of a connect; a tick gives nothing
-abbrev pub given_by : Setup → ℕ → PlaceSlot → List Slot
-given_by setup place (Ready reply) = answers.Ready reply ∷ []
-given_by setup place (Waiting session) = answers.Waiting (record { place = place; shard = setup.placing session setup.shards }) ∷ []
-given_by setup place NoSlot = []
-
--- what the places of the list give to their senders
-abbrev pub given_from : Setup → ℕ → List PlaceSlot → List Slot
-given_from setup place [] = []
-given_from setup place (slot ∷ slots) = given_by setup place slot ++ given_from setup (place + 1) slots
-
--- the slots of all places
-abbrev pub slots_of : Registry → List PlaceSlot
-slots_of r = map (λ (j : Judged). j.slot) r.judged
-
--- what those of a request's messages give, when it stands at the end of the list
-abbrev pub admitted_slots : Setup → List Listed → List Listed → List Slot
-admitted_slots setup list added = given_from setup (length list) (drop (length list) (slots_of (registry setup.config (list ++ added))))
-
 -- whether the shard has nothing to apply, or is no shard
 abbrev pub is_level : WorldState → ℕ → Bool
 is_level w shard = not (nat_lt shard (length w.applied)) || (slice_index w.applied shard == length w.list)
-
--- what a client gets of an answer
-abbrev pub given_of : PlacedAnswer → Answer
-given_of a = record { events = a.events; reply = a.reply }
 
 -- the answer that the ticket's shard has filed under it and that nobody took
 abbrev pub filed_under : Setup → WorldState → Ticket → Option PlacedAnswer

@@ -1,22 +1,21 @@
 //! The admission side of the world: who is live, and the list.
-ghost use Rattle.std.specs.Prelude.{ℕ, ◌≡◌, ◌≤◌, [], length, map, slice_get, option_map, max, IfOk, IfSome, Err};
+ghost use Rattle.std.specs.Prelude.{ℕ, ◌≡◌, ◌≤◌, [], length, slice_get, option_map, max, IfOk, IfSome, OnErr, Err, ◌++◌};
+ghost use Rattle.bx_admission.specs.Ledgers.{LeadsTo, count_live};
 ghost use Rattle.bx_advice.specs.Limits.{greatest_length};
 ghost use Rattle.bx_entry.specs.Inputs.{refusal_of};
 ghost use Rattle.bx_entry.specs.Registry.{entries, registry};
 ghost use Rattle.bx_entry.specs.Requests.{read_input};
 ghost use Rattle.bx_entry.specs.declared.input.Input.TheVariants.{Post, Tick};
 ghost use Rattle.bx_workers.specs.Upward.{BroughtUp, count_behind};
-ghost use Rattle.bx_world.specs.Admissions.{IsAdmission, count_live, entries_kept, placed_slot};
+ghost use Rattle.bx_world.specs.Admissions.{IsAdmission, entries_kept};
 ghost use Rattle.bx_world.specs.Held.{StandFrom, StandWithin};
 ghost use Rattle.bx_world.specs.declared.step.AdmissionFault.TheVariants.{Refused};
 
 use crate::backlog::Backlog;
-use crate::listing::Listing;
 use crate::step::{AdmissionFault, Admitted};
+use bx_admission::{Ledger, Plan};
 use bx_advice::Config;
-use bx_entry::{Arrival, Entry, Placing, Slot, Ticket, read_messages};
-use bx_message::Sequence;
-use bx_registry::{Plan, Planned, Registry, TickPlan};
+use bx_entry::{Arrival, Entry, Placing, read_messages};
 use bx_shard::Shard;
 use bx_workers::Gate;
 use std::alloc::{AllocError, Global};
@@ -26,27 +25,25 @@ use std::thread::Threads;
 /// Who is live, and the entries that some shard has not applied yet. Contracts see the list that they come of.
 #[derive(Drop)]
 pub(crate) struct Admission {
-    shards: usize,
-    registry: Registry,
+    ledger: Ledger,
     backlog: Backlog,
-    listing: Listing,
 }
 
 impl Model for Admission {
-    ghost use Rattle.std.specs.Prelude.{◌≤◌};
-    ghost use Rattle.bx_world.specs.Admissions.{Admitting, IsAdmitting};
+    ghost use Rattle.std.specs.Prelude.{◌≡◌, ◌≤◌};
+    ghost use Rattle.bx_entry.specs.Registry.{entries};
+    ghost use Rattle.bx_world.specs.Admissions.{Admitting};
 
     ghost Value = { Admitting };
 
     ghost view = { λ a. record {
-      config = a.registry.config;
-      shards = a.shards;
-      list = a.listing;
+      config = a.ledger.config;
+      shards = a.ledger.shards;
+      list = a.ledger.list;
       first = a.backlog.contents.first;
     } };
 
-    ghost invariant = { λ a.
-        (1 ≤ a.shards) × (a.shards ≤ 64) × IsAdmitting a.registry a.backlog.contents a.listing };
+    ghost invariant = { λ a. a.backlog.contents.all ≡ entries a.ledger.config a.ledger.list };
 }
 
 impl Admission {
@@ -55,10 +52,8 @@ impl Admission {
         ensures { IfOk result (λ a. a ≡ record { config = config; shards = config.shards; list = []; first = 0 }) }
     {
         Ok(Admission {
-            shards: config.shards,
-            registry: Registry::new(alloc, config)?,
+            ledger: Ledger::new(alloc, config)?,
             backlog: Backlog::new(alloc),
-            listing: Listing::new(),
         })
     }
 
@@ -72,22 +67,10 @@ impl Admission {
         ensures { IsAdmission (P.place_of placing.now) self.old (read_input (Post arrival.now)) result self.new }
     {
         let messages = read_messages(alloc, &arrival.bodies)?;
-        let Plan {
-            batch,
-            slots,
-            change,
-        } = self
-            .registry
-            .plan(alloc, arrival.moment, arrival.nonce, &messages)?;
-        let slots = placed(alloc, placing, self.shards, slots)?;
-        self.backlog.reserve(batch.entries.len())?;
-        self.registry.commit(change);
-        self.backlog.append(batch.entries);
-        self.listing.post(arrival.moment, arrival.nonce, &messages);
-        Ok(Admitted {
-            first: batch.first,
-            slots,
-        })
+        let plan = self
+            .ledger
+            .plan(alloc, placing, arrival.moment, arrival.nonce, &messages)?;
+        Ok(self.take_in(plan)?)
     }
 
     /// Takes a tick into the list.
@@ -95,15 +78,31 @@ impl Admission {
         ensures admission { (placing : ℕ → ℕ → ℕ) → IsAdmission placing self.old (read_input (Tick moment)) result self.new }
         ensures refused { IfSome (refusal_of (length self.old.list) (read_input (Tick moment))) (λ refusal. result ≡ Err (Refused refusal)) }
     {
-        let TickPlan { entry, change } = self.registry.plan_tick(alloc, moment)?;
-        self.backlog.reserve(1)?;
-        let first = entry.place;
-        self.registry.commit(change);
-        self.backlog.push(entry);
-        self.listing.tick(moment);
+        let plan = self.ledger.plan_tick(alloc, moment)?;
+        Ok(self.take_in(plan)?)
+    }
+
+    // Takes what was planned at this very admission into the list.
+    fn take_in(&mut self, plan: Plan) -> Result<Admitted, AllocError>
+        requires change { LeadsTo self.old.config self.old.list plan.change plan.elements }
+        requires entries { entries self.old.config (self.old.list ++ plan.elements)
+            ≡ entries self.old.config self.old.list ++ plan.batch.entries }
+        ensures taken { IfOk result (λ a. (a ≡ record { first = plan.batch.first; slots = plan.slots })
+            × (self.new ≡ record self.old { list = self.old.list ++ plan.elements })) }
+        ensures refused { OnErr result (self.new ≡ self.old) }
+    {
+        let Plan {
+            batch,
+            slots,
+            elements,
+            change,
+        } = plan;
+        self.backlog.reserve(batch.entries.len())?;
+        self.ledger.commit(change, &elements);
+        self.backlog.append(batch.entries);
         Ok(Admitted {
-            first,
-            slots: Sequence::new(alloc),
+            first: batch.first,
+            slots,
         })
     }
 
@@ -111,7 +110,7 @@ impl Admission {
     pub(crate) fn sessions(&self) -> usize
         ensures { result ≡ count_live (registry self.now.config self.now.list) }
     {
-        self.registry.sessions()
+        self.ledger.sessions()
     }
 
     /// The entry at a place from which on entries are kept; none at the end of the list.
@@ -143,7 +142,7 @@ impl Admission {
         requires shards_in_range { shards ≤ 64 }
         ensures { self.new ≡ record self.old { shards = shards } }
     {
-        self.shards = shards;
+        self.ledger.reshard(shards);
     }
 
     /// Has so many workers bring the shards up to the end of the list. Says how many stayed behind.
@@ -165,38 +164,5 @@ impl Admission {
         ensures count { result ≡ count_behind (entries_kept self.old) shards.new }
     {
         self.backlog.bring_up(rt, alloc, gate, workers, shards)
-    }
-}
-
-// How the messages are answered, with the shard of each connect.
-fn placed<P: Placing>(
-    alloc: Global,
-    placing: &P,
-    shards: usize,
-    planned: Sequence<Planned>,
-) -> Result<Sequence<Slot>, AllocError>
-    requires some { 1 ≤ shards }
-    requires few { shards ≤ 64 }
-    ensures { IfOk result (λ slots. slots ≡ map (placed_slot (P.place_of placing.now) shards) planned) }
-{
-    let mut slots = Vec::with_capacity(alloc, planned.len())?;
-    for planned in planned.into_vec() {
-        slots.push(placed_slot(placing, shards, planned))?;
-    }
-    Ok(Sequence::from_vec(slots))
-}
-
-// How a message is answered.
-fn placed_slot<P: Placing>(placing: &P, shards: usize, planned: Planned) -> Slot
-    requires some { 1 ≤ shards }
-    requires few { shards ≤ 64 }
-    ensures { result ≡ placed_slot (P.place_of placing.now) shards planned }
-{
-    match planned {
-        Planned::Ready(reply) => Slot::Ready(reply),
-        Planned::Waiting { place, session } => Slot::Waiting(Ticket {
-            place,
-            shard: placing.place(session, shards),
-        }),
     }
 }

@@ -4,7 +4,6 @@
 mod admission;
 mod backlog;
 mod laws;
-mod listing;
 mod step;
 mod world;
 

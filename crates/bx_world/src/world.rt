@@ -3,9 +3,10 @@ ghost use Rattle.std.specs.Prelude.{◌≡◌, ◌<◌, ◌≤◌, length, true}
 ghost use Rattle.std.specs.Arc.{arc_value};
 ghost use Rattle.bx_advice.specs.Limits.{greatest_length};
 ghost use Rattle.bx_entry.specs.Registry.{entries, registry};
-ghost use Rattle.bx_world.specs.Admissions.{count_live, placed_by};
+ghost use Rattle.bx_admission.specs.Ledgers.{count_live};
+ghost use Rattle.bx_admission.specs.Slots.{placed_by};
 ghost use Rattle.bx_world.specs.Held.{EachHolds, IsApplication, StandFrom, StandWithin, some_stands_at};
-ghost use Rattle.bx_world.specs.Props.{holds_props};
+ghost use Rattle.bx_shard.specs.Props.{holds_props};
 
 use crate::admission::Admission;
 use crate::step::{AdmissionFault, Admitted, Applied, Step, StepOut};

@@ -4,7 +4,8 @@ use Rattle.std.proofs.lemmas.List.{length-set}
 use Rattle.std.proofs.lemmas.Option.{slice_get_read}
 use Rattle.bx_advice.specs.Limits.{greatest_length}
 use Rattle.bx_shard.specs.declared.shard.Shard.{Shard}
-use Rattle.bx_world.specs.Admissions.{Admitting, placed_by}
+use Rattle.bx_world.specs.Admissions.{Admitting}
+use Rattle.bx_admission.specs.Slots.{placed_by}
 use Rattle.bx_world.specs.Held.{EachHolds, some_stands_at}
 use Rattle.bx_world.proofs.Applications.{application_steps, each_applied, each_from}
 use Rattle.bx_world.proofs.Slowest.{still_slowest}

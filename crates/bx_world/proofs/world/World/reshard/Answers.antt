@@ -5,7 +5,8 @@ use Rattle.bx_shard.specs.Dealing.{AreAlike, AreApart, Dealt}
 use Rattle.bx_shard.specs.Seen.{state}
 use Rattle.bx_shard.specs.declared.shard.Shard.{Shard}
 use Rattle.bx_shard.proofs.DealLaws.{holders_are_apart}
-use Rattle.bx_world.specs.Admissions.{Admitting, placed_by}
+use Rattle.bx_world.specs.Admissions.{Admitting}
+use Rattle.bx_admission.specs.Slots.{placed_by}
 use Rattle.bx_world.specs.Held.{EachHolds, some_stands_at}
 use Rattle.bx_world.proofs.Dealing.{AreAtEnd, dealt_at_end, same_world, states_hold}
 use Rattle.bx_world.proofs.world.World.reshard.Goals as goal

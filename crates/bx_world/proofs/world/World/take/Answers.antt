@@ -7,7 +7,7 @@ use Rattle.bx_shard.specs.Held.{Took}
 use Rattle.bx_shard.specs.Seen.{state}
 use Rattle.bx_shard.specs.States.{connect_in}
 use Rattle.bx_shard.specs.declared.shard.Shard.{Shard}
-use Rattle.bx_world.specs.Admissions.{placed_by}
+use Rattle.bx_admission.specs.Slots.{placed_by}
 use Rattle.bx_message.specs.declared.reply.Answer.{Answer}
 use Rattle.bx_world.specs.Held.{EachHolds}
 use Rattle.bx_world.specs.Worlds.{WorldState, IsOutput, after}

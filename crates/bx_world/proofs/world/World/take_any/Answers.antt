@@ -10,7 +10,7 @@ use Rattle.bx_shard.specs.Seen.{state}
 use Rattle.bx_shard.specs.States.{connect_in}
 use Rattle.bx_connects.specs.declared.filing.Filing.{Filing}
 use Rattle.bx_shard.specs.declared.shard.Shard.{Shard}
-use Rattle.bx_world.specs.Admissions.{placed_by}
+use Rattle.bx_admission.specs.Slots.{placed_by}
 use Rattle.bx_world.specs.Held.{EachHolds}
 use Rattle.bx_world.specs.Worlds.{WorldState, filed_under}
 use Rattle.bx_world.proofs.Slowest.{same_slowest}

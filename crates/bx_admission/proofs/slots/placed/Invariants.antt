@@ -1,6 +1,6 @@
 use Rattle.std.proofs.Common.{◌≡◌, ◌++◌, map}
-use Rattle.bx_world.specs.Admissions.{placed_slot}
-use Rattle.bx_world.proofs.admission.placed.Given as goal
+use Rattle.bx_admission.specs.Slots.{placed_slot}
+use Rattle.bx_admission.proofs.slots.placed.Given as goal
 
 abbrev pub invariant-loop-planned : goal.invariant-loop-planned
 invariant-loop-planned g l =

@@ -1,0 +1,144 @@
+//! Who is live, beside the list that it comes of.
+ghost use Rattle.std.specs.Prelude.{◌≡◌, ◌+◌, ◌≤◌, [], ◌∷◌, ◌++◌, length, Err, None, IfOk, IfSome, IsOkUnless};
+ghost use Rattle.bx_advice.specs.Limits.{greatest_length};
+ghost use Rattle.bx_entry.specs.Listing.{request};
+ghost use Rattle.bx_entry.specs.Listing as elements;
+ghost use Rattle.bx_entry.specs.Registry.{registry};
+ghost use Rattle.bx_registry.specs.Plans.{fault_of};
+ghost use Rattle.bx_registry.specs.declared.plan.AdmitFault.TheVariants.{Memory};
+ghost use Rattle.bx_admission.specs.Ledgers.{Continues, LeadsTo, count_live};
+ghost use Rattle.bx_admission.specs.Slots.{admitted_slots, placed_by};
+
+use crate::plan::Plan;
+use crate::slots::placed;
+use bx_advice::Config;
+use bx_entry::{Batch, Placing};
+use bx_listing::Listing;
+use bx_message::{Message, Sequence};
+use bx_registry::{AdmitFault, Change, Registry};
+use std::alloc::{AllocError, Global};
+use std::marker::Model;
+
+/// Who is live, and among how many shards sessions are placed. Contracts see the list of all that was admitted, which the
+/// program does not keep.
+///
+/// What a request or a tick comes to is planned first, which changes nothing, and then committed, which takes no memory
+/// and refuses nothing.
+#[derive(Drop)]
+pub struct Ledger {
+    registry: Registry,
+    shards: usize,
+    listing: Listing,
+}
+
+impl Model for Ledger {
+    ghost use Rattle.std.specs.Prelude.{◌≡◌, ◌≤◌, length};
+    ghost use Rattle.bx_admission.specs.Ledgers.{Ledger, roll_at};
+
+    ghost Value = { Ledger };
+
+    ghost view = { λ l. record { config = l.registry.config; shards = l.shards; list = l.listing } };
+
+    ghost invariant = { λ l.
+        (1 ≤ l.shards) × (l.shards ≤ 64) × (l.registry ≡ roll_at l.registry.config l.listing)
+        × (l.registry.length ≡ length l.listing) };
+}
+
+impl Ledger {
+    /// An empty list, for the configuration's number of shards. It takes the room for as many sessions as may be live.
+    pub fn new(alloc: Global, config: Config) -> Result<Ledger, AllocError>
+        ensures { IfOk result (λ l. l ≡ record { config = config; shards = config.shards; list = [] }) }
+    {
+        Ok(Ledger {
+            registry: Registry::new(alloc, config)?,
+            shards: config.shards,
+            listing: Listing::new(),
+        })
+    }
+
+    /// How many messages and ticks were admitted.
+    pub fn entries(&self) -> u64
+        ensures { result ≡ length self.now.list }
+    {
+        self.registry.entries()
+    }
+
+    /// How many sessions are live.
+    pub fn sessions(&self) -> usize
+        ensures { result ≡ count_live (registry self.now.config self.now.list) }
+    {
+        self.registry.sessions()
+    }
+
+    /// What a request comes to: its messages are judged in order, each behind those before it, and the ticket of a connect
+    /// names the shard of its session. It is refused where its moment is above the greatest that is taken, or else where
+    /// the list would become too long.
+    pub fn plan<P: Placing>(
+        &self,
+        alloc: Global,
+        placing: &P,
+        moment: u64,
+        nonce: u128,
+        messages: &[Message],
+    ) -> Result<Plan, AdmitFault>
+        ensures fault { IfSome (fault_of moment (length self.now.list + length messages.now)) (λ fault. result ≡ Err fault) }
+        ensures memory { fault_of moment (length self.now.list + length messages.now) ≡ None → IsOkUnless result Memory }
+        ensures elements { IfOk result (λ p. p.elements ≡ request moment nonce messages.now) }
+        ensures continues { IfOk result (λ p. Continues self.now p) }
+        ensures slots { IfOk result (λ p. p.slots
+            ≡ admitted_slots (placed_by self.now.config self.now.shards (P.place_of placing.now)) self.now.list p.elements) }
+    {
+        let planned = self.registry.plan(alloc, moment, nonce, messages)?;
+        let slots = placed(alloc, placing, self.shards, planned.slots)?;
+        let mut elements = Listing::new();
+        elements.post(moment, nonce, messages);
+        Ok(Plan {
+            batch: planned.batch,
+            slots,
+            elements,
+            change: planned.change,
+        })
+    }
+
+    /// What a tick comes to: it closes the live sessions that were due before it. It is refused as a request with one
+    /// message is.
+    pub fn plan_tick(&mut self, alloc: Global, moment: u64) -> Result<Plan, AdmitFault>
+        ensures same { self.new ≡ self.old }
+        ensures fault { IfSome (fault_of moment (length self.old.list + 1)) (λ fault. result ≡ Err fault) }
+        ensures memory { fault_of moment (length self.old.list + 1) ≡ None → IsOkUnless result Memory }
+        ensures elements { IfOk result (λ p. p.elements ≡ elements.Tick moment ∷ []) }
+        ensures continues { IfOk result (λ p. Continues self.old p) }
+        ensures slots { IfOk result (λ p. p.slots ≡ []) }
+    {
+        let planned = self.registry.plan_tick(alloc, moment)?;
+        let first = planned.entry.place;
+        let mut entries = Sequence::new(alloc);
+        entries.push(planned.entry)?;
+        let mut elements = Listing::new();
+        elements.tick(moment);
+        Ok(Plan {
+            batch: Batch { first, entries },
+            slots: Sequence::new(alloc),
+            elements,
+            change: planned.change,
+        })
+    }
+
+    /// Makes a change that was planned at this very ledger, with nothing committed since, and adds its elements to the list.
+    pub fn commit(&mut self, change: Change, elements: &Listing)
+        requires { LeadsTo self.old.config self.old.list change elements.now }
+        ensures { self.new ≡ record self.old { list = self.old.list ++ elements.now } }
+    {
+        self.registry.commit(change);
+        self.listing.join(elements);
+    }
+
+    /// Places the sessions among so many shards from here on.
+    pub fn reshard(&mut self, shards: usize)
+        requires some_shard { 1 ≤ shards }
+        requires shards_in_range { shards ≤ 64 }
+        ensures { self.new ≡ record self.old { shards = shards } }
+    {
+        self.shards = shards;
+    }
+}
