@@ -5,10 +5,12 @@ ghost use Rattle.bx_window.specs.Places.{IsOf};
 use bx_entry::{Batch, Entry};
 use bx_listing::Listing;
 
-/// A batch with the elements of the list that it comes of, which contracts alone see.
+/// A batch, and the messages and ticks that it comes of.
 #[derive(Drop)]
 pub struct Bundle {
+    /// The entries, from the place on where the list ends.
     pub batch: Batch,
+    /// The elements of the list that these are the entries of. Contracts alone see them, and they take no bytes.
     pub elements: Listing,
 }
 

@@ -1,4 +1,5 @@
-ghost use Rattle.std.specs.Prelude.{◌≡◌, ◌+◌, ◌<◌, ◌≤◌, ◌^◌, ◌++◌, ◌∷◌, ◌⊎◌, [], length, None, IsTrue};
+//! How much of the log was seen.
+ghost use Rattle.std.specs.Prelude.{◌≡◌, ◌+◌, ◌<◌, ◌≤◌, ◌^◌, ◌++◌, ◌∷◌, ◌⊎◌, ◌↔◌, [], length, None, IsTrue};
 ghost use mathlib.Core.List.{IsPrefix};
 ghost use Rattle.bx_advice.specs.Limits.{greatest_length};
 ghost use Rattle.bx_window.specs.Steps.{adding, trimming, list_of, begin_of};
@@ -10,7 +11,7 @@ use logbook::{Offer, Plain, Seen, Start, Word};
 use std::marker::{Model, PhantomData};
 use std::sync::Wait;
 
-/// A book with an empty log, which has no name yet.
+/// A window that was opened: its log is empty, and no call has picked it as its window yet.
 pub struct Opened {
     head: Word<Step, u64, Law>,
     seen: Seen<Step, u64, Law>,
@@ -19,6 +20,7 @@ pub struct Opened {
 }
 
 impl Opened {
+    /// A window that no other value names. It takes no memory.
     pub fn new() -> Opened {
         let (seen, mut first, _second) = Seen::open(Start::alone(), 0, 0);
         Opened {
@@ -27,8 +29,8 @@ impl Opened {
         }
     }
 
-    /// The book's word under a name, and the front that has seen nothing.
-    pub fn named<J: Naming>(self) -> (Book<J>, Front<J>)
+    // The word of the log as a name's, and the front that has seen nothing.
+    pub(crate) fn named<J: Naming>(self) -> (Book<J>, Front<J>)
         requires { self.seen.book ≡ J.book }
         ensures { result.1 ≡ [] }
     {
@@ -49,7 +51,7 @@ impl Opened {
     }
 }
 
-/// The word that stands for the log.
+/// The word that stands for the log: the number of its steps.
 #[derive(Drop)]
 pub struct Book<J: Naming> {
     head: Word<Step, u64, Law>,
@@ -58,7 +60,7 @@ pub struct Book<J: Naming> {
 }
 
 impl<J: Naming> Book<J> {
-    // Adds a step to all that was seen. Where the log is longer, which only a second writer could make it, it waits for ever.
+    // Adds a step to all that was seen. Where the log is longer, which only a second writer could make it, it never returns.
     fn step<X, M: Plain<X, Step, u64>, W: Wait>(
         &self,
         rt: &W,
@@ -80,11 +82,12 @@ impl<J: Naming> Book<J> {
         if found == steps {
             return;
         }
-        never(rt);
+        wait_forever(rt);
     }
 }
 
-/// A beginning of the log that was seen. Contracts see it as its steps.
+/// A beginning of the window's log: how much of it was seen. Contracts see it as its steps. Of two fronts of one window the
+/// shorter begins the longer, whatever was trimmed between.
 #[derive(Drop)]
 pub struct Front<J: Naming> {
     steps: u64,
@@ -107,11 +110,11 @@ impl<J: Naming> Model for Front<J> {
     ghost invariant = { λ f. (f.steps ≡ length f.seen.log) × (f.len ≡ length (list_of f.seen.log)) × (f.begin ≡ begin_of f.seen.log) × (f.seen.book ≡ J.book) × (f.len ≤ greatest_length) };
 }
 
-/// What a front was, to tell another. Contracts see it as its steps.
+/// What was seen, to tell another. Contracts see it as the steps.
 pub type Note<J> = Front<J>;
 
 impl<J: Naming> Front<J> {
-    /// The place where its list ends.
+    /// The place where its list ends, which is the number of the list's elements.
     pub fn len(&self) -> u64
         ensures end { result ≡ length (list_of self.now) }
         ensures bounded { result ≤ greatest_length }
@@ -119,21 +122,21 @@ impl<J: Naming> Front<J> {
         self.len
     }
 
-    /// The place where its window begins.
+    /// The place where its window begins: of the oldest batch that is kept, or the end of the list where none is.
     pub fn begin(&self) -> u64
         ensures { result ≡ begin_of self.now }
     {
         self.begin
     }
 
-    /// How many steps it has.
+    /// How many publishes and trims it has.
     pub fn steps(&self) -> u64
         ensures { result ≡ length self.now }
     {
         self.steps
     }
 
-    /// A copy.
+    /// The same once more. It takes no memory, so it cannot fail.
     pub fn again(&self) -> Front<J>
         ensures { result ≡ self.now }
     {
@@ -146,7 +149,7 @@ impl<J: Naming> Front<J> {
         }
     }
 
-    /// The longer of two fronts, which the other begins.
+    /// The longer of two fronts, which the shorter begins.
     pub fn longer(&self, other: &Front<J>) -> Front<J>
         ensures one { (result ≡ self.now) ⊎ (result ≡ other.now) }
         ensures this { IsPrefix self.now result }
@@ -161,16 +164,17 @@ impl<J: Naming> Front<J> {
         }
     }
 
-    /// Whether it has as many steps as the other, which then begins it.
+    /// Whether the other is a beginning of it, as exactly those are that have no more steps.
     pub fn covers(&self, other: &Front<J>) -> bool
-        ensures { IsTrue result → IsPrefix other.now self.now }
+        ensures begins { IsTrue result → IsPrefix other.now self.now }
+        ensures steps { IsTrue result ↔ length other.now ≤ length self.now }
     {
         let mut both = self.seen.again();
         both.learn(&other.seen);
         other.steps <= self.steps
     }
 
-    /// Adds so many elements to all that was seen.
+    // Adds so many elements to all that was seen.
     pub(crate) fn add<W: Wait>(&mut self, rt: &W, book: &Book<J>, elements: &Listing, count: u64)
         requires room { length self.old < 2 ^ 62 }
         requires count { length elements.now ≡ count }
@@ -184,8 +188,8 @@ impl<J: Naming> Front<J> {
         self.seen = seen;
     }
 
-    /// Drops so many batches, after which the window begins at `begin`.
-    pub(crate) fn cut<W: Wait>(&mut self, rt: &W, book: &Book<J>, count: u64, begin: u64)
+    // Drops so many batches, after which the window begins at `begin`.
+    pub(crate) fn trim<W: Wait>(&mut self, rt: &W, book: &Book<J>, count: u64, begin: u64)
         requires room { length self.old < 2 ^ 62 }
         requires begin { begin ≡ begin_of (self.old ++ trimming count ∷ []) }
         ensures { self.new ≡ self.old ++ trimming count ∷ [] }
@@ -199,7 +203,7 @@ impl<J: Naming> Front<J> {
 }
 
 // It does not return.
-fn never<W: Wait>(rt: &W)
+fn wait_forever<W: Wait>(rt: &W)
     ensures { ⊥ }
 {
     for _ in rt.forever() {}

@@ -6,11 +6,13 @@ use std::marker::Brand;
 /// What one publish does: it adds elements to the list, or drops batches at the front of the window. No value of it is
 /// made.
 pub struct Step {
+    /// What comes behind the list, in order.
     pub elements: Listing,
+    /// How many of the window's oldest batches are dropped.
     pub dropped: u64,
 }
 
-/// The rule of the book: its first word is the number of steps.
+/// The rule of the log: its first word is the number of steps.
 pub struct Law;
 
 impl Rule<Step, u64> for Law {
@@ -31,7 +33,7 @@ impl Rule<Step, u64> for Law {
     ghost moves = { λ ask before after answer. Unit {0} };
 }
 
-/// Callers trade nothing.
+// Callers trade nothing.
 pub struct Nothing;
 
 impl Gain<Step, u64> for Nothing {
@@ -40,7 +42,7 @@ impl Gain<Step, u64> for Nothing {
     ghost after = { λ names about answer. ftrue };
 }
 
-/// A step that adds to the log.
+// A step that adds to the log.
 pub struct Add;
 
 impl Play<Step, u64> for Add {
@@ -49,7 +51,7 @@ impl Play<Step, u64> for Add {
     ghost then = { Adds };
 }
 
-/// A publish asks for the elements of its batch.
+// A publish asks for the elements of its batch.
 impl Plain<Listing, Step, u64> for Add {
     ghost use Rattle.std.specs.Prelude.{None};
     ghost use Rattle.bx_window.specs.Steps.{adding};
@@ -59,7 +61,7 @@ impl Plain<Listing, Step, u64> for Add {
     ghost state = { λ b. None };
 }
 
-/// A trim asks for so many batches.
+// A trim asks for so many batches.
 impl Plain<u64, Step, u64> for Add {
     ghost use Rattle.std.specs.Prelude.{None};
     ghost use Rattle.bx_window.specs.Steps.{trimming};

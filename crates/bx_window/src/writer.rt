@@ -1,6 +1,7 @@
 //! The writer of the window.
 ghost use Rattle.std.specs.Prelude.{◌≡◌, ◌+◌, ◌<◌, ◌≤◌, ◌^◌, ◌++◌, ◌∷◌, [], length, drop, slice_index_or, IfOk, IfErr, OnOk, OnErr};
 ghost use mathlib.Core.List.{IsPrefix};
+ghost use Rattle.std.specs.Arc.{arc_value};
 ghost use Rattle.std.specs.List.{All};
 ghost use Rattle.bx_advice.specs.Limits.{greatest_length};
 ghost use Rattle.bx_window.specs.Places.{Continues};
@@ -10,37 +11,39 @@ ghost use Rattle.bx_window.specs.Refusals.{IsFair};
 use crate::batch::Bundle;
 use crate::front::{Book, Front, Note, Opened};
 use crate::law::Naming;
-use crate::leaf::Leaf;
+use crate::published::Published;
 use crate::reader::{LogReader, Memory};
-use crate::ring::{Change, Op, Ring};
+use crate::ring::{Change, Operation, Ring};
+use bx_entry::Batch;
+use bx_listing::Listing;
 use circular_buffer::HeapCircularBuffer;
 use left_right::{Absorb, WriteHandle};
 use std::alloc::{AllocError, Global};
 use std::marker::Model;
 use std::sync::{Arc, OnceLock, Wait};
 
-/// So many batches stand in the window at most.
-pub const MOST: usize = 4096;
+/// How many batches the window has at most.
+pub const MAX_BATCHES: usize = 4096;
 
 /// Why a batch was not published.
-#[derive(Clone, Copy, Debug)]
+#[derive(Clone, Copy, Debug, PartialEq, Eq)]
 pub enum Refusal {
-    /// The window has `MOST` batches.
+    /// The window has `MAX_BATCHES` batches.
     Full,
     /// No memory was left, or `left_right` refused the operation.
     Memory,
 }
 
-/// The writer, over any value that is published. Contracts see it as the log.
+/// The writer, over any value that is published. Contracts see it as the steps of the log.
 #[derive(Drop)]
-pub struct Pen<J: Naming, R: Wait + Drop, T: Absorb<O> + Drop, O: Drop> {
+pub struct Writer<J: Naming, R: Wait + Drop, T: Absorb<O> + Drop, O: Drop> {
     handle: WriteHandle<T, O, R>,
     book: Book<J>,
     front: Front<J>,
     firsts: HeapCircularBuffer<u64>,
 }
 
-impl<J: Naming, R: Wait + Drop, T: Absorb<O> + Drop, O: Drop> Model for Pen<J, R, T, O> {
+impl<J: Naming, R: Wait + Drop, T: Absorb<O> + Drop, O: Drop> Model for Writer<J, R, T, O> {
     ghost use Rattle.std.specs.Prelude.{◌≡◌, List};
     ghost use Rattle.bx_window.specs.declared.law.Step.{Step};
     ghost use Rattle.bx_window.specs.Steps.{firsts_of};
@@ -52,10 +55,10 @@ impl<J: Naming, R: Wait + Drop, T: Absorb<O> + Drop, O: Drop> Model for Pen<J, R
     ghost invariant = { λ w. (w.firsts.items ≡ firsts_of w.front) × (w.firsts.capacity ≡ 4096) };
 }
 
-/// The writer of a window.
-pub type LogWriter<J, R> = Pen<J, R, Ring<J>, Op<J>>;
+/// The writer of a window: the one value that publishes to it. Contracts see it as the steps of the log.
+pub type LogWriter<J, R> = Writer<J, R, Ring<J>, Operation<J>>;
 
-/// A writer and so many readers, of an empty list.
+/// The writer and so many readers of an opened window, of an empty list. `Err` where no memory is left.
 pub fn log_pair<J: Naming, R: Wait + Drop>(
     alloc: Global,
     rt: R,
@@ -66,18 +69,13 @@ pub fn log_pair<J: Naming, R: Wait + Drop>(
     requires readers { (0 < readers) × (readers < 2 ^ 32) }
     ensures writer { IfOk result (λ p. p.0 ≡ []) }
     ensures readers { IfOk result (λ p. All (λ r. r ≡ []) p.1.items) }
+    ensures count { IfOk result (λ p. length p.1.items ≡ readers) }
 {
     let (book, front) = opened.named::<J>();
-    let first = Ring {
-        leaves: HeapCircularBuffer::with_capacity(alloc, MOST)?,
-        front: front.again(),
-    };
-    let second = Ring {
-        leaves: HeapCircularBuffer::with_capacity(alloc, MOST)?,
-        front: front.again(),
-    };
-    let firsts = HeapCircularBuffer::with_capacity(alloc, MOST)?;
-    let handle: WriteHandle<Ring<J>, Op<J>, R> = WriteHandle::new(
+    let first = empty_ring(alloc, &front)?;
+    let second = empty_ring(alloc, &front)?;
+    let firsts = HeapCircularBuffer::with_capacity(alloc, MAX_BATCHES)?;
+    let handle: WriteHandle<Ring<J>, Operation<J>, R> = WriteHandle::new(
         alloc, rt, first, second, readers,
     )?;
     let mut all = Vec::new(alloc);
@@ -85,7 +83,7 @@ pub fn log_pair<J: Naming, R: Wait + Drop>(
         let reader = LogReader::over(handle.handle()?, front.again());
         all.push(reader)?;
     }
-    let writer = Pen {
+    let writer = Writer {
         handle,
         book,
         front,
@@ -94,15 +92,25 @@ pub fn log_pair<J: Naming, R: Wait + Drop>(
     Ok((writer, all))
 }
 
-impl<J: Naming, R: Wait + Drop> Pen<J, R, Ring<J>, Op<J>> {
-    /// The list so far, to tell a reader.
+// A ring without batches.
+fn empty_ring<J: Naming>(alloc: Global, front: &Front<J>) -> Result<Ring<J>, AllocError> {
+    Ok(Ring {
+        batches: HeapCircularBuffer::with_capacity(alloc, MAX_BATCHES)?,
+        front: front.again(),
+    })
+}
+
+impl<J: Naming, R: Wait + Drop> Writer<J, R, Ring<J>, Operation<J>> {
+    /// All that was published, to tell a reader. It takes no memory, so it cannot fail.
     pub fn tell(&self) -> Note<J>
         ensures { result ≡ self.now }
     {
         self.front.again()
     }
 
-    /// Shows readers the batch. It comes back where it is refused.
+    /// Publishes a batch, which readers then find at its places. It waits for the readers that are inside the ring. Where it
+    /// is refused, the batch comes back: `Full` where the window has `MAX_BATCHES` batches, `Memory` where no memory is left.
+    /// The batch has entries, begins where the list ends, and they are those of its elements behind the list.
     #[tactic(auto, using(crate::proofs::Places::stands_newest, crate::proofs::Places::many_elements, crate::proofs::Lists::firsts_of_adding, crate::proofs::Rooms::room_full))]
     pub fn publish<W: Wait>(
         &mut self,
@@ -116,41 +124,30 @@ impl<J: Naming, R: Wait + Drop> Pen<J, R, Ring<J>, Op<J>> {
         ensures ok { OnOk result (self.new ≡ self.old ++ adding bundle.elements ∷ []) }
         ensures err { IfErr result (λ e. (e.0 ≡ bundle) × (self.new ≡ self.old) × IsFair self.old e.1) }
     {
-        if self.firsts.len() >= MOST {
+        if self.firsts.len() >= MAX_BATCHES {
             return Err((bundle, Refusal::Full));
         }
-        let mut front = self.front.again();
-        let Ok(slot) = Arc::new(alloc, OnceLock::new()) else {
+        let Ok(slot) = reserve(alloc, &mut self.handle) else {
             return Err((bundle, Refusal::Memory));
         };
-        let Ok(operation) = Arc::try_clone(&slot) else {
-            return Err((bundle, Refusal::Memory));
-        };
-        if self.handle.append(operation).is_err() {
-            return Err((bundle, Refusal::Memory));
-        }
-        let Bundle { batch, elements } = bundle;
-        let batch = match Arc::new(alloc, batch) {
-            Ok(batch) => batch,
-            Err(failed) => {
-                let bundle = Bundle {
-                    batch: failed.value,
-                    elements,
-                };
-                return Err((bundle, Refusal::Memory));
-            }
+        let (batch, elements) = match shared(alloc, bundle) {
+            Ok(parts) => parts,
+            Err(bundle) => return Err((bundle, Refusal::Memory)),
         };
         let first = batch.first;
         let count = batch.entries.len() as u64;
+        let mut front = self.front.again();
         front.add(rt, &self.book, &elements, count);
-        let _ = slot.try_set(Change::Add(Leaf::new(batch, front.again())));
-        let _ = self.handle.publish();
+        let change = Change::Add(Published::new(batch, front.again()));
+        show(&mut self.handle, &slot, change);
         put_last(&mut self.firsts, first);
         self.front = front;
         Ok(())
     }
 
-    /// Drops the batches that lie wholly below the place n.
+    /// Drops the batches that lie wholly below the place n, and no other: readers then find `Overrun` at their places. It
+    /// waits for the readers that are inside the ring. Where no memory is left, nothing changes; a trim that drops nothing
+    /// takes none, and waits for nobody.
     #[tactic(auto, using(crate::proofs::Lists::begin_of_trimming, crate::proofs::Lists::list_of_trimming, crate::proofs::Lists::firsts_of_trimming))]
     pub fn trim<W: Wait>(&mut self, rt: &W, alloc: Global, n: u64) -> Result<(), Memory>
         requires steps { length self.old < 2 ^ 62 }
@@ -161,22 +158,53 @@ impl<J: Naming, R: Wait + Drop> Pen<J, R, Ring<J>, Op<J>> {
     {
         let mut front = self.front.again();
         let count = count_below(&self.firsts, n, front.len());
-        let begin = first_at(&self.firsts, count, front.len());
-        let Ok(slot) = Arc::new(alloc, OnceLock::new()) else {
-            return Err(Memory);
-        };
-        let Ok(operation) = Arc::try_clone(&slot) else {
-            return Err(Memory);
-        };
-        if self.handle.append(operation).is_err() {
-            return Err(Memory);
+        if count == 0 {
+            return Ok(());
         }
-        front.cut(rt, &self.book, count as u64, begin);
-        let _ = slot.try_set(Change::Trim(front.again()));
-        let _ = self.handle.publish();
+        let begin = first_at(&self.firsts, count, front.len());
+        let slot = reserve(alloc, &mut self.handle)?;
+        front.trim(rt, &self.book, count as u64, begin);
+        show(&mut self.handle, &slot, Change::Trim(front.again()));
         drop_first(&mut self.firsts, count);
         self.front = front;
         Ok(())
+    }
+}
+
+// Puts an operation behind the others that is empty yet. What is left empty changes nothing, and the next publish takes it
+// out.
+fn reserve<J: Naming, R: Wait + Drop>(
+    alloc: Global,
+    handle: &mut WriteHandle<Ring<J>, Operation<J>, R>,
+) -> Result<Operation<J>, Memory> {
+    let slot = Arc::new(alloc, OnceLock::new()).map_err(|_| Memory)?;
+    let operation = Arc::try_clone(&slot).map_err(|_| Memory)?;
+    handle.append(operation).map_err(|_| Memory)?;
+    Ok(slot)
+}
+
+// Fills an operation that was reserved, and shows readers what it changes.
+fn show<J: Naming, R: Wait + Drop>(
+    handle: &mut WriteHandle<Ring<J>, Operation<J>, R>,
+    slot: &Operation<J>,
+    change: Change<J>,
+) {
+    let _ = slot.try_set(change);
+    let _ = handle.publish();
+}
+
+// The batch under a count of owners, with its elements. Where no memory is left, the bundle comes back.
+fn shared(alloc: Global, bundle: Bundle) -> Result<(Arc<Batch, Global>, Listing), Bundle>
+    ensures ok { IfOk result (λ r. (arc_value r.0 ≡ bundle.batch) × (r.1 ≡ bundle.elements)) }
+    ensures err { IfErr result (λ b. b ≡ bundle) }
+{
+    let Bundle { batch, elements } = bundle;
+    match Arc::new(alloc, batch) {
+        Ok(batch) => Ok((batch, elements)),
+        Err(failed) => Err(Bundle {
+            batch: failed.value,
+            elements,
+        }),
     }
 }
 
