@@ -1,0 +1,6 @@
+use Rattle.bx_window.specs.Steps.{unnamed}
+use Rattle.bx_window_tests.proofs.tests.a_trim_drops_whole_batches.Given as goal
+
+-- the window that was just opened
+abbrev pub ghosts-trimmed : goal.ghosts-trimmed
+ghosts-trimmed g a = record { book = a.opened.seen.book; config = unnamed; placing = λ _ _. 0 }

@@ -1,0 +1,35 @@
+//! The window's types may go to another thread.
+use bx_entry::{Batch, Entry};
+use bx_window::{Bundle, Front, LogReader, LogWriter, Naming, Next, Opened, Published, Ring};
+use std::alloc::Global;
+use std::marker::Brand;
+use std::sync::{Arc, Wait};
+
+fn moves<T: Send>() {}
+
+fn all_move<J: Naming + Send + Sync, R: Wait + Drop + Send>() {
+    moves::<Front<J>>();
+    moves::<LogReader<J>>();
+    moves::<LogWriter<J, R>>();
+}
+
+fn parts_move<J: Naming + Send + Sync>() {
+    moves::<Published<J>>();
+    moves::<Ring<J>>();
+}
+
+fn values_move() {
+    moves::<Entry>();
+    moves::<Arc<Batch, Global>>();
+    moves::<Next>();
+    moves::<Bundle>();
+    moves::<Opened>();
+}
+
+#[test]
+fn types_move(rt: HostRuntime) {
+    let _ = rt.alloc();
+    all_move::<Brand, HostRuntime>();
+    parts_move::<Brand>();
+    values_move();
+}

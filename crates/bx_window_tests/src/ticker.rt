@@ -1,0 +1,103 @@
+//! A writer whose list is ticks alone.
+ghost use Rattle.std.specs.Prelude.{◌≡◌, ◌+◌, ◌<◌, ◌≤◌, ◌^◌, [], IfOk};
+ghost use Rattle.bx_window.specs.Steps.{list_of};
+ghost use Rattle.bx_window_tests.specs.Ticks.{ticks, tick_entries};
+
+use bx_entry::{Batch, Entry, Kind};
+use bx_listing::Listing;
+use bx_message::Sequence;
+use bx_window::{Bundle, LogWriter, Naming, Note, Refusal};
+use std::alloc::{AllocError, Global};
+use std::sync::Wait;
+
+// The log of a test has fewer steps than this, and its list fewer elements.
+const MOST: u64 = 1_000_000;
+
+/// How a batch was taken.
+#[derive(Clone, Copy, Debug, PartialEq, Eq)]
+pub enum Taken {
+    Published,
+    /// It came back, with its first place and the number of its entries.
+    Refused {
+        why: Refusal,
+        first: u64,
+        entries: usize,
+    },
+}
+
+/// A writer whose list is so many ticks.
+#[derive(Drop)]
+pub struct Ticker<J: Naming, R: Wait + Drop> {
+    writer: LogWriter<J, R>,
+    end: u64,
+    ghost ticks: { list_of writer ≡ ticks end },
+}
+
+impl<J: Naming, R: Wait + Drop> Ticker<J, R> {
+    pub fn new(writer: LogWriter<J, R>) -> Ticker<J, R>
+        requires { writer ≡ [] }
+    {
+        Ticker { writer, end: 0 }
+    }
+
+    /// What was published.
+    pub fn tell(&self) -> Note<J> {
+        self.writer.tell()
+    }
+
+    /// Publishes a batch of so many ticks.
+    pub fn publish<W: Wait>(
+        &mut self,
+        rt: &W,
+        alloc: Global,
+        count: u64,
+    ) -> Result<Taken, AllocError> {
+        if count == 0 || count >= MOST || self.end >= MOST || self.writer.tell().steps() >= MOST {
+            return Err(AllocError);
+        }
+        let bundle = ticks(alloc, self.end, count)?;
+        match self.writer.publish(rt, alloc, bundle) {
+            Ok(()) => {
+                self.end += count;
+                Ok(Taken::Published)
+            }
+            Err((back, why)) => Ok(Taken::Refused {
+                why,
+                first: back.batch.first,
+                entries: back.batch.entries.len(),
+            }),
+        }
+    }
+
+    /// Drops the batches that lie wholly below a place.
+    pub fn trim<W: Wait>(&mut self, rt: &W, alloc: Global, place: u64) -> bool {
+        if self.writer.tell().steps() >= MOST {
+            return false;
+        }
+        self.writer.trim(rt, alloc, place).is_ok()
+    }
+}
+
+// So many ticks from a place on.
+fn ticks(alloc: Global, first: u64, count: u64) -> Result<Bundle, AllocError>
+    requires { first + count < 2 ^ 62 }
+    ensures first { IfOk result (λ b. b.batch.first ≡ first) }
+    ensures entries { IfOk result (λ b. b.batch.entries ≡ tick_entries first count) }
+    ensures elements { IfOk result (λ b. b.elements ≡ ticks count) }
+{
+    let mut entries = Sequence::new(alloc);
+    let mut elements = Listing::new();
+    for step in 0..count {
+        let kind = Kind::Tick(Sequence::new(alloc));
+        entries.push(Entry {
+            place: first + step,
+            moment: 0,
+            kind,
+        })?;
+        elements.tick(0);
+    }
+    Ok(Bundle {
+        batch: Batch { first, entries },
+        elements,
+    })
+}
