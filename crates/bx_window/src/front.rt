@@ -1,20 +1,20 @@
-//! How much of the log was seen.
-ghost use Rattle.std.specs.Prelude.{◌≡◌, ◌+◌, ◌<◌, ◌≤◌, ◌^◌, ◌++◌, ◌∷◌, ◌⊎◌, ◌↔◌, [], length, None, IsTrue};
+//! How much of the log was seen, and the writer's end of it.
+ghost use Rattle.std.specs.Prelude.{◌≡◌, ◌+◌, ◌<◌, ◌≤◌, ◌^◌, ◌++◌, ◌∷◌, ◌⊎◌, ◌↔◌, [], length, IsTrue, IfSome};
 ghost use mathlib.Core.List.{IsPrefix};
 ghost use Rattle.bx_advice.specs.Limits.{greatest_length};
-ghost use Rattle.bx_window.specs.Steps.{adding, trimming, list_of, begin_of};
+ghost use Rattle.logbook.specs.Pages.{may_write};
+ghost use Rattle.bx_window.specs.Steps.{adding, trimming, stepping, list_of, begin_of};
 ghost use Rattle.bx_window.specs.Rules.{head_of};
 
-use crate::law::{Add, Law, Naming, Nothing, Step};
+use crate::law::{Add, Asked, Law, Logged, Naming, Nothing, Open, Spare, Whole};
 use bx_listing::Listing;
-use logbook::{Offer, Plain, Seen, Start, Word};
+use logbook::{Offer, Pen, Seen, Start, Word};
 use std::marker::{Model, PhantomData};
-use std::sync::Wait;
 
 /// A window that was opened: its log is empty, and no call has picked it as its window yet.
 pub struct Opened {
-    head: Word<Step, u64, Law>,
-    seen: Seen<Step, u64, Law>,
+    head: Word<Logged, u64, Law>,
+    seen: Seen<Logged, u64, Law>,
     pub ghost empty: { seen.log ≡ [] },
     pub ghost head_is: { head ≡ head_of seen.book },
 }
@@ -29,60 +29,159 @@ impl Opened {
         }
     }
 
-    // The word of the log as a name's, and the front that has seen nothing.
-    pub(crate) fn named<J: Naming>(self) -> (Book<J>, Front<J>)
+    // The writer's end, of a log without steps. `None` where the log was begun before, as nothing does that.
+    pub(crate) fn begun<J: Naming>(self) -> Option<Book<J>>
         requires { self.seen.book ≡ J.book }
-        ensures { result.1 ≡ [] }
+        ensures { IfSome result (λ b. b ≡ []) }
     {
-        let Opened { head, seen } = self;
-        (
-            Book {
-                head,
-                of: PhantomData,
-            },
-            Front {
-                steps: 0,
-                len: 0,
-                begin: 0,
-                seen,
-                of: PhantomData,
-            },
-        )
+        let Opened { head, mut seen } = self;
+        let pen = spare(&head, &seen);
+        let elements = Listing::new();
+        let asked = Asked {
+            elements: &elements,
+            dropped: 0,
+            next: &pen,
+        };
+        let mut offer: Offer<Logged, u64, Law, Nothing> = seen.plain::<Nothing, Asked<'_>, Add>(
+            &asked,
+        );
+        let mut none = seen.no_pen();
+        let found = head.compare_exchange::<Open, Nothing>(0, 1, &mut seen, &mut offer, &mut none);
+        if found != 0 {
+            return None;
+        }
+        Some(Book {
+            head,
+            pen,
+            steps: 0,
+            len: 0,
+            begin: 0,
+            seen,
+            of: PhantomData,
+        })
     }
 }
 
-/// The word that stands for the log: the number of its steps.
+// A cell is added; its pen may write it, until a step brings it home.
+fn spare(head: &Word<Logged, u64, Law>, seen: &Seen<Logged, u64, Law>) -> Pen
+    requires { head.now ≡ head_of seen.now.book }
+    ensures book { result.book ≡ seen.now.book }
+    ensures right { result.nib.right ≡ may_write }
+{
+    let mut pen = seen.no_pen();
+    let mut all = seen.again();
+    let mut offer: Offer<Logged, u64, Law, Nothing> = seen.plain::<Nothing, u64, Spare>(&0);
+    let _ = head.compare_exchange::<Spare, Nothing>(0, 0, &mut all, &mut offer, &mut pen);
+    let _word: Word<Logged, u64, Law> = Word::tracked(0, &mut pen);
+    pen
+}
+
+/// The writer's end of the log: the word that stands for it, and the pen without which no step is added. So its front is the
+/// whole log. Contracts see it as the steps.
 #[derive(Drop)]
 pub struct Book<J: Naming> {
-    head: Word<Step, u64, Law>,
+    head: Word<Logged, u64, Law>,
+    pen: Pen,
+    steps: u64,
+    len: u64,
+    begin: u64,
+    seen: Seen<Logged, u64, Law>,
     of: PhantomData<J>,
-    ghost head_is: { head ≡ head_of J.book },
+}
+
+impl<J: Naming> Model for Book<J> {
+    ghost use Rattle.std.specs.Prelude.{◌≡◌, ◌≤◌, ◌+◌, ◌^◌, List, length};
+    ghost use Rattle.bx_advice.specs.Limits.{greatest_length};
+    ghost use Rattle.logbook.specs.Pages.{may_write};
+    ghost use Rattle.bx_window.specs.declared.law.Step.{Step};
+    ghost use Rattle.bx_window.specs.Rules.{steps_of, key_of, head_of};
+    ghost use Rattle.bx_window.specs.Steps.{list_of, begin_of};
+
+    ghost Value = { List Step };
+
+    ghost view = { λ b. steps_of b.seen.log };
+
+    ghost invariant = { λ b. (b.steps + 1 ≡ length b.seen.log) × (b.len ≡ length (list_of (steps_of b.seen.log))) × (b.begin ≡ begin_of (steps_of b.seen.log)) × (b.seen.book ≡ J.book) × (b.len ≤ greatest_length) × (b.head ≡ head_of J.book) × (b.pen.book ≡ J.book) × (b.pen.nib.right ≡ may_write) × (b.pen.nib.key ≡ key_of b.seen.log) × (b.steps ≤ 2 ^ 62) };
 }
 
 impl<J: Naming> Book<J> {
-    // Adds a step to all that was seen. Where the log is longer, which only a second writer could make it, it never returns.
-    fn step<X, M: Plain<X, Step, u64>, W: Wait>(
-        &self,
-        rt: &W,
-        steps: u64,
-        seen: &mut Seen<Step, u64, Law>,
-        about: &X,
-    )
-        requires book { seen.old.book ≡ J.book }
-        requires steps { (steps ≡ length seen.old.log) × (steps < 2 ^ 62) }
-        requires plain { M.state about.now ≡ None }
-        ensures book { seen.new.book ≡ J.book }
-        ensures added { seen.new.log ≡ seen.old.log ++ M.ask about.now ∷ [] }
+    // All that was added.
+    pub(crate) fn front(&self) -> Front<J>
+        ensures { result ≡ self.now }
     {
-        let mut offer: Offer<Step, u64, Law, Nothing> = seen.plain::<Nothing, X, M>(about);
-        let mut pen = seen.no_pen();
-        let found = self
-            .head
-            .compare_exchange::<Add, Nothing>(steps, steps + 1, seen, &mut offer, &mut pen);
-        if found == steps {
-            return;
+        Front {
+            steps: self.steps,
+            len: self.len,
+            begin: self.begin,
+            seen: self.seen.again(),
+            of: PhantomData,
         }
-        wait_forever(rt);
+    }
+
+    // All that was added. Another front is a beginning of it: without the pen nothing is added to the log.
+    pub(crate) fn beyond(&mut self, other: &Front<J>) -> Front<J>
+        ensures same { self.new ≡ self.old }
+        ensures whole { result ≡ self.old }
+        ensures begins { IsPrefix other.now self.old }
+    {
+        let mut both = self.seen.again();
+        both.learn(&other.seen);
+        let mut offer: Offer<Logged, u64, Law, Nothing> = both.plain::<Nothing, u64, Spare>(&0);
+        let old = self.steps + 1;
+        let _ = self
+            .head
+            .compare_exchange::<Whole, Nothing>(old, old, &mut both, &mut offer, &mut self.pen);
+        self.front()
+    }
+
+    // Adds a step behind all others, after which the list and the window are these.
+    fn step(&mut self, elements: &Listing, dropped: u64, len: u64, begin: u64)
+        requires room { length self.old < 2 ^ 62 }
+        requires len { len ≡ length (list_of (self.old ++ stepping elements.now dropped ∷ [])) }
+        requires begin { begin ≡ begin_of (self.old ++ stepping elements.now dropped ∷ []) }
+        requires bounded { len ≤ greatest_length }
+        ensures { self.new ≡ self.old ++ stepping elements.now dropped ∷ [] }
+    {
+        let next = spare(&self.head, &self.seen);
+        let asked = Asked {
+            elements,
+            dropped,
+            next: &next,
+        };
+        let mut seen = self.seen.again();
+        let mut offer: Offer<Logged, u64, Law, Nothing> = seen.plain::<Nothing, Asked<'_>, Add>(
+            &asked,
+        );
+        let old = self.steps + 1;
+        let _ = self
+            .head
+            .compare_exchange::<Add, Nothing>(old, old + 1, &mut seen, &mut offer, &mut self.pen);
+        self.pen = next;
+        self.steps += 1;
+        self.len = len;
+        self.begin = begin;
+        self.seen = seen;
+    }
+
+    // Adds so many elements.
+    pub(crate) fn add(&mut self, elements: &Listing, count: u64)
+        requires room { length self.old < 2 ^ 62 }
+        requires count { length elements.now ≡ count }
+        requires places { length (list_of self.old) + count ≤ greatest_length }
+        ensures { self.new ≡ self.old ++ adding elements.now ∷ [] }
+    {
+        let front = self.front();
+        self.step(elements, 0, front.len() + count, front.begin());
+    }
+
+    // Drops so many batches, after which the window begins at `begin`.
+    pub(crate) fn trim(&mut self, count: u64, begin: u64)
+        requires room { length self.old < 2 ^ 62 }
+        requires begin { begin ≡ begin_of (self.old ++ trimming count ∷ []) }
+        ensures { self.new ≡ self.old ++ trimming count ∷ [] }
+    {
+        let len = self.front().len();
+        self.step(&Listing::new(), count, len, begin);
     }
 }
 
@@ -93,7 +192,7 @@ pub struct Front<J: Naming> {
     steps: u64,
     len: u64,
     begin: u64,
-    seen: Seen<Step, u64, Law>,
+    seen: Seen<Logged, u64, Law>,
     of: PhantomData<J>,
 }
 
@@ -101,13 +200,14 @@ impl<J: Naming> Model for Front<J> {
     ghost use Rattle.std.specs.Prelude.{◌≡◌, ◌≤◌, List, length};
     ghost use Rattle.bx_advice.specs.Limits.{greatest_length};
     ghost use Rattle.bx_window.specs.declared.law.Step.{Step};
+    ghost use Rattle.bx_window.specs.Rules.{steps_of};
     ghost use Rattle.bx_window.specs.Steps.{list_of, begin_of};
 
     ghost Value = { List Step };
 
-    ghost view = { λ f. f.seen.log };
+    ghost view = { λ f. steps_of f.seen.log };
 
-    ghost invariant = { λ f. (f.steps ≡ length f.seen.log) × (f.len ≡ length (list_of f.seen.log)) × (f.begin ≡ begin_of f.seen.log) × (f.seen.book ≡ J.book) × (f.len ≤ greatest_length) };
+    ghost invariant = { λ f. (f.steps ≡ length (steps_of f.seen.log)) × (f.len ≡ length (list_of (steps_of f.seen.log))) × (f.begin ≡ begin_of (steps_of f.seen.log)) × (f.seen.book ≡ J.book) × (f.len ≤ greatest_length) };
 }
 
 /// What was seen, to tell another. Contracts see it as the steps.
@@ -173,39 +273,4 @@ impl<J: Naming> Front<J> {
         both.learn(&other.seen);
         other.steps <= self.steps
     }
-
-    // Adds so many elements to all that was seen.
-    pub(crate) fn add<W: Wait>(&mut self, rt: &W, book: &Book<J>, elements: &Listing, count: u64)
-        requires room { length self.old < 2 ^ 62 }
-        requires count { length elements.now ≡ count }
-        requires places { length (list_of self.old) + count ≤ greatest_length }
-        ensures { self.new ≡ self.old ++ adding elements.now ∷ [] }
-    {
-        let mut seen = self.seen.again();
-        book.step::<Listing, Add, W>(rt, self.steps, &mut seen, elements);
-        self.steps += 1;
-        self.len += count;
-        self.seen = seen;
-    }
-
-    // Drops so many batches, after which the window begins at `begin`.
-    pub(crate) fn trim<W: Wait>(&mut self, rt: &W, book: &Book<J>, count: u64, begin: u64)
-        requires room { length self.old < 2 ^ 62 }
-        requires begin { begin ≡ begin_of (self.old ++ trimming count ∷ []) }
-        ensures { self.new ≡ self.old ++ trimming count ∷ [] }
-    {
-        let mut seen = self.seen.again();
-        book.step::<u64, Add, W>(rt, self.steps, &mut seen, &count);
-        self.steps += 1;
-        self.begin = begin;
-        self.seen = seen;
-    }
-}
-
-// It does not return.
-fn wait_forever<W: Wait>(rt: &W)
-    ensures { ⊥ }
-{
-    for _ in rt.forever() {}
-    unreachable!()
 }

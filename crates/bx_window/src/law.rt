@@ -1,6 +1,6 @@
 //! The log of the window's steps, which exists in proofs alone, and its rule.
 use bx_listing::Listing;
-use logbook::{Gain, Plain, Play, Rule};
+use logbook::{Gain, Pen, Plain, Play, Rule};
 use std::marker::Brand;
 
 /// What one publish does: it adds elements to the list, or drops batches at the front of the window. No value of it is
@@ -12,10 +12,18 @@ pub struct Step {
     pub dropped: u64,
 }
 
-/// The rule of the log: its first word is the number of steps.
+/// A step as it stands in the log. No value of it is made.
+pub struct Logged {
+    /// The first step of a log adds nothing and drops nothing; it only opens the log.
+    pub step: Step,
+    /// The key of the cell that the next step brings home, so that nobody but who has that cell's pen can add that step.
+    pub next: u64,
+}
+
+/// The rule of the log: its word is the number of entries, and the cell of each key but the last one was brought home.
 pub struct Law;
 
-impl Rule<Step, u64> for Law {
+impl Rule<Logged, u64> for Law {
     ghost use Rattle.std.specs.Prelude.{[]};
     ghost use base.Fml.{ftrue};
     ghost use Rattle.bx_window.specs.Rules.{IsKept};
@@ -36,37 +44,69 @@ impl Rule<Step, u64> for Law {
 // Callers trade nothing.
 pub struct Nothing;
 
-impl Gain<Step, u64> for Nothing {
+impl Gain<Logged, u64> for Nothing {
     ghost use base.Fml.{ftrue};
 
     ghost after = { λ names about answer. ftrue };
 }
 
+// A cell is added, for the pen of a later step.
+pub struct Spare;
+
+impl Play<Logged, u64> for Spare {
+    ghost use Rattle.bx_window.specs.Rules.{Spares};
+
+    ghost then = { Spares };
+}
+
+// The first entry of the log.
+pub struct Open;
+
+impl Play<Logged, u64> for Open {
+    ghost use Rattle.bx_window.specs.Rules.{Opens};
+
+    ghost then = { Opens };
+}
+
 // A step that adds to the log.
 pub struct Add;
 
-impl Play<Step, u64> for Add {
+impl Play<Logged, u64> for Add {
     ghost use Rattle.bx_window.specs.Rules.{Adds};
 
     ghost then = { Adds };
 }
 
-// A publish asks for the elements of its batch.
-impl Plain<Listing, Step, u64> for Add {
-    ghost use Rattle.std.specs.Prelude.{None};
-    ghost use Rattle.bx_window.specs.Steps.{adding};
+// Nothing is added: all that was seen is not longer than was expected.
+pub struct Whole;
 
-    ghost ask = { adding };
+impl Play<Logged, u64> for Whole {
+    ghost use Rattle.bx_window.specs.Rules.{AreAll};
 
-    ghost state = { λ b. None };
+    ghost then = { AreAll };
 }
 
-// A trim asks for so many batches.
-impl Plain<u64, Step, u64> for Add {
-    ghost use Rattle.std.specs.Prelude.{None};
-    ghost use Rattle.bx_window.specs.Steps.{trimming};
+// What is asked of the log: a step, and the pen of the step after it.
+#[derive(Drop)]
+pub struct Asked<'a> {
+    pub elements: &'a Listing,
+    pub dropped: u64,
+    pub next: &'a Pen,
+}
 
-    ghost ask = { trimming };
+impl<'a> Plain<Asked<'a>, Logged, u64> for Add {
+    ghost use Rattle.std.specs.Prelude.{None};
+
+    ghost ask = { λ a. record { step = record { elements = a.elements.now; dropped = a.dropped }; next = a.next.now.nib.key } };
+
+    ghost state = { λ a. None };
+}
+
+// No step is asked for where a cell is added.
+impl Plain<u64, Logged, u64> for Spare {
+    ghost use Rattle.std.specs.Prelude.{None, []};
+
+    ghost ask = { λ n. record { step = record { elements = []; dropped = n }; next = 0 } };
 
     ghost state = { λ n. None };
 }

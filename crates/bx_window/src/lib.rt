@@ -11,7 +11,7 @@ mod writer;
 
 pub use batch::{Bundle, entry_of};
 pub use front::{Book, Front, Note, Opened};
-pub use law::{Law, Naming, Step};
+pub use law::{Law, Logged, Naming, Step};
 pub use published::Published;
 pub use reader::{LogReader, Memory, Next};
 pub use ring::{Change, Operation, Ring};

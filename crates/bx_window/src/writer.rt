@@ -39,7 +39,6 @@ pub enum Refusal {
 pub struct Writer<J: Naming, R: Wait + Drop, T: Absorb<O> + Drop, O: Drop> {
     handle: WriteHandle<T, O, R>,
     book: Book<J>,
-    front: Front<J>,
     firsts: HeapCircularBuffer<u64>,
 }
 
@@ -50,15 +49,16 @@ impl<J: Naming, R: Wait + Drop, T: Absorb<O> + Drop, O: Drop> Model for Writer<J
 
     ghost Value = { List Step };
 
-    ghost view = { λ w. w.front };
+    ghost view = { λ w. w.book };
 
-    ghost invariant = { λ w. (w.firsts.items ≡ firsts_of w.front) × (w.firsts.capacity ≡ 4096) };
+    ghost invariant = { λ w. (w.firsts.items ≡ firsts_of w.book) × (w.firsts.capacity ≡ 4096) };
 }
 
 /// The writer of a window: the one value that publishes to it. Contracts see it as the steps of the log.
 pub type LogWriter<J, R> = Writer<J, R, Ring<J>, Operation<J>>;
 
-/// The writer and so many readers of an opened window, of an empty list. `Err` where no memory is left.
+/// The writer and so many readers of an opened window, of an empty list. `Err` where no memory is left. (So too where another
+/// had begun the window's log, which nothing can do.)
 pub fn log_pair<J: Naming, R: Wait + Drop>(
     alloc: Global,
     rt: R,
@@ -71,7 +71,10 @@ pub fn log_pair<J: Naming, R: Wait + Drop>(
     ensures readers { IfOk result (λ p. All (λ r. r ≡ []) p.1.items) }
     ensures count { IfOk result (λ p. length p.1.items ≡ readers) }
 {
-    let (book, front) = opened.named::<J>();
+    let Some(book) = opened.begun::<J>() else {
+        return Err(AllocError);
+    };
+    let front = book.front();
     let first = empty_ring(alloc, &front)?;
     let second = empty_ring(alloc, &front)?;
     let firsts = HeapCircularBuffer::with_capacity(alloc, MAX_BATCHES)?;
@@ -86,7 +89,6 @@ pub fn log_pair<J: Naming, R: Wait + Drop>(
     let writer = Writer {
         handle,
         book,
-        front,
         firsts,
     };
     Ok((writer, all))
@@ -105,7 +107,17 @@ impl<J: Naming, R: Wait + Drop> Writer<J, R, Ring<J>, Operation<J>> {
     pub fn tell(&self) -> Note<J>
         ensures { result ≡ self.now }
     {
-        self.front.again()
+        self.book.front()
+    }
+
+    /// All that was published, of which any front of this window is a beginning: only the writer adds to the list. It takes no
+    /// memory, so it cannot fail.
+    pub fn tell_beyond(&mut self, front: &Front<J>) -> Note<J>
+        ensures same { self.new ≡ self.old }
+        ensures whole { result ≡ self.old }
+        ensures begins { IsPrefix front.now self.old }
+    {
+        self.book.beyond(front)
     }
 
     /// Publishes a batch, which readers then find at its places. It waits for the readers that are inside the ring. Where it
@@ -114,7 +126,7 @@ impl<J: Naming, R: Wait + Drop> Writer<J, R, Ring<J>, Operation<J>> {
     #[tactic(auto, using(crate::proofs::Places::stands_newest, crate::proofs::Places::many_elements, crate::proofs::Lists::firsts_of_adding, crate::proofs::Rooms::room_full))]
     pub fn publish<W: Wait>(
         &mut self,
-        rt: &W,
+        _rt: &W,
         alloc: Global,
         bundle: Bundle,
     ) -> Result<(), (Bundle, Refusal)>
@@ -136,12 +148,10 @@ impl<J: Naming, R: Wait + Drop> Writer<J, R, Ring<J>, Operation<J>> {
         };
         let first = batch.first;
         let count = batch.entries.len() as u64;
-        let mut front = self.front.again();
-        front.add(rt, &self.book, &elements, count);
-        let change = Change::Add(Published::new(batch, front.again()));
+        self.book.add(&elements, count);
+        let change = Change::Add(Published::new(batch, self.book.front()));
         show(&mut self.handle, &slot, change);
         put_last(&mut self.firsts, first);
-        self.front = front;
         Ok(())
     }
 
@@ -149,24 +159,23 @@ impl<J: Naming, R: Wait + Drop> Writer<J, R, Ring<J>, Operation<J>> {
     /// waits for the readers that are inside the ring. Where no memory is left, nothing changes; a trim that drops nothing
     /// takes none, and waits for nobody.
     #[tactic(auto, using(crate::proofs::Lists::begin_of_trimming, crate::proofs::Lists::list_of_trimming, crate::proofs::Lists::firsts_of_trimming))]
-    pub fn trim<W: Wait>(&mut self, rt: &W, alloc: Global, n: u64) -> Result<(), Memory>
+    pub fn trim<W: Wait>(&mut self, _rt: &W, alloc: Global, n: u64) -> Result<(), Memory>
         requires steps { length self.old < 2 ^ 62 }
         ensures grows { IsPrefix self.old self.new }
         ensures list { list_of self.new ≡ list_of self.old }
         ensures ok { OnOk result (firsts_of self.new ≡ drop (below n (length (list_of self.old)) (firsts_of self.old)) (firsts_of self.old)) }
         ensures err { OnErr result (self.new ≡ self.old) }
     {
-        let mut front = self.front.again();
-        let count = count_below(&self.firsts, n, front.len());
+        let end = self.tell().len();
+        let count = count_below(&self.firsts, n, end);
         if count == 0 {
             return Ok(());
         }
-        let begin = first_at(&self.firsts, count, front.len());
+        let begin = first_at(&self.firsts, count, end);
         let slot = reserve(alloc, &mut self.handle)?;
-        front.trim(rt, &self.book, count as u64, begin);
-        show(&mut self.handle, &slot, Change::Trim(front.again()));
+        self.book.trim(count as u64, begin);
+        show(&mut self.handle, &slot, Change::Trim(self.book.front()));
         drop_first(&mut self.firsts, count);
-        self.front = front;
         Ok(())
     }
 }

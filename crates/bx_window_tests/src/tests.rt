@@ -208,8 +208,8 @@ fn a_reader_learns_of_another(rt: HostRuntime) -> Result<(), Fail> {
 fn compared<J: Naming, R: Wait + Abort>(rt: &R, alloc: Global, opened: Opened) -> Result<(), Fail>
     requires { opened.seen.book ≡ J.book }
 {
-    let (writer, reader) = two_batches::<J, R>(rt, alloc, opened)?;
-    let long = writer.tell();
+    let (mut writer, reader) = two_batches::<J, R>(rt, alloc, opened)?;
+    let long = writer.tell_beyond(&reader.note());
     let short = reader.note();
     assert!(rt; long.covers(&short));
     assert!(rt; long.covers(&long.again()));

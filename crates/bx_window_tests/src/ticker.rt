@@ -6,7 +6,7 @@ ghost use Rattle.bx_window_tests.specs.Ticks.{ticks, tick_entries};
 use bx_entry::{Batch, Entry, Kind};
 use bx_listing::Listing;
 use bx_message::Sequence;
-use bx_window::{Bundle, LogWriter, Naming, Note, Refusal};
+use bx_window::{Bundle, Front, LogWriter, Naming, Note, Refusal};
 use std::alloc::{AllocError, Global};
 use std::sync::Wait;
 
@@ -43,6 +43,11 @@ impl<J: Naming, R: Wait + Drop> Ticker<J, R> {
     /// What was published.
     pub fn tell(&self) -> Note<J> {
         self.writer.tell()
+    }
+
+    /// What was published, of which a front is a beginning.
+    pub fn tell_beyond(&mut self, front: &Front<J>) -> Note<J> {
+        self.writer.tell_beyond(front)
     }
 
     /// Publishes a batch of so many ticks.

@@ -1,0 +1,37 @@
+-- The steps of a log's entries.
+use Rattle.std.proofs.Common.{◌≡◌, ℕ, ◌+◌, List, [], ◌∷◌, ◌++◌, length, refl, ap, sym, ◌∙◌, arith}
+use Rattle.std.proofs.lemmas.List.{map-append, length-map}
+use mathlib.Core.List.{IsPrefix}
+use Rattle.bx_window.specs.declared.law.Logged.{Logged}
+use Rattle.bx_window.specs.declared.law.Step.{Step}
+use Rattle.bx_window.specs.Rules.{IsBegun, key_from, key_of, steps_in, steps_of}
+
+step_in : Logged → Step
+step_in e = e.step
+
+pub steps_next : (log : List Logged) (e : Logged) → IsBegun log → steps_of (log ++ e ∷ []) ≡ steps_of log ++ e.step ∷ []
+unfolding step_in
+steps_next [] e begun = absurd (omega arith)
+steps_next (d ∷ log) e begun = map-append step_in log (e ∷ [])
+
+pub steps_count : (log : List Logged) → IsBegun log → length (steps_of log) + 1 ≡ length log
+unfolding step_in
+steps_count [] begun = absurd (omega arith)
+steps_count (d ∷ log) begun = let n = length-map log step_in in omega (arith, n)
+
+-- a longer log has further steps
+pub steps_prefix : (xs ys : List Logged) → IsPrefix xs ys → IsPrefix (steps_of xs) (steps_of ys)
+unfolding step_in
+steps_prefix [] ys p = (steps_of ys, refl)
+steps_prefix (x ∷ xs) [] p = absurd (cc (p.1))
+steps_prefix (x ∷ xs) (y ∷ ys) p =
+    let rest : xs ++ p.0 ≡ ys = cc (p.1) in
+    (steps_in p.0, sym (map-append step_in xs p.0) ∙ ap steps_in rest)
+
+key_last : (k : ℕ) (log : List Logged) (e : Logged) → key_from k (log ++ e ∷ []) ≡ e.next
+key_last k [] e = refl
+key_last k (d ∷ log) e = key_last d.next log e
+
+-- the key of the last entry is the next one to bring home
+pub key_next : (log : List Logged) (e : Logged) → key_of (log ++ e ∷ []) ≡ e.next
+key_next log e = key_last 0 log e
