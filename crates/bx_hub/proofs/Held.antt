@@ -1,0 +1,205 @@
+-- What lies under a shard's lock, as it learns, goes on and gives.
+use Rattle.std.proofs.Common.{◌≡◌, ℕ, ◌+◌, ◌-◌, ◌<◌, ◌≤◌, List, [], ◌∷◌, ◌++◌, length, take, drop, slice_get, option_map, Option, Some, None, refl, ap, sym, ◌∙◌, subst, arith, take-append-drop}
+use Rattle.std.specs.Prelude.{Result, Ok, Err, OnOk, OnErr, IfNone, Bool, true, false, if◌then◌else◌}
+use Rattle.std.specs.Option.{IsSome}
+use mathlib.Core.List.{IsPrefix}
+use Rattle.bx_advice.specs.declared.config.Config.{Config}
+use Rattle.bx_message.specs.declared.reply.Answer.{Answer}
+use Rattle.bx_entry.specs.Answers.{answer}
+use Rattle.bx_entry.specs.Listing.{Listed}
+use Rattle.bx_entry.specs.Registry.{entries}
+use Rattle.bx_entry.specs.declared.entry.Batch.{Batch}
+use Rattle.bx_entry.specs.declared.entry.Entry.{Entry}
+use Rattle.bx_entry.specs.declared.entry.Ticket.{Ticket}
+use Rattle.bx_connects.specs.Connects.{filed_answer}
+use Rattle.futures.specs.declared.task.waker.Waker.{Waker}
+use Rattle.bx_shard.specs.Held.{Holds, Took, given_of, swept_places}
+use Rattle.bx_shard.specs.Shards.{Setup}
+use Rattle.bx_shard.specs.States.{Applied, IsAsBefore, IsSound, State, Swept, Watched, WasShut, connect_in}
+use Rattle.bx_shard.proofs.Holding.{holds_still, holds_longer}
+use Rattle.bx_shard.proofs.Names.{entry_placed}
+use Rattle.bx_shard.proofs.Onwards.{holds_onwards}
+use Rattle.bx_shard.proofs.Sweeping.{holds_swept}
+use Rattle.bx_shard.proofs.Taking.{holds_taken}
+use Rattle.bx_shard.proofs.Waking.{holds_watched, holds_shut}
+use Rattle.bx_window.specs.declared.law.Step.{Step}
+use Rattle.bx_window.specs.Steps.{list_of}
+use Rattle.bx_window.specs.Places.{IsOf, StandsIn}
+use Rattle.bx_window.proofs.Fronts.{prefix_self, prefix_trans}
+use Rattle.bx_window.proofs.Lists.{list_of-prefix}
+use Rattle.bx_hub.specs.Held.{Held, IsLevelWithout, Stands, answer_over}
+use Rattle.bx_shard.proofs.Given.{filed_is_given, given_longer, as_before}
+use Rattle.bx_hub.proofs.Lists.{takes_same, got, list_length}
+
+abbrev pub held : List Step → List Step → List ℕ → State → Held
+held seen told taken state = record { seen = seen; told = told; taken = taken; state = state }
+
+holds_over : (setup : Setup) (xs ys : List Listed) (taken : List ℕ) (k n : ℕ) (s : State) → IsPrefix xs ys → Holds setup xs taken k n s → Holds setup ys taken k n s
+holds_over setup xs ys taken k n s p h = subst (λ (l : List Listed). Holds setup l taken k n s) p.1 (holds_longer setup xs p.0 taken k n s h)
+
+-- the reader has seen more, and a longer note was brought
+pub stands_grown : (setup : Setup) (seen told seen' told' : List Step) (taken : List ℕ) (s : State) → Stands setup (held seen told taken s) → IsPrefix seen seen' → IsPrefix told told' → IsPrefix told' seen' → Stands setup (held seen' told' taken s)
+stands_grown setup seen told seen' told' taken s h p q r =
+    let a = list_length told told' q in
+    record {
+      learnt = r;
+      within = omega (arith, h.within, a);
+      holds = holds_over setup (list_of seen) (list_of seen') taken s.index s.place s (list_of-prefix seen seen' p) h.holds;
+    }
+
+-- the reader alone has seen more
+pub stands_seen : (setup : Setup) (seen told seen' : List Step) (taken : List ℕ) (s : State) → Stands setup (held seen told taken s) → IsPrefix seen seen' → Stands setup (held seen' told taken s)
+stands_seen setup seen told seen' taken s h p = stands_grown setup seen told seen' told taken s h p (prefix_self told) (prefix_trans told seen seen' h.learnt p)
+
+-- the list does not end at a place below the note
+pub not_level : (setup : Setup) (seen told seen' : List Step) (taken : List ℕ) (s : State) → Stands setup (held seen told taken s) → IsPrefix seen seen' → s.place < length (list_of told) → ¬ (length (list_of seen') ≤ s.place)
+not_level setup seen told seen' taken s h p lt le =
+    let a = list_length told seen h.learnt in
+    let b = list_length seen seen' p in
+    absurd (omega (arith, a, b, lt, le))
+
+-- the entry of a batch is the one of its place
+pub entry_here : (config : Config) (seen : List Step) (b : Batch) (place : ℕ) (e : Entry) → IsOf b place × StandsIn config (list_of seen) b → slice_get b.entries (place - b.first) ≡ Some e → e.place ≡ place
+entry_here config seen b place e right is = entry_placed config (list_of seen) place e (got config (list_of seen) b place e right.1 right.0 is)
+
+-- the shard is the same but for what is not seen of it
+pub stands_still : (setup : Setup) (seen told : List Step) (taken : List ℕ) (s t : State) → Stands setup (held seen told taken s) → IsAsBefore s t → IsSound t → Stands setup (held seen told taken t)
+stands_still setup seen told taken s t h b sound =
+    let on : Holds setup (list_of seen) taken s.index s.place t = holds_still setup (list_of seen) taken s.index s.place s t h.holds b sound in
+    record {
+      learnt = h.learnt;
+      within = omega (arith, h.within, b.place);
+      holds = subst (λ (i : ℕ). Holds setup (list_of seen) taken i t.place t) (sym b.index) (subst (λ (n : ℕ). Holds setup (list_of seen) taken s.index n t) (sym b.place) on);
+    }
+
+-- the next entry was applied
+pub stands_stepped : (setup : Setup) (seen told : List Step) (taken : List ℕ) (s t : State) (b : Batch) (e : Entry) → 0 < setup.config.limits.batch → Stands setup (held seen told taken s) → s.place < length (list_of told)
+    → IsOf b s.place × StandsIn setup.config (list_of seen) b → slice_get b.entries (s.place - b.first) ≡ Some e → Applied s e t → IsSound t → Stands setup (held seen told taken t)
+stands_stepped setup seen told taken s t b e room h lt right is applied sound =
+    let there : slice_get (entries setup.config (list_of seen)) s.place ≡ Some e = got setup.config (list_of seen) b s.place e right.1 right.0 is in
+    let here : e.place ≡ s.place = entry_placed setup.config (list_of seen) s.place e there in
+    let next : t.place ≡ s.place + 1 = applied.place ∙ ap (λ n. n + 1) here in
+    let on : Holds setup (list_of seen) taken s.index (s.place + 1) t = holds_onwards setup (list_of seen) taken s.index s.place e s t room there h.holds applied sound in
+    record {
+      learnt = h.learnt;
+      within = omega (arith, lt, next);
+      holds = subst (λ (i : ℕ). Holds setup (list_of seen) taken i t.place t) (sym applied.index) (subst (λ (n : ℕ). Holds setup (list_of seen) taken s.index n t) (sym next) on);
+    }
+
+-- the next entry was applied, or there was no memory
+pub stands_applied : {X Y : Type 0} (setup : Setup) (seen told : List Step) (taken : List ℕ) (s t : State) (b : Batch) (e : Entry) (r : Result X Y) → 0 < setup.config.limits.batch → Stands setup (held seen told taken s) → s.place < length (list_of told)
+    → IsOf b s.place × StandsIn setup.config (list_of seen) b → slice_get b.entries (s.place - b.first) ≡ Some e → OnOk r (Applied s e t) → OnErr r (IsAsBefore s t) → IsSound t → Stands setup (held seen told taken t)
+stands_applied setup seen told taken s t b e (Ok x) room h lt right is done refused sound = stands_stepped setup seen told taken s t b e room h lt right is done sound
+stands_applied setup seen told taken s t b e (Err x) room h lt right is done refused sound = stands_still setup seen told taken s t h refused sound
+
+-- an answer was taken
+pub stands_taken : (setup : Setup) (seen told : List Step) (taken : List ℕ) (place : ℕ) (s t : State) → 0 < setup.config.limits.batch → Stands setup (held seen told taken s) → IsSome (filed_answer (connect_in s place)) → Took place s t → IsSound t
+    → Stands setup (held seen told (taken ++ place ∷ []) t)
+stands_taken setup seen told taken place s t room h some took sound =
+    let on : Holds setup (list_of seen) (taken ++ place ∷ []) s.index s.place t = holds_taken setup (list_of seen) taken s.index s.place place s t room h.holds some took sound in
+    record {
+      learnt = h.learnt;
+      within = omega (arith, h.within, took.place_is);
+      holds = subst (λ (i : ℕ). Holds setup (list_of seen) (taken ++ place ∷ []) i t.place t) (sym took.index_is) (subst (λ (n : ℕ). Holds setup (list_of seen) (taken ++ place ∷ []) s.index n t) (sym took.place_is) on);
+    }
+
+-- what is filed is what one thread gives over the longest note that was brought
+pub filed_told : (setup : Setup) (h : Held) (place : ℕ) (a : Answer) → 0 < setup.config.limits.batch → Stands setup h → filed_answer (connect_in h.state place) ≡ Some a → answer_over setup.config h.told place ≡ Some a
+filed_told setup h place a room s e =
+    let n : ℕ = h.state.place in
+    let short : option_map given_of (answer setup.config (take n (list_of h.seen)) place) ≡ Some a = filed_is_given setup (list_of h.seen) h.taken h.state.index n place h.state a s.holds e in
+    let same : take n (list_of h.seen) ≡ take n (list_of h.told) = takes_same n (list_of h.told) (list_of h.seen) (list_of-prefix h.told h.seen s.learnt) s.within in
+    let there : option_map given_of (answer setup.config (take n (list_of h.told)) place) ≡ Some a = subst (λ (l : List Listed). option_map given_of (answer setup.config l place) ≡ Some a) same short in
+    given_longer setup.config (take n (list_of h.told)) (list_of h.told) place a room (drop n (list_of h.told), take-append-drop n (list_of h.told)) there
+
+-- and over every longer front
+pub over_longer : (config : Config) (xs ys : List Step) (place : ℕ) (a : Answer) → 0 < config.limits.batch → IsPrefix xs ys → answer_over config xs place ≡ Some a → answer_over config ys place ≡ Some a
+over_longer config xs ys place a room p e = given_longer config (list_of xs) (list_of ys) place a room (list_of-prefix xs ys p) e
+
+-- ---- a taking
+
+-- what is given is what is filed, in the shard that the ticket names
+pub own_filed : (b : Bool) (o r : Option Answer) (a : Answer) → r ≡ (if b then o else None) → r ≡ Some a → (b ≡ true) × (o ≡ Some a)
+own_filed true o r a e is = (refl, sym e ∙ is)
+own_filed false o r a e is = let no : None ≡ Some a = sym e ∙ is in cc
+
+pub none_own : (b : Bool) (o r : Option Answer) → r ≡ (if b then o else None) → r ≡ None → b ≡ true → o ≡ None
+none_own true o r e is t = sym e ∙ is
+none_own false o r e is t = cc
+
+pub some_filed : (o : Option Answer) (a : Answer) → o ≡ Some a → IsSome o
+some_filed o a e = subst IsSome (sym e) refl
+
+-- where none was taken, the shard is the same
+pub stands_untaken : (setup : Setup) (seen told : List Step) (taken : List ℕ) (place : ℕ) (s t : State) (b : Bool) (r : Option Answer) → Stands setup (held seen told taken s) → r ≡ (if b then filed_answer (connect_in s place) else None) → r ≡ None →
+    (b ≡ true → Took place s t) → (b ≡ false → t ≡ s) → IsSound t → Stands setup (held seen told taken t)
+stands_untaken setup seen told taken place s t true r h e is took same sound = stands_still setup seen told taken s t h (as_before place s t (sym e ∙ is) (took refl)) sound
+stands_untaken setup seen told taken place s t false r h e is took same sound = subst (λ (u : State). Stands setup (held seen told taken u)) (sym (same refl)) h
+
+-- none was filed at the end of a front
+pub level_without : (setup : Setup) (h : Held) (t : Ticket) (front : List Step) (r : Option Answer) → IfNone r (t.shard ≡ h.state.index → filed_answer (connect_in h.state t.place) ≡ None) → t.shard ≡ h.state.index → Stands setup h → h.told ≡ front → h.state.place ≡ length (list_of h.told) →
+    IfNone r (IsLevelWithout setup t front)
+level_without setup h t front None none here s told level =
+    record { held = h; stands = s; index = sym here; told = told; level = level ∙ ap (λ (l : List Step). length (list_of l)) told; none = none here }
+level_without setup h t front (Some a) none here s told level = tt
+
+-- ---- the other calls
+
+pub stands_watched : (setup : Setup) (seen told : List Step) (taken : List ℕ) (place : ℕ) (waker : Waker) (s t : State) (b : Bool) → Stands setup (held seen told taken s) → (b ≡ true → Watched place waker s t) → (b ≡ false → t ≡ s) → IsSound t → Stands setup (held seen told taken t)
+stands_watched setup seen told taken place waker s t true h own other sound =
+    let w = own refl in
+    let on : Holds setup (list_of seen) taken s.index s.place t = holds_watched setup (list_of seen) taken s.index s.place place waker s t h.holds w sound in
+    record {
+      learnt = h.learnt;
+      within = omega (arith, h.within, w.place);
+      holds = subst (λ (i : ℕ). Holds setup (list_of seen) taken i t.place t) (sym w.index) (subst (λ (n : ℕ). Holds setup (list_of seen) taken s.index n t) (sym w.place) on);
+    }
+stands_watched setup seen told taken place waker s t false h own other sound = subst (λ (u : State). Stands setup (held seen told taken u)) (sym (other refl)) h
+
+pub watched_index : (place : ℕ) (waker : Waker) (s t : State) (b : Bool) → (b ≡ true → Watched place waker s t) → (b ≡ false → t ≡ s) → t.index ≡ s.index
+watched_index place waker s t true own other = (own refl).index
+watched_index place waker s t false own other = ap (λ (u : State). u.index) (other refl)
+
+pub stands_swept : (setup : Setup) (seen told : List Step) (taken : List ℕ) (before : ℕ) (s t : State) → Stands setup (held seen told taken s) → Swept before s t → IsSound t → Stands setup (held seen told (taken ++ swept_places before s) t)
+stands_swept setup seen told taken before s t h w sound =
+    let on : Holds setup (list_of seen) (taken ++ swept_places before s) s.index s.place t = holds_swept setup (list_of seen) taken s.index s.place before s t h.holds w sound in
+    record {
+      learnt = h.learnt;
+      within = omega (arith, h.within, w.place);
+      holds = subst (λ (i : ℕ). Holds setup (list_of seen) (taken ++ swept_places before s) i t.place t) (sym w.index) (subst (λ (n : ℕ). Holds setup (list_of seen) (taken ++ swept_places before s) s.index n t) (sym w.place) on);
+    }
+
+pub stands_shut : (setup : Setup) (seen told : List Step) (taken : List ℕ) (s t : State) → Stands setup (held seen told taken s) → WasShut s t → IsSound t → Stands setup (held seen told taken t)
+stands_shut setup seen told taken s t h w sound =
+    let on : Holds setup (list_of seen) taken s.index s.place t = holds_shut setup (list_of seen) taken s.index s.place s t h.holds w sound in
+    record {
+      learnt = h.learnt;
+      within = omega (arith, h.within, w.place);
+      holds = subst (λ (i : ℕ). Holds setup (list_of seen) taken i t.place t) (sym w.index) (subst (λ (n : ℕ). Holds setup (list_of seen) taken s.index n t) (sym w.place) on);
+    }
+
+-- ---- which shard it is
+
+pub applied_index : {X Y : Type 0} (s t : State) (e : Entry) (r : Result X Y) → OnOk r (Applied s e t) → OnErr r (IsAsBefore s t) → t.index ≡ s.index
+applied_index s t e (Ok x) done refused = done.index
+applied_index s t e (Err x) done refused = refused.index
+
+pub untaken_index : (place : ℕ) (s t : State) (b : Bool) → (b ≡ true → Took place s t) → (b ≡ false → t ≡ s) → t.index ≡ s.index
+untaken_index place s t true took same = (took refl).index_is
+untaken_index place s t false took same = ap (λ (u : State). u.index) (same refl)
+
+-- ---- the fields of a desk
+
+pub prefix_taken : {A : Type 0} (xs ys : List A) → IsPrefix xs ys → take (length xs) ys ≡ xs
+prefix_taken [] ys p = refl
+prefix_taken (x ∷ xs) [] p = absurd (cc (p.1))
+prefix_taken (x ∷ xs) (y ∷ ys) p =
+    let heads : x ≡ y = cc (p.1) in
+    let rest = prefix_taken xs ys (p.0, cc (p.1)) in
+    cc (heads, rest)
+
+pub taken_prefix : {A : Type 0} (xs ys : List A) → take (length xs) ys ≡ xs → IsPrefix xs ys
+taken_prefix xs ys e = (drop (length xs) ys, ap (λ l. l ++ drop (length xs) ys) (sym e) ∙ take-append-drop (length xs) ys)
+
+pub stands_of : (setup : Setup) (seen told : List Step) (taken : List ℕ) (s : State) → take (length told) seen ≡ told → s.place ≤ length (list_of told) → Holds setup (list_of seen) taken s.index s.place s → Stands setup (held seen told taken s)
+stands_of setup seen told taken s learnt within holds = record { learnt = taken_prefix told seen learnt; within = within; holds = holds }

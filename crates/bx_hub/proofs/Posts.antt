@@ -1,0 +1,113 @@
+-- What a request or a tick adds to the front of a pass, and why it is refused.
+use Rattle.std.proofs.Common.{◌≡◌, ℕ, ◌+◌, ◌<◌, ◌≤◌, Some, None, List, [], ◌∷◌, ◌++◌, length, take, drop, refl, sym, ap, ◌∙◌, subst, arith, inl, inr, length-append}
+use Rattle.std.specs.Prelude.{Result, Ok, Err, IfErr, IfOk, IsErrAnd}
+use Rattle.std.proofs.lemmas.List.{drop_at}
+use mathlib.Core.List.{IsPrefix}
+use Rattle.bx_admission.specs.Ledgers.{Continues, Ledger}
+use Rattle.bx_admission.specs.Slots.{admitted_slots, placed_by}
+use Rattle.bx_admission.specs.declared.plan.Plan.{Plan}
+use Rattle.bx_admission.proofs.Faults.{IsFault}
+use Rattle.bx_advice.specs.Limits.{greatest_length}
+use Rattle.bx_advice.specs.declared.config.Config.{Config}
+use Rattle.bx_entry.specs.Inputs.{ReadInput, added_by, refusal_of, refused_beyond}
+use Rattle.bx_entry.specs.Listing.{Listed}
+use Rattle.bx_entry.specs.Registry.{entries}
+use Rattle.bx_entry.specs.declared.entry.Entry.{Entry}
+use Rattle.bx_laws.proofs.Lists.{entries_length}
+use Rattle.bx_registry.specs.declared.plan.AdmitFault.{AdmitFault}
+use Rattle.bx_registry.specs.declared.plan.AdmitFault.TheVariants as faults
+use Rattle.bx_shard.specs.Shards.{Setup}
+use Rattle.bx_window.specs.Places as places
+use Rattle.bx_window.specs.Steps.{list_of}
+use Rattle.bx_window.specs.declared.law.Step.{Step}
+use Rattle.bx_hub.specs.Faults.{of_planning}
+use Rattle.bx_hub.specs.Posts.{AreSlotsAt, IsAdmittedAt, IsRefused, IsUnpublished}
+use Rattle.bx_hub.specs.declared.fault.PostFault.{PostFault}
+use Rattle.bx_hub.specs.declared.fault.PostFault.TheVariants.{Body, Closed, BadMoment, Ended, Behind, Overrun, Memory}
+use Rattle.bx_hub.proofs.Lists.{list_length}
+
+-- ---- what is published
+
+entries_many : (l : Ledger) (p : Plan) → Continues l p → length p.batch.entries ≡ length p.elements
+entries_many l p c =
+    let all = entries_length l.config (l.list ++ p.elements) in
+    let old = entries_length l.config l.list in
+    omega (arith, all, old, ap (λ (es : List Entry). length es) c.entries, length-append (entries l.config l.list) p.batch.entries, length-append l.list p.elements)
+
+-- a plan continues the list of the window
+pub continues : (config : Config) (list : List Listed) (l : Ledger) (p : Plan) → l.config ≡ config → l.list ≡ list → Continues l p → 0 < length p.elements →
+    places.Continues config list (record { batch = p.batch; elements = p.elements })
+continues config list l p same is c some =
+    subst (λ (k : Config). places.Continues k list (record { batch = p.batch; elements = p.elements })) same
+    (subst (λ (xs : List Listed). places.Continues l.config xs (record { batch = p.batch; elements = p.elements })) is
+    (record { first = c.first; some = omega (arith, some, entries_many l p c); entries = c.entries }))
+
+-- the list with the batch has its end
+pub places_end : (list : List Listed) (l : Ledger) (p : Plan) → l.list ≡ list → Continues l p → length list + length p.batch.entries ≤ greatest_length
+places_end list l p is c = omega (arith, ap (λ (xs : List Listed). length xs) is, c.change.bounded, length-append l.list p.elements, entries_many l p c)
+
+-- ---- where it stands
+
+pub none_added : (xs : List Listed) → length xs ≡ 0 → xs ≡ []
+none_added [] e = refl
+none_added (x ∷ xs) e = absurd (omega (arith, e))
+
+-- the slots are those that a placing gives behind the ledger's list
+abbrev pub IsSlotted : (ℕ → ℕ → ℕ) → Ledger → Plan → Type 0
+IsSlotted placing l p = p.slots ≡ admitted_slots (placed_by l.config l.shards placing) l.list p.elements
+
+take_front : {A : Type 0} (xs ys : List A) → take (length xs) (xs ++ ys) ≡ xs
+take_front [] ys = refl
+take_front (x ∷ xs) ys = ap (λ l. x ∷ l) (take_front xs ys)
+
+-- the front that is then seen ends with what the input adds
+pub admitted_by : (input : ReadInput) (l : Ledger) (p : Plan) (old whole new : List Step) → l.list ≡ list_of whole → Continues l p → p.elements ≡ added_by input → refusal_of (length l.list) input ≡ None →
+    IsPrefix old whole → list_of new ≡ list_of whole ++ p.elements → IsAdmittedAt input p.batch.first old new
+admitted_by input l p old whole new is c added allowed pre grown =
+    let first : p.batch.first ≡ length (list_of whole) = c.first ∙ ap (λ (xs : List Listed). length xs) is in
+    let more : list_of new ≡ list_of whole ++ added_by input = grown ∙ ap (λ (xs : List Listed). list_of whole ++ xs) added in
+    record {
+      allowed = ap (λ (n : ℕ). refusal_of n input) c.first ∙ allowed;
+      fresh = omega (arith, first, list_length old whole pre);
+      there = ap (drop p.batch.first) more ∙ drop_at (list_of whole) (added_by input) p.batch.first (sym first);
+      end = omega (arith, first, ap (λ (xs : List Listed). length xs) more, length-append (list_of whole) (added_by input));
+    }
+
+-- the slots are what the places of the front give
+pub slots_by : (placing : ℕ → ℕ → ℕ) (config : Config) (input : ReadInput) (l : Ledger) (p : Plan) (whole new : List Step) → l.config ≡ config → l.shards ≡ config.shards → l.list ≡ list_of whole → p.batch.first ≡ length l.list →
+    p.slots ≡ admitted_slots (placed_by l.config l.shards placing) l.list p.elements → p.elements ≡ added_by input → list_of new ≡ list_of whole ++ p.elements → AreSlotsAt (placed_by config config.shards placing) input p.batch.first new p.slots
+slots_by placing config input l p whole new same many is here slots added grown =
+    let setup : Setup = placed_by config config.shards placing in
+    let one : placed_by l.config l.shards placing ≡ setup = cc (same, many) in
+    let first : p.batch.first ≡ length (list_of whole) = here ∙ ap (λ (xs : List Listed). length xs) is in
+    let front : take p.batch.first (list_of new) ≡ l.list =
+    ap (λ (xs : List Listed). take p.batch.first xs) grown ∙ ap (λ (n : ℕ). take n (list_of whole ++ p.elements)) first ∙ take_front (list_of whole) p.elements ∙ sym is in
+    slots ∙ ap (λ (s : Setup). admitted_slots s l.list p.elements) one ∙ ap (admitted_slots setup l.list) added ∙ ap (λ (xs : List Listed). admitted_slots setup xs (added_by input)) (sym front)
+
+-- it stands there for whoever had seen less before
+pub admitted_before : (input : ReadInput) (first : ℕ) (old mid new : List Step) → IsPrefix old mid → IsAdmittedAt input first mid new → IsAdmittedAt input first old new
+admitted_before input first old mid new p a = record { allowed = a.allowed; fresh = omega (arith, list_length old mid p, a.fresh); there = a.there; end = a.end }
+
+-- ---- why it is refused
+
+pub refused_by : (input : ReadInput) (moment end : ℕ) (f : AdmitFault) (front : List Step) → refusal_of (length (list_of front)) input ≡ refused_beyond moment end → IsFault (refused_beyond moment end) f → IsRefused input (of_planning f) front
+refused_by input moment end faults.BadMoment front same is = same ∙ is
+refused_by input moment end faults.Ended front same is = inl (same ∙ is)
+refused_by input moment end faults.Memory front same is = tt
+
+pub unpublished : (input : ReadInput) (f : PostFault) (front : List Step) → IsUnpublished f front → IsRefused input f front
+unpublished input (Body fault) front u = absurd u
+unpublished input Closed front u = tt
+unpublished input BadMoment front u = absurd u
+unpublished input Ended front u = inr u
+unpublished input (Behind first) front u = u
+unpublished input (Overrun shard place) front u = absurd u
+unpublished input Memory front u = tt
+
+pub err_refused : {T : Type 0} (input : ReadInput) (f : PostFault) (front : List Step) (r : Result T PostFault) → IsErrAnd r (λ e. e ≡ f) → IsRefused input f front → IfErr r (λ e. IsRefused input e front)
+err_refused input f front (Ok x) is refused = absurd is
+err_refused input f front (Err e) is refused = subst (λ (g : PostFault). IsRefused input g front) (sym is) refused
+
+pub unpublished_result : {T : Type 0} (input : ReadInput) (front : List Step) (r : Result T PostFault) → IfErr r (λ e. IsUnpublished e front) → IfErr r (λ e. IsRefused input e front)
+unpublished_result input front (Ok x) u = tt
+unpublished_result input front (Err e) u = unpublished input e front u

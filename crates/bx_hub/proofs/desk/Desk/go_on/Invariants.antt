@@ -1,0 +1,9 @@
+use Rattle.std.proofs.Common.{◌≡◌, ◌≤◌, ◌-◌, length}
+use Rattle.bx_window.specs.Steps.{list_of}
+use Rattle.bx_hub.proofs.desk.Desk.go_on.Given as goal
+
+abbrev pub invariant-loop-alloc : goal.invariant-loop-alloc
+invariant-loop-alloc g l = (l.self.note ≡ l.initial.self.note) × (l.self.shard.place ≤ l.end) × (l.self.shard.index ≡ l.initial.self.shard.index)
+
+abbrev pub decreases-loop-alloc : goal.decreases-loop-alloc
+decreases-loop-alloc g l = l.end - l.self.shard.place

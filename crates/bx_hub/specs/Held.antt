@@ -1,0 +1,48 @@
+-- What lies under a shard's lock.
+use Rattle.std.specs.Prelude.{ℕ, ◌≡◌, ◌≤◌, List, length, Option, None, option_map}
+use mathlib.Core.List.{IsPrefix}
+use Rattle.bx_advice.specs.declared.config.Config.{Config}
+use Rattle.bx_entry.specs.Answers.{answer}
+use Rattle.bx_message.specs.declared.reply.Answer.{Answer}
+use Rattle.bx_shard.specs.Held.{Holds, given_of}
+use Rattle.bx_shard.specs.Shards.{Setup}
+use Rattle.bx_shard.specs.Seen.{state}
+use Rattle.bx_connects.specs.Connects.{filed_answer}
+use Rattle.bx_shard.specs.States.{State, connect_in}
+use Rattle.bx_entry.specs.declared.Placing as Placing
+use Rattle.bx_entry.specs.declared.entry.Ticket.{Ticket}
+use Rattle.bx_window.specs.declared.law.Naming as Naming
+use Rattle.bx_hub.specs.declared.desk.Desk.{Desk}
+use Rattle.bx_window.specs.declared.law.Step.{Step}
+use Rattle.bx_window.specs.Steps.{list_of}
+
+-- the log that the reader has seen, the longest note that was brought, which answers were taken, and the shard
+pub record Held : Type 0 where
+  pub seen : List Step
+  pub told : List Step
+  pub taken : List ℕ
+  pub state : State
+
+-- The reader has learnt the note, the shard is no further than it, and holds what the definition's shard of its index holds after so many entries of the
+-- list that the reader has seen.
+pub record Stands (setup : Setup) (h : Held) : Type 0 where
+  pub learnt : IsPrefix h.told h.seen
+  pub within : h.state.place ≤ length (list_of h.told)
+  pub holds : Holds setup (list_of h.seen) h.taken h.state.index h.state.place h.state
+
+-- what lies under a shard's lock, with the shard's state
+abbrev pub held_of : {J P : Type 0} {g : Naming.Ghosts J} {h : Placing.Ghosts P} → Desk J P g h → Held
+held_of {J} {P} {g} {h} d = record { seen = d.reader; told = d.note; taken = d.taken; state = state h.place_of d.shard }
+
+-- what one thread gives over the list of a log to the message at a place
+abbrev pub answer_over : Config → List Step → ℕ → Option Answer
+answer_over config log place = option_map given_of (answer config (list_of log) place)
+
+-- the shard that the ticket names was at the end of this front, under its lock, and had filed no answer to the ticket's connect
+pub record IsLevelWithout (setup : Setup) (ticket : Ticket) (front : List Step) : Type 0 where
+  pub held : Held
+  pub stands : Stands setup held
+  pub index : held.state.index ≡ ticket.shard
+  pub told : held.told ≡ front
+  pub level : held.state.place ≡ length (list_of front)
+  pub none : filed_answer (connect_in held.state ticket.place) ≡ None

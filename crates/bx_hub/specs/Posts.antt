@@ -1,0 +1,45 @@
+-- What a post or a tick is answered, and why it is refused.
+use Rattle.std.specs.Prelude.{ℕ, ◌≡◌, ◌+◌, ◌<◌, ◌≤◌, ◌⊎◌, ◌^◌, List, length, take, drop, Some, None}
+use Rattle.bx_admission.specs.Slots.{admitted_slots}
+use Rattle.bx_entry.specs.Inputs.{ReadInput, Unread, added_by, refusal_of}
+use Rattle.bx_entry.specs.declared.entry.Slot.{Slot}
+use Rattle.bx_entry.specs.declared.input.Refusal.TheVariants as refusals
+use Rattle.bx_shard.specs.Shards.{Setup}
+use Rattle.bx_window.specs.declared.law.Step.{Step}
+use Rattle.bx_window.specs.Steps.{list_of, firsts_of, begin_of}
+use Rattle.bx_hub.specs.declared.fault.PostFault.{PostFault}
+use Rattle.bx_hub.specs.declared.fault.PostFault.TheVariants.{Body, Closed, BadMoment, Ended, Behind, Overrun, Memory}
+
+-- The input is not to be refused at this place, which isn't below what the pass had seen; and from there on the front that the pass has then seen
+-- is what the input adds.
+pub record IsAdmittedAt (input : ReadInput) (first : ℕ) (old new : List Step) : Type 0 where
+  pub allowed : refusal_of first input ≡ None
+  pub fresh : length (list_of old) ≤ first
+  pub there : drop first (list_of new) ≡ added_by input
+  pub end : length (list_of new) ≡ first + length (added_by input)
+
+-- the slots are those that one thread gives for the input at this place of the front
+abbrev pub AreSlotsAt : Setup → ReadInput → ℕ → List Step → List Slot → Type 0
+AreSlotsAt setup input first front slots = slots ≡ admitted_slots setup (take first (list_of front)) (added_by input)
+
+-- Why an input is refused, by the front that the pass has then seen: its documents can't be read; its moment is above the greatest; the list, or
+-- the log of its publishes and trims, has an end; the window has 4096 batches, the oldest of which begins at the place that is told; or it begins
+-- past the place that is told, where a shard stands.
+abbrev pub IsRefused : ReadInput → PostFault → List Step → Type 0
+IsRefused input (Body fault) front = input ≡ Unread fault
+IsRefused input Closed front = Unit {0}
+IsRefused input BadMoment front = refusal_of (length (list_of front)) input ≡ Some refusals.BadMoment
+IsRefused input Ended front = (refusal_of (length (list_of front)) input ≡ Some refusals.Ended) ⊎ (2 ^ 62 ≤ length front)
+IsRefused input (Behind first) front = (length (firsts_of front) ≡ 4096) × (begin_of front ≡ first) × (first + 4096 ≤ length (list_of front))
+IsRefused input (Overrun shard place) front = place < begin_of front
+IsRefused input Memory front = Unit {0}
+
+-- Why what was planned is not published, by the same front.
+abbrev pub IsUnpublished : PostFault → List Step → Type 0
+IsUnpublished (Body fault) front = ⊥
+IsUnpublished Closed front = ⊥
+IsUnpublished BadMoment front = ⊥
+IsUnpublished Ended front = 2 ^ 62 ≤ length front
+IsUnpublished (Behind first) front = (length (firsts_of front) ≡ 4096) × (begin_of front ≡ first) × (first + 4096 ≤ length (list_of front))
+IsUnpublished (Overrun shard place) front = ⊥
+IsUnpublished Memory front = Unit {0}

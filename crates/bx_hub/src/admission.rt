@@ -1,0 +1,183 @@
+//! What lies under the admission lock.
+ghost use Rattle.std.specs.Prelude.{◌≡◌, ◌<◌, ◌++◌, length, [], IfOk, IfErr, OnOk};
+ghost use mathlib.Core.List.{IsPrefix};
+ghost use Rattle.bx_admission.specs.Ledgers.{Continues};
+ghost use Rattle.bx_entry.specs.Inputs.{Request, Tick};
+ghost use Rattle.bx_window.specs.Steps.{list_of};
+ghost use Rattle.bx_admission.specs.Slots.{placed_by};
+ghost use Rattle.bx_hub.specs.declared.fault.PostFault.TheVariants as faults;
+ghost use Rattle.bx_hub.specs.Posts.{AreSlotsAt, IsAdmittedAt, IsRefused, IsUnpublished};
+
+use crate::fault::PostFault;
+use bx_admission::{Ledger, Plan};
+use bx_advice::Config;
+use bx_entry::{Placing, Slot};
+use bx_message::{Message, Sequence};
+use bx_window::{Bundle, LogWriter, Naming, Note, Refusal};
+use std::alloc::{AllocError, Global};
+use std::sync::Wait;
+
+/// The log of publishes and trims has fewer steps than this.
+const MOST_STEPS: u64 = 1 << 62;
+
+/// Where the messages of a request stand, and how they are answered; or where a tick stands.
+#[derive(Drop)]
+pub(crate) struct Admitted {
+    pub first: u64,
+    pub slots: Sequence<Slot>,
+}
+
+/// Who is live, beside the writer of the list.
+#[derive(Drop)]
+pub(crate) struct Admission<J: Naming, R: Wait + Drop> {
+    ledger: Ledger,
+    closed: bool,
+    writer: LogWriter<J, R>,
+    ghost config: { ledger.config ≡ J.config },
+    ghost counted: { ledger.shards ≡ J.config.shards },
+    ghost listed: { ledger.list ≡ list_of writer },
+}
+
+impl<J: Naming, R: Wait + Drop> Admission<J, R> {
+    /// An empty list.
+    pub(crate) fn new(
+        alloc: Global,
+        config: Config,
+        writer: LogWriter<J, R>,
+    ) -> Result<Admission<J, R>, AllocError>
+        requires config { config ≡ J.config }
+        requires empty { writer ≡ [] }
+        ensures { IfOk result (λ a. a.writer ≡ []) }
+    {
+        Ok(Admission {
+            ledger: Ledger::new(alloc, config)?,
+            closed: false,
+            writer,
+        })
+    }
+
+    /// Takes the messages of a request into the list. A request without messages adds nothing.
+    pub(crate) fn post<W: Wait, P: Placing>(
+        &mut self,
+        rt: &W,
+        alloc: Global,
+        placing: &P,
+        pass: &mut Note<J>,
+        moment: u64,
+        nonce: u128,
+        messages: &[Message],
+    ) -> Result<Admitted, PostFault>
+        requires placing { P.place_of placing.now ≡ J.placing }
+        ensures seen { IsPrefix pass.old pass.new }
+        ensures admitted { IfOk result (λ a. IsAdmittedAt (Request moment nonce messages.now) a.first pass.old pass.new) }
+        ensures slots { IfOk result (λ a. AreSlotsAt (placed_by J.config J.config.shards J.placing) (Request moment nonce messages.now) a.first pass.new a.slots) }
+        ensures refused { IfErr result (λ f. IsRefused (Request moment nonce messages.now) f pass.new) }
+    {
+        self.tell(pass)?;
+        let plan = self.ledger.plan(alloc, placing, moment, nonce, messages)?;
+        let count = messages.len();
+        if count == 0 {
+            return Ok(Admitted {
+                first: plan.batch.first,
+                slots: plan.slots,
+            });
+        }
+        self.publish(rt, alloc, pass, plan)
+    }
+
+    /// Takes a tick into the list.
+    pub(crate) fn tick<W: Wait>(
+        &mut self,
+        rt: &W,
+        alloc: Global,
+        pass: &mut Note<J>,
+        moment: u64,
+    ) -> Result<Admitted, PostFault>
+        ensures seen { IsPrefix pass.old pass.new }
+        ensures admitted { IfOk result (λ a. IsAdmittedAt (Tick moment) a.first pass.old pass.new) }
+        ensures refused { IfErr result (λ f. IsRefused (Tick moment) f pass.new) }
+    {
+        self.tell(pass)?;
+        let plan = self.ledger.plan_tick(alloc, moment)?;
+        self.publish(rt, alloc, pass, plan)
+    }
+
+    // The pass has then seen the whole list, where the hub is open.
+    fn tell(&mut self, pass: &mut Note<J>) -> Result<(), PostFault>
+        ensures same { (self.new.ledger ≡ self.old.ledger) × (self.new.writer ≡ self.old.writer) }
+        ensures seen { IsPrefix pass.old pass.new }
+        ensures whole { OnOk result (pass.new ≡ self.new.writer) }
+        ensures refused { IfErr result (λ f. f ≡ faults.Closed) }
+    {
+        if self.closed {
+            return Err(PostFault::Closed);
+        }
+        *pass = self.writer.tell_beyond(pass);
+        Ok(())
+    }
+
+    // Shows readers what was planned at this very admission.
+    fn publish<W: Wait>(
+        &mut self,
+        rt: &W,
+        alloc: Global,
+        pass: &mut Note<J>,
+        plan: Plan,
+    ) -> Result<Admitted, PostFault>
+        requires continues { Continues self.old.ledger plan }
+        requires some { 0 < length plan.elements }
+        requires whole { pass.old ≡ self.old.writer }
+        ensures seen { IsPrefix pass.old pass.new }
+        ensures taken { IfOk result (λ a. (a ≡ record { first = plan.batch.first; slots = plan.slots })
+            × (list_of pass.new ≡ list_of pass.old ++ plan.elements)) }
+        ensures refused { IfErr result (λ f. IsUnpublished f pass.new) }
+    {
+        if pass.steps() >= MOST_STEPS {
+            return Err(PostFault::Ended);
+        }
+        let Plan {
+            batch,
+            slots,
+            elements,
+            change,
+        } = plan;
+        let first = batch.first;
+        let added = elements.again();
+        match self.writer.publish(rt, alloc, Bundle { batch, elements }) {
+            Ok(()) => {
+                self.ledger.commit(change, &added);
+                *pass = self.writer.tell();
+                Ok(Admitted { first, slots })
+            }
+            Err((_, Refusal::Full)) => Err(PostFault::Behind {
+                first: pass.begin(),
+            }),
+            Err((_, Refusal::Memory)) => Err(PostFault::Memory),
+        }
+    }
+
+    /// Drops the batches that lie wholly below a place. Nothing is dropped where the log has no room for a step more.
+    pub(crate) fn trim<W: Wait>(
+        &mut self,
+        rt: &W,
+        alloc: Global,
+        place: u64,
+    ) -> Result<(), AllocError>
+        ensures list { list_of self.new.writer ≡ list_of self.old.writer }
+    {
+        if self.writer.tell().steps() >= MOST_STEPS {
+            return Ok(());
+        }
+        match self.writer.trim(rt, alloc, place) {
+            Ok(()) => Ok(()),
+            Err(_) => Err(AllocError),
+        }
+    }
+
+    /// No more entries.
+    pub(crate) fn close(&mut self)
+        ensures { self.new.writer ≡ self.old.writer }
+    {
+        self.closed = true;
+    }
+}

@@ -1,0 +1,287 @@
+//! What lies under a shard's lock.
+ghost use Rattle.std.specs.Prelude.{◌≡◌, ◌+◌, ◌<◌, ◌≤◌, ◌⊎◌, [], length, take, nat_eq, true, Some, None, OnOk, OnErr, IfOk, IfErr, IfSome, IfNone};
+ghost use Rattle.std.specs.Arc.{arc_value};
+ghost use mathlib.Core.List.{IsPrefix};
+ghost use Rattle.bx_connects.specs.Connects.{count_filed_below, filed_answer, watched};
+ghost use Rattle.bx_shard.specs.Held.{Holds};
+ghost use Rattle.bx_shard.specs.Props.{holds_props};
+ghost use Rattle.bx_shard.specs.Seen.{state};
+ghost use Rattle.bx_shard.specs.States.{Swept, WasShut, Watched, connect_in};
+ghost use Rattle.bx_window.specs.Places.{IsOf, StandsIn};
+ghost use Rattle.bx_window.specs.Steps.{list_of};
+ghost use Rattle.bx_admission.specs.Slots.{placed_by};
+ghost use Rattle.bx_hub.specs.Faults.{IsStopped};
+ghost use Rattle.bx_hub.specs.declared.fault.HubFault.TheVariants as faults;
+
+use crate::fault::HubFault;
+use bx_advice::Config;
+use bx_connects::Watch;
+use bx_entry::{Batch, Placing, Ticket};
+use bx_history::{History, Lists};
+use bx_message::Answer;
+use bx_shard::Shard;
+use bx_window::{LogReader, Naming, Next, Note, entry_of};
+use bx_workers::Gate;
+use futures::task::Waker;
+use std::alloc::Global;
+use std::sync::Arc;
+
+/// A shard, with its reader of the window and the longest note that was brought to it. It holds what the definition's
+/// shard of its index holds after so many entries of the list that the reader has seen.
+#[derive(Drop)]
+pub(crate) struct Desk<J: Naming, P: Placing> {
+    shard: Shard<P>,
+    reader: LogReader<J>,
+    note: Note<J>,
+    taken: History<u64>,
+    closed: bool,
+    ghost learnt: { take (length note) reader ≡ note },
+    ghost within: { shard.place ≤ length (list_of note) },
+    ghost holds: { Holds (placed_by J.config J.config.shards J.placing) (list_of reader) taken shard.index shard.place (state P.place_of shard) } by { Prim.hlevel holds_props },
+}
+
+impl<J: Naming, P: Placing> Desk<J, P> {
+    ghost use Rattle.bx_hub.specs.Held.{IsLevelWithout, Stands, answer_over, held_of};
+
+    /// The shard of this index, which has applied nothing.
+    pub(crate) fn new(
+        alloc: Global,
+        index: usize,
+        config: Config,
+        placing: Arc<P>,
+        reader: LogReader<J>,
+    ) -> Desk<J, P>
+        requires reader { reader ≡ [] }
+        requires config { config ≡ J.config }
+        requires placing { P.place_of (arc_value placing) ≡ J.placing }
+        ensures { (result.note ≡ []) × (result.shard.place ≡ 0) × (result.shard.index ≡ index) }
+    {
+        let note = reader.note();
+        Desk {
+            shard: Shard::new(alloc, index, config, placing),
+            reader,
+            note,
+            taken: History::new(),
+            closed: false,
+        }
+    }
+
+    /// How many entries were applied.
+    pub(crate) fn place(&self) -> u64
+        ensures place { result ≡ self.now.shard.place }
+        ensures stands { Stands (placed_by J.config J.config.shards J.placing) (held_of self.now) }
+    {
+        self.shard.place()
+    }
+
+    /// All that the reader has seen, which the longest note begins.
+    pub(crate) fn front(&self) -> Note<J>
+        ensures all { result ≡ self.now.reader }
+        ensures longer { IsPrefix self.now.note result }
+    {
+        self.reader.note()
+    }
+
+    /// Which shard it is.
+    pub(crate) fn index(&self) -> usize
+        ensures { result ≡ self.now.shard.index }
+    {
+        self.shard.index()
+    }
+
+    /// Brings the shard up to the longest note, this one included; its gate is passed before and after.
+    pub(crate) fn bring<G: Gate>(
+        &mut self,
+        alloc: Global,
+        gate: &G,
+        note: &Note<J>,
+    ) -> Result<(), HubFault>
+        ensures old { IsPrefix self.old.note self.new.note }
+        ensures told { IsPrefix note.now self.new.note }
+        ensures one { (self.new.note ≡ self.old.note) ⊎ (self.new.note ≡ note.now) }
+        ensures end { OnOk result (self.new.shard.place ≡ length (list_of self.new.note)) }
+        ensures stopped { IfErr result (λ f. IsStopped f self.new.reader) }
+        ensures index { self.new.shard.index ≡ self.old.shard.index }
+    {
+        self.learn(note);
+        if self.closed {
+            return Err(HubFault::Closed);
+        }
+        gate.before(self.index());
+        let brought = self.go_on(alloc);
+        gate.after(self.index());
+        brought
+    }
+
+    // Learns a note.
+    fn learn(&mut self, note: &Note<J>)
+        ensures old { IsPrefix self.old.note self.new.note }
+        ensures told { IsPrefix note.now self.new.note }
+        ensures one { (self.new.note ≡ self.old.note) ⊎ (self.new.note ≡ note.now) }
+        ensures same { self.new.shard ≡ self.old.shard }
+    {
+        self.reader.learn(note);
+        self.note = self.note.longer(note);
+    }
+
+    // Applies the entries up to the end of the longest note, batch by batch.
+    fn go_on(&mut self, alloc: Global) -> Result<(), HubFault>
+        ensures told { self.new.note ≡ self.old.note }
+        ensures end { OnOk result (self.new.shard.place ≡ length (list_of self.new.note)) }
+        ensures stopped { IfErr result (λ f. IsStopped f self.new.reader) }
+        ensures index { self.new.shard.index ≡ self.old.shard.index }
+    {
+        let end = self.note.len();
+        while self.place() < end {
+            let batch = self.next_batch()?;
+            self.apply_batch(alloc, &batch, end)?;
+        }
+        Ok(())
+    }
+
+    // The batch that has the next entry.
+    fn next_batch(&mut self) -> Result<Arc<Batch, Global>, HubFault>
+        requires { self.old.shard.place < length (list_of self.old.note) }
+        ensures same { (self.new.note ≡ self.old.note) × (self.new.shard ≡ self.old.shard) }
+        ensures batch { IfOk result (λ b. IsOf (arc_value b) self.new.shard.place × StandsIn J.config (list_of self.new.reader) (arc_value b)) }
+        ensures stopped { IfErr result (λ f. IsStopped f self.new.reader) }
+    {
+        let place = self.shard.place();
+        match self.reader.next(place) {
+            Ok(Next::Batch(batch)) => Ok(batch),
+            Ok(Next::Level) => unreachable!(),
+            Ok(Next::Overrun) => Err(HubFault::Overrun {
+                shard: self.shard.index(),
+                place,
+            }),
+            Err(_) => Err(HubFault::Memory),
+        }
+    }
+
+    // Applies the entries of a batch from the next one on, as far as the end.
+    fn apply_batch(&mut self, alloc: Global, batch: &Batch, end: u64) -> Result<(), HubFault>
+        requires place { IsOf batch.now self.old.shard.place }
+        requires stands { StandsIn J.config (list_of self.old.reader) batch.now }
+        requires end { (self.old.shard.place < end) × (end ≡ length (list_of self.old.note)) }
+        ensures same { (self.new.note ≡ self.old.note) × (self.new.reader ≡ self.old.reader) }
+        ensures onward { OnOk result (self.old.shard.place < self.new.shard.place) }
+        ensures stopped { IfErr result (λ f. f ≡ faults.Memory) }
+        ensures index { self.new.shard.index ≡ self.old.shard.index }
+    {
+        let first = self.shard.place();
+        let left = batch.entries.len() as u64 - (first - batch.first);
+        let last = first + left.min(end - first);
+        let mut place = first;
+        while place < last {
+            self.step(alloc, batch, place)?;
+            place += 1;
+        }
+        Ok(())
+    }
+
+    // Applies the next entry.
+    fn step(&mut self, alloc: Global, batch: &Batch, place: u64) -> Result<(), HubFault>
+        requires next { place ≡ self.old.shard.place }
+        requires place { IsOf batch.now place }
+        requires stands { StandsIn J.config (list_of self.old.reader) batch.now }
+        requires within { place < length (list_of self.old.note) }
+        ensures same { (self.new.note ≡ self.old.note) × (self.new.reader ≡ self.old.reader) }
+        ensures ok { OnOk result (self.new.shard.place ≡ place + 1) }
+        ensures stopped { IfErr result (λ f. f ≡ faults.Memory) }
+        ensures index { self.new.shard.index ≡ self.old.shard.index }
+    {
+        // The list has an end.
+        let _end = self.note.len();
+        match self.shard.apply(alloc, entry_of(batch, place)) {
+            Ok(()) => Ok(()),
+            Err(_) => Err(HubFault::Memory),
+        }
+    }
+
+    /// The answer that is filed under a ticket, which is taken with that: it is given once. It is what the list of the
+    /// longest note that was brought gives.
+    pub(crate) fn take(&mut self, ticket: Ticket) -> Option<Answer>
+        ensures answer { IfSome result (λ a. answer_over J.config self.old.note ticket.place ≡ Some a) }
+        ensures told { self.new.note ≡ self.old.note }
+        ensures index { self.new.shard.index ≡ self.old.shard.index }
+        ensures none { IfNone result (ticket.shard ≡ self.old.shard.index → filed_answer (connect_in (state P.place_of self.old.shard) ticket.place) ≡ None) }
+    {
+        match self.shard.take(ticket) {
+            Some(answer) => {
+                self.taken.push(&ticket.place);
+                Some(answer)
+            }
+            None => None,
+        }
+    }
+
+    /// Gives the answer that is filed under a ticket; else brings the shard up to the longest note, the pass's included, and
+    /// looks again. The pass then has seen no less than that note.
+    #[tactic(auto, using(crate::proofs::Held::over_longer))]
+    pub(crate) fn poll<G: Gate>(
+        &mut self,
+        alloc: Global,
+        gate: &G,
+        pass: &mut Note<J>,
+        ticket: Ticket,
+    ) -> Result<Option<Answer>, HubFault>
+        requires { ticket.shard ≡ self.old.shard.index }
+        ensures seen { IsPrefix pass.old pass.new }
+        ensures answer { IfOk result (λ o. IfSome o (λ a. answer_over J.config pass.new ticket.place ≡ Some a)) }
+        ensures none { IfOk result (λ o. IfNone o (IsLevelWithout (placed_by J.config J.config.shards J.placing) ticket pass.new)) }
+        ensures stopped { IfErr result (λ f. IsStopped f pass.new) }
+    {
+        if let Some(answer) = self.take(ticket) {
+            *pass = pass.longer(&self.note);
+            return Ok(Some(answer));
+        }
+        match self.bring(alloc, gate, pass) {
+            Ok(()) => {
+                *pass = self.note.again();
+                Ok(self.take(ticket))
+            }
+            Err(fault) => {
+                *pass = self.front();
+                Err(fault)
+            }
+        }
+    }
+
+    /// Leaves a waker beside a held connect, as the shard does.
+    pub(crate) fn watch(&mut self, ticket: Ticket, waker: Waker) -> Watch
+        ensures watch { nat_eq ticket.shard self.old.shard.index ≡ true
+            → result ≡ watched self.old.shard.is_shut waker (connect_in (state P.place_of self.old.shard) ticket.place) }
+        ensures own { nat_eq ticket.shard self.old.shard.index ≡ true
+            → Watched ticket.place waker (state P.place_of self.old.shard) (state P.place_of self.new.shard) }
+    {
+        self.shard.watch(ticket, waker)
+    }
+
+    /// Drops the answers that were filed by entries below this place and that nobody took, and says how many they were.
+    pub(crate) fn sweep(&mut self, before: u64) -> usize
+        ensures swept { Swept before (state P.place_of self.old.shard) (state P.place_of self.new.shard) }
+        ensures count { result ≡ count_filed_below before self.old.shard.sessions.connects }
+    {
+        let places = History::of::<(u64, &Shard<P>), SweptPlaces>(&(before, &self.shard));
+        self.taken.join(&places);
+        self.shard.sweep(before)
+    }
+
+    /// The shard goes no further and stores no waker from here on. What is filed can still be taken.
+    pub(crate) fn close(&mut self)
+        ensures { WasShut (state P.place_of self.old.shard) (state P.place_of self.new.shard) }
+    {
+        self.closed = true;
+        self.shard.shut();
+    }
+}
+
+// The places of the connects whose answers a sweep drops.
+struct SweptPlaces;
+
+impl<'a, P: Placing> Lists<(u64, &'a Shard<P>), u64> for SweptPlaces {
+    ghost use Rattle.bx_shard.specs.Held.{swept_places};
+    ghost use Rattle.bx_shard.specs.Seen.{state};
+
+    ghost listed = { λ p. swept_places p.0 (state P.place_of p.1.now) };
+}

@@ -1,0 +1,135 @@
+//! What posts and ticks are answered, and why the hub refuses.
+ghost use Rattle.std.specs.Prelude.{◌≡◌, ◌+◌, ◌<◌, ◌^◌};
+ghost use Rattle.bx_hub.specs.declared.fault.PostFault.TheVariants as faults;
+ghost use Rattle.bx_hub.specs.Faults.{count_of, of_planning, of_reading};
+
+use bx_entry::{BodyFault, ReadFault, Slot};
+use bx_message::Sequence;
+use bx_registry::AdmitFault;
+use std::alloc::AllocError;
+
+/// Where the messages of a request stand, and how they are answered.
+#[derive(Drop)]
+pub struct Posted {
+    /// The place of the first message; of a request without messages the length of the list.
+    pub first: u64,
+    /// For each message in order its reply, or the ticket of a connect.
+    pub slots: Sequence<Slot>,
+    /// How many shards have not applied the whole request.
+    pub behind: Lagging,
+}
+
+/// Where a tick stands.
+#[derive(Clone, Copy, Debug, PartialEq, Eq)]
+pub struct Ticked {
+    /// The place of the tick.
+    pub place: u64,
+    /// How many shards have not applied the tick.
+    pub behind: Lagging,
+}
+
+/// How many shards stayed behind, by what stopped them.
+#[derive(Clone, Copy, Debug, PartialEq, Eq)]
+pub struct Lagging {
+    /// Memory was refused.
+    pub memory: usize,
+    /// The window begins past the place where the shard stands.
+    pub overrun: usize,
+    /// The hub was closed.
+    pub closed: usize,
+}
+
+impl Lagging {
+    /// No shard stayed behind.
+    pub fn none() -> Lagging
+        ensures { count_of result ≡ 0 }
+    {
+        Lagging {
+            memory: 0,
+            overrun: 0,
+            closed: 0,
+        }
+    }
+
+    /// One shard more, which was stopped by this fault.
+    pub(crate) fn with(self, fault: HubFault) -> Lagging
+        requires { count_of self + 1 < 2 ^ 64 }
+        ensures { count_of result ≡ count_of self + 1 }
+    {
+        match fault {
+            HubFault::Memory => Lagging {
+                memory: self.memory + 1,
+                ..self
+            },
+            HubFault::Overrun { .. } => Lagging {
+                overrun: self.overrun + 1,
+                ..self
+            },
+            HubFault::Closed => Lagging {
+                closed: self.closed + 1,
+                ..self
+            },
+        }
+    }
+}
+
+/// Why a post or a tick is refused. Nothing is added to the list then.
+#[derive(Clone, Copy, Debug, PartialEq, Eq)]
+pub enum PostFault {
+    /// Its documents cannot be read as messages.
+    Body(BodyFault),
+    /// The hub was closed.
+    Closed,
+    /// The moment is above the greatest that is taken.
+    BadMoment,
+    /// The list would pass the greatest length that it may have.
+    Ended,
+    /// The window is full, since some shard stays behind. Its oldest batch begins at `first`.
+    Behind { first: u64 },
+    /// The window is full, and begins past the place where this shard stands.
+    Overrun { shard: usize, place: u64 },
+    /// Memory was refused.
+    Memory,
+}
+
+/// Why there is no telling whether an answer is filed.
+#[derive(Clone, Copy, Debug, PartialEq, Eq)]
+pub enum HubFault {
+    /// The hub was closed, and the answer was not filed before.
+    Closed,
+    /// The window begins past the place where this shard stands.
+    Overrun { shard: usize, place: u64 },
+    /// Memory was refused.
+    Memory,
+}
+
+impl From<AllocError> for PostFault {
+    ghost from_gives = { λ _ fault. fault ≡ faults.Memory };
+
+    fn from(_error: AllocError) -> PostFault {
+        PostFault::Memory
+    }
+}
+
+impl From<ReadFault> for PostFault {
+    ghost from_gives = { λ fault given. given ≡ of_reading fault };
+
+    fn from(fault: ReadFault) -> PostFault {
+        match fault {
+            ReadFault::Body(fault) => PostFault::Body(fault),
+            ReadFault::Memory => PostFault::Memory,
+        }
+    }
+}
+
+impl From<AdmitFault> for PostFault {
+    ghost from_gives = { λ fault given. given ≡ of_planning fault };
+
+    fn from(fault: AdmitFault) -> PostFault {
+        match fault {
+            AdmitFault::BadMoment => PostFault::BadMoment,
+            AdmitFault::Ended => PostFault::Ended,
+            AdmitFault::Memory => PostFault::Memory,
+        }
+    }
+}

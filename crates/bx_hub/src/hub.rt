@@ -1,0 +1,292 @@
+//! The locks.
+ghost use Rattle.std.specs.Prelude.{◌≡◌, ◌⊎◌, ◌≤◌, ◌<◌, [], length, Some, IfOk, IfErr, IfSome, IfNone};
+ghost use Rattle.std.specs.Arc.{arc_value};
+ghost use mathlib.Core.List.{IsPrefix};
+ghost use Rattle.bx_admission.specs.Slots.{placed_by};
+ghost use Rattle.bx_entry.specs.Requests.{read_input};
+ghost use Rattle.bx_entry.specs.declared.input.Input.TheVariants as inputs;
+ghost use Rattle.bx_window.specs.Steps.{list_of};
+ghost use Rattle.bx_hub.specs.Faults.{IsStopped, count_of};
+
+use crate::admission::{Admission, Admitted};
+use crate::desk::Desk;
+use crate::fault::{HubFault, Lagging, PostFault, Posted, Ticked};
+use crate::pass::Pass;
+use bx_advice::Config;
+use bx_connects::Watch;
+use bx_entry::{Arrival, Placing, Ticket, read_messages};
+use bx_message::{Answer, Message};
+use bx_window::{Naming, Note, Opened, log_pair};
+use bx_workers::Gate;
+use futures::task::Waker;
+use std::alloc::{AllocError, Global};
+use std::sync::{Arc, Mutex, Wait};
+
+/// The server for any number of threads. Requests and ticks go into one list under one lock; each shard applies the list
+/// under a lock of its own, at its own pace.
+///
+/// Contracts follow a caller by its pass: what it has seen of the list only grows, and what it is given is what one
+/// thread gives over that.
+#[derive(Drop)]
+pub struct Hub<J: Naming, P: Placing, G: Gate + Drop, R: Wait + Drop> {
+    placing: Arc<P, Global>,
+    gate: G,
+    start: Note<J>,
+    admission: Mutex<Admission<J, R>>,
+    desks: Vec<Mutex<Desk<J, P>>>,
+    ghost placed: { P.place_of (arc_value placing) ≡ J.placing },
+    ghost started: { start ≡ [] },
+}
+
+impl<J: Naming, P: Placing, G: Gate + Drop, R: Wait + Drop> Hub<J, P, G, R> {
+    ghost use Rattle.bx_entry.specs.Inputs.{ReadInput, Request};
+    ghost use Rattle.bx_entry.specs.Inputs as read;
+    ghost use Rattle.bx_hub.specs.Held.{IsLevelWithout, answer_over};
+    ghost use Rattle.bx_hub.specs.Posts.{AreSlotsAt, IsAdmittedAt, IsRefused};
+
+    /// A hub over an empty list, for the configuration's number of shards.
+    pub fn new(
+        alloc: Global,
+        rt: R,
+        opened: Opened,
+        config: Config,
+        placing: Arc<P, Global>,
+        gate: G,
+    ) -> Result<Hub<J, P, G, R>, AllocError>
+    where
+        P: Drop,
+        requires book { opened.seen.book ≡ J.book }
+        requires config { config ≡ J.config }
+        requires placing { P.place_of (arc_value placing) ≡ J.placing }
+    {
+        let (writer, readers) = log_pair::<J, R>(alloc, rt, opened, config.shards)?;
+        let start = writer.tell();
+        let mut desks = Vec::new(alloc);
+        for reader in readers {
+            let desk = Desk::new(
+                alloc,
+                desks.len(),
+                config,
+                Arc::try_clone(&placing)?,
+                reader,
+            );
+            desks.push(Mutex::new(desk))?;
+        }
+        let admission = Mutex::new(Admission::new(alloc, config, writer)?);
+        Ok(Hub {
+            placing,
+            gate,
+            start,
+            admission,
+            desks,
+        })
+    }
+
+    /// A pass that has seen nothing.
+    pub fn pass(&self) -> Pass<J>
+        ensures { result ≡ [] }
+    {
+        Pass::of(self.start.again())
+    }
+
+    /// Takes the messages of a request into the list, and brings each shard up. It is refused, in this order, where its
+    /// documents cannot be read as messages, the hub was closed, its moment is above the greatest that is taken, the list
+    /// would become too long, or the window is full. A request without messages adds nothing.
+    pub fn post<W: Wait>(
+        &self,
+        rt: &W,
+        alloc: Global,
+        pass: &mut Pass<J>,
+        arrival: &Arrival,
+    ) -> Result<Posted, PostFault>
+        ensures seen { IsPrefix pass.old pass.new }
+        ensures admitted { IfOk result (λ p. IsAdmittedAt (read_input (inputs.Post arrival.now)) p.first pass.old pass.new) }
+        ensures slots { IfOk result (λ p. AreSlotsAt (placed_by J.config J.config.shards J.placing) (read_input (inputs.Post arrival.now)) p.first pass.new p.slots) }
+        ensures refused { IfErr result (λ f. IsRefused (read_input (inputs.Post arrival.now)) f pass.new) }
+        ensures behind { IfOk result (λ p. count_of p.behind ≤ length self.now.desks.items) }
+    {
+        let messages = read_messages(alloc, &arrival.bodies)?;
+        let Admitted { first, slots } = self.admit(
+            rt,
+            alloc,
+            &mut pass.front,
+            arrival.moment,
+            arrival.nonce,
+            &messages,
+        )?;
+        let behind = self.bring_all(rt, alloc, &pass.front);
+        Ok(Posted {
+            first,
+            slots,
+            behind,
+        })
+    }
+
+    /// Takes a tick of the clock into the list; its moment is in milliseconds. It brings each shard up, and is refused as a
+    /// request with one message is.
+    pub fn tick<W: Wait>(
+        &self,
+        rt: &W,
+        alloc: Global,
+        pass: &mut Pass<J>,
+        moment: u64,
+    ) -> Result<Ticked, PostFault>
+        ensures seen { IsPrefix pass.old pass.new }
+        ensures admitted { IfOk result (λ t. IsAdmittedAt (read_input (inputs.Tick moment)) t.place pass.old pass.new) }
+        ensures refused { IfErr result (λ f. IsRefused (read_input (inputs.Tick moment)) f pass.new) }
+        ensures behind { IfOk result (λ t. count_of t.behind ≤ length self.now.desks.items) }
+    {
+        let Admitted { first, .. } = self.admit_tick(rt, alloc, &mut pass.front, moment)?;
+        let behind = self.bring_all(rt, alloc, &pass.front);
+        Ok(Ticked {
+            place: first,
+            behind,
+        })
+    }
+
+    // Takes the messages into the list; where the window is full, once more with the room that the shards leave.
+    fn admit<W: Wait>(
+        &self,
+        rt: &W,
+        alloc: Global,
+        pass: &mut Note<J>,
+        moment: u64,
+        nonce: u128,
+        messages: &[Message],
+    ) -> Result<Admitted, PostFault>
+        ensures seen { IsPrefix pass.old pass.new }
+        ensures admitted { IfOk result (λ a. IsAdmittedAt (Request moment nonce messages.now) a.first pass.old pass.new) }
+        ensures slots { IfOk result (λ a. AreSlotsAt (placed_by J.config J.config.shards J.placing) (Request moment nonce messages.now) a.first pass.new a.slots) }
+        ensures refused { IfErr result (λ f. IsRefused (Request moment nonce messages.now) f pass.new) }
+    {
+        let mut admission = self.admission.lock(rt);
+        match admission.post(rt, alloc, &*self.placing, pass, moment, nonce, messages) {
+            Ok(admitted) => Ok(admitted),
+            Err(PostFault::Behind { .. }) => {
+                let least = self.bring_least(rt, alloc, pass)?;
+                admission.trim(rt, alloc, least)?;
+                admission.post(rt, alloc, &*self.placing, pass, moment, nonce, messages)
+            }
+            Err(fault) => Err(fault),
+        }
+    }
+
+    // Takes the tick into the list; where the window is full, once more with the room that the shards leave.
+    fn admit_tick<W: Wait>(
+        &self,
+        rt: &W,
+        alloc: Global,
+        pass: &mut Note<J>,
+        moment: u64,
+    ) -> Result<Admitted, PostFault>
+        ensures seen { IsPrefix pass.old pass.new }
+        ensures admitted { IfOk result (λ a. IsAdmittedAt (read.Tick moment) a.first pass.old pass.new) }
+        ensures refused { IfErr result (λ f. IsRefused (read.Tick moment) f pass.new) }
+    {
+        let mut admission = self.admission.lock(rt);
+        match admission.tick(rt, alloc, pass, moment) {
+            Ok(admitted) => Ok(admitted),
+            Err(PostFault::Behind { .. }) => {
+                let least = self.bring_least(rt, alloc, pass)?;
+                admission.trim(rt, alloc, least)?;
+                admission.tick(rt, alloc, pass, moment)
+            }
+            Err(fault) => Err(fault),
+        }
+    }
+
+    // Brings each shard up to the end of what was seen, and tells the least place where one stands.
+    fn bring_least<W: Wait>(
+        &self,
+        rt: &W,
+        alloc: Global,
+        pass: &mut Note<J>,
+    ) -> Result<u64, PostFault>
+        ensures seen { IsPrefix pass.old pass.new }
+        ensures overrun { IfErr result (λ f. (input : ReadInput) → IsRefused input f pass.new) }
+    {
+        let mut least = pass.len();
+        for desk in &self.desks {
+            let mut desk = desk.lock(rt);
+            if let Err(HubFault::Overrun { shard, place }) = desk.bring(alloc, &self.gate, pass) {
+                *pass = desk.front();
+                return Err(PostFault::Overrun { shard, place });
+            }
+            least = least.min(desk.place());
+        }
+        Ok(least)
+    }
+
+    // Brings each shard up to the note, and counts those that stayed below it.
+    fn bring_all<W: Wait>(&self, rt: &W, alloc: Global, note: &Note<J>) -> Lagging
+        ensures { count_of result ≤ length self.now.desks.items }
+    {
+        let mut behind = Lagging::none();
+        for desk in &self.desks {
+            if let Err(fault) = desk.lock(rt).bring(alloc, &self.gate, note) {
+                behind = behind.with(fault);
+            }
+        }
+        behind
+    }
+
+    /// The answer to a connect, where its shard has filed one, or files one while it is brought up to what the pass has
+    /// seen. A ticket that names no shard has none. A filed answer is given even where the hub was closed.
+    pub fn poll_answer<W: Wait>(
+        &self,
+        rt: &W,
+        alloc: Global,
+        pass: &mut Pass<J>,
+        ticket: Ticket,
+    ) -> Result<Option<Answer>, HubFault>
+        ensures seen { IsPrefix pass.old pass.new }
+        ensures answer { IfOk result (λ o. IfSome o (λ a. answer_over J.config pass.new ticket.place ≡ Some a)) }
+        ensures none { IfOk result (λ o. IfNone o ((length self.now.desks.items ≤ ticket.shard)
+            ⊎ IsLevelWithout (placed_by J.config J.config.shards J.placing) ticket pass.new)) }
+        ensures stopped { IfErr result (λ f. IsStopped f pass.new) }
+    {
+        let Some(desk) = self.desks.get(ticket.shard) else {
+            return Ok(None);
+        };
+        let mut desk = desk.lock(rt);
+        if desk.index() != ticket.shard {
+            // Each desk lies at its own index.
+            return never(rt);
+        }
+        desk.poll(alloc, &self.gate, &mut pass.front, ticket)
+    }
+
+    /// Leaves a waker beside a held connect. It comes back where an answer is filed, where the hub was closed, and where the
+    /// ticket is of no held connect of its shard, or names no shard.
+    pub fn watch<W: Wait>(&self, rt: &W, ticket: Ticket, waker: Waker) -> Watch {
+        match self.desks.get(ticket.shard) {
+            Some(desk) => desk.lock(rt).watch(ticket, waker),
+            None => Watch::Unknown(waker),
+        }
+    }
+
+    /// Drops the answers that were filed by entries below this place and that nobody took, and says how many they were.
+    pub fn sweep<W: Wait>(&self, rt: &W, before: u64) -> usize {
+        let mut count: usize = 0;
+        for desk in &self.desks {
+            count = count.saturating_add(desk.lock(rt).sweep(before));
+        }
+        count
+    }
+
+    /// No more entries, and no shard goes further; held connects are woken. What is filed can still be taken.
+    pub fn close<W: Wait>(&self, rt: &W) {
+        self.admission.lock(rt).close();
+        for desk in &self.desks {
+            desk.lock(rt).close();
+        }
+    }
+}
+
+// It does not return.
+fn never<T, W: Wait>(rt: &W) -> T
+    ensures { ⊥ }
+{
+    for _ in rt.forever() {}
+    unreachable!()
+}

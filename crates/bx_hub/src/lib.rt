@@ -1,0 +1,15 @@
+//! The hub: any number of threads post, tick and ask for answers. One lock lies round the registry and the writer of the
+//! window, and one round each shard.
+#![tactic(auto)]
+
+mod admission;
+mod desk;
+mod fault;
+mod hub;
+mod pass;
+
+pub use bx_connects::Watch;
+pub use bx_workers::{Gate, OpenGate};
+pub use fault::{HubFault, Lagging, PostFault, Posted, Ticked};
+pub use hub::Hub;
+pub use pass::Pass;

@@ -1,0 +1,104 @@
+//! What the tests ask of a hub.
+use bx_cut::Bodies;
+use bx_entry::{Arrival, Placing, Slot, Ticket};
+use bx_hub::{Gate, Hub, Pass};
+use bx_window::Naming;
+use std::alloc::{AllocError, Global};
+use std::sync::Wait;
+
+pub const HANDSHAKE: &str =
+    r#"[{"channel":"/meta/handshake","version":"1.0","supportedConnectionTypes":["long-polling"]}]"#;
+
+pub const SUBSCRIBE: &str =
+    r#"[{"channel":"/meta/subscribe","clientId":"000000000000000000000000000000000000000000000001","subscription":"/a/*"}]"#;
+
+pub const CONNECT: &str =
+    r#"[{"channel":"/meta/connect","clientId":"000000000000000000000000000000000000000000000001","connectionType":"long-polling"}]"#;
+
+pub const PUBLISH: &str =
+    r#"[{"channel":"/a/b","clientId":"000000000000000000000000000000000000000000000002","data":7}]"#;
+
+/// A call was refused.
+#[derive(Clone, Copy, Debug)]
+pub struct Refused;
+
+impl From<AllocError> for Refused {
+    fn from(_error: AllocError) -> Refused {
+        Refused
+    }
+}
+
+impl From<Refused> for std::test::Fail {
+    fn from(_refused: Refused) -> std::test::Fail {
+        "a call was refused".into()
+    }
+}
+
+/// A request of this body, at moment 0.
+pub fn arrival(alloc: Global, body: &str) -> Result<Arrival, AllocError> {
+    Ok(Arrival {
+        moment: 0,
+        nonce: 0,
+        bodies: Bodies::Whole(body.as_bytes().to_vec(alloc)?),
+    })
+}
+
+/// Posts a body; says where its first message stands, and gives the ticket of its first connect.
+pub fn post<J: Naming, P: Placing, G: Gate + Drop, H: Wait + Drop, R: Wait>(
+    rt: &R,
+    alloc: Global,
+    hub: &Hub<J, P, G, H>,
+    pass: &mut Pass<J>,
+    body: &str,
+) -> Result<(u64, Option<Ticket>), Refused> {
+    let posted = hub
+        .post(rt, alloc, pass, &arrival(alloc, body)?)
+        .map_err(|_| Refused)?;
+    let first = posted.first;
+    for slot in posted.slots.into_vec() {
+        if let Slot::Waiting(ticket) = slot {
+            return Ok((first, Some(ticket)));
+        }
+    }
+    Ok((first, None))
+}
+
+/// One more than the number of events that a connect is answered with; 0 where no answer is filed.
+pub fn poll<J: Naming, P: Placing, G: Gate + Drop, H: Wait + Drop, R: Wait>(
+    rt: &R,
+    alloc: Global,
+    hub: &Hub<J, P, G, H>,
+    pass: &mut Pass<J>,
+    ticket: Ticket,
+) -> Result<usize, Refused> {
+    match hub.poll_answer(rt, alloc, pass, ticket) {
+        Ok(Some(answer)) => Ok(answer.events.len() + 1),
+        Ok(None) => Ok(0),
+        Err(_) => Err(Refused),
+    }
+}
+
+/// Opens the first session, subscribes it, and gives the ticket of its connect, which is held.
+pub fn hold<J: Naming, P: Placing, G: Gate + Drop, H: Wait + Drop, R: Wait>(
+    rt: &R,
+    alloc: Global,
+    hub: &Hub<J, P, G, H>,
+    pass: &mut Pass<J>,
+) -> Result<Ticket, Refused> {
+    post(rt, alloc, hub, pass, HANDSHAKE)?;
+    post(rt, alloc, hub, pass, SUBSCRIBE)?;
+    let (_, ticket) = post(rt, alloc, hub, pass, CONNECT)?;
+    ticket.ok_or(Refused)
+}
+
+/// Opens the second session, which publishes an event that the first one gets.
+pub fn publish<J: Naming, P: Placing, G: Gate + Drop, H: Wait + Drop, R: Wait>(
+    rt: &R,
+    alloc: Global,
+    hub: &Hub<J, P, G, H>,
+    pass: &mut Pass<J>,
+) -> Result<(), Refused> {
+    post(rt, alloc, hub, pass, HANDSHAKE)?;
+    post(rt, alloc, hub, pass, PUBLISH)?;
+    Ok(())
+}

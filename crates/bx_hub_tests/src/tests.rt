@@ -1,0 +1,155 @@
+//! Calls of one thread.
+ghost use Rattle.std.specs.Prelude.{◌≡◌};
+ghost use Rattle.std.specs.Arc.{arc_value};
+
+use crate::calls::{HANDSHAKE, PUBLISH, arrival, hold, poll, post, publish};
+use bx_advice::Config;
+use bx_entry::{BodyFault, ByRemainder, Placing, Ticket};
+use bx_hub::{Gate, Hub, OpenGate, Pass, PostFault};
+use bx_window::{Naming, Opened};
+use std::alloc::Global;
+use std::marker::Brand;
+use std::process::Abort;
+use std::sync::{Arc, Wait};
+use std::test::*;
+
+// Why a post of this body is refused, if it is.
+fn refusal<J: Naming, P: Placing, G: Gate + Drop, H: Wait + Drop, R: Wait>(
+    rt: &R,
+    alloc: Global,
+    hub: &Hub<J, P, G, H>,
+    pass: &mut Pass<J>,
+    body: &str,
+) -> Result<Option<PostFault>, Fail> {
+    let arrival = arrival(alloc, body)?;
+    Ok(hub.post(rt, alloc, pass, &arrival).err())
+}
+
+// Requests that are refused or have no message.
+fn requests<J: Naming, P: Placing, G: Gate + Drop, H: Wait + Drop, R: Wait + Abort>(
+    rt: &R,
+    alloc: Global,
+    hub: &Hub<J, P, G, H>,
+    pass: &mut Pass<J>,
+) -> Result<(), Fail> {
+    assert_eq!(rt;
+        refusal(rt, alloc, hub, pass, "[")?,
+        Some(PostFault::Body(BodyFault::NotJson))
+    );
+    assert_eq!(rt; pass.seen(), 0);
+    assert_eq!(rt; post(rt, alloc, hub, pass, "[]")?.0, 0);
+    assert_eq!(rt; post(rt, alloc, hub, pass, HANDSHAKE)?.0, 0);
+    assert_eq!(rt; post(rt, alloc, hub, pass, "[]")?.0, 1);
+    assert_eq!(rt; pass.seen(), 1);
+    let late = (1 << 62) + 1;
+    assert_eq!(rt;
+        hub.tick(rt, alloc, pass, late).err(),
+        Some(PostFault::BadMoment)
+    );
+    Ok(())
+}
+
+// A held connect, its answer, and the answer after it was taken.
+fn answers<J: Naming, P: Placing, G: Gate + Drop, H: Wait + Drop, R: Wait + Abort>(
+    rt: &R,
+    alloc: Global,
+    hub: &Hub<J, P, G, H>,
+    pass: &mut Pass<J>,
+) -> Result<(), Fail> {
+    let ticket = hold(rt, alloc, hub, pass)?;
+    assert_eq!(rt; poll(rt, alloc, hub, pass, ticket)?, 0);
+    publish(rt, alloc, hub, pass)?;
+    assert_eq!(rt; poll(rt, alloc, hub, pass, ticket)?, 2);
+    assert_eq!(rt; poll(rt, alloc, hub, pass, ticket)?, 0);
+    assert_eq!(rt; hub.sweep(rt, 5), 0);
+    let nowhere = Ticket { shard: 2, ..ticket };
+    assert_eq!(rt; poll(rt, alloc, hub, pass, nowhere)?, 0);
+    Ok(())
+}
+
+// An answer that nobody took is swept once, by the place of the entry that gave it.
+fn sweeps<J: Naming, P: Placing, G: Gate + Drop, H: Wait + Drop, R: Wait + Abort>(
+    rt: &R,
+    alloc: Global,
+    hub: &Hub<J, P, G, H>,
+    pass: &mut Pass<J>,
+) -> Result<(), Fail> {
+    let ticket = hold(rt, alloc, hub, pass)?;
+    publish(rt, alloc, hub, pass)?;
+    assert_eq!(rt; hub.sweep(rt, 4), 0);
+    assert_eq!(rt; hub.sweep(rt, 5), 1);
+    assert_eq!(rt; hub.sweep(rt, 5), 0);
+    assert_eq!(rt; poll(rt, alloc, hub, pass, ticket)?, 0);
+    Ok(())
+}
+
+// What a closed hub refuses, and what it still gives.
+fn closed<J: Naming, P: Placing, G: Gate + Drop, H: Wait + Drop, R: Wait + Abort>(
+    rt: &R,
+    alloc: Global,
+    hub: &Hub<J, P, G, H>,
+    pass: &mut Pass<J>,
+) -> Result<(), Fail> {
+    let ticket = hold(rt, alloc, hub, pass)?;
+    publish(rt, alloc, hub, pass)?;
+    hub.close(rt);
+    assert_eq!(rt;
+        refusal(rt, alloc, hub, pass, PUBLISH)?,
+        Some(PostFault::Closed)
+    );
+    assert_eq!(rt;
+        refusal(rt, alloc, hub, pass, "[")?,
+        Some(PostFault::Body(BodyFault::NotJson))
+    );
+    assert_eq!(rt; hub.tick(rt, alloc, pass, 0).err(), Some(PostFault::Closed));
+    assert_eq!(rt; poll(rt, alloc, hub, pass, ticket)?, 2);
+    assert!(rt; hub.poll_answer(rt, alloc, pass, ticket).is_err());
+    let nowhere = Ticket { shard: 2, ..ticket };
+    assert_eq!(rt; poll(rt, alloc, hub, pass, nowhere)?, 0);
+    Ok(())
+}
+
+// What one thread asks of a hub.
+#[derive(Clone, Copy, Debug)]
+enum Case {
+    Requests,
+    Answers,
+    Sweeps,
+    Closed,
+}
+
+fn ask<J: Naming, R: Wait + Abort>(
+    rt: &R,
+    alloc: Global,
+    opened: Opened,
+    config: Config,
+    placing: Arc<ByRemainder, Global>,
+    case: Case,
+) -> Result<(), Fail>
+    requires book { opened.seen.book ≡ J.book }
+    requires config { config ≡ J.config }
+    requires placing { ByRemainder.place_of (arc_value placing) ≡ J.placing }
+{
+    let hub = Hub::<J, ByRemainder, OpenGate, &R>::new(
+        alloc, rt, opened, config, placing, OpenGate,
+    )?;
+    let mut pass = hub.pass();
+    assert_eq!(rt; pass.seen(), 0);
+    match case {
+        Case::Requests => requests(rt, alloc, &hub, &mut pass),
+        Case::Answers => answers(rt, alloc, &hub, &mut pass),
+        Case::Sweeps => sweeps(rt, alloc, &hub, &mut pass),
+        Case::Closed => closed(rt, alloc, &hub, &mut pass),
+    }
+}
+
+#[test]
+fn one_thread(rt: HostRuntime) -> Result<(), Fail> {
+    let alloc = rt.alloc();
+    let config = Config::new(2, 30_000, 0, 10_000).ok_or("no configuration")?;
+    for case in [Case::Requests, Case::Answers, Case::Sweeps, Case::Closed] {
+        let placing = Arc::new(alloc, ByRemainder)?;
+        ask::<Brand, _>(&rt, alloc, Opened::new(), config, placing, case)?;
+    }
+    Ok(())
+}
