@@ -1,19 +1,18 @@
--- The inputs that are held once the outs of all others were added.
-use Rattle.std.proofs.Common.{◌≡◌, ℕ, ◌<◌, Bool, true, false, not, List, [], ◌∷◌, ◌++◌, map, filter, refl, sym, ap, ◌∙◌, cond, Option, Some, None, append-nil, append_assoc}
-use Rattle.std.specs.Prelude.{is_none, is_some}
+-- The inputs that are held.
+use Rattle.std.proofs.Common.{◌≡◌, ℕ, ◌<◌, Bool, true, false, not, List, [], ◌∷◌, ◌++◌, length, map, filter, refl, sym, ap, ◌∙◌, cond, Option, Some, None, append-nil}
 use Rattle.std.proofs.lemmas.List.{append_cancel_left, map-append}
 use Rattle.bx_advice.specs.declared.config.Config.{Config}
 use Rattle.bx_entry.specs.Inputs.{ReadInput}
 use Rattle.bx_entry.specs.Registry.{Registry}
 use Rattle.bx_entry.specs.Runs as runs
 use Rattle.bx_entry.specs.Runs.{held, outs}
-use Rattle.bx_message.specs.declared.reply.Answer.{Answer}
 use Rattle.bx_shard.specs.Shards.{Setup}
 use Rattle.bx_world.specs.Worlds.{WorldState}
-use Rattle.bx_fanout.specs.Desks.{Row, is_answered, numbers, out_of, outs_of, waits}
+use Rattle.bx_fanout.specs.Desks.{Row, numbers, waits}
 use Rattle.bx_fanout.specs.Opens.{Numbered, is_whole, newest, open_after, registry_after, waiting_at}
 use Rattle.bx_fanout.specs.Opens as opens
-use Rattle.bx_fanout.specs.Stages.{IsCollecting, IsGiving, IsStaged, bare, own_out, seen_out}
+use Rattle.bx_fanout.specs.Runs.{AreHeldBefore}
+use Rattle.bx_fanout.specs.Stages.{IsCollecting, IsGiving, IsStaged, bare}
 use Rattle.bx_fanout.specs.declared.newest.Newest.{Newest}
 use Rattle.bx_fanout.proofs.Opens.{open_is_held, opens_go_on, outs_add}
 
@@ -21,10 +20,6 @@ use Rattle.bx_fanout.proofs.Opens.{open_is_held, opens_go_on, outs_add}
 
 none-behind : {T : Type 0} (xs ys : List T) → xs ≡ xs ++ ys → ys ≡ []
 none-behind xs ys e = append_cancel_left xs ys [] (sym e ∙ sym (append-nil xs))
-
-none-before : {T : Type 0} (xs ys : List T) → xs ++ ys ≡ [] → xs ≡ []
-none-before [] ys e = refl
-none-before (x ∷ xs) ys e = let no : x ∷ (xs ++ ys) ≡ [] = e in cc
 
 none-mapped : {S T : Type 0} (f : S → T) (xs : List S) → map f xs ≡ [] → xs ≡ []
 none-mapped f [] e = refl
@@ -41,30 +36,32 @@ others-all p q other (x ∷ xs) none = others-by p q x xs (others-all p q other 
 
 -- ---- held connects
 
-waits-by : (o : Option Answer) → is_none o ≡ not (is_some o)
-waits-by None = refl
-waits-by (Some a) = refl
-
-all-wait : (rows : List Row) → map seen_out (outs_of rows) ≡ [] → filter waits rows ≡ rows
-all-wait rows none = others-all is_answered waits (λ (row : Row). waits-by row.1.answer) rows (none-mapped out_of (filter is_answered rows) (none-mapped seen_out (outs_of rows) none))
-
 numbers-bare : (os : List Numbered) → numbers (map bare os) ≡ map (λ (o : Numbered). o.number) os
 numbers-bare [] = refl
 numbers-bare (o ∷ os) = ap (λ (ns : List ℕ). o.number ∷ ns) (numbers-bare os)
 
--- ---- all outs were added
+waits-bare : (os : List Numbered) → filter waits (map bare os) ≡ map bare os
+waits-bare [] = refl
+waits-bare (o ∷ os) = ap (λ (rows : List Row). bare o ∷ rows) (waits-bare os)
+
+-- ---- no answer is collected
 
 held-giving : (setup : Setup) (inputs : List ReadInput) (w : WorldState) (rows : List Row) (whole : Option Newest) (added : List runs.Out) → 0 < setup.config.limits.batch →
-    IsGiving setup inputs w rows whole added → added ≡ outs setup.config inputs → numbers rows ≡ held setup.config inputs
-held-giving setup inputs w rows whole added batch g all =
-    let config : Config = setup.config in
-    let left : List runs.Out = map seen_out (outs_of rows) ++ own_out whole in
-    let none : left ≡ [] = none-behind added left (all ∙ sym g.left ∙ append_assoc added (map seen_out (outs_of rows)) (own_out whole)) in
-    let wait : filter waits rows ≡ rows = all-wait rows (none-before (map seen_out (outs_of rows)) (own_out whole) none) in
-    ap numbers (sym wait ∙ g.rest) ∙ numbers-bare (open_after config inputs) ∙ sym (open_is_held config inputs batch)
+    IsGiving setup inputs w rows whole added → numbers (filter waits rows) ≡ held setup.config inputs
+held-giving setup inputs w rows whole added batch g =
+    ap numbers g.rest ∙ numbers-bare (open_after setup.config inputs) ∙ sym (open_is_held setup.config inputs batch)
 
+-- ---- answers are collected
+
+waiting-collecting : (setup : Setup) (inputs : List ReadInput) (input : ReadInput) (w : WorldState) (rows : List Row) (n : Newest) (added : List runs.Out) →
+    IsCollecting setup inputs input w rows n added → numbers (filter waits rows) ≡ map (λ (o : Numbered). o.number) (open_after setup.config inputs)
+waiting-collecting setup inputs input w rows n added c =
+    let opens : List Numbered = open_after setup.config inputs in
+    ap (λ (rs : List Row). numbers (filter waits rs)) c.held ∙ ap numbers (waits-bare opens) ∙ numbers-bare opens
+
+-- the inputs before the last are held, and all outs were added
 held-collecting : (setup : Setup) (inputs : List ReadInput) (input : ReadInput) (w : WorldState) (rows : List Row) (n : Newest) (added : List runs.Out) → 0 < setup.config.limits.batch →
-    IsCollecting setup inputs input w rows n added → added ≡ outs setup.config (inputs ++ input ∷ []) → numbers rows ++ n.number ∷ [] ≡ held setup.config (inputs ++ input ∷ [])
+    IsCollecting setup inputs input w rows n added → added ≡ outs setup.config (inputs ++ input ∷ []) → numbers (filter waits rows) ++ n.number ∷ [] ≡ held setup.config (inputs ++ input ∷ [])
 held-collecting setup inputs input w rows n added batch c all =
     let config : Config = setup.config in
     let r : Registry = registry_after config (inputs ++ input ∷ []) in
@@ -75,26 +72,44 @@ held-collecting setup inputs input w rows n added batch c all =
     let same : filter (λ (o : Numbered). not (is_whole config r o)) waiting ≡ waiting =
     others-all (is_whole config r) (λ (o : Numbered). not (is_whole config r o)) (λ (o : Numbered). refl) waiting (none-mapped (opens.out_of config r) whole none) in
     let number : Numbered → ℕ = λ (o : Numbered). o.number in
-    ap (λ (rs : List Row). numbers rs ++ n.number ∷ []) c.held
-    ∙ ap (λ (ns : List ℕ). ns ++ n.number ∷ []) (numbers-bare (open_after config inputs))
+    ap (λ (ns : List ℕ). ns ++ n.number ∷ []) (waiting-collecting setup inputs input w rows n added c)
     ∙ ap (λ (k : ℕ). map number (open_after config inputs) ++ k ∷ []) c.number
     ∙ sym (map-append number (open_after config inputs) (newest inputs input ∷ []))
     ∙ ap (map number) (sym (opens_go_on config inputs input batch ∙ same))
     ∙ sym (open_is_held config (inputs ++ input ∷ []) batch)
 
+-- ---- a round
+
 -- where no input is being collected
 pub held-none : (setup : Setup) (inputs : List ReadInput) (w : WorldState) (rows : List Row) (last whole : Option Newest) (added : List runs.Out) → 0 < setup.config.limits.batch → last ≡ None →
-    IsStaged setup inputs w rows last whole added → added ≡ outs setup.config inputs → numbers rows ≡ held setup.config inputs
-held-none setup inputs w rows None whole added batch is i all = held-giving setup inputs w rows whole added batch i all
-held-none setup inputs w rows (Some n) whole added batch is i all = cc
+    IsStaged setup inputs w rows last whole added → numbers (filter waits rows) ≡ held setup.config inputs
+held-none setup inputs w rows None whole added batch is i = held-giving setup inputs w rows whole added batch i
+held-none setup inputs w rows (Some n) whole added batch is i = cc
 
 -- where one is
+pub held-before : (setup : Setup) (inputs : List ReadInput) (w : WorldState) (rows : List Row) (last whole : Option Newest) (n : Newest) (added : List runs.Out) → 0 < setup.config.limits.batch → last ≡ Some n →
+    IsStaged setup inputs w rows last whole added → AreHeldBefore setup.config inputs (numbers (filter waits rows) ++ n.number ∷ [])
+held-before setup inputs w rows None whole n added batch is i = let no : None ≡ Some n = is in cc
+held-before setup inputs w rows (Some m) whole n added batch is i =
+    let d = i.0 in
+    let same : m ≡ n = cc in
+    let number : n.number ≡ length d.earlier = ap (λ (k : Newest). k.number) (sym same) ∙ d.collecting.number in
+    record {
+      earlier = d.earlier;
+      last = d.last;
+      are = d.are;
+      numbers_are =
+          ap (λ (ns : List ℕ). ns ++ n.number ∷ []) (waiting-collecting setup d.earlier d.last w rows m added d.collecting ∙ sym (open_is_held setup.config d.earlier batch))
+          ∙ ap (λ (k : ℕ). held setup.config d.earlier ++ k ∷ []) number;
+    }
+
+-- where all outs were added too
 pub held-some : (setup : Setup) (inputs : List ReadInput) (w : WorldState) (rows : List Row) (last whole : Option Newest) (n : Newest) (added : List runs.Out) → 0 < setup.config.limits.batch → last ≡ Some n →
-    IsStaged setup inputs w rows last whole added → added ≡ outs setup.config inputs → numbers rows ++ n.number ∷ [] ≡ held setup.config inputs
+    IsStaged setup inputs w rows last whole added → added ≡ outs setup.config inputs → numbers (filter waits rows) ++ n.number ∷ [] ≡ held setup.config inputs
 held-some setup inputs w rows None whole n added batch is i all = let no : None ≡ Some n = is in cc
 held-some setup inputs w rows (Some m) whole n added batch is i all =
     let d = i.0 in
     let same : m ≡ n = cc in
-    ap (λ (k : Newest). numbers rows ++ k.number ∷ []) (sym same)
+    ap (λ (k : Newest). numbers (filter waits rows) ++ k.number ∷ []) (sym same)
     ∙ held-collecting setup d.earlier d.last w rows m added batch d.collecting (all ∙ ap (outs setup.config) d.are)
     ∙ ap (held setup.config) (sym d.are)

@@ -16,3 +16,4 @@ pub mod Sole
 pub mod Stages
 pub mod Standing
 pub mod Ups
+pub mod Waiting

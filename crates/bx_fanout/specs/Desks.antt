@@ -2,7 +2,7 @@
 use Rattle.std.specs.Prelude.{ℕ, ◌+◌, ◌==◌, ◌&&◌, ◌<◌, ◌≤◌, ◌≡◌, Bool, List, [], ◌∷◌, ◌++◌, filter, map, length, count_by, is_none, is_some, option_map, if◌then◌else◌, Option, Some, None, Ok}
 use Rattle.std.specs.List.{AllByRecursion, list_any}
 use Rattle.std.specs.List.Sorted.{IsStrictlySortedBy}
-use Rattle.std.specs.Map.{keys_of, values_of}
+use Rattle.std.specs.Map.{keys_of}
 use Rattle.std.specs.Ordering.{nat_cmp}
 use Rattle.bx_fanout.specs.declared.desk.Held.{Held}
 use Rattle.bx_fanout.specs.declared.out.Out.{Out}
@@ -67,7 +67,7 @@ room_by (Some h) = elim h.answer [ None ↦ 0 | Some a ↦ length a.events + 1 ]
 
 -- the numbers of the inputs
 abbrev pub numbers : List Row → List ℕ
-numbers rows = map (λ (h : Held). h.number) (values_of rows)
+numbers rows = map (λ (row : Row). row.1.number) rows
 
 -- The first of these outs were added, and nothing else changed.
 pub record Gives (old : List Row) (before after : List Out) (new : List Row) : Type 0 where

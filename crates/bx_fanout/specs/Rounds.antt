@@ -1,5 +1,5 @@
 -- What a round has dealt with, and what its runs have added.
-use Rattle.std.specs.Prelude.{ℕ, List, Result}
+use Rattle.std.specs.Prelude.{ℕ, Bool, List, Result}
 use Rattle.bx_entry.specs.Inputs.{ReadInput}
 use Rattle.bx_entry.specs.Runs as runs
 use Rattle.bx_entry.specs.declared.Placing.{Ghosts}
@@ -26,6 +26,10 @@ module _ {P : Type 0} {g : Ghosts P} where
   -- the outs that the runs have added, over all runs
   abbrev pub added_by : Round P g → List runs.Out
   added_by r = parts.added_by r.parts
+
+  -- whether memory was refused before the answers to the last input were all collected
+  abbrev pub is_collecting : Round P g → Bool
+  is_collecting r = parts.is_collecting r.parts
 
   -- every shard has applied the whole list, which is that of the inputs dealt with, and holds what the definitions' shard holds then
   abbrev pub IsLevel : Round P g → Type 0

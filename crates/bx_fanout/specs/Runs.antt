@@ -1,11 +1,12 @@
 -- What came of a run, by the parts of the round.
-use Rattle.std.specs.Prelude.{ℕ, ◌≡◌, ◌≤◌, ◌++◌, List, map, length, take, slice_get, Some, Result, Ok, Err}
+use Rattle.std.specs.Prelude.{ℕ, ◌≡◌, ◌≤◌, ◌++◌, Bool, List, [], ◌∷◌, map, length, take, slice_get, is_some, Some, Result, Ok, Err}
+use Rattle.bx_advice.specs.declared.config.Config.{Config}
 use Rattle.bx_entry.specs.declared.Placing.{Ghosts}
 use Rattle.bx_entry.specs.declared.input.Input.{Input}
 use Rattle.bx_entry.specs.Inputs.{ReadInput}
 use Rattle.bx_entry.specs.Requests.{read_input}
 use Rattle.bx_entry.specs.Runs as runs
-use Rattle.bx_entry.specs.Runs.{outs, taken_in}
+use Rattle.bx_entry.specs.Runs.{held, outs, taken_in}
 use Rattle.bx_fanout.specs.Parts.{AddsOuts, IsSettled}
 use Rattle.bx_fanout.specs.Stages.{seen_out}
 use Rattle.bx_fanout.specs.declared.out.Out.{Out}
@@ -14,6 +15,13 @@ use Rattle.bx_fanout.specs.declared.out.RoundFault.TheVariants.{Memory}
 use Rattle.bx_fanout.specs.declared.parts.Parts.{Parts}
 use Rattle.bx_shard.specs.Shards.{Setup}
 use Rattle.bx_world.specs.Seen.{ShardsHold, setup_of, world_of}
+
+-- these are the numbers of the inputs that were not whole before the last one, and its own
+pub record AreHeldBefore (config : Config) (inputs : List ReadInput) (numbers : List ℕ) : Type 0 where
+  pub earlier : List ReadInput
+  pub last : ReadInput
+  pub are : inputs ≡ earlier ++ last ∷ []
+  pub numbers_are : numbers ≡ held config earlier ++ length earlier ∷ []
 
 module _ {P : Type 0} {g : Ghosts P} where
   -- the configuration with the placing
@@ -27,6 +35,10 @@ module _ {P : Type 0} {g : Ghosts P} where
   -- the outs that the runs have added, over all runs
   abbrev pub added_by : Parts P g → List runs.Out
   added_by r = map seen_out r.added
+
+  -- whether the answers to the last input are still collected
+  abbrev pub is_collecting : Parts P g → Bool
+  is_collecting r = is_some r.newest
 
   -- every shard has applied the whole list, which is that of the inputs dealt with, and holds what the definitions' shard holds then
   pub record IsLevel (r : Parts P g) : Type 0 where

@@ -98,12 +98,16 @@ impl Desk {
         self.held.is_empty()
     }
 
-    /// The numbers of the inputs, in the order of the places.
-    pub(crate) fn numbers(&self, alloc: Global) -> Result<Vec<usize>, AllocError>
-        ensures { IfOk result (λ ns. ns.items ≡ numbers self.now) }
+    /// The numbers of the inputs whose connects have no answer, in the order of the places.
+    pub(crate) fn waiting(&self, alloc: Global) -> Result<Vec<usize>, AllocError>
+        ensures { IfOk result (λ ns. ns.items ≡ numbers (filter waits self.now)) }
     {
         let mut numbers = Vec::new(alloc);
-        numbers.extend(self.held.values().map(|held| held.number))?;
+        for held in self.held.values() {
+            if held.answer.is_none() {
+                numbers.push(held.number)?;
+            }
+        }
         Ok(numbers)
     }
 }

@@ -31,10 +31,11 @@ pub struct Round<P: Placing> {
 }
 
 impl<P: Placing> Round<P> {
-    ghost use Rattle.std.specs.Prelude.{◌≡◌, ◌+◌, ◌^◌, ◌&&◌, [], is_some, length, nat_le, IfOk, IfSome, MatchResult};
+    ghost use Rattle.std.specs.Prelude.{◌≡◌, ◌+◌, ◌^◌, ◌&&◌, [], false, true, is_some, length, nat_le, IfOk, IfSome, MatchResult};
     ghost use Rattle.std.specs.Arc.{arc_value};
     ghost use Rattle.bx_entry.specs.Runs as runs;
-    ghost use Rattle.bx_fanout.specs.Rounds.{IsLevel, IsRun, added_by, inputs_of, setup_in, workers_in};
+    ghost use Rattle.bx_fanout.specs.Rounds.{IsLevel, IsRun, added_by, inputs_of, is_collecting, setup_in, workers_in};
+    ghost use Rattle.bx_fanout.specs.Runs.{AreHeldBefore};
     ghost use Rattle.bx_admission.specs.Slots.{placed_by};
 
     /// A round with so many workers, 1 to 16, that has dealt with no input. None where the workers are not so many.
@@ -121,13 +122,20 @@ impl<P: Placing> Round<P> {
         self.parts.dealt
     }
 
-    /// The numbers of the inputs that are not whole, ascending, where the outs of all others were added; so it is after
-    /// every run that ended well. Such an input is a connect that is held.
+    /// The numbers of the inputs that are not whole, ascending. Such an input is a connect that is held. So it is after
+    /// every run that ended well, and also where memory was refused while outs were added.
+    ///
+    /// Where memory was refused before the answers to the last input were all collected, these are the numbers of the
+    /// inputs that were not whole before it, and its own.
     pub fn held(&self, alloc: Global) -> Result<Vec<usize>, AllocError>
-        ensures { IfOk result (λ numbers. added_by self.now ≡ runs.outs (setup_in self.now).config (inputs_of self.now)
+        ensures held { IfOk result (λ numbers. is_collecting self.now ≡ false
+            → numbers.items ≡ runs.held (setup_in self.now).config (inputs_of self.now)) }
+        ensures collecting { IfOk result (λ numbers. is_collecting self.now ≡ true
+            → AreHeldBefore (setup_in self.now).config (inputs_of self.now) numbers.items) }
+        ensures settled { IfOk result (λ numbers. added_by self.now ≡ runs.outs (setup_in self.now).config (inputs_of self.now)
             → numbers.items ≡ runs.held (setup_in self.now).config (inputs_of self.now)) }
     {
-        let mut numbers = self.parts.desk.numbers(alloc)?;
+        let mut numbers = self.parts.desk.waiting(alloc)?;
         if let Some(newest) = &self.parts.newest {
             numbers.push(newest.number)?;
         }
