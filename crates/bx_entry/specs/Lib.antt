@@ -6,5 +6,4 @@ pub mod Answers
 pub mod Inputs
 pub mod Runs
 pub mod Requests
-pub mod Replay
 pub mod Keeping

@@ -6,7 +6,7 @@ use Rattle.std.proofs.lemmas.List.Sums.{fold-append}
 use Rattle.bx_advice.specs.declared.config.Config.{Config}
 use Rattle.bx_entry.specs.Inputs.{ReadInput}
 use Rattle.bx_entry.specs.Registry.{Registry, registry}
-use Rattle.bx_entry.specs.Replay.{Line, Bad, Turned, Handed, Resharded, Numbered, inputs_from, line_text, out_by, outs_at, printed_from}
+use Rattle.bx_script.specs.Replay.{Line, Bad, Turned, Handed, Resharded, Numbered, inputs_from, line_text, out_by, outs_at, printed_from}
 use Rattle.bx_entry.specs.Runs.{Dealt, Taking, takes_in, taken_in, Out, numbers_from, Whole, whole_of, wholes_from, wholes, is_at, whole_at, outs}
 use Rattle.bx_laws.specs.Lines.{inputs_in, printed_so_far, AddsOuts, outs_text, line_prints, InputsGoOn, LinesGoOn, HeldComeLast}
 use Rattle.bx_laws.proofs.Wholes.{EachDealt, Took, took, whole_push, numbers_split, flat_same, Grows, grows}

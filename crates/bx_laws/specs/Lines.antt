@@ -2,7 +2,7 @@
 use Rattle.std.specs.Prelude.{ℕ, ◌+◌, ◌<◌, ◌≡◌, List, [], ◌∷◌, ◌++◌, length, map, flat_map, slice_get, codes, decimal, ⊤}
 use Rattle.bx_advice.specs.declared.config.Config.{Config}
 use Rattle.bx_entry.specs.Inputs.{ReadInput}
-use Rattle.bx_entry.specs.Replay.{Line, Bad, Turned, Handed, Resharded, Numbered, inputs_from, line_text, out_by, printed_from, printed, held_text}
+use Rattle.bx_script.specs.Replay.{Line, Bad, Turned, Handed, Resharded, Numbered, inputs_from, line_text, out_by, printed_from, printed, held_text}
 use Rattle.bx_entry.specs.Runs.{Out, wholes, outs, held}
 
 -- the inputs among a script's first lines

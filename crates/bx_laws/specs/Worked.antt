@@ -21,7 +21,7 @@ use Rattle.bx_entry.specs.Runs.{outs, held}
 use Rattle.bx_laws.specs.Samples.{ack_connect, blank, id_of, versioned, handshake, ack_handshake, connect, connect_now, ack_connect_now, in_quotes, subscribe, unsubscribe, disconnect, publish, post, standard, reply, handshaken, ack_handshaken, connected_as, connected, ack_connected, subscribed, unsubscribed, disconnected, published, unknown_client, event, out, subscribe_all, subscribed_all, match_all, two_connects, held_with_ack, small, failed, four_batches, full_batch, texts, refused_messages, mixed, mixed_failed, crowded}
 use Rattle.bx_advice.specs.declared.error.Error.TheVariants.{TooManySessions}
 use Rattle.std.specs.Prelude.{◌++◌, map}
-use Rattle.bx_entry.specs.Replay.{lines_of, line_of, body_taken, Bad, Turned, Handed, Resharded, inputs_from, printed}
+use Rattle.bx_script.specs.Replay.{lines_of, line_of, Bad, Turned, Handed, Resharded, inputs_from, printed}
 
 -- ---- which texts read as names and patterns, and what patterns match
 
@@ -476,7 +476,7 @@ ScriptLines =
 -- a tick, and lines of no known form
 abbrev pub LineForms : Type 0
 LineForms =
-    map (line_of body_taken) (codes "007 T" ∷ codes "7 T " ∷ codes "x" ∷ codes "0 P" ∷ codes "18446744073709551616 T" ∷ codes "0 S 64" ∷ codes "0 S 65" ∷ [] ∷ [])
+    map line_of (codes "007 T" ∷ codes "7 T " ∷ codes "x" ∷ codes "0 P" ∷ codes "18446744073709551616 T" ∷ codes "0 S 64" ∷ codes "0 S 65" ∷ [] ∷ [])
     ≡ Handed None (Tick 7) ∷ Bad ∷ Bad ∷ Bad ∷ Bad ∷ Resharded 64 ∷ Bad ∷ Bad ∷ []
 
 -- what lines print: an answer comes with the line that gives it, and the lines that are held come last

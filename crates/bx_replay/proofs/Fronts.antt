@@ -12,7 +12,7 @@ use Rattle.bx_replay.proofs.Keeping.{TicksAs, out_same}
 use Rattle.bx_replay.proofs.Steps.{many_of, seen_more, texts_handed}
 use Rattle.bx_advice.specs.declared.config.Config.{Config}
 use Rattle.bx_entry.specs.Inputs.{ReadInput}
-use Rattle.bx_entry.specs.Replay.{Line, Bad, Turned, Handed, Resharded, Numbered, inputs_from, held_text, line_of, lines_of, out_by, replay_text, result_text}
+use Rattle.bx_script.specs.Replay.{Line, Bad, Turned, Handed, Resharded, Numbered, inputs_from, held_text, line_of, lines_of, out_by, replay_text, result_text}
 use Rattle.bx_entry.specs.Requests.{read_input}
 use Rattle.bx_entry.specs.Runs.{Out, held, outs, whole_at, wholes}
 use Rattle.bx_entry.specs.declared.Placing.{Ghosts}
@@ -23,7 +23,7 @@ use Rattle.bx_fanout.specs.declared.out.Out as fanout
 use Rattle.bx_fanout.specs.declared.round.Round.{Round}
 use Rattle.bx_laws.specs.Lines.{AddsOuts, inputs_in, line_prints, outs_text, printed_so_far}
 use Rattle.bx_laws.proofs.Lines.{lines_go_on, outs_last}
-use Rattle.bx_script.specs.Lines.{query_taken, said_by}
+use Rattle.bx_script.specs.Lines.{said_by}
 use Rattle.bx_script.specs.Printing.{AppendsFront, Writes, numbered}
 use Rattle.bx_script.specs.declared.line.Line as script
 use Rattle.bx_script.proofs.Fronts.{fault_writes, front_first, front_none, front_second}
@@ -133,22 +133,22 @@ goes_on config ls (l ∷ more) room =
           ∙ append_assoc (printed_so_far config ls) one rest.text;
     }
 
-whole_known : (config : Config) (xs ys : List ℕ) (ms : List script.Line) (a c : Option (List ℕ)) → 0 < config.limits.batch → Reads (Some xs) (Some ys) ms → PrintsFront config [] ms a c → AppendsFront a c (replay_text config query_taken xs)
+whole_known : (config : Config) (xs ys : List ℕ) (ms : List script.Line) (a c : Option (List ℕ)) → 0 < config.limits.batch → Reads (Some xs) (Some ys) ms → PrintsFront config [] ms a c → AppendsFront a c (replay_text config xs)
 whole_known config xs ys ms a c room r p =
-    let all : List Line = map (line_of query_taken) (lines_of xs) in
-    let others : List Line = map (line_of query_taken) (lines_of ys) in
+    let all : List Line = map line_of (lines_of xs) in
+    let others : List Line = map line_of (lines_of ys) in
     let on : GoesOn config (seen_lines ms) others = goes_on config (seen_lines ms) others room in
     let ends : List ℕ = held_texts (inputs_from 1 all) (held config (inputs_in all)) in
-    let parts : replay_text config query_taken xs ≡ p.text ++ (on.text ++ ends) =
+    let parts : replay_text config xs ≡ p.text ++ (on.text ++ ends) =
     ap (λ (t : List ℕ). t ++ ends) (ap (printed_so_far config) r ∙ on.is ∙ ap (λ (t : List ℕ). t ++ on.text) p.is) ∙ append_assoc p.text on.text ends in
     subst (AppendsFront a c) (sym parts) (front_first a c p.text (on.text ++ ends) p.front)
 
 -- where a script is read on, what its first lines print is a front of the right output
 pub whole_front : (config other : Config) (bytes rest : Option (List ℕ)) (ms : List script.Line) (a c : Option (List ℕ)) → other ≡ config → 0 < other.limits.batch → Reads bytes rest ms → PrintsFront other [] ms a c →
-    IfSome bytes (λ bs. AppendsFront a c (replay_text config query_taken bs))
+    IfSome bytes (λ bs. AppendsFront a c (replay_text config bs))
 whole_front config other None rest ms a c e room r p = tt
 whole_front config other (Some xs) None ms a c e room r p = absurd r
-whole_front config other (Some xs) (Some ys) ms a c e room r p = subst (λ (config : Config). AppendsFront a c (replay_text config query_taken xs)) e (whole_known other xs ys ms a c room r p)
+whole_front config other (Some xs) (Some ys) ms a c e room r p = subst (λ (config : Config). AppendsFront a c (replay_text config xs)) e (whole_known other xs ys ms a c room r p)
 
 -- all of what these lines print
 pub prints_all : (config : Config) (ls : List script.Line) (a b : Option (List ℕ)) → Prints config [] ls a b → PrintsFront config [] ls a b
@@ -168,12 +168,12 @@ err_of (Ok x) h = tt
 err_of (Err e) h = h
 
 -- nothing is written before the first line
-pub none_known : {A E : Type 0} (config : Config) (bytes a : Option (List ℕ)) (r : Result A E) → IsErr r → IfSome bytes (λ bs. Writes a a r (replay_text config query_taken bs))
+pub none_known : {A E : Type 0} (config : Config) (bytes a : Option (List ℕ)) (r : Result A E) → IsErr r → IfSome bytes (λ bs. Writes a a r (replay_text config bs))
 none_known config None a r e = tt
-none_known config (Some bs) a r e = fault_writes a a r (replay_text config query_taken bs) (replay_text config query_taken bs) refl e (front_none a (replay_text config query_taken bs))
+none_known config (Some bs) a r e = fault_writes a a r (replay_text config bs) (replay_text config bs) refl e (front_none a (replay_text config bs))
 
 -- a fault in the middle of a script
-pub fault_known : {A E : Type 0} (config other : Config) (bytes a b : Option (List ℕ)) (r : Result A E) → other ≡ config → IsErr r → IfSome bytes (λ bs. AppendsFront a b (replay_text other query_taken bs)) →
-    IfSome bytes (λ bs. Writes a b r (replay_text config query_taken bs))
+pub fault_known : {A E : Type 0} (config other : Config) (bytes a b : Option (List ℕ)) (r : Result A E) → other ≡ config → IsErr r → IfSome bytes (λ bs. AppendsFront a b (replay_text other bs)) →
+    IfSome bytes (λ bs. Writes a b r (replay_text config bs))
 fault_known config other None a b r same e f = tt
-fault_known config other (Some bs) a b r same e f = fault_writes a b r (replay_text config query_taken bs) (replay_text other query_taken bs) (ap (λ (c : Config). replay_text c query_taken bs) (sym same)) e f
+fault_known config other (Some bs) a b r same e f = fault_writes a b r (replay_text config bs) (replay_text other bs) (ap (λ (c : Config). replay_text c bs) (sym same)) e f

@@ -10,7 +10,7 @@ use Rattle.std.proofs.lemmas.Option.{slice_get_within}
 use Rattle.bx_replay.specs.Kept.{IsKept, AreKept, PrintsOuts, held_texts}
 use Rattle.bx_replay.specs.declared.kept.Asked.{Asked}
 use Rattle.bx_entry.specs.Inputs.{ReadInput}
-use Rattle.bx_entry.specs.Replay.{Numbered, line_text, result_text, out_by, held_text}
+use Rattle.bx_script.specs.Replay.{Numbered, line_text, result_text, out_by, held_text}
 use Rattle.bx_entry.specs.Runs.{Out}
 use Rattle.bx_fanout.specs.Stages.{seen_out}
 use Rattle.bx_fanout.specs.declared.out.Out as fanout

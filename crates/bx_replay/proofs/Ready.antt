@@ -11,7 +11,7 @@ use Rattle.bx_replay.specs.declared.kept.Asked.{Asked}
 use Rattle.bx_advice.specs.declared.config.Config.{Config}
 use Rattle.bx_entry.specs.Inputs.{ReadInput}
 use Rattle.bx_entry.specs.Registry.{Registry}
-use Rattle.bx_entry.specs.Replay.{Numbered}
+use Rattle.bx_script.specs.Replay.{Numbered}
 use Rattle.bx_entry.specs.Runs.{Out, held, outs}
 use Rattle.bx_fanout.specs.Opens as opens
 use Rattle.bx_fanout.specs.Opens.{is_whole, newest, open_after, out_of, registry_after, waiting_at}

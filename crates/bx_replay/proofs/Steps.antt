@@ -11,7 +11,7 @@ use Rattle.bx_replay.proofs.Keeping.{appends_more, appends_none}
 use Rattle.bx_replay.proofs.Ready.{none_last}
 use Rattle.bx_advice.specs.declared.config.Config.{Config}
 use Rattle.bx_entry.specs.Inputs.{ReadInput}
-use Rattle.bx_entry.specs.Replay.{Line, Bad, Turned, Handed, Resharded, Numbered, inputs_from, line_of, lines_of, printed, replay_text}
+use Rattle.bx_script.specs.Replay.{Line, Bad, Turned, Handed, Resharded, Numbered, inputs_from, line_of, lines_of, printed, replay_text}
 use Rattle.bx_entry.specs.Requests.{read_input}
 use Rattle.bx_entry.specs.Runs.{Out, held, outs}
 use Rattle.bx_entry.specs.declared.Placing.{Ghosts}
@@ -23,7 +23,7 @@ use Rattle.bx_fanout.specs.declared.out.RoundFault.{RoundFault}
 use Rattle.bx_fanout.specs.declared.round.Round.{Round}
 use Rattle.bx_laws.specs.Lines.{AddsOuts, inputs_in, line_prints, outs_text, printed_so_far}
 use Rattle.bx_laws.proofs.Lines.{inputs_go_on, lines_go_on}
-use Rattle.bx_script.specs.Lines.{IsNext, NextLine, query_taken, said_by}
+use Rattle.bx_script.specs.Lines.{IsNext, NextLine, said_by}
 use Rattle.bx_script.specs.Printing.{Writes, numbered}
 use Rattle.bx_script.proofs.Fronts.{writes_second}
 use Rattle.bx_script.specs.Reading.{rest_of}
@@ -200,19 +200,19 @@ prints_more config other ls ms a b c e p q = record {
 
 pub reads_none : (a : Option (List ℕ)) (ls : List script.Line) → ls ≡ [] → Reads a a ls
 reads_none None ls e = tt
-reads_none (Some xs) ls e = ap (λ (us : List script.Line). seen_lines us ++ map (line_of query_taken) (lines_of xs)) (sym e)
+reads_none (Some xs) ls e = ap (λ (us : List script.Line). seen_lines us ++ map line_of (lines_of xs)) (sym e)
 
-reads_line : (xs ys zs : List ℕ) (ls ms : List script.Line) (line : script.Line) → ms ≡ ls ++ line ∷ [] → map (line_of query_taken) (lines_of xs) ≡ seen_lines ls ++ map (line_of query_taken) (lines_of ys) → NextLine line ys (Some zs) →
-    map (line_of query_taken) (lines_of xs) ≡ seen_lines ms ++ map (line_of query_taken) (lines_of zs)
+reads_line : (xs ys zs : List ℕ) (ls ms : List script.Line) (line : script.Line) → ms ≡ ls ++ line ∷ [] → map line_of (lines_of xs) ≡ seen_lines ls ++ map line_of (lines_of ys) → NextLine line ys (Some zs) →
+    map line_of (lines_of xs) ≡ seen_lines ms ++ map line_of (lines_of zs)
 reads_line xs ys zs ls ms line e r n =
     let left : zs ≡ rest_of ys = let some : Some zs ≡ Some (rest_of ys) = n.left in cc in
-    let others : List Line = map (line_of query_taken) (lines_of (rest_of ys)) in
+    let others : List Line = map line_of (lines_of (rest_of ys)) in
     r
-    ∙ ap (λ (us : List (List ℕ)). seen_lines ls ++ map (line_of query_taken) us) n.behind
+    ∙ ap (λ (us : List (List ℕ)). seen_lines ls ++ map line_of us) n.behind
     ∙ ap (λ (k : Line). seen_lines ls ++ k ∷ others) (sym n.said)
     ∙ sym (append_assoc (seen_lines ls) (said_by line ∷ []) others)
     ∙ ap (λ (us : List Line). us ++ others) (sym (ap seen_lines e ∙ seen_more ls line))
-    ∙ ap (λ (bs : List ℕ). seen_lines ms ++ map (line_of query_taken) (lines_of bs)) (sym left)
+    ∙ ap (λ (bs : List ℕ). seen_lines ms ++ map line_of (lines_of bs)) (sym left)
 
 reads_by : (xs ys : List ℕ) (c : Option (List ℕ)) (ls ms : List script.Line) (line : script.Line) → ms ≡ ls ++ line ∷ [] → Reads (Some xs) (Some ys) ls → NextLine line ys c → Reads (Some xs) c ms
 reads_by xs ys None ls ms line e r n = let some : None ≡ Some (rest_of ys) = n.left in cc
@@ -224,7 +224,7 @@ reads_more (Some xs) None c ls ms next line is e r n = absurd r
 reads_more (Some xs) (Some ys) c ls ms next line is e r n = reads_by xs ys c ls ms line e r (subst (λ (o : Option script.Line). IsNext o ys c) is n)
 
 reads_last : (xs ys : List ℕ) (c : Option (List ℕ)) (ls : List script.Line) → Reads (Some xs) (Some ys) ls → IsNext None ys c → IsAll (Some xs) ls
-reads_last xs ys c ls r n = sym (r ∙ ap (λ (bs : List ℕ). seen_lines ls ++ map (line_of query_taken) (lines_of bs)) n.0 ∙ append-nil (seen_lines ls))
+reads_last xs ys c ls r n = sym (r ∙ ap (λ (bs : List ℕ). seen_lines ls ++ map line_of (lines_of bs)) n.0 ∙ append-nil (seen_lines ls))
 
 pub reads_end : (a b c : Option (List ℕ)) (ls : List script.Line) (next : Option script.Line) → next ≡ None → Reads a b ls → IfSome b (λ bytes. IsNext next bytes c) → IsAll a ls
 reads_end None b c ls next is r n = tt
@@ -234,8 +234,8 @@ reads_end (Some xs) (Some ys) c ls next is r n = reads_last xs ys c ls r (subst 
 pub number_more : (n m : ℕ) (ls ms : List script.Line) (l : script.Line) → ms ≡ ls ++ l ∷ [] → n ≡ length (seen_lines ls) → m ≡ length (seen_lines ms) → m ≡ n + 1
 number_more n m ls ms l e f h = omega (arith, f, h, ap (λ (us : List script.Line). length (seen_lines us)) e, ap length (seen_more ls l), length-append (seen_lines ls) (said_by l ∷ []))
 
-printed_all : {A E : Type 0} (config : Config) (bytes : List ℕ) (ls : List script.Line) (a b d : Option (List ℕ)) (r : Result A E) → seen_lines ls ≡ map (line_of query_taken) (lines_of bytes) → Prints config [] ls a b →
-    Writes b d r (held_lines config ls) → Writes a d r (replay_text config query_taken bytes)
+printed_all : {A E : Type 0} (config : Config) (bytes : List ℕ) (ls : List script.Line) (a b d : Option (List ℕ)) (r : Result A E) → seen_lines ls ≡ map line_of (lines_of bytes) → Prints config [] ls a b →
+    Writes b d r (held_lines config ls) → Writes a d r (replay_text config bytes)
 printed_all config bytes ls a b d r e p h =
     let text : p.text ≡ printed_so_far config (seen_lines ls) = sym p.is in
     subst (Writes a d r)
@@ -243,9 +243,9 @@ printed_all config bytes ls a b d r e p h =
     (writes_second a b d r p.text (held_lines config ls) p.appends h)
 
 pub replayed : {A E : Type 0} (config other : Config) (bytes : Option (List ℕ)) (ls : List script.Line) (a b d : Option (List ℕ)) (r : Result A E) → other ≡ config → IsAll bytes ls → Prints other [] ls a b → Writes b d r (held_lines other ls) →
-    IfSome bytes (λ bs. Writes a d r (replay_text config query_taken bs))
+    IfSome bytes (λ bs. Writes a d r (replay_text config bs))
 replayed config other None ls a b d r e all p h = tt
-replayed config other (Some bs) ls a b d r e all p h = subst (λ (c : Config). Writes a d r (replay_text c query_taken bs)) e (printed_all other bs ls a b d r all p h)
+replayed config other (Some bs) ls a b d r e all p h = subst (λ (c : Config). Writes a d r (replay_text c bs)) e (printed_all other bs ls a b d r all p h)
 
 -- ---- what a server keeps
 

@@ -2,7 +2,7 @@
 use Rattle.std.specs.Prelude.{ℕ, ◌≡◌, ◌==◌, IsSome, None, ⊤, if◌then◌else◌, map, [], ◌∷◌, List, flat_map, option_map, slice_get, string_bytes, Option, Some}
 use Rattle.std.specs.Io.KnownBytes.{Appends}
 use Rattle.bx_replay.specs.declared.kept.Asked.{Asked}
-use Rattle.bx_entry.specs.Replay.{Numbered, held_text}
+use Rattle.bx_script.specs.Replay.{Numbered, held_text}
 use Rattle.bx_entry.specs.Runs.{Out}
 use Rattle.bx_fanout.specs.declared.out.Out as fanout
 use Rattle.bx_laws.specs.Lines.{outs_text}

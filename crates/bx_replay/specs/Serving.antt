@@ -8,13 +8,13 @@ use Rattle.bx_replay.specs.declared.kept.Asked.{Asked}
 use Rattle.bx_replay.specs.declared.server.Server.{Server}
 use Rattle.bx_advice.specs.declared.config.Config.{Config}
 use Rattle.bx_entry.specs.Inputs.{ReadInput}
-use Rattle.bx_entry.specs.Replay.{Line, Numbered, inputs_from, line_of, lines_of}
+use Rattle.bx_script.specs.Replay.{Line, Numbered, inputs_from, line_of, lines_of}
 use Rattle.bx_entry.specs.Runs.{Out, held, outs}
 use Rattle.bx_entry.specs.declared.Placing.{Ghosts}
 use Rattle.bx_fanout.specs.Rounds.{added_by, inputs_of, setup_in}
 use Rattle.bx_fanout.specs.declared.round.Round.{Round}
 use Rattle.bx_laws.specs.Lines.{inputs_in, outs_text, printed_so_far}
-use Rattle.bx_script.specs.Lines.{said_by, query_taken}
+use Rattle.bx_script.specs.Lines.{said_by}
 use Rattle.bx_script.specs.Printing.{AppendsFront}
 use Rattle.bx_script.specs.declared.line.Line as script
 use Rattle.bx_script.specs.declared.line.Line.TheVariants.{Bad, Turned, Handed, Resharded}
@@ -46,12 +46,12 @@ pub record PrintsFront (config : Config) (old new : List script.Line) (before af
 abbrev pub Reads : Option (List ℕ) → Option (List ℕ) → List script.Line → Type 0
 Reads None new ls = ⊤
 Reads (Some xs) None ls = ⊥
-Reads (Some xs) (Some ys) ls = map (line_of query_taken) (lines_of xs) ≡ seen_lines ls ++ map (line_of query_taken) (lines_of ys)
+Reads (Some xs) (Some ys) ls = map line_of (lines_of xs) ≡ seen_lines ls ++ map line_of (lines_of ys)
 
 -- these lines are all
 abbrev pub IsAll : Option (List ℕ) → List script.Line → Type 0
 IsAll None ls = ⊤
-IsAll (Some script) ls = seen_lines ls ≡ map (line_of query_taken) (lines_of script)
+IsAll (Some script) ls = seen_lines ls ≡ map line_of (lines_of script)
 
 -- what is printed at the end for the lines that are held
 abbrev pub held_lines : Config → List script.Line → List ℕ

@@ -3,7 +3,7 @@ ghost use Rattle.std.specs.Prelude.{◌≡◌, ◌++◌, ℕ, [], ◌∷◌, Lis
 ghost use Rattle.std.specs.BTreeMap.{get, is_at};
 ghost use Rattle.std.specs.Ordering.{nat_cmp};
 ghost use Rattle.bx_replay.specs.Kept.{AllKept, AreKept, PrintsOuts, held_texts, inputs_given};
-ghost use Rattle.bx_entry.specs.Replay.{Numbered};
+ghost use Rattle.bx_script.specs.Replay.{Numbered};
 ghost use Rattle.bx_fanout.specs.Stages.{seen_out};
 ghost use Rattle.bx_laws.specs.Lines.{outs_text};
 ghost use Rattle.bx_script.specs.Output.{IsWriteFault, written};

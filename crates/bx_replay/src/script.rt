@@ -1,10 +1,10 @@
 //! A run of the server over a script.
 ghost use Rattle.std.specs.Prelude.{◌≡◌, ◌≤◌, [], IfErr, IfOk, IfSome, OnErr};
 ghost use Rattle.bx_replay.specs.Serving.{IsAll, Prints, Serves, held_lines};
-ghost use Rattle.bx_entry.specs.Replay.{replay_text};
+ghost use Rattle.bx_script.specs.Replay.{replay_text};
 ghost use Rattle.bx_fanout.specs.Rounds.{setup_in};
 ghost use Rattle.bx_replay.specs.Faults.{IsReplayFault};
-ghost use Rattle.bx_script.specs.Lines.{query_taken, unread};
+ghost use Rattle.bx_script.specs.Lines.{unread};
 ghost use Rattle.bx_script.specs.Output.{IsWriteFault, written};
 ghost use Rattle.bx_script.specs.Printing.{AppendsFront, Writes};
 
@@ -35,7 +35,7 @@ pub fn replay<T: Threads + Sync, P: Placing + Drop + Send + Sync, R: BufRead, W:
     requires some_worker { 1 ≤ workers }
     requires workers_in_range { workers ≤ 16 }
     ensures text { IfSome (unread R.remaining lines.old)
-        (λ script. Writes (written W.contents writer.old) (written W.contents writer.new) result (replay_text config query_taken script)) }
+        (λ script. Writes (written W.contents writer.old) (written W.contents writer.new) result (replay_text config script)) }
     ensures reason { IfErr result (IsReplayFault lines.new writer.new) }
 {
     let own = placing.clone()?;
@@ -60,7 +60,7 @@ fn answer_all<T: Threads + Sync, P: Placing + Drop + Send + Sync, R: BufRead, W:
     ensures all { IfOk result (λ s. IsAll (unread R.remaining lines.old) s.lines) }
     ensures prints { IfOk result (λ s. Prints (setup_in s.round).config [] s.lines (written W.contents writer.old) (written W.contents writer.new)) }
     ensures fault { OnErr result (IfSome (unread R.remaining lines.old) (λ script.
-        AppendsFront (written W.contents writer.old) (written W.contents writer.new) (replay_text (setup_in server.round).config query_taken script))) }
+        AppendsFront (written W.contents writer.old) (written W.contents writer.new) (replay_text (setup_in server.round).config script))) }
     ensures reason { IfErr result (IsReplayFault lines.new writer.new) }
 {
     loop {

@@ -3,7 +3,7 @@ use Rattle.std.proofs.Common.{◌≡◌, ℕ, Option, List, [], ◌∷◌, ◌++
 use Rattle.std.specs.Prelude.{IsErr, OnErr, OnOk}
 use Rattle.std.specs.Io.KnownBytes.{Appends, Keeps}
 use Rattle.std.proofs.KnownBytes.{Appends-kept, Appends-nil, Appends-trans}
-use Rattle.bx_entry.specs.Replay.{line_text}
+use Rattle.bx_script.specs.Replay.{line_text}
 use Rattle.bx_script.specs.Printing.{AppendsFront, Writes}
 
 -- nothing was written

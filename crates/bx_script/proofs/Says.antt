@@ -11,7 +11,7 @@ use Rattle.std.specs.List.{before_first, after_first, starts_with}
 use Rattle.bx_entry.specs.Inputs.{Tick}
 use Rattle.bx_advice.specs.declared.config.TheConstants.{BODY_LIMIT}
 use Rattle.bx_message.specs.Fields.{number_of, is_digits}
-use Rattle.bx_entry.specs.Replay.{is_space, Taken, Refused, body_taken, Line, Bad, Handed, command, line_by, line_of, resharded_by, handed_by}
+use Rattle.bx_script.specs.Replay.{is_space, Refused, body_taken, query_taken, Line, Bad, Handed, command, line_by, line_of, resharded_by, handed_by}
 use Rattle.bx_script.specs.Kept.{without_zeros, kept_with, keep_byte}
 use Rattle.bx_script.specs.declared.kept.TheConstants.{KEPT_LIMIT}
 use Rattle.bx_script.proofs.Digits.{value_grows}
@@ -73,142 +73,144 @@ many_digits (x ∷ y ∷ m) (inr second) long =
 -- ---- a long line
 
 -- what a long body, query or number comes to
-module _ (q : List ℕ → Taken) (large : (text : List ℕ) → BODY_LIMIT < length text → q text ≡ Refused 413) where
-  large_body : (text : List ℕ) → BODY_LIMIT < length text → body_taken text ≡ Refused 413
-  large_body text h = rw (lt-ltb BODY_LIMIT (length text) h)
+large_body : (text : List ℕ) → BODY_LIMIT < length text → body_taken text ≡ Refused 413
+large_body text h = rw (lt-ltb BODY_LIMIT (length text) h)
 
-  large_number : (text : List ℕ) → BODY_LIMIT < length text → resharded_by text ≡ Bad
-  large_number text h = rw (lt-ltb BODY_LIMIT (length text) h)
+large_query : (text : List ℕ) → BODY_LIMIT < length text → query_taken text ≡ Refused 413
+large_query text h = rw (lt-ltb BODY_LIMIT (length text) h)
 
-  same_line : (t p g s : Bool) (tick x u y v z w : Line) → x ≡ u → y ≡ v → z ≡ w
-      → cond t tick (cond p x (cond g y (cond s z Bad))) ≡ cond t tick (cond p u (cond g v (cond s w Bad)))
-  same_line t p g s tick x u y v z w first second third = rw (first, second, third)
+large_number : (text : List ℕ) → BODY_LIMIT < length text → resharded_by text ≡ Bad
+large_number text h = rw (lt-ltb BODY_LIMIT (length text) h)
 
-  -- it says the same without its end
-  cut_command : (moment n : ℕ) (rest : List ℕ) → BODY_LIMIT + 2 < n → n < length rest → command q moment (take n rest) ≡ command q moment rest
-  cut_command moment n [] long within = absurd (omega arith)
-  cut_command moment n (a ∷ []) long within = absurd (omega arith)
-  cut_command moment n (a ∷ b ∷ []) long within = absurd (omega arith)
-  cut_command moment zero (a ∷ b ∷ rest) long within = absurd (omega arith)
-  cut_command moment (suc zero) (a ∷ b ∷ rest) long within = absurd (omega arith)
-  cut_command moment (suc (suc zero)) (a ∷ b ∷ c ∷ rest) long within = absurd (omega arith)
-  cut_command moment (suc (suc (suc n))) (a ∷ b ∷ c ∷ rest) long within =
-      let short : BODY_LIMIT < length (c ∷ take n rest) = omega (arith, length-take-le n rest (omega arith)) in
-      let whole : BODY_LIMIT < length (c ∷ rest) = omega arith in
-      let text = a ∷ b ∷ c ∷ rest in
-      same_line (bytes_eq text (codes "T")) (starts_with nat_eq text (codes "P ")) (starts_with nat_eq text (codes "G ")) (starts_with nat_eq text (codes "S ")) (Handed None (Tick moment)) _ _ _ _ _ _
-      (ap (handed_by moment) (large_body (c ∷ take n rest) short ∙ sym (large_body (c ∷ rest) whole)))
-      (ap (handed_by moment) (large (c ∷ take n rest) short ∙ sym (large (c ∷ rest) whole)))
-      (large_number (c ∷ take n rest) short ∙ sym (large_number (c ∷ rest) whole))
+same_line : (t p g s : Bool) (tick x u y v z w : Line) → x ≡ u → y ≡ v → z ≡ w
+    → cond t tick (cond p x (cond g y (cond s z Bad))) ≡ cond t tick (cond p u (cond g v (cond s w Bad)))
+same_line t p g s tick x u y v z w first second third = rw (first, second, third)
 
-  no_command : (o : Option ℕ) → line_by q o [] ≡ Bad
-  no_command None = refl
-  no_command (Some moment) = refl
+-- it says the same without its end
+cut_command : (moment n : ℕ) (rest : List ℕ) → BODY_LIMIT + 2 < n → n < length rest → command moment (take n rest) ≡ command moment rest
+cut_command moment n [] long within = absurd (omega arith)
+cut_command moment n (a ∷ []) long within = absurd (omega arith)
+cut_command moment n (a ∷ b ∷ []) long within = absurd (omega arith)
+cut_command moment zero (a ∷ b ∷ rest) long within = absurd (omega arith)
+cut_command moment (suc zero) (a ∷ b ∷ rest) long within = absurd (omega arith)
+cut_command moment (suc (suc zero)) (a ∷ b ∷ c ∷ rest) long within = absurd (omega arith)
+cut_command moment (suc (suc (suc n))) (a ∷ b ∷ c ∷ rest) long within =
+    let short : BODY_LIMIT < length (c ∷ take n rest) = omega (arith, length-take-le n rest (omega arith)) in
+    let whole : BODY_LIMIT < length (c ∷ rest) = omega arith in
+    let text = a ∷ b ∷ c ∷ rest in
+    same_line (bytes_eq text (codes "T")) (starts_with nat_eq text (codes "P ")) (starts_with nat_eq text (codes "G ")) (starts_with nat_eq text (codes "S ")) (Handed None (Tick moment)) _ _ _ _ _ _
+    (ap (handed_by moment) (large_body (c ∷ take n rest) short ∙ sym (large_body (c ∷ rest) whole)))
+    (ap (handed_by moment) (large_query (c ∷ take n rest) short ∙ sym (large_query (c ∷ rest) whole)))
+    (large_number (c ∷ take n rest) short ∙ sym (large_number (c ∷ rest) whole))
 
-  no_space : (text : List ℕ) → Lacks 32 text → line_of q text ≡ Bad
-  no_space text lacks = ap (line_by q (number_of (before_first is_space text))) (after_all 32 text lacks) ∙ no_command _
+no_command : (o : Option ℕ) → line_by o [] ≡ Bad
+no_command None = refl
+no_command (Some moment) = refl
 
-  at_space : (m r : List ℕ) → Lacks 32 m → line_of q (m ++ 32 ∷ r) ≡ line_by q (number_of m) r
-  at_space m r lacks =
-      ap (λ l. line_by q (number_of l) (after_first is_space (m ++ 32 ∷ r))) (before_it 32 m r lacks) ∙ ap (line_by q (number_of m)) (after_it 32 m r lacks)
+no_space : (text : List ℕ) → Lacks 32 text → line_of text ≡ Bad
+no_space text lacks = ap (line_by (number_of (before_first is_space text))) (after_all 32 text lacks) ∙ no_command _
 
-  front_is_normal : (m r : List ℕ) → IsNormal (m ++ r) → IsNormal m
-  front_is_normal [] r h = tt
-  front_is_normal (x ∷ []) r h = tt
-  front_is_normal (x ∷ y ∷ m) r h = h
+at_space : (m r : List ℕ) → Lacks 32 m → line_of (m ++ 32 ∷ r) ≡ line_by (number_of m) r
+at_space m r lacks =
+    ap (λ l. line_by (number_of l) (after_first is_space (m ++ 32 ∷ r))) (before_it 32 m r lacks) ∙ ap (line_by (number_of m)) (after_it 32 m r lacks)
 
-  -- what is behind the moment, cut
-  cut_rest : (m r : List ℕ) (n : ℕ) → IsNormal m → BODY_LIMIT + 24 < n + length m → line_by q (number_of m) (take n r) ≡ line_by q (number_of m) r
-  cut_rest m r n normal long = by_length (ltb 21 (length m)) refl
-    where
-      by_number : (o : Option ℕ) → BODY_LIMIT + 2 < n → n < length r → line_by q o (take n r) ≡ line_by q o r
-      by_number None room within = refl
-      by_number (Some moment) room within = cut_command moment n r room within
+front_is_normal : (m r : List ℕ) → IsNormal (m ++ r) → IsNormal m
+front_is_normal [] r h = tt
+front_is_normal (x ∷ []) r h = tt
+front_is_normal (x ∷ y ∷ m) r h = h
 
-      by_room : (b : Bool) → ltb n (length r) ≡ b → BODY_LIMIT + 2 < n → line_by q (number_of m) (take n r) ≡ line_by q (number_of m) r
-      by_room true e room = by_number (number_of m) room (ltb-true _ _ e)
-      by_room false e room = ap (line_by q (number_of m)) (take_all n r (ltb-false _ _ e))
+-- what is behind the moment, cut
+cut_rest : (m r : List ℕ) (n : ℕ) → IsNormal m → BODY_LIMIT + 24 < n + length m → line_by (number_of m) (take n r) ≡ line_by (number_of m) r
+cut_rest m r n normal long = by_length (ltb 21 (length m)) refl
+  where
+    by_number : (o : Option ℕ) → BODY_LIMIT + 2 < n → n < length r → line_by o (take n r) ≡ line_by o r
+    by_number None room within = refl
+    by_number (Some moment) room within = cut_command moment n r room within
 
-      by_length : (b : Bool) → ltb 21 (length m) ≡ b → line_by q (number_of m) (take n r) ≡ line_by q (number_of m) r
-      by_length true e =
-          let none = many_digits m normal (ltb-true _ _ e) in
-          ap (λ o. line_by q o (take n r)) none ∙ sym (ap (λ o. line_by q o r) none)
-      by_length false e = by_room (ltb n (length r)) refl (omega (arith, ltb-false _ _ e))
+    by_room : (b : Bool) → ltb n (length r) ≡ b → BODY_LIMIT + 2 < n → line_by (number_of m) (take n r) ≡ line_by (number_of m) r
+    by_room true e room = by_number (number_of m) room (ltb-true _ _ e)
+    by_room false e room = ap (line_by (number_of m)) (take_all n r (ltb-false _ _ e))
 
-  cut_in_rest : (limit : ℕ) (m r : List ℕ) → length m < limit → take limit (m ++ 32 ∷ r) ≡ m ++ 32 ∷ take (limit - length m - 1) r
-  cut_in_rest limit [] r h = let room : limit ≡ suc (limit - 0 - 1) = omega arith in ap (λ n. take n (32 ∷ r)) room
-  cut_in_rest limit (x ∷ m) r h =
-      let room : limit ≡ suc (limit - 1) = omega arith in
-      let same : limit - 1 - length m - 1 ≡ limit - length (x ∷ m) - 1 = omega arith in
-      ap (λ n. take n (x ∷ (m ++ 32 ∷ r))) room ∙ ap (λ l. x ∷ l) (cut_in_rest (limit - 1) m r (omega arith)) ∙ ap (λ n. x ∷ (m ++ 32 ∷ take n r)) same
+    by_length : (b : Bool) → ltb 21 (length m) ≡ b → line_by (number_of m) (take n r) ≡ line_by (number_of m) r
+    by_length true e =
+        let none = many_digits m normal (ltb-true _ _ e) in
+        ap (λ o. line_by o (take n r)) none ∙ sym (ap (λ o. line_by o r) none)
+    by_length false e = by_room (ltb n (length r)) refl (omega (arith, ltb-false _ _ e))
 
-  cut_by : (limit : ℕ) (m r : List ℕ) → BODY_LIMIT + 32 ≤ limit → IsNormal m → Lacks 32 m → (b : Bool) → ltb (length m) limit ≡ b
-      → line_of q (take limit (m ++ 32 ∷ r)) ≡ line_of q (m ++ 32 ∷ r)
-  cut_by limit m r large normal lacks true e =
-      let within : length m < limit = ltb-true _ _ e in
-      ap (line_of q) (cut_in_rest limit m r within) ∙ at_space m (take (limit - length m - 1) r) lacks
-      ∙ cut_rest m r (limit - length m - 1) normal (omega arith) ∙ sym (at_space m r lacks)
-  cut_by limit m r large normal lacks false e =
-      let past : limit ≤ length m = ltb-false _ _ e in
-      ap (line_of q) (take-append-le limit m (32 ∷ r) past) ∙ no_space (take limit m) (lacks_taken 32 limit m lacks)
-      ∙ sym (at_space m r lacks ∙ ap (λ o. line_by q o r) (many_digits m normal (omega arith)))
+cut_in_rest : (limit : ℕ) (m r : List ℕ) → length m < limit → take limit (m ++ 32 ∷ r) ≡ m ++ 32 ∷ take (limit - length m - 1) r
+cut_in_rest limit [] r h = let room : limit ≡ suc (limit - 0 - 1) = omega arith in ap (λ n. take n (32 ∷ r)) room
+cut_in_rest limit (x ∷ m) r h =
+    let room : limit ≡ suc (limit - 1) = omega arith in
+    let same : limit - 1 - length m - 1 ≡ limit - length (x ∷ m) - 1 = omega arith in
+    ap (λ n. take n (x ∷ (m ++ 32 ∷ r))) room ∙ ap (λ l. x ∷ l) (cut_in_rest (limit - 1) m r (omega arith)) ∙ ap (λ n. x ∷ (m ++ 32 ∷ take n r)) same
 
-  pub cut_says : (limit : ℕ) (text : List ℕ) → BODY_LIMIT + 32 ≤ limit → IsNormal text → line_of q (take limit text) ≡ line_of q text
-  cut_says limit text room normal = by_space (parted 32 text)
-    where
-      by_space : Lacks 32 text ⊎ Parted 32 text → line_of q (take limit text) ≡ line_of q text
-      by_space (inl lacks) = no_space (take limit text) (lacks_taken 32 limit text lacks) ∙ sym (no_space text lacks)
-      by_space (inr p) =
-          let front = front_is_normal p.front (32 ∷ p.back) (subst IsNormal p.whole normal) in
-          ap (λ l. line_of q (take limit l)) p.whole ∙ cut_by limit p.front p.back room front p.lacks (ltb (length p.front) limit) refl ∙ sym (ap (line_of q) p.whole)
+cut_by : (limit : ℕ) (m r : List ℕ) → BODY_LIMIT + 32 ≤ limit → IsNormal m → Lacks 32 m → (b : Bool) → ltb (length m) limit ≡ b
+    → line_of (take limit (m ++ 32 ∷ r)) ≡ line_of (m ++ 32 ∷ r)
+cut_by limit m r large normal lacks true e =
+    let within : length m < limit = ltb-true _ _ e in
+    ap line_of (cut_in_rest limit m r within) ∙ at_space m (take (limit - length m - 1) r) lacks
+    ∙ cut_rest m r (limit - length m - 1) normal (omega arith) ∙ sym (at_space m r lacks)
+cut_by limit m r large normal lacks false e =
+    let past : limit ≤ length m = ltb-false _ _ e in
+    ap line_of (take-append-le limit m (32 ∷ r) past) ∙ no_space (take limit m) (lacks_taken 32 limit m lacks)
+    ∙ sym (at_space m r lacks ∙ ap (λ o. line_by o r) (many_digits m normal (omega arith)))
 
-  -- ---- zeros
+pub cut_says : (limit : ℕ) (text : List ℕ) → BODY_LIMIT + 32 ≤ limit → IsNormal text → line_of (take limit text) ≡ line_of text
+cut_says limit text room normal = by_space (parted 32 text)
+  where
+    by_space : Lacks 32 text ⊎ Parted 32 text → line_of (take limit text) ≡ line_of text
+    by_space (inl lacks) = no_space (take limit text) (lacks_taken 32 limit text lacks) ∙ sym (no_space text lacks)
+    by_space (inr p) =
+        let front = front_is_normal p.front (32 ∷ p.back) (subst IsNormal p.whole normal) in
+        ap (λ l. line_of (take limit l)) p.whole ∙ cut_by limit p.front p.back room front p.lacks (ltb (length p.front) limit) refl ∙ sym (ap line_of p.whole)
 
-  zero_more : (m : List ℕ) → number_of (48 ∷ 48 ∷ m) ≡ number_of (48 ∷ m)
-  zero_more m =
-      let two : 0 < length (48 ∷ 48 ∷ m) = omega arith in
-      let one : 0 < length (48 ∷ m) = omega arith in
-      rw (lt-ltb 0 (length (48 ∷ 48 ∷ m)) two, lt-ltb 0 (length (48 ∷ m)) one) refl
+-- ---- zeros
 
-  two_zeros : (xs : List ℕ) → line_of q (48 ∷ 48 ∷ xs) ≡ line_of q (48 ∷ xs)
-  two_zeros xs =
-      let once = before_past 32 48 xs refl in
-      let twice = before_past 32 48 (48 ∷ xs) refl ∙ ap (λ l. 48 ∷ l) once in
-      ap (λ l. line_by q (number_of l) (after_first is_space (48 ∷ 48 ∷ xs))) twice
-      ∙ ap (line_by q (number_of (48 ∷ 48 ∷ before_first is_space xs))) (after_past 32 48 (48 ∷ xs) refl)
-      ∙ ap (λ o. line_by q o (after_first is_space (48 ∷ xs))) (zero_more (before_first is_space xs))
-      ∙ sym (ap (λ l. line_by q (number_of l) (after_first is_space (48 ∷ xs))) once)
+zero_more : (m : List ℕ) → number_of (48 ∷ 48 ∷ m) ≡ number_of (48 ∷ m)
+zero_more m =
+    let two : 0 < length (48 ∷ 48 ∷ m) = omega arith in
+    let one : 0 < length (48 ∷ m) = omega arith in
+    rw (lt-ltb 0 (length (48 ∷ 48 ∷ m)) two, lt-ltb 0 (length (48 ∷ m)) one) refl
 
-  zeros_say : (xs : List ℕ) → line_of q (48 ∷ without_zeros xs) ≡ line_of q (48 ∷ xs)
-  zeros_say [] = refl
-  zeros_say (x ∷ xs) = next (zeros_say xs) (eqb x 48) refl
-    where
-      next : line_of q (48 ∷ without_zeros xs) ≡ line_of q (48 ∷ xs) → (b : Bool) → eqb x 48 ≡ b → line_of q (48 ∷ cond b (without_zeros xs) (x ∷ xs)) ≡ line_of q (48 ∷ x ∷ xs)
-      next rest true e = rest ∙ sym (two_zeros xs) ∙ ap (λ y. line_of q (48 ∷ y ∷ xs)) (sym (eqb-true x 48 e))
-      next rest false e = refl
+two_zeros : (xs : List ℕ) → line_of (48 ∷ 48 ∷ xs) ≡ line_of (48 ∷ xs)
+two_zeros xs =
+    let once = before_past 32 48 xs refl in
+    let twice = before_past 32 48 (48 ∷ xs) refl ∙ ap (λ l. 48 ∷ l) once in
+    ap (λ l. line_by (number_of l) (after_first is_space (48 ∷ 48 ∷ xs))) twice
+    ∙ ap (line_by (number_of (48 ∷ 48 ∷ before_first is_space xs))) (after_past 32 48 (48 ∷ xs) refl)
+    ∙ ap (λ o. line_by o (after_first is_space (48 ∷ xs))) (zero_more (before_first is_space xs))
+    ∙ sym (ap (λ l. line_by (number_of l) (after_first is_space (48 ∷ xs))) once)
 
-  -- ---- what is kept
+zeros_say : (xs : List ℕ) → line_of (48 ∷ without_zeros xs) ≡ line_of (48 ∷ xs)
+zeros_say [] = refl
+zeros_say (x ∷ xs) = next (zeros_say xs) (eqb x 48) refl
+  where
+    next : line_of (48 ∷ without_zeros xs) ≡ line_of (48 ∷ xs) → (b : Bool) → eqb x 48 ≡ b → line_of (48 ∷ cond b (without_zeros xs) (x ∷ xs)) ≡ line_of (48 ∷ x ∷ xs)
+    next rest true e = rest ∙ sym (two_zeros xs) ∙ ap (λ y. line_of (48 ∷ y ∷ xs)) (sym (eqb-true x 48 e))
+    next rest false e = refl
 
-  stripped_is_normal : (xs : List ℕ) → IsStripped xs → IsNormal (48 ∷ xs)
-  stripped_is_normal [] h = tt
-  stripped_is_normal (x ∷ xs) h = inr h
+-- ---- what is kept
 
-  other_is_normal : (x : ℕ) (xs : List ℕ) → eqb x 48 ≡ false → IsNormal (x ∷ xs)
-  other_is_normal x [] h = tt
-  other_is_normal x (y ∷ xs) h = inl h
+stripped_is_normal : (xs : List ℕ) → IsStripped xs → IsNormal (48 ∷ xs)
+stripped_is_normal [] h = tt
+stripped_is_normal (x ∷ xs) h = inr h
 
-  kept_behind : (limit x : ℕ) (xs : List ℕ) → BODY_LIMIT + 32 ≤ limit → (b : Bool) → eqb x 48 ≡ b → line_of q (fold (keep_byte limit) (x ∷ []) xs) ≡ line_of q (x ∷ xs)
-  kept_behind limit x xs room true e =
-      let zero_is = eqb-true x 48 e in
-      let low : limit ≡ suc (limit - 1) = omega arith in
-      let whole = without_zeros xs in
-      ap (λ y. line_of q (fold (keep_byte limit) (y ∷ []) xs)) zero_is ∙ ap (line_of q) (keeps_behind_zero limit xs (omega arith) ∙ sym (ap (λ n. take n (48 ∷ whole)) low))
-      ∙ cut_says limit (48 ∷ whole) room (stripped_is_normal whole (strips xs)) ∙ zeros_say xs ∙ ap (λ y. line_of q (y ∷ xs)) (sym zero_is)
-  kept_behind limit x xs room false e =
-      let low : limit ≡ suc (limit - 1) = omega arith in
-      ap (line_of q) (keeps_room limit (x ∷ []) xs e (omega arith) ∙ sym (ap (λ n. take n (x ∷ xs)) low)) ∙ cut_says limit (x ∷ xs) room (other_is_normal x xs e)
+other_is_normal : (x : ℕ) (xs : List ℕ) → eqb x 48 ≡ false → IsNormal (x ∷ xs)
+other_is_normal x [] h = tt
+other_is_normal x (y ∷ xs) h = inl h
 
-  -- it says what the line says
-  pub kept_says : (line : List ℕ) → line_of q (kept_with [] line) ≡ line_of q line
-  kept_says [] = refl
-  kept_says (x ∷ xs) = kept_behind KEPT_LIMIT x xs (lit≤ tt) (eqb x 48) refl
+kept_behind : (limit x : ℕ) (xs : List ℕ) → BODY_LIMIT + 32 ≤ limit → (b : Bool) → eqb x 48 ≡ b → line_of (fold (keep_byte limit) (x ∷ []) xs) ≡ line_of (x ∷ xs)
+kept_behind limit x xs room true e =
+    let zero_is = eqb-true x 48 e in
+    let low : limit ≡ suc (limit - 1) = omega arith in
+    let whole = without_zeros xs in
+    ap (λ y. line_of (fold (keep_byte limit) (y ∷ []) xs)) zero_is ∙ ap line_of (keeps_behind_zero limit xs (omega arith) ∙ sym (ap (λ n. take n (48 ∷ whole)) low))
+    ∙ cut_says limit (48 ∷ whole) room (stripped_is_normal whole (strips xs)) ∙ zeros_say xs ∙ ap (λ y. line_of (y ∷ xs)) (sym zero_is)
+kept_behind limit x xs room false e =
+    let low : limit ≡ suc (limit - 1) = omega arith in
+    ap line_of (keeps_room limit (x ∷ []) xs e (omega arith) ∙ sym (ap (λ n. take n (x ∷ xs)) low)) ∙ cut_says limit (x ∷ xs) room (other_is_normal x xs e)
+
+-- it says what the line says
+pub kept_says : (line : List ℕ) → line_of (kept_with [] line) ≡ line_of line
+kept_says [] = refl
+kept_says (x ∷ xs) = kept_behind KEPT_LIMIT x xs (lit≤ tt) (eqb x 48) refl

@@ -1,17 +1,12 @@
 -- The first line of a script, and the others.
-use Rattle.std.proofs.Common.{◌≡◌, ◌≢◌, ℕ, ◌<◌, ◌⊎◌, inl, inr, true, false, List, [], ◌∷◌, ◌++◌, length, refl, sym, ap, ◌∙◌, Option, Some, None, IfSome}
-use Rattle.std.proofs.lemmas.Bool.{lt-ltb}
+use Rattle.std.proofs.Common.{◌≡◌, ◌≢◌, ℕ, ◌⊎◌, inl, inr, true, false, List, [], ◌∷◌, ◌++◌, refl, sym, ap, ◌∙◌, Option, Some, None, IfSome}
 use Rattle.std.specs.List.{slice_split}
-use Rattle.bx_advice.specs.declared.config.TheConstants.{BODY_LIMIT}
-use Rattle.bx_entry.specs.Replay.{is_newline, lines_of, without_empty_end, line_of, Refused}
+use Rattle.bx_script.specs.Replay.{is_newline, lines_of, without_empty_end, line_of}
 use Rattle.bx_script.specs.Reading.{first_of, rest_of, ReadsLine}
-use Rattle.bx_script.specs.Lines.{IsNext, said_by, query_taken}
+use Rattle.bx_script.specs.Lines.{IsNext, said_by}
 use Rattle.bx_script.specs.declared.line.Line.{Line}
 use Rattle.bx_script.proofs.Cuts.{Lacks, before_all, after_all, split_all, split_behind, before_it, after_it, Parted, parted, split_some}
 use Rattle.bx_script.proofs.Says.{kept_says}
-
-large_query : (text : List ℕ) → BODY_LIMIT < length text → query_taken text ≡ Refused 413
-large_query text h = rw (lt-ltb BODY_LIMIT (length text) h)
 
 no_end : (line : List ℕ) (parts : List (List ℕ)) (next : List ℕ) (others : List (List ℕ)) → parts ≡ next ∷ others → without_empty_end (line ∷ parts) ≡ line ∷ without_empty_end parts
 no_end [] parts next others e = rw e
@@ -38,11 +33,11 @@ lines_are (x ∷ xs) some = by_newline (parted 10 (x ∷ xs))
         ap lines_of p.whole ∙ line_and_rest p.front p.back p.lacks ∙ sym (ap (λ l. first_of l ∷ lines_of (rest_of l)) p.whole)
 
 -- what is kept of a line that was read says it
-pub is_next : (line : Line) (old new : Option (List ℕ)) (kept : List ℕ) → ReadsLine true old new kept → said_by line ≡ line_of query_taken kept → IfSome old (λ script. IsNext (Some line) script new)
+pub is_next : (line : Line) (old new : Option (List ℕ)) (kept : List ℕ) → ReadsLine true old new kept → said_by line ≡ line_of kept → IfSome old (λ script. IsNext (Some line) script new)
 is_next line None new kept read said = tt
 is_next line (Some script) None kept read said = absurd read
 is_next line (Some script) (Some rest) kept read said = record {
-  said = said ∙ ap (line_of query_taken) read.1 ∙ kept_says query_taken large_query (first_of script);
+  said = said ∙ ap line_of read.1 ∙ kept_says (first_of script);
   behind = lines_are script read.0;
   left = ap Some read.2;
 }

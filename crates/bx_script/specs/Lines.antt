@@ -1,36 +1,14 @@
 -- What a line says, and what is left of a script's reading.
-use Rattle.std.specs.Prelude.{ℕ, ◌≡◌, ◌≤◌, ⊤, List, [], ◌∷◌, Option, Some, None, string_bytes, option_map, Result, Ok, Err}
-use Rattle.bx_entry.specs.Replay.{Taken, Refused, Documents, line_of, lines_of}
-use Rattle.bx_entry.specs.Replay as replay
+use Rattle.std.specs.Prelude.{ℕ, ◌≡◌, ◌≤◌, ⊤, List, [], ◌∷◌, Option, Some, None, string_bytes, option_map}
+use Rattle.bx_script.specs.Replay.{line_of, lines_of}
+use Rattle.bx_script.specs.Replay as replay
 use Rattle.bx_entry.specs.Requests.{read_input}
-use Rattle.bx_transport.specs.declared.error.TransportError.{TransportError}
-use Rattle.bx_transport.specs.declared.error.TransportError.TheVariants.{TooLarge, BadName, NoMessage, Memory}
-use Rattle.bx_transport.specs.Transports.{get_taken}
 use Rattle.bx_script.specs.Reading.{first_of, rest_of}
 use Rattle.bx_script.specs.Reads.{HasEnded, IsReadFault}
 use Rattle.bx_script.specs.declared.error.ScriptFault.{ScriptFault}
 use Rattle.bx_script.specs.declared.line.Line.{Line}
 use Rattle.bx_script.specs.declared.line.Line.TheVariants.{Bad, Turned, Handed, Resharded}
 use Rattle.bx_script.specs.declared.lines.Lines.{Lines}
-
--- ---- queries
-
--- the status of a query that isn't taken
-abbrev pub query_status : TransportError → ℕ
-query_status TooLarge = 413
-query_status BadName = 400
-query_status NoMessage = 400
-query_status Memory = 400
-
-abbrev pub taken_by : Result (List ℕ × List (List ℕ)) TransportError → Taken
-taken_by (Ok query) = Documents (Some query.0) query.1
-taken_by (Err error) = Refused (query_status error)
-
--- how a query is taken
-abbrev pub query_taken : List ℕ → Taken
-query_taken query = taken_by (get_taken query)
-
--- ---- lines
 
 -- what a line is read as, in the words of the replay
 abbrev pub said_by : Line → replay.Line
@@ -64,7 +42,7 @@ IsFault lines fault = IsReadFault lines.reads fault
 
 -- the next line of a script says what the first says, and the others are left
 pub record NextLine (line : Line) (script : List ℕ) (rest : Option (List ℕ)) : Type 0 where
-  pub said : said_by line ≡ line_of query_taken (first_of script)
+  pub said : said_by line ≡ line_of (first_of script)
   pub behind : lines_of script ≡ first_of script ∷ lines_of (rest_of script)
   pub left : rest ≡ Some (rest_of script)
 

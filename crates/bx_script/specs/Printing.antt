@@ -2,7 +2,7 @@
 use Rattle.std.specs.Prelude.{ℕ, ◌≡◌, ◌++◌, Bool, true, false, List, Option, Result, MatchResult}
 use Rattle.std.specs.Io.KnownBytes.{Appends}
 use Rattle.bx_entry.specs.Inputs.{ReadInput, Request, Unread, Tick}
-use Rattle.bx_entry.specs.Replay.{Numbered}
+use Rattle.bx_script.specs.Replay.{Numbered}
 
 -- whether an input is a tick
 abbrev pub is_tick : ReadInput → Bool

@@ -1,7 +1,7 @@
 -- How a line is read.
 use Rattle.std.specs.Prelude.{ℕ, ◌≡◌, ◌≢◌, ◌<◌, ◌+◌, Bool, true, false, List, [], length, Option, Some, None, ⊤}
 use Rattle.std.specs.List.{before_first, after_first, position_or_len}
-use Rattle.bx_entry.specs.Replay.{is_newline}
+use Rattle.bx_script.specs.Replay.{is_newline}
 use Rattle.bx_script.specs.Kept.{kept_with}
 use Rattle.bx_script.specs.declared.part.Step.{Step}
 use Rattle.bx_script.specs.declared.part.Step.TheVariants.{Again, More, Line, End}

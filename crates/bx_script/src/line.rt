@@ -2,8 +2,8 @@
 ghost use Rattle.std.specs.Prelude.{◌≡◌, ◌≢◌, IfOk, OnOk, option_map, position, string_bytes};
 ghost use Rattle.std.specs.List.{after_first, before_first};
 ghost use Rattle.bx_cut.specs.Bodies.{texts_of};
-ghost use Rattle.bx_entry.specs.Replay.{Documents, Turned, body_taken, command, handed_by, is_space, line_of, resharded_by, reshards};
-ghost use Rattle.bx_script.specs.Lines.{InRange, query_status, query_taken, said_by};
+ghost use Rattle.bx_script.specs.Replay.{Documents, Turned, body_taken, command, handed_by, is_space, line_of, query_taken, resharded_by, reshards, status_of};
+ghost use Rattle.bx_script.specs.Lines.{InRange, said_by};
 
 use crate::number::number_of;
 use bx_advice::{BODY_LIMIT, MAX_SHARDS};
@@ -36,7 +36,7 @@ impl Line {
     /// Reads a line: digits, a space, and behind them `T` alone, `P` with a space and a body, `G` with a
     /// space and a query, or `S` with a space and a number of shards. A body is copied once.
     pub fn read(alloc: Global, text: &[u8]) -> Result<Line, AllocError>
-        ensures said { IfOk result (λ line. said_by line ≡ line_of query_taken text.now) }
+        ensures said { IfOk result (λ line. said_by line ≡ line_of text.now) }
         ensures shards { IfOk result InRange }
     {
         let (digits, rest) = cut_at_space(text);
@@ -67,7 +67,7 @@ fn space_in(text: &[u8]) -> Option<usize>
 
 // What follows a line's moment.
 fn read_command(alloc: Global, moment: u64, rest: &[u8]) -> Result<Line, AllocError>
-    ensures { IfOk result (λ line. said_by line ≡ command query_taken moment rest.now) }
+    ensures { IfOk result (λ line. said_by line ≡ command moment rest.now) }
 {
     if rest == b"T".as_slice() {
         return Ok(Line::Handed {
@@ -109,7 +109,7 @@ fn read_query(alloc: Global, moment: u64, query: &[u8]) -> Result<Line, AllocErr
 
 // What a line comes to whose body or query is not taken for this.
 fn turned(error: TransportError) -> Result<Line, AllocError>
-    ensures status { IfOk result (λ line. said_by line ≡ Turned (query_status error)) }
+    ensures status { IfOk result (λ line. said_by line ≡ Turned (status_of error)) }
     ensures reason { OnOk result (error ≢ TransportError.Memory) }
 {
     match error {

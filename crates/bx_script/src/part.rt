@@ -1,7 +1,7 @@
 //! The reading of a line.
 ghost use Rattle.std.specs.Prelude.{◌≡◌, ◌<◌, ◌^◌, IfOk, ◌≤◌, OnOk, IfErr, length, position};
 ghost use Rattle.bx_script.specs.Reading.{IsCut, ReadsLine, ReadsPart};
-ghost use Rattle.bx_entry.specs.Replay.{is_newline};
+ghost use Rattle.bx_script.specs.Replay.{is_newline};
 
 use crate::error::ScriptFault;
 use crate::kept::keep;

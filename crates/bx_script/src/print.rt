@@ -2,7 +2,7 @@
 //! or, where a response is written, where memory was refused.
 ghost use Rattle.std.specs.Prelude.{◌≡◌, ◌≢◌, ◌++◌, IfErr, IfOk, OnErr, codes, decimal, option_map, string_bytes};
 ghost use Rattle.bx_entry.specs.Inputs.{ReadInput};
-ghost use Rattle.bx_entry.specs.Replay.{line_text, refusal_status, response_text, result_text};
+ghost use Rattle.bx_script.specs.Replay.{line_text, refusal_status, response_text, result_text};
 ghost use Rattle.bx_script.specs.Output.{HasFailed, IsWriteFault, written};
 ghost use Rattle.bx_script.specs.Printing.{Writes, is_tick, numbered};
 

@@ -8,7 +8,7 @@ use Rattle.std.specs.Option.{option_copied}
 use Rattle.std.specs.Prelude.{IsSome, is_some}
 use Rattle.bx_replay.proofs.Fronts.{held_front, numbers_split}
 use Rattle.bx_replay.proofs.Keeping.{held_printed, held_same}
-use Rattle.bx_entry.specs.Replay.{line_text}
+use Rattle.bx_script.specs.Replay.{line_text}
 use Rattle.bx_script.proofs.Fronts.{fault_writes}
 use Rattle.bx_replay.proofs.Ready.{kept_at}
 use Rattle.bx_script.specs.Output.{written}

@@ -2,7 +2,7 @@ use Rattle.std.proofs.Common.{option_map, string_bytes, sym, ◌∙◌}
 use Rattle.std.specs.BTreeMap.{get, is_at}
 use Rattle.std.specs.Io.KnownBytes.{Appends}
 use Rattle.std.specs.Ordering.{nat_cmp}
-use Rattle.bx_entry.specs.Replay.{result_text}
+use Rattle.bx_script.specs.Replay.{result_text}
 use Rattle.bx_fanout.specs.Stages.{seen_out}
 use Rattle.bx_script.specs.Printing as script
 use Rattle.bx_replay.proofs.Keeping.{TicksAs, ok_of, on_ok_each, out_printed}

@@ -5,7 +5,7 @@ use Rattle.std.specs.Io.KnownBytes.{Appends}
 use Rattle.bx_replay.specs.Kept.{held_texts}
 use Rattle.bx_replay.specs.Serving.{held_lines, seen_lines}
 use Rattle.bx_replay.proofs.Steps.{added_dealt, held_dealt}
-use Rattle.bx_entry.specs.Replay.{inputs_from}
+use Rattle.bx_script.specs.Replay.{inputs_from}
 use Rattle.bx_entry.specs.Runs.{held}
 use Rattle.bx_laws.specs.Lines.{inputs_in}
 use Rattle.bx_script.proofs.Fronts.{fault_writes, front_none, writes_all}

@@ -2,7 +2,7 @@ use Rattle.std.proofs.Common.{◌+◌, [], ℕ, codes, decimal, refl, ap, arith,
 use Rattle.std.specs.BTreeMap.{get}
 use Rattle.std.specs.Ordering.{nat_cmp}
 use Rattle.bx_replay.specs.Serving.{seen_lines, shards_after}
-use Rattle.bx_entry.specs.Replay.{line_text}
+use Rattle.bx_script.specs.Replay.{line_text}
 use Rattle.bx_fanout.specs.Rounds.{added_by, inputs_of, setup_in}
 use Rattle.bx_script.specs.declared.line.Line.{Line}
 use Rattle.bx_replay.proofs.Keeping.{appends_none}

@@ -4,7 +4,7 @@ use Rattle.std.specs.Ordering.{nat_cmp}
 use Rattle.bx_replay.specs.Kept.{AllKept, PrintsOuts, inputs_given}
 use Rattle.bx_replay.specs.declared.kept.Asked.{Asked}
 use Rattle.bx_advice.specs.declared.config.Config.{Config}
-use Rattle.bx_entry.specs.Replay.{Numbered}
+use Rattle.bx_script.specs.Replay.{Numbered}
 use Rattle.bx_entry.specs.Requests.{read_input}
 use Rattle.bx_entry.specs.Runs.{held, outs}
 use Rattle.bx_fanout.specs.Rounds.{added_by, inputs_of, setup_in}

@@ -12,6 +12,9 @@ use Rattle.bx_entry.specs.declared.input.Refusal.TheVariants.{Body, BadMoment, E
 use Rattle.bx_entry.specs.Inputs.{ReadInput, Request, Unread, Tick}
 use Rattle.bx_entry.specs.Requests.{request_messages, read_by}
 use Rattle.bx_entry.specs.Runs.{Out, Whole, wholes, whole_at, held}
+use Rattle.bx_transport.specs.declared.error.TransportError.{TransportError}
+use Rattle.bx_transport.specs.declared.error.TransportError.TheVariants.{TooLarge, BadName, NoMessage, Memory}
+use Rattle.bx_transport.specs.Transports.{get_taken, post_taken}
 
 -- ---- lines
 
@@ -38,9 +41,30 @@ pub data Taken : Type 0 where
   Refused : (status : ℕ) → Taken
   Documents : (callback : Option (List ℕ)) → (documents : List (List ℕ)) → Taken
 
--- a body is one document, where it isn't too large
+-- the status of what a transport doesn't take
+abbrev pub status_of : TransportError → ℕ
+status_of TooLarge = 413
+status_of BadName = 400
+status_of NoMessage = 400
+status_of Memory = 400
+
+-- the documents of a body, which name no callback
+abbrev pub body_by : Result (List (List ℕ)) TransportError → Taken
+body_by (Ok documents) = Documents None documents
+body_by (Err error) = Refused (status_of error)
+
+-- how a body is taken: as that of a POST of no content type
 abbrev pub body_taken : List ℕ → Taken
-body_taken body = if nat_lt BODY_LIMIT (length body) then Refused 413 else Documents None (body ∷ [])
+body_taken body = body_by (post_taken None body)
+
+-- the documents of a query with the name of its callback
+abbrev pub query_by : Result (List ℕ × List (List ℕ)) TransportError → Taken
+query_by (Ok query) = Documents (Some query.0) query.1
+query_by (Err error) = Refused (status_of error)
+
+-- how a query is taken: as that of a GET
+abbrev pub query_taken : List ℕ → Taken
+query_taken query = query_by (get_taken query)
 
 -- a line of another form, one that its transport refuses, an input with the name of its callback, or a change of the number of shards, which is no input
 pub data Line : Type 0 where
@@ -63,22 +87,22 @@ reshards (Some shards) = if nat_lt 0 shards && nat_le shards 64 then Resharded s
 abbrev pub resharded_by : List ℕ → Line
 resharded_by digits = if nat_lt BODY_LIMIT (length digits) then Bad else reshards (number_of digits)
 
--- what follows a line's moment, where `query_taken` says how queries are taken
-abbrev pub command : (List ℕ → Taken) → ℕ → List ℕ → Line
-command query_taken moment rest =
+-- what follows a line's moment
+abbrev pub command : ℕ → List ℕ → Line
+command moment rest =
     if bytes_eq rest (codes "T") then Handed None (Tick moment)
     else (if starts_with nat_eq rest (codes "P ") then handed_by moment (body_taken (drop 2 rest))
     else (if starts_with nat_eq rest (codes "G ") then handed_by moment (query_taken (drop 2 rest))
     else (if starts_with nat_eq rest (codes "S ") then resharded_by (drop 2 rest) else Bad)))
 
 -- digits that fit 64 bits come first
-abbrev pub line_by : (List ℕ → Taken) → Option ℕ → List ℕ → Line
-line_by query_taken None rest = Bad
-line_by query_taken (Some moment) rest = command query_taken moment rest
+abbrev pub line_by : Option ℕ → List ℕ → Line
+line_by None rest = Bad
+line_by (Some moment) rest = command moment rest
 
 -- a moment, a space and a command
-abbrev pub line_of : (List ℕ → Taken) → List ℕ → Line
-line_of query_taken text = line_by query_taken (number_of (before_first is_space text)) (after_first is_space text)
+abbrev pub line_of : List ℕ → Line
+line_of text = line_by (number_of (before_first is_space text)) (after_first is_space text)
 
 -- ---- inputs
 
@@ -146,6 +170,6 @@ printed config numbered ls =
     printed_from (wholes config inputs) numbered 1 0 ls ++ flat_map (λ index. held_text (slice_get numbered index)) (held config inputs)
 
 -- what the lines print in order, and then the lines that are held
-abbrev pub replay_text : Config → (List ℕ → Taken) → List ℕ → List ℕ
-replay_text config query_taken script =
-    let ls = map (line_of query_taken) (lines_of script) in printed config (inputs_from 1 ls) ls
+abbrev pub replay_text : Config → List ℕ → List ℕ
+replay_text config script =
+    let ls = map line_of (lines_of script) in printed config (inputs_from 1 ls) ls
