@@ -1,17 +1,19 @@
 //! A window by what a connect sees of it.
 use crate::window::{PushError, Window};
 use bx_message::{Event, RawJson, SharedEvent, Text};
+use bx_names::ChannelName;
 use std::alloc::{AllocError, Global};
 use std::test::Fail;
 
 // An event with this number as its data.
-fn event(alloc: Global, number: u64) -> Result<SharedEvent, AllocError> {
+fn event(alloc: Global, number: u64) -> Result<SharedEvent, Fail> {
     let event = Event {
         channel: Text::new(alloc, "/a/b")?,
         payload: RawJson::new(alloc, format!(in alloc; "{number}")?.as_str())?,
         id: None,
     };
-    SharedEvent::new(alloc, event)
+    let name = ChannelName::read(alloc, "/a/b")?;
+    Ok(SharedEvent::new(alloc, event, name)?)
 }
 
 // Adds the events with the numbers from `first` on.

@@ -2,6 +2,7 @@
 use anyhow::{Result, anyhow};
 use bx_advice::Config;
 use bx_message::{Event, RawJson, SharedEvent, Text};
+use bx_names::ChannelName;
 use bx_session::{Connection, Delivery, PendingConnect, Session};
 use std::alloc::Global;
 
@@ -37,6 +38,7 @@ impl Setting {
                     payload: RawJson::new(alloc, "{\"symbol\":\"GOOG\",\"price\":1234.5}")?,
                     id: None,
                 },
+                ChannelName::read(alloc, "/stock/GOOG")?,
             )?,
         })
     }

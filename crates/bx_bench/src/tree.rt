@@ -38,7 +38,7 @@ fn find_all(alloc: Global, tree: &Tree, names: &[ChannelName]) -> Result<usize> 
     let mut total = 0usize;
     for _ in 0..TREE_FINDS / NAMES {
         for name in names {
-            total = total.saturating_add(tree.find(alloc, name)?.numbers.len());
+            total = total.saturating_add(tree.nodes().find(alloc, name)?.numbers.len());
         }
     }
     Ok(total)
@@ -82,7 +82,7 @@ fn grow_and_find(alloc: Global, tree: &mut Tree, sessions: u64, finds: u64) -> R
 fn find_one(alloc: Global, tree: &Tree, name: &ChannelName, finds: u64) -> Result<usize> {
     let mut total = 0usize;
     for _ in 0..finds {
-        total = total.saturating_add(tree.find(alloc, name)?.numbers.len());
+        total = total.saturating_add(tree.nodes().find(alloc, name)?.numbers.len());
     }
     Ok(total)
 }

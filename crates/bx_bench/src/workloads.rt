@@ -3,6 +3,7 @@ use anyhow::{Result, anyhow};
 use bx_advice::{Case, Config};
 use bx_cut::Document;
 use bx_message::{AckReply, Event, Item, RawJson, Reply, SharedEvent, Text, body_text};
+use bx_names::ChannelName;
 use serde_json::Value;
 use std::alloc::Global;
 use std::str;
@@ -82,6 +83,7 @@ fn items(alloc: Global) -> Result<Vec<Item>> {
             payload: RawJson::new(alloc, "{\"symbol\":\"GOOG\",\"price\":1234.5}")?,
             id: None,
         },
+        ChannelName::read(alloc, "/stock/GOOG")?,
     )?;
     let mut items = Vec::with_capacity(alloc, 2_000)?;
     for _ in 0..1_000 {

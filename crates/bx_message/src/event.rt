@@ -1,6 +1,8 @@
 ghost use Rattle.std.specs.Prelude.{◌≡◌, IfOk};
+ghost use Rattle.bx_names.specs.Segments.{segments};
 
 use crate::text::{RawJson, Text};
+use bx_names::ChannelName;
 use std::alloc::{AllocError, Global};
 use std::marker::Model;
 use std::sync::Arc;
@@ -15,35 +17,55 @@ pub struct Event {
     pub id: Option<RawJson>,
 }
 
-/// An event that all its receivers share. Contracts see it as the event itself.
+/// An event beside the name of its channel, as it was read.
+#[derive(Drop)]
+struct NamedEvent {
+    event: Event,
+    name: ChannelName,
+}
+
+/// An event that all its receivers share, and the name of its channel, which is read once. Contracts see it as the event
+/// itself.
 #[derive(Drop)]
 pub struct SharedEvent {
-    event: Arc<Event>,
+    named: Arc<NamedEvent>,
 }
 
 impl Model for SharedEvent {
+    ghost use Rattle.std.specs.Prelude.{◌≡◌};
     ghost use Rattle.std.specs.Arc.{arc_value};
+    ghost use Rattle.bx_names.specs.Segments.{segments};
     ghost use Rattle.bx_message.specs.declared.event.Event.{Event};
 
     ghost Value = { Event };
 
-    ghost view = { λ s. arc_value s.event };
+    ghost view = { λ s. (arc_value s.named).event };
+
+    ghost invariant = { λ s. (arc_value s.named).name ≡ segments (arc_value s.named).event.channel };
 }
 
 impl SharedEvent {
-    /// The first handle of an event.
-    pub fn new(alloc: Global, event: Event) -> Result<SharedEvent, AllocError>
+    /// The first handle of an event, with the name of its channel.
+    pub fn new(alloc: Global, event: Event, name: ChannelName) -> Result<SharedEvent, AllocError>
+        requires named { name ≡ segments event.channel }
         ensures { IfOk result (λ s. s ≡ event) }
     {
-        let event = Arc::new(alloc, event)?;
-        Ok(SharedEvent { event })
+        let named = Arc::new(alloc, NamedEvent { event, name })?;
+        Ok(SharedEvent { named })
     }
 
     /// The event.
     pub fn event(&self) -> &Event
         ensures { result.now ≡ self.now }
     {
-        &self.event
+        &self.named.event
+    }
+
+    /// The name of its channel.
+    pub fn name(&self) -> &ChannelName
+        ensures { result.now ≡ segments self.now.channel }
+    {
+        &self.named.name
     }
 }
 
@@ -51,7 +73,7 @@ impl Clone for SharedEvent {
     ghost is_clone = { λ old copy. copy ≡ old };
 
     fn clone(&self) -> Result<SharedEvent, AllocError> {
-        let event = Arc::try_clone(&self.event)?;
-        Ok(SharedEvent { event })
+        let named = Arc::try_clone(&self.named)?;
+        Ok(SharedEvent { named })
     }
 }

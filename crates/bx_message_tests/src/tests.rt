@@ -5,6 +5,7 @@ use bx_message::{
     AckMember, AckReply, Column, Event, Item, Message, MessageError, RawJson, Reply, Sequence,
     SharedEvent, Text, TextMember, body_text, event_text, reply_text,
 };
+use bx_names::ChannelName;
 use std::alloc::{AllocError, Global};
 use std::test::Fail;
 
@@ -187,6 +188,7 @@ fn a_body_is_the_array_of_its_items(rt: HostRuntime) -> Result<(), Fail> {
             payload: RawJson::new(alloc, "7")?,
             id: None,
         },
+        ChannelName::read(alloc, "/a/b")?,
     )?;
     items.push(Item::EventItem(event.clone()?))?;
     items.push(Item::EventItem(event))?;

@@ -46,10 +46,18 @@ impl ChannelName {
     {
         match name_fault(text) {
             Some(fault) => Err(fault),
-            None => Ok(ChannelName {
-                text: String::from_str(alloc, text)?,
-            }),
+            None => Ok(ChannelName::of_valid(alloc, text)?),
         }
+    }
+
+    /// The channel name that a text without a fault is, where that was looked at before. It keeps a copy of the text.
+    pub fn of_valid(alloc: Global, text: &str) -> Result<ChannelName, AllocError>
+        requires valid { name_fault text.now ≡ None }
+        ensures segments { IfOk result (λ name. name ≡ segments text.now) }
+    {
+        Ok(ChannelName {
+            text: String::from_str(alloc, text)?,
+        })
     }
 
     /// The text of the name.

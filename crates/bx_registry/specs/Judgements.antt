@@ -1,7 +1,7 @@
 -- What the judging of a message hands on.
 use Rattle.std.specs.Prelude.{ℕ, ◌≡◌, ⊤, Bool, false, List, fold, is_some, option_to_list, Option, Some}
 use Rattle.std.specs.List.{list_any}
-use Rattle.bx_names.specs.Faults.{pattern_fault}
+use Rattle.bx_names.specs.Faults.{name_fault, pattern_fault}
 use Rattle.bx_message.specs.declared.message.Message.{Message}
 use Rattle.bx_message.specs.declared.column.Column.{Column}
 use Rattle.bx_message.specs.declared.column.Column.TheVariants as columns
@@ -35,12 +35,12 @@ pub record IsOutcome (ms : Members) (place : ℕ) (o : Outcome) (edit : Option E
 abbrev pub has_fault : List (List ℕ) → Bool
 has_fault texts = list_any (λ text. is_some (pattern_fault text)) texts
 
--- where a message of this column names patterns, each of them reads as one
+-- where a message of this column names patterns, each of them reads as one; where it is a publish, its channel reads as a name
 abbrev pub AreReadable : Column → Message → Type 0
 AreReadable columns.Handshake message = ⊤
 AreReadable columns.Connect message = ⊤
 AreReadable columns.Subscribe message = has_fault message.texts ≡ false
 AreReadable columns.Unsubscribe message = has_fault message.texts ≡ false
 AreReadable columns.Disconnect message = ⊤
-AreReadable columns.Publish message = ⊤
+AreReadable columns.Publish message = is_some (name_fault message.channel) ≡ false
 AreReadable columns.UnknownMeta message = ⊤

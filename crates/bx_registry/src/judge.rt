@@ -1,7 +1,7 @@
 //! What a message comes to.
 ghost use Rattle.std.specs.Prelude.{◌≡◌, ◌+◌, ◌<◌, ◌≤◌, ◌^◌, ℕ, Some, None, List, false, length, min, unwrap_or, map, filter, not, if◌then◌else◌, is_some, IfOk, Option, option_map};
 ghost use Rattle.std.specs.Option.{option_copied};
-ghost use Rattle.bx_names.specs.Faults.{pattern_fault};
+ghost use Rattle.bx_names.specs.Faults.{name_fault, pattern_fault};
 ghost use Rattle.bx_names.specs.Globs.{Glob, glob_of};
 ghost use Rattle.bx_names.specs.Kinds.{is_service};
 ghost use Rattle.bx_names.specs.Segments.{segments};
@@ -32,7 +32,7 @@ use bx_entry::Kind;
 use bx_message::{
     AckMember, AckReply, Column, Event, Message, RawJson, Reply, Sequence, SharedEvent, Text,
 };
-use bx_names::{NameError, Pattern};
+use bx_names::{ChannelName, NameError, Pattern};
 use bx_roster::{Edit, Session};
 use std::alloc::{AllocError, AllocFailed, Global};
 
@@ -342,8 +342,9 @@ fn pattern_of(alloc: Global, text: &str) -> Result<Pattern, AllocError>
     }
 }
 
-// The event of a publish, without the publisher's id.
+// The event of a publish, without the publisher's id, with the name of its channel.
 fn event_of(alloc: Global, message: &Message) -> Result<SharedEvent, AllocError>
+    requires { is_some (name_fault message.now.channel) ≡ false }
     ensures { IfOk result (λ e. e ≡ event_of message.now) }
 {
     let payload = match &message.payload {
@@ -355,7 +356,8 @@ fn event_of(alloc: Global, message: &Message) -> Result<SharedEvent, AllocError>
         payload,
         id: share(&message.id)?,
     };
-    SharedEvent::new(alloc, event)
+    let name = ChannelName::of_valid(alloc, message.channel.as_str())?;
+    SharedEvent::new(alloc, event, name)
 }
 
 fn share(json: &Option<RawJson>) -> Result<Option<RawJson>, AllocError>

@@ -1,6 +1,7 @@
 //! One session by what its client sees.
 use bx_advice::{Case, Config, Reconnect};
 use bx_message::{AckReply, Event, RawJson, Reply, SharedEvent, Text};
+use bx_names::ChannelName;
 use bx_session::{Answered, Connection, Delivery, PendingConnect, Session};
 use std::alloc::{AllocError, Global};
 use std::process::Abort;
@@ -26,13 +27,14 @@ fn config() -> Result<Config, Fail> {
     Ok(Config::new(1, 30_000, 0, 10_000).ok_or("no configuration")?)
 }
 
-fn event(alloc: Global, number: u64) -> Result<SharedEvent, AllocError> {
+fn event(alloc: Global, number: u64) -> Result<SharedEvent, Fail> {
     let event = Event {
         channel: Text::new(alloc, "/a/b")?,
         payload: RawJson::new(alloc, format!(in alloc; "{number}")?.as_str())?,
         id: None,
     };
-    SharedEvent::new(alloc, event)
+    let name = ChannelName::read(alloc, "/a/b")?;
+    Ok(SharedEvent::new(alloc, event, name)?)
 }
 
 // The numbers of the events of an answer.

@@ -4,7 +4,6 @@ use Rattle.std.proofs.Math.Dec.{leb}
 use Rattle.std.proofs.lemmas.Bool.Decides.{leb_tells}
 use Rattle.std.specs.List.{list_any}
 use Rattle.std.specs.List.Sorted.{IsStrictlyIncreasing}
-use Rattle.bx_names.specs.Faults.{name_fault}
 use Rattle.bx_names.specs.Kinds.{is_broadcast}
 use Rattle.std.specs.Option.{option_map_or}
 use Rattle.std.proofs.Math.Bool.{or-true}
@@ -307,20 +306,19 @@ module _ (e : Event) where
 
 -- no event reaches where no pattern is
 pub silent : (e : Event) (patterns : List Glob) → patterns ≡ [] → reaches e patterns ≡ false
-silent e patterns empty = ap (reaches e) empty ∙ not_reached (is_none (name_fault e.channel)) (is_broadcast e.channel)
+silent e patterns empty = ap (reaches e) empty ∙ not_reached (is_broadcast e.channel)
   where
-    not_reached : (a b : Bool) → ((a && b) && false) ≡ false
-    not_reached true true = refl
-    not_reached true false = refl
-    not_reached false b = refl
+    not_reached : (b : Bool) → (b && false) ≡ false
+    not_reached true = refl
+    not_reached false = refl
 
 -- a session with its patterns counted hears what reaches them
 pub hears_is : (e : Event) (seat : Seat) (patterns : List Glob) → IsCounted (Some seat) patterns → hears e (with_patterns patterns seat) ≡ reaches e patterns
-hears_is e seat patterns counted = told seat.overflow (is_none (name_fault e.channel)) (is_broadcast e.channel) (any_matches patterns (segments e.channel)) ∙ by seat.overflow refl (reaches e patterns) refl
+hears_is e seat patterns counted = told seat.overflow (is_broadcast e.channel) (any_matches patterns (segments e.channel)) ∙ by seat.overflow refl (reaches e patterns) refl
   where
-    told : (o a b d : Bool) → (((not o && a) && b) && d) ≡ (not o && ((a && b) && d))
-    told true a b d = refl
-    told false a b d = refl
+    told : (o a b : Bool) → ((not o && a) && b) ≡ (not o && (a && b))
+    told true a b = refl
+    told false a b = refl
 
     by : (o : Bool) → seat.overflow ≡ o → (r : Bool) → reaches e patterns ≡ r → (not o && reaches e patterns) ≡ reaches e patterns
     by false h r k = refl

@@ -19,7 +19,7 @@ pub mod Holdings
 pub mod Keeps
 pub mod Made
 pub mod MoveLemmas
-pub mod Names
+pub mod Placed
 pub mod Onward
 pub mod Onwards
 pub mod Ready

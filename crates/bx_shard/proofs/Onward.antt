@@ -1,12 +1,10 @@
 -- One session that a shard holds goes on as the program's session does.
-use Rattle.std.proofs.Common.{◌≡◌, ℕ, ◌+◌, Bool, true, false, cond, ◌&&◌, not, is_none, Option, Some, None, List, [], length, map, fold, nat_lt, nat_le, ◌==◌, refl, sym, ap, ◌∙◌, subst, eqb-true, eq-eqb}
+use Rattle.std.proofs.Common.{◌≡◌, ℕ, ◌+◌, Bool, true, false, cond, ◌&&◌, not, Option, Some, None, List, [], length, map, fold, nat_lt, nat_le, ◌==◌, refl, sym, ap, ◌∙◌, subst, eqb-true, eq-eqb}
 use Rattle.std.proofs.lemmas.Bool.{cond_both, cond-true, cond-false, both_ways}
 use Rattle.std.specs.List.{list_any}
 use Rattle.std.specs.Option.{option_to_list}
-use Rattle.bx_names.specs.declared.error.NameError.{NameError}
 use Rattle.bx_names.specs.Globs.{Glob, any_matches}
 use Rattle.bx_names.specs.InForce.{with_pattern, without_pattern}
-use Rattle.bx_names.specs.Faults.{name_fault}
 use Rattle.bx_names.specs.Kinds.{is_broadcast}
 use Rattle.bx_names.specs.Segments.{segments}
 use Rattle.bx_advice.specs.declared.config.Config.{Config}
@@ -27,7 +25,6 @@ use Rattle.bx_session.specs.Steps.{connected, connection, delivered, delivery, r
 use Rattle.bx_session.proofs.SeatLemmas.{connects_alike, subscribes_alike, unsubscribes_alike, delivers_alike, ticks_alike, closes_alike}
 use Rattle.bx_shard.specs.Holdings.{ReachedLive}
 use Rattle.bx_shard.specs.Subscribers.{Subscriber, answers, closes, hears, onward, seated, subscriber_of}
-use Rattle.bx_shard.proofs.Names.{Named}
 
 -- ---- what stays of what is kept
 
@@ -211,24 +208,18 @@ unsubscribe_goes config k place moment ps live =
     ∙ sym (cond-true (k.number == k.number) (record { seat = after; patterns = gs }) (subscriber_of config k) (own k.number)))
     refl
 
-regroup : (a b c : Bool) → (a && true && b && c) ≡ (true && a && b && c)
-regroup true b c = refl
-regroup false b c = refl
-
 -- a publish of a list is an event of a live session exactly where it is a hit
-hears_hits : (config : Config) (k : Kept) (e : Event) → k.stage ≡ Live → name_fault e.channel ≡ None → hears e (subscriber_of config k) ≡ is_hit_kept k e
-hears_hits config k e live named =
-    ap (λ (o : Option NameError). not k.overflow && is_none o && is_broadcast e.channel && any_matches k.patterns (segments e.channel)) named
-    ∙ regroup (not k.overflow) (is_broadcast e.channel) (any_matches k.patterns (segments e.channel))
-    ∙ ap (λ (s : Stage). is_live s && not k.overflow && is_broadcast e.channel && any_matches k.patterns (segments e.channel)) (sym live)
+hears_hits : (config : Config) (k : Kept) (e : Event) → k.stage ≡ Live → hears e (subscriber_of config k) ≡ is_hit_kept k e
+hears_hits config k e live =
+    ap (λ (s : Stage). is_live s && not k.overflow && is_broadcast e.channel && any_matches k.patterns (segments e.channel)) (sym live)
 
-publish_goes : (config : Config) (k : Kept) (place moment : ℕ) (e : Event) → name_fault e.channel ≡ None → Reached config place k → k.stage ≡ Live → Goes config k place moment (Publish e)
-publish_goes config k place moment e named r live =
+publish_goes : (config : Config) (k : Kept) (place moment : ℕ) (e : Event) → Reached config place k → k.stage ≡ Live → Goes config k place moment (Publish e)
+publish_goes config k place moment e r live =
     let kind : Kind = Publish e in
     let s : Subscriber = subscriber_of config k in
     let after : Seat = delivered e (seat_of config k) in
     let given : List Answered = delivery_answers (delivery config e (seat_of config k)) in
-    let hit : hears e (subscriber_of config k) ≡ is_hit_kept k e = hears_hits config k e live named in
+    let hit : hears e (subscriber_of config k) ≡ is_hit_kept k e = hears_hits config k e live in
     let p : Publication = record { place = place; event = e } in
     either (is_hit_kept k e) (Goes config k place moment (Publish e))
     (λ h.
@@ -279,22 +270,22 @@ tick_goes config k place moment numbers live =
 by_number : (m n : ℕ) (P : ℕ → Type 0) → P n → ((m == n) ≡ false → P m) → P m
 by_number m n P here there = either (m == n) (P m) (λ h. subst P (sym (eqb-true m n h)) here) there
 
-pub goes : (config : Config) (k : Kept) (place moment : ℕ) (kind : Kind) → Named kind → ReachedLive config place k → Goes config k place moment kind
-goes config k place moment (Opened n ack) named r =
+pub goes : (config : Config) (k : Kept) (place moment : ℕ) (kind : Kind) → ReachedLive config place k → Goes config k place moment kind
+goes config k place moment (Opened n ack) r =
     passes config k place moment (Opened n ack) r.live
     (cond_both (n == k.number) (begun_kept ack (at k) k.stage) (at k) (λ (t : Turn). t ≡ at k) (λ h. ap (begun_kept ack (at k)) r.live) (λ h. refl)) refl refl refl
-goes config k place moment (Connect n client id acked hold) named r =
+goes config k place moment (Connect n client id acked hold) r =
     by_number n k.number (λ m. Goes config k place moment (Connect m client id acked hold)) (connect_goes config k place moment client id acked hold r.live)
     (λ h. passes config k place moment (Connect n client id acked hold) r.live (cond-false (n == k.number) _ (at k) h) refl (cond-false (n == k.number) _ (subscriber_of config k) h) (cond-false (n == k.number) _ [] h))
-goes config k place moment (Subscribe n ps) named r =
+goes config k place moment (Subscribe n ps) r =
     by_number n k.number (λ m. Goes config k place moment (Subscribe m ps)) (subscribe_goes config k place moment ps r.reached.emptied r.live)
     (λ h. passes config k place moment (Subscribe n ps) r.live (cond-false (n == k.number) _ (at k) h) refl (cond-false (n == k.number) _ (subscriber_of config k) h) refl)
-goes config k place moment (Unsubscribe n ps) named r =
+goes config k place moment (Unsubscribe n ps) r =
     by_number n k.number (λ m. Goes config k place moment (Unsubscribe m ps)) (unsubscribe_goes config k place moment ps r.live)
     (λ h. passes config k place moment (Unsubscribe n ps) r.live (cond-false (n == k.number) _ (at k) h) refl (cond-false (n == k.number) _ (subscriber_of config k) h) refl)
-goes config k place moment (Publish e) named r = publish_goes config k place moment e named r.reached r.live
-goes config k place moment (Disconnect n) named r =
+goes config k place moment (Publish e) r = publish_goes config k place moment e r.reached r.live
+goes config k place moment (Disconnect n) r =
     by_number n k.number (λ m. Goes config k place moment (Disconnect m)) (disconnect_goes config k place moment r.live)
     (λ h. passes config k place moment (Disconnect n) r.live (cond-false (n == k.number) _ (at k) h) h refl (cond-false (n == k.number) _ [] h))
-goes config k place moment Refused named r = passes config k place moment Refused r.live refl refl refl refl
-goes config k place moment (Tick numbers) named r = tick_goes config k place moment numbers r.live
+goes config k place moment Refused r = passes config k place moment Refused r.live refl refl refl refl
+goes config k place moment (Tick numbers) r = tick_goes config k place moment numbers r.live

@@ -36,7 +36,7 @@ use Rattle.bx_shard.proofs.Filings.{shards_file}
 use Rattle.bx_shard.proofs.Finding.{Apart, GivenBy, apart, contains_found, each_none, find_kept, found_each, given_by, next, none_there, numbers_of, placed_found, steps, steps_found}
 use Rattle.bx_shard.proofs.Gives.{Unanswered, all_contains, given_unanswered}
 use Rattle.bx_shard.proofs.Holdings.{holds_reached, holds_stand, sessions_ascend}
-use Rattle.bx_shard.proofs.Names.{Named, entry_named, entry_placed}
+use Rattle.bx_shard.proofs.Placed.{entry_placed}
 use Rattle.bx_shard.proofs.Onward.{Goes, goes}
 use Rattle.bx_shard.proofs.Stepping.{shards_step}
 use Rattle.bx_shard.proofs.Taking.{connect_of_filed, find_of, none_taken}
@@ -134,15 +134,15 @@ kept_next s e k m g number =
     ap (λ (o : Option Subscriber). option_or o (opened_by s e.kind m)) some ∙ sym some) in
     sym whole ∙ ap (λ (o : Option Subscriber). option_or o (opened_by s e.kind m)) (sym mapped)
 
-all_go : (s : State) (e : Entry) (ks : List Kept) → Named e.kind → AllReached s e ks → All (λ k. Goes s.setup.config k e.place e.moment e.kind) ks
-all_go s e ks named reached i d l = goes s.setup.config _ e.place e.moment e.kind named (reached i d l)
+all_go : (s : State) (e : Entry) (ks : List Kept) → AllReached s e ks → All (λ k. Goes s.setup.config k e.place e.moment e.kind) ks
+all_go s e ks reached i d l = goes s.setup.config _ e.place e.moment e.kind (reached i d l)
 
-sessions_next : (s : State) (e : Entry) (ks : List Kept) (m : ℕ) → Named e.kind → AllReached s e ks → Apart (numbers_of ks) → Knows s ks →
+sessions_next : (s : State) (e : Entry) (ks : List Kept) (m : ℕ) → AllReached s e ks → Apart (numbers_of ks) → Knows s ks →
     session_after s e m (session_in s m) ≡ found_as s.setup.config m (stepped s.setup s.index e ks)
-sessions_next s e ks m named reached d known =
+sessions_next s e ks m reached d known =
     let config : Config = s.setup.config in
     let sub : Kept → Subscriber = subscriber_of config in
-    let each : All (λ k. Goes config k e.place e.moment e.kind) ks = all_go s e ks named reached in
+    let each : All (λ k. Goes config k e.place e.moment e.kind) ks = all_go s e ks reached in
     let P : Option Kept → Type 0 = λ o. find_kept m ks ≡ o → session_after s e m (option_map sub o) ≡ option_or (option_map sub (next config e o)) (opened_by s e.kind m) in
     let at_some : (k : Kept) → P (Some k) = λ k f. let w = found_each (λ j. Goes config j e.place e.moment e.kind) m ks k f each in kept_next s e k m w.0 w.1 in
     ap (session_after s e m) (known m)
@@ -152,13 +152,13 @@ sessions_next s e ks m named reached d known =
 -- ---- the answers that the entry gives
 
 -- a connect for which none is found is given none
-none_given : (s : State) (e : Entry) (ks : List Kept) (p : ℕ) → Named e.kind → AllReached s e ks → Knows s ks → find_of p (answers_by s.setup.config e ks) ≡ None → (n : ℕ) (a : Answered) → IsGiven s e n a → a.place ≢ p
-none_given s e ks p named reached known none number a g =
+none_given : (s : State) (e : Entry) (ks : List Kept) (p : ℕ) → AllReached s e ks → Knows s ks → find_of p (answers_by s.setup.config e ks) ≡ None → (n : ℕ) (a : Answered) → IsGiven s e n a → a.place ≢ p
+none_given s e ks p reached known none number a g =
     let config : Config = s.setup.config in
     let sub : Kept → Subscriber = subscriber_of config in
     let Not : Answered → Type 0 = λ x. (x.place == p) ≡ false in
     let each : All (λ k. (Goes config k e.place e.moment e.kind) × (find_of p (kept_answers config k e) ≡ None)) ks =
-    λ i d l. (all_go s e ks named reached i d l, each_none (λ k. kept_answers config k e) p ks none i d l) in
+    λ i d l. (all_go s e ks reached i d l, each_none (λ k. kept_answers config k e) p ks none i d l) in
     let P : Option Kept → Type 0 = λ o. find_kept number ks ≡ o → option_map sub o ≡ Some g.subscriber → Not a in
     let at_some : (k : Kept) → P (Some k) = λ k f same.
     let w = found_each (λ j. (Goes config j e.place e.moment e.kind) × (find_of p (kept_answers config j e) ≡ None)) number ks k f each in
@@ -179,13 +179,13 @@ record Gave (s : State) (e : Entry) (p : ℕ) (f : Filed) : Type 0 where
   answer : answer_of f ≡ placed e.place (answered_of f).answer
   connect : f.connect ≡ p
 
-gave : (s : State) (e : Entry) (ks : List Kept) (p : ℕ) (f : Filed) → Named e.kind → AllReached s e ks → Apart (numbers_of ks) → Knows s ks → find_of p (answers_by s.setup.config e ks) ≡ Some f → Gave s e p f
-gave s e ks p f named reached d known found =
+gave : (s : State) (e : Entry) (ks : List Kept) (p : ℕ) (f : Filed) → AllReached s e ks → Apart (numbers_of ks) → Knows s ks → find_of p (answers_by s.setup.config e ks) ≡ Some f → Gave s e p f
+gave s e ks p f reached d known found =
     let config : Config = s.setup.config in
     let sub : Kept → Subscriber = subscriber_of config in
     let b : GivenBy (λ k. kept_answers config k e) ks p f = given_by (λ k. kept_answers config k e) ks p f d found in
     let k : Kept = b.one in
-    let w = found_each (λ j. Goes config j e.place e.moment e.kind) k.number ks k b.found (all_go s e ks named reached) in
+    let w = found_each (λ j. Goes config j e.place e.moment e.kind) k.number ks k b.found (all_go s e ks reached) in
     let at = placed_found p e.place (kept_answers config k e) f (files_alike config k e) b.gives in
     record {
       number = k.number;
@@ -251,7 +251,6 @@ record Before (list : List Listed) (taken : List ℕ) (n : ℕ) (e : Entry) (s :
   there : slice_get (entries s.setup.config list) n ≡ Some e
   holds : Holds s.setup list taken s.index n s
   place : e.place ≡ n
-  named : Named e.kind
   reached : AllReached s e (shard_at s.setup list taken s.index n).sessions
   apart : Apart (numbers_of (shard_at s.setup list taken s.index n).sessions)
   fresh : connect_in s e.place ≡ None
@@ -265,7 +264,6 @@ before list taken n e s room there h =
       there = there;
       holds = h;
       place = place;
-      named = entry_named s.setup.config list n e there;
       reached = subst (λ (q : ℕ). All (ReachedLive s.setup.config q) ks) (sym place) (holds_reached s.setup list taken s.index n room);
       apart = apart (numbers_of ks) (sessions_ascend s.setup list taken s.index n);
       fresh = h.sound.fresh e.place (omega (arith, place, h.place_is));
@@ -312,7 +310,7 @@ none_answer (Some f) h = absurd (let no : Some (answer_of f) ≡ None = h in cc)
 answered : (list : List Listed) (taken : List ℕ) (n : ℕ) (e : Entry) (s : State) (p : ℕ) (f : Filed) → Before list taken n e s → given_at list taken n e s p ≡ Some f → Answers list taken n e s p f
 answered list taken n e s p f b some =
     let h : Holds s.setup list taken s.index n s = b.holds in
-    let g : Gave s e p f = gave s e (shard_at s.setup list taken s.index n).sessions p f b.named b.reached b.apart h.sessions some in
+    let g : Gave s e p f = gave s e (shard_at s.setup list taken s.index n).sessions p f b.reached b.apart h.sessions some in
     let u : Unanswered e.place p (connect_in s p) =
     subst (λ (q : ℕ). Unanswered e.place q (connect_in s q)) g.connect (given_unanswered s e g.number (answered_of f) h.sound (h.place_is ∙ sym b.place) g.given) in
     record {
@@ -330,7 +328,7 @@ untaken_then taken p h = either (is_taken taken p) (is_taken taken p ≡ false) 
 -- a connect that isn't answered is as it was begun
 unanswered_as : (list : List Listed) (taken : List ℕ) (n : ℕ) (e : Entry) (s new : State) (p : ℕ) → Before list taken n e s → Applied s e new → given_at list taken n e s p ≡ None → connect_in new p ≡ begun s e e.kind p
 unanswered_as list taken n e s new p b a none =
-    a.connects.kept p (none_given s e (shard_at s.setup list taken s.index n).sessions p b.named b.reached b.holds.sessions none)
+    a.connects.kept p (none_given s e (shard_at s.setup list taken s.index n).sessions p b.reached b.holds.sessions none)
 
 filed_next : (list : List Listed) (taken : List ℕ) (n : ℕ) (e : Entry) (s new : State) (p : ℕ) → Before list taken n e s → Applied s e new → filed_with_place (connect_in new p) ≡ option_map answer_of (filed_then list taken s (n + 1) p)
 filed_next list taken n e s new p b a =
@@ -392,7 +390,7 @@ onwards list taken n e s new b a sound =
       place_is = a.place ∙ ap (λ (q : ℕ). q + 1) b.place;
       within = shorter_by_one list n m.element m.next;
       sound = sound;
-      sessions = λ q. a.sessions q ∙ sessions_next s e ks q b.named b.reached b.apart b.holds.sessions
+      sessions = λ q. a.sessions q ∙ sessions_next s e ks q b.reached b.apart b.holds.sessions
           ∙ ap (found_as s.setup.config q) (sym (shards_step s.setup list taken s.index n e b.room b.there));
       filed = λ p. filed_next list taken n e s new p b a;
       known = b.holds.known;

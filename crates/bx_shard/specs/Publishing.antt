@@ -1,9 +1,8 @@
 -- An event is handed to one session after another.
-use Rattle.std.specs.Prelude.{ℕ, ◌≡◌, ◌&&◌, nat_eq, false, List, [], ◌∷◌, Bool, Some, true, option_map, IfSome, if◌then◌else◌, is_none}
+use Rattle.std.specs.Prelude.{ℕ, ◌≡◌, ◌&&◌, nat_eq, false, List, [], ◌∷◌, Bool, Some, true, option_map, IfSome, if◌then◌else◌}
 use Rattle.bx_names.specs.Globs.{Glob, any_matches}
 use Rattle.bx_names.specs.Segments.{segments}
 use Rattle.bx_names.specs.Kinds.{is_broadcast}
-use Rattle.bx_names.specs.Faults.{name_fault}
 use Rattle.bx_advice.specs.declared.config.Config.{Config}
 use Rattle.bx_message.specs.declared.event.Event.{Event}
 use Rattle.bx_session.specs.declared.answered.Answered.{Answered}
@@ -18,7 +17,7 @@ use Rattle.bx_shard.specs.Subscribers.{Subscriber, hears, receiving}
 
 -- whether an event is of a broadcast channel that one of these patterns matches
 abbrev pub reaches : Event → List Glob → Bool
-reaches e patterns = is_none (name_fault e.channel) && is_broadcast e.channel && any_matches patterns (segments e.channel)
+reaches e patterns = is_broadcast e.channel && any_matches patterns (segments e.channel)
 
 -- the event for a session
 abbrev pub parcel : Event → ℕ → Parcel

@@ -1,11 +1,10 @@
 -- A session with its patterns, as the program holds it, and what each entry of the list does to it.
-use Rattle.std.specs.Prelude.{ℕ, ◌-◌, ◌==◌, ◌&&◌, not, Bool, List, [], length, fold, if◌then◌else◌, is_none}
+use Rattle.std.specs.Prelude.{ℕ, ◌-◌, ◌==◌, ◌&&◌, not, Bool, List, [], length, fold, if◌then◌else◌}
 use Rattle.std.specs.List.{list_any}
 use Rattle.std.specs.Option.{option_to_list}
 use Rattle.bx_names.specs.Globs.{Glob, any_matches}
 use Rattle.bx_names.specs.Segments.{segments}
 use Rattle.bx_names.specs.Kinds.{is_broadcast}
-use Rattle.bx_names.specs.Faults.{name_fault}
 use Rattle.bx_names.specs.InForce.{with_pattern, without_pattern}
 use Rattle.bx_advice.specs.declared.config.Config.{Config}
 use Rattle.bx_advice.specs.declared.advice.Case.TheVariants.{Disconnected}
@@ -52,7 +51,7 @@ unsubscribing patterns s = record { seat = unsubscribed (length s.patterns - len
 
 -- whether an event is one of the session: it is of a broadcast channel that one of the patterns matches
 abbrev pub hears : Event → Subscriber → Bool
-hears e s = not s.seat.overflow && is_none (name_fault e.channel) && is_broadcast e.channel && any_matches s.patterns (segments e.channel)
+hears e s = not s.seat.overflow && is_broadcast e.channel && any_matches s.patterns (segments e.channel)
 
 -- after an event
 abbrev pub receiving : Config → Event → Subscriber → Subscriber

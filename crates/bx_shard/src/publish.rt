@@ -1,10 +1,8 @@
 //! A publish, as the sessions of a shard get it.
-ghost use Rattle.std.specs.Prelude.{◌≡◌, ◌≢◌, ◌↔◌, Some, option_map, ℕ, map, IsTrue, Contains, OnOk, OnErr, IfOk, IfSome, IfNone, None, is_none, false};
+ghost use Rattle.std.specs.Prelude.{◌≡◌, ◌≢◌, ◌↔◌, Some, option_map, ℕ, map, IsTrue, Contains, OnOk, OnErr, IfOk};
 ghost use Rattle.std.specs.List.{All};
 ghost use Rattle.std.specs.List.Sorted.{IsStrictlyIncreasing};
-ghost use Rattle.bx_names.specs.Faults.{name_fault};
 ghost use Rattle.bx_names.specs.Kinds.{is_broadcast};
-ghost use Rattle.bx_names.specs.Segments.{segments};
 ghost use Rattle.bx_session.specs.declared.answered.Answered.{Answered};
 ghost use Rattle.bx_connects.specs.declared.connects.ConnectState.TheVariants.{Filed};
 ghost use Rattle.bx_connects.specs.Connects.{connect_at, session_at};
@@ -13,8 +11,8 @@ ghost use Rattle.bx_shard.specs.Subscribers.{Subscriber};
 ghost use Rattle.bx_shard.specs.Sessions.{AreCounted, AreCountable, AreHeld, HasRoom, patterns_in, seat_in, subscriber_in};
 
 use crate::sessions::Sessions;
-use bx_message::{Event, SharedEvent};
-use bx_names::{ChannelKind, ChannelName, NameError, kind_of};
+use bx_message::SharedEvent;
+use bx_names::{ChannelKind, kind_of};
 use std::alloc::{AllocError, Global};
 
 /// An event for one session, with a handle to keep and one to give.
@@ -51,34 +49,24 @@ fn is_broadcast(channel: &str) -> bool
     matches!(kind_of(channel), ChannelKind::Broadcast)
 }
 
-// The name of a channel, where the text reads as one.
-fn name_of(alloc: Global, channel: &str) -> Result<Option<ChannelName>, AllocError>
-    ensures name { IfOk result (λ name. IfSome name (λ name. (name_fault channel.now ≡ None) × (name ≡ segments channel.now))) }
-    ensures none { IfOk result (λ name. IfNone name (is_none (name_fault channel.now) ≡ false)) }
-{
-    match ChannelName::read(alloc, channel) {
-        Ok(name) => Ok(Some(name)),
-        Err(NameError::Memory) => Err(AllocError),
-        Err(_) => Ok(None),
-    }
-}
-
 impl Sessions {
     /// The sessions that have a pattern which matches the event's channel, ascending. An event of a service channel is one
     /// of no session.
-    pub(crate) fn receivers(&self, alloc: Global, event: &Event) -> Result<Vec<u64>, AllocError>
+    pub(crate) fn receivers(
+        &self,
+        alloc: Global,
+        event: &SharedEvent,
+    ) -> Result<Vec<u64>, AllocError>
         ensures exact { IfOk result (λ numbers. (n : ℕ)
             → (Contains numbers.items n ↔ IsTrue (reaches event.now (patterns_in self.now n)))) }
         ensures ascending { IfOk result (λ numbers. IsStrictlyIncreasing numbers.items) }
     {
-        let channel = event.channel.as_str();
+        let channel = event.event().channel.as_str();
         if !is_broadcast(channel) {
             return Ok(Vec::new(alloc));
         }
-        match name_of(alloc, channel)? {
-            Some(name) => Ok(self.tree.find(alloc, &name)?.numbers),
-            None => Ok(Vec::new(alloc)),
-        }
+        let found = self.tree.nodes().find(alloc, event.name())?;
+        Ok(found.numbers)
     }
 
     // Makes room for one event of each of these sessions.
@@ -130,7 +118,7 @@ impl Sessions {
         ensures held { AreHeld self.new }
         ensures config { self.new.config ≡ self.old.config }
     {
-        let numbers = self.receivers(alloc, event.event())?;
+        let numbers = self.receivers(alloc, event)?;
         let parcels = parcels_for(alloc, numbers.as_slice(), event)?;
         self.reserve_all(parcels.as_slice())?;
         self.hand_out(place, parcels);

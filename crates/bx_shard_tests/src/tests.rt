@@ -2,7 +2,7 @@
 use bx_advice::Config;
 use bx_entry::{ByRemainder, Entry, Kind, Ticket};
 use bx_message::{Event, RawJson, Sequence, SharedEvent, Text, event_text, reply_text};
-use bx_names::Pattern;
+use bx_names::{ChannelName, Pattern};
 use bx_shard::{Shard, Watch};
 use futures::task::{Poll, Source, Waker};
 use futures::test::MockTask;
@@ -71,13 +71,14 @@ fn connect(alloc: Global, session: u64) -> Result<Kind, AllocError> {
     })
 }
 
-fn publish(alloc: Global, channel: &str) -> Result<Kind, AllocError> {
+fn publish(alloc: Global, channel: &str) -> Result<Kind, Fail> {
     let event = Event {
         channel: Text::new(alloc, channel)?,
         payload: RawJson::new(alloc, "7")?,
         id: None,
     };
-    Ok(Kind::Publish(SharedEvent::new(alloc, event)?))
+    let name = ChannelName::read(alloc, channel)?;
+    Ok(Kind::Publish(SharedEvent::new(alloc, event, name)?))
 }
 
 fn kind(alloc: Global, deed: Deed) -> Result<Kind, Fail> {

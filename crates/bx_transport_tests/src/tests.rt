@@ -2,6 +2,7 @@
 use bx_advice::{BODY_LIMIT, Case, Config};
 use bx_cut::Bodies;
 use bx_message::{AckReply, Event, Item, RawJson, Reply, SharedEvent, Text};
+use bx_names::ChannelName;
 use bx_transport::{TransportError, callback_of, read_get, read_post, response_of};
 use std::alloc::{AllocError, Global};
 use std::test::Fail;
@@ -218,6 +219,7 @@ fn callbacks_hold_no_line_ends(rt: HostRuntime) -> Result<(), Fail> {
             payload: RawJson::new(alloc, "\"x\u{2028}\u{2028}y\"")?,
             id: None,
         },
+        ChannelName::read(alloc, "/a/b")?,
     )?;
     let items = [Item::EventItem(event), Item::ReplyItem(reply)];
     assert_eq!(rt;

@@ -7,5 +7,5 @@ mod own_path;
 mod sessions;
 mod tree;
 
-pub use nodes::Found;
+pub use nodes::{Found, Nodes};
 pub use tree::Tree;

@@ -1,10 +1,11 @@
-ghost use Rattle.std.specs.Prelude.{◌≡◌, ℕ, ◌+◌, ◌==◌, ◌&&◌, ◌||◌, not, false, [], OnOk, OnErr, IfOk, length};
+ghost use Rattle.std.specs.Prelude.{◌≡◌, ◌↔◌, ℕ, ◌+◌, ◌==◌, ◌&&◌, ◌||◌, not, false, List, [], Contains, IsTrue, OnOk, OnErr, IfOk, length};
 ghost use Rattle.std.specs.List.{list_any};
 ghost use Rattle.std.specs.List.Sorted.{IsStrictlyIncreasing};
-ghost use Rattle.bx_names.specs.Globs.{Glob, same_glob};
+ghost use Rattle.bx_names.specs.Globs.{Glob, any_matches, same_glob};
 ghost use Rattle.bx_names.specs.InForce.{in_force};
 ghost use Rattle.bx_tree.specs.Whole.{AreWhole};
-ghost use Rattle.bx_tree.specs.Lists.{stands_for};
+ghost use Rattle.bx_tree.specs.Lists.{IsIndexOf, stands_for};
+ghost use Rattle.bx_tree.specs.Patterns.{patterns_of};
 ghost use Rattle.bx_tree.specs.Walks.{is_among, is_met};
 
 mod found;
@@ -17,9 +18,9 @@ use path_lists::PathLists;
 use std::alloc::{AllocError, Global};
 
 /// The three lists at each path: those of the patterns that are the path, those of the path and a `*`, and those of
-/// the path and a `**`.
+/// the path and a `**`. They know the numbers of sessions, and no session's patterns.
 #[derive(Drop)]
-pub(crate) struct Nodes {
+pub struct Nodes {
     exact: PathLists,
     one: PathLists,
     many: PathLists,
@@ -100,9 +101,21 @@ impl Nodes {
         }
     }
 
-    /// What a walk along a name comes by: the numbers ascending, each once, and how many lists were looked at. It
-    /// knows the three lists at each path, and no session's patterns.
-    pub(crate) fn find(&self, alloc: Global, name: &ChannelName) -> Result<Found, AllocError>
+    /// The numbers that have a pattern which matches the name, ascending, and how many lists were looked at to find them:
+    /// those of `**` above each segment of the name, that of `*` above the last, and that of the name itself.
+    ///
+    /// Contracts say so of all lists of sessions with their patterns that these lists are the index of.
+    pub fn find(&self, alloc: Global, name: &ChannelName) -> Result<Found, AllocError>
+        ensures exact { (all : List (ℕ × List Glob)) → IsIndexOf self.now all → IfOk result (λ found. (n : ℕ)
+            → (Contains found.numbers.items n ↔ IsTrue (any_matches (patterns_of all n) name.now))) }
+        ensures ascending { IfOk result (λ found. IsStrictlyIncreasing found.numbers.items) }
+        ensures visited { IfOk result (λ found. found.visited ≡ length name.now + 2) }
+    {
+        self.settled(alloc, name)
+    }
+
+    /// What a walk along a name comes by, the numbers ascending, each once.
+    fn settled(&self, alloc: Global, name: &ChannelName) -> Result<Found, AllocError>
         ensures numbers { IfOk result (λ found. (n : ℕ) → is_among found.numbers.items n ≡ is_met self.now [] name.now n) }
         ensures ascending { IfOk result (λ found. IsStrictlyIncreasing found.numbers.items) }
         ensures visited { IfOk result (λ found. found.visited ≡ length name.now + 2) }

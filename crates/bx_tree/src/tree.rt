@@ -1,13 +1,12 @@
-ghost use Rattle.std.specs.Prelude.{◌≡◌, ◌≢◌, ◌↔◌, ℕ, ◌+◌, [], IsTrue, not, length, fold, OnOk, OnErr, IfOk, Contains};
-ghost use Rattle.std.specs.List.Sorted.{IsStrictlyIncreasing};
-ghost use Rattle.bx_names.specs.Globs.{any_matches};
+ghost use Rattle.std.specs.Prelude.{◌≡◌, ◌≢◌, ℕ, ◌+◌, [], not, length, fold, OnOk, OnErr, IfOk};
 ghost use Rattle.bx_names.specs.InForce.{in_force, with_pattern, without_pattern};
+ghost use Rattle.bx_tree.specs.Lists.{IsIndexOf};
 ghost use Rattle.bx_tree.specs.Patterns.{patterns_of};
 
 use crate::fresh::{copy_of, fresh_of, is_one_of};
-use crate::nodes::{Found, Nodes};
+use crate::nodes::Nodes;
 use crate::sessions::Sessions;
-use bx_names::{ChannelName, Pattern};
+use bx_names::Pattern;
 use std::alloc::{AllocError, Global};
 use std::marker::Model;
 
@@ -175,14 +174,10 @@ impl Tree {
         self.sessions.patterns(number)
     }
 
-    /// The numbers that have a pattern which matches the name, and how many lists were looked at to find them: those
-    /// of `**` above each segment of the name, that of `*` above the last, and that of the name itself.
-    pub fn find(&self, alloc: Global, name: &ChannelName) -> Result<Found, AllocError>
-        ensures exact { IfOk result (λ found. (n : ℕ)
-            → (Contains found.numbers.items n ↔ IsTrue (any_matches (patterns_of self.now n) name.now))) }
-        ensures ascending { IfOk result (λ found. IsStrictlyIncreasing found.numbers.items) }
-        ensures visited { IfOk result (λ found. found.visited ≡ length name.now + 2) }
+    /// What a find looks at: the lists at each path, and no session's own patterns.
+    pub fn nodes(&self) -> &Nodes
+        ensures { IsIndexOf result.now self.now }
     {
-        self.nodes.find(alloc, name)
+        &self.nodes
     }
 }

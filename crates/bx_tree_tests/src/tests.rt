@@ -51,7 +51,7 @@ fn assert_finds(rt: &impl Abort, alloc: Global, tree: &Tree) -> Result<(), Fail>
         ("/ab/b", &[], 9),
     ];
     for (name, numbers, most) in table {
-        let found = tree.find(alloc, &ChannelName::read(alloc, name)?)?;
+        let found = tree.nodes().find(alloc, &ChannelName::read(alloc, name)?)?;
         assert_eq!(rt; found.numbers.as_slice(), numbers, "{name}");
         assert!(rt; found.visited <= most, "{name}");
     }
@@ -155,7 +155,9 @@ fn crowd(alloc: Global, tree: &mut Tree) -> Result<(), Fail> {
 // Few lists are reached for a name of 32 segments.
 fn assert_finds_deep(rt: &impl Abort, alloc: Global, tree: &Tree) -> Result<(), Fail> {
     let text = "/a".repeat(alloc, 32)?;
-    let found = tree.find(alloc, &ChannelName::read(alloc, text.as_str())?)?;
+    let found = tree
+        .nodes()
+        .find(alloc, &ChannelName::read(alloc, text.as_str())?)?;
     assert_eq!(rt; found.numbers.as_slice(), [1].as_slice());
     assert!(rt; found.visited <= 99);
     Ok(())
@@ -256,7 +258,7 @@ fn agrees(alloc: Global, state: &mut u64, both: &Both) -> Result<bool, Fail> {
     let text = drawn_text(alloc, state, &[])?;
     let name = ChannelName::read(alloc, text.as_str())?;
     let expected = plain_find(alloc, both.pairs.as_slice(), &name)?;
-    let found = both.tree.find(alloc, &name)?;
+    let found = both.tree.nodes().find(alloc, &name)?;
     Ok(found.numbers.as_slice() == expected.as_slice() && found.visited <= 15)
 }
 

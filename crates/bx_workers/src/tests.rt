@@ -6,7 +6,7 @@ use crate::{Gate, OpenGate, bring_up};
 use bx_advice::Config;
 use bx_entry::{ByRemainder, Entry, Kind, Ticket};
 use bx_message::{Event, RawJson, Sequence, SharedEvent, Text};
-use bx_names::Pattern;
+use bx_names::{ChannelName, Pattern};
 use bx_shard::Shard;
 use std::alloc::{AllocError, Global};
 use std::hint;
@@ -52,13 +52,14 @@ fn connect(alloc: Global, session: u64) -> Result<Kind, AllocError> {
     })
 }
 
-fn publish(alloc: Global, channel: &str) -> Result<Kind, AllocError> {
+fn publish(alloc: Global, channel: &str) -> Result<Kind, Fail> {
     let event = Event {
         channel: Text::new(alloc, channel)?,
         payload: RawJson::new(alloc, "7")?,
         id: None,
     };
-    Ok(Kind::Publish(SharedEvent::new(alloc, event)?))
+    let name = ChannelName::read(alloc, channel)?;
+    Ok(Kind::Publish(SharedEvent::new(alloc, event, name)?))
 }
 
 // A handshake of session 1, its subscription and connect, and a publish that answers the connect.

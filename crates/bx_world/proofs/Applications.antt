@@ -15,7 +15,7 @@ use Rattle.bx_shard.specs.Seen.{state}
 use Rattle.bx_shard.specs.Shards.{Setup}
 use Rattle.bx_shard.specs.declared.shard.Shard.{Shard}
 use Rattle.bx_shard.proofs.Holding.{holds_still}
-use Rattle.bx_shard.proofs.Names.{entry_placed}
+use Rattle.bx_shard.proofs.Placed.{entry_placed}
 use Rattle.bx_shard.proofs.Onwards.{holds_onwards}
 use Rattle.bx_world.specs.Admissions.{Admitting}
 use Rattle.bx_admission.specs.Slots.{placed_by}

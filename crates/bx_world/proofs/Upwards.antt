@@ -11,7 +11,7 @@ use Rattle.bx_entry.specs.declared.entry.Entry.{Entry}
 use Rattle.bx_shard.specs.Shards.{Setup}
 use Rattle.bx_shard.specs.States.{takes_no_memory}
 use Rattle.bx_shard.specs.declared.shard.Shard.{Shard}
-use Rattle.bx_shard.proofs.Names.{entry_placed}
+use Rattle.bx_shard.proofs.Placed.{entry_placed}
 use Rattle.bx_workers.specs.Upward.{AreConsecutive, AreOf, AreWithin, BroughtUp, WentOn, count_behind, end_of, first_of, is_behind}
 use Rattle.bx_world.specs.Admissions.{Admitting, entries_kept}
 use Rattle.bx_world.specs.Held.{EachHolds, HoldsFrom, StandFrom, StandWithin}
