@@ -17,7 +17,7 @@ use Rattle.bx_shard.specs.Held.{Holds, Took, given_of, swept_places}
 use Rattle.bx_shard.specs.Shards.{Setup}
 use Rattle.bx_shard.specs.States.{Applied, IsAsBefore, IsSound, State, Swept, Watched, WasShut, connect_in}
 use Rattle.bx_shard.proofs.Holding.{holds_still, holds_longer}
-use Rattle.bx_shard.proofs.Names.{entry_placed}
+use Rattle.bx_shard.proofs.Placed.{entry_placed}
 use Rattle.bx_shard.proofs.Onwards.{holds_onwards}
 use Rattle.bx_shard.proofs.Sweeping.{holds_swept}
 use Rattle.bx_shard.proofs.Taking.{holds_taken}

@@ -28,12 +28,6 @@ impl From<AllocError> for Refused {
     }
 }
 
-impl From<Refused> for std::test::Fail {
-    fn from(_refused: Refused) -> std::test::Fail {
-        "a call was refused".into()
-    }
-}
-
 /// A request of this body, at moment 0.
 pub fn arrival(alloc: Global, body: &str) -> Result<Arrival, AllocError> {
     Ok(Arrival {

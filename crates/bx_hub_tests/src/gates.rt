@@ -1,6 +1,6 @@
 //! Each shard has a lock of its own.
 ghost use Rattle.std.specs.Prelude.{◌≡◌};
-ghost use Rattle.std.specs.Arc.{arc_value};
+ghost use Rattle.bx_entry.specs.Placings.{by_remainder};
 
 use crate::calls::{hold, poll, post, publish};
 use bx_advice::Config;
@@ -107,20 +107,18 @@ fn held<J: Naming + Send + Sync, R: Threads + Wait + Abort + Sync>(
     opened: Opened,
     config: Config,
     placing: Arc<ByRemainder, Global>,
-    flags: Arc<Flags, Global>,
+    gate: Holding,
+    flags: &Flags,
 ) -> Result<(), Fail>
     requires book { opened.seen.book ≡ J.book }
     requires config { config ≡ J.config }
-    requires placing { ByRemainder.place_of (arc_value placing) ≡ J.placing }
+    requires placing { by_remainder ≡ J.placing }
 {
-    let gate = Holding {
-        flags: Arc::try_clone(&flags)?,
-    };
     let hub = Hub::<J, ByRemainder, Holding, &R>::new(alloc, rt, opened, config, placing, gate)?;
     let mut pass = hub.pass();
-    let ticket = hold(rt, alloc, &hub, &mut pass)?;
-    publish(rt, alloc, &hub, &mut pass)?;
-    beside(rt, alloc, &hub, pass, ticket, &flags)
+    let ticket = hold(rt, alloc, &hub, &mut pass).map_err(|_| "refused")?;
+    publish(rt, alloc, &hub, &mut pass).map_err(|_| "refused")?;
+    beside(rt, alloc, &hub, pass, ticket, flags)
 }
 
 #[test]
@@ -136,5 +134,8 @@ fn shards_have_locks_of_their_own(rt: HostRuntime) -> Result<(), Fail> {
             gave_up: AtomicBool::new(false),
         },
     )?;
-    held::<Brand, _>(&rt, alloc, Opened::new(), config, placing, flags)
+    let gate = Holding {
+        flags: Arc::try_clone(&flags)?,
+    };
+    held::<Brand, _>(&rt, alloc, Opened::new(), config, placing, gate, &flags)
 }

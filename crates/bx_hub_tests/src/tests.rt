@@ -1,6 +1,6 @@
 //! Calls of one thread.
 ghost use Rattle.std.specs.Prelude.{◌≡◌};
-ghost use Rattle.std.specs.Arc.{arc_value};
+ghost use Rattle.bx_entry.specs.Placings.{by_remainder};
 
 use crate::calls::{HANDSHAKE, PUBLISH, arrival, hold, poll, post, publish};
 use bx_advice::Config;
@@ -37,9 +37,20 @@ fn requests<J: Naming, P: Placing, G: Gate + Drop, H: Wait + Drop, R: Wait + Abo
         Some(PostFault::Body(BodyFault::NotJson))
     );
     assert_eq!(rt; pass.seen(), 0);
-    assert_eq!(rt; post(rt, alloc, hub, pass, "[]")?.0, 0);
-    assert_eq!(rt; post(rt, alloc, hub, pass, HANDSHAKE)?.0, 0);
-    assert_eq!(rt; post(rt, alloc, hub, pass, "[]")?.0, 1);
+    assert_eq!(rt;
+        post(rt, alloc, hub, pass, "[]").map_err(|_| "refused")?.0,
+        0
+    );
+    assert_eq!(rt;
+        post(rt, alloc, hub, pass, HANDSHAKE)
+            .map_err(|_| "refused")?
+            .0,
+        0
+    );
+    assert_eq!(rt;
+        post(rt, alloc, hub, pass, "[]").map_err(|_| "refused")?.0,
+        1
+    );
     assert_eq!(rt; pass.seen(), 1);
     let late = (1 << 62) + 1;
     assert_eq!(rt;
@@ -56,14 +67,26 @@ fn answers<J: Naming, P: Placing, G: Gate + Drop, H: Wait + Drop, R: Wait + Abor
     hub: &Hub<J, P, G, H>,
     pass: &mut Pass<J>,
 ) -> Result<(), Fail> {
-    let ticket = hold(rt, alloc, hub, pass)?;
-    assert_eq!(rt; poll(rt, alloc, hub, pass, ticket)?, 0);
-    publish(rt, alloc, hub, pass)?;
-    assert_eq!(rt; poll(rt, alloc, hub, pass, ticket)?, 2);
-    assert_eq!(rt; poll(rt, alloc, hub, pass, ticket)?, 0);
+    let ticket = hold(rt, alloc, hub, pass).map_err(|_| "refused")?;
+    assert_eq!(rt;
+        poll(rt, alloc, hub, pass, ticket).map_err(|_| "refused")?,
+        0
+    );
+    publish(rt, alloc, hub, pass).map_err(|_| "refused")?;
+    assert_eq!(rt;
+        poll(rt, alloc, hub, pass, ticket).map_err(|_| "refused")?,
+        2
+    );
+    assert_eq!(rt;
+        poll(rt, alloc, hub, pass, ticket).map_err(|_| "refused")?,
+        0
+    );
     assert_eq!(rt; hub.sweep(rt, 5), 0);
     let nowhere = Ticket { shard: 2, ..ticket };
-    assert_eq!(rt; poll(rt, alloc, hub, pass, nowhere)?, 0);
+    assert_eq!(rt;
+        poll(rt, alloc, hub, pass, nowhere).map_err(|_| "refused")?,
+        0
+    );
     Ok(())
 }
 
@@ -74,12 +97,15 @@ fn sweeps<J: Naming, P: Placing, G: Gate + Drop, H: Wait + Drop, R: Wait + Abort
     hub: &Hub<J, P, G, H>,
     pass: &mut Pass<J>,
 ) -> Result<(), Fail> {
-    let ticket = hold(rt, alloc, hub, pass)?;
-    publish(rt, alloc, hub, pass)?;
+    let ticket = hold(rt, alloc, hub, pass).map_err(|_| "refused")?;
+    publish(rt, alloc, hub, pass).map_err(|_| "refused")?;
     assert_eq!(rt; hub.sweep(rt, 4), 0);
     assert_eq!(rt; hub.sweep(rt, 5), 1);
     assert_eq!(rt; hub.sweep(rt, 5), 0);
-    assert_eq!(rt; poll(rt, alloc, hub, pass, ticket)?, 0);
+    assert_eq!(rt;
+        poll(rt, alloc, hub, pass, ticket).map_err(|_| "refused")?,
+        0
+    );
     Ok(())
 }
 
@@ -90,8 +116,8 @@ fn closed<J: Naming, P: Placing, G: Gate + Drop, H: Wait + Drop, R: Wait + Abort
     hub: &Hub<J, P, G, H>,
     pass: &mut Pass<J>,
 ) -> Result<(), Fail> {
-    let ticket = hold(rt, alloc, hub, pass)?;
-    publish(rt, alloc, hub, pass)?;
+    let ticket = hold(rt, alloc, hub, pass).map_err(|_| "refused")?;
+    publish(rt, alloc, hub, pass).map_err(|_| "refused")?;
     hub.close(rt);
     assert_eq!(rt;
         refusal(rt, alloc, hub, pass, PUBLISH)?,
@@ -102,10 +128,16 @@ fn closed<J: Naming, P: Placing, G: Gate + Drop, H: Wait + Drop, R: Wait + Abort
         Some(PostFault::Body(BodyFault::NotJson))
     );
     assert_eq!(rt; hub.tick(rt, alloc, pass, 0).err(), Some(PostFault::Closed));
-    assert_eq!(rt; poll(rt, alloc, hub, pass, ticket)?, 2);
+    assert_eq!(rt;
+        poll(rt, alloc, hub, pass, ticket).map_err(|_| "refused")?,
+        2
+    );
     assert!(rt; hub.poll_answer(rt, alloc, pass, ticket).is_err());
     let nowhere = Ticket { shard: 2, ..ticket };
-    assert_eq!(rt; poll(rt, alloc, hub, pass, nowhere)?, 0);
+    assert_eq!(rt;
+        poll(rt, alloc, hub, pass, nowhere).map_err(|_| "refused")?,
+        0
+    );
     Ok(())
 }
 
@@ -128,7 +160,7 @@ fn ask<J: Naming, R: Wait + Abort>(
 ) -> Result<(), Fail>
     requires book { opened.seen.book ≡ J.book }
     requires config { config ≡ J.config }
-    requires placing { ByRemainder.place_of (arc_value placing) ≡ J.placing }
+    requires placing { by_remainder ≡ J.placing }
 {
     let hub = Hub::<J, ByRemainder, OpenGate, &R>::new(
         alloc, rt, opened, config, placing, OpenGate,

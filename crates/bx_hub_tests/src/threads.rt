@@ -1,6 +1,6 @@
 //! Two threads with a pass each.
 ghost use Rattle.std.specs.Prelude.{◌≡◌};
-ghost use Rattle.std.specs.Arc.{arc_value};
+ghost use Rattle.bx_entry.specs.Placings.{by_remainder};
 
 use crate::calls::{hold, poll, publish};
 use bx_advice::Config;
@@ -58,8 +58,14 @@ fn meet<
     );
     let mut pass = a.ok_or("a")?;
     pass.learn(&b.ok_or("b")?.note());
-    assert_eq!(rt; poll(rt, alloc, hub, &mut pass, ticket)?, 2);
-    assert_eq!(rt; poll(rt, alloc, hub, &mut pass, ticket)?, 0);
+    assert_eq!(rt;
+        poll(rt, alloc, hub, &mut pass, ticket).map_err(|_| "refused")?,
+        2
+    );
+    assert_eq!(rt;
+        poll(rt, alloc, hub, &mut pass, ticket).map_err(|_| "refused")?,
+        0
+    );
     Ok(())
 }
 
@@ -72,14 +78,17 @@ fn two<J: Naming + Send + Sync, R: Threads + Wait + Abort + Sync>(
 ) -> Result<(), Fail>
     requires book { opened.seen.book ≡ J.book }
     requires config { config ≡ J.config }
-    requires placing { ByRemainder.place_of (arc_value placing) ≡ J.placing }
+    requires placing { by_remainder ≡ J.placing }
 {
     let hub = Hub::<J, ByRemainder, OpenGate, &R>::new(
         alloc, rt, opened, config, placing, OpenGate,
     )?;
     let mut pass = hub.pass();
-    let ticket = hold(rt, alloc, &hub, &mut pass)?;
-    assert_eq!(rt; poll(rt, alloc, &hub, &mut pass, ticket)?, 0);
+    let ticket = hold(rt, alloc, &hub, &mut pass).map_err(|_| "refused")?;
+    assert_eq!(rt;
+        poll(rt, alloc, &hub, &mut pass, ticket).map_err(|_| "refused")?,
+        0
+    );
     meet(rt, alloc, &hub, pass, ticket)
 }
 
