@@ -57,9 +57,8 @@ impl<J: Naming, R: Wait + Drop> Admission<J, R> {
     }
 
     /// Takes the messages of a request into the list. A request without messages adds nothing.
-    pub(crate) fn post<W: Wait, P: Placing>(
+    pub(crate) fn post<P: Placing>(
         &mut self,
-        rt: &W,
         alloc: Global,
         placing: &P,
         pass: &mut Note<J>,
@@ -82,13 +81,12 @@ impl<J: Naming, R: Wait + Drop> Admission<J, R> {
                 slots: plan.slots,
             });
         }
-        self.publish(rt, alloc, pass, plan)
+        self.publish(alloc, pass, plan)
     }
 
     /// Takes a tick into the list.
-    pub(crate) fn tick<W: Wait>(
+    pub(crate) fn tick(
         &mut self,
-        rt: &W,
         alloc: Global,
         pass: &mut Note<J>,
         moment: u64,
@@ -99,7 +97,7 @@ impl<J: Naming, R: Wait + Drop> Admission<J, R> {
     {
         self.tell(pass)?;
         let plan = self.ledger.plan_tick(alloc, moment)?;
-        self.publish(rt, alloc, pass, plan)
+        self.publish(alloc, pass, plan)
     }
 
     // The pass has then seen the whole list, where the hub is open.
@@ -117,9 +115,8 @@ impl<J: Naming, R: Wait + Drop> Admission<J, R> {
     }
 
     // Shows readers what was planned at this very admission.
-    fn publish<W: Wait>(
+    fn publish(
         &mut self,
-        rt: &W,
         alloc: Global,
         pass: &mut Note<J>,
         plan: Plan,
@@ -143,7 +140,7 @@ impl<J: Naming, R: Wait + Drop> Admission<J, R> {
         } = plan;
         let first = batch.first;
         let added = elements.again();
-        match self.writer.publish(rt, alloc, Bundle { batch, elements }) {
+        match self.writer.publish(alloc, Bundle { batch, elements }) {
             Ok(()) => {
                 self.ledger.commit(change, &added);
                 *pass = self.writer.tell();
@@ -157,18 +154,13 @@ impl<J: Naming, R: Wait + Drop> Admission<J, R> {
     }
 
     /// Drops the batches that lie wholly below a place. Nothing is dropped where the log has no room for a step more.
-    pub(crate) fn trim<W: Wait>(
-        &mut self,
-        rt: &W,
-        alloc: Global,
-        place: u64,
-    ) -> Result<(), AllocError>
+    pub(crate) fn trim(&mut self, alloc: Global, place: u64) -> Result<(), AllocError>
         ensures list { list_of self.new.writer ≡ list_of self.old.writer }
     {
         if self.writer.tell().steps() >= MOST_STEPS {
             return Ok(());
         }
-        match self.writer.trim(rt, alloc, place) {
+        match self.writer.trim(alloc, place) {
             Ok(()) => Ok(()),
             Err(_) => Err(AllocError),
         }

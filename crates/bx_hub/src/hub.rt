@@ -160,12 +160,12 @@ impl<J: Naming, P: Placing, G: Gate + Drop, R: Wait + Drop> Hub<J, P, G, R> {
         ensures refused { IfErr result (λ f. IsRefused (Request moment nonce messages.now) f pass.new) }
     {
         let mut admission = self.admission.lock(rt);
-        match admission.post(rt, alloc, &*self.placing, pass, moment, nonce, messages) {
+        match admission.post(alloc, &*self.placing, pass, moment, nonce, messages) {
             Ok(admitted) => Ok(admitted),
             Err(PostFault::Behind { .. }) => {
                 let least = self.bring_least(rt, alloc, pass)?;
-                admission.trim(rt, alloc, least)?;
-                admission.post(rt, alloc, &*self.placing, pass, moment, nonce, messages)
+                admission.trim(alloc, least)?;
+                admission.post(alloc, &*self.placing, pass, moment, nonce, messages)
             }
             Err(fault) => Err(fault),
         }
@@ -184,12 +184,12 @@ impl<J: Naming, P: Placing, G: Gate + Drop, R: Wait + Drop> Hub<J, P, G, R> {
         ensures refused { IfErr result (λ f. IsRefused (read.Tick moment) f pass.new) }
     {
         let mut admission = self.admission.lock(rt);
-        match admission.tick(rt, alloc, pass, moment) {
+        match admission.tick(alloc, pass, moment) {
             Ok(admitted) => Ok(admitted),
             Err(PostFault::Behind { .. }) => {
                 let least = self.bring_least(rt, alloc, pass)?;
-                admission.trim(rt, alloc, least)?;
-                admission.tick(rt, alloc, pass, moment)
+                admission.trim(alloc, least)?;
+                admission.tick(alloc, pass, moment)
             }
             Err(fault) => Err(fault),
         }

@@ -124,12 +124,7 @@ impl<J: Naming, R: Wait + Drop> Writer<J, R, Ring<J>, Operation<J>> {
     /// is refused, the batch comes back: `Full` where the window has `MAX_BATCHES` batches, `Memory` where no memory is left.
     /// The batch has entries, begins where the list ends, and they are those of its elements behind the list.
     #[tactic(auto, using(crate::proofs::Places::stands_newest, crate::proofs::Places::many_elements, crate::proofs::Lists::firsts_of_adding, crate::proofs::Rooms::room_full))]
-    pub fn publish<W: Wait>(
-        &mut self,
-        _rt: &W,
-        alloc: Global,
-        bundle: Bundle,
-    ) -> Result<(), (Bundle, Refusal)>
+    pub fn publish(&mut self, alloc: Global, bundle: Bundle) -> Result<(), (Bundle, Refusal)>
         requires continues { Continues J.config (list_of self.old) bundle }
         requires places { length (list_of self.old) + length bundle.batch.entries ≤ greatest_length }
         requires steps { length self.old < 2 ^ 62 }
@@ -159,7 +154,7 @@ impl<J: Naming, R: Wait + Drop> Writer<J, R, Ring<J>, Operation<J>> {
     /// waits for the readers that are inside the ring. Where no memory is left, nothing changes; a trim that drops nothing
     /// takes none, and waits for nobody.
     #[tactic(auto, using(crate::proofs::Lists::begin_of_trimming, crate::proofs::Lists::list_of_trimming, crate::proofs::Lists::firsts_of_trimming))]
-    pub fn trim<W: Wait>(&mut self, _rt: &W, alloc: Global, n: u64) -> Result<(), Memory>
+    pub fn trim(&mut self, alloc: Global, n: u64) -> Result<(), Memory>
         requires steps { length self.old < 2 ^ 62 }
         ensures grows { IsPrefix self.old self.new }
         ensures list { list_of self.new ≡ list_of self.old }

@@ -65,7 +65,7 @@ fn published<J: Naming, R: Wait + Abort>(rt: &R, alloc: Global, opened: Opened) 
 {
     let (mut writer, mut reader, _) = pair::<J, &R>(alloc, rt, opened)?;
     assert_eq!(rt; find(&mut reader, 0), Found::Level);
-    assert_eq!(rt; writer.publish(rt, alloc, 3)?, Taken::Published);
+    assert_eq!(rt; writer.publish(alloc, 3)?, Taken::Published);
     for place in 0..3 {
         assert_eq!(rt; find(&mut reader, place), batch(0, 3, place));
     }
@@ -87,8 +87,8 @@ fn two_batches<J: Naming, R: Wait + Abort>(
     requires { opened.seen.book ≡ J.book }
 {
     let (mut writer, reader, _) = pair::<J, &R>(alloc, rt, opened)?;
-    assert_eq!(rt; writer.publish(rt, alloc, 3)?, Taken::Published);
-    assert_eq!(rt; writer.publish(rt, alloc, 2)?, Taken::Published);
+    assert_eq!(rt; writer.publish(alloc, 3)?, Taken::Published);
+    assert_eq!(rt; writer.publish(alloc, 2)?, Taken::Published);
     Ok((writer, reader))
 }
 
@@ -97,10 +97,10 @@ fn trimmed<J: Naming, R: Wait + Abort>(rt: &R, alloc: Global, opened: Opened) ->
     requires { opened.seen.book ≡ J.book }
 {
     let (mut writer, mut reader) = two_batches::<J, R>(rt, alloc, opened)?;
-    assert!(rt; writer.trim(rt, alloc, 2));
+    assert!(rt; writer.trim(alloc, 2));
     assert_eq!(rt; find(&mut reader, 0), batch(0, 3, 0));
     assert_eq!(rt; reader.note().begin(), 0);
-    assert!(rt; writer.trim(rt, alloc, 3));
+    assert!(rt; writer.trim(alloc, 3));
     assert_eq!(rt; find(&mut reader, 0), Found::Overrun);
     assert_eq!(rt; find(&mut reader, 2), Found::Overrun);
     assert_eq!(rt; find(&mut reader, 3), batch(3, 2, 3));
@@ -118,11 +118,11 @@ fn emptied<J: Naming, R: Wait + Abort>(rt: &R, alloc: Global, opened: Opened) ->
     requires { opened.seen.book ≡ J.book }
 {
     let (mut writer, mut reader) = two_batches::<J, R>(rt, alloc, opened)?;
-    assert!(rt; writer.trim(rt, alloc, 100));
+    assert!(rt; writer.trim(alloc, 100));
     assert_eq!(rt; writer.tell().begin(), 5);
     assert_eq!(rt; find(&mut reader, 4), Found::Overrun);
     assert_eq!(rt; find(&mut reader, 5), Found::Level);
-    assert_eq!(rt; writer.publish(rt, alloc, 1)?, Taken::Published);
+    assert_eq!(rt; writer.publish(alloc, 1)?, Taken::Published);
     assert_eq!(rt; find(&mut reader, 5), batch(5, 1, 5));
     Ok(())
 }
@@ -133,13 +133,12 @@ fn a_trim_past_the_end_drops_all(rt: HostRuntime) -> Result<(), Fail> {
 }
 
 // Publishes as many batches of one tick as the window takes.
-fn fill<J: Naming, R: Wait + Drop, W: Wait>(
-    rt: &W,
+fn fill<J: Naming, R: Wait + Drop>(
     alloc: Global,
     writer: &mut Ticker<J, R>,
 ) -> Result<usize, AllocError> {
     for count in 0..MAX_BATCHES {
-        if writer.publish(rt, alloc, 1)? != Taken::Published {
+        if writer.publish(alloc, 1)? != Taken::Published {
             return Ok(count);
         }
     }
@@ -151,16 +150,16 @@ fn filled<J: Naming, R: Wait + Abort>(rt: &R, alloc: Global, opened: Opened) -> 
     requires { opened.seen.book ≡ J.book }
 {
     let (mut writer, mut reader, _) = pair::<J, &R>(alloc, rt, opened)?;
-    assert_eq!(rt; fill(rt, alloc, &mut writer)?, 4_096);
+    assert_eq!(rt; fill(alloc, &mut writer)?, 4_096);
     let refused = Taken::Refused {
         why: Refusal::Full,
         first: 4_096,
         entries: 2,
     };
-    assert_eq!(rt; writer.publish(rt, alloc, 2)?, refused);
+    assert_eq!(rt; writer.publish(alloc, 2)?, refused);
     assert_eq!(rt; find(&mut reader, 4_096), Found::Level);
-    assert!(rt; writer.trim(rt, alloc, 1));
-    assert_eq!(rt; writer.publish(rt, alloc, 2)?, Taken::Published);
+    assert!(rt; writer.trim(alloc, 1));
+    assert_eq!(rt; writer.publish(alloc, 2)?, Taken::Published);
     ends(rt, &mut reader)
 }
 
@@ -185,7 +184,7 @@ fn learnt<J: Naming, R: Wait + Abort>(rt: &R, alloc: Global, opened: Opened) -> 
     requires { opened.seen.book ≡ J.book }
 {
     let (mut writer, mut one, mut other) = pair::<J, &R>(alloc, rt, opened)?;
-    assert_eq!(rt; writer.publish(rt, alloc, 3)?, Taken::Published);
+    assert_eq!(rt; writer.publish(alloc, 3)?, Taken::Published);
     assert_eq!(rt; find(&mut one, 3), Found::Level);
     let old = other.note();
     assert_eq!(rt; old.len(), 0);

@@ -51,17 +51,12 @@ impl<J: Naming, R: Wait + Drop> Ticker<J, R> {
     }
 
     /// Publishes a batch of so many ticks.
-    pub fn publish<W: Wait>(
-        &mut self,
-        rt: &W,
-        alloc: Global,
-        count: u64,
-    ) -> Result<Taken, AllocError> {
+    pub fn publish(&mut self, alloc: Global, count: u64) -> Result<Taken, AllocError> {
         if count == 0 || count >= MOST || self.end >= MOST || self.writer.tell().steps() >= MOST {
             return Err(AllocError);
         }
         let bundle = ticks(alloc, self.end, count)?;
-        match self.writer.publish(rt, alloc, bundle) {
+        match self.writer.publish(alloc, bundle) {
             Ok(()) => {
                 self.end += count;
                 Ok(Taken::Published)
@@ -75,11 +70,11 @@ impl<J: Naming, R: Wait + Drop> Ticker<J, R> {
     }
 
     /// Drops the batches that lie wholly below a place.
-    pub fn trim<W: Wait>(&mut self, rt: &W, alloc: Global, place: u64) -> bool {
+    pub fn trim(&mut self, alloc: Global, place: u64) -> bool {
         if self.writer.tell().steps() >= MOST {
             return false;
         }
-        self.writer.trim(rt, alloc, place).is_ok()
+        self.writer.trim(alloc, place).is_ok()
     }
 }
 
