@@ -52,7 +52,7 @@ held_for session deadline = Some (record { session = session; deadline = deadlin
 abbrev pub watched_hold : Bool → Waker → Option HeldConnect → Watch
 watched_hold shut waker None = Unknown waker
 watched_hold true waker (Some h) = Shut waker
-watched_hold false waker (Some h) = Stored
+watched_hold false waker (Some h) = Stored h.waker
 
 -- what is held, with a waker that is stored
 abbrev pub stored_at : Bool → Waker → HeldConnect → HeldConnect
@@ -110,7 +110,7 @@ taken_from (Some (Filed session place answer)) = None
 abbrev pub watched : Bool → Waker → Option ConnectState → Watch
 watched shut waker None = Unknown waker
 watched true waker (Some (Held session deadline older)) = Shut waker
-watched false waker (Some (Held session deadline older)) = Stored
+watched false waker (Some (Held session deadline older)) = Stored older
 watched shut waker (Some (Filed session place answer)) = Ready waker
 
 -- the connect with a waker that is stored

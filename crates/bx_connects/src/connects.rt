@@ -7,7 +7,7 @@ ghost use Rattle.bx_connects.specs.declared.connects.ConnectState.TheVariants.{F
 ghost use Rattle.bx_connects.specs.Connects.{AreApart, IsDue, IsHeldUntil, connect_at, count_filed_below, count_held, filed_answer, filed_as, filing, filing_at, held_by, known_as, swept, taken_from, unswept, unwatched, watched, with_waker};
 
 use crate::filing::Filing;
-use crate::held::HeldConnects;
+use crate::held::{HeldConnect, HeldConnects};
 use crate::watch::Watch;
 use bx_message::Answer;
 use bx_session::Answered;
@@ -15,6 +15,7 @@ use futures::task::Waker;
 use indexmap::IndexMap;
 use std::alloc::{AllocError, Global};
 use std::marker::Model;
+use std::mem;
 
 /// What became of a connect, as contracts see it. A waker stands beside a held connect alone, so that no filed answer has
 /// one left.
@@ -47,11 +48,16 @@ pub struct FiledAnswer {
 }
 
 /// What became of each connect, by its place in the list: those that are held, and the answers that are filed. The room
-/// for a connect's answer and for a waker is there from the first on, so that filing takes no memory.
+/// for a connect's answer and for a waker is there from the first on, so that filing is not refused for want of memory.
+///
+/// Where a held connect is answered, the waker beside it goes to a list of those that are to be woken. Whoever has the
+/// answers filed takes that list by `take_wakers` and drops it, after it has let go of the lock that lies round the connects.
+/// Where there is no memory for one more in the list, the waker is woken at once. Contracts do not see the list.
 #[derive(Drop)]
 pub struct Connects {
     held: HeldConnects,
     filed: IndexMap<u64, FiledAnswer>,
+    wakers: Vec<Waker>,
 }
 
 impl Model for Connects {
@@ -74,6 +80,7 @@ impl Connects {
         Connects {
             held: HeldConnects::new(alloc),
             filed: IndexMap::new(alloc),
+            wakers: Vec::new(alloc),
         }
     }
 
@@ -102,7 +109,8 @@ impl Connects {
         }
     }
 
-    /// Files the answer to a held connect, which the entry at this place gives. A waker beside it is woken.
+    /// Files the answer to a held connect, which the entry at this place gives. A waker beside it is from then on among those
+    /// that `take_wakers` gives.
     pub fn file(&mut self, place: u64, answered: Answered)
         ensures filed { (p : ℕ) → connect_at self.new p
             ≡ (if nat_eq answered.place p then filed_as place answered.answer (connect_at self.old answered.place)
@@ -115,14 +123,14 @@ impl Connects {
             answer,
         } = answered;
         match self.held.release(connect) {
-            Some(held) => {
-                let session = held.session;
+            Some(HeldConnect { session, waker, .. }) => {
                 let filed = FiledAnswer {
                     session,
                     place,
                     answer,
                 };
                 self.filed.insert(connect, filed).unwrap();
+                add_waker(&mut self.wakers, waker);
             }
             None => {
                 if let Some(earlier) = self.filed.get_mut(&connect) {
@@ -140,6 +148,13 @@ impl Connects {
         if let Some(answered) = answered {
             self.file(place, answered);
         }
+    }
+
+    /// The wakers of those whose connects were answered since the last call. They are woken where they are dropped.
+    pub fn take_wakers(&mut self, alloc: Global) -> Vec<Waker>
+        ensures { self.new ≡ self.old }
+    {
+        mem::replace(&mut self.wakers, Vec::new(alloc))
     }
 
     /// The session of a held connect whose deadline is this moment or before it.
@@ -178,7 +193,8 @@ impl Connects {
         })
     }
 
-    /// Stores a waker beside the connect at this place, where it is held and the shard is not shut.
+    /// Stores a waker beside the connect at this place, where it is held and the shard is not shut. The older one there is
+    /// given back.
     pub fn watch(&mut self, place: u64, waker: Waker, is_shut: bool) -> Watch
         ensures watch { result ≡ watched is_shut waker (connect_at self.old place) }
         ensures stored { (p : ℕ) → connect_at self.new p
@@ -206,7 +222,7 @@ impl Connects {
         len - self.filed.len()
     }
 
-    /// Drops all wakers, which wakes them. It costs the connects that are held, not the answers that are filed.
+    /// Drops all wakers of held connects, which wakes them. It costs the connects that are held, not the answers that are filed.
     pub fn unwatch_all(&mut self)
         ensures { (p : ℕ) → connect_at self.new p ≡ option_map unwatched (connect_at self.old p) }
     {
@@ -271,5 +287,12 @@ impl Connects {
         ensures { result ≡ is_some (connect_at self.now place) }
     {
         self.held.has(place) || self.filed.contains_key(&place)
+    }
+}
+
+// A waker more is to be woken. Where there is no memory for it, it is woken at once.
+fn add_waker(wakers: &mut Vec<Waker>, waker: Option<Waker>) {
+    if let Some(waker) = waker {
+        drop(wakers.push(waker));
     }
 }

@@ -18,11 +18,11 @@ use std::marker::Model;
 pub(crate) struct HeldConnect {
     pub(crate) session: u64,
     deadline: Option<u64>,
-    waker: Option<Waker>,
+    pub(crate) waker: Option<Waker>,
 }
 
 impl HeldConnect {
-    // Stores a waker, where the shard is not shut.
+    // Stores a waker, where the shard is not shut, and gives the older one back.
     fn watch(&mut self, waker: Waker, is_shut: bool) -> Watch
         ensures watch { result ≡ watched_hold is_shut waker (Some self.old) }
         ensures stored { self.new ≡ stored_at is_shut waker self.old }
@@ -30,8 +30,7 @@ impl HeldConnect {
         if is_shut {
             return Watch::Shut(waker);
         }
-        self.waker = Some(waker);
-        Watch::Stored
+        Watch::Stored(self.waker.replace(waker))
     }
 }
 
@@ -126,7 +125,8 @@ impl HeldConnects {
         self.deadlines.first_due(moment)
     }
 
-    /// Stores a waker beside the connect at this place, where it is held and the shard is not shut.
+    /// Stores a waker beside the connect at this place, where it is held and the shard is not shut. The older one there is
+    /// given back.
     pub(crate) fn watch(&mut self, place: u64, waker: Waker, is_shut: bool) -> Watch
         ensures watch { result ≡ watched_hold is_shut waker (hold_at self.old place) }
         ensures stored { (p : ℕ) → hold_at self.new p

@@ -247,6 +247,14 @@ impl<J: Naming, P: Placing> Desk<J, P> {
         }
     }
 
+    /// The wakers of those whose connects were answered since the last call. They are to be dropped, which wakes them, once the
+    /// shard's lock is let go.
+    pub(crate) fn take_wakers(&mut self, alloc: Global) -> Vec<Waker>
+        ensures same { (self.new.shard ≡ self.old.shard) × (self.new.note ≡ self.old.note) × (self.new.reader ≡ self.old.reader) }
+    {
+        self.shard.take_wakers(alloc)
+    }
+
     /// Leaves a waker beside a held connect, as the shard does.
     pub(crate) fn watch(&mut self, ticket: Ticket, waker: Waker) -> Watch
         ensures watch { nat_eq ticket.shard self.old.shard.index ≡ true

@@ -91,7 +91,8 @@ impl<J: Naming, P: Placing, G: Gate + Drop, R: Wait + Drop> Hub<J, P, G, R> {
 
     /// Takes the messages of a request into the list, and brings each shard up. It is refused, in this order, where its
     /// documents cannot be read as messages, the hub was closed, its moment is above the greatest that is taken, the list
-    /// would become too long, or the window is full. A request without messages adds nothing.
+    /// would become too long, or the window is full. A request without messages adds nothing. Who waits for a connect that
+    /// it answers is woken under no shard's lock.
     pub fn post<W: Wait>(
         &self,
         rt: &W,
@@ -195,7 +196,8 @@ impl<J: Naming, P: Placing, G: Gate + Drop, R: Wait + Drop> Hub<J, P, G, R> {
         }
     }
 
-    // Brings each shard up to the end of what was seen, and tells the least place where one stands.
+    // Brings each shard up to the end of what was seen, and tells the least place where one stands. Who waited for what is
+    // answered by that is woken once the shard's lock is let go.
     fn bring_least<W: Wait>(
         &self,
         rt: &W,
@@ -207,23 +209,36 @@ impl<J: Naming, P: Placing, G: Gate + Drop, R: Wait + Drop> Hub<J, P, G, R> {
     {
         let mut least = pass.len();
         for desk in &self.desks {
-            let mut desk = desk.lock(rt);
-            if let Err(HubFault::Overrun { shard, place }) = desk.bring(alloc, &self.gate, pass) {
-                *pass = desk.front();
+            let mut guard = desk.lock(rt);
+            let desk = &mut *guard;
+            let brought = desk.bring(alloc, &self.gate, pass);
+            let stands = desk.place();
+            let front = desk.front();
+            let wakers = desk.take_wakers(alloc);
+            drop(guard);
+            drop(wakers);
+            if let Err(HubFault::Overrun { shard, place }) = brought {
+                *pass = front;
                 return Err(PostFault::Overrun { shard, place });
             }
-            least = least.min(desk.place());
+            least = least.min(stands);
         }
         Ok(least)
     }
 
-    // Brings each shard up to the note, and counts those that stayed below it.
+    // Brings each shard up to the note, and counts those that stayed below it. Who waited for what is answered by that is
+    // woken once the shard's lock is let go.
     fn bring_all<W: Wait>(&self, rt: &W, alloc: Global, note: &Note<J>) -> Lagging
         ensures { count_of result ≤ length self.now.desks.items }
     {
         let mut behind = Lagging::none();
         for desk in &self.desks {
-            if let Err(fault) = desk.lock(rt).bring(alloc, &self.gate, note) {
+            let mut desk = desk.lock(rt);
+            let brought = desk.bring(alloc, &self.gate, note);
+            let wakers = desk.take_wakers(alloc);
+            drop(desk);
+            drop(wakers);
+            if let Err(fault) = brought {
                 behind = behind.with(fault);
             }
         }
@@ -253,11 +268,16 @@ impl<J: Naming, P: Placing, G: Gate + Drop, R: Wait + Drop> Hub<J, P, G, R> {
             // Each desk lies at its own index.
             return never(rt);
         }
-        desk.poll(alloc, &self.gate, &mut pass.front, ticket)
+        let answer = desk.poll(alloc, &self.gate, &mut pass.front, ticket);
+        let wakers = desk.take_wakers(alloc);
+        drop(desk);
+        drop(wakers);
+        answer
     }
 
-    /// Leaves a waker beside a held connect. It comes back where an answer is filed, where the hub was closed, and where the
-    /// ticket is of no held connect of its shard, or names no shard.
+    /// Leaves a waker beside a held connect, and gives the older one there back. Once the connect is answered, the waker is
+    /// woken by the call that brought the shard up, after that has let go of the shard's lock. The waker comes back where an
+    /// answer is filed, where the hub was closed, and where the ticket is of no held connect of its shard, or names no shard.
     pub fn watch<W: Wait>(&self, rt: &W, ticket: Ticket, waker: Waker) -> Watch {
         match self.desks.get(ticket.shard) {
             Some(desk) => desk.lock(rt).watch(ticket, waker),

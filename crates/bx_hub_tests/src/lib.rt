@@ -11,3 +11,5 @@ mod gates;
 mod tests;
 #[cfg(test)]
 mod threads;
+#[cfg(test)]
+mod wakers;

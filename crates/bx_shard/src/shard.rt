@@ -142,7 +142,7 @@ impl<P: Placing> Shard<P> {
 
     /// Leaves a waker beside a held connect, to be woken once it is answered, or says why not and gives it back: the
     /// answer is filed, or no connect of this shard is held under the ticket, or the shard was shut. An older waker of
-    /// the ticket is dropped, which wakes it.
+    /// the ticket is given back where the new one is stored.
     pub fn watch(&mut self, ticket: Ticket, waker: Waker) -> Watch
         ensures watch { nat_eq ticket.shard self.old.index ≡ true
             → result ≡ watched self.old.is_shut waker (connect_in (state P.place_of self.old) ticket.place) }
@@ -160,6 +160,14 @@ impl<P: Placing> Shard<P> {
             .watch(ticket.place, waker, self.is_shut)
     }
 
+    /// The wakers of those whose connects were answered since the last call. Whoever applies entries takes them and drops
+    /// them, which wakes them, once it has let go of the lock that lies round the shard.
+    pub fn take_wakers(&mut self, alloc: Global) -> Vec<Waker>
+        ensures { self.new ≡ self.old }
+    {
+        self.sessions.connects.take_wakers(alloc)
+    }
+
     /// Drops the answers that were filed by entries below this place and that nobody took, and says how many they were.
     pub fn sweep(&mut self, before: u64) -> usize
         ensures swept { Swept before (state P.place_of self.old) (state P.place_of self.new) }
@@ -169,7 +177,7 @@ impl<P: Placing> Shard<P> {
         self.sessions.connects.sweep(before)
     }
 
-    /// Stores no waker from here on, and drops those that are stored, which wakes them. What is filed can still be
+    /// Stores no waker from here on, and drops those that lie beside held connects, which wakes them. What is filed can still be
     /// taken.
     pub fn shut(&mut self)
         ensures shut { WasShut (state P.place_of self.old) (state P.place_of self.new) }

@@ -154,9 +154,28 @@ fn check_stored<R: Abort>(
     task: &MockTask,
 ) -> Result<(), Fail> {
     let watch = watch(shard, place, task)?;
-    assert!(rt; matches!(watch, Watch::Stored), "place {place}");
+    assert!(rt; matches!(watch, Watch::Stored(None)), "place {place}");
     assert!(rt; !task.is_woken(), "place {place}");
     Ok(())
+}
+
+// These tasks are woken where the wakers are dropped that the shard then gives, and not before. It gives them once.
+fn check_woken<R: Abort>(
+    rt: &R,
+    alloc: Global,
+    shard: &mut Shard<ByRemainder>,
+    tasks: &[&MockTask],
+) {
+    let wakers = shard.take_wakers(alloc);
+    assert_eq!(rt; wakers.len(), tasks.len());
+    for task in tasks {
+        assert!(rt; !task.is_woken());
+    }
+    drop(wakers);
+    for task in tasks {
+        assert!(rt; was_woken(task));
+    }
+    assert!(rt; shard.take_wakers(alloc).is_empty());
 }
 
 // The answer to the connect at this place, which is taken: the texts of its events and of its reply.
@@ -176,8 +195,8 @@ fn taken(
     Ok(Some(text))
 }
 
-// While the connect at place 3 is held, no answer is given, and a waker is stored; once it is answered, that waker is woken,
-// and the answer is given once.
+// While the connect at place 3 is held, no answer is given, and a waker is stored; once it is answered, that waker is given
+// to be woken, and the answer is given once.
 fn check_answered<R: Abort>(
     rt: &R,
     alloc: Global,
@@ -187,7 +206,7 @@ fn check_answered<R: Abort>(
     assert!(rt; shard.take(ticket(3)).is_none());
     check_stored(rt, shard, 3, task)?;
     apply(alloc, shard, &[Deed::Publish("/a/b")])?;
-    assert!(rt; was_woken(task));
+    check_woken(rt, alloc, shard, &[task]);
     assert!(rt; matches!(watch(shard, 3, task)?, Watch::Ready(_)));
     let answer = taken(alloc, shard, 3)?.ok_or("no answer")?;
     assert_eq!(rt; answer.as_slice(), ANSWER.as_bytes());
@@ -203,8 +222,8 @@ fn an_answer_wakes_who_waits_for_it(rt: HostRuntime) -> Result<(), Fail> {
     check_answered(&rt, alloc, &mut shard(alloc, &HELD)?, &task)
 }
 
-// A waker of one task, and then one of another, are left for the same connect: the first task is woken by that, and the
-// other one by the answer.
+// A waker of one task, and then one of another, are left for the same connect: the first one comes back, and its task is woken
+// where that is dropped; the other task is woken by the answer.
 fn check_replaced<R: Abort>(
     rt: &R,
     alloc: Global,
@@ -213,10 +232,15 @@ fn check_replaced<R: Abort>(
     newer: &MockTask,
 ) -> Result<(), Fail> {
     check_stored(rt, shard, 3, older)?;
-    check_stored(rt, shard, 3, newer)?;
+    let Watch::Stored(Some(replaced)) = watch(shard, 3, newer)? else {
+        return Err(Fail::from("no older waker"));
+    };
+    assert!(rt; !older.is_woken() && !newer.is_woken());
+    drop(replaced);
     assert!(rt; was_woken(older));
+    assert!(rt; !newer.is_woken());
     apply(alloc, shard, &[Deed::Publish("/a/b")])?;
-    assert!(rt; was_woken(newer));
+    check_woken(rt, alloc, shard, &[newer]);
     assert!(rt; !was_woken(older));
     assert!(rt; shard.take(ticket(3)).is_some());
     assert!(rt; !was_woken(newer));
@@ -251,6 +275,7 @@ fn check_shut<R: Abort>(
         assert!(rt; was_woken(first), "the waker is given back, and dropped");
     }
     apply(alloc, shard, &ANSWERS)?;
+    assert!(rt; shard.take_wakers(alloc).is_empty());
     assert!(rt; !was_woken(first) && !was_woken(second));
     for place in [4, 5] {
         assert!(rt; shard.take(ticket(place)).is_some(), "place {place}");

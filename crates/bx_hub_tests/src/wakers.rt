@@ -1,0 +1,189 @@
+//! Who waits for a connect is woken, once the lock of its shard is let go.
+ghost use Rattle.std.specs.Prelude.{◌≡◌};
+ghost use Rattle.bx_entry.specs.Placings.{by_remainder};
+
+use crate::calls::{hold, poll, publish};
+use bx_advice::Config;
+use bx_entry::{ByRemainder, Placing, Ticket};
+use bx_hub::{Gate, Hub, Pass, Watch};
+use bx_window::{Naming, Opened};
+use futures::task::{Poll, Source, Waker};
+use futures::test::MockTask;
+use std::alloc::Global;
+use std::marker::Brand;
+use std::process::Abort;
+use std::sync::atomic::{AtomicBool, Ordering};
+use std::sync::{Arc, Wait};
+use std::test::*;
+
+// The task that waits, and whether it was woken while a shard's lock was held by whoever brought that shard up.
+#[derive(Drop)]
+struct Waiting {
+    task: MockTask,
+    woken_under_lock: AtomicBool,
+}
+
+// Looks at the task while the shard's lock is held, after all entries were applied.
+#[derive(Drop)]
+struct Looking {
+    waiting: Arc<Waiting, Global>,
+}
+
+impl Gate for Looking {
+    fn before(&self, _shard: usize) {}
+
+    // The connect is of shard 1.
+    fn after(&self, shard: usize) {
+        if shard == 1 && self.waiting.task.is_woken() {
+            self.waiting.woken_under_lock.store(true, Ordering::SeqCst);
+        }
+    }
+}
+
+// A waker of this task.
+fn waker(task: &MockTask) -> Result<Waker, Fail> {
+    let mut slot = None;
+    let source = Source::new();
+    task.enter(|cx| {
+        let _: Poll<()> = cx.register(&source, &mut slot);
+    });
+    Ok(slot.ok_or("no waker")?)
+}
+
+// The task was woken since its last poll, and not while a shard's lock was held.
+fn check_woken<R: Abort>(rt: &R, waiting: &Waiting) {
+    assert!(rt; waiting.task.is_woken());
+    assert!(rt; !waiting.woken_under_lock.load(Ordering::SeqCst));
+}
+
+// The task waits for a held connect: its waker is stored, and the publish that answers the connect wakes it. Then the answer
+// is there until it is taken. A ticket that names no shard is unknown. A newer waker gives the older one back.
+fn answered<J: Naming, P: Placing, G: Gate + Drop, H: Wait + Drop, R: Wait + Abort>(
+    rt: &R,
+    alloc: Global,
+    hub: &Hub<J, P, G, H>,
+    pass: &mut Pass<J>,
+    waiting: &Waiting,
+) -> Result<(), Fail> {
+    let task = &waiting.task;
+    let ticket = hold(rt, alloc, hub, pass).map_err(|_| "refused")?;
+    let nowhere = Ticket { shard: 2, ..ticket };
+    assert!(rt; matches!(hub.watch(rt, nowhere, waker(task)?), Watch::Unknown(_)));
+    assert!(rt; matches!(hub.watch(rt, ticket, waker(task)?), Watch::Stored(None)));
+    let older = hub.watch(rt, ticket, waker(task)?);
+    assert!(rt; matches!(&older, Watch::Stored(Some(_))));
+    assert!(rt; !task.is_woken());
+    publish(rt, alloc, hub, pass).map_err(|_| "refused")?;
+    check_woken(rt, waiting);
+    drop(older);
+    assert!(rt; matches!(hub.watch(rt, ticket, waker(task)?), Watch::Ready(_)));
+    let found = poll(rt, alloc, hub, pass, ticket).map_err(|_| "refused")?;
+    assert_eq!(rt; found, 2);
+    assert!(rt; matches!(hub.watch(rt, ticket, waker(task)?), Watch::Unknown(_)));
+    Ok(())
+}
+
+// The end of the hub wakes the task, and from then on no waker is stored.
+fn shut<J: Naming, P: Placing, G: Gate + Drop, H: Wait + Drop, R: Wait + Abort>(
+    rt: &R,
+    alloc: Global,
+    hub: &Hub<J, P, G, H>,
+    pass: &mut Pass<J>,
+    waiting: &Waiting,
+) -> Result<(), Fail> {
+    let task = &waiting.task;
+    let ticket = hold(rt, alloc, hub, pass).map_err(|_| "refused")?;
+    assert!(rt; matches!(hub.watch(rt, ticket, waker(task)?), Watch::Stored(None)));
+    assert!(rt; !task.is_woken());
+    hub.close(rt);
+    assert!(rt; task.is_woken());
+    assert!(rt; matches!(hub.watch(rt, ticket, waker(task)?), Watch::Shut(_)));
+    Ok(())
+}
+
+// A tick at the connect's deadline wakes the task; the connect is answered without events.
+fn ticked<J: Naming, P: Placing, G: Gate + Drop, H: Wait + Drop, R: Wait + Abort>(
+    rt: &R,
+    alloc: Global,
+    hub: &Hub<J, P, G, H>,
+    pass: &mut Pass<J>,
+    waiting: &Waiting,
+) -> Result<(), Fail> {
+    let task = &waiting.task;
+    let ticket = hold(rt, alloc, hub, pass).map_err(|_| "refused")?;
+    assert!(rt; matches!(hub.watch(rt, ticket, waker(task)?), Watch::Stored(None)));
+    hub.tick(rt, alloc, pass, 29_999).map_err(|_| "no tick")?;
+    assert!(rt; !task.is_woken());
+    let place = hub
+        .tick(rt, alloc, pass, 30_000)
+        .map_err(|_| "no tick")?
+        .place;
+    assert_eq!(rt; place, 4);
+    check_woken(rt, waiting);
+    let found = poll(rt, alloc, hub, pass, ticket).map_err(|_| "refused")?;
+    assert_eq!(rt; found, 1);
+    Ok(())
+}
+
+// What ends the wait.
+#[derive(Clone, Copy, Debug)]
+enum End {
+    Publish,
+    Tick,
+    Close,
+}
+
+fn wakes<J: Naming, R: Wait + Abort>(
+    rt: &R,
+    alloc: Global,
+    opened: Opened,
+    config: Config,
+    placing: Arc<ByRemainder, Global>,
+    gate: Looking,
+    waiting: &Waiting,
+    end: End,
+) -> Result<(), Fail>
+    requires book { opened.seen.book ≡ J.book }
+    requires config { config ≡ J.config }
+    requires placing { by_remainder ≡ J.placing }
+{
+    let hub = Hub::<J, ByRemainder, Looking, &R>::new(alloc, rt, opened, config, placing, gate)?;
+    let mut pass = hub.pass();
+    match end {
+        End::Publish => answered(rt, alloc, &hub, &mut pass, waiting),
+        End::Tick => ticked(rt, alloc, &hub, &mut pass, waiting),
+        End::Close => shut(rt, alloc, &hub, &mut pass, waiting),
+    }
+}
+
+#[test]
+fn a_task_is_woken(rt: HostRuntime) -> Result<(), Fail> {
+    let alloc = rt.alloc();
+    let config = Config::new(2, 30_000, 0, 10_000).ok_or("no configuration")?;
+    for end in [End::Publish, End::Tick, End::Close] {
+        let placing = Arc::new(alloc, ByRemainder)?;
+        let waiting = Arc::new(
+            alloc,
+            Waiting {
+                task: MockTask::new(&rt)?,
+                woken_under_lock: AtomicBool::new(false),
+            },
+        )?;
+        // A task is woken from the first on, until it is polled.
+        waiting.task.enter(|_cx| ());
+        let gate = Looking {
+            waiting: Arc::try_clone(&waiting)?,
+        };
+        wakes::<Brand, _>(
+            &rt,
+            alloc,
+            Opened::new(),
+            config,
+            placing,
+            gate,
+            &waiting,
+            end,
+        )?;
+    }
+    Ok(())
+}
