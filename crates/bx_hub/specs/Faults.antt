@@ -25,10 +25,11 @@ of_planning plans.Memory = Memory
 
 -- how many shards stay behind
 abbrev pub count_of : Lagging → ℕ
-count_of l = l.memory + l.overrun + l.closed
+count_of l = l.memory + l.overrun + l.paused + l.closed
 
 -- where a shard is overrun, the window of this front begins past the shard's place
 abbrev pub IsStopped : HubFault → List Step → Type 0
 IsStopped stops.Closed front = Unit {0}
+IsStopped stops.Paused front = Unit {0}
 IsStopped (stops.Overrun shard place) front = place < begin_of front
 IsStopped stops.Memory front = Unit {0}

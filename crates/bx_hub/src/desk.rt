@@ -1,5 +1,5 @@
 //! What lies under a shard's lock.
-ghost use Rattle.std.specs.Prelude.{◌≡◌, ◌+◌, ◌<◌, ◌≤◌, ◌⊎◌, [], length, take, nat_eq, true, Some, None, OnOk, OnErr, IfOk, IfErr, IfSome, IfNone};
+ghost use Rattle.std.specs.Prelude.{◌≡◌, ◌+◌, ◌<◌, ◌≤◌, ◌⊎◌, [], length, take, nat_eq, true, false, Some, None, OnOk, OnErr, IfOk, IfErr, IfSome, IfNone};
 ghost use Rattle.std.specs.Arc.{arc_value};
 ghost use mathlib.Core.List.{IsPrefix};
 ghost use Rattle.bx_connects.specs.Connects.{count_filed_below, filed_answer, watched};
@@ -34,6 +34,7 @@ pub(crate) struct Desk<J: Naming, P: Placing> {
     reader: LogReader<J>,
     note: Note<J>,
     taken: History<u64>,
+    paused: bool,
     closed: bool,
     ghost learnt: { take (length note) reader ≡ note },
     ghost within: { shard.place ≤ length (list_of note) },
@@ -62,6 +63,7 @@ impl<J: Naming, P: Placing> Desk<J, P> {
             reader,
             note,
             taken: History::new(),
+            paused: false,
             closed: false,
         }
     }
@@ -89,7 +91,8 @@ impl<J: Naming, P: Placing> Desk<J, P> {
         self.shard.index()
     }
 
-    /// Brings the shard up to the longest note, this one included; its gate is passed before and after.
+    /// Brings the shard up to the longest note, this one included; its gate is passed before and after. A shard that is closed
+    /// or paused learns the note alone.
     pub(crate) fn bring<G: Gate>(
         &mut self,
         alloc: Global,
@@ -102,10 +105,14 @@ impl<J: Naming, P: Placing> Desk<J, P> {
         ensures end { OnOk result (self.new.shard.place ≡ length (list_of self.new.note)) }
         ensures stopped { IfErr result (λ f. IsStopped f self.new.reader) }
         ensures index { self.new.shard.index ≡ self.old.shard.index }
+        ensures still { self.old.paused ≡ true → self.new.shard ≡ self.old.shard }
     {
         self.learn(note);
         if self.closed {
             return Err(HubFault::Closed);
+        }
+        if self.paused {
+            return Err(HubFault::Paused);
         }
         gate.before(self.index());
         let brought = self.go_on(alloc);
@@ -118,7 +125,7 @@ impl<J: Naming, P: Placing> Desk<J, P> {
         ensures old { IsPrefix self.old.note self.new.note }
         ensures told { IsPrefix note.now self.new.note }
         ensures one { (self.new.note ≡ self.old.note) ⊎ (self.new.note ≡ note.now) }
-        ensures same { self.new.shard ≡ self.old.shard }
+        ensures same { (self.new.shard ≡ self.old.shard) × (self.new.paused ≡ self.old.paused) }
     {
         self.reader.learn(note);
         self.note = self.note.longer(note);
@@ -273,6 +280,22 @@ impl<J: Naming, P: Placing> Desk<J, P> {
         let places = History::of::<(u64, &Shard<P>), SweptPlaces>(&(before, &self.shard));
         self.taken.join(&places);
         self.shard.sweep(before)
+    }
+
+    /// The shard goes no further until it is resumed.
+    pub(crate) fn pause(&mut self)
+        ensures same { (self.new.shard ≡ self.old.shard) × (self.new.note ≡ self.old.note) × (self.new.reader ≡ self.old.reader) }
+        ensures paused { self.new.paused ≡ true }
+    {
+        self.paused = true;
+    }
+
+    /// The shard may be brought up again, which the next call does that asks for it.
+    pub(crate) fn resume(&mut self)
+        ensures same { (self.new.shard ≡ self.old.shard) × (self.new.note ≡ self.old.note) × (self.new.reader ≡ self.old.reader) }
+        ensures paused { self.new.paused ≡ false }
+    {
+        self.paused = false;
     }
 
     /// The shard goes no further and stores no waker from here on. What is filed can still be taken.

@@ -35,6 +35,8 @@ pub struct Lagging {
     pub memory: usize,
     /// The window begins past the place where the shard stands.
     pub overrun: usize,
+    /// The shard is paused.
+    pub paused: usize,
     /// The hub was closed.
     pub closed: usize,
 }
@@ -47,6 +49,7 @@ impl Lagging {
         Lagging {
             memory: 0,
             overrun: 0,
+            paused: 0,
             closed: 0,
         }
     }
@@ -63,6 +66,10 @@ impl Lagging {
             },
             HubFault::Overrun { .. } => Lagging {
                 overrun: self.overrun + 1,
+                ..self
+            },
+            HubFault::Paused => Lagging {
+                paused: self.paused + 1,
                 ..self
             },
             HubFault::Closed => Lagging {
@@ -97,6 +104,8 @@ pub enum PostFault {
 pub enum HubFault {
     /// The hub was closed, and the answer was not filed before.
     Closed,
+    /// The shard is paused, and the answer was not filed before.
+    Paused,
     /// The window begins past the place where this shard stands.
     Overrun { shard: usize, place: u64 },
     /// Memory was refused.

@@ -1,5 +1,5 @@
 //! The locks.
-ghost use Rattle.std.specs.Prelude.{◌≡◌, ◌⊎◌, ◌≤◌, ◌<◌, [], length, Some, IfOk, IfErr, IfSome, IfNone};
+ghost use Rattle.std.specs.Prelude.{◌≡◌, ◌⊎◌, ◌≤◌, ◌<◌, [], length, Some, IfOk, IfErr, IfSome, IfNone, nat_lt};
 ghost use Rattle.std.specs.Arc.{arc_value};
 ghost use mathlib.Core.List.{IsPrefix};
 ghost use Rattle.bx_admission.specs.Slots.{placed_by};
@@ -235,10 +235,13 @@ impl<J: Naming, P: Placing, G: Gate + Drop, R: Wait + Drop> Hub<J, P, G, R> {
         for desk in &self.desks {
             let mut desk = desk.lock(rt);
             let brought = desk.bring(alloc, &self.gate, note);
+            let is_behind = desk.place() < note.len();
             let wakers = desk.take_wakers(alloc);
             drop(desk);
             drop(wakers);
-            if let Err(fault) = brought {
+            if let Err(fault) = brought
+                && is_behind
+            {
                 behind = behind.with(fault);
             }
         }
@@ -292,6 +295,34 @@ impl<J: Naming, P: Placing, G: Gate + Drop, R: Wait + Drop> Hub<J, P, G, R> {
             count = count.saturating_add(desk.lock(rt).sweep(before));
         }
         count
+    }
+
+    /// Lets a shard stand still: it applies nothing more until it is resumed, and its place keeps the batches behind it in the
+    /// window. False where no shard has this index, and then nothing changes.
+    pub fn pause<W: Wait>(&self, rt: &W, shard: usize) -> bool
+        ensures { result ≡ nat_lt shard (length self.now.desks.items) }
+    {
+        match self.desks.get(shard) {
+            Some(desk) => {
+                desk.lock(rt).pause();
+                true
+            }
+            None => false,
+        }
+    }
+
+    /// Lets a shard go on, which it does with the next post, tick or question for an answer. False where no shard has this
+    /// index, and then nothing changes.
+    pub fn resume<W: Wait>(&self, rt: &W, shard: usize) -> bool
+        ensures { result ≡ nat_lt shard (length self.now.desks.items) }
+    {
+        match self.desks.get(shard) {
+            Some(desk) => {
+                desk.lock(rt).resume();
+                true
+            }
+            None => false,
+        }
     }
 
     /// No more entries, and no shard goes further; held connects are woken. What is filed can still be taken.

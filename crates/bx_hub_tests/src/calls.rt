@@ -1,7 +1,7 @@
 //! What the tests ask of a hub.
 use bx_cut::Bodies;
 use bx_entry::{Arrival, Placing, Slot, Ticket};
-use bx_hub::{Gate, Hub, Pass};
+use bx_hub::{Gate, Hub, Pass, PostFault};
 use bx_window::Naming;
 use std::alloc::{AllocError, Global};
 use std::sync::Wait;
@@ -55,6 +55,18 @@ pub fn post<J: Naming, P: Placing, G: Gate + Drop, H: Wait + Drop, R: Wait>(
         }
     }
     Ok((first, None))
+}
+
+/// Why a post of this body is refused, if it is.
+pub fn refusal<J: Naming, P: Placing, G: Gate + Drop, H: Wait + Drop, R: Wait>(
+    rt: &R,
+    alloc: Global,
+    hub: &Hub<J, P, G, H>,
+    pass: &mut Pass<J>,
+    body: &str,
+) -> Result<Option<PostFault>, AllocError> {
+    let arrival = arrival(alloc, body)?;
+    Ok(hub.post(rt, alloc, pass, &arrival).err())
 }
 
 /// One more than the number of events that a connect is answered with; 0 where no answer is filed.

@@ -8,6 +8,8 @@ mod crowd;
 #[cfg(test)]
 mod gates;
 #[cfg(test)]
+mod pauses;
+#[cfg(test)]
 mod tests;
 #[cfg(test)]
 mod threads;

@@ -2,7 +2,7 @@
 ghost use Rattle.std.specs.Prelude.{◌≡◌};
 ghost use Rattle.bx_entry.specs.Placings.{by_remainder};
 
-use crate::calls::{HANDSHAKE, PUBLISH, arrival, hold, poll, post, publish};
+use crate::calls::{HANDSHAKE, PUBLISH, hold, poll, post, publish, refusal};
 use bx_advice::Config;
 use bx_entry::{BodyFault, ByRemainder, Placing, Ticket};
 use bx_hub::{Gate, Hub, OpenGate, Pass, PostFault};
@@ -12,18 +12,6 @@ use std::marker::Brand;
 use std::process::Abort;
 use std::sync::{Arc, Wait};
 use std::test::*;
-
-// Why a post of this body is refused, if it is.
-fn refusal<J: Naming, P: Placing, G: Gate + Drop, H: Wait + Drop, R: Wait>(
-    rt: &R,
-    alloc: Global,
-    hub: &Hub<J, P, G, H>,
-    pass: &mut Pass<J>,
-    body: &str,
-) -> Result<Option<PostFault>, Fail> {
-    let arrival = arrival(alloc, body)?;
-    Ok(hub.post(rt, alloc, pass, &arrival).err())
-}
 
 // Requests that are refused or have no message.
 fn requests<J: Naming, P: Placing, G: Gate + Drop, H: Wait + Drop, R: Wait + Abort>(

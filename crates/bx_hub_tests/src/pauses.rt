@@ -1,0 +1,153 @@
+//! A shard that stands still.
+ghost use Rattle.std.specs.Prelude.{◌≡◌};
+ghost use Rattle.bx_entry.specs.Placings.{by_remainder};
+
+use crate::calls::{arrival, hold, poll, publish, refusal};
+use bx_advice::Config;
+use bx_entry::{ByRemainder, Placing};
+use bx_hub::{Gate, Hub, HubFault, Lagging, OpenGate, Pass, PostFault};
+use bx_window::{Naming, Opened};
+use std::alloc::Global;
+use std::marker::Brand;
+use std::process::Abort;
+use std::sync::{Arc, Wait};
+use std::test::*;
+
+const PING: &str = r#"[{"channel":"/meta/ping"}]"#;
+
+// Where a ping stands, and which shards stayed behind it; none where it is refused.
+fn ping<J: Naming, P: Placing, G: Gate + Drop, H: Wait + Drop, R: Wait>(
+    rt: &R,
+    alloc: Global,
+    hub: &Hub<J, P, G, H>,
+    pass: &mut Pass<J>,
+) -> Option<(u64, Lagging)> {
+    let arrival = arrival(alloc, PING).ok()?;
+    let posted = hub.post(rt, alloc, pass, &arrival).ok()?;
+    Some((posted.first, posted.behind))
+}
+
+// How many pings in a row are taken, each at the next place from 0 on and with these shards behind it, up to so many.
+fn pings<J: Naming, P: Placing, G: Gate + Drop, H: Wait + Drop, R: Wait>(
+    rt: &R,
+    alloc: Global,
+    hub: &Hub<J, P, G, H>,
+    pass: &mut Pass<J>,
+    behind: Lagging,
+    most: u64,
+) -> u64 {
+    for place in 0..most {
+        if ping(rt, alloc, hub, pass) != Some((place, behind)) {
+            return place;
+        }
+    }
+    most
+}
+
+// While a shard is paused the window fills up, and from then on each post is behind, until the shard goes on. No shard has an
+// index past the last one.
+fn fills<J: Naming, P: Placing, G: Gate + Drop, H: Wait + Drop, R: Wait + Abort>(
+    rt: &R,
+    alloc: Global,
+    hub: &Hub<J, P, G, H>,
+    pass: &mut Pass<J>,
+) -> Result<(), Fail> {
+    assert!(rt; !hub.pause(rt, 2));
+    assert!(rt; hub.pause(rt, 0));
+    let behind = Lagging {
+        paused: 1,
+        ..Lagging::none()
+    };
+    assert_eq!(rt; pings(rt, alloc, hub, pass, behind, 4_096), 4_096);
+    let full = Some(PostFault::Behind { first: 0 });
+    assert_eq!(rt; refusal(rt, alloc, hub, pass, PING)?, full);
+    assert_eq!(rt; refusal(rt, alloc, hub, pass, PING)?, full);
+    assert!(rt; !hub.resume(rt, 2));
+    assert!(rt; hub.resume(rt, 0));
+    assert_eq!(rt; ping(rt, alloc, hub, pass), Some((4_096, Lagging::none())));
+    Ok(())
+}
+
+// A connect that is held by a paused shard is not answered by what another caller publishes, until the shard goes on: that it
+// may go on files nothing yet, the next call does.
+fn waits<J: Naming, P: Placing, G: Gate + Drop, H: Wait + Drop, R: Wait + Abort>(
+    rt: &R,
+    alloc: Global,
+    hub: &Hub<J, P, G, H>,
+    pass: &mut Pass<J>,
+) -> Result<(), Fail> {
+    let mut other = hub.pass();
+    let ticket = hold(rt, alloc, hub, pass).map_err(|_| "refused")?;
+    assert!(rt; hub.pause(rt, 1));
+    publish(rt, alloc, hub, &mut other).map_err(|_| "refused")?;
+    pass.learn(&other.note());
+    let paused = hub.poll_answer(rt, alloc, pass, ticket).err();
+    assert_eq!(rt; paused, Some(HubFault::Paused));
+    assert!(rt; hub.resume(rt, 1));
+    assert_eq!(rt; hub.sweep(rt, 5), 0);
+    let found = poll(rt, alloc, hub, pass, ticket).map_err(|_| "refused")?;
+    assert_eq!(rt; found, 2);
+    Ok(())
+}
+
+// What is filed is given by a paused shard too. Of a hub that was closed it is told that, and not that the shard is paused.
+fn gives<J: Naming, P: Placing, G: Gate + Drop, H: Wait + Drop, R: Wait + Abort>(
+    rt: &R,
+    alloc: Global,
+    hub: &Hub<J, P, G, H>,
+    pass: &mut Pass<J>,
+) -> Result<(), Fail> {
+    let ticket = hold(rt, alloc, hub, pass).map_err(|_| "refused")?;
+    publish(rt, alloc, hub, pass).map_err(|_| "refused")?;
+    assert!(rt; hub.pause(rt, 1));
+    let found = poll(rt, alloc, hub, pass, ticket).map_err(|_| "refused")?;
+    assert_eq!(rt; found, 2);
+    let paused = hub.poll_answer(rt, alloc, pass, ticket).err();
+    assert_eq!(rt; paused, Some(HubFault::Paused));
+    hub.close(rt);
+    let closed = hub.poll_answer(rt, alloc, pass, ticket).err();
+    assert_eq!(rt; closed, Some(HubFault::Closed));
+    Ok(())
+}
+
+// What is asked of a hub with a shard that stands still.
+#[derive(Clone, Copy, Debug)]
+enum Case {
+    Fills,
+    Waits,
+    Gives,
+}
+
+fn stands<J: Naming, R: Wait + Abort>(
+    rt: &R,
+    alloc: Global,
+    opened: Opened,
+    config: Config,
+    placing: Arc<ByRemainder, Global>,
+    case: Case,
+) -> Result<(), Fail>
+    requires book { opened.seen.book ≡ J.book }
+    requires config { config ≡ J.config }
+    requires placing { by_remainder ≡ J.placing }
+{
+    let hub = Hub::<J, ByRemainder, OpenGate, &R>::new(
+        alloc, rt, opened, config, placing, OpenGate,
+    )?;
+    let mut pass = hub.pass();
+    match case {
+        Case::Fills => fills(rt, alloc, &hub, &mut pass),
+        Case::Waits => waits(rt, alloc, &hub, &mut pass),
+        Case::Gives => gives(rt, alloc, &hub, &mut pass),
+    }
+}
+
+#[test]
+fn a_shard_stands_still(rt: HostRuntime) -> Result<(), Fail> {
+    let alloc = rt.alloc();
+    let config = Config::new(2, 30_000, 0, 10_000).ok_or("no configuration")?;
+    for case in [Case::Fills, Case::Waits, Case::Gives] {
+        let placing = Arc::new(alloc, ByRemainder)?;
+        stands::<Brand, _>(&rt, alloc, Opened::new(), config, placing, case)?;
+    }
+    Ok(())
+}
