@@ -1,0 +1,36 @@
+-- What a held connect is given.
+use Rattle.std.specs.Prelude.{ℕ, ◌≡◌, ◌<◌, ◌≤◌, ◌⊎◌, List, Bool, false, Result, Ok, Err, Some}
+use mathlib.Core.List.{IsPrefix}
+use Rattle.bx_entry.specs.declared.entry.Ticket.{Ticket}
+use Rattle.bx_message.specs.declared.reply.Answer.{Answer}
+use Rattle.bx_shard.specs.Shards.{Setup}
+use Rattle.bx_window.specs.declared.law.Step.{Step}
+use Rattle.bx_window.specs.Steps.{begin_of}
+use Rattle.bx_hub.specs.Held.{IsLevelWithout, answer_over}
+use Rattle.bx_hub.specs.declared.fault.HubFault.{HubFault}
+use Rattle.bx_hub.specs.declared.fault.HubFault.TheVariants as stops
+use Rattle.bx_held.specs.declared.fault.HeldFault.{HeldFault}
+use Rattle.bx_held.specs.declared.fault.HeldFault.TheVariants.{Unknown, Closed, Overrun, Memory}
+
+-- why a shard was not brought up, as why a connect is not answered
+abbrev pub of_hub : HubFault → HeldFault
+of_hub stops.Closed = Closed
+of_hub (stops.Overrun shard place) = Overrun shard place
+of_hub stops.Memory = Memory
+
+-- the ticket names none of so many shards, or the shard that it names was at the end of this front and had filed no answer to the ticket's connect
+abbrev pub HasNone : Setup → ℕ → Ticket → List Step → Type 0
+HasNone setup count ticket front = (count ≤ ticket.shard) ⊎ IsLevelWithout setup ticket front
+
+-- The output for a ticket, by a front of the list: an answer is what one thread gives over that front; where nothing is known of the ticket, it has
+-- none; where a shard is overrun, the window of that front begins past the shard's place.
+abbrev pub IsGiven : Setup → ℕ → Ticket → List Step → Result Answer HeldFault → Type 0
+IsGiven setup count ticket front (Ok a) = answer_over setup.config front ticket.place ≡ Some a
+IsGiven setup count ticket front (Err Unknown) = HasNone setup count ticket front
+IsGiven setup count ticket front (Err Closed) = Unit {0}
+IsGiven setup count ticket front (Err (Overrun shard place)) = place < begin_of front
+IsGiven setup count ticket front (Err Memory) = Unit {0}
+
+-- the output of one that has given none yet, by some front that begins with what was seen
+abbrev pub MayGive : Setup → ℕ → Ticket → List Step → Bool → Result Answer HeldFault → Type 0
+MayGive setup count ticket seen is_done output = is_done ≡ false → (front : List Step) × IsPrefix seen front × IsGiven setup count ticket front output

@@ -1,0 +1,31 @@
+//! Why a connect is not answered.
+ghost use Rattle.std.specs.Prelude.{◌≡◌};
+ghost use Rattle.bx_held.specs.Outputs.{of_hub};
+
+use bx_hub::HubFault;
+
+/// Why a connect is not answered.
+#[derive(Clone, Copy, Debug, PartialEq, Eq)]
+pub enum HeldFault {
+    /// No connect is held under the ticket, and no answer is filed: the answer was taken or swept, or the ticket never was
+    /// a connect's. Or the future has given its output before.
+    Unknown,
+    /// The hub was closed, and the answer was not filed before.
+    Closed,
+    /// The window begins past the place where this shard stands.
+    Overrun { shard: usize, place: u64 },
+    /// Memory was refused.
+    Memory,
+}
+
+impl From<HubFault> for HeldFault {
+    ghost from_gives = { λ fault given. given ≡ of_hub fault };
+
+    fn from(fault: HubFault) -> HeldFault {
+        match fault {
+            HubFault::Closed => HeldFault::Closed,
+            HubFault::Overrun { shard, place } => HeldFault::Overrun { shard, place },
+            HubFault::Memory => HeldFault::Memory,
+        }
+    }
+}
