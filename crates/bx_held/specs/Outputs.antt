@@ -10,11 +10,12 @@ use Rattle.bx_hub.specs.Held.{IsLevelWithout, answer_over}
 use Rattle.bx_hub.specs.declared.fault.HubFault.{HubFault}
 use Rattle.bx_hub.specs.declared.fault.HubFault.TheVariants as stops
 use Rattle.bx_held.specs.declared.fault.HeldFault.{HeldFault}
-use Rattle.bx_held.specs.declared.fault.HeldFault.TheVariants.{Unknown, Closed, Overrun, Memory}
+use Rattle.bx_held.specs.declared.fault.HeldFault.TheVariants.{Unknown, Closed, Paused, Overrun, Memory}
 
 -- why a shard was not brought up, as why a connect is not answered
 abbrev pub of_hub : HubFault → HeldFault
 of_hub stops.Closed = Closed
+of_hub stops.Paused = Paused
 of_hub (stops.Overrun shard place) = Overrun shard place
 of_hub stops.Memory = Memory
 
@@ -28,6 +29,7 @@ abbrev pub IsGiven : Setup → ℕ → Ticket → List Step → Result Answer He
 IsGiven setup count ticket front (Ok a) = answer_over setup.config front ticket.place ≡ Some a
 IsGiven setup count ticket front (Err Unknown) = HasNone setup count ticket front
 IsGiven setup count ticket front (Err Closed) = Unit {0}
+IsGiven setup count ticket front (Err Paused) = Unit {0}
 IsGiven setup count ticket front (Err (Overrun shard place)) = place < begin_of front
 IsGiven setup count ticket front (Err Memory) = Unit {0}
 

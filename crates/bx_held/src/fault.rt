@@ -12,6 +12,8 @@ pub enum HeldFault {
     Unknown,
     /// The hub was closed, and the answer was not filed before.
     Closed,
+    /// The shard is paused, and the answer was not filed before.
+    Paused,
     /// The window begins past the place where this shard stands.
     Overrun { shard: usize, place: u64 },
     /// Memory was refused.
@@ -24,6 +26,7 @@ impl From<HubFault> for HeldFault {
     fn from(fault: HubFault) -> HeldFault {
         match fault {
             HubFault::Closed => HeldFault::Closed,
+            HubFault::Paused => HeldFault::Paused,
             HubFault::Overrun { shard, place } => HeldFault::Overrun { shard, place },
             HubFault::Memory => HeldFault::Memory,
         }

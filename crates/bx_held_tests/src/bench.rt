@@ -42,7 +42,7 @@ pub enum Polled {
 }
 
 /// What a poll gave, by its output.
-pub fn polled(poll: &Poll<Result<Answer, HeldFault>>) -> Polled {
+pub fn summary_of(poll: &Poll<Result<Answer, HeldFault>>) -> Polled {
     match poll {
         Poll::Pending => Polled::Pending,
         Poll::Ready(Ok(answer)) => Polled::Events(answer.events.len()),

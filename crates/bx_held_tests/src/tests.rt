@@ -2,7 +2,7 @@
 ghost use Rattle.std.specs.Prelude.{◌≡◌};
 ghost use Rattle.bx_entry.specs.Placings.{by_remainder};
 
-use crate::bench::{Bench, CONNECT, DISCONNECT, Polled, TestHeld, polled, text_of};
+use crate::bench::{Bench, CONNECT, DISCONNECT, Polled, TestHeld, summary_of, text_of};
 use bx_advice::Config;
 use bx_entry::{ByRemainder, Ticket};
 use bx_held::HeldFault;
@@ -26,7 +26,7 @@ fn check_pending<J: Naming, R: Wait + Abort>(
     held: &mut TestHeld<'_, J, R>,
     task: &MockTask,
 ) {
-    assert_eq!(rt; polled(&task.poll(held)), Polled::Pending);
+    assert_eq!(rt; summary_of(&task.poll(held)), Polled::Pending);
     assert!(rt; !task.is_woken());
 }
 
@@ -37,9 +37,12 @@ fn check_over<J: Naming, R: Wait + Abort>(
     task: &MockTask,
     want: Polled,
 ) {
-    assert_eq!(rt; polled(&task.poll(held)), want);
+    assert_eq!(rt; summary_of(&task.poll(held)), want);
     for _ in 0..2 {
-        assert_eq!(rt; polled(&task.poll(held)), Polled::Fault(HeldFault::Unknown));
+        assert_eq!(rt;
+            summary_of(&task.poll(held)),
+            Polled::Fault(HeldFault::Unknown)
+        );
     }
 }
 
@@ -174,6 +177,19 @@ fn polled_again<J: Naming, R: Wait + Abort>(bench: &mut Bench<'_, J, R>) -> Resu
     Ok(())
 }
 
+// In a shard that is paused nothing is answered, and who asks is told so.
+fn paused<J: Naming, R: Wait + Abort>(bench: &mut Bench<'_, J, R>) -> Result<(), Fail> {
+    let ticket = bench.hold()?;
+    let mut held = bench.wait(ticket)?;
+    check_pending(bench.rt, &mut held, &bench.first);
+    assert!(bench.rt; bench.hub.pause(bench.rt, ticket.shard));
+    bench.publish()?;
+    assert!(bench.rt; !bench.first.is_woken());
+    let fault = Polled::Fault(HeldFault::Paused);
+    check_over(bench.rt, &mut held, &bench.first, fault);
+    Ok(())
+}
+
 // What is tried.
 #[derive(Clone, Copy, Debug)]
 enum Case {
@@ -184,9 +200,10 @@ enum Case {
     Moved,
     MovedBack,
     PolledAgain,
+    Paused,
 }
 
-const CASES: [Case; 10] = [
+const CASES: [Case; 11] = [
     Case::Published,
     Case::Ended(End::Newer, Polled::Events(0)),
     Case::Ended(End::Disconnect, Polled::Events(0)),
@@ -197,6 +214,7 @@ const CASES: [Case; 10] = [
     Case::Moved,
     Case::MovedBack,
     Case::PolledAgain,
+    Case::Paused,
 ];
 
 fn check<J: Naming, R: Wait + Abort>(bench: &mut Bench<'_, J, R>, case: Case) -> Result<(), Fail> {
@@ -208,6 +226,7 @@ fn check<J: Naming, R: Wait + Abort>(bench: &mut Bench<'_, J, R>, case: Case) ->
         Case::Moved => moved(bench),
         Case::MovedBack => moved_back(bench),
         Case::PolledAgain => polled_again(bench),
+        Case::Paused => paused(bench),
     }
 }
 
