@@ -15,6 +15,9 @@ pub const SUBSCRIBE: &str =
 pub const CONNECT: &str =
     r#"[{"channel":"/meta/connect","clientId":"000000000000000000000000000000000000000000000001","connectionType":"long-polling"}]"#;
 
+pub const CONNECT_OTHER: &str =
+    r#"[{"channel":"/meta/connect","clientId":"000000000000000000000000000000000000000000000002","connectionType":"long-polling"}]"#;
+
 pub const PUBLISH: &str =
     r#"[{"channel":"/a/b","clientId":"000000000000000000000000000000000000000000000002","data":7}]"#;
 

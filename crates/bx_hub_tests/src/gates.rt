@@ -2,10 +2,10 @@
 ghost use Rattle.std.specs.Prelude.{◌≡◌};
 ghost use Rattle.bx_entry.specs.Placings.{by_remainder};
 
-use crate::calls::{hold, poll, post, publish};
+use crate::calls::{HANDSHAKE, PUBLISH, hold, poll, post};
 use bx_advice::Config;
 use bx_entry::{ByRemainder, Placing, Ticket};
-use bx_hub::{Gate, Hub, Pass};
+use bx_hub::{Gate, Hub, Pass, PostFault};
 use bx_window::{Naming, Opened};
 use std::alloc::Global;
 use std::hint;
@@ -19,12 +19,23 @@ use std::thread::{Threads, join};
 // How often a post that is held looks whether it may go on.
 const LOOKS: u32 = 10_000_000;
 
-// What the gate and the test tell each other.
+// What the gate and the test tell each other: that shard 0 is to be held, that somebody stands there, that he may go on, and
+// that he waited in vain.
 #[derive(Drop)]
 struct Flags {
     is_held: AtomicBool,
+    stands: AtomicBool,
     is_free: AtomicBool,
     gave_up: AtomicBool,
+}
+
+// What a caller is told while another one stands in shard 0: whether a tick is refused for its moment alone, how much of the
+// list the caller has seen by that, and what it is given for the connect in shard 1.
+#[derive(Clone, Copy, Debug, PartialEq, Eq)]
+struct Told {
+    is_bad_moment: bool,
+    seen: u64,
+    found: usize,
 }
 
 // Holds whoever brings shard 0 up until it is free, where that is asked for.
@@ -38,6 +49,7 @@ impl Gate for Holding {
         if shard != 0 || !self.flags.is_held.load(Ordering::SeqCst) {
             return;
         }
+        self.flags.stands.store(true, Ordering::SeqCst);
         for _ in 0..LOOKS {
             if self.flags.is_free.load(Ordering::SeqCst) {
                 return;
@@ -50,7 +62,8 @@ impl Gate for Holding {
     fn after(&self, _shard: usize) {}
 }
 
-// Takes the answer that is filed in shard 1, and frees shard 0.
+// Waits until the other caller stands in shard 0. The admission is free then, and what the other one publishes is there; so is
+// shard 1, which this call brings up. Then it frees shard 0.
 fn takes<J: Naming, P: Placing, H: Wait + Drop, R: Wait>(
     rt: &R,
     alloc: Global,
@@ -58,23 +71,36 @@ fn takes<J: Naming, P: Placing, H: Wait + Drop, R: Wait>(
     mut pass: Pass<J>,
     ticket: Ticket,
     flags: &Flags,
-) -> usize {
+) -> Told {
+    for _ in 0..LOOKS {
+        if flags.stands.load(Ordering::SeqCst) {
+            break;
+        }
+        hint::spin_loop();
+    }
+    let late = (1 << 62) + 1;
+    let is_bad_moment = hub.tick(rt, alloc, &mut pass, late).err() == Some(PostFault::BadMoment);
+    let seen = pass.seen();
     let found = poll(rt, alloc, hub, &mut pass, ticket).unwrap_or(0);
     flags.is_free.store(true, Ordering::SeqCst);
-    found
+    Told {
+        is_bad_moment,
+        seen,
+        found,
+    }
 }
 
-// A post without messages, which is held in shard 0 while it has that shard's lock.
+// A publish, which is held in shard 0 while it has that shard's lock.
 fn posts<J: Naming, P: Placing, H: Wait + Drop, R: Wait>(
     rt: &R,
     alloc: Global,
     hub: &Hub<J, P, Holding, H>,
     mut pass: Pass<J>,
 ) -> bool {
-    post(rt, alloc, hub, &mut pass, "[]").is_ok()
+    post(rt, alloc, hub, &mut pass, PUBLISH).is_ok()
 }
 
-// With one lock round all shards, or round shard 0 and the answers of shard 1, the post gives up.
+// With one lock round all shards, or round admission and shard 0, the publish waits in vain.
 fn beside<
     J: Naming + Send + Sync,
     P: Placing + Send + Sync,
@@ -90,13 +116,19 @@ fn beside<
 ) -> Result<(), Fail> {
     flags.is_held.store(true, Ordering::SeqCst);
     let other = hub.pass();
-    let (posted, found) = join(
+    let (posted, told) = join(
         rt,
         || posts(rt, alloc, hub, pass),
         || takes(rt, alloc, hub, other, ticket, flags),
     );
     assert!(rt; posted);
-    assert_eq!(rt; found, 2);
+    assert!(rt; flags.stands.load(Ordering::SeqCst));
+    let want = Told {
+        is_bad_moment: true,
+        seen: 5,
+        found: 2,
+    };
+    assert_eq!(rt; told, want);
     assert!(rt; !flags.gave_up.load(Ordering::SeqCst));
     Ok(())
 }
@@ -117,7 +149,7 @@ fn held<J: Naming + Send + Sync, R: Threads + Wait + Abort + Sync>(
     let hub = Hub::<J, ByRemainder, Holding, &R>::new(alloc, rt, opened, config, placing, gate)?;
     let mut pass = hub.pass();
     let ticket = hold(rt, alloc, &hub, &mut pass).map_err(|_| "refused")?;
-    publish(rt, alloc, &hub, &mut pass).map_err(|_| "refused")?;
+    post(rt, alloc, &hub, &mut pass, HANDSHAKE).map_err(|_| "refused")?;
     beside(rt, alloc, &hub, pass, ticket, flags)
 }
 
@@ -130,6 +162,7 @@ fn shards_have_locks_of_their_own(rt: HostRuntime) -> Result<(), Fail> {
         alloc,
         Flags {
             is_held: AtomicBool::new(false),
+            stands: AtomicBool::new(false),
             is_free: AtomicBool::new(false),
             gave_up: AtomicBool::new(false),
         },

@@ -27,6 +27,18 @@ fn ping<J: Naming, P: Placing, G: Gate + Drop, H: Wait + Drop, R: Wait>(
     Some((posted.first, posted.behind))
 }
 
+// Which shards stayed behind a request without messages; none where it is refused.
+fn empty<J: Naming, P: Placing, G: Gate + Drop, H: Wait + Drop, R: Wait>(
+    rt: &R,
+    alloc: Global,
+    hub: &Hub<J, P, G, H>,
+    pass: &mut Pass<J>,
+) -> Option<Lagging> {
+    let arrival = arrival(alloc, "[]").ok()?;
+    let posted = hub.post(rt, alloc, pass, &arrival).ok()?;
+    Some(posted.behind)
+}
+
 // How many pings in a row are taken, each at the next place from 0 on and with these shards behind it, up to so many.
 fn pings<J: Naming, P: Placing, G: Gate + Drop, H: Wait + Drop, R: Wait>(
     rt: &R,
@@ -44,7 +56,7 @@ fn pings<J: Naming, P: Placing, G: Gate + Drop, H: Wait + Drop, R: Wait>(
     most
 }
 
-// While a shard is paused the window fills up, and from then on each post is behind, until the shard goes on. No shard has an
+// A paused shard that has all of the list is not behind. While it is paused the window fills up, and from then on each post is behind, until the shard goes on. No shard has an
 // index past the last one.
 fn fills<J: Naming, P: Placing, G: Gate + Drop, H: Wait + Drop, R: Wait + Abort>(
     rt: &R,
@@ -54,6 +66,7 @@ fn fills<J: Naming, P: Placing, G: Gate + Drop, H: Wait + Drop, R: Wait + Abort>
 ) -> Result<(), Fail> {
     assert!(rt; !hub.pause(rt, 2));
     assert!(rt; hub.pause(rt, 0));
+    assert_eq!(rt; empty(rt, alloc, hub, pass), Some(Lagging::none()));
     let behind = Lagging {
         paused: 1,
         ..Lagging::none()

@@ -2,10 +2,10 @@
 ghost use Rattle.std.specs.Prelude.{◌≡◌};
 ghost use Rattle.bx_entry.specs.Placings.{by_remainder};
 
-use crate::calls::{HANDSHAKE, PUBLISH, hold, poll, post, publish, refusal};
+use crate::calls::{CONNECT_OTHER, HANDSHAKE, PUBLISH, hold, poll, post, publish, refusal};
 use bx_advice::Config;
 use bx_entry::{BodyFault, ByRemainder, Placing, Ticket};
-use bx_hub::{Gate, Hub, OpenGate, Pass, PostFault};
+use bx_hub::{Gate, Hub, HubFault, OpenGate, Pass, PostFault};
 use bx_window::{Naming, Opened};
 use std::alloc::Global;
 use std::marker::Brand;
@@ -97,6 +97,24 @@ fn sweeps<J: Naming, P: Placing, G: Gate + Drop, H: Wait + Drop, R: Wait + Abort
     Ok(())
 }
 
+// The connects of two sessions, each in a shard of its own, are answered by one tick, and both answers are swept.
+fn sweeps_all<J: Naming, P: Placing, G: Gate + Drop, H: Wait + Drop, R: Wait + Abort>(
+    rt: &R,
+    alloc: Global,
+    hub: &Hub<J, P, G, H>,
+    pass: &mut Pass<J>,
+) -> Result<(), Fail> {
+    hold(rt, alloc, hub, pass).map_err(|_| "refused")?;
+    post(rt, alloc, hub, pass, HANDSHAKE).map_err(|_| "refused")?;
+    post(rt, alloc, hub, pass, CONNECT_OTHER).map_err(|_| "refused")?;
+    let ticked = hub.tick(rt, alloc, pass, 30_000).map_err(|_| "no tick")?;
+    assert_eq!(rt; ticked.place, 5);
+    assert_eq!(rt; hub.sweep(rt, 5), 0);
+    assert_eq!(rt; hub.sweep(rt, 6), 2);
+    assert_eq!(rt; hub.sweep(rt, 6), 0);
+    Ok(())
+}
+
 // What a closed hub refuses, and what it still gives.
 fn closed<J: Naming, P: Placing, G: Gate + Drop, H: Wait + Drop, R: Wait + Abort>(
     rt: &R,
@@ -115,12 +133,21 @@ fn closed<J: Naming, P: Placing, G: Gate + Drop, H: Wait + Drop, R: Wait + Abort
         refusal(rt, alloc, hub, pass, "[")?,
         Some(PostFault::Body(BodyFault::NotJson))
     );
-    assert_eq!(rt; hub.tick(rt, alloc, pass, 0).err(), Some(PostFault::Closed));
+    assert_eq!(rt;
+        refusal(rt, alloc, hub, pass, "[]")?,
+        Some(PostFault::Closed)
+    );
+    let late = (1 << 62) + 1;
+    for moment in [0, late] {
+        let refused = hub.tick(rt, alloc, pass, moment).err();
+        assert_eq!(rt; refused, Some(PostFault::Closed));
+    }
     assert_eq!(rt;
         poll(rt, alloc, hub, pass, ticket).map_err(|_| "refused")?,
         2
     );
-    assert!(rt; hub.poll_answer(rt, alloc, pass, ticket).is_err());
+    let fault = hub.poll_answer(rt, alloc, pass, ticket).err();
+    assert_eq!(rt; fault, Some(HubFault::Closed));
     let nowhere = Ticket { shard: 2, ..ticket };
     assert_eq!(rt;
         poll(rt, alloc, hub, pass, nowhere).map_err(|_| "refused")?,
@@ -135,6 +162,7 @@ enum Case {
     Requests,
     Answers,
     Sweeps,
+    SweepsAll,
     Closed,
 }
 
@@ -159,6 +187,7 @@ fn ask<J: Naming, R: Wait + Abort>(
         Case::Requests => requests(rt, alloc, &hub, &mut pass),
         Case::Answers => answers(rt, alloc, &hub, &mut pass),
         Case::Sweeps => sweeps(rt, alloc, &hub, &mut pass),
+        Case::SweepsAll => sweeps_all(rt, alloc, &hub, &mut pass),
         Case::Closed => closed(rt, alloc, &hub, &mut pass),
     }
 }
@@ -167,7 +196,13 @@ fn ask<J: Naming, R: Wait + Abort>(
 fn one_thread(rt: HostRuntime) -> Result<(), Fail> {
     let alloc = rt.alloc();
     let config = Config::new(2, 30_000, 0, 10_000).ok_or("no configuration")?;
-    for case in [Case::Requests, Case::Answers, Case::Sweeps, Case::Closed] {
+    for case in [
+        Case::Requests,
+        Case::Answers,
+        Case::Sweeps,
+        Case::SweepsAll,
+        Case::Closed,
+    ] {
         let placing = Arc::new(alloc, ByRemainder)?;
         ask::<Brand, _>(&rt, alloc, Opened::new(), config, placing, case)?;
     }
