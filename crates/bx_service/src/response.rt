@@ -1,0 +1,48 @@
+//! Responses.
+use crate::status::Status;
+use bx_message::Item;
+use bx_transport::{callback_of, response_of};
+use bytes::Bytes;
+use http::Response;
+use http::header::{ALLOW, CONTENT_TYPE, HeaderValue};
+use http_body_util::Full;
+use std::alloc::{AllocError, Global};
+
+/// A response without a body.
+pub(crate) fn refusal(alloc: Global, status: Status) -> Result<Response<Full<Bytes>>, AllocError> {
+    let mut response = Response::new(alloc, Full::new(Bytes::from_static(b"")));
+    *response.status_mut() = status.code();
+    if status == Status::MethodNotAllowed {
+        let methods = HeaderValue::from_static("GET, POST");
+        if response.headers_mut().insert(ALLOW, methods).is_err() {
+            return Err(AllocError);
+        }
+    }
+    Ok(response)
+}
+
+/// A response that carries these items; with the name of a callback it is a script.
+pub(crate) fn answer(
+    alloc: Global,
+    callback: Option<&str>,
+    items: &[Item],
+) -> Result<Response<Full<Bytes>>, AllocError> {
+    let (kind, body) = match callback {
+        Some(name) => (
+            HeaderValue::from_static("application/javascript;charset=UTF-8"),
+            callback_of(alloc, name, items)?,
+        ),
+        None => (
+            HeaderValue::from_static("application/json;charset=UTF-8"),
+            response_of(alloc, items)?,
+        ),
+    };
+    let Ok(body) = Bytes::from_vec(body) else {
+        return Err(AllocError);
+    };
+    let mut response = Response::new(alloc, Full::new(body));
+    if response.headers_mut().insert(CONTENT_TYPE, kind).is_err() {
+        return Err(AllocError);
+    }
+    Ok(response)
+}
