@@ -1,4 +1,7 @@
 //! The service of a connection.
+ghost use Rattle.std.specs.Prelude.{◌≡◌};
+ghost use Rattle.std.specs.Arc.{arc_value};
+
 use crate::exchange::Exchange;
 use bx_entry::Placing;
 use bx_hub::{Gate, Hub};
@@ -82,9 +85,13 @@ impl<J: Naming, P: Placing + Drop, G: Gate + Drop, R: Wait + Drop, C: Drop, N: D
             shared: Arc::new(alloc, shared)?,
         })
     }
+}
 
-    /// The same service once more, for another connection.
-    pub fn again(&self) -> Result<BayeuxService<J, P, G, R, C, N>, AllocError> {
+impl<J: Naming, P: Placing + Drop, G: Gate + Drop, R: Wait + Drop, C: Drop, N: Drop> Clone
+    for BayeuxService<J, P, G, R, C, N> {
+    ghost is_clone = { λ service copy. arc_value copy.shared ≡ arc_value service.shared };
+
+    fn clone(&self) -> Result<BayeuxService<J, P, G, R, C, N>, AllocError> {
         Ok(BayeuxService {
             shared: Arc::try_clone(&self.shared)?,
         })

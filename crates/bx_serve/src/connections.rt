@@ -1,0 +1,100 @@
+//! The connections that come, each as a task.
+ghost use Rattle.std.specs.Prelude.{◌≡◌, IfSome, false};
+ghost use Rattle.futures.specs.Poll.{IfReady, OnPending};
+ghost use Rattle.futures.specs.Task.{Covers, Keeps};
+ghost use Rattle.tokio.specs.Net.{listener_readable};
+ghost use Rattle.tokio.specs.Timers.{interval_delay, sleep_source};
+ghost use Rattle.bx_serve.specs.Waits.{Awaits};
+
+use crate::maker::Maker;
+use futures::task::{Context, Poll};
+use futures::{Stream, ready};
+use std::time::Clock;
+use tokio::net::Incoming;
+use tokio::time::Interval;
+
+/// The tasks of the connections that come, up to a number of them. Where none can be accepted, as while the process has no
+/// descriptor left, it waits for a while before it asks again.
+#[derive(Drop)]
+pub struct Connections<R, M> {
+    clock: R,
+    incoming: Incoming,
+    maker: M,
+    // How many connections are still taken; none: any number.
+    left: Option<u64>,
+    pause: Interval,
+    is_paused: bool,
+}
+
+impl<R, M> Connections<R, M> {
+    /// The connections of `incoming`, at most `count` of them, where 0 is any number. After a failed accept it waits for
+    /// one period of `pause`.
+    pub fn new(
+        clock: R,
+        incoming: Incoming,
+        maker: M,
+        count: u64,
+        pause: Interval,
+    ) -> Connections<R, M>
+        ensures { result.maker ≡ maker }
+    {
+        Connections {
+            clock,
+            incoming,
+            maker,
+            left: if count == 0 { None } else { Some(count) },
+            pause,
+            is_paused: false,
+        }
+    }
+}
+
+impl<R: Clock, M> Connections<R, M> {
+    // Ready once nothing is to be waited for; false where there are no timers any more.
+    fn poll_pause(&mut self, cx: &mut Context<'_>) -> Poll<bool>
+        ensures maker { self.new.maker ≡ self.old.maker }
+        ensures over { IfReady result (λ _. self.new.is_paused ≡ false) }
+        ensures waits { OnPending result (Covers cx.new (Awaits self.new.is_paused (sleep_source (interval_delay self.new.pause)) (listener_readable self.new.incoming.listener))) }
+        ensures kept { Keeps cx.old cx.new }
+    {
+        if !self.is_paused {
+            return Poll::Ready(true);
+        }
+        let tick = ready!(self.pause.poll_tick(cx));
+        self.is_paused = false;
+        Poll::Ready(tick.is_ok())
+    }
+}
+
+impl<R: Clock + Drop, M: Maker> Stream for Connections<R, M> {
+    type Item = M::Task;
+
+    ghost can_poll = { λ c. M.can_make c.maker };
+
+    ghost needs = { λ c. Awaits c.is_paused (sleep_source (interval_delay c.pause)) (listener_readable c.incoming.listener) };
+
+    ghost yields = { λ _ _ last. IfSome last M.Task.can_poll };
+
+    fn poll_next(&mut self, cx: &mut Context<'_>) -> Poll<Option<M::Task>> {
+        if self.left == Some(0) || !ready!(self.poll_pause(cx)) {
+            return Poll::Ready(None);
+        }
+        match self.incoming.poll_next(cx) {
+            Poll::Pending => Poll::Pending,
+            Poll::Ready(Some(Ok(socket))) => {
+                self.left = self.left.map(|left| left.saturating_sub(1));
+                match self.maker.make(socket) {
+                    Some(task) => Poll::Ready(Some(task)),
+                    None => cx.yield_now(),
+                }
+            }
+            Poll::Ready(Some(Err(_))) => {
+                self.is_paused = true;
+                // Without a clock it waits for the tick that comes next.
+                let _ = self.pause.reset(&self.clock);
+                cx.yield_now()
+            }
+            Poll::Ready(None) => Poll::Ready(None),
+        }
+    }
+}

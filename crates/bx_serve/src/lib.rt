@@ -1,0 +1,10 @@
+//! Serves HTTP on a listener: each connection that comes is a task of a runtime.
+#![tactic(auto)]
+
+mod connections;
+mod listen;
+mod maker;
+
+pub use connections::Connections;
+pub use listen::serve_connections;
+pub use maker::{Maker, Quiet, Server};

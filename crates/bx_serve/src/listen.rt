@@ -1,0 +1,46 @@
+//! Serves the connections of a listener.
+use crate::connections::Connections;
+use crate::maker::Server;
+use bytes::Bytes;
+use http::{Request, Response};
+use http_body_util::Full;
+use hyper::body::Incoming;
+use hyper::rt::TokioTimer;
+use hyper::server::conn::http1;
+use hyper::service::Service;
+use std::alloc::AllocGlobal;
+use std::hash::RandomState;
+use std::io;
+use std::random::RandomSource;
+use std::sync::Wait;
+use std::time::{Clock, Duration};
+use tokio::net::TcpListener;
+use tokio::runtime::LocalRuntime;
+
+// For how long no connection is asked for after one could not be accepted, in milliseconds.
+const PAUSE: u64 = 20;
+
+/// Serves so many connections of the listener over HTTP, each as a task of the runtime, on the thread that calls; it ends
+/// once they have come and have ended. 0 is any number. A head has 30 seconds to come. `Err` where there is no memory, or
+/// the system refuses the runtime a call.
+pub fn serve_connections<R, S, E>(
+    rt: R,
+    runtime: &mut LocalRuntime,
+    listener: TcpListener,
+    service: S,
+    count: u64,
+) -> io::Result<()>
+where
+    R: Wait + Clock + RandomSource + AllocGlobal + Copy + Drop,
+    S: Service<Request<Incoming>, Response = Response<Full<Bytes>>, Error = E> + Clone,
+    E: Into<anyhow::Error> + Drop,
+    requires { (each : S) → S.can_call each }
+{
+    let timers = runtime.handle().time().clone()?;
+    let pause = timers.interval(&rt, Duration::from_millis(PAUSE))?;
+    let keys = RandomState::new(&rt)?;
+    let http = http1::Builder::new(rt.alloc(), keys).timer(TokioTimer::new(rt, timers));
+    let maker = Server { http, service };
+    let connections = Connections::new(rt, listener.incoming(), maker, count, pause);
+    runtime.run_all(&rt, connections)
+}

@@ -1,0 +1,75 @@
+//! What serves one connection.
+ghost use Rattle.std.specs.Prelude.{⊤, IfSome};
+
+use bytes::Bytes;
+use futures::Future;
+use futures::task::{Context, Poll};
+use http::{Request, Response};
+use http_body_util::Full;
+use hyper::body::Incoming;
+use hyper::rt::TokioTimer;
+use hyper::server::conn::http1;
+use hyper::server::conn::http1::Connection;
+use hyper::service::Service;
+use std::time::Clock;
+use tokio::net::TcpStream;
+
+/// A future whose output nobody wants.
+#[derive(Drop)]
+pub struct Quiet<F> {
+    inner: F,
+}
+
+impl<F: Future<Output = T>, T: Drop> Future for Quiet<F> {
+    type Output = ();
+
+    ghost can_poll = { λ q. F.can_poll q.inner };
+
+    ghost needs = { λ q. F.needs q.inner };
+
+    fn poll(&mut self, cx: &mut Context<'_>) -> Poll<()> {
+        match self.inner.poll(cx) {
+            Poll::Ready(_) => Poll::Ready(()),
+            Poll::Pending => Poll::Pending,
+        }
+    }
+}
+
+/// Makes the task of a connection.
+pub trait Maker: Drop {
+    type Task: Future<Output = ()>;
+
+    // Holds of what may be asked for tasks.
+    ghost can_make: { Self → Type 0 } = { λ _. ⊤ };
+
+    /// The task of this connection; none where there is no memory for it.
+    fn make(&self, socket: TcpStream) -> Option<Self::Task>
+        requires { can_make self.now }
+        ensures { IfSome result Self.Task.can_poll };
+}
+
+/// Serves each connection over HTTP, by a service of its own.
+#[derive(Drop)]
+pub struct Server<R, S> {
+    pub http: http1::Builder<TokioTimer<R>>,
+    pub service: S,
+}
+
+impl<R, S, E> Maker for Server<R, S>
+where
+    R: Clock + Copy + Drop,
+    S: Service<Request<Incoming>, Response = Response<Full<Bytes>>, Error = E> + Clone,
+    E: Into<anyhow::Error> + Drop,
+{
+    type Task = Quiet<Connection<TcpStream, S, Full<Bytes>, TokioTimer<R>>>;
+
+    ghost can_make = { λ _. (service : S) → S.can_call service };
+
+    fn make(&self, socket: TcpStream) -> Option<Self::Task> {
+        let _ = socket.set_nodelay(true);
+        let service = self.service.clone().ok()?;
+        Some(Quiet {
+            inner: self.http.serve_connection(socket, service),
+        })
+    }
+}
