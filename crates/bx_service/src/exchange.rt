@@ -1,7 +1,9 @@
 //! One request and its response.
-ghost use Rattle.futures.specs.Poll.{OnPending};
+ghost use Rattle.std.specs.Prelude.{IfOk};
+ghost use Rattle.futures.specs.Poll.{IfReady, OnPending};
 ghost use Rattle.futures.specs.Task.{IsArmed, Keeps};
 ghost use Rattle.bx_service.specs.Polling.{CanPoll};
+ghost use Rattle.bx_service.specs.Responses.{IsResponse};
 
 use crate::gathering::{Gathering, Unanswered};
 use crate::response::{answer, refusal};
@@ -171,7 +173,9 @@ fn answered(
     alloc: Global,
     callback: Option<&str>,
     gathered: Result<Vec<Item>, Unanswered>,
-) -> Result<Response<Full<Bytes>>, AllocError> {
+) -> Result<Response<Full<Bytes>>, AllocError>
+    ensures { IfOk result IsResponse }
+{
     let Ok(items) = gathered else {
         return refusal(alloc, Status::Unavailable);
     };
@@ -184,8 +188,14 @@ fn answered(
 // A response, or that there is no memory for one.
 fn given(
     response: Result<Response<Full<Bytes>>, AllocError>,
-) -> Result<Response<Full<Bytes>>, ServiceFault> {
-    response.map_err(|_| ServiceFault::Memory)
+) -> Result<Response<Full<Bytes>>, ServiceFault>
+    requires { IfOk response IsResponse }
+    ensures { IfOk result IsResponse }
+{
+    match response {
+        Ok(response) => Ok(response),
+        Err(_) => Err(ServiceFault::Memory),
+    }
 }
 
 impl<J, P, G, R, C, N, B, D> Exchange<J, P, G, R, C, N, B>
@@ -237,6 +247,7 @@ where
         cx: &mut Context<'_>,
     ) -> Poll<Result<Response<Full<Bytes>>, ServiceFault>>
         requires { CanPoll B.can_poll self.old.state }
+        ensures value { IfReady result (λ given. IfOk given IsResponse) }
         ensures again { OnPending result (CanPoll B.can_poll self.new.state) }
         ensures registered { OnPending result (IsArmed cx.new) }
         ensures kept { Keeps cx.old cx.new }
@@ -273,6 +284,9 @@ where
     type Output = Result<Response<Full<Bytes>>, ServiceFault>;
 
     ghost can_poll = { λ e. CanPoll B.can_poll e.state };
+
+    // A response has one of the statuses, and a body exactly with 200.
+    ghost gives = { λ _ given. IfOk given IsResponse };
 
     fn poll(&mut self, cx: &mut Context<'_>) -> Poll<Self::Output> {
         let Some(shared) = self.shared.take() else {

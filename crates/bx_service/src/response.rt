@@ -1,4 +1,7 @@
 //! Responses.
+ghost use Rattle.std.specs.Prelude.{◌≡◌, IfOk, option_map};
+ghost use Rattle.bx_service.specs.Responses.{IsAnswer, IsRefusal};
+
 use crate::status::Status;
 use bx_message::Item;
 use bx_transport::{callback_of, response_of};
@@ -9,7 +12,9 @@ use http_body_util::Full;
 use std::alloc::{AllocError, Global};
 
 /// A response without a body.
-pub(crate) fn refusal(alloc: Global, status: Status) -> Result<Response<Full<Bytes>>, AllocError> {
+pub(crate) fn refusal(alloc: Global, status: Status) -> Result<Response<Full<Bytes>>, AllocError>
+    ensures { IfOk result (IsRefusal status) }
+{
     let mut response = Response::new(alloc, Full::new(Bytes::from_static(b"")));
     *response.status_mut() = status.code();
     if status == Status::MethodNotAllowed {
@@ -26,7 +31,9 @@ pub(crate) fn answer(
     alloc: Global,
     callback: Option<&str>,
     items: &[Item],
-) -> Result<Response<Full<Bytes>>, AllocError> {
+) -> Result<Response<Full<Bytes>>, AllocError>
+    ensures { IfOk result (IsAnswer (option_map (λ name. name.now) callback.entry) items.now) }
+{
     let (kind, body) = match callback {
         Some(name) => (
             HeaderValue::from_static("application/javascript;charset=UTF-8"),

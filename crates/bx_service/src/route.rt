@@ -1,4 +1,7 @@
 //! Which requests are served.
+ghost use Rattle.std.specs.Prelude.{◌≡◌};
+ghost use Rattle.bx_service.specs.Statuses.{is_served, route_of};
+
 use crate::status::Status;
 use http::Method;
 
@@ -15,14 +18,26 @@ pub(crate) enum Route {
 
 impl Route {
     /// How a request of this method for this path is served.
-    pub(crate) fn of(method: &Method, path: &str) -> Route {
-        if path != "/cometd" && !path.starts_with("/cometd/") {
+    pub(crate) fn of(method: &Method, path: &str) -> Route
+        ensures { result ≡ route_of method.now path.now }
+    {
+        if !is_served(path) {
             return Route::Refused(Status::NotFound);
         }
-        match method.as_str() {
-            "POST" => Route::Post,
-            "GET" => Route::Get,
-            _ => Route::Refused(Status::MethodNotAllowed),
+        let method = method.as_str();
+        if method == "POST" {
+            Route::Post
+        } else if method == "GET" {
+            Route::Get
+        } else {
+            Route::Refused(Status::MethodNotAllowed)
         }
     }
+}
+
+// Whether it is `/cometd`, or a path below it.
+fn is_served(path: &str) -> bool
+    ensures { result ≡ is_served path.now }
+{
+    path == "/cometd" || path.starts_with("/cometd/")
 }

@@ -1,4 +1,7 @@
 //! The statuses of responses.
+ghost use Rattle.std.specs.Prelude.{◌≡◌};
+ghost use Rattle.bx_service.specs.Statuses.{body_status, number_of, post_status, transport_status};
+
 use bx_body::BodyFault;
 use bx_hub::PostFault;
 use bx_transport::TransportError;
@@ -23,7 +26,9 @@ pub enum Status {
 
 impl Status {
     /// The status with its number.
-    pub(crate) fn code(self) -> StatusCode {
+    pub(crate) fn code(self) -> StatusCode
+        ensures { result ≡ number_of self }
+    {
         match self {
             Status::Ok => StatusCode::OK,
             Status::BadRequest => StatusCode::BAD_REQUEST,
@@ -35,7 +40,9 @@ impl Status {
     }
 
     /// The status of a POST whose body was not collected.
-    pub(crate) fn of_body(fault: BodyFault) -> Status {
+    pub(crate) fn of_body(fault: BodyFault) -> Status
+        ensures { result ≡ body_status fault }
+    {
         match fault {
             BodyFault::TooLarge => Status::TooLarge,
             BodyFault::Failed => Status::BadRequest,
@@ -44,7 +51,9 @@ impl Status {
     }
 
     /// The status of a request whose body or query carries no documents.
-    pub(crate) fn of_transport(error: TransportError) -> Status {
+    pub(crate) fn of_transport(error: TransportError) -> Status
+        ensures { result ≡ transport_status error }
+    {
         match error {
             TransportError::TooLarge => Status::TooLarge,
             TransportError::BadName | TransportError::NoMessage => Status::BadRequest,
@@ -53,7 +62,9 @@ impl Status {
     }
 
     /// The status of a request that the hub refuses.
-    pub(crate) fn of_post(fault: PostFault) -> Status {
+    pub(crate) fn of_post(fault: PostFault) -> Status
+        ensures { result ≡ post_status fault }
+    {
         match fault {
             PostFault::Body(_) | PostFault::BadMoment => Status::BadRequest,
             PostFault::Closed
