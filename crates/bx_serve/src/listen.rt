@@ -13,27 +13,29 @@ use std::hash::RandomState;
 use std::io;
 use std::random::RandomSource;
 use std::sync::Wait;
+use std::thread::Threads;
 use std::time::{Clock, Duration};
 use tokio::net::TcpListener;
-use tokio::runtime::LocalRuntime;
+use tokio::runtime::Runtime;
 
 // For how long no connection is asked for after one could not be accepted, in milliseconds.
 const PAUSE: u64 = 20;
 
-/// Serves so many connections of the listener over HTTP, each as a task of the runtime, on the thread that calls; it ends
-/// once they have come and have ended. 0 is any number. A head has 30 seconds to come. `Err` where there is no memory, or
+/// Serves so many connections of the listener over HTTP, each as a task of the runtime, and ends once they have come and
+/// have ended. 0 is any number. A head has 30 seconds to come. `Err` where there is no memory, or
 /// the system refuses the runtime a call.
 pub fn serve_connections<R, S, E>(
     rt: R,
-    runtime: &mut LocalRuntime,
+    runtime: &mut Runtime,
     listener: TcpListener,
     service: S,
     count: u64,
 ) -> io::Result<()>
 where
-    R: Wait + Clock + RandomSource + AllocGlobal + Copy + Drop,
-    S: Service<Request<Incoming>, Response = Response<Full<Bytes>>, Error = E> + Clone,
-    E: Into<anyhow::Error> + Drop,
+    R: Wait + Threads + Clock + RandomSource + AllocGlobal + Sync + Send + Copy + Drop,
+    S: Service<Request<Incoming>, Response = Response<Full<Bytes>>, Error = E> + Clone + Send,
+    S::Future: Send,
+    E: Into<anyhow::Error> + Drop + Send,
     requires { (each : S) → S.can_call each }
 {
     let timers = runtime.handle().time().clone()?;
