@@ -27,10 +27,10 @@ pub const PUBLISH: &str =
     r#"[{"channel":"/a/b","clientId":"000000000000000000000000000000000000000000000002","data":7}]"#;
 
 /// A hub as the tests have it.
-pub type TestHub<'a, J, R> = Hub<J, ByRemainder, OpenGate, &'a R>;
+pub type TestHub<J, H> = Hub<J, ByRemainder, OpenGate, H>;
 
 /// A held connect of it.
-pub type TestHeld<'a, J, R> = HeldConnect<J, ByRemainder, OpenGate, &'a R, &'a R>;
+pub type TestHeld<J, H, R> = HeldConnect<J, ByRemainder, OpenGate, H, R>;
 
 /// What a poll gave.
 #[derive(Clone, Copy, Debug, PartialEq, Eq)]
@@ -62,16 +62,16 @@ pub fn text_of(alloc: Global, answer: &Answer) -> Result<Vec<u8>, AllocError> {
 
 /// A hub, what its caller has seen, and two tasks that were not woken.
 #[derive(Drop)]
-pub struct Bench<'a, J: Naming, R: Wait> {
-    pub rt: &'a R,
+pub struct Bench<J: Naming, H: Wait + Drop, R: Wait + Copy + Drop> {
+    pub rt: R,
     pub alloc: Global,
-    pub hub: Arc<TestHub<'a, J, R>, Global>,
+    pub hub: Arc<TestHub<J, H>, Global>,
     pub pass: Pass<J>,
     pub first: MockTask,
     pub second: MockTask,
 }
 
-impl<'a, J: Naming, R: Wait> Bench<'a, J, R> {
+impl<J: Naming, H: Wait + Drop, R: Wait + Copy + Drop> Bench<J, H, R> {
     /// Posts a body at moment 0, and gives the ticket of its first connect.
     pub fn post(&mut self, body: &str) -> Result<Option<Ticket>, Fail> {
         let arrival = Arrival {
@@ -81,7 +81,7 @@ impl<'a, J: Naming, R: Wait> Bench<'a, J, R> {
         };
         let posted = self
             .hub
-            .post(self.rt, self.alloc, &mut self.pass, &arrival)
+            .post(&self.rt, self.alloc, &mut self.pass, &arrival)
             .map_err(|_| "refused")?;
         for slot in posted.slots.into_vec() {
             if let Slot::Waiting(ticket) = slot {
@@ -108,13 +108,13 @@ impl<'a, J: Naming, R: Wait> Bench<'a, J, R> {
     /// Lets the clock tick.
     pub fn tick(&mut self, moment: u64) -> Result<(), Fail> {
         self.hub
-            .tick(self.rt, self.alloc, &mut self.pass, moment)
+            .tick(&self.rt, self.alloc, &mut self.pass, moment)
             .map_err(|_| "refused")?;
         Ok(())
     }
 
     /// Who waits under the ticket, and has seen what the caller has.
-    pub fn wait(&self, ticket: Ticket) -> Result<TestHeld<'a, J, R>, Fail> {
+    pub fn wait(&self, ticket: Ticket) -> Result<TestHeld<J, H, R>, Fail> {
         let pass = Pass::of(self.pass.note());
         if ticket.place >= pass.seen() {
             return Err(Fail::from("the ticket is beyond the list"));

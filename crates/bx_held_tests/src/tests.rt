@@ -21,9 +21,9 @@ const ANSWER: &str =
     r#"{"channel":"/a/b","data":7}{"advice":{"interval":0,"reconnect":"retry","timeout":30000},"channel":"/meta/connect","clientId":"000000000000000000000000000000000000000000000001","successful":true}"#;
 
 // It waits, and a poll does not wake the task that polls.
-fn check_pending<J: Naming, R: Wait + Abort>(
+fn check_pending<J: Naming, H: Wait + Drop, Q: Wait + Copy + Drop, R: Abort>(
     rt: &R,
-    held: &mut TestHeld<'_, J, R>,
+    held: &mut TestHeld<J, H, Q>,
     task: &MockTask,
 ) {
     assert_eq!(rt; summary_of(&task.poll(held)), Polled::Pending);
@@ -31,9 +31,9 @@ fn check_pending<J: Naming, R: Wait + Abort>(
 }
 
 // It has its output, and has none from then on.
-fn check_over<J: Naming, R: Wait + Abort>(
+fn check_over<J: Naming, H: Wait + Drop, Q: Wait + Copy + Drop, R: Abort>(
     rt: &R,
-    held: &mut TestHeld<'_, J, R>,
+    held: &mut TestHeld<J, H, Q>,
     task: &MockTask,
     want: Polled,
 ) {
@@ -47,19 +47,22 @@ fn check_over<J: Naming, R: Wait + Abort>(
 }
 
 // A publish answers the connect, by its event. The answer is filed when the task is polled.
-fn published<J: Naming, R: Wait + Abort>(bench: &mut Bench<'_, J, R>) -> Result<(), Fail> {
+fn published<J: Naming, H: Wait + Drop, Q: Wait + Copy + Drop, R: Abort>(
+    rt: &R,
+    bench: &mut Bench<J, H, Q>,
+) -> Result<(), Fail> {
     let ticket = bench.hold()?;
     let mut held = bench.wait(ticket)?;
-    check_pending(bench.rt, &mut held, &bench.first);
+    check_pending(rt, &mut held, &bench.first);
     bench.publish()?;
-    assert!(bench.rt; bench.first.is_woken());
+    assert!(rt; bench.first.is_woken());
     let Poll::Ready(Ok(answer)) = bench.first.poll(&mut held) else {
         return Err(Fail::from("no answer"));
     };
     let text = text_of(bench.alloc, &answer)?;
-    assert_eq!(bench.rt; text.as_slice(), ANSWER.as_bytes());
+    assert_eq!(rt; text.as_slice(), ANSWER.as_bytes());
     check_over(
-        bench.rt,
+        rt,
         &mut held,
         &bench.first,
         Polled::Fault(HeldFault::Unknown),
@@ -76,117 +79,139 @@ enum End {
     Close,
 }
 
-fn bring_on<J: Naming, R: Wait>(bench: &mut Bench<'_, J, R>, end: End) -> Result<(), Fail> {
+fn bring_on<J: Naming, H: Wait + Drop, Q: Wait + Copy + Drop>(
+    bench: &mut Bench<J, H, Q>,
+    end: End,
+) -> Result<(), Fail> {
     match end {
         End::Newer => bench.post(CONNECT).map(drop),
         End::Disconnect => bench.post(DISCONNECT).map(drop),
         End::Tick => bench.tick(30_000),
         End::Close => {
-            bench.hub.close(bench.rt);
+            bench.hub.close(&bench.rt);
             Ok(())
         }
     }
 }
 
 // The task is woken, and has the output that belongs to the end.
-fn ended<J: Naming, R: Wait + Abort>(
-    bench: &mut Bench<'_, J, R>,
+fn ended<J: Naming, H: Wait + Drop, Q: Wait + Copy + Drop, R: Abort>(
+    rt: &R,
+    bench: &mut Bench<J, H, Q>,
     end: End,
     want: Polled,
 ) -> Result<(), Fail> {
     let ticket = bench.hold()?;
     let mut held = bench.wait(ticket)?;
     bench.tick(29_999)?;
-    check_pending(bench.rt, &mut held, &bench.first);
+    check_pending(rt, &mut held, &bench.first);
     bring_on(bench, end)?;
-    assert!(bench.rt; bench.first.is_woken(), "{end:?}");
-    check_over(bench.rt, &mut held, &bench.first, want);
+    assert!(rt; bench.first.is_woken(), "{end:?}");
+    check_over(rt, &mut held, &bench.first, want);
     Ok(())
 }
 
 // An answer that was filed before the hub was closed is given.
-fn filed_before<J: Naming, R: Wait + Abort>(bench: &mut Bench<'_, J, R>) -> Result<(), Fail> {
+fn filed_before<J: Naming, H: Wait + Drop, Q: Wait + Copy + Drop, R: Abort>(
+    rt: &R,
+    bench: &mut Bench<J, H, Q>,
+) -> Result<(), Fail> {
     let ticket = bench.hold()?;
     let mut held = bench.wait(ticket)?;
     bench.publish()?;
-    bench.hub.close(bench.rt);
-    check_over(bench.rt, &mut held, &bench.first, Polled::Events(1));
+    bench.hub.close(&bench.rt);
+    check_over(rt, &mut held, &bench.first, Polled::Events(1));
     Ok(())
 }
 
 // Nothing is known of an answer that was taken or swept, of a place where no connect stands, and of one in no shard.
-fn unknown<J: Naming, R: Wait + Abort>(bench: &mut Bench<'_, J, R>) -> Result<(), Fail> {
+fn unknown<J: Naming, H: Wait + Drop, Q: Wait + Copy + Drop, R: Abort>(
+    rt: &R,
+    bench: &mut Bench<J, H, Q>,
+) -> Result<(), Fail> {
     let ticket = bench.hold()?;
     let mut taken = bench.wait(ticket)?;
     let mut taker = bench.wait(ticket)?;
     bench.publish()?;
-    check_over(bench.rt, &mut taker, &bench.first, Polled::Events(1));
+    check_over(rt, &mut taker, &bench.first, Polled::Events(1));
     let nowhere = Polled::Fault(HeldFault::Unknown);
-    check_over(bench.rt, &mut taken, &bench.first, nowhere);
+    check_over(rt, &mut taken, &bench.first, nowhere);
     let next = bench.post(CONNECT)?.ok_or("no ticket")?;
     let mut swept = bench.wait(next)?;
-    check_pending(bench.rt, &mut swept, &bench.first);
+    check_pending(rt, &mut swept, &bench.first);
     bench.tick(30_000)?;
-    assert_eq!(bench.rt; bench.hub.sweep(bench.rt, 1_000), 1);
-    check_over(bench.rt, &mut swept, &bench.first, nowhere);
+    assert_eq!(rt; bench.hub.sweep(&bench.rt, 1_000), 1);
+    check_over(rt, &mut swept, &bench.first, nowhere);
     for other in [Ticket { place: 1, ..ticket }, Ticket { shard: 2, ..ticket }] {
         let mut none = bench.wait(other)?;
-        check_over(bench.rt, &mut none, &bench.first, nowhere);
+        check_over(rt, &mut none, &bench.first, nowhere);
     }
     Ok(())
 }
 
 // It goes from one task to the other and back; the one that polled it last is woken, and the other is not.
-fn moved<J: Naming, R: Wait + Abort>(bench: &mut Bench<'_, J, R>) -> Result<(), Fail> {
+fn moved<J: Naming, H: Wait + Drop, Q: Wait + Copy + Drop, R: Abort>(
+    rt: &R,
+    bench: &mut Bench<J, H, Q>,
+) -> Result<(), Fail> {
     let ticket = bench.hold()?;
     let mut held = bench.wait(ticket)?;
-    check_pending(bench.rt, &mut held, &bench.first);
-    check_pending(bench.rt, &mut held, &bench.second);
-    assert!(bench.rt; !bench.first.is_woken());
+    check_pending(rt, &mut held, &bench.first);
+    check_pending(rt, &mut held, &bench.second);
+    assert!(rt; !bench.first.is_woken());
     bench.publish()?;
-    assert!(bench.rt; bench.second.is_woken());
-    assert!(bench.rt; !bench.first.is_woken());
-    check_over(bench.rt, &mut held, &bench.second, Polled::Events(1));
+    assert!(rt; bench.second.is_woken());
+    assert!(rt; !bench.first.is_woken());
+    check_over(rt, &mut held, &bench.second, Polled::Events(1));
     Ok(())
 }
 
 // Back in the first task, that one is woken.
-fn moved_back<J: Naming, R: Wait + Abort>(bench: &mut Bench<'_, J, R>) -> Result<(), Fail> {
+fn moved_back<J: Naming, H: Wait + Drop, Q: Wait + Copy + Drop, R: Abort>(
+    rt: &R,
+    bench: &mut Bench<J, H, Q>,
+) -> Result<(), Fail> {
     let ticket = bench.hold()?;
     let mut held = bench.wait(ticket)?;
-    check_pending(bench.rt, &mut held, &bench.first);
-    check_pending(bench.rt, &mut held, &bench.second);
-    check_pending(bench.rt, &mut held, &bench.first);
-    assert!(bench.rt; !bench.second.is_woken());
+    check_pending(rt, &mut held, &bench.first);
+    check_pending(rt, &mut held, &bench.second);
+    check_pending(rt, &mut held, &bench.first);
+    assert!(rt; !bench.second.is_woken());
     bench.publish()?;
-    assert!(bench.rt; bench.first.is_woken());
-    check_over(bench.rt, &mut held, &bench.first, Polled::Events(1));
+    assert!(rt; bench.first.is_woken());
+    check_over(rt, &mut held, &bench.first, Polled::Events(1));
     Ok(())
 }
 
 // Polls for other reasons do not wake the task that polls, and its waker stays.
-fn polled_again<J: Naming, R: Wait + Abort>(bench: &mut Bench<'_, J, R>) -> Result<(), Fail> {
+fn polled_again<J: Naming, H: Wait + Drop, Q: Wait + Copy + Drop, R: Abort>(
+    rt: &R,
+    bench: &mut Bench<J, H, Q>,
+) -> Result<(), Fail> {
     let ticket = bench.hold()?;
     let mut held = bench.wait(ticket)?;
     for _ in 0..5 {
-        check_pending(bench.rt, &mut held, &bench.first);
+        check_pending(rt, &mut held, &bench.first);
     }
     bench.publish()?;
-    assert!(bench.rt; bench.first.is_woken());
-    check_over(bench.rt, &mut held, &bench.first, Polled::Events(1));
+    assert!(rt; bench.first.is_woken());
+    check_over(rt, &mut held, &bench.first, Polled::Events(1));
     Ok(())
 }
 
 // In a shard that is paused nothing is answered, and who asks is told so.
-fn paused<J: Naming, R: Wait + Abort>(bench: &mut Bench<'_, J, R>) -> Result<(), Fail> {
+fn paused<J: Naming, H: Wait + Drop, Q: Wait + Copy + Drop, R: Abort>(
+    rt: &R,
+    bench: &mut Bench<J, H, Q>,
+) -> Result<(), Fail> {
     let ticket = bench.hold()?;
     let mut held = bench.wait(ticket)?;
-    check_pending(bench.rt, &mut held, &bench.first);
-    assert!(bench.rt; bench.hub.pause(bench.rt, ticket.shard));
+    check_pending(rt, &mut held, &bench.first);
+    assert!(rt; bench.hub.pause(&bench.rt, ticket.shard));
     bench.publish()?;
-    assert!(bench.rt; !bench.first.is_woken());
+    assert!(rt; !bench.first.is_woken());
     let fault = Polled::Fault(HeldFault::Paused);
-    check_over(bench.rt, &mut held, &bench.first, fault);
+    check_over(rt, &mut held, &bench.first, fault);
     Ok(())
 }
 
@@ -217,16 +242,20 @@ const CASES: [Case; 11] = [
     Case::Paused,
 ];
 
-fn check<J: Naming, R: Wait + Abort>(bench: &mut Bench<'_, J, R>, case: Case) -> Result<(), Fail> {
+fn check<J: Naming, H: Wait + Drop, Q: Wait + Copy + Drop, R: Abort>(
+    rt: &R,
+    bench: &mut Bench<J, H, Q>,
+    case: Case,
+) -> Result<(), Fail> {
     match case {
-        Case::Published => published(bench),
-        Case::Ended(end, want) => ended(bench, end, want),
-        Case::FiledBefore => filed_before(bench),
-        Case::Unknown => unknown(bench),
-        Case::Moved => moved(bench),
-        Case::MovedBack => moved_back(bench),
-        Case::PolledAgain => polled_again(bench),
-        Case::Paused => paused(bench),
+        Case::Published => published(rt, bench),
+        Case::Ended(end, want) => ended(rt, bench, end, want),
+        Case::FiledBefore => filed_before(rt, bench),
+        Case::Unknown => unknown(rt, bench),
+        Case::Moved => moved(rt, bench),
+        Case::MovedBack => moved_back(rt, bench),
+        Case::PolledAgain => polled_again(rt, bench),
+        Case::Paused => paused(rt, bench),
     }
 }
 
@@ -257,7 +286,7 @@ fn check_hub<J: Naming, R: Wait + Abort>(
         first,
         second,
     };
-    check(&mut bench, case)
+    check(rt, &mut bench, case)
 }
 
 #[test]
