@@ -5,19 +5,16 @@ ghost use Rattle.futures.specs.Task.{IsArmed, Keeps};
 ghost use Rattle.bx_service.specs.Polling.{CanPoll};
 ghost use Rattle.bx_service.specs.Responses.{IsResponse};
 
-use crate::gathering::{Gathering, Unanswered};
+use crate::backend::{Backend, Unanswered};
 use crate::response::{answer, refusal};
 use crate::route::Route;
-use crate::service::{Clock, Nonces, ServiceFault, Shared};
+use crate::service::ServiceFault;
 use crate::status::Status;
 use bx_advice::BODY_LIMIT;
 use bx_body::{BodyFault, Collect};
 use bx_cut::Bodies;
-use bx_entry::{Arrival, Placing};
-use bx_hub::Gate;
 use bx_message::Item;
 use bx_transport::{read_get, read_post};
-use bx_window::Naming;
 use bytes::{Buf, Bytes};
 use futures::Future;
 use futures::task::{Context, Poll};
@@ -27,20 +24,20 @@ use http::{Request, Response};
 use http_body::Body;
 use http_body_util::Full;
 use std::alloc::{AllocError, Global};
-use std::sync::{Arc, Wait};
+use std::sync::Arc;
 
 /// The future of a response.
 #[derive(Drop)]
-pub struct Exchange<J: Naming, P: Placing, G: Gate + Drop, R: Wait + Drop, C, N, B> {
+pub struct Exchange<S, I, B> {
     alloc: Global,
     // None where there was no memory for one more handle.
-    shared: Option<Arc<Shared<J, P, G, R, C, N>, Global>>,
-    state: State<J, P, G, R, B>,
+    backend: Option<Arc<S, Global>>,
+    state: State<I, B>,
 }
 
 /// How far a request is.
 #[derive(Drop)]
-pub(crate) enum State<J: Naming, P: Placing, G: Gate + Drop, R: Wait + Drop, B> {
+pub(crate) enum State<I, B> {
     /// The body of a POST comes.
     Collecting {
         content_type: Option<Vec<u8>>,
@@ -48,45 +45,38 @@ pub(crate) enum State<J: Naming, P: Placing, G: Gate + Drop, R: Wait + Drop, B> 
     },
     /// A GET with this query.
     Asked(Vec<u8>),
-    /// It was admitted, and its answers come. With the name of a callback it is answered as a script.
+    /// It was admitted, and its items come. With the name of a callback it is answered as a script.
     Held {
         callback: Option<String>,
-        gathering: Gathering<J, P, G, R>,
+        items: I,
     },
     /// It is refused.
     Refused(Status),
 }
 
-impl<J, P, G, R, C, N, B> Exchange<J, P, G, R, C, N, B>
-where
-    J: Naming,
-    P: Placing,
-    G: Gate + Drop,
-    R: Wait + Drop,
-    B: Body,
-{
+impl<S, I: Future, B: Body> Exchange<S, I, B> {
     pub(crate) fn new(
-        shared: &Arc<Shared<J, P, G, R, C, N>, Global>,
+        alloc: Global,
+        backend: &Arc<S, Global>,
         request: Request<B>,
-    ) -> Exchange<J, P, G, R, C, N, B>
+    ) -> Exchange<S, I, B>
         requires { (body : B) → B.can_poll body }
-        ensures { CanPoll B.can_poll result.state }
+        ensures { CanPoll I.can_poll B.can_poll result.state }
     {
-        let alloc = shared.alloc;
         let (parts, body) = request.into_parts();
         Exchange {
             alloc,
-            shared: Arc::try_clone(shared).ok(),
+            backend: Arc::try_clone(backend).ok(),
             state: State::new(alloc, parts, body),
         }
     }
 }
 
-impl<J: Naming, P: Placing, G: Gate + Drop, R: Wait + Drop, B: Body> State<J, P, G, R, B> {
+impl<I: Future, B: Body> State<I, B> {
     // The state of a request that came.
-    fn new(alloc: Global, parts: Parts, body: B) -> State<J, P, G, R, B>
+    fn new(alloc: Global, parts: Parts, body: B) -> State<I, B>
         requires { B.can_poll body }
-        ensures { CanPoll B.can_poll result }
+        ensures { CanPoll I.can_poll B.can_poll result }
     {
         match Route::of(&parts.method, parts.uri.path()) {
             Route::Refused(status) => State::Refused(status),
@@ -124,47 +114,17 @@ fn documents(
     read_post(alloc, content_type, body.as_slice()).map_err(Status::of_transport)
 }
 
-impl<J, P, G, R, C, N> Shared<J, P, G, R, C, N>
+// The state of a request with these documents.
+fn admitted<S, I, B>(backend: &S, callback: Option<String>, bodies: Bodies) -> State<I, B>
 where
-    J: Naming,
-    P: Placing + Drop,
-    G: Gate + Drop,
-    R: Wait + Copy + Drop,
-    C: Clock,
-    N: Nonces,
+    S: Backend<Items = I>,
+    I: Future<Output = Result<Vec<Item>, Unanswered>>,
+    B: Body,
+    ensures { CanPoll I.can_poll B.can_poll result }
 {
-    // Hands the documents to the hub.
-    fn admit(&self, bodies: Bodies) -> Result<Gathering<J, P, G, R>, Status> {
-        let arrival = Arrival {
-            moment: self.clock.now(),
-            nonce: self.nonces.next(),
-            bodies,
-        };
-        let mut pass = self.hub.pass();
-        let posted = self
-            .hub
-            .post(&self.rt, self.alloc, &mut pass, &arrival)
-            .map_err(Status::of_post)?;
-        let Ok(hub) = Arc::try_clone(&self.hub) else {
-            return Err(Status::Unavailable);
-        };
-        match Gathering::new(self.rt, self.alloc, hub, pass, posted.slots) {
-            Ok(gathering) => Ok(gathering),
-            Err(_) => Err(Status::Unavailable),
-        }
-    }
-
-    // The state of a request with these documents.
-    fn admitted<B: Body>(&self, callback: Option<String>, bodies: Bodies) -> State<J, P, G, R, B>
-        ensures { CanPoll B.can_poll result }
-    {
-        match self.admit(bodies) {
-            Ok(gathering) => State::Held {
-                callback,
-                gathering,
-            },
-            Err(status) => State::Refused(status),
-        }
+    match backend.admit(bodies) {
+        Ok(items) => State::Held { callback, items },
+        Err(status) => State::Refused(status),
     }
 }
 
@@ -198,21 +158,17 @@ fn given(
     }
 }
 
-impl<J, P, G, R, C, N, B, D> Exchange<J, P, G, R, C, N, B>
+impl<S, I, B, D> Exchange<S, I, B>
 where
-    J: Naming,
-    P: Placing + Drop,
-    G: Gate + Drop,
-    R: Wait + Copy + Drop,
-    C: Clock + Drop,
-    N: Nonces + Drop,
+    S: Backend<Items = I>,
+    I: Future<Output = Result<Vec<Item>, Unanswered>> + Drop,
     B: Body<Data = D>,
     D: Buf + Drop,
 {
     // Goes on until the request is admitted or refused.
-    fn poll_admitted(&mut self, shared: &Shared<J, P, G, R, C, N>, cx: &mut Context<'_>) -> Poll<()>
-        requires { CanPoll B.can_poll self.old.state }
-        ensures again { CanPoll B.can_poll self.new.state }
+    fn poll_admitted(&mut self, backend: &S, cx: &mut Context<'_>) -> Poll<()>
+        requires { CanPoll I.can_poll B.can_poll self.old.state }
+        ensures again { CanPoll I.can_poll B.can_poll self.new.state }
         ensures registered { OnPending result (IsArmed cx.new) }
         ensures kept { Keeps cx.old cx.new }
     {
@@ -225,14 +181,14 @@ where
                 };
                 let content_type = content_type.as_ref().map(|it| it.as_slice());
                 self.state = match documents(alloc, content_type, collected) {
-                    Ok(bodies) => shared.admitted(None, bodies),
+                    Ok(bodies) => admitted(backend, None, bodies),
                     Err(status) => State::Refused(status),
                 };
                 Poll::Ready(())
             }
             State::Asked(query) => {
                 self.state = match read_get(alloc, query.as_slice()) {
-                    Ok((name, bodies)) => shared.admitted(Some(name), bodies),
+                    Ok((name, bodies)) => admitted(backend, Some(name), bodies),
                     Err(error) => State::Refused(Status::of_transport(error)),
                 };
                 Poll::Ready(())
@@ -246,18 +202,15 @@ where
         &mut self,
         cx: &mut Context<'_>,
     ) -> Poll<Result<Response<Full<Bytes>>, ServiceFault>>
-        requires { CanPoll B.can_poll self.old.state }
+        requires { CanPoll I.can_poll B.can_poll self.old.state }
         ensures value { IfReady result (λ given. IfOk given IsResponse) }
-        ensures again { OnPending result (CanPoll B.can_poll self.new.state) }
+        ensures again { OnPending result (CanPoll I.can_poll B.can_poll self.new.state) }
         ensures registered { OnPending result (IsArmed cx.new) }
         ensures kept { Keeps cx.old cx.new }
     {
         let alloc = self.alloc;
         match &mut self.state {
-            State::Held {
-                callback,
-                gathering,
-            } => match gathering.poll(cx) {
+            State::Held { callback, items } => match items.poll(cx) {
                 Poll::Pending => Poll::Pending,
                 Poll::Ready(gathered) => {
                     let callback = callback.as_ref().map(|it| it.as_str());
@@ -270,30 +223,26 @@ where
     }
 }
 
-impl<J, P, G, R, C, N, B, D> Future for Exchange<J, P, G, R, C, N, B>
+impl<S, I, B, D> Future for Exchange<S, I, B>
 where
-    J: Naming,
-    P: Placing + Drop,
-    G: Gate + Drop,
-    R: Wait + Copy + Drop,
-    C: Clock + Drop,
-    N: Nonces + Drop,
+    S: Backend<Items = I> + Drop,
+    I: Future<Output = Result<Vec<Item>, Unanswered>> + Drop,
     B: Body<Data = D>,
     D: Buf + Drop,
 {
     type Output = Result<Response<Full<Bytes>>, ServiceFault>;
 
-    ghost can_poll = { λ e. CanPoll B.can_poll e.state };
+    ghost can_poll = { λ e. CanPoll I.can_poll B.can_poll e.state };
 
     // A response has one of the statuses, and a body exactly with 200.
     ghost gives = { λ _ given. IfOk given IsResponse };
 
     fn poll(&mut self, cx: &mut Context<'_>) -> Poll<Self::Output> {
-        let Some(shared) = self.shared.take() else {
+        let Some(backend) = self.backend.take() else {
             return Poll::Ready(Err(ServiceFault::Memory));
         };
-        let admitted = self.poll_admitted(&shared, cx);
-        self.shared = Some(shared);
+        let admitted = self.poll_admitted(&*backend, cx);
+        self.backend = Some(backend);
         if admitted.is_pending() {
             return Poll::Pending;
         }

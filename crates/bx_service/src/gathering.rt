@@ -1,8 +1,9 @@
 //! The items of a response, as the answers come.
 ghost use Rattle.futures.specs.Task.{Keeps};
 
+use crate::backend::Unanswered;
 use bx_entry::{Placing, Slot, Ticket};
-use bx_held::{HeldConnect, HeldFault};
+use bx_held::HeldConnect;
 use bx_hub::{Gate, Hub, Pass};
 use bx_message::{Answer, Item, Sequence};
 use bx_window::Naming;
@@ -15,7 +16,7 @@ use std::sync::{Arc, Wait};
 
 /// A request that was admitted: the items that are there, the connect that is waited for, and the slots behind it.
 #[derive(Drop)]
-pub(crate) struct Gathering<J: Naming, P: Placing, G: Gate + Drop, R: Wait + Drop> {
+pub struct Gathering<J: Naming, P: Placing, G: Gate + Drop, R: Wait + Drop> {
     rt: R,
     alloc: Global,
     hub: Arc<Hub<J, P, G, R>, Global>,
@@ -23,22 +24,6 @@ pub(crate) struct Gathering<J: Naming, P: Placing, G: Gate + Drop, R: Wait + Dro
     items: Vec<Item>,
     slots: VecDeque<Slot>,
     held: Option<HeldConnect<J, P, G, R, R>>,
-}
-
-/// The response has no items: an answer cannot be told, or there is no memory.
-#[derive(Clone, Copy, Debug, PartialEq, Eq)]
-pub(crate) struct Unanswered;
-
-impl From<AllocError> for Unanswered {
-    fn from(_error: AllocError) -> Unanswered {
-        Unanswered
-    }
-}
-
-impl From<HeldFault> for Unanswered {
-    fn from(_fault: HeldFault) -> Unanswered {
-        Unanswered
-    }
 }
 
 impl<J: Naming, P: Placing + Drop, G: Gate + Drop, R: Wait + Copy + Drop> Gathering<J, P, G, R> {

@@ -1,6 +1,7 @@
 //! HTTP: a request's body is collected, its messages are handed to the hub, and the answers become a response.
 #![tactic(auto)]
 
+mod backend;
 mod exchange;
 mod gathering;
 mod response;
@@ -8,6 +9,8 @@ mod route;
 mod service;
 mod status;
 
+pub use backend::{Backend, Clock, HubBackend, Nonces, Unanswered};
 pub use exchange::Exchange;
-pub use service::{BayeuxService, Clock, Nonces, ServiceFault};
+pub use gathering::Gathering;
+pub use service::{BayeuxService, ServiceFault};
 pub use status::Status;

@@ -2,11 +2,11 @@
 ghost use Rattle.std.specs.Prelude.{◌≡◌};
 ghost use Rattle.std.specs.Arc.{arc_value};
 
+use crate::backend::{Backend, Unanswered};
 use crate::exchange::Exchange;
-use bx_entry::Placing;
-use bx_hub::{Gate, Hub};
-use bx_window::Naming;
+use bx_message::Item;
 use bytes::{Buf, Bytes};
+use futures::Future;
 use http::{Request, Response};
 use http_body::Body;
 use http_body_util::Full;
@@ -14,19 +14,7 @@ use hyper::service::Service;
 use std::alloc::{AllocError, Global};
 use std::error::Error;
 use std::fmt;
-use std::sync::{Arc, Wait};
-
-/// Tells the moment of a request.
-pub trait Clock {
-    /// Milliseconds, from whatever beginning.
-    fn now(&self) -> u64;
-}
-
-/// Draws what client ids are made of.
-pub trait Nonces {
-    /// 128 bits.
-    fn next(&self) -> u128;
-}
+use std::sync::Arc;
 
 /// There was no memory even for a refusal; the connection ends.
 #[derive(Clone, Copy, Debug, PartialEq, Eq)]
@@ -42,70 +30,38 @@ impl fmt::Display for ServiceFault {
 
 impl Error for ServiceFault {}
 
-/// What all connections share.
+/// Serves Bayeux over HTTP: each call takes a request to the backend, and gives the future of its response.
 #[derive(Drop)]
-pub(crate) struct Shared<J: Naming, P: Placing, G: Gate + Drop, R: Wait + Drop, C, N> {
-    pub(crate) rt: R,
-    pub(crate) alloc: Global,
-    pub(crate) hub: Arc<Hub<J, P, G, R>, Global>,
-    pub(crate) clock: C,
-    pub(crate) nonces: N,
+pub struct BayeuxService<S> {
+    alloc: Global,
+    backend: Arc<S, Global>,
 }
 
-/// Serves Bayeux over HTTP: each call takes a request to the hub, and gives the future of its response.
-#[derive(Drop)]
-pub struct BayeuxService<J: Naming, P: Placing, G: Gate + Drop, R: Wait + Drop, C, N> {
-    shared: Arc<Shared<J, P, G, R, C, N>, Global>,
-}
-
-impl<J: Naming, P: Placing + Drop, G: Gate + Drop, R: Wait + Drop, C: Drop, N: Drop> BayeuxService<
-    J,
-    P,
-    G,
-    R,
-    C,
-    N,
-> {
-    /// A service over the hub, with the clock and the nonces of its requests.
-    pub fn new(
-        rt: R,
-        alloc: Global,
-        hub: Arc<Hub<J, P, G, R>, Global>,
-        clock: C,
-        nonces: N,
-    ) -> Result<BayeuxService<J, P, G, R, C, N>, AllocError> {
-        let shared = Shared {
-            rt,
+impl<S: Drop> BayeuxService<S> {
+    /// A service over the backend.
+    pub fn new(alloc: Global, backend: S) -> Result<BayeuxService<S>, AllocError> {
+        Ok(BayeuxService {
             alloc,
-            hub,
-            clock,
-            nonces,
-        };
-        Ok(BayeuxService {
-            shared: Arc::new(alloc, shared)?,
+            backend: Arc::new(alloc, backend)?,
         })
     }
 }
 
-impl<J: Naming, P: Placing + Drop, G: Gate + Drop, R: Wait + Drop, C: Drop, N: Drop> Clone
-    for BayeuxService<J, P, G, R, C, N> {
-    ghost is_clone = { λ service copy. arc_value copy.shared ≡ arc_value service.shared };
+impl<S: Drop> Clone for BayeuxService<S> {
+    ghost is_clone = { λ service copy. arc_value copy.backend ≡ arc_value service.backend };
 
-    fn clone(&self) -> Result<BayeuxService<J, P, G, R, C, N>, AllocError> {
+    fn clone(&self) -> Result<BayeuxService<S>, AllocError> {
         Ok(BayeuxService {
-            shared: Arc::try_clone(&self.shared)?,
+            alloc: self.alloc,
+            backend: Arc::try_clone(&self.backend)?,
         })
     }
 }
 
-impl<J, P, G, R, C, N, B, D> Service<Request<B>> for BayeuxService<J, P, G, R, C, N>
+impl<S, I, B, D> Service<Request<B>> for BayeuxService<S>
 where
-    J: Naming,
-    P: Placing + Drop,
-    G: Gate + Drop,
-    R: Wait + Copy + Drop,
-    C: Clock + Drop,
-    N: Nonces + Drop,
+    S: Backend<Items = I> + Drop,
+    I: Future<Output = Result<Vec<Item>, Unanswered>> + Drop,
     B: Body<Data = D>,
     D: Buf + Drop,
 {
@@ -113,12 +69,12 @@ where
 
     type Error = ServiceFault;
 
-    type Future = Exchange<J, P, G, R, C, N, B>;
+    type Future = Exchange<S, I, B>;
 
     // Bodies of this type may be polled as they come.
     ghost can_call = { λ _. (body : B) → B.can_poll body };
 
     fn call(&self, request: Request<B>) -> Self::Future {
-        Exchange::new(&self.shared, request)
+        Exchange::new(self.alloc, &self.backend, request)
     }
 }

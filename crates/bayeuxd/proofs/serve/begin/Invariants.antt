@@ -1,0 +1,6 @@
+use Rattle.bx_entry.specs.Placings.{by_remainder}
+use Rattle.bayeuxd.proofs.serve.begin.Given as goal
+
+-- the book that was just opened, with its configuration and placing
+abbrev pub ghosts-run : goal.ghosts-run
+ghosts-run g a = record { book = a.opened.seen.book; config = a.arguments.config; placing = by_remainder }

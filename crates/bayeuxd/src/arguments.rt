@@ -1,0 +1,89 @@
+//! The arguments of the program.
+ghost use Rattle.std.specs.Prelude.{◌<◌, IfSome};
+
+use bx_advice::Config;
+use std::net::SocketAddr;
+
+/// How the server is run.
+#[derive(Clone, Copy)]
+pub struct Arguments {
+    pub address: SocketAddr,
+    pub config: Config,
+    /// Of the generator of nonces.
+    pub seed: [u8; 32],
+    /// After how many connections it ends; 0: never.
+    pub connections: u64,
+}
+
+impl Arguments {
+    /// What these words say; none where they are not an address, five numbers in their ranges and, before the last one, a
+    /// seed of 64 hexadecimal digits. The times are in milliseconds.
+    pub fn read(words: &[String]) -> Option<Arguments> {
+        let [
+            address,
+            shards,
+            timeout,
+            interval,
+            max_interval,
+            seed,
+            connections,
+        ] = words
+        else {
+            return None;
+        };
+        let config = config_of(
+            shards.as_str(),
+            timeout.as_str(),
+            interval.as_str(),
+            max_interval.as_str(),
+        )?;
+        Some(Arguments {
+            address: address.as_str().parse().ok()?,
+            config,
+            seed: seed_of(seed.as_str())?,
+            connections: number_of(connections.as_str())?,
+        })
+    }
+}
+
+fn config_of(shards: &str, timeout: &str, interval: &str, max_interval: &str) -> Option<Config> {
+    Config::new(
+        usize::try_from(number_of(shards)?).ok()?,
+        u32::try_from(number_of(timeout)?).ok()?,
+        u32::try_from(number_of(interval)?).ok()?,
+        u32::try_from(number_of(max_interval)?).ok()?,
+    )
+}
+
+// A number in decimal digits alone.
+fn number_of(digits: &str) -> Option<u64> {
+    if digits.bytes().all(|byte| byte.is_ascii_digit()) {
+        digits.parse().ok()
+    } else {
+        None
+    }
+}
+
+// 64 hexadecimal digits, the upper one of each byte first.
+fn seed_of(digits: &str) -> Option<[u8; 32]> {
+    let digits = digits.as_bytes();
+    if digits.len() != 64 {
+        return None;
+    }
+    let mut seed = [0; 32];
+    for at in 0..32 {
+        seed[at] = digit_of(digits[2 * at])? * 16 + digit_of(digits[2 * at + 1])?;
+    }
+    Some(seed)
+}
+
+fn digit_of(digit: u8) -> Option<u8>
+    ensures { IfSome result (λ d. d < 16) }
+{
+    match digit {
+        b'0'..=b'9' => Some(digit - b'0'),
+        b'a'..=b'f' => Some(digit - b'a' + 10),
+        b'A'..=b'F' => Some(digit - b'A' + 10),
+        _ => None,
+    }
+}

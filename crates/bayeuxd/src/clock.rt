@@ -1,0 +1,40 @@
+//! The clock and the nonces of the program.
+use bx_service::{Clock, Nonces};
+use rand_chacha::ChaCha20Rng;
+use rand_core::Rng;
+use std::sync::{Mutex, Wait};
+use std::time;
+use std::time::Instant;
+
+/// Milliseconds since the program began.
+#[derive(Clone, Copy)]
+pub struct SinceStart<R> {
+    pub rt: R,
+    pub start: Instant,
+}
+
+impl<R: time::Clock> Clock for SinceStart<R> {
+    fn now(&self) -> u64 {
+        match self.start.elapsed(&self.rt) {
+            Ok(passed) => u64::try_from(passed.as_millis()).unwrap_or(u64::MAX),
+            // A moment that the hub refuses.
+            Err(_) => u64::MAX,
+        }
+    }
+}
+
+/// Two words each of a generator that all connections share, the upper one first.
+#[derive(Drop)]
+pub struct Drawn<R> {
+    pub rt: R,
+    pub generator: Mutex<ChaCha20Rng>,
+}
+
+impl<R: Wait> Nonces for Drawn<R> {
+    fn next(&self) -> u128 {
+        let mut generator = self.generator.lock(&self.rt);
+        let upper = generator.next_u64();
+        let lower = generator.next_u64();
+        ((upper as u128) << 64) | lower as u128
+    }
+}

@@ -1,0 +1,114 @@
+//! What a service stands on.
+ghost use Rattle.std.specs.Prelude.{IfOk};
+
+use crate::gathering::Gathering;
+use crate::status::Status;
+use bx_cut::Bodies;
+use bx_entry::{Arrival, Placing};
+use bx_held::HeldFault;
+use bx_hub::{Gate, Hub};
+use bx_message::Item;
+use bx_window::Naming;
+use futures::Future;
+use std::alloc::{AllocError, Global};
+use std::sync::{Arc, Wait};
+
+/// Tells the moment of a request.
+pub trait Clock {
+    /// Milliseconds, from whatever beginning.
+    fn now(&self) -> u64;
+}
+
+/// Draws what client ids are made of.
+pub trait Nonces {
+    /// 128 bits.
+    fn next(&self) -> u128;
+}
+
+/// The response has no items: an answer cannot be told, or there is no memory.
+#[derive(Clone, Copy, Debug, PartialEq, Eq)]
+pub struct Unanswered;
+
+impl From<AllocError> for Unanswered {
+    fn from(_error: AllocError) -> Unanswered {
+        Unanswered
+    }
+}
+
+impl From<HeldFault> for Unanswered {
+    fn from(_fault: HeldFault) -> Unanswered {
+        Unanswered
+    }
+}
+
+/// Answers requests by their documents. A service asks no more of the server of messages, so that its own types do not name
+/// what that is made of.
+pub trait Backend: Drop {
+    /// The future of the items of a response.
+    type Items: Future<Output = Result<Vec<Item>, Unanswered>>;
+
+    /// Takes the documents of a request, or says with which status it is refused.
+    fn admit(&self, bodies: Bodies) -> Result<Self::Items, Status>
+        ensures { IfOk result Self.Items.can_poll };
+}
+
+/// A hub with the clock and the nonces of its requests.
+#[derive(Drop)]
+pub struct HubBackend<J: Naming, P: Placing, G: Gate + Drop, R: Wait + Drop, C, N> {
+    rt: R,
+    alloc: Global,
+    hub: Arc<Hub<J, P, G, R>, Global>,
+    clock: C,
+    nonces: N,
+}
+
+impl<J: Naming, P: Placing, G: Gate + Drop, R: Wait + Drop, C, N> HubBackend<J, P, G, R, C, N> {
+    /// Requests go to this hub, at the clock's moments and with these nonces.
+    pub fn new(
+        rt: R,
+        alloc: Global,
+        hub: Arc<Hub<J, P, G, R>, Global>,
+        clock: C,
+        nonces: N,
+    ) -> HubBackend<J, P, G, R, C, N> {
+        HubBackend {
+            rt,
+            alloc,
+            hub,
+            clock,
+            nonces,
+        }
+    }
+}
+
+impl<J, P, G, R, C, N> Backend for HubBackend<J, P, G, R, C, N>
+where
+    J: Naming,
+    P: Placing + Drop,
+    G: Gate + Drop,
+    R: Wait + Copy + Drop,
+    C: Clock + Drop,
+    N: Nonces + Drop,
+{
+    type Items = Gathering<J, P, G, R>;
+
+    fn admit(&self, bodies: Bodies) -> Result<Gathering<J, P, G, R>, Status> {
+        let arrival = Arrival {
+            moment: self.clock.now(),
+            nonce: self.nonces.next(),
+            bodies,
+        };
+        let mut pass = self.hub.pass();
+        let posted = match self.hub.post(&self.rt, self.alloc, &mut pass, &arrival) {
+            Ok(posted) => posted,
+            Err(fault) => return Err(Status::of_post(fault)),
+        };
+        let Ok(hub) = Arc::try_clone(&self.hub) else {
+            return Err(Status::Unavailable);
+        };
+        match Gathering::new(self.rt, self.alloc, hub, pass, posted.slots) {
+            Ok(gathering) => Ok(gathering),
+            Err(_) => Err(Status::Unavailable),
+        }
+    }
+}
