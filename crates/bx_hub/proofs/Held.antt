@@ -1,7 +1,8 @@
 -- What lies under a shard's lock, as it learns, goes on and gives.
 use Rattle.std.proofs.Common.{◌≡◌, ℕ, ◌+◌, ◌-◌, ◌<◌, ◌≤◌, List, [], ◌∷◌, ◌++◌, length, take, drop, slice_get, option_map, Option, Some, None, refl, ap, sym, ◌∙◌, subst, arith, take-append-drop}
-use Rattle.std.specs.Prelude.{Result, Ok, Err, OnOk, OnErr, IfNone, Bool, true, false, if◌then◌else◌}
+use Rattle.std.specs.Prelude.{Result, Ok, Err, OnOk, OnErr, IfSome, IfNone, Bool, true, false, nat_eq, if◌then◌else◌}
 use Rattle.std.specs.Option.{IsSome}
+use Rattle.std.proofs.lemmas.Bool.{eq-eqb}
 use mathlib.Core.List.{IsPrefix}
 use Rattle.bx_advice.specs.declared.config.Config.{Config}
 use Rattle.bx_message.specs.declared.reply.Answer.{Answer}
@@ -137,11 +138,25 @@ stands_untaken setup seen told taken place s t true r h e is took same sound = s
 stands_untaken setup seen told taken place s t false r h e is took same sound = subst (λ (u : State). Stands setup (held seen told taken u)) (sym (same refl)) h
 
 -- none was filed at the end of a front
-pub level_without : (setup : Setup) (h : Held) (t : Ticket) (front : List Step) (r : Option Answer) → IfNone r (t.shard ≡ h.state.index → filed_answer (connect_in h.state t.place) ≡ None) → t.shard ≡ h.state.index → Stands setup h → h.told ≡ front → h.state.place ≡ length (list_of h.told) →
-    IfNone r (IsLevelWithout setup t front)
-level_without setup h t front None none here s told level =
-    record { held = h; stands = s; index = sym here; told = told; level = level ∙ ap (λ (l : List Step). length (list_of l)) told; none = none here }
-level_without setup h t front (Some a) none here s told level = tt
+pub level_without : (setup : Setup) (h : Held) (t : Ticket) (front : List Step) (r : Option Answer) → r ≡ (if nat_eq t.shard h.state.index then filed_answer (connect_in h.state t.place) else None) → t.shard ≡ h.state.index → Stands setup h → h.told ≡ front →
+    h.state.place ≡ length (list_of h.told) → IfNone r (IsLevelWithout setup t front)
+level_without setup h t front None filed here s told level =
+    record {
+      held = h;
+      stands = s;
+      index = sym here;
+      told = told;
+      level = level ∙ ap (λ (l : List Step). length (list_of l)) told;
+      none = none_own (nat_eq t.shard h.state.index) (filed_answer (connect_in h.state t.place)) None filed refl (eq-eqb t.shard h.state.index here);
+    }
+level_without setup h t front (Some a) filed here s told level = tt
+
+-- what was filed is given at the first look
+pub filed_first : {F : Type 0} (i j : ℕ) (o r : Option Answer) (given : Result (Option Answer) F) → r ≡ (if nat_eq i j then o else None) → i ≡ j → IfSome r (λ a. given ≡ Ok (Some a)) → IfSome o (λ a. given ≡ Ok (Some a))
+filed_first i j None r given filed here at = tt
+filed_first {F} i j (Some a) r given filed here at =
+    let own : r ≡ Some a = filed ∙ ap (λ (b : Bool). if b then Some a else None) (eq-eqb i j here) in
+    subst (λ (x : Option Answer). IfSome x (λ (y : Answer). given ≡ Ok (Some y))) own at
 
 -- ---- the other calls
 

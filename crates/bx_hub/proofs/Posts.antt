@@ -1,6 +1,6 @@
 -- What a request or a tick adds to the front of a pass, and why it is refused.
 use Rattle.std.proofs.Common.{◌≡◌, ℕ, ◌+◌, ◌<◌, ◌≤◌, Some, None, List, [], ◌∷◌, ◌++◌, length, take, drop, refl, sym, ap, ◌∙◌, subst, arith, inl, inr, length-append}
-use Rattle.std.specs.Prelude.{Result, Ok, Err, IfErr, IfOk, IsErrAnd}
+use Rattle.std.specs.Prelude.{Result, Ok, Err, IfErr, IfOk, IsErrAnd, OnErr}
 use Rattle.std.proofs.lemmas.List.{drop_at}
 use mathlib.Core.List.{IsPrefix}
 use Rattle.bx_admission.specs.Ledgers.{Continues, Ledger}
@@ -21,9 +21,10 @@ use Rattle.bx_window.specs.Places as places
 use Rattle.bx_window.specs.Steps.{list_of}
 use Rattle.bx_window.specs.declared.law.Step.{Step}
 use Rattle.bx_hub.specs.Faults.{of_planning}
-use Rattle.bx_hub.specs.Posts.{AreSlotsAt, IsAdmittedAt, IsRefused, IsUnpublished}
+use Rattle.bx_hub.specs.Posts.{AreSlotsAt, IsAdmittedAt, IsFullFor, IsOverrun, IsRefused, IsUnpublished, WasFullFor}
 use Rattle.bx_hub.specs.declared.fault.PostFault.{PostFault}
 use Rattle.bx_hub.specs.declared.fault.PostFault.TheVariants.{Body, Closed, BadMoment, Ended, Behind, Overrun, Memory}
+use Rattle.bx_window.proofs.Fronts.{prefix_self, prefix_trans}
 use Rattle.bx_hub.proofs.Lists.{list_length}
 
 -- ---- what is published
@@ -95,19 +96,39 @@ refused_by input moment end faults.BadMoment front same is = same ∙ is
 refused_by input moment end faults.Ended front same is = inl (same ∙ is)
 refused_by input moment end faults.Memory front same is = tt
 
-pub unpublished : (input : ReadInput) (f : PostFault) (front : List Step) → IsUnpublished f front → IsRefused input f front
-unpublished input (Body fault) front u = absurd u
-unpublished input Closed front u = tt
-unpublished input BadMoment front u = absurd u
-unpublished input Ended front u = inr u
-unpublished input (Behind first) front u = u
-unpublished input (Overrun shard place) front u = absurd u
-unpublished input Memory front u = tt
+pub unpublished : (input : ReadInput) (f : PostFault) (front : List Step) → refusal_of (length (list_of front)) input ≡ None → 0 < length (added_by input) → IsUnpublished f front → IsRefused input f front
+unpublished input (Body fault) front allowed some u = absurd u
+unpublished input Closed front allowed some u = tt
+unpublished input BadMoment front allowed some u = absurd u
+unpublished input Ended front allowed some u = inr u
+unpublished input (Behind first) front allowed some u = record { allowed = allowed; some = some; full = u }
+unpublished input (Overrun shard place) front allowed some u = absurd u
+unpublished input Memory front allowed some u = tt
 
 pub err_refused : {T : Type 0} (input : ReadInput) (f : PostFault) (front : List Step) (r : Result T PostFault) → IsErrAnd r (λ e. e ≡ f) → IsRefused input f front → IfErr r (λ e. IsRefused input e front)
 err_refused input f front (Ok x) is refused = absurd is
 err_refused input f front (Err e) is refused = subst (λ (g : PostFault). IsRefused input g front) (sym is) refused
 
-pub unpublished_result : {T : Type 0} (input : ReadInput) (front : List Step) (r : Result T PostFault) → IfErr r (λ e. IsUnpublished e front) → IfErr r (λ e. IsRefused input e front)
-unpublished_result input front (Ok x) u = tt
-unpublished_result input front (Err e) u = unpublished input e front u
+pub unpublished_result : {T : Type 0} {W : Type 0} (input : ReadInput) (list : List Listed) (writer unchanged : W) (whole new : List Step) (r : Result T PostFault) → refusal_of (length list) input ≡ None → list ≡ list_of whole → 0 < length (added_by input) →
+    OnErr r ((unchanged ≡ writer) × (new ≡ whole)) → IfErr r (λ e. IsUnpublished e new) → IfErr r (λ e. IsRefused input e new)
+unpublished_result input list writer unchanged whole new (Ok x) allowed is some same u = tt
+unpublished_result input list writer unchanged whole new (Err e) allowed is some same u =
+    let there : list ≡ list_of new = is ∙ ap list_of (sym (same.1)) in
+    unpublished input e new (subst (λ (xs : List Listed). refusal_of (length xs) input ≡ None) there allowed) some u
+
+-- where it was full, and a shard is overrun
+pub overrun : (input : ReadInput) (f : PostFault) (before front : List Step) → IsPrefix before front → WasFullFor input before → IsOverrun f front → IsRefused input f front
+overrun input (Body fault) before front p was o = absurd o
+overrun input Closed before front p was o = absurd o
+overrun input BadMoment before front p was o = absurd o
+overrun input Ended before front p was o = absurd o
+overrun input (Behind first) before front p was o = absurd o
+overrun input (Overrun shard place) before front p was o =
+    (record { before = was.before; first = was.first; begins = prefix_trans was.before before front was.begins p; full = was.full }, o)
+overrun input Memory before front p was o = absurd o
+
+-- what was refused since the window is full
+pub was_full : {T : Type 0} (input : ReadInput) (first : ℕ) (front : List Step) (r : Result T PostFault) → r ≡ Err (Behind first) → IfErr r (λ e. IsRefused input e front) → WasFullFor input front
+was_full {T} input first front r is refused =
+    let full : IsFullFor input first front = subst (λ (x : Result T PostFault). IfErr x (λ e. IsRefused input e front)) is refused in
+    record { before = front; first = first; begins = prefix_self front; full = full }

@@ -1,11 +1,13 @@
 -- Why a post is refused, and how many shards stay behind.
-use Rattle.std.specs.Prelude.{ℕ, ◌+◌, ◌<◌, List}
+use Rattle.std.specs.Prelude.{ℕ, ◌≡◌, ◌+◌, ◌<◌, List}
 use Rattle.bx_entry.specs.declared.read.ReadFault.{ReadFault}
 use Rattle.bx_entry.specs.declared.read.ReadFault.TheVariants as reads
 use Rattle.bx_registry.specs.declared.plan.AdmitFault.{AdmitFault}
 use Rattle.bx_registry.specs.declared.plan.AdmitFault.TheVariants as plans
 use Rattle.bx_window.specs.declared.law.Step.{Step}
 use Rattle.bx_window.specs.Steps.{begin_of}
+use Rattle.bx_hub.specs.declared.activity.Activity.{Activity}
+use Rattle.bx_hub.specs.declared.activity.Activity.TheVariants.{Active, Paused, Closed}
 use Rattle.bx_hub.specs.declared.fault.HubFault.{HubFault}
 use Rattle.bx_hub.specs.declared.fault.HubFault.TheVariants as stops
 use Rattle.bx_hub.specs.declared.fault.Lagging.{Lagging}
@@ -27,9 +29,34 @@ of_planning plans.Memory = Memory
 abbrev pub count_of : Lagging → ℕ
 count_of l = l.memory + l.overrun + l.paused + l.closed
 
--- where a shard is overrun, the window of this front begins past the shard's place
-abbrev pub IsStopped : HubFault → List Step → Type 0
-IsStopped stops.Closed front = Unit {0}
-IsStopped stops.Paused front = Unit {0}
-IsStopped (stops.Overrun shard place) front = place < begin_of front
-IsStopped stops.Memory front = Unit {0}
+-- with one shard more, which this fault stopped
+abbrev pub one_more : HubFault → Lagging → Lagging
+one_more stops.Closed l = record l { closed = l.closed + 1 }
+one_more stops.Paused l = record l { paused = l.paused + 1 }
+one_more (stops.Overrun shard place) l = record l { overrun = l.overrun + 1 }
+one_more stops.Memory l = record l { memory = l.memory + 1 }
+
+-- where the shard of this index is overrun, it is this one that is told, and the window of this front begins past its place
+abbrev pub IsStopped : HubFault → ℕ → List Step → Type 0
+IsStopped stops.Closed index front = Unit {0}
+IsStopped stops.Paused index front = Unit {0}
+IsStopped (stops.Overrun shard place) index front = (shard ≡ index) × (place < begin_of front)
+IsStopped stops.Memory index front = Unit {0}
+
+-- a closed shard is stopped by that, a paused one by that, and one that is active by neither
+abbrev pub IsStoppedIn : Activity → HubFault → Type 0
+IsStoppedIn Closed f = f ≡ stops.Closed
+IsStoppedIn Paused f = f ≡ stops.Paused
+IsStoppedIn Active f = (f ≡ stops.Closed → ⊥) × (f ≡ stops.Paused → ⊥)
+
+-- an active shard that is paused
+abbrev pub paused : Activity → Activity
+paused Active = Paused
+paused Paused = Paused
+paused Closed = Closed
+
+-- a paused shard that is resumed
+abbrev pub resumed : Activity → Activity
+resumed Active = Active
+resumed Paused = Active
+resumed Closed = Closed

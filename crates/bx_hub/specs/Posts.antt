@@ -1,5 +1,6 @@
 -- What a post or a tick is answered, and why it is refused.
 use Rattle.std.specs.Prelude.{ℕ, ◌≡◌, ◌+◌, ◌<◌, ◌≤◌, ◌⊎◌, ◌^◌, List, length, take, drop, Some, None}
+use mathlib.Core.List.{IsPrefix}
 use Rattle.bx_admission.specs.Slots.{admitted_slots}
 use Rattle.bx_entry.specs.Inputs.{ReadInput, Unread, added_by, refusal_of}
 use Rattle.bx_entry.specs.declared.entry.Slot.{Slot}
@@ -22,16 +23,43 @@ pub record IsAdmittedAt (input : ReadInput) (first : ℕ) (old new : List Step) 
 abbrev pub AreSlotsAt : Setup → ReadInput → ℕ → List Step → List Slot → Type 0
 AreSlotsAt setup input first front slots = slots ≡ admitted_slots setup (take first (list_of front)) (added_by input)
 
+-- the window of this front has 4096 batches, the oldest of which begins at this place
+abbrev pub IsFull : ℕ → List Step → Type 0
+IsFull first front = (length (firsts_of front) ≡ 4096) × (begin_of front ≡ first) × (first + 4096 ≤ length (list_of front))
+
+-- nothing else refuses the input at the end of this front; it adds something, and the window is full
+pub record IsFullFor (input : ReadInput) (first : ℕ) (front : List Step) : Type 0 where
+  pub allowed : refusal_of (length (list_of front)) input ≡ None
+  pub some : 0 < length (added_by input)
+  pub full : IsFull first front
+
+-- so it was at a front that begins this one
+pub record WasFullFor (input : ReadInput) (front : List Step) : Type 0 where
+  pub before : List Step
+  pub first : ℕ
+  pub begins : IsPrefix before front
+  pub full : IsFullFor input first before
+
+-- some shard stands at the place that is told, and the window of this front begins past it
+abbrev pub IsOverrun : PostFault → List Step → Type 0
+IsOverrun (Body fault) front = ⊥
+IsOverrun Closed front = ⊥
+IsOverrun BadMoment front = ⊥
+IsOverrun Ended front = ⊥
+IsOverrun (Behind first) front = ⊥
+IsOverrun (Overrun shard place) front = place < begin_of front
+IsOverrun Memory front = ⊥
+
 -- Why an input is refused, by the front that the pass has then seen: its documents can't be read; its moment is above the greatest; the list, or
--- the log of its publishes and trims, has an end; the window has 4096 batches, the oldest of which begins at the place that is told; or it begins
--- past the place that is told, where a shard stands.
+-- the log of its publishes and trims, has an end; the window has 4096 batches, the oldest of which begins at the place that is told; or the window was
+-- full, and now begins past the place that is told, where a shard stands.
 abbrev pub IsRefused : ReadInput → PostFault → List Step → Type 0
 IsRefused input (Body fault) front = input ≡ Unread fault
 IsRefused input Closed front = Unit {0}
 IsRefused input BadMoment front = refusal_of (length (list_of front)) input ≡ Some refusals.BadMoment
 IsRefused input Ended front = (refusal_of (length (list_of front)) input ≡ Some refusals.Ended) ⊎ (2 ^ 62 ≤ length front)
-IsRefused input (Behind first) front = (length (firsts_of front) ≡ 4096) × (begin_of front ≡ first) × (first + 4096 ≤ length (list_of front))
-IsRefused input (Overrun shard place) front = place < begin_of front
+IsRefused input (Behind first) front = IsFullFor input first front
+IsRefused input (Overrun shard place) front = WasFullFor input front × (place < begin_of front)
 IsRefused input Memory front = Unit {0}
 
 -- Why what was planned is not published, by the same front.
@@ -40,6 +68,6 @@ IsUnpublished (Body fault) front = ⊥
 IsUnpublished Closed front = ⊥
 IsUnpublished BadMoment front = ⊥
 IsUnpublished Ended front = 2 ^ 62 ≤ length front
-IsUnpublished (Behind first) front = (length (firsts_of front) ≡ 4096) × (begin_of front ≡ first) × (first + 4096 ≤ length (list_of front))
+IsUnpublished (Behind first) front = IsFull first front
 IsUnpublished (Overrun shard place) front = ⊥
 IsUnpublished Memory front = Unit {0}

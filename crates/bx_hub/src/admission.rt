@@ -1,8 +1,8 @@
 //! What lies under the admission lock.
-ghost use Rattle.std.specs.Prelude.{◌≡◌, ◌<◌, ◌++◌, length, [], IfOk, IfErr, OnOk};
+ghost use Rattle.std.specs.Prelude.{◌≡◌, ◌<◌, ◌++◌, length, [], true, false, IfOk, IfErr, OnOk, OnErr};
 ghost use mathlib.Core.List.{IsPrefix};
 ghost use Rattle.bx_admission.specs.Ledgers.{Continues};
-ghost use Rattle.bx_entry.specs.Inputs.{Request, Tick};
+ghost use Rattle.bx_entry.specs.Inputs.{Request, Tick, added_by};
 ghost use Rattle.bx_window.specs.Steps.{list_of};
 ghost use Rattle.bx_admission.specs.Slots.{placed_by};
 ghost use Rattle.bx_hub.specs.declared.fault.PostFault.TheVariants as faults;
@@ -47,7 +47,7 @@ impl<J: Naming, R: Wait + Drop> Admission<J, R> {
     ) -> Result<Admission<J, R>, AllocError>
         requires config { config ≡ J.config }
         requires empty { writer ≡ [] }
-        ensures { IfOk result (λ a. a.writer ≡ []) }
+        ensures { IfOk result (λ a. (a.writer ≡ []) × (a.closed ≡ false)) }
     {
         Ok(Admission {
             ledger: Ledger::new(alloc, config)?,
@@ -71,6 +71,11 @@ impl<J: Naming, R: Wait + Drop> Admission<J, R> {
         ensures admitted { IfOk result (λ a. IsAdmittedAt (Request moment nonce messages.now) a.first pass.old pass.new) }
         ensures slots { IfOk result (λ a. AreSlotsAt (placed_by J.config J.config.shards J.placing) (Request moment nonce messages.now) a.first pass.new a.slots) }
         ensures refused { IfErr result (λ f. IsRefused (Request moment nonce messages.now) f pass.new) }
+        ensures grown { IfOk result (λ a. (a.first ≡ length (list_of self.old.writer)) × (list_of self.new.writer ≡ list_of self.old.writer ++ added_by (Request moment nonce messages.now)) × (pass.new ≡ self.new.writer)) }
+        ensures same { OnErr result (list_of self.new.writer ≡ list_of self.old.writer) }
+        ensures closed { IfErr result (λ f. (f ≡ faults.Closed → self.old.closed ≡ true) × (self.old.closed ≡ true → f ≡ faults.Closed)) }
+        ensures open { OnOk result (self.old.closed ≡ false) }
+        ensures kept { self.new.closed ≡ self.old.closed }
     {
         self.tell(pass)?;
         let plan = self.ledger.plan(alloc, placing, moment, nonce, messages)?;
@@ -94,6 +99,11 @@ impl<J: Naming, R: Wait + Drop> Admission<J, R> {
         ensures seen { IsPrefix pass.old pass.new }
         ensures admitted { IfOk result (λ a. IsAdmittedAt (Tick moment) a.first pass.old pass.new) }
         ensures refused { IfErr result (λ f. IsRefused (Tick moment) f pass.new) }
+        ensures grown { IfOk result (λ a. (a.first ≡ length (list_of self.old.writer)) × (list_of self.new.writer ≡ list_of self.old.writer ++ added_by (Tick moment)) × (pass.new ≡ self.new.writer)) }
+        ensures same { OnErr result (list_of self.new.writer ≡ list_of self.old.writer) }
+        ensures closed { IfErr result (λ f. (f ≡ faults.Closed → self.old.closed ≡ true) × (self.old.closed ≡ true → f ≡ faults.Closed)) }
+        ensures open { OnOk result (self.old.closed ≡ false) }
+        ensures kept { self.new.closed ≡ self.old.closed }
     {
         self.tell(pass)?;
         let plan = self.ledger.plan_tick(alloc, moment)?;
@@ -102,10 +112,10 @@ impl<J: Naming, R: Wait + Drop> Admission<J, R> {
 
     // The pass has then seen the whole list, where the hub is open.
     fn tell(&mut self, pass: &mut Note<J>) -> Result<(), PostFault>
-        ensures same { (self.new.ledger ≡ self.old.ledger) × (self.new.writer ≡ self.old.writer) }
+        ensures same { (self.new.ledger ≡ self.old.ledger) × (self.new.writer ≡ self.old.writer) × (self.new.closed ≡ self.old.closed) }
         ensures seen { IsPrefix pass.old pass.new }
-        ensures whole { OnOk result (pass.new ≡ self.new.writer) }
-        ensures refused { IfErr result (λ f. f ≡ faults.Closed) }
+        ensures whole { OnOk result ((pass.new ≡ self.new.writer) × (self.old.closed ≡ false)) }
+        ensures refused { IfErr result (λ f. (f ≡ faults.Closed) × (self.old.closed ≡ true)) }
     {
         if self.closed {
             return Err(PostFault::Closed);
@@ -128,6 +138,9 @@ impl<J: Naming, R: Wait + Drop> Admission<J, R> {
         ensures taken { IfOk result (λ a. (a ≡ record { first = plan.batch.first; slots = plan.slots })
             × (list_of pass.new ≡ list_of pass.old ++ plan.elements)) }
         ensures refused { IfErr result (λ f. IsUnpublished f pass.new) }
+        ensures same { OnErr result ((self.new.writer ≡ self.old.writer) × (pass.new ≡ pass.old)) }
+        ensures whole { pass.new ≡ self.new.writer }
+        ensures kept { self.new.closed ≡ self.old.closed }
     {
         if pass.steps() >= MOST_STEPS {
             return Err(PostFault::Ended);
@@ -156,6 +169,7 @@ impl<J: Naming, R: Wait + Drop> Admission<J, R> {
     /// Drops the batches that lie wholly below a place. Nothing is dropped where the log has no room for a step more.
     pub(crate) fn trim(&mut self, alloc: Global, place: u64) -> Result<(), AllocError>
         ensures list { list_of self.new.writer ≡ list_of self.old.writer }
+        ensures kept { self.new.closed ≡ self.old.closed }
     {
         if self.writer.tell().steps() >= MOST_STEPS {
             return Ok(());
@@ -168,7 +182,7 @@ impl<J: Naming, R: Wait + Drop> Admission<J, R> {
 
     /// No more entries.
     pub(crate) fn close(&mut self)
-        ensures { self.new.writer ≡ self.old.writer }
+        ensures { (self.new.writer ≡ self.old.writer) × (self.new.closed ≡ true) }
     {
         self.closed = true;
     }

@@ -1,5 +1,5 @@
 //! What lies under a shard's lock.
-ghost use Rattle.std.specs.Prelude.{◌≡◌, ◌+◌, ◌<◌, ◌≤◌, ◌⊎◌, [], length, take, nat_eq, true, false, Some, None, OnOk, OnErr, IfOk, IfErr, IfSome, IfNone};
+ghost use Rattle.std.specs.Prelude.{◌≡◌, ◌+◌, ◌<◌, ◌≤◌, ◌⊎◌, ◌++◌, ◌∷◌, [], length, take, nat_eq, if◌then◌else◌, is_some, true, Ok, Some, None, OnOk, IfOk, IfErr, IfSome, IfNone};
 ghost use Rattle.std.specs.Arc.{arc_value};
 ghost use mathlib.Core.List.{IsPrefix};
 ghost use Rattle.bx_connects.specs.Connects.{count_filed_below, filed_answer, watched};
@@ -10,9 +10,11 @@ ghost use Rattle.bx_shard.specs.States.{Swept, WasShut, Watched, connect_in};
 ghost use Rattle.bx_window.specs.Places.{IsOf, StandsIn};
 ghost use Rattle.bx_window.specs.Steps.{list_of};
 ghost use Rattle.bx_admission.specs.Slots.{placed_by};
-ghost use Rattle.bx_hub.specs.Faults.{IsStopped};
+ghost use Rattle.bx_hub.specs.Faults.{IsStopped, IsStoppedIn, paused, resumed};
+ghost use Rattle.bx_hub.specs.declared.activity.Activity.TheVariants.{Active, Paused, Closed};
 ghost use Rattle.bx_hub.specs.declared.fault.HubFault.TheVariants as faults;
 
+use crate::activity::Activity;
 use crate::fault::HubFault;
 use bx_advice::Config;
 use bx_connects::Watch;
@@ -34,8 +36,7 @@ pub(crate) struct Desk<J: Naming, P: Placing> {
     reader: LogReader<J>,
     note: Note<J>,
     taken: History<u64>,
-    paused: bool,
-    closed: bool,
+    activity: Activity,
     ghost learnt: { take (length note) reader ≡ note },
     ghost within: { shard.place ≤ length (list_of note) },
     ghost holds: { Holds (placed_by J.config J.config.shards J.placing) (list_of reader) taken shard.index shard.place (state P.place_of shard) } by { Prim.hlevel holds_props },
@@ -43,6 +44,8 @@ pub(crate) struct Desk<J: Naming, P: Placing> {
 
 impl<J: Naming, P: Placing> Desk<J, P> {
     ghost use Rattle.bx_hub.specs.Held.{IsLevelWithout, Stands, answer_over, held_of};
+    ghost use Rattle.bx_hub.specs.Watches.{IsBack};
+    ghost use Rattle.bx_shard.specs.Held.{swept_places};
 
     /// The shard of this index, which has applied nothing.
     pub(crate) fn new(
@@ -55,7 +58,7 @@ impl<J: Naming, P: Placing> Desk<J, P> {
         requires reader { reader ≡ [] }
         requires config { config ≡ J.config }
         requires placing { P.place_of (arc_value placing) ≡ J.placing }
-        ensures { (result.note ≡ []) × (result.shard.place ≡ 0) × (result.shard.index ≡ index) }
+        ensures { (result.note ≡ []) × (result.shard.place ≡ 0) × (result.shard.index ≡ index) × (result.activity ≡ Active) }
     {
         let note = reader.note();
         Desk {
@@ -63,8 +66,7 @@ impl<J: Naming, P: Placing> Desk<J, P> {
             reader,
             note,
             taken: History::new(),
-            paused: false,
-            closed: false,
+            activity: Activity::Active,
         }
     }
 
@@ -103,21 +105,22 @@ impl<J: Naming, P: Placing> Desk<J, P> {
         ensures told { IsPrefix note.now self.new.note }
         ensures one { (self.new.note ≡ self.old.note) ⊎ (self.new.note ≡ note.now) }
         ensures end { OnOk result (self.new.shard.place ≡ length (list_of self.new.note)) }
-        ensures stopped { IfErr result (λ f. IsStopped f self.new.reader) }
-        ensures index { self.new.shard.index ≡ self.old.shard.index }
-        ensures still { self.old.paused ≡ true → self.new.shard ≡ self.old.shard }
+        ensures stopped { IfErr result (λ f. IsStopped f self.old.shard.index self.new.reader × IsStoppedIn self.old.activity f) }
+        ensures active { OnOk result (self.old.activity ≡ Active) }
+        ensures still { (self.old.activity ≡ Active → ⊥) → self.new.shard ≡ self.old.shard }
+        ensures kept { (self.new.shard.index ≡ self.old.shard.index) × (self.new.taken ≡ self.old.taken) × (self.new.activity ≡ self.old.activity) }
     {
         self.learn(note);
-        if self.closed {
-            return Err(HubFault::Closed);
+        match self.activity {
+            Activity::Closed => Err(HubFault::Closed),
+            Activity::Paused => Err(HubFault::Paused),
+            Activity::Active => {
+                gate.before(self.index());
+                let brought = self.go_on(alloc);
+                gate.after(self.index());
+                brought
+            }
         }
-        if self.paused {
-            return Err(HubFault::Paused);
-        }
-        gate.before(self.index());
-        let brought = self.go_on(alloc);
-        gate.after(self.index());
-        brought
     }
 
     // Learns a note.
@@ -125,7 +128,7 @@ impl<J: Naming, P: Placing> Desk<J, P> {
         ensures old { IsPrefix self.old.note self.new.note }
         ensures told { IsPrefix note.now self.new.note }
         ensures one { (self.new.note ≡ self.old.note) ⊎ (self.new.note ≡ note.now) }
-        ensures same { (self.new.shard ≡ self.old.shard) × (self.new.paused ≡ self.old.paused) }
+        ensures same { (self.new.shard ≡ self.old.shard) × (self.new.taken ≡ self.old.taken) × (self.new.activity ≡ self.old.activity) }
     {
         self.reader.learn(note);
         self.note = self.note.longer(note);
@@ -135,8 +138,8 @@ impl<J: Naming, P: Placing> Desk<J, P> {
     fn go_on(&mut self, alloc: Global) -> Result<(), HubFault>
         ensures told { self.new.note ≡ self.old.note }
         ensures end { OnOk result (self.new.shard.place ≡ length (list_of self.new.note)) }
-        ensures stopped { IfErr result (λ f. IsStopped f self.new.reader) }
-        ensures index { self.new.shard.index ≡ self.old.shard.index }
+        ensures stopped { IfErr result (λ f. IsStopped f self.old.shard.index self.new.reader × IsStoppedIn Active f) }
+        ensures kept { (self.new.shard.index ≡ self.old.shard.index) × (self.new.taken ≡ self.old.taken) × (self.new.activity ≡ self.old.activity) }
     {
         let end = self.note.len();
         while self.place() < end {
@@ -149,9 +152,9 @@ impl<J: Naming, P: Placing> Desk<J, P> {
     // The batch that has the next entry.
     fn next_batch(&mut self) -> Result<Arc<Batch, Global>, HubFault>
         requires { self.old.shard.place < length (list_of self.old.note) }
-        ensures same { (self.new.note ≡ self.old.note) × (self.new.shard ≡ self.old.shard) }
+        ensures same { (self.new.note ≡ self.old.note) × (self.new.shard ≡ self.old.shard) × (self.new.taken ≡ self.old.taken) × (self.new.activity ≡ self.old.activity) }
         ensures batch { IfOk result (λ b. IsOf (arc_value b) self.new.shard.place × StandsIn J.config (list_of self.new.reader) (arc_value b)) }
-        ensures stopped { IfErr result (λ f. IsStopped f self.new.reader) }
+        ensures stopped { IfErr result (λ f. IsStopped f self.old.shard.index self.new.reader × IsStoppedIn Active f) }
     {
         let place = self.shard.place();
         match self.reader.next(place) {
@@ -173,7 +176,7 @@ impl<J: Naming, P: Placing> Desk<J, P> {
         ensures same { (self.new.note ≡ self.old.note) × (self.new.reader ≡ self.old.reader) }
         ensures onward { OnOk result (self.old.shard.place < self.new.shard.place) }
         ensures stopped { IfErr result (λ f. f ≡ faults.Memory) }
-        ensures index { self.new.shard.index ≡ self.old.shard.index }
+        ensures kept { (self.new.shard.index ≡ self.old.shard.index) × (self.new.taken ≡ self.old.taken) × (self.new.activity ≡ self.old.activity) }
     {
         let first = self.shard.place();
         let left = batch.entries.len() as u64 - (first - batch.first);
@@ -195,7 +198,7 @@ impl<J: Naming, P: Placing> Desk<J, P> {
         ensures same { (self.new.note ≡ self.old.note) × (self.new.reader ≡ self.old.reader) }
         ensures ok { OnOk result (self.new.shard.place ≡ place + 1) }
         ensures stopped { IfErr result (λ f. f ≡ faults.Memory) }
-        ensures index { self.new.shard.index ≡ self.old.shard.index }
+        ensures kept { (self.new.shard.index ≡ self.old.shard.index) × (self.new.taken ≡ self.old.taken) × (self.new.activity ≡ self.old.activity) }
     {
         // The list has an end.
         let _end = self.note.len();
@@ -209,9 +212,10 @@ impl<J: Naming, P: Placing> Desk<J, P> {
     /// longest note that was brought gives.
     pub(crate) fn take(&mut self, ticket: Ticket) -> Option<Answer>
         ensures answer { IfSome result (λ a. answer_over J.config self.old.note ticket.place ≡ Some a) }
-        ensures told { self.new.note ≡ self.old.note }
-        ensures index { self.new.shard.index ≡ self.old.shard.index }
-        ensures none { IfNone result (ticket.shard ≡ self.old.shard.index → filed_answer (connect_in (state P.place_of self.old.shard) ticket.place) ≡ None) }
+        ensures filed { result ≡ (if nat_eq ticket.shard self.old.shard.index then filed_answer (connect_in (state P.place_of self.old.shard) ticket.place) else None) }
+        ensures taken { self.new.taken ≡ (if is_some result then self.old.taken ++ ticket.place ∷ [] else self.old.taken) }
+        ensures same { (self.new.note ≡ self.old.note) × (self.new.reader ≡ self.old.reader) × (self.new.activity ≡ self.old.activity) }
+        ensures stands { (self.new.shard.index ≡ self.old.shard.index) × (self.new.shard.place ≡ self.old.shard.place) }
     {
         match self.shard.take(ticket) {
             Some(answer) => {
@@ -236,7 +240,9 @@ impl<J: Naming, P: Placing> Desk<J, P> {
         ensures seen { IsPrefix pass.old pass.new }
         ensures answer { IfOk result (λ o. IfSome o (λ a. answer_over J.config pass.new ticket.place ≡ Some a)) }
         ensures none { IfOk result (λ o. IfNone o (IsLevelWithout (placed_by J.config J.config.shards J.placing) ticket pass.new)) }
-        ensures stopped { IfErr result (λ f. IsStopped f pass.new) }
+        ensures filed { IfSome (filed_answer (connect_in (state P.place_of self.old.shard) ticket.place)) (λ a. result ≡ Ok (Some a)) }
+        ensures stopped { IfErr result (λ f. IsStopped f ticket.shard pass.new × IsStoppedIn self.old.activity f) }
+        ensures kept { (self.new.shard.index ≡ self.old.shard.index) × (self.new.activity ≡ self.old.activity) }
     {
         if let Some(answer) = self.take(ticket) {
             *pass = pass.longer(&self.note);
@@ -258,6 +264,7 @@ impl<J: Naming, P: Placing> Desk<J, P> {
     /// shard's lock is let go.
     pub(crate) fn take_wakers(&mut self, alloc: Global) -> Vec<Waker>
         ensures same { (self.new.shard ≡ self.old.shard) × (self.new.note ≡ self.old.note) × (self.new.reader ≡ self.old.reader) }
+        ensures kept { (self.new.taken ≡ self.old.taken) × (self.new.activity ≡ self.old.activity) }
     {
         self.shard.take_wakers(alloc)
     }
@@ -268,6 +275,8 @@ impl<J: Naming, P: Placing> Desk<J, P> {
             → result ≡ watched self.old.shard.is_shut waker (connect_in (state P.place_of self.old.shard) ticket.place) }
         ensures own { nat_eq ticket.shard self.old.shard.index ≡ true
             → Watched ticket.place waker (state P.place_of self.old.shard) (state P.place_of self.new.shard) }
+        ensures back { IsBack waker result }
+        ensures same { (self.new.note ≡ self.old.note) × (self.new.reader ≡ self.old.reader) × (self.new.taken ≡ self.old.taken) × (self.new.activity ≡ self.old.activity) }
     {
         self.shard.watch(ticket, waker)
     }
@@ -276,6 +285,8 @@ impl<J: Naming, P: Placing> Desk<J, P> {
     pub(crate) fn sweep(&mut self, before: u64) -> usize
         ensures swept { Swept before (state P.place_of self.old.shard) (state P.place_of self.new.shard) }
         ensures count { result ≡ count_filed_below before self.old.shard.sessions.connects }
+        ensures taken { self.new.taken ≡ self.old.taken ++ swept_places before (state P.place_of self.old.shard) }
+        ensures same { (self.new.note ≡ self.old.note) × (self.new.reader ≡ self.old.reader) × (self.new.activity ≡ self.old.activity) }
     {
         let places = History::of::<(u64, &Shard<P>), SweptPlaces>(&(before, &self.shard));
         self.taken.join(&places);
@@ -284,25 +295,31 @@ impl<J: Naming, P: Placing> Desk<J, P> {
 
     /// The shard goes no further until it is resumed.
     pub(crate) fn pause(&mut self)
-        ensures same { (self.new.shard ≡ self.old.shard) × (self.new.note ≡ self.old.note) × (self.new.reader ≡ self.old.reader) }
-        ensures paused { self.new.paused ≡ true }
+        ensures same { (self.new.shard ≡ self.old.shard) × (self.new.note ≡ self.old.note) × (self.new.reader ≡ self.old.reader) × (self.new.taken ≡ self.old.taken) }
+        ensures paused { self.new.activity ≡ paused self.old.activity }
     {
-        self.paused = true;
+        if let Activity::Active = self.activity {
+            self.activity = Activity::Paused;
+        }
     }
 
-    /// The shard may be brought up again, which the next call does that asks for it.
+    /// The shard may be brought up again, which the next call does that asks for it; a closed one stays closed.
     pub(crate) fn resume(&mut self)
-        ensures same { (self.new.shard ≡ self.old.shard) × (self.new.note ≡ self.old.note) × (self.new.reader ≡ self.old.reader) }
-        ensures paused { self.new.paused ≡ false }
+        ensures same { (self.new.shard ≡ self.old.shard) × (self.new.note ≡ self.old.note) × (self.new.reader ≡ self.old.reader) × (self.new.taken ≡ self.old.taken) }
+        ensures resumed { self.new.activity ≡ resumed self.old.activity }
     {
-        self.paused = false;
+        if let Activity::Paused = self.activity {
+            self.activity = Activity::Active;
+        }
     }
 
     /// The shard goes no further and stores no waker from here on. What is filed can still be taken.
     pub(crate) fn close(&mut self)
-        ensures { WasShut (state P.place_of self.old.shard) (state P.place_of self.new.shard) }
+        ensures shut { WasShut (state P.place_of self.old.shard) (state P.place_of self.new.shard) }
+        ensures closed { self.new.activity ≡ Closed }
+        ensures same { (self.new.note ≡ self.old.note) × (self.new.reader ≡ self.old.reader) × (self.new.taken ≡ self.old.taken) }
     {
-        self.closed = true;
+        self.activity = Activity::Closed;
         self.shard.shut();
     }
 }

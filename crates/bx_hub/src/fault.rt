@@ -1,7 +1,7 @@
 //! What posts and ticks are answered, and why the hub refuses.
 ghost use Rattle.std.specs.Prelude.{◌≡◌, ◌+◌, ◌<◌, ◌^◌};
 ghost use Rattle.bx_hub.specs.declared.fault.PostFault.TheVariants as faults;
-ghost use Rattle.bx_hub.specs.Faults.{count_of, of_planning, of_reading};
+ghost use Rattle.bx_hub.specs.Faults.{count_of, of_planning, of_reading, one_more};
 
 use bx_entry::{BodyFault, ReadFault, Slot};
 use bx_message::Sequence;
@@ -44,7 +44,7 @@ pub struct Lagging {
 impl Lagging {
     /// No shard stayed behind.
     pub fn none() -> Lagging
-        ensures { count_of result ≡ 0 }
+        ensures { result ≡ record { memory = 0; overrun = 0; paused = 0; closed = 0 } }
     {
         Lagging {
             memory: 0,
@@ -57,7 +57,8 @@ impl Lagging {
     /// One shard more, which was stopped by this fault.
     pub(crate) fn with(self, fault: HubFault) -> Lagging
         requires { count_of self + 1 < 2 ^ 64 }
-        ensures { count_of result ≡ count_of self + 1 }
+        ensures which { result ≡ one_more fault self }
+        ensures count { count_of result ≡ count_of self + 1 }
     {
         match fault {
             HubFault::Memory => Lagging {

@@ -36,13 +36,16 @@ pub struct Hub<J: Naming, P: Placing, G: Gate + Drop, R: Wait + Drop> {
     desks: Vec<Mutex<Desk<J, P>>>,
     ghost placed: { P.place_of (arc_value placing) ≡ J.placing },
     ghost started: { start ≡ [] },
+    ghost counted: { length desks.items ≡ J.config.shards },
 }
 
 impl<J: Naming, P: Placing, G: Gate + Drop, R: Wait + Drop> Hub<J, P, G, R> {
-    ghost use Rattle.bx_entry.specs.Inputs.{ReadInput, Request};
+    ghost use Rattle.bx_entry.specs.Inputs.{Request};
     ghost use Rattle.bx_entry.specs.Inputs as read;
     ghost use Rattle.bx_hub.specs.Held.{IsLevelWithout, answer_over};
-    ghost use Rattle.bx_hub.specs.Posts.{AreSlotsAt, IsAdmittedAt, IsRefused};
+    ghost use Rattle.bx_hub.specs.Posts.{AreSlotsAt, IsAdmittedAt, IsOverrun, IsRefused};
+    ghost use Rattle.bx_hub.specs.Watches.{IsBack};
+    ghost use Rattle.bx_connects.specs.declared.watch.Watch.TheVariants as watches;
 
     /// A hub over an empty list, for the configuration's number of shards.
     pub fn new(
@@ -104,7 +107,7 @@ impl<J: Naming, P: Placing, G: Gate + Drop, R: Wait + Drop> Hub<J, P, G, R> {
         ensures admitted { IfOk result (λ p. IsAdmittedAt (read_input (inputs.Post arrival.now)) p.first pass.old pass.new) }
         ensures slots { IfOk result (λ p. AreSlotsAt (placed_by J.config J.config.shards J.placing) (read_input (inputs.Post arrival.now)) p.first pass.new p.slots) }
         ensures refused { IfErr result (λ f. IsRefused (read_input (inputs.Post arrival.now)) f pass.new) }
-        ensures behind { IfOk result (λ p. count_of p.behind ≤ length self.now.desks.items) }
+        ensures behind { IfOk result (λ p. count_of p.behind ≤ J.config.shards) }
     {
         let messages = read_messages(alloc, &arrival.bodies)?;
         let Admitted { first, slots } = self.admit(
@@ -135,7 +138,7 @@ impl<J: Naming, P: Placing, G: Gate + Drop, R: Wait + Drop> Hub<J, P, G, R> {
         ensures seen { IsPrefix pass.old pass.new }
         ensures admitted { IfOk result (λ t. IsAdmittedAt (read_input (inputs.Tick moment)) t.place pass.old pass.new) }
         ensures refused { IfErr result (λ f. IsRefused (read_input (inputs.Tick moment)) f pass.new) }
-        ensures behind { IfOk result (λ t. count_of t.behind ≤ length self.now.desks.items) }
+        ensures behind { IfOk result (λ t. count_of t.behind ≤ J.config.shards) }
     {
         let Admitted { first, .. } = self.admit_tick(rt, alloc, &mut pass.front, moment)?;
         let behind = self.bring_all(rt, alloc, &pass.front);
@@ -205,7 +208,7 @@ impl<J: Naming, P: Placing, G: Gate + Drop, R: Wait + Drop> Hub<J, P, G, R> {
         pass: &mut Note<J>,
     ) -> Result<u64, PostFault>
         ensures seen { IsPrefix pass.old pass.new }
-        ensures overrun { IfErr result (λ f. (input : ReadInput) → IsRefused input f pass.new) }
+        ensures overrun { IfErr result (λ f. IsOverrun f pass.new) }
     {
         let mut least = pass.len();
         for desk in &self.desks {
@@ -229,7 +232,7 @@ impl<J: Naming, P: Placing, G: Gate + Drop, R: Wait + Drop> Hub<J, P, G, R> {
     // Brings each shard up to the note, and counts those that stayed below it. Who waited for what is answered by that is
     // woken once the shard's lock is let go.
     fn bring_all<W: Wait>(&self, rt: &W, alloc: Global, note: &Note<J>) -> Lagging
-        ensures { count_of result ≤ length self.now.desks.items }
+        ensures { count_of result ≤ J.config.shards }
     {
         let mut behind = Lagging::none();
         for desk in &self.desks {
@@ -259,9 +262,9 @@ impl<J: Naming, P: Placing, G: Gate + Drop, R: Wait + Drop> Hub<J, P, G, R> {
     ) -> Result<Option<Answer>, HubFault>
         ensures seen { IsPrefix pass.old pass.new }
         ensures answer { IfOk result (λ o. IfSome o (λ a. answer_over J.config pass.new ticket.place ≡ Some a)) }
-        ensures none { IfOk result (λ o. IfNone o ((length self.now.desks.items ≤ ticket.shard)
+        ensures none { IfOk result (λ o. IfNone o ((J.config.shards ≤ ticket.shard)
             ⊎ IsLevelWithout (placed_by J.config J.config.shards J.placing) ticket pass.new)) }
-        ensures stopped { IfErr result (λ f. IsStopped f pass.new) }
+        ensures stopped { IfErr result (λ f. IsStopped f ticket.shard pass.new) }
     {
         let Some(desk) = self.desks.get(ticket.shard) else {
             return Ok(None);
@@ -281,7 +284,10 @@ impl<J: Naming, P: Placing, G: Gate + Drop, R: Wait + Drop> Hub<J, P, G, R> {
     /// Leaves a waker beside a held connect, and gives the older one there back. Once the connect is answered, the waker is
     /// woken by the call that brought the shard up, after that has let go of the shard's lock. The waker comes back where an
     /// answer is filed, where the hub was closed, and where the ticket is of no held connect of its shard, or names no shard.
-    pub fn watch<W: Wait>(&self, rt: &W, ticket: Ticket, waker: Waker) -> Watch {
+    pub fn watch<W: Wait>(&self, rt: &W, ticket: Ticket, waker: Waker) -> Watch
+        ensures back { IsBack waker result }
+        ensures unknown { J.config.shards ≤ ticket.shard → result ≡ watches.Unknown waker }
+    {
         match self.desks.get(ticket.shard) {
             Some(desk) => desk.lock(rt).watch(ticket, waker),
             None => Watch::Unknown(waker),
@@ -300,7 +306,7 @@ impl<J: Naming, P: Placing, G: Gate + Drop, R: Wait + Drop> Hub<J, P, G, R> {
     /// Lets a shard stand still: it applies nothing more until it is resumed, and its place keeps the batches behind it in the
     /// window. False where no shard has this index, and then nothing changes.
     pub fn pause<W: Wait>(&self, rt: &W, shard: usize) -> bool
-        ensures { result ≡ nat_lt shard (length self.now.desks.items) }
+        ensures { result ≡ nat_lt shard J.config.shards }
     {
         match self.desks.get(shard) {
             Some(desk) => {
@@ -314,7 +320,7 @@ impl<J: Naming, P: Placing, G: Gate + Drop, R: Wait + Drop> Hub<J, P, G, R> {
     /// Lets a shard go on, which it does with the next post, tick or question for an answer. False where no shard has this
     /// index, and then nothing changes.
     pub fn resume<W: Wait>(&self, rt: &W, shard: usize) -> bool
-        ensures { result ≡ nat_lt shard (length self.now.desks.items) }
+        ensures { result ≡ nat_lt shard J.config.shards }
     {
         match self.desks.get(shard) {
             Some(desk) => {

@@ -2,6 +2,7 @@
 //! window, and one round each shard.
 #![tactic(auto)]
 
+mod activity;
 mod admission;
 mod desk;
 mod fault;

@@ -1,14 +1,14 @@
-use Rattle.std.proofs.Common.{◌≡◌, ℕ, ◌+◌, ◌++◌, [], ◌∙◌, List, length, sym, ap, subst, arith, append-nil}
+use Rattle.std.proofs.Common.{◌≡◌, ℕ, ◌+◌, ◌<◌, ◌++◌, [], ◌∙◌, List, length, sym, ap, subst, arith, append-nil}
 use Rattle.std.proofs.lemmas.Result.{IfOk-weaker}
 use Rattle.bx_admission.proofs.Faults.{planned_taken}
 use Rattle.bx_admission.specs.Slots.{placed_by}
-use Rattle.bx_entry.specs.Inputs.{ReadInput, Request}
+use Rattle.bx_entry.specs.Inputs.{ReadInput, Request, added_by}
 use Rattle.bx_entry.specs.Listing.{Listed}
 use Rattle.bx_registry.proofs.Planning.{length-listed}
 use Rattle.bx_window.specs.Steps.{list_of}
 use Rattle.bx_hub.specs.Posts.{AreSlotsAt, IsAdmittedAt}
 use Rattle.bx_hub.specs.declared.admission.Admitted.{Admitted}
-use Rattle.bx_hub.proofs.Posts.{IsSlotted, admitted_by, none_added, slots_by}
+use Rattle.bx_hub.proofs.Posts.{IsSlotted, admitted_by, none_added, slots_by, unpublished_result}
 use Rattle.bx_hub.proofs.admission.Admission.post.Goals as goal
 
 pub publish-requires-clause-some : goal.publish-requires-clause-some
@@ -23,7 +23,7 @@ returns-then-count-eq0-clause-admitted g c =
     let input : ReadInput = Request c.args.moment c.args.nonce c.args.messages.now in
     let many = ap (λ (xs : List Listed). length xs) c.in_ok-plan.ensures.elements ∙ length-listed c.args.moment c.args.nonce _ _ c.args.messages.now in
     let none : p.elements ≡ [] = none_added p.elements (omega (arith, many, c.if-count-eq0.true)) in
-    let is : d.ledger.list ≡ list_of c.tell.new.pass = d.listed ∙ ap list_of (sym c.in_ok-tell.ensures.whole) in
+    let is : d.ledger.list ≡ list_of c.tell.new.pass = d.listed ∙ ap list_of (sym c.in_ok-tell.ensures.whole.0) in
     let same : list_of c.tell.new.pass ≡ list_of c.tell.new.pass ++ p.elements = sym (append-nil (list_of c.tell.new.pass)) ∙ ap (λ (xs : List Listed). list_of c.tell.new.pass ++ xs) (sym none) in
     admitted_by input d.ledger p c.args.pass.now c.tell.new.pass c.tell.new.pass is c.in_ok-plan.ensures.continues c.in_ok-plan.ensures.elements
     (planned_taken c.args.moment (length d.ledger.list + length c.args.messages.now) c.plan.result p c.in_ok-plan.was c.plan.ensures.fault) c.tell.ensures.seen same
@@ -34,7 +34,7 @@ returns-clause-admitted g c =
     let p = c.in_ok-plan.plan in
     let new = c.publish.new.pass in
     let input : ReadInput = Request c.args.moment c.args.nonce c.args.messages.now in
-    let is : d.ledger.list ≡ list_of c.tell.new.pass = d.listed ∙ ap list_of (sym c.in_ok-tell.ensures.whole) in
+    let is : d.ledger.list ≡ list_of c.tell.new.pass = d.listed ∙ ap list_of (sym c.in_ok-tell.ensures.whole.0) in
     let allowed = planned_taken c.args.moment (length d.ledger.list + length c.args.messages.now) c.plan.result p c.in_ok-plan.was c.plan.ensures.fault in
     IfOk-weaker c.publish.result (λ a. (a ≡ record { first = p.batch.first; slots = p.slots }) × (list_of new ≡ list_of c.tell.new.pass ++ p.elements)) (λ a. IsAdmittedAt input a.first c.args.pass.now new)
     (λ a t. subst (λ (n : ℕ). IsAdmittedAt input n c.args.pass.now new) (ap (λ (x : Admitted). x.first) (sym t.0))
@@ -48,8 +48,19 @@ returns-clause-slots g c =
     let config = g.J.Naming.config in
     let placing : ℕ → ℕ → ℕ = g.J.Naming.placing in
     let input : ReadInput = Request c.args.moment c.args.nonce c.args.messages.now in
-    let is : d.ledger.list ≡ list_of c.tell.new.pass = d.listed ∙ ap list_of (sym c.in_ok-tell.ensures.whole) in
+    let is : d.ledger.list ≡ list_of c.tell.new.pass = d.listed ∙ ap list_of (sym c.in_ok-tell.ensures.whole.0) in
     let slots = subst (λ (f : ℕ → ℕ → ℕ). IsSlotted f d.ledger p) c.requires.placing c.in_ok-plan.ensures.slots in
     IfOk-weaker c.publish.result (λ a. (a ≡ record { first = p.batch.first; slots = p.slots }) × (list_of new ≡ list_of c.tell.new.pass ++ p.elements)) (λ a. AreSlotsAt (placed_by config config.shards placing) input a.first new a.slots)
     (λ a t. subst (λ (x : Admitted). AreSlotsAt (placed_by config config.shards placing) input x.first new x.slots) (sym t.0)
     (slots_by placing config input d.ledger p c.tell.new.pass new d.config d.counted is c.in_ok-plan.ensures.continues.first slots c.in_ok-plan.ensures.elements t.1)) c.publish.ensures.taken
+
+pub returns-clause-refused : goal.returns-clause-refused
+returns-clause-refused g c =
+    let d = c.tell.new.self in
+    let p = c.in_ok-plan.plan in
+    let input : ReadInput = Request c.args.moment c.args.nonce c.args.messages.now in
+    let is : d.ledger.list ≡ list_of c.tell.new.pass = d.listed ∙ ap list_of (sym c.in_ok-tell.ensures.whole.0) in
+    let allowed = planned_taken c.args.moment (length d.ledger.list + length c.args.messages.now) c.plan.result p c.in_ok-plan.was c.plan.ensures.fault in
+    let many = ap (λ (xs : List Listed). length xs) c.in_ok-plan.ensures.elements ∙ length-listed c.args.moment c.args.nonce _ _ c.args.messages.now in
+    let some : 0 < length (added_by input) = subst (λ (xs : List Listed). 0 < length xs) c.in_ok-plan.ensures.elements (omega (arith, many, c.if-count-eq0.false)) in
+    unpublished_result input d.ledger.list d.writer c.publish.new.self.writer c.tell.new.pass c.publish.new.pass c.publish.result allowed is some c.publish.ensures.same c.publish.ensures.refused

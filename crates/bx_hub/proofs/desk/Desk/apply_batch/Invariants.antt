@@ -4,6 +4,7 @@ use Rattle.bx_hub.proofs.desk.Desk.apply_batch.Given as goal
 abbrev pub invariant-loop-place : goal.invariant-loop-place
 invariant-loop-place g l =
     (l.self.note ≡ l.initial.self.note) × (l.self.reader ≡ l.initial.self.reader) × (l.self.shard.index ≡ l.initial.self.shard.index)
+    × (l.self.taken ≡ l.initial.self.taken) × (l.self.activity ≡ l.initial.self.activity)
     × (l.place ≡ l.self.shard.place) × (l.first ≤ l.place) × (l.place ≤ l.last)
 
 abbrev pub decreases-loop-place : goal.decreases-loop-place

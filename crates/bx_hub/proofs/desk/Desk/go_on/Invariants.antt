@@ -4,6 +4,7 @@ use Rattle.bx_hub.proofs.desk.Desk.go_on.Given as goal
 
 abbrev pub invariant-loop-alloc : goal.invariant-loop-alloc
 invariant-loop-alloc g l = (l.self.note ≡ l.initial.self.note) × (l.self.shard.place ≤ l.end) × (l.self.shard.index ≡ l.initial.self.shard.index)
+    × (l.self.taken ≡ l.initial.self.taken) × (l.self.activity ≡ l.initial.self.activity)
 
 abbrev pub decreases-loop-alloc : goal.decreases-loop-alloc
 decreases-loop-alloc g l = l.end - l.self.shard.place

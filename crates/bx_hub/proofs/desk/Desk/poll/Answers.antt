@@ -10,4 +10,4 @@ returns-in-Ok-clause-none g c =
     let setup = placed_by g.J.Naming.config g.J.Naming.config.shards g.J.Naming.placing in
     let st = state g.P.Placing.place_of d.shard in
     let s = stands_of setup d.reader d.note d.taken st d.learnt d.within d.holds in
-    level_without setup (held d.reader d.note d.taken st) c.args.ticket c.again.result c.take-in-Ok.result c.take-in-Ok.ensures.none (c.requires ∙ sym (c.bring.ensures.index ∙ c.take.ensures.index)) s (sym c.again.ensures) c.in-Ok.ensures.end
+    level_without setup (held d.reader d.note d.taken st) c.args.ticket c.again.result c.take-in-Ok.result c.take-in-Ok.ensures.filed (c.requires ∙ sym (c.bring.ensures.kept.0 ∙ c.take.ensures.stands.0)) s (sym c.again.ensures) c.in-Ok.ensures.end
