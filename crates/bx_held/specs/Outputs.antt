@@ -19,20 +19,20 @@ of_hub stops.Paused = Paused
 of_hub (stops.Overrun shard place) = Overrun shard place
 of_hub stops.Memory = Memory
 
--- the ticket names none of so many shards, or the shard that it names was at the end of this front and had filed no answer to the ticket's connect
-abbrev pub HasNone : Setup → ℕ → Ticket → List Step → Type 0
-HasNone setup count ticket front = (count ≤ ticket.shard) ⊎ IsLevelWithout setup ticket front
+-- the ticket names no shard, or the shard that it names was at the end of this front and had filed no answer to the ticket's connect
+abbrev pub HasNone : Setup → Ticket → List Step → Type 0
+HasNone setup ticket front = (setup.shards ≤ ticket.shard) ⊎ IsLevelWithout setup ticket front
 
 -- The output for a ticket, by a front of the list: an answer is what one thread gives over that front; where nothing is known of the ticket, it has
--- none; where a shard is overrun, the window of that front begins past the shard's place.
-abbrev pub IsGiven : Setup → ℕ → Ticket → List Step → Result Answer HeldFault → Type 0
-IsGiven setup count ticket front (Ok a) = answer_over setup.config front ticket.place ≡ Some a
-IsGiven setup count ticket front (Err Unknown) = HasNone setup count ticket front
-IsGiven setup count ticket front (Err Closed) = Unit {0}
-IsGiven setup count ticket front (Err Paused) = Unit {0}
-IsGiven setup count ticket front (Err (Overrun shard place)) = place < begin_of front
-IsGiven setup count ticket front (Err Memory) = Unit {0}
+-- none; where a shard is overrun, it is that of the ticket, and the window of that front begins past its place.
+abbrev pub IsGiven : Setup → Ticket → List Step → Result Answer HeldFault → Type 0
+IsGiven setup ticket front (Ok a) = answer_over setup.config front ticket.place ≡ Some a
+IsGiven setup ticket front (Err Unknown) = HasNone setup ticket front
+IsGiven setup ticket front (Err Closed) = Unit {0}
+IsGiven setup ticket front (Err Paused) = Unit {0}
+IsGiven setup ticket front (Err (Overrun shard place)) = (shard ≡ ticket.shard) × (place < begin_of front)
+IsGiven setup ticket front (Err Memory) = Unit {0}
 
 -- the output of one that has given none yet, by some front that begins with what was seen
-abbrev pub MayGive : Setup → ℕ → Ticket → List Step → Bool → Result Answer HeldFault → Type 0
-MayGive setup count ticket seen is_done output = is_done ≡ false → (front : List Step) × IsPrefix seen front × IsGiven setup count ticket front output
+abbrev pub MayGive : Setup → Ticket → List Step → Bool → Result Answer HeldFault → Type 0
+MayGive setup ticket seen is_done output = is_done ≡ false → (front : List Step) × IsPrefix seen front × IsGiven setup ticket front output

@@ -4,7 +4,6 @@ ghost use mathlib.Core.List.{IsPrefix};
 ghost use Rattle.futures.specs.Poll.{IfReady, OnPending};
 ghost use Rattle.futures.specs.Task.{Covers, Keeps};
 ghost use Rattle.futures.specs.declared.task.Poll.TheVariants as polls;
-ghost use Rattle.std.specs.Arc.{arc_value};
 ghost use Rattle.bx_admission.specs.Slots.{placed_by};
 ghost use Rattle.bx_window.specs.Steps.{list_of};
 ghost use Rattle.bx_held.specs.Outputs.{HasNone, IsGiven, MayGive};
@@ -77,9 +76,9 @@ impl<J: Naming, P: Placing, G: Gate + Drop, H: Wait + Drop, R: Wait + Drop> Held
     fn ask(&mut self) -> Option<Result<Answer, HeldFault>>
         ensures seen { IsPrefix self.old.pass self.new.pass }
         ensures same { (self.new.ticket ≡ self.old.ticket) × (self.new.source ≡ self.old.source) × (self.new.hub ≡ self.old.hub) }
-        ensures given { IfSome result (IsGiven (placed_by J.config J.config.shards J.placing) (length (arc_value self.new.hub).desks.items) self.new.ticket self.new.pass) }
+        ensures given { IfSome result (IsGiven (placed_by J.config J.config.shards J.placing) self.new.ticket self.new.pass) }
         ensures done { IfSome result (λ _. self.new.is_done ≡ true) }
-        ensures none { IfNone result (HasNone (placed_by J.config J.config.shards J.placing) (length (arc_value self.new.hub).desks.items) self.new.ticket self.new.pass) }
+        ensures none { IfNone result (HasNone (placed_by J.config J.config.shards J.placing) self.new.ticket self.new.pass) }
         ensures pending { IfNone result (self.new.is_done ≡ self.old.is_done) }
     {
         match self
@@ -105,18 +104,18 @@ impl<J: Naming, P: Placing + Drop, G: Gate + Drop, H: Wait + Drop, R: Wait + Dro
 
     ghost needs = { λ held s. s ≡ held.source.id };
 
-    ghost gives = { λ held. MayGive (placed_by J.config J.config.shards J.placing) (length (arc_value held.hub).desks.items) held.ticket held.pass held.is_done };
+    ghost gives = { λ held. MayGive (placed_by J.config J.config.shards J.placing) held.ticket held.pass held.is_done };
 
     fn poll(&mut self, cx: &mut Context<'_>) -> Poll<Result<Answer, HeldFault>>
-        ensures value { IfReady result (MayGive (placed_by J.config J.config.shards J.placing) (length (arc_value self.old.hub).desks.items) self.old.ticket self.old.pass self.old.is_done) }
+        ensures value { IfReady result (MayGive (placed_by J.config J.config.shards J.placing) self.old.ticket self.old.pass self.old.is_done) }
         ensures again { OnPending result ⊤ }
         ensures same { OnPending result ((output : Result Answer HeldFault)
-            → MayGive (placed_by J.config J.config.shards J.placing) (length (arc_value self.new.hub).desks.items) self.new.ticket self.new.pass self.new.is_done output
-            → MayGive (placed_by J.config J.config.shards J.placing) (length (arc_value self.old.hub).desks.items) self.old.ticket self.old.pass self.old.is_done output) }
+            → MayGive (placed_by J.config J.config.shards J.placing) self.new.ticket self.new.pass self.new.is_done output
+            → MayGive (placed_by J.config J.config.shards J.placing) self.old.ticket self.old.pass self.old.is_done output) }
         ensures registered { OnPending result (Covers cx.new (λ s. s ≡ self.new.source.id)) }
         ensures kept { Keeps cx.old cx.new }
         ensures seen { IsPrefix self.old.pass self.new.pass }
-        ensures given { self.old.is_done ≡ false → IfReady result (IsGiven (placed_by J.config J.config.shards J.placing) (length (arc_value self.new.hub).desks.items) self.new.ticket self.new.pass) }
+        ensures given { self.old.is_done ≡ false → IfReady result (IsGiven (placed_by J.config J.config.shards J.placing) self.new.ticket self.new.pass) }
         ensures done { IfReady result (λ _. self.new.is_done ≡ true) }
         ensures pending { OnPending result (self.new.is_done ≡ false) }
         ensures after { self.old.is_done ≡ true → result ≡ polls.Ready (Err faults.Unknown) }

@@ -127,7 +127,7 @@ impl<J: Naming, P: Placing, G: Gate + Drop, R: Wait + Drop> Hub<J, P, G, R> {
     }
 
     /// Takes a tick of the clock into the list; its moment is in milliseconds. It brings each shard up, and is refused as a
-    /// request with one message is.
+    /// request with one message is. The window then lets go of what all shards had passed before.
     pub fn tick<W: Wait>(
         &self,
         rt: &W,
@@ -188,6 +188,8 @@ impl<J: Naming, P: Placing, G: Gate + Drop, R: Wait + Drop> Hub<J, P, G, R> {
         ensures refused { IfErr result (λ f. IsRefused (read.Tick moment) f pass.new) }
     {
         let mut admission = self.admission.lock(rt);
+        // What all shards have passed is kept no longer than to the next tick. Where there is no memory, the one after does it.
+        let _ = admission.trim(alloc, self.least_place(rt));
         match admission.tick(alloc, pass, moment) {
             Ok(admitted) => Ok(admitted),
             Err(PostFault::Behind { .. }) => {
@@ -197,6 +199,15 @@ impl<J: Naming, P: Placing, G: Gate + Drop, R: Wait + Drop> Hub<J, P, G, R> {
             }
             Err(fault) => Err(fault),
         }
+    }
+
+    // The least place where a shard stands.
+    fn least_place<W: Wait>(&self, rt: &W) -> u64 {
+        let mut least = u64::MAX;
+        for desk in &self.desks {
+            least = least.min(desk.lock(rt).place());
+        }
+        least
     }
 
     // Brings each shard up to the end of what was seen, and tells the least place where one stands. Who waited for what is

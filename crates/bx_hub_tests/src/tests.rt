@@ -115,6 +115,41 @@ fn sweeps_all<J: Naming, P: Placing, G: Gate + Drop, H: Wait + Drop, R: Wait + A
     Ok(())
 }
 
+// A tick at the start of which the window lets go of all that stands below this place.
+fn lets_go<J: Naming, P: Placing, G: Gate + Drop, H: Wait + Drop, R: Wait + Abort>(
+    rt: &R,
+    alloc: Global,
+    hub: &Hub<J, P, G, H>,
+    pass: &mut Pass<J>,
+    begin: u64,
+) -> Result<(), Fail> {
+    hub.tick(rt, alloc, pass, 0).map_err(|_| "no tick")?;
+    assert_eq!(rt; pass.note().begin(), begin);
+    Ok(())
+}
+
+// The window keeps from one tick to the next what all shards have passed, and longer what a paused shard lacks.
+fn lets_go_of_all<J: Naming, P: Placing, G: Gate + Drop, H: Wait + Drop, R: Wait + Abort>(
+    rt: &R,
+    alloc: Global,
+    hub: &Hub<J, P, G, H>,
+    pass: &mut Pass<J>,
+) -> Result<(), Fail> {
+    for _ in 0..3 {
+        post(rt, alloc, hub, pass, HANDSHAKE).map_err(|_| "refused")?;
+    }
+    assert_eq!(rt; pass.note().begin(), 0);
+    lets_go(rt, alloc, hub, pass, 3)?;
+    lets_go(rt, alloc, hub, pass, 4)?;
+    assert!(rt; hub.pause(rt, 0));
+    lets_go(rt, alloc, hub, pass, 5)?;
+    lets_go(rt, alloc, hub, pass, 5)?;
+    assert!(rt; hub.resume(rt, 0));
+    lets_go(rt, alloc, hub, pass, 5)?;
+    lets_go(rt, alloc, hub, pass, 8)?;
+    Ok(())
+}
+
 // What a closed hub refuses, and what it still gives.
 fn closed<J: Naming, P: Placing, G: Gate + Drop, H: Wait + Drop, R: Wait + Abort>(
     rt: &R,
@@ -163,6 +198,7 @@ enum Case {
     Answers,
     Sweeps,
     SweepsAll,
+    LetsGo,
     Closed,
 }
 
@@ -188,6 +224,7 @@ fn ask<J: Naming, R: Wait + Abort>(
         Case::Answers => answers(rt, alloc, &hub, &mut pass),
         Case::Sweeps => sweeps(rt, alloc, &hub, &mut pass),
         Case::SweepsAll => sweeps_all(rt, alloc, &hub, &mut pass),
+        Case::LetsGo => lets_go_of_all(rt, alloc, &hub, &mut pass),
         Case::Closed => closed(rt, alloc, &hub, &mut pass),
     }
 }
@@ -201,6 +238,7 @@ fn one_thread(rt: HostRuntime) -> Result<(), Fail> {
         Case::Answers,
         Case::Sweeps,
         Case::SweepsAll,
+        Case::LetsGo,
         Case::Closed,
     ] {
         let placing = Arc::new(alloc, ByRemainder)?;

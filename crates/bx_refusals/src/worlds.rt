@@ -1,0 +1,69 @@
+//! Two shards that one worker brings up.
+use crate::requests::{CONNECT, HANDSHAKE, PUBLISH, SUBSCRIBE, arrival, text_of};
+use crate::unlike::Unlike;
+use bx_advice::Config;
+use bx_entry::{ByRemainder, Slot, Ticket};
+use bx_workers::OpenGate;
+use bx_world::{AdmissionFault, Admitted, Applied, World};
+use std::alloc::Global;
+use std::sync::Arc;
+use std::thread::Threads;
+
+const SHARDS: usize = 2;
+
+/// Two sessions, of which one subscribes and connects and the other publishes: once all is admitted, one worker brings the
+/// shards up. Says how the connect is answered.
+pub fn run<R: Threads + Sync>(rt: &R, alloc: Global) -> Result<String, Unlike> {
+    let config = Config::new(SHARDS, 30_000, 0, 10_000).ok_or(Unlike::Wrong("no configuration"))?;
+    let placing = Arc::new(alloc, ByRemainder)?;
+    let mut world = World::new(alloc, config, placing)?;
+    let mut connect = None;
+    for body in [HANDSHAKE, HANDSHAKE, SUBSCRIBE, CONNECT, PUBLISH] {
+        let admitted = admit(alloc, &mut world, body)?;
+        connect = connect.or(ticket_of(admitted));
+    }
+    bring_up(rt, alloc, &mut world)?;
+    let ticket = connect.ok_or(Unlike::Wrong("no connect"))?;
+    let answer = world.take(ticket).ok_or(Unlike::Wrong("no answer"))?;
+    text_of(alloc, answer)
+}
+
+fn ticket_of(admitted: Admitted) -> Option<Ticket> {
+    for slot in admitted.slots.into_vec() {
+        if let Slot::Waiting(ticket) = slot {
+            return Some(ticket);
+        }
+    }
+    None
+}
+
+// Admits a request, once more where memory was refused.
+fn admit(alloc: Global, world: &mut World<ByRemainder>, body: &str) -> Result<Admitted, Unlike> {
+    let arrival = arrival(alloc, body)?;
+    let admitted = match world.admit(alloc, &arrival) {
+        Err(AdmissionFault::Memory) => world.admit(alloc, &arrival),
+        admitted => admitted,
+    };
+    admitted.map_err(|_| Unlike::Wrong("not admitted"))
+}
+
+// Brings the shards up, once more where one was refused memory and the other one alone has come to the end.
+fn bring_up<R: Threads + Sync>(
+    rt: &R,
+    alloc: Global,
+    world: &mut World<ByRemainder>,
+) -> Result<(), Unlike> {
+    if world.bring_up(rt, alloc, &OpenGate, 1) == 0 {
+        return Ok(());
+    }
+    let mut level = 0usize;
+    for shard in 0..SHARDS {
+        if world.apply(alloc, shard) == Applied::Level {
+            level += 1;
+        }
+    }
+    if level == 1 && world.bring_up(rt, alloc, &OpenGate, 1) == 0 {
+        return Ok(());
+    }
+    Err(Unlike::Wrong("shards stay behind"))
+}
