@@ -1,0 +1,276 @@
+"""Documents, right and broken, and what a daemon has to answer to them, as Python's own JSON reads them."""
+import json
+import re
+import urllib.parse
+
+from daemon import Wrong, post
+
+DEPTH = 127
+MESSAGES = 256
+LIMIT = 1 << 20
+# A longer line of a request is refused by the library that reads heads, with status 414.
+HEAD = 60000
+ERROR = re.compile(r"[0-9]{3}::.+")
+NAME = re.compile(r"[A-Za-z0-9_$.\-\[\]]{1,256}")
+CHANNELS = [
+    *("/meta/handshake", "/meta/connect", "/meta/subscribe", "/meta/unsubscribe", "/meta/disconnect"),
+    *("/a/b", "/a/b/c", "/a", "/service/x", "/meta/x", "/meta", "/", "", "a", "/a//b", "/a/", "/a/*", "/a/**", "/a b"),
+    *("/\u00e9/\U0001f600", "/a\u0000", "/" + "a" * 255, "/" + "a" * 256, "/a" * 32, "/a" * 33, "/\u2028", "/a\\\"b"),
+]
+VALUES = [None, True, False, 0, -0.0, 7, -1, 2**63, 2**64, 1e300, 1.5, "", "x", "\u2028\u2029", "\u0000", [], {}, [[1], {"a": []}]]
+TOKENS = [
+    *(b'"', b"\\", b"{", b"}", b"[", b"]", b",", b":", b"\\u0000", b"\\ud800", b"\\udc00\\ud800", b"\\ud83d\\ude00", b"\xff"),
+    *(b"\x00", b"\xc0\x80", b"\xed\xa0\x80", b"\xf4\x90\x80\x80", b"\xef\xbb\xbf", b"1e999", b"-1e999", b"-0", b"01", b"1.", b".5"),
+    *(b"NaN", b"Infinity", b"true", b"nul", b"9" * 400, b"1e-999", b"\n", b"\x1f", b"\x7f", b"\xc2\xa0", b"//", b'"a":1', b"[" * 200),
+]
+
+
+class Refused(Exception):
+    """The document is none."""
+
+
+def number(text, kind):
+    """Returns a number as the daemon reads it, which takes none past the range of a double."""
+    if float(text) in (float("inf"), float("-inf")):
+        raise Refused(text[:20])
+    return kind(text)
+
+
+def refuse(text):
+    """Refuses what JSON does not have."""
+    raise Refused(text)
+
+
+def members(pairs):
+    """Returns an object of these members, each of whose texts has to be one of Unicode, also where a later one hides it."""
+    json.dumps(pairs, ensure_ascii=False).encode("utf-8")
+    return dict(pairs)
+
+
+def depth(text):
+    """Returns how deep the brackets of a text of JSON are nested."""
+    now = most = 0
+    for found in re.finditer(r'"(?:[^"\\]|\\.)*"|[\[{]|[\]}]', text, re.DOTALL):
+        now += {"[": 1, "{": 1, "]": -1, "}": -1}.get(found[0], 0)
+        most = max(most, now)
+    return most
+
+
+def messages_of(body):
+    """Returns the messages of a document; none where it is refused."""
+    try:
+        text = body.decode("utf-8")
+        kinds = {"parse_float": lambda it: number(it, float), "parse_int": lambda it: number(it, int)}
+        read = json.loads(text, parse_constant=refuse, object_pairs_hook=members, **kinds)
+        json.dumps(read, ensure_ascii=False).encode("utf-8")
+    except (ValueError, RecursionError, Refused):
+        return None
+    found = [read] if isinstance(read, dict) else read
+    if depth(text) > DEPTH or not isinstance(found, list) or not all(isinstance(it, dict) for it in found):
+        return None
+    if len(found) > MESSAGES or not all(isinstance(it.get("channel"), str) for it in found):
+        return None
+    return found
+
+
+def joined(bodies):
+    """Returns the messages of all documents; none where one is refused, or they are too many."""
+    found = [messages_of(body) for body in bodies]
+    if None in found or sum(len(it) for it in found) > MESSAGES:
+        return None
+    return [message for part in found for message in part]
+
+
+def check_reply(message, reply):
+    """Raises where this is no reply to the message."""
+    wanted = message.get("id")
+    is_repeated = isinstance(wanted, (str, int, float)) and not isinstance(wanted, bool)
+    if reply["channel"] != message["channel"] or ("id" in reply) != is_repeated or (is_repeated and reply["id"] != wanted):
+        raise Wrong(f"reply {reply} to message {message}")
+    if reply["successful"] is True:
+        if "error" in reply:
+            raise Wrong(f"an error in a success: {reply}")
+    elif reply["successful"] is not False or not ERROR.fullmatch(reply["error"]):
+        raise Wrong(f"no error in {reply}")
+
+
+def check_items(messages, items):
+    """Raises where these are not the replies to the messages, in order, with events between them."""
+    replies = [item for item in items if "successful" in item]
+    if len(replies) != len(messages):
+        raise Wrong(f"{len(replies)} replies to {len(messages)} messages")
+    for message, reply in zip(messages, replies):
+        check_reply(message, reply)
+    for event in items:
+        if "successful" not in event and not {"channel", "data"} <= set(event) <= {"channel", "data", "id"}:
+            raise Wrong(f"no event: {event}")
+
+
+def check_status(response, wanted):
+    """Raises where the status is another one, or a refusal has a body."""
+    if response.status != wanted:
+        raise Wrong(f"status {response.status} and not {wanted}")
+    if wanted != 200 and response.body:
+        raise Wrong(f"a body with status {wanted}: {response.body[:200]!r}")
+
+
+def check_post(messages, response):
+    """Raises where this is not the response to a POST of these messages."""
+    check_status(response, 400 if messages is None else 200)
+    if messages is not None:
+        if response.fields[b"content-type"] != b"application/json;charset=UTF-8":
+            raise Wrong(f"content type {response.fields}")
+        check_items(messages, response.items())
+
+
+def check_call(name, messages, response):
+    """Raises where this is not the call of the callback with the answers to these messages."""
+    is_taken = messages is not None and NAME.fullmatch(name)
+    check_status(response, 200 if is_taken else 400)
+    if is_taken:
+        head, tail = name.encode() + b"(", b")"
+        body = response.body
+        if response.fields[b"content-type"] != b"application/javascript;charset=UTF-8" or not body.startswith(head):
+            raise Wrong(f"no script: {response.fields} {body[:200]!r}")
+        check_items(messages, json.loads(body[len(head) : body.rindex(tail)]))
+
+
+def message(random, clients, wrong=0.2):
+    """Returns a message, of which with this probability a member is replaced by any value."""
+    channel = random.choice(CHANNELS[: random.choice((5, 9, len(CHANNELS)))])
+    made = {"channel": channel, "clientId": random.choice(clients)}
+    if channel == "/meta/handshake":
+        made.update(version="1.0", supportedConnectionTypes=["long-polling", "callback-polling"])
+        made["ext"] = {"ack": random.choice([True, False, None])}
+    elif channel == "/meta/connect":
+        made.update(connectionType="long-polling", advice={"timeout": random.choice([0, 0, 0, 1, 20])})
+        made["ext"] = {"ack": random.choice([0, 1, 2, 2**64, -1, "1", 1.0])}
+    elif channel in ("/meta/subscribe", "/meta/unsubscribe"):
+        made["subscription"] = random.choice(["/a/b", "/a/*", "/a/**", "/**", "/*", "/service/**", "/meta/*", "/x*", ["/a/b", "/c"]])
+    else:
+        made["data"] = random.choice(VALUES)
+    if random.random() < 0.5:
+        made["id"] = random.choice(VALUES)
+    if random.random() < wrong:
+        made[random.choice(list(made))] = random.choice(VALUES)
+    return made
+
+
+def nested(random, levels):
+    """Returns a text of JSON that is nested so deep."""
+    kinds = [random.random() < random.choice((0.0, 0.5, 1.0)) for _ in range(levels)]
+    return "".join('{"a":' if it else "[" for it in kinds) + "1" + "".join("}" if it else "]" for it in reversed(kinds))
+
+
+def document(random, clients):
+    """Returns a document that is mostly right."""
+    count = random.choice((0, 1, 1, 1, 1, 2, 3, 5, 9))
+    if random.random() < 0.005:
+        count = random.choice((64, 256, 257))
+    made = [message(random, clients, 0.2 if count < 10 else 0.0) for _ in range(count)]
+    text = json.dumps(made[0] if len(made) == 1 and random.random() < 0.5 else made, ensure_ascii=random.random() < 0.5)
+    return text.encode("utf-8", "replace")
+
+
+def broken(random, body):
+    """Returns the document with a few bytes changed, some of them to what means something to JSON."""
+    made = bytearray(body)
+    for _ in range(random.choice((1, 1, 1, 2, 3, 8))):
+        at, end = sorted((random.randrange(len(made) + 1), random.randrange(len(made) + 1)))
+        way = random.randrange(7)
+        if way == 0 and made:
+            made[at % len(made)] ^= 1 << random.randrange(8)
+        elif way == 1:
+            del made[at : at + random.choice((1, 1, 2, 9))]
+        elif way == 2:
+            made[at:at] = random.choice(TOKENS)
+        elif way == 3:
+            made[at : at + 1] = random.choice(TOKENS)
+        elif way == 4:
+            made[at:at] = made[at:end][:300]
+        elif way == 5:
+            del made[end:]
+        else:
+            made[at:at] = nested(random, random.choice((1, 60, 124, 125, 126, 127, 128, 300))).encode()
+    return bytes(made)
+
+
+def some(random, clients):
+    """Returns a document, right or broken."""
+    body = document(random, clients)
+    return broken(random, body) if random.random() < 0.7 else body
+
+
+def escaped(random, text):
+    """Returns the bytes of a parameter, of which some are written as they are."""
+    return urllib.parse.quote_from_bytes(text, safe=random.choice(("", "[]:,/"))).encode()
+
+
+def parameters(random, clients):
+    """Returns a query of documents, with the name of a callback in it or none."""
+    words = []
+    for _ in range(random.choice((0, 1, 1, 1, 2, 3))):
+        words.append(b"message=" + escaped(random, some(random, clients)))
+    if random.random() < 0.7:
+        names = ("cb", "a.b[0]$_-", "", "x y", "a(b", "n" * 256, "n" * 257, "\u00e9", "jsonp")
+        words.append(b"jsonp=" + escaped(random, random.choice(names).encode()))
+    words += random.choice(([], [], [b""], [b"="], [b"a=b"], [b"message"], [b"%6dessage=[]"], [b"message=%ff%5b%5d"], [b"jsonp=%2"], [b"+"]))
+    random.shuffle(words)
+    return b"&".join(words)
+
+
+def read_parameters(query):
+    """Returns the name of the callback and the documents that a query says."""
+    pairs = urllib.parse.parse_qsl(query.decode(), keep_blank_values=True, errors="replace")
+    names = [value for name, value in pairs if name == "jsonp"]
+    bodies = [value.encode() for name, value in pairs if name == "message"]
+    return (names or ["jsonpcallback"])[-1], joined(bodies) if bodies else None
+
+
+def post_case(random, clients):
+    """Returns a POST of JSON and what checks its response."""
+    body = some(random, clients)
+    messages = messages_of(body)
+    kind = random.choice((b"application/json", b"application/json;charset=UTF-8", b"text/plain", b"", b"\xff"))
+    return post(body, kind, random.choice((b"/cometd", b"/cometd/", b"/cometd/x?y"))), lambda it: check_post(messages, it)
+
+
+def form_case(random, clients):
+    """Returns a POST of a form and what checks its response."""
+    body = parameters(random, clients)
+    _, messages = read_parameters(body)
+    kind = random.choice((b"application/x-www-form-urlencoded", b"Application/X-WWW-form-urlencoded ; charset=UTF-8"))
+    return post(body, kind), lambda it: check_post(messages, it)
+
+
+def get_case(random, clients):
+    """Returns a GET, of a length that a head may have, and what checks its response."""
+    query = parameters(random, clients)
+    while len(query) > HEAD:
+        query = parameters(random, clients)
+    name, messages = read_parameters(query)
+    return b"GET /cometd?%s HTTP/1.1\r\nhost: h\r\n\r\n" % query, lambda it: check_call(name, messages, it)
+
+
+def nested_case(random, _clients):
+    """Returns a POST of data that is nested deep, and what checks its response."""
+    levels = random.choice((1, 2, 100, 123, 124, 125, 126, 127, 128, 129, 500, 20000))
+    body = b'[{"channel":"/a/b","clientId":"x","data":%s}]' % nested(random, levels).encode()
+    body = body[: -random.choice((0, 0, 0, 1, 2, levels)) or None]
+    messages = messages_of(body)
+    return post(body), lambda it: check_post(messages, it)
+
+
+def route_case(random, _clients):
+    """Returns a request of any path and method, and what checks its response."""
+    method = random.choice((b"GET", b"POST", b"PUT", b"DELETE", b"OPTIONS", b"PATCH", b"FOO", b"get", b"TRACE"))
+    path = random.choice((b"/cometd", b"/cometd/x", b"/", b"/cometdx", b"/COMETD", b"/comet%64", b"//cometd", b"/cometd/../x", b"/x?cometd"))
+    is_served = path == b"/cometd" or path.startswith(b"/cometd/")
+    status = 404 if not is_served else 400 if method in (b"GET", b"POST") else 405
+
+    def check(response):
+        check_status(response, status)
+        if status == 405 and response.fields.get(b"allow") != b"GET, POST":
+            raise Wrong(f"the methods that are allowed: {response.fields}")
+
+    return b"%s %s HTTP/1.1\r\nhost: h\r\ncontent-length: 0\r\n\r\n" % (method, path), check

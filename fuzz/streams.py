@@ -1,0 +1,183 @@
+"""Streams of bytes that are no right HTTP, or right HTTP that comes in a way that few clients have."""
+import select
+import socket
+import struct
+import time
+
+from daemon import Connection, Ended, Wrong, post
+from documents import LIMIT, check_post, check_status, document, messages_of
+
+# What may be answered to bytes of any kind.
+STATUSES = {200, 400, 404, 405, 413, 414, 431}
+HEADS = [
+    *(b"GET", b"GET /", b"GET / HTTP/1.1", b"GET / HTTP/1.1\r\n", b"GET / HTTP/1.1\r\nhost: h\r\n", b"POST /cometd HTTP/9.9\r\n\r\n"),
+    *(b"POST /cometd HTTP/1.1\r\n\r\n", b"GET /\x00 HTTP/1.1\r\nhost: h\r\n\r\n", b" GET / HTTP/1.1\r\nhost: h\r\n\r\n", b"\r\n\r\n\r\n"),
+    *(b"GET / HTTP/1.1\r\nhost h\r\n\r\n", b"GET / HTTP/1.1\r\nhost: h\r\nhost: i\r\n\r\n", b"GET / HTTP/1.1\r\n host: h\r\n\r\n"),
+    *(b"GET /cometd?%s HTTP/1.1\r\nhost: h\r\n\r\n" % (b"a" * 70000), b"GET / HTTP/1.1\r\nhost: h\r\n%s\r\n" % (b"a: b\r\n" * 101)),
+    *(b"GET / HTTP/1.1\r\nhost: h\r\na: %s\r\n\r\n" % (b"b" * 70000), b"PRI * HTTP/2.0\r\n\r\nSM\r\n\r\n", b"\x16\x03\x01\x02\x00\x01\x00\x01\xfc\x03\x03"),
+    *(b"POST /cometd HTTP/1.1\r\nhost: h\r\ncontent-length: -1\r\n\r\n", b"POST /cometd HTTP/1.1\r\nhost: h\r\ncontent-length: 1\r\ncontent-length: 2\r\n\r\n[]"),
+    *(b"POST /cometd HTTP/1.1\r\nhost: h\r\ncontent-length: 99999999999999999999\r\n\r\n", b"POST /cometd HTTP/1.0\r\ncontent-length: 2\r\n\r\n[]"),
+    *(b"POST /cometd HTTP/1.1\r\nhost: h\r\ncontent-length: 2\r\ntransfer-encoding: chunked\r\n\r\n0\r\n\r\n", b"OPTIONS * HTTP/1.1\r\nhost: h\r\n\r\n"),
+    *(b"POST /cometd HTTP/1.1\r\nhost: h\r\ntransfer-encoding: gzip, chunked\r\n\r\n0\r\n\r\n", b"CONNECT h:1 HTTP/1.1\r\nhost: h\r\n\r\n"),
+    *(b"POST http://h/cometd HTTP/1.1\r\nhost: h\r\ncontent-length: 2\r\n\r\n[]", b"HEAD /cometd HTTP/1.0\r\n\r\n"),
+    *(b"GET /cometd HTTP/1.1\r\nhost: h\r\nconnection: upgrade\r\nupgrade: websocket\r\n\r\n", b"GET /cometd HTTP/1.1\nhost: h\n\n"),
+]
+LENGTHS = [b"0", b"00", b"1", b"-1", b"fffffffffffffffff", b"ffffffffffffffff", b"7fffffffffffffff", b"g", b"", b"1 ", b"1;a=b", b"+1", b"0x1"]
+
+
+def chunked(random, body):
+    """Returns the body in chunks."""
+    made = b""
+    while body:
+        size = random.choice((1, 2, 7, 100, 4096, 1 << 20))
+        made += b"%x%s\r\n" % (len(body[:size]), random.choice((b"", b"", b";a=b"))) + body[:size] + b"\r\n"
+        body = body[size:]
+    return made + b"0\r\n" + random.choice((b"", b"", b"a: b\r\n")) + b"\r\n"
+
+
+def post_chunked(body):
+    """Returns a POST of a body that is already in chunks."""
+    return b"POST /cometd HTTP/1.1\r\nhost: h\r\ncontent-type: application/json\r\ntransfer-encoding: chunked\r\n\r\n" + body
+
+
+def lying_chunks(random, clients):
+    """Returns a POST whose chunks are not what their lines say."""
+    made = bytearray(chunked(random, document(random, clients)))
+    lines = [at for at in range(len(made) - 1) if made[at : at + 2] == b"\r\n"]
+    at = random.choice(lines)
+    way = random.randrange(4)
+    if way == 0:
+        made[max(0, at - 1) : at] = random.choice(LENGTHS)
+    elif way == 1:
+        del made[at : at + random.choice((1, 2))]
+    elif way == 2:
+        made[at:at] = random.choice((b"\r\n", b"\n", b"x", b"\x00", b";" * 20000))
+    else:
+        del made[at:]
+    return post_chunked(bytes(made))
+
+
+def lying_length(random, clients):
+    """Returns a POST whose body is longer or shorter than it says."""
+    body = document(random, clients)
+    length = max(0, len(body) + random.choice((-len(body), -9, -1, 1, 9, 1000)))
+    head = b"POST /cometd HTTP/1.1\r\nhost: h\r\ncontent-type: application/json\r\ncontent-length: %d\r\n\r\n"
+    return head % length + body
+
+
+def changed_head(random, clients):
+    """Returns a right POST with some bytes of it changed."""
+    made = bytearray(post(document(random, clients)))
+    for _ in range(random.choice((1, 1, 2, 5))):
+        at = random.randrange(min(len(made), 90))
+        made[at : at + random.choice((0, 1, 1, 4))] = random.choice((b"", b"\r\n", b"\x00", b":", b" ", b"\xff", bytes([random.randrange(256)])))
+    return bytes(made)
+
+
+def stream(random, clients):
+    """Returns some bytes that are no right HTTP, mostly."""
+    way = random.randrange(6)
+    if way == 0:
+        return random.randbytes(random.choice((0, 1, 16, 200, 70000)))
+    if way == 1:
+        return random.choice(HEADS)
+    before = b"".join(post(document(random, clients)) for _ in range(random.choice((0, 0, 1, 3))))
+    maker = (lying_chunks, lying_length, changed_head, changed_head)[way - 2]
+    return before + maker(random, clients) + random.choice((b"", b"", post(b"[]"), b"\r\n", b"GET"))
+
+
+def cut(random, clients):
+    """Returns right requests that are cut at a random place."""
+    one = lambda: random.choice((post(document(random, clients)), post_chunked(chunked(random, document(random, clients)))))
+    made = b"".join(one() for _ in range(random.choice((1, 1, 2, 5))))
+    return made[: random.randrange(len(made) + 1)]
+
+
+def end(random, address, data):
+    """Sends the bytes on a connection of their own, ends it in one of three ways, and checks what is answered where that is seen."""
+    way = random.choice(("half", "half", "close", "reset"))
+    with Connection(address) as connection:
+        try:
+            connection.send(data)
+            if way == "half":
+                connection.socket.shutdown(socket.SHUT_WR)
+        except (Ended, OSError):
+            pass
+        if way == "reset":
+            connection.socket.setsockopt(socket.SOL_SOCKET, socket.SO_LINGER, struct.pack("ii", 1, 0))
+        if way == "half":
+            for response in connection.rest():
+                if response.status not in STATUSES:
+                    raise Wrong(f"status {response.status}")
+
+
+def check_large(random, address, _daemon):
+    """Posts a body at the limit, just below or above it; returns how many requests that were."""
+    body = b'[{"channel":"/a/b","clientId":"x","data":1}]'
+    size = LIMIT + random.choice((-1, 0, 0, 1, 1, 5000, 1 << 20))
+    at = random.choice((0, len(body)))
+    body = body[:at] + b" " * (size - len(body)) + body[at:]
+    data = post(body) if random.random() < 0.5 else post_chunked(chunked(random, body[:64]).removesuffix(b"0\r\n\r\n").removesuffix(b"0\r\na: b\r\n\r\n") + chunked_long(body[64:]))
+    with Connection(address) as connection:
+        try:
+            connection.send(data)
+        except Ended:
+            pass
+        response = connection.response()
+        if size > LIMIT:
+            check_status(response, 413)
+        else:
+            check_post(messages_of(body), response)
+    return 1
+
+
+def chunked_long(body):
+    """Returns the body in few chunks."""
+    return b"".join(b"%x\r\n%s\r\n" % (len(body[at : at + 50000]), body[at : at + 50000]) for at in range(0, len(body), 50000)) + b"0\r\n\r\n"
+
+
+def check_slow(random, address, _daemon):
+    """Sends a few requests in small pieces, all at once; returns how many they were."""
+    left, cases = {}, []
+    for _ in range(20):
+        body = document(random, ["x"])
+        data = post(body) if random.random() < 0.5 else post_chunked(chunked(random, body))
+        connection = Connection(address)
+        cases.append((connection, messages_of(body), data))
+        left[connection] = data
+    try:
+        while any(left.values()):
+            for connection, data in left.items():
+                size = max(1, random.randrange(1 + len(data) // 10))
+                connection.send(data[:size])
+                left[connection] = data[size:]
+            time.sleep(0.01)
+        for connection, messages, data in cases:
+            try:
+                check_post(messages, connection.response())
+            except Wrong as error:
+                raise Wrong(f"{error}, slowly sent: {data!r}") from error
+    finally:
+        for connection in left:
+            connection.socket.close()
+    return len(cases)
+
+
+def check_unread(random, address, daemon):
+    """Sends requests whose responses nobody reads, for as long as they are taken; they count as one."""
+    request = post(b"[%s]" % b",".join([b'{"channel":"/meta/x"}'] * 64))
+    before, sent, idle = daemon.kilobytes(), 0, 0
+    with Connection(address) as connection:
+        connection.socket.setblocking(False)
+        data = request * 20
+        while idle < 5 and sent < 64 << 20:
+            if not select.select([], [connection.socket], [], 0.1)[1]:
+                idle += 1
+                continue
+            try:
+                sent += connection.socket.send(data[sent % len(request) :])
+            except OSError as error:
+                raise Wrong(f"ended after {sent} bytes: {error}") from error
+    if daemon.kilobytes() - before > 64 << 10:
+        raise Wrong(f"{daemon.kilobytes() - before} kB more after {sent} bytes of requests whose responses nobody read")
+    return 1
