@@ -4,7 +4,9 @@
 mod connections;
 mod listen;
 mod maker;
+mod patient;
 
 pub use connections::Connections;
 pub use listen::serve_connections;
 pub use maker::{Maker, Quiet, Server};
+pub use patient::{Patient, PatientFault, Patiently};

@@ -1,6 +1,7 @@
 //! Serves the connections of a listener.
 use crate::connections::Connections;
 use crate::maker::Server;
+use crate::patient::Patient;
 use bytes::Bytes;
 use http::{Request, Response};
 use http_body_util::Full;
@@ -21,9 +22,12 @@ use tokio::runtime::Runtime;
 // For how long no connection is asked for after one could not be accepted, in milliseconds.
 const PAUSE: u64 = 20;
 
+// For how long a body is waited for of which nothing comes, in milliseconds.
+const PATIENCE: u64 = 30_000;
+
 /// Serves so many connections of the listener over HTTP, each as a task of the runtime, and ends once they have come and
-/// have ended. 0 is any number. A head has 30 seconds to come. `Err` where there is no memory, or
-/// the system refuses the runtime a call.
+/// have ended. 0 is any number. A head has 30 seconds to come; a body fails where nothing comes of it for 30 seconds. `Err`
+/// where there is no memory, or the system refuses the runtime a call.
 pub fn serve_connections<R, S, E>(
     rt: R,
     runtime: &mut Runtime,
@@ -33,7 +37,13 @@ pub fn serve_connections<R, S, E>(
 ) -> io::Result<()>
 where
     R: Wait + Threads + Clock + RandomSource + AllocGlobal + Sync + Send + Copy + Drop,
-    S: Service<Request<Incoming>, Response = Response<Full<Bytes>>, Error = E> + Clone + Send,
+    S: Service<
+        Request<Patient<Incoming, Option<TokioTimer<R>>>>,
+        Response = Response<Full<Bytes>>,
+        Error = E,
+    >
+        + Clone
+        + Send,
     S::Future: Send,
     E: Into<anyhow::Error> + Drop + Send,
     requires { (each : S) → S.can_call each }
@@ -41,8 +51,14 @@ where
     let timers = runtime.handle().time().clone()?;
     let pause = timers.interval(&rt, Duration::from_millis(PAUSE))?;
     let keys = RandomState::new(&rt)?;
-    let http = http1::Builder::new(rt.alloc(), keys).timer(TokioTimer::new(rt, timers));
-    let maker = Server { http, service };
+    let timer = TokioTimer::new(rt, timers);
+    let http = http1::Builder::new(rt.alloc(), keys).timer(timer.clone()?);
+    let maker = Server {
+        http,
+        service,
+        timer,
+        patience: Duration::from_millis(PATIENCE),
+    };
     let connections = Connections::new(rt, listener.incoming(), maker, count, pause);
     runtime.run_all(&rt, connections)
 }

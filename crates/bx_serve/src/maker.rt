@@ -1,6 +1,7 @@
 //! What serves one connection.
 ghost use Rattle.std.specs.Prelude.{⊤, IfSome};
 
+use crate::patient::{Patient, Patiently};
 use bytes::Bytes;
 use futures::Future;
 use futures::task::{Context, Poll};
@@ -11,7 +12,7 @@ use hyper::rt::TokioTimer;
 use hyper::server::conn::http1;
 use hyper::server::conn::http1::Connection;
 use hyper::service::Service;
-use std::time::Clock;
+use std::time::{Clock, Duration};
 use tokio::net::TcpStream;
 
 /// A future whose output nobody wants.
@@ -48,26 +49,39 @@ pub trait Maker: Drop {
         ensures { IfSome result Self.Task.can_poll };
 }
 
-/// Serves each connection over HTTP, by a service of its own.
+/// Serves each connection over HTTP, by a service of its own, and waits for each body no longer than `patience` at a time.
 #[derive(Drop)]
 pub struct Server<R, S> {
     pub http: http1::Builder<TokioTimer<R>>,
     pub service: S,
+    pub timer: TokioTimer<R>,
+    pub patience: Duration,
 }
 
 impl<R, S, E> Maker for Server<R, S>
 where
     R: Clock + Copy + Drop,
-    S: Service<Request<Incoming>, Response = Response<Full<Bytes>>, Error = E> + Clone,
+    S: Service<
+        Request<Patient<Incoming, Option<TokioTimer<R>>>>,
+        Response = Response<Full<Bytes>>,
+        Error = E,
+    >
+        + Clone,
     E: Into<anyhow::Error> + Drop,
 {
-    type Task = Quiet<Connection<TcpStream, S, Full<Bytes>, TokioTimer<R>>>;
+    type Task = Quiet<
+        Connection<TcpStream, Patiently<S, TokioTimer<R>>, Full<Bytes>, TokioTimer<R>>,
+    >;
 
     ghost can_make = { λ _. (service : S) → S.can_call service };
 
     fn make(&self, socket: TcpStream) -> Option<Self::Task> {
         let _ = socket.set_nodelay(true);
-        let service = self.service.clone().ok()?;
+        let service = Patiently {
+            service: self.service.clone().ok()?,
+            timer: self.timer.clone().ok()?,
+            patience: self.patience,
+        };
         Some(Quiet {
             inner: self.http.serve_connection(socket, service),
         })

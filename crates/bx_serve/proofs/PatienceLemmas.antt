@@ -1,0 +1,33 @@
+-- Each answer of a body is a step of the patient body.
+use Rattle.std.proofs.Common.{◌≡◌, List, [], ◌∷◌, Option, Some, None, Result, Ok, Err, subst, map}
+use Rattle.futures.specs.Runs.{Runs, After}
+use Rattle.http_body.specs.declared.frame.Frame.{Frame}
+use Rattle.bx_serve.specs.declared.patient.PatientFault.{PatientFault}
+use Rattle.bx_serve.specs.declared.patient.PatientFault.TheVariants.{Body, Late}
+use Rattle.bx_serve.specs.Patience.{Comes, Outlasts}
+
+module _ {D E : Type 0} (old : Runs (Result (Frame D) E)) where
+  -- the first answer, where no frame came before it
+  pub first : (o : Option (Result (Frame D) (PatientFault E))) → Comes old [] o → Outlasts old [] o
+  first o comes [] is = comes
+  first o comes (frame ∷ frames) is = absurd (cc)
+
+  -- what comes behind a frame
+  onward : (new : Runs (Result (Frame D) E)) (frame : Frame D) (frames : List (Frame D)) (o : Option (Result (Frame D) (PatientFault E))) →
+      After old (Ok frame) new → Comes new frames o → Comes old (frame ∷ frames) o
+  onward new frame frames None after came = after _ _ came
+  onward new frame frames (Some (Ok next)) after came = after _ _ came
+  onward new frame frames (Some (Err (Body e))) after came = after _ _ came
+  onward new frame frames (Some (Err Late)) after came = came
+
+  pub going : (new : Runs (Result (Frame D) E)) (frame : Frame D) → After old (Ok frame) new → After (Outlasts old) (Ok frame) (Outlasts new)
+  going new frame after xs last outlasts [] is = absurd (cc)
+  going new frame after xs last outlasts (f ∷ frames) is =
+      let same : frame ≡ f = cc in
+      let rest : xs ≡ map Ok frames = cc in
+      subst (λ (g : Frame D). Comes old (g ∷ frames) last) same (onward new frame frames last after (outlasts frames rest))
+
+  -- nothing is said of what follows a fault
+  pub failing : (fault : PatientFault E) (new : Runs (Result (Frame D) (PatientFault E))) → After (Outlasts old) (Err fault) new
+  failing fault new xs last came [] is = absurd (cc)
+  failing fault new xs last came (frame ∷ frames) is = absurd (cc)
