@@ -1,0 +1,17 @@
+//! Tests of the crate `bx_service`: requests whose bodies and responses one thread polls.
+#![tactic(auto)]
+
+#[cfg(test)]
+mod bench;
+#[cfg(test)]
+mod held;
+#[cfg(test)]
+mod lost;
+#[cfg(test)]
+mod pieces;
+#[cfg(test)]
+mod statuses;
+#[cfg(test)]
+mod tests;
+#[cfg(test)]
+mod texts;
