@@ -59,7 +59,7 @@ fn bring_up<R: Threads + Sync>(
     let mut level = 0usize;
     for shard in 0..SHARDS {
         if world.apply(alloc, shard) == Applied::Level {
-            level += 1;
+            level = level.saturating_add(1);
         }
     }
     if level == 1 && world.bring_up(rt, alloc, &OpenGate, 1) == 0 {
