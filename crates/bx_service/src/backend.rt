@@ -1,5 +1,7 @@
 //! What a service stands on.
-ghost use Rattle.std.specs.Prelude.{IfOk};
+ghost use Rattle.std.specs.Prelude.{⊤, Result, IfOk};
+ghost use Rattle.bx_cut.specs.declared.bodies.Bodies.{Bodies};
+ghost use Rattle.bx_service.specs.declared.status.Status.{Status};
 
 use crate::gathering::Gathering;
 use crate::status::Status;
@@ -47,9 +49,13 @@ pub trait Backend: Drop {
     /// The future of the items of a response.
     type Items: Future<Output = Result<Vec<Item>, Unanswered>>;
 
+    // Holds of the documents of a request and of what may be said of them.
+    ghost admits: { Self → Bodies → Result Self.Items Status → Type 0 } = { λ _ _ _. ⊤ };
+
     /// Takes the documents of a request, or says with which status it is refused.
     fn admit(&self, bodies: Bodies) -> Result<Self::Items, Status>
-        ensures { IfOk result Self.Items.can_poll };
+        ensures can_poll { IfOk result Self.Items.can_poll }
+        ensures admitted { admits self.now bodies result };
 }
 
 /// A hub with the clock and the nonces of its requests.

@@ -1,9 +1,13 @@
 //! One request and its response.
-ghost use Rattle.std.specs.Prelude.{IfOk};
+ghost use Rattle.std.specs.Prelude.{◌≡◌, [], IfOk, IfSome, Ok, MatchOption, option_copied, option_map, string_bytes, unwrap_or};
+ghost use Rattle.std.specs.Arc.{arc_value};
 ghost use Rattle.futures.specs.Poll.{IfReady, OnPending};
 ghost use Rattle.futures.specs.Task.{IsArmed, Keeps};
 ghost use Rattle.bx_service.specs.Polling.{CanPoll};
-ghost use Rattle.bx_service.specs.Responses.{IsResponse};
+ghost use Rattle.http.specs.Request.{head_of, body_of};
+ghost use Rattle.bx_cut.specs.Bodies.{texts_of};
+ghost use Rattle.bx_service.specs.Beginnings.{Begins, IsAsking, IsPosting};
+ghost use Rattle.bx_service.specs.Exchanges.{ForAsked, ForCollected, ForDocuments, ForItems, MayAnswer, Sent};
 
 use crate::backend::{Backend, Unanswered};
 use crate::response::{answer, refusal};
@@ -18,7 +22,7 @@ use bx_transport::{read_get, read_post};
 use bytes::{Buf, Bytes};
 use futures::Future;
 use futures::task::{Context, Poll};
-use http::header::CONTENT_TYPE;
+use http::header::{CONTENT_TYPE, HeaderValue};
 use http::request::Parts;
 use http::{Request, Response};
 use http_body::Body;
@@ -61,7 +65,9 @@ impl<S, I: Future, B: Body> Exchange<S, I, B> {
         request: Request<B>,
     ) -> Exchange<S, I, B>
         requires { (body : B) → B.can_poll body }
-        ensures { CanPoll I.can_poll B.can_poll result.state }
+        ensures again { CanPoll I.can_poll B.can_poll result.state }
+        ensures begins { Begins (head_of request) (body_of request) result.state }
+        ensures backend { IfSome result.backend (λ handle. arc_value handle ≡ arc_value backend.now) }
     {
         let (parts, body) = request.into_parts();
         Exchange {
@@ -76,55 +82,108 @@ impl<I: Future, B: Body> State<I, B> {
     // The state of a request that came.
     fn new(alloc: Global, parts: Parts, body: B) -> State<I, B>
         requires { B.can_poll body }
-        ensures { CanPoll I.can_poll B.can_poll result }
+        ensures again { CanPoll I.can_poll B.can_poll result }
+        ensures begins { Begins parts body result }
     {
         match Route::of(&parts.method, parts.uri.path()) {
             Route::Refused(status) => State::Refused(status),
-            Route::Get => {
-                let query = parts.uri.query().unwrap_or("");
-                match Vec::from_slice(alloc, query.as_bytes()) {
-                    Ok(query) => State::Asked(query),
-                    Err(_) => State::Refused(Status::Unavailable),
-                }
-            }
-            Route::Post => {
-                let content_type = match parts.headers.get(CONTENT_TYPE) {
-                    Some(value) => match Vec::from_slice(alloc, value.as_bytes()) {
-                        Ok(value) => Some(value),
-                        Err(_) => return State::Refused(Status::Unavailable),
-                    },
-                    None => None,
-                };
-                State::Collecting {
-                    content_type,
-                    body: Collect::new(alloc, body, BODY_LIMIT),
-                }
-            }
+            Route::Get => State::asking(alloc, parts.uri.query()),
+            Route::Post => State::posting(alloc, parts.headers.get(CONTENT_TYPE), body),
+        }
+    }
+
+    // The state of a GET; one without a query has an empty one.
+    fn asking(alloc: Global, query: Option<&str>) -> State<I, B>
+        ensures again { CanPoll I.can_poll B.can_poll result }
+        ensures begins { IsAsking (unwrap_or (option_copied query.entry) []) result }
+    {
+        let query = match query {
+            Some(query) => query,
+            None => "",
+        };
+        match Vec::from_slice(alloc, query.as_bytes()) {
+            Ok(query) => State::Asked(query),
+            Err(_) => State::Refused(Status::Unavailable),
+        }
+    }
+
+    // The state of a POST of this content type.
+    fn posting(alloc: Global, content_type: Option<&HeaderValue>, body: B) -> State<I, B>
+        requires { B.can_poll body }
+        ensures again { CanPoll I.can_poll B.can_poll result }
+        ensures begins { IsPosting (option_map (λ value. value.bytes) (option_copied content_type.entry)) body result }
+    {
+        let content_type = match content_type {
+            Some(value) => match Vec::from_slice(alloc, value.as_bytes()) {
+                Ok(value) => Some(value),
+                Err(_) => return State::Refused(Status::Unavailable),
+            },
+            None => None,
+        };
+        State::Collecting {
+            content_type,
+            body: Collect::new(alloc, body, BODY_LIMIT),
         }
     }
 }
 
-// The documents of a POST whose body was collected.
-fn documents(
-    alloc: Global,
-    content_type: Option<&[u8]>,
-    collected: Result<Vec<u8>, BodyFault>,
-) -> Result<Bodies, Status> {
-    let body = collected.map_err(Status::of_body)?;
-    read_post(alloc, content_type, body.as_slice()).map_err(Status::of_transport)
-}
-
 // The state of a request with these documents.
-fn admitted<S, I, B>(backend: &S, callback: Option<String>, bodies: Bodies) -> State<I, B>
+fn admitted<S, I, B, D>(backend: &S, callback: Option<String>, bodies: Bodies) -> State<I, B>
 where
     S: Backend<Items = I>,
     I: Future<Output = Result<Vec<Item>, Unanswered>>,
-    B: Body,
-    ensures { CanPoll I.can_poll B.can_poll result }
+    B: Body<Data = D>,
+    D: Buf + Drop,
+    ensures again { CanPoll I.can_poll B.can_poll result }
+    ensures value { (sent : Sent) → MayAnswer I.gives (S.admits backend.now) D.unread B.yields result sent
+        → ForDocuments I.gives (S.admits backend.now) (option_map string_bytes callback) (texts_of bodies) sent }
 {
     match backend.admit(bodies) {
         Ok(items) => State::Held { callback, items },
         Err(status) => State::Refused(status),
+    }
+}
+
+// The state of a POST whose body was collected, or was not.
+fn posted<S, I, B, D>(
+    alloc: Global,
+    backend: &S,
+    content_type: Option<&[u8]>,
+    collected: Result<Vec<u8>, BodyFault>,
+) -> State<I, B>
+where
+    S: Backend<Items = I>,
+    I: Future<Output = Result<Vec<Item>, Unanswered>>,
+    B: Body<Data = D>,
+    D: Buf + Drop,
+    ensures again { CanPoll I.can_poll B.can_poll result }
+    ensures value { (sent : Sent) → MayAnswer I.gives (S.admits backend.now) D.unread B.yields result sent
+        → ForCollected I.gives (S.admits backend.now) (option_map (λ t. t.now) content_type.entry) collected sent }
+{
+    let body = match collected {
+        Ok(body) => body,
+        Err(fault) => return State::Refused(Status::of_body(fault)),
+    };
+    match read_post(alloc, content_type, body.as_slice()) {
+        Ok(bodies) => admitted(backend, None, bodies),
+        Err(error) => State::Refused(Status::of_transport(error)),
+    }
+}
+
+// The state of a GET with this query.
+fn asked<S, I, B, D>(alloc: Global, backend: &S, query: &[u8]) -> State<I, B>
+where
+    S: Backend<Items = I>,
+    I: Future<Output = Result<Vec<Item>, Unanswered>>,
+    B: Body<Data = D>,
+    D: Buf + Drop,
+    ensures again { CanPoll I.can_poll B.can_poll result }
+    ensures value { (sent : Sent) → MayAnswer I.gives (S.admits backend.now) D.unread B.yields result sent
+        → ForAsked I.gives (S.admits backend.now) query.now sent }
+{
+    match read_get(alloc, query) {
+        Ok((name, bodies)) => admitted(backend, Some(name), bodies),
+        Err(error) => State::Refused(Status::of_transport(error)),
     }
 }
 
@@ -134,7 +193,7 @@ fn answered(
     callback: Option<&str>,
     gathered: Result<Vec<Item>, Unanswered>,
 ) -> Result<Response<Full<Bytes>>, AllocError>
-    ensures { IfOk result IsResponse }
+    ensures { IfOk result (ForItems (option_map (λ name. name.now) callback.entry) gathered) }
 {
     let Ok(items) = gathered else {
         return refusal(alloc, Status::Unavailable);
@@ -149,8 +208,7 @@ fn answered(
 fn given(
     response: Result<Response<Full<Bytes>>, AllocError>,
 ) -> Result<Response<Full<Bytes>>, ServiceFault>
-    requires { IfOk response IsResponse }
-    ensures { IfOk result IsResponse }
+    ensures { IfOk result (λ sent. response ≡ Ok sent) }
 {
     match response {
         Ok(response) => Ok(response),
@@ -169,6 +227,8 @@ where
     fn poll_admitted(&mut self, backend: &S, cx: &mut Context<'_>) -> Poll<()>
         requires { CanPoll I.can_poll B.can_poll self.old.state }
         ensures again { CanPoll I.can_poll B.can_poll self.new.state }
+        ensures same { (sent : Sent) → MayAnswer I.gives (S.admits backend.now) D.unread B.yields self.new.state sent
+            → MayAnswer I.gives (S.admits backend.now) D.unread B.yields self.old.state sent }
         ensures registered { OnPending result (IsArmed cx.new) }
         ensures kept { Keeps cx.old cx.new }
     {
@@ -180,17 +240,11 @@ where
                     Poll::Ready(collected) => collected,
                 };
                 let content_type = content_type.as_ref().map(|it| it.as_slice());
-                self.state = match documents(alloc, content_type, collected) {
-                    Ok(bodies) => admitted(backend, None, bodies),
-                    Err(status) => State::Refused(status),
-                };
+                self.state = posted(alloc, backend, content_type, collected);
                 Poll::Ready(())
             }
             State::Asked(query) => {
-                self.state = match read_get(alloc, query.as_slice()) {
-                    Ok((name, bodies)) => admitted(backend, Some(name), bodies),
-                    Err(error) => State::Refused(Status::of_transport(error)),
-                };
+                self.state = asked(alloc, backend, query.as_slice());
                 Poll::Ready(())
             }
             _ => Poll::Ready(()),
@@ -203,10 +257,13 @@ where
         cx: &mut Context<'_>,
     ) -> Poll<Result<Response<Full<Bytes>>, ServiceFault>>
         requires { CanPoll I.can_poll B.can_poll self.old.state }
-        ensures value { IfReady result (λ given. IfOk given IsResponse) }
+        ensures value { IfReady result (λ given. IfOk given (λ sent. (backend : S) → MayAnswer I.gives (S.admits backend) D.unread B.yields self.old.state sent)) }
         ensures again { OnPending result (CanPoll I.can_poll B.can_poll self.new.state) }
+        ensures same { OnPending result ((backend : S) (sent : Sent) → MayAnswer I.gives (S.admits backend) D.unread B.yields self.new.state sent
+            → MayAnswer I.gives (S.admits backend) D.unread B.yields self.old.state sent) }
         ensures registered { OnPending result (IsArmed cx.new) }
         ensures kept { Keeps cx.old cx.new }
+        ensures backend { self.new.backend ≡ self.old.backend }
     {
         let alloc = self.alloc;
         match &mut self.state {
@@ -234,8 +291,9 @@ where
 
     ghost can_poll = { λ e. CanPoll I.can_poll B.can_poll e.state };
 
-    // A response has one of the statuses, and a body exactly with 200.
-    ghost gives = { λ _ given. IfOk given IsResponse };
+    // A response is what its state says. Without a handle on its backend there is none.
+    ghost gives = { λ e given. IfOk given (λ sent. MatchOption e.backend ⊥
+        (λ backend. MayAnswer I.gives (S.admits (arc_value backend)) D.unread B.yields e.state sent)) };
 
     fn poll(&mut self, cx: &mut Context<'_>) -> Poll<Self::Output> {
         let Some(backend) = self.backend.take() else {

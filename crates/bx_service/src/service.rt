@@ -1,5 +1,7 @@
 //! The service of a connection.
-ghost use Rattle.std.specs.Prelude.{◌≡◌};
+ghost use Rattle.std.specs.Prelude.{◌≡◌, IfSome};
+ghost use Rattle.http.specs.Request.{head_of, body_of};
+ghost use Rattle.bx_service.specs.Beginnings.{Begins};
 ghost use Rattle.std.specs.Arc.{arc_value};
 
 use crate::backend::{Backend, Unanswered};
@@ -73,6 +75,10 @@ where
 
     // Bodies of this type may be polled as they come.
     ghost can_call = { λ _. (body : B) → B.can_poll body };
+
+    // The exchange begins as its request says, and its handle, where it has one, is on the service's backend.
+    ghost calls = { λ service request exchange. Begins (head_of request) (body_of request) exchange.state
+        × IfSome exchange.backend (λ handle. arc_value handle ≡ arc_value service.backend) };
 
     fn call(&self, request: Request<B>) -> Self::Future {
         Exchange::new(self.alloc, &self.backend, request)

@@ -1,0 +1,79 @@
+-- What an exchange may answer, by how far its request is.
+use Rattle.std.specs.Prelude.{◌≡◌, ◌⊎◌, ℕ, List, Option, Some, None, option_map, string_bytes, Vec, Result, Ok, Err}
+use Rattle.std.specs.Global.{Global}
+use Rattle.futures.specs.Runs.{Runs}
+use Rattle.http.specs.declared.response.Response.{Response}
+use Rattle.http_body.specs.declared.frame.Frame.{Frame}
+use Rattle.http_body_util.specs.declared.full.Full.{Full}
+use Rattle.bx_body.specs.Bodies.{Gives}
+use Rattle.bx_body.specs.declared.collect.BodyFault.{BodyFault}
+use Rattle.bx_cut.specs.Bodies.{texts_of}
+use Rattle.bx_cut.specs.declared.bodies.Bodies.{Bodies}
+use Rattle.bx_message.specs.declared.reply.Item.{Item}
+use Rattle.bx_transport.specs.Transports.{post_taken, get_taken}
+use Rattle.bx_transport.specs.declared.error.TransportError.{TransportError}
+use Rattle.bx_service.specs.declared.backend.Unanswered.{Unanswered}
+use Rattle.bx_service.specs.declared.exchange.State.{State}
+use Rattle.bx_service.specs.declared.exchange.State.TheVariants.{Collecting, Asked, Held, Refused}
+use Rattle.bx_service.specs.declared.status.Status.{Status}
+use Rattle.bx_service.specs.declared.status.Status.TheVariants.{Unavailable}
+use Rattle.bx_service.specs.Responses.{IsAnswer, IsRefusal}
+use Rattle.bx_service.specs.Statuses.{body_status, transport_status}
+
+-- a response as it is sent
+abbrev pub Sent : Type 0
+Sent = Response (Full (List ℕ))
+
+-- what the future of a response's items gives
+abbrev pub Gathered : Type 0
+Gathered = Result (Vec Item Global) Unanswered
+
+-- The response for what that future gave: 200 with these items, or 503 where their text found no memory; and where it gave no items, 503.
+abbrev pub ForItems : Option (List ℕ) → Gathered → Sent → Type 0
+ForItems callback (Ok items) sent = IsAnswer callback items.items sent ⊎ IsRefusal Unavailable sent
+ForItems callback (Err none) sent = IsRefusal Unavailable sent
+
+module _ {I : Type 0} (gives : I → Gathered → Type 0) where
+  -- the response for a future of items: that for some items that it may give
+  abbrev pub ForFuture : Option (List ℕ) → I → Sent → Type 0
+  ForFuture callback items sent = (gathered : Gathered) × (gives items gathered × ForItems callback gathered sent)
+
+  -- the response for what was said of the documents: that for the future of their items, or the status with which they are refused
+  abbrev pub ForOutcome : Option (List ℕ) → Result I Status → Sent → Type 0
+  ForOutcome callback (Ok items) sent = ForFuture callback items sent
+  ForOutcome callback (Err status) sent = IsRefusal status sent
+
+  module _ (admits : Bodies → Result I Status → Type 0) where
+    -- the response for these documents: that for something that the backend may say of them
+    abbrev pub ForDocuments : Option (List ℕ) → List (List ℕ) → Sent → Type 0
+    ForDocuments callback documents sent =
+        (bodies : Bodies) × ((texts_of bodies ≡ documents) × ((outcome : Result I Status) × (admits bodies outcome × ForOutcome callback outcome sent)))
+
+    -- the response for a body as it is taken: that for its documents, or the status of one that carries none
+    abbrev pub ForBody : Result (List (List ℕ)) TransportError → Sent → Type 0
+    ForBody (Ok documents) sent = ForDocuments None documents sent
+    ForBody (Err error) sent = IsRefusal (transport_status error) sent
+
+    -- the response for a query as it is taken: as a call of its callback
+    abbrev pub ForQuery : Result (List ℕ × List (List ℕ)) TransportError → Sent → Type 0
+    ForQuery (Ok taken) sent = ForDocuments (Some taken.0) taken.1 sent
+    ForQuery (Err error) sent = IsRefusal (transport_status error) sent
+
+    -- the response for a body that was collected, or was not; 503 where its documents found no memory
+    abbrev pub ForCollected : Option (List ℕ) → Result (Vec ℕ Global) BodyFault → Sent → Type 0
+    ForCollected kind (Ok all) sent = ForBody (post_taken kind all.items) sent ⊎ IsRefusal Unavailable sent
+    ForCollected kind (Err fault) sent = IsRefusal (body_status fault) sent
+
+    -- the response for a query; 503 where its documents found no memory
+    abbrev pub ForAsked : List ℕ → Sent → Type 0
+    ForAsked query sent = ForQuery (get_taken query) sent ⊎ IsRefusal Unavailable sent
+
+    module _ {B D E : Type 0} (unread : D → List ℕ) (yields : B → Runs (Result (Frame D) E)) where
+      -- The response for a request, by how far it is. While its body comes, it is that for what the body's collection may give.
+      abbrev pub MayAnswer : State I B → Sent → Type 0
+      MayAnswer (Collecting kind body) sent =
+          (collected : Result (Vec ℕ Global) BodyFault) × (Gives unread (yields body.body) body.limit body.bytes.items collected
+          × ForCollected (option_map (λ text. text.items) kind) collected sent)
+      MayAnswer (Asked query) sent = ForAsked query.items sent
+      MayAnswer (Held callback items) sent = ForFuture (option_map string_bytes callback) items sent
+      MayAnswer (Refused status) sent = IsRefusal status sent
