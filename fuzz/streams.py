@@ -25,14 +25,20 @@ HEADS = [
 LENGTHS = [b"0", b"00", b"1", b"-1", b"fffffffffffffffff", b"ffffffffffffffff", b"7fffffffffffffff", b"g", b"", b"1 ", b"1;a=b", b"+1", b"0x1"]
 
 
-def chunked(random, body):
-    """Returns the body in chunks."""
-    made = b""
+def chunks(random, body, sizes):
+    """Returns the body in chunks of these sizes, without the last one, which is empty."""
+    made = []
     while body:
-        size = random.choice((1, 2, 7, 100, 4096, 1 << 20))
-        made += b"%x%s\r\n" % (len(body[:size]), random.choice((b"", b"", b";a=b"))) + body[:size] + b"\r\n"
+        size = random.choice(sizes)
+        made.append(b"%x%s\r\n%s\r\n" % (len(body[:size]), random.choice((b"", b"", b";a=b")), body[:size]))
         body = body[size:]
-    return made + b"0\r\n" + random.choice((b"", b"", b"a: b\r\n")) + b"\r\n"
+    return b"".join(made)
+
+
+def chunked(random, body):
+    """Returns the body in chunks, some of them small."""
+    tail = random.choice((b"", b"", b"a: b\r\n"))
+    return chunks(random, body, (1, 2, 7, 100, 4096, 1 << 20)) + b"0\r\n" + tail + b"\r\n"
 
 
 def post_chunked(body):
@@ -88,8 +94,10 @@ def stream(random, clients):
 
 def cut(random, clients):
     """Returns right requests that are cut at a random place."""
-    one = lambda: random.choice((post(document(random, clients)), post_chunked(chunked(random, document(random, clients)))))
-    made = b"".join(one() for _ in range(random.choice((1, 1, 2, 5))))
+    made = b""
+    for _ in range(random.choice((1, 1, 2, 5))):
+        body = document(random, clients)
+        made += random.choice((post(body), post_chunked(chunked(random, body))))
     return made[: random.randrange(len(made) + 1)]
 
 
@@ -117,7 +125,8 @@ def check_large(random, address, _daemon):
     size = LIMIT + random.choice((-1, 0, 0, 1, 1, 5000, 1 << 20))
     at = random.choice((0, len(body)))
     body = body[:at] + b" " * (size - len(body)) + body[at:]
-    data = post(body) if random.random() < 0.5 else post_chunked(chunked(random, body[:64]).removesuffix(b"0\r\n\r\n").removesuffix(b"0\r\na: b\r\n\r\n") + chunked_long(body[64:]))
+    is_whole = random.random() < 0.5
+    data = post(body) if is_whole else post_chunked(chunks(random, body, (999, 50000, 1 << 19)) + b"0\r\n\r\n")
     with Connection(address) as connection:
         try:
             connection.send(data)
@@ -129,11 +138,6 @@ def check_large(random, address, _daemon):
         else:
             check_post(messages_of(body), response)
     return 1
-
-
-def chunked_long(body):
-    """Returns the body in few chunks."""
-    return b"".join(b"%x\r\n%s\r\n" % (len(body[at : at + 50000]), body[at : at + 50000]) for at in range(0, len(body), 50000)) + b"0\r\n\r\n"
 
 
 def check_slow(random, address, _daemon):
