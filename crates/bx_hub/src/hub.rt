@@ -127,7 +127,7 @@ impl<J: Naming, P: Placing, G: Gate + Drop, R: Wait + Drop> Hub<J, P, G, R> {
     }
 
     /// Takes a tick of the clock into the list; its moment is in milliseconds. It brings each shard up, and is refused as a
-    /// request with one message is. The window then lets go of what all shards had passed before.
+    /// request with one message is. The window then lets go of what all shards have passed.
     pub fn tick<W: Wait>(
         &self,
         rt: &W,
@@ -142,6 +142,7 @@ impl<J: Naming, P: Placing, G: Gate + Drop, R: Wait + Drop> Hub<J, P, G, R> {
     {
         let Admitted { first, .. } = self.admit_tick(rt, alloc, &mut pass.front, moment)?;
         let behind = self.bring_all(rt, alloc, &pass.front);
+        self.let_go(rt, alloc);
         Ok(Ticked {
             place: first,
             behind,
@@ -188,8 +189,6 @@ impl<J: Naming, P: Placing, G: Gate + Drop, R: Wait + Drop> Hub<J, P, G, R> {
         ensures refused { IfErr result (λ f. IsRefused (read.Tick moment) f pass.new) }
     {
         let mut admission = self.admission.lock(rt);
-        // What all shards have passed is kept no longer than to the next tick. Where there is no memory, the one after does it.
-        let _ = admission.trim(alloc, self.least_place(rt));
         match admission.tick(alloc, pass, moment) {
             Ok(admitted) => Ok(admitted),
             Err(PostFault::Behind { .. }) => {
@@ -201,13 +200,13 @@ impl<J: Naming, P: Placing, G: Gate + Drop, R: Wait + Drop> Hub<J, P, G, R> {
         }
     }
 
-    // The least place where a shard stands.
-    fn least_place<W: Wait>(&self, rt: &W) -> u64 {
+    // Lets the window go of what all shards have passed. Where there is no memory for that, the next tick does it.
+    fn let_go<W: Wait>(&self, rt: &W, alloc: Global) {
         let mut least = u64::MAX;
         for desk in &self.desks {
             least = least.min(desk.lock(rt).place());
         }
-        least
+        let _ = self.admission.lock(rt).trim(alloc, least);
     }
 
     // Brings each shard up to the end of what was seen, and tells the least place where one stands. Who waited for what is

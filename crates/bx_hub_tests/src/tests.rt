@@ -115,21 +115,19 @@ fn sweeps_all<J: Naming, P: Placing, G: Gate + Drop, H: Wait + Drop, R: Wait + A
     Ok(())
 }
 
-// A tick at the start of which the window lets go of all that stands below this place.
-fn lets_go<J: Naming, P: Placing, G: Gate + Drop, H: Wait + Drop, R: Wait + Abort>(
+// A tick, and where the window began when it was published.
+fn began<J: Naming, P: Placing, G: Gate + Drop, H: Wait + Drop, R: Wait>(
     rt: &R,
     alloc: Global,
     hub: &Hub<J, P, G, H>,
     pass: &mut Pass<J>,
-    begin: u64,
-) -> Result<(), Fail> {
+) -> Result<u64, Fail> {
     hub.tick(rt, alloc, pass, 0).map_err(|_| "no tick")?;
-    assert_eq!(rt; pass.note().begin(), begin);
-    Ok(())
+    Ok(pass.note().begin())
 }
 
-// The window keeps from one tick to the next what all shards have passed, and longer what a paused shard lacks.
-fn lets_go_of_all<J: Naming, P: Placing, G: Gate + Drop, H: Wait + Drop, R: Wait + Abort>(
+// The window keeps until a tick what all shards have passed, and longer what a paused shard lacks.
+fn lets_go<J: Naming, P: Placing, G: Gate + Drop, H: Wait + Drop, R: Wait + Abort>(
     rt: &R,
     alloc: Global,
     hub: &Hub<J, P, G, H>,
@@ -138,15 +136,14 @@ fn lets_go_of_all<J: Naming, P: Placing, G: Gate + Drop, H: Wait + Drop, R: Wait
     for _ in 0..3 {
         post(rt, alloc, hub, pass, HANDSHAKE).map_err(|_| "refused")?;
     }
-    assert_eq!(rt; pass.note().begin(), 0);
-    lets_go(rt, alloc, hub, pass, 3)?;
-    lets_go(rt, alloc, hub, pass, 4)?;
+    assert_eq!(rt; began(rt, alloc, hub, pass)?, 0);
+    assert_eq!(rt; began(rt, alloc, hub, pass)?, 4);
     assert!(rt; hub.pause(rt, 0));
-    lets_go(rt, alloc, hub, pass, 5)?;
-    lets_go(rt, alloc, hub, pass, 5)?;
+    assert_eq!(rt; began(rt, alloc, hub, pass)?, 5);
+    assert_eq!(rt; began(rt, alloc, hub, pass)?, 5);
     assert!(rt; hub.resume(rt, 0));
-    lets_go(rt, alloc, hub, pass, 5)?;
-    lets_go(rt, alloc, hub, pass, 8)?;
+    assert_eq!(rt; began(rt, alloc, hub, pass)?, 5);
+    assert_eq!(rt; began(rt, alloc, hub, pass)?, 8);
     Ok(())
 }
 
@@ -224,7 +221,7 @@ fn ask<J: Naming, R: Wait + Abort>(
         Case::Answers => answers(rt, alloc, &hub, &mut pass),
         Case::Sweeps => sweeps(rt, alloc, &hub, &mut pass),
         Case::SweepsAll => sweeps_all(rt, alloc, &hub, &mut pass),
-        Case::LetsGo => lets_go_of_all(rt, alloc, &hub, &mut pass),
+        Case::LetsGo => lets_go(rt, alloc, &hub, &mut pass),
         Case::Closed => closed(rt, alloc, &hub, &mut pass),
     }
 }
