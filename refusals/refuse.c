@@ -1,10 +1,9 @@
-/* Refuses one call for memory: that whose number REFUSE says, counted from 1. At the end it writes how many calls there were into
-   the file that REFUSE_COUNT names. To be preloaded into a program. */
+/* Refuses one call for memory: that whose number REFUSE says, counted from 1. It then makes the file that REFUSE_MET names. To be
+   preloaded into a program. */
 #define _GNU_SOURCE
 #include <errno.h>
 #include <fcntl.h>
 #include <stdatomic.h>
-#include <stdio.h>
 #include <stdlib.h>
 #include <unistd.h>
 
@@ -22,20 +21,11 @@ __attribute__((constructor)) static void begin(void) {
     atomic_store(&calls, 0);
 }
 
-__attribute__((destructor)) static void end(void) {
-    const char *name = getenv("REFUSE_COUNT");
-    char text[32];
-    int file = name ? open(name, O_WRONLY | O_CREAT | O_TRUNC, 0600) : -1;
-    if (file >= 0) {
-        int length = snprintf(text, sizeof text, "%lu\n", atomic_load(&calls));
-        if (write(file, text, (size_t)length) != length) _exit(70);
-        close(file);
-    }
-}
-
 static int is_refused(void) {
     unsigned long call = atomic_fetch_add(&calls, 1) + 1;
+    const char *name = getenv("REFUSE_MET");
     if (call != refused) return 0;
+    if (name) close(open(name, O_WRONLY | O_CREAT, 0600));
     errno = ENOMEM;
     return 1;
 }
