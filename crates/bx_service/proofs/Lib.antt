@@ -1,1 +1,3 @@
 mod ExchangeLemmas
+mod GatheringLemmas
+mod Tickets

@@ -1,5 +1,6 @@
 -- How an exchange begins.
-use Rattle.std.specs.Prelude.{◌≡◌, ℕ, List, [], codes, Option, option_map, unwrap_or}
+use Rattle.std.specs.Prelude.{◌≡◌, ◌<◌, ◌⊎◌, ℕ, List, [], codes, Option, Some, None, option_map, unwrap_or}
+use Rattle.std.specs.Str.Parse.{IsNumeral, digits_value, without_leading_plus}
 use Rattle.http.specs.declared.request.Parts.{Parts}
 use Rattle.http_header.specs.FieldValue.{FieldValue}
 use Rattle.http_header.specs.HeaderMap.{Entries, get}
@@ -9,12 +10,21 @@ use Rattle.bx_service.specs.declared.exchange.State.{State}
 use Rattle.bx_service.specs.declared.exchange.State.TheVariants.{Collecting, Asked, Held, Refused}
 use Rattle.bx_service.specs.declared.route.Route.{Route}
 use Rattle.bx_service.specs.declared.route.Route.TheVariants as routes
-use Rattle.bx_service.specs.declared.status.Status.TheVariants.{Unavailable}
+use Rattle.bx_service.specs.declared.status.Status.TheVariants.{TooLarge, Unavailable}
 use Rattle.bx_service.specs.Statuses.{route_of}
 
 -- what the fields say of the body
 abbrev pub content_type_of : Entries FieldValue → Option (List ℕ)
 content_type_of fields = option_map (λ (value : FieldValue). value.bytes) (get fields (codes "content-type"))
+
+-- how many bytes the fields say that the body has
+abbrev pub length_of : Entries FieldValue → Option (List ℕ)
+length_of fields = option_map (λ (value : FieldValue). value.bytes) (get fields (codes "content-length"))
+
+-- a number of bytes above the limit
+abbrev pub IsTooLong : Option (List ℕ) → Type 0
+IsTooLong None = ⊥
+IsTooLong (Some text) = IsNumeral 10 (without_leading_plus text) × (BODY_LIMIT < digits_value 10 (without_leading_plus text))
 
 module _ {I B : Type 0} where
   -- a request with this query is asked; it is refused where there is no memory for the query
@@ -32,9 +42,13 @@ module _ {I B : Type 0} where
   IsPosting kind body (Held callback items) = ⊥
   IsPosting kind body (Refused status) = status ≡ Unavailable
 
+  -- the state of a POST: one that says a length above the limit may be refused before its body comes
+  abbrev pub IsPosted : Entries FieldValue → B → State I B → Type 0
+  IsPosted fields body state = IsPosting (content_type_of fields) body state ⊎ (IsTooLong (length_of fields) × (state ≡ Refused TooLarge))
+
   -- the state of a request that is served so
   abbrev pub BeginsAs : Route → Parts → B → State I B → Type 0
-  BeginsAs routes.Post head body state = IsPosting (content_type_of head.headers) body state
+  BeginsAs routes.Post head body state = IsPosted head.headers body state
   BeginsAs routes.Get head body state = IsAsking (unwrap_or (uri_query head.uri) []) state
   BeginsAs (routes.Refused status) head body state = state ≡ Refused status
 

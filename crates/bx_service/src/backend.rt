@@ -1,5 +1,10 @@
 //! What a service stands on.
-ghost use Rattle.std.specs.Prelude.{⊤, Result, IfOk};
+ghost use Rattle.std.specs.Prelude.{⊤, ◌≡◌, ◌⊎◌, [], None, Result, IfOk, IfErr};
+ghost use Rattle.std.specs.Vec.Iter.{into_iter_items};
+ghost use Rattle.bx_admission.specs.Slots.{placed_by};
+ghost use Rattle.bx_cut.specs.Bodies.{texts_of};
+ghost use Rattle.bx_service.specs.Gatherings.{AreSlotsFor, IsRefusedWith};
+ghost use Rattle.bx_service.specs.declared.status.Status.TheVariants.{Unavailable};
 ghost use Rattle.bx_cut.specs.declared.bodies.Bodies.{Bodies};
 ghost use Rattle.bx_service.specs.declared.status.Status.{Status};
 
@@ -98,6 +103,13 @@ where
 {
     type Items = Gathering<J, P, G, R>;
 
+    // Nothing of the response is there yet, and its slots are what one thread gives for the request with these documents; or
+    // the request is refused. Without memory for one more handle of the hub it is admitted, and unavailable.
+    ghost admits = { λ _ bodies outcome.
+        IfOk outcome (λ g. (g.items.items ≡ []) × (g.held ≡ None)
+        × AreSlotsFor (placed_by J.config J.config.shards J.placing) (texts_of bodies) g.pass (into_iter_items g.slots))
+        × IfErr outcome (λ status. (status ≡ Unavailable) ⊎ IsRefusedWith (texts_of bodies) status) };
+
     fn admit(&self, bodies: Bodies) -> Result<Gathering<J, P, G, R>, Status> {
         let arrival = Arrival {
             moment: self.clock.now(),
@@ -109,11 +121,8 @@ where
             Ok(posted) => posted,
             Err(fault) => return Err(Status::of_post(fault)),
         };
-        let Ok(hub) = Arc::try_clone(&self.hub) else {
-            return Err(Status::Unavailable);
-        };
-        match Gathering::new(self.rt, self.alloc, hub, pass, posted.slots) {
-            Ok(gathering) => Ok(gathering),
+        match Arc::try_clone(&self.hub) {
+            Ok(hub) => Ok(Gathering::new(self.rt, self.alloc, hub, pass, posted.slots)),
             Err(_) => Err(Status::Unavailable),
         }
     }

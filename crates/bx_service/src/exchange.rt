@@ -1,12 +1,12 @@
 //! One request and its response.
-ghost use Rattle.std.specs.Prelude.{◌≡◌, [], IfOk, IfSome, Ok, MatchOption, option_copied, option_map, string_bytes, unwrap_or};
+ghost use Rattle.std.specs.Prelude.{◌≡◌, [], IfOk, IfSome, IsTrue, Ok, MatchOption, option_copied, option_map, string_bytes, unwrap_or};
 ghost use Rattle.std.specs.Arc.{arc_value};
 ghost use Rattle.futures.specs.Poll.{IfReady, OnPending};
 ghost use Rattle.futures.specs.Task.{IsArmed, Keeps};
 ghost use Rattle.bx_service.specs.Polling.{CanPoll};
 ghost use Rattle.http.specs.Request.{head_of, body_of};
 ghost use Rattle.bx_cut.specs.Bodies.{texts_of};
-ghost use Rattle.bx_service.specs.Beginnings.{Begins, IsAsking, IsPosting};
+ghost use Rattle.bx_service.specs.Beginnings.{Begins, IsAsking, IsPosting, IsTooLong};
 ghost use Rattle.bx_service.specs.Exchanges.{ForAsked, ForCollected, ForDocuments, ForItems, MayAnswer, Sent};
 
 use crate::backend::{Backend, Unanswered};
@@ -22,7 +22,7 @@ use bx_transport::{read_get, read_post};
 use bytes::{Buf, Bytes};
 use futures::Future;
 use futures::task::{Context, Poll};
-use http::header::{CONTENT_TYPE, HeaderValue};
+use http::header::{CONTENT_LENGTH, CONTENT_TYPE, HeaderValue};
 use http::request::Parts;
 use http::{Request, Response};
 use http_body::Body;
@@ -88,6 +88,9 @@ impl<I: Future, B: Body> State<I, B> {
         match Route::of(&parts.method, parts.uri.path()) {
             Route::Refused(status) => State::Refused(status),
             Route::Get => State::asking(alloc, parts.uri.query()),
+            Route::Post if is_too_long(parts.headers.get(CONTENT_LENGTH)) => {
+                State::Refused(Status::TooLarge)
+            }
             Route::Post => State::posting(alloc, parts.headers.get(CONTENT_TYPE), body),
         }
     }
@@ -125,6 +128,16 @@ impl<I: Future, B: Body> State<I, B> {
             body: Collect::new(alloc, body, BODY_LIMIT),
         }
     }
+}
+
+// Whether the length of a body, as its request says it, is above the limit.
+fn is_too_long(length: Option<&HeaderValue>) -> bool
+    ensures { IsTrue result → IsTooLong (option_map (λ value. value.bytes) (option_copied length.entry)) }
+{
+    let Some(Ok(digits)) = length.map(|it| it.to_str()) else {
+        return false;
+    };
+    u64::from_str_radix(digits, 10).is_ok_and(|count| count > BODY_LIMIT as u64)
 }
 
 // The state of a request with these documents.

@@ -1,18 +1,26 @@
 //! The items of a response, as the answers come.
-ghost use Rattle.futures.specs.Task.{Keeps};
+ghost use Rattle.std.specs.Prelude.{◌≡◌, ◌++◌, ◌∷◌, ◌<◌, List, [], None, Some, false, IfOk, OnOk, MatchOption, option_map, length};
+ghost use Rattle.std.specs.Vec.Iter.{into_iter_items};
+ghost use Rattle.futures.specs.Poll.{IfReady, OnPending};
+ghost use Rattle.futures.specs.Task.{Covers, Keeps};
+ghost use Rattle.bx_admission.specs.Slots.{placed_by};
+ghost use Rattle.bx_message.specs.declared.reply.Item.{Item};
+ghost use Rattle.bx_message.specs.declared.reply.Item.TheVariants.{ReplyItem};
+ghost use Rattle.bx_service.specs.Gatherings.{AreAll, AreBelow, IsBelow, are_below-prop, awaited_as, items_of};
+ghost use Rattle.bx_window.specs.Steps.{list_of};
 
 use crate::backend::Unanswered;
 use bx_entry::{Placing, Slot, Ticket};
 use bx_held::HeldConnect;
 use bx_hub::{Gate, Hub, Pass};
-use bx_message::{Answer, Item, Sequence};
+use bx_message::{Answer, Item, Reply, Sequence};
 use bx_window::Naming;
 use futures::Future;
 use futures::task::{Context, Poll};
 use std::alloc::{AllocError, Global};
-use std::collections::VecDeque;
 use std::mem;
 use std::sync::{Arc, Wait};
+use std::vec::IntoIter;
 
 /// A request that was admitted: the items that are there, the connect that is waited for, and the slots behind it.
 #[derive(Drop)]
@@ -22,8 +30,9 @@ pub struct Gathering<J: Naming, P: Placing, G: Gate + Drop, R: Wait + Drop> {
     hub: Arc<Hub<J, P, G, R>, Global>,
     pass: Pass<J>,
     items: Vec<Item>,
-    slots: VecDeque<Slot>,
     held: Option<HeldConnect<J, P, G, R, R>>,
+    slots: IntoIter<Slot>,
+    ghost within: { AreBelow (length (list_of pass)) (into_iter_items slots) } by { are_below-prop (length (list_of pass)) (into_iter_items slots) },
 }
 
 impl<J: Naming, P: Placing + Drop, G: Gate + Drop, R: Wait + Copy + Drop> Gathering<J, P, G, R> {
@@ -34,49 +43,97 @@ impl<J: Naming, P: Placing + Drop, G: Gate + Drop, R: Wait + Copy + Drop> Gather
         hub: Arc<Hub<J, P, G, R>, Global>,
         pass: Pass<J>,
         slots: Sequence<Slot>,
-    ) -> Result<Gathering<J, P, G, R>, AllocError> {
-        let slots = slots.into_vec();
-        let items = Vec::with_capacity(alloc, slots.len())?;
-        let mut rest = VecDeque::with_capacity(alloc, slots.len())?;
-        for slot in slots {
-            rest.push_back(slot)?;
-        }
-        Ok(Gathering {
+    ) -> Gathering<J, P, G, R>
+        requires { AreBelow (length (list_of pass)) slots }
+        ensures begins { (result.items.items ≡ []) × (result.held ≡ None) }
+        ensures slots { (result.pass ≡ pass) × (into_iter_items result.slots ≡ slots) }
+    {
+        Gathering {
             rt,
             alloc,
             hub,
             pass,
-            items,
-            slots: rest,
+            items: Vec::new(alloc),
             held: None,
-        })
+            slots: slots.into_vec().into_iter(),
+        }
     }
 
-    // The future of the answer under a ticket.
-    fn held(&self, ticket: Ticket) -> Result<HeldConnect<J, P, G, R, R>, Unanswered> {
-        if ticket.place >= self.pass.seen() {
-            return Err(Unanswered);
-        }
+    // From here on the answer under this ticket is waited for.
+    fn wait_for(&mut self, ticket: Ticket) -> Result<(), AllocError>
+        requires { ticket.place < length (list_of self.old.pass) }
+        ensures waits { OnOk result (option_map (λ h. awaited_as h.ticket h.pass h.is_done) self.new.held ≡ Some (awaited_as ticket self.old.pass false)) }
+        ensures same { (self.new.items ≡ self.old.items) × (self.new.pass ≡ self.old.pass) × (self.new.slots ≡ self.old.slots) }
+    {
         let hub = Arc::try_clone(&self.hub)?;
         let pass = Pass::of(self.pass.note());
-        Ok(HeldConnect::new(self.rt, self.alloc, hub, pass, ticket))
+        self.held = Some(HeldConnect::new(self.rt, self.alloc, hub, pass, ticket));
+        Ok(())
     }
 
-    // Takes the next slot: its reply, or the connect that is waited for from now on. False where there is none.
-    fn step(&mut self) -> Result<bool, Unanswered> {
-        match self.slots.pop_front() {
-            Some(Slot::Ready(reply)) => {
-                if self.items.push(Item::ReplyItem(reply)).is_err() {
-                    return Err(Unanswered);
-                }
-                Ok(true)
+    // Puts the items of the connect that is waited for behind the others, once they are there.
+    fn poll_held(&mut self, cx: &mut Context<'_>) -> Result<Poll<()>, Unanswered>
+        ensures same { OnOk result ((all : List Item)
+            → AreAll (placed_by J.config J.config.shards J.placing) self.new.pass self.new.items.items (option_map (λ h. awaited_as h.ticket h.pass h.is_done) self.new.held) (into_iter_items self.new.slots) all
+            → AreAll (placed_by J.config J.config.shards J.placing) self.old.pass self.old.items.items (option_map (λ h. awaited_as h.ticket h.pass h.is_done) self.old.held) (into_iter_items self.old.slots) all) }
+        ensures done { IfOk result (λ polled. IfReady polled (λ _. self.new.held ≡ None)) }
+        ensures slots { (self.new.pass ≡ self.old.pass) × (self.new.slots ≡ self.old.slots) }
+        ensures registered { IfOk result (λ polled. OnPending polled (Covers cx.new (λ s. MatchOption self.new.held ⊥ (λ h. s ≡ h.source.id)))) }
+        ensures kept { Keeps cx.old cx.new }
+    {
+        let Some(held) = &mut self.held else {
+            return Ok(Poll::Ready(()));
+        };
+        let Poll::Ready(given) = held.poll(cx) else {
+            return Ok(Poll::Pending);
+        };
+        self.held = None;
+        add_answer(&mut self.items, given?)?;
+        Ok(Poll::Ready(()))
+    }
+
+    // Takes the slot that came before the others: its reply, or its connect, which is waited for from now on.
+    fn take(&mut self, slot: Slot, cx: &mut Context<'_>) -> Result<Poll<()>, Unanswered>
+        requires below { IsBelow (length (list_of self.old.pass)) slot }
+        requires free { self.old.held ≡ None }
+        ensures same { OnOk result ((all : List Item)
+            → AreAll (placed_by J.config J.config.shards J.placing) self.new.pass self.new.items.items (option_map (λ h. awaited_as h.ticket h.pass h.is_done) self.new.held) (into_iter_items self.new.slots) all
+            → AreAll (placed_by J.config J.config.shards J.placing) self.old.pass self.old.items.items None (slot ∷ into_iter_items self.old.slots) all) }
+        ensures done { IfOk result (λ polled. IfReady polled (λ _. self.new.held ≡ None)) }
+        ensures slots { (self.new.pass ≡ self.old.pass) × (self.new.slots ≡ self.old.slots) }
+        ensures registered { IfOk result (λ polled. OnPending polled (Covers cx.new (λ s. MatchOption self.new.held ⊥ (λ h. s ≡ h.source.id)))) }
+        ensures kept { Keeps cx.old cx.new }
+    {
+        match slot {
+            Slot::Ready(reply) => {
+                add_reply(&mut self.items, reply)?;
+                Ok(Poll::Ready(()))
             }
-            Some(Slot::Waiting(ticket)) => {
-                self.held = Some(self.held(ticket)?);
-                Ok(true)
+            Slot::Waiting(ticket) => {
+                self.wait_for(ticket)?;
+                self.poll_held(cx)
             }
-            None => Ok(false),
         }
+    }
+
+    // Goes on until all items are there, or a connect is waited for.
+    fn gather(&mut self, cx: &mut Context<'_>) -> Result<Poll<()>, Unanswered>
+        ensures same { OnOk result ((all : List Item)
+            → AreAll (placed_by J.config J.config.shards J.placing) self.new.pass self.new.items.items (option_map (λ h. awaited_as h.ticket h.pass h.is_done) self.new.held) (into_iter_items self.new.slots) all
+            → AreAll (placed_by J.config J.config.shards J.placing) self.old.pass self.old.items.items (option_map (λ h. awaited_as h.ticket h.pass h.is_done) self.old.held) (into_iter_items self.old.slots) all) }
+        ensures done { IfOk result (λ polled. IfReady polled (λ _. (self.new.held ≡ None) × (into_iter_items self.new.slots ≡ []))) }
+        ensures registered { IfOk result (λ polled. OnPending polled (Covers cx.new (λ s. MatchOption self.new.held ⊥ (λ h. s ≡ h.source.id)))) }
+        ensures kept { Keeps cx.old cx.new }
+    {
+        if self.poll_held(cx)?.is_pending() {
+            return Ok(Poll::Pending);
+        }
+        while let Some(slot) = self.slots.next() {
+            if self.take(slot, cx)?.is_pending() {
+                return Ok(Poll::Pending);
+            }
+        }
+        Ok(Poll::Ready(()))
     }
 }
 
@@ -84,37 +141,38 @@ impl<J: Naming, P: Placing + Drop, G: Gate + Drop, R: Wait + Copy + Drop> Future
     for Gathering<J, P, G, R> {
     type Output = Result<Vec<Item>, Unanswered>;
 
+    // That the connect which is waited for is answered.
+    ghost needs = { λ g s. MatchOption g.held ⊥ (λ h. s ≡ h.source.id) };
+
+    ghost gives = { λ g gathered. IfOk gathered (λ items. AreAll (placed_by J.config J.config.shards J.placing) g.pass g.items.items (option_map (λ h. awaited_as h.ticket h.pass h.is_done) g.held) (into_iter_items g.slots) items.items) };
+
     fn poll(&mut self, cx: &mut Context<'_>) -> Poll<Result<Vec<Item>, Unanswered>> {
-        for _ in 0..=self.slots.len() {
-            if let Some(held) = &mut self.held {
-                match held.poll(cx) {
-                    Poll::Pending => return Poll::Pending,
-                    Poll::Ready(Err(_)) => return Poll::Ready(Err(Unanswered)),
-                    Poll::Ready(Ok(answer)) => {
-                        self.held = None;
-                        if add_answer(&mut self.items, answer).is_err() {
-                            return Poll::Ready(Err(Unanswered));
-                        }
-                    }
-                }
+        match self.gather(cx) {
+            Ok(Poll::Pending) => Poll::Pending,
+            Ok(Poll::Ready(())) => {
+                let items = mem::replace(&mut self.items, Vec::new(self.alloc));
+                Poll::Ready(Ok(items))
             }
-            match self.step() {
-                Ok(true) => {}
-                Ok(false) => break,
-                Err(fault) => return Poll::Ready(Err(fault)),
-            }
+            Err(fault) => Poll::Ready(Err(fault)),
         }
-        let items = mem::replace(&mut self.items, Vec::new(self.alloc));
-        Poll::Ready(Ok(items))
     }
 }
 
 // Puts the items of an answer behind the others: its events, then its reply.
-fn add_answer(items: &mut Vec<Item>, answer: Answer) -> Result<(), AllocError> {
+fn add_answer(items: &mut Vec<Item>, answer: Answer) -> Result<(), AllocError>
+    ensures { OnOk result (items.new.items ≡ items.old.items ++ items_of answer) }
+{
     let Answer { events, reply } = answer;
     for event in events.into_vec() {
         items.push(Item::EventItem(event))?;
     }
+    add_reply(items, reply)
+}
+
+// Puts a reply behind the others.
+fn add_reply(items: &mut Vec<Item>, reply: Reply) -> Result<(), AllocError>
+    ensures { OnOk result (items.new.items ≡ items.old.items ++ ReplyItem reply ∷ []) }
+{
     items.push(Item::ReplyItem(reply))?;
     Ok(())
 }

@@ -9,6 +9,7 @@ use bx_window::Naming;
 use futures::Future;
 use futures::task::Poll;
 use http::Request;
+use http::header::{CONTENT_LENGTH, CONTENT_TYPE};
 use hyper::service::Service;
 use std::process::Abort;
 use std::sync::Wait;
@@ -152,6 +153,29 @@ where
     Ok(())
 }
 
+// A body that is said to be beyond the limit is refused before any of it came.
+fn said_size<J, S, I, H, R>(rt: &R, bench: &Bench<J, S, H>) -> Result<(), Fail>
+where
+    J: Naming,
+    S: Backend<Items = I> + Drop,
+    I: Future<Output = Result<Vec<Item>, Unanswered>> + Drop,
+    H: Wait + Drop,
+    R: Abort,
+{
+    let Bench {
+        alloc,
+        service,
+        first,
+        ..
+    } = bench;
+    let request = Request::post(*alloc, "/cometd")
+        .header(CONTENT_TYPE, JSON)
+        .header(CONTENT_LENGTH, (BODY_LIMIT + 1) as u64)
+        .body(Pieces::late(*alloc, b"[]")?)
+        .map_err(|_| "no request")?;
+    check_request(rt, *alloc, service, first, request, Want::Status(413))
+}
+
 /// What is refused, and nothing is changed by it.
 pub fn refused<J, S, I, H, R>(rt: &R, bench: &Bench<J, S, H>) -> Result<(), Fail>
 where
@@ -164,6 +188,7 @@ where
     targets(rt, bench)?;
     bodies(rt, bench)?;
     sizes(rt, bench)?;
+    said_size(rt, bench)?;
     let Bench {
         alloc,
         service,

@@ -1,0 +1,52 @@
+-- What is still to come goes on being what was to come.
+use Rattle.std.proofs.Common.{◌≡◌, List, [], ◌∷◌, ◌++◌, Bool, false, Option, Some, None, Result, Ok, Err, OnOk, refl, subst, ◌∙◌}
+use Rattle.std.proofs.lemmas.List.{append_assoc}
+use Rattle.bx_entry.specs.declared.entry.Slot.{Slot}
+use Rattle.bx_entry.specs.declared.entry.Slot.TheVariants.{Ready, Waiting}
+use Rattle.bx_entry.specs.declared.entry.Ticket.{Ticket}
+use Rattle.bx_held.specs.Outputs.{MayGive}
+use Rattle.bx_held.specs.declared.fault.HeldFault.{HeldFault}
+use Rattle.bx_message.specs.declared.reply.Answer.{Answer}
+use Rattle.bx_message.specs.declared.reply.Item.{Item}
+use Rattle.bx_message.specs.declared.reply.Item.TheVariants.{ReplyItem}
+use Rattle.bx_message.specs.declared.reply.Reply.{Reply}
+use Rattle.bx_shard.specs.Shards.{Setup}
+use Rattle.bx_window.specs.declared.law.Step.{Step}
+use Rattle.bx_service.specs.Gatherings.{AreAll, Awaited, awaited_as, items_of}
+
+pub on_ok : {A E P Q : Type 0} (r : Result A E) → (P → Q) → OnOk r P → OnOk r Q
+on_ok (Ok x) follows holds = follows holds
+on_ok (Err fault) follows holds = tt
+
+-- where nothing is changed but the names
+pub all_same : (setup : Setup) (seen was_seen : List Step) (there was_there : List Item) (awaited was_awaited : Option Awaited) (slots were_slots : List Slot) (all : List Item) →
+    was_seen ≡ seen → was_there ≡ there → was_awaited ≡ awaited → were_slots ≡ slots → AreAll setup was_seen was_there was_awaited were_slots all → AreAll setup seen there awaited slots all
+all_same setup seen was_seen there was_there awaited was_awaited slots were_slots all s t a l given =
+    subst (λ (x : List Step). AreAll setup x there awaited slots all) s
+    (subst (λ (x : List Item). AreAll setup was_seen x awaited slots all) t
+    (subst (λ (x : Option Awaited). AreAll setup was_seen was_there x slots all) a
+    (subst (λ (x : List Slot). AreAll setup was_seen was_there was_awaited x all) l given)))
+
+module _ (setup : Setup) (seen : List Step) (there : List Item) (slots : List Slot) (all : List Item) where
+  -- an answer that came is put behind what is there
+  pub all_given : (ticket : Ticket) (from : List Step) (is_done : Bool) (a : Answer) → MayGive setup ticket from is_done (Ok a) →
+      AreAll setup seen (there ++ items_of a) None slots all → AreAll setup seen there (Some (awaited_as ticket from is_done)) slots all
+  all_given ticket from is_done a may given =
+      (items_of a ++ given.0, ((items_of a, ((a, (may, refl)), (given.0, (given.1.0, refl)))), given.1.1 ∙ append_assoc there (items_of a) given.0))
+
+  -- what is waited for may be asked for once more
+  pub all_awaited : (t u : Ticket) (old new : List Step) (was is : Bool) → ((output : Result Answer HeldFault) → MayGive setup u new is output → MayGive setup t old was output) →
+      AreAll setup seen there (Some (awaited_as u new is)) slots all → AreAll setup seen there (Some (awaited_as t old was)) slots all
+  all_awaited t u old new was is same given =
+      let left = given.1.0 in
+      let since = left.1.0 in
+      (given.0, ((left.0, ((since.0, (same (Ok since.0) since.1.0, since.1.1)), left.1.1)), given.1.1))
+
+  -- a reply is put behind what is there
+  pub all_replied : (reply : Reply) → AreAll setup seen (there ++ ReplyItem reply ∷ []) None slots all → AreAll setup seen there None (Ready reply ∷ slots) all
+  all_replied reply given =
+      (ReplyItem reply ∷ given.0, ((ReplyItem reply ∷ [], (refl, (given.0, (given.1.0, refl)))), given.1.1 ∙ append_assoc there (ReplyItem reply ∷ []) given.0))
+
+  -- a connect is waited for
+  pub all_waiting : (ticket : Ticket) → AreAll setup seen there (Some (awaited_as ticket seen false)) slots all → AreAll setup seen there None (Waiting ticket ∷ slots) all
+  all_waiting ticket given = given

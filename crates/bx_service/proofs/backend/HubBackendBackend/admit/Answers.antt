@@ -1,0 +1,10 @@
+use Rattle.bx_admission.specs.Slots.{placed_by}
+use Rattle.bx_cut.specs.Bodies.{texts_of}
+use Rattle.bx_service.specs.Gatherings.{request_of}
+use Rattle.bx_service.proofs.Tickets.{slots_below}
+use Rattle.bx_service.proofs.backend.HubBackendBackend.admit.Goals as goal
+
+pub new-requires : goal.new-requires
+new-requires g c =
+    let config = g.J.Naming.config in
+    slots_below (placed_by config config.shards g.J.Naming.placing) (request_of c.now.result c.next.result (texts_of c.args.bodies)) c.in-Ok.posted.first c.pass-pass.result c.post.new.pass c.in-Ok.posted.slots c.in-Ok.ensures.admitted c.in-Ok.ensures.slots

@@ -1,0 +1,95 @@
+-- What the slots of a request come to, and why a request has none.
+use Rattle.std.specs.Prelude.{ℕ, ◌≡◌, ◌<◌, List, [], ◌∷◌, ◌++◌, map, Option, Some, None, false, Bool, Ok}
+use Rattle.std.specs.List.{AllByRecursion, AllByRecursion-prop}
+use Rattle.std.proofs.Props.{props}
+use Rattle.std.specs.Coded.{Unit-prop}
+use Rattle.bx_entry.specs.Inputs.{ReadInput}
+use Rattle.bx_entry.specs.Requests.{read_by, request_messages}
+use Rattle.bx_entry.specs.declared.entry.Slot.{Slot}
+use Rattle.bx_entry.specs.declared.entry.Slot.TheVariants.{Ready, Waiting}
+use Rattle.bx_entry.specs.declared.entry.Ticket.{Ticket}
+use Rattle.bx_held.specs.Outputs.{MayGive}
+use Rattle.bx_hub.specs.Posts.{AreSlotsAt, IsAdmittedAt, IsRefused}
+use Rattle.bx_hub.specs.declared.fault.PostFault.{PostFault}
+use Rattle.bx_message.specs.declared.reply.Answer.{Answer}
+use Rattle.bx_message.specs.declared.reply.Item.{Item}
+use Rattle.bx_message.specs.declared.reply.Item.TheVariants.{EventItem, ReplyItem}
+use Rattle.bx_shard.specs.Shards.{Setup}
+use Rattle.bx_window.specs.declared.law.Step.{Step}
+use Rattle.bx_service.specs.Statuses.{post_status}
+use Rattle.bx_service.specs.declared.status.Status.{Status}
+
+-- a connect that waits stands below this place
+abbrev pub IsBelow : ℕ → Slot → Type 0
+IsBelow end (Ready reply) = Unit {0}
+IsBelow end (Waiting ticket) = ticket.place < end
+
+-- the connects that wait among these slots stand below this place
+abbrev pub AreBelow : ℕ → List Slot → Type 0
+AreBelow end slots = AllByRecursion (IsBelow end) slots
+
+below-prop : (end : ℕ) (slot : Slot) → IsProp (IsBelow end slot)
+below-prop end (Ready reply) = Unit-prop
+below-prop end (Waiting ticket) = Prim.hlevel props
+
+pub are_below-prop : (end : ℕ) (slots : List Slot) → IsProp (AreBelow end slots)
+are_below-prop end slots = AllByRecursion-prop (IsBelow end) (below-prop end) slots
+
+-- what a client gets of an answer: its events, and then its reply
+abbrev pub items_of : Answer → List Item
+items_of a = map EventItem a.events ++ ReplyItem a.reply ∷ []
+
+-- a connect that is waited for: its ticket, what had been seen when it was asked for last, and whether its answer was given
+pub record Awaited : Type 0 where
+  pub ticket : Ticket
+  pub seen : List Step
+  pub is_done : Bool
+
+abbrev pub awaited_as : Ticket → List Step → Bool → Awaited
+awaited_as ticket seen is_done = record { ticket = ticket; seen = seen; is_done = is_done }
+
+module _ (setup : Setup) where
+  -- the items of a connect that waits: of an answer that it may be given since this was seen
+  abbrev pub AreItemsSince : Ticket → List Step → Bool → List Item → Type 0
+  AreItemsSince ticket seen is_done items = (a : Answer) × (MayGive setup ticket seen is_done (Ok a) × (items ≡ items_of a))
+
+  module _ (seen : List Step) where
+    -- the items of a slot: its reply, or those of its connect, by some front that begins with what was seen
+    abbrev pub AreItemsFor : Slot → List Item → Type 0
+    AreItemsFor (Ready reply) items = items ≡ ReplyItem reply ∷ []
+    AreItemsFor (Waiting ticket) items = AreItemsSince ticket seen false items
+
+    -- the items of the slots, in their order
+    abbrev pub AreItems : List Slot → List Item → Type 0
+    AreItems [] items = items ≡ []
+    AreItems (slot ∷ slots) items = (first : List Item) × (AreItemsFor slot first × ((rest : List Item) × (AreItems slots rest × (items ≡ first ++ rest))))
+
+    -- the items that are to come, where a connect is waited for or none is
+    abbrev pub AreLeft : Option Awaited → List Slot → List Item → Type 0
+    AreLeft None slots items = AreItems slots items
+    AreLeft (Some w) slots items = (first : List Item) × (AreItemsSince w.ticket w.seen w.is_done first × ((rest : List Item) × (AreItems slots rest × (items ≡ first ++ rest))))
+
+    -- all items: those that are there, and those that are to come
+    abbrev pub AreAll : List Item → Option Awaited → List Slot → List Item → Type 0
+    AreAll there awaited slots items = (rest : List Item) × (AreLeft awaited slots rest × (items ≡ there ++ rest))
+
+-- a request with these documents, as it is read
+abbrev pub request_of : ℕ → ℕ → List (List ℕ) → ReadInput
+request_of moment nonce documents = read_by moment nonce (request_messages documents)
+
+-- at some moment and with some nonce, the request stands at some place of what was then seen of the list, and the slots are what one thread gives for it there
+pub record AreSlotsFor (setup : Setup) (documents : List (List ℕ)) (seen : List Step) (slots : List Slot) : Type 0 where
+  pub moment : ℕ
+  pub nonce : ℕ
+  pub first : ℕ
+  pub admitted : IsAdmittedAt (request_of moment nonce documents) first [] seen
+  pub slots_at : AreSlotsAt setup (request_of moment nonce documents) first seen slots
+
+-- at some moment and with some nonce, the hub refuses the request for a reason of this status
+pub record IsRefusedWith (documents : List (List ℕ)) (status : Status) : Type 0 where
+  pub moment : ℕ
+  pub nonce : ℕ
+  pub fault : PostFault
+  pub front : List Step
+  pub refused : IsRefused (request_of moment nonce documents) fault front
+  pub told : status ≡ post_status fault
