@@ -1,0 +1,127 @@
+//! Loads a server by several threads.
+use crate::context::Context;
+use crate::fault::Fault;
+use crate::part::Part;
+use crate::tally::Tally;
+use crate::worker::work;
+use bx_load::{Settings, Target};
+use std::alloc::{AllocGlobal, Global};
+use std::net::{Net, SocketAddr, TcpListener, TcpStream, ToSocketAddrs};
+use std::sync::{Arc, Wait};
+use std::thread;
+use std::thread::{JoinHandle, Threads};
+use std::time::{Clock, Instant};
+
+// With more threads than that nothing is gained on the machine that is measured.
+const MOST_THREADS: u64 = 8;
+
+// A thread that does a part.
+type Other = JoinHandle<Result<Tally, Fault>>;
+
+/// Loads the server as it is told, with a line of progress or without.
+pub fn load<R>(rt: R, settings: Settings, is_shown: bool) -> Result<Tally, Fault>
+where
+    R: Net<Listener = TcpListener, Stream = TcpStream>
+        + Clock
+        + Wait
+        + Threads
+        + Eprint
+        + AllocGlobal
+        + Sync
+        + Send
+        + Copy
+        + Drop
+        + 'static,
+{
+    let address = address_of(&rt, &settings.target)?;
+    let (alloc, threads) = (rt.alloc(), threads_for(&rt));
+    let start = Instant::now(&rt)?;
+    let context = Arc::new(
+        alloc,
+        Context::new(alloc, settings, address, start, threads),
+    )?;
+    let mut whole = Tally::new(alloc)?;
+    let mut others = Vec::new(alloc);
+    for index in 1..threads {
+        begin(rt, &context, index, threads, &mut others)?;
+    }
+    let own = Part::new(alloc, 0, threads)?;
+    let own = work(&rt, &*context, own, is_shown);
+    match added(rt, &mut whole, own, others) {
+        None => Ok(whole),
+        Some(fault) => Err(fault),
+    }
+}
+
+// Begins the part of this index on a thread of its own.
+fn begin<R>(
+    rt: R,
+    context: &Arc<Context, Global>,
+    index: u64,
+    threads: u64,
+    others: &mut Vec<Other>,
+) -> Result<(), Fault>
+where
+    R: Net<Listener = TcpListener, Stream = TcpStream>
+        + Clock
+        + Wait
+        + Threads
+        + Eprint
+        + Sync
+        + Send
+        + Copy
+        + Drop
+        + 'static,
+{
+    let part = Part::new(context.alloc, index, threads)?;
+    let context = Arc::try_clone(context)?;
+    match thread::spawn(&rt, move || work(&rt, &*context, part, false)) {
+        Ok(other) => Ok(others.push(other)?),
+        Err(_) => Err(Fault::System),
+    }
+}
+
+// Adds what came of all parts, or says why one ended before its end.
+fn added<R: Threads>(
+    rt: R,
+    whole: &mut Tally,
+    own: Result<Tally, Fault>,
+    others: Vec<Other>,
+) -> Option<Fault>
+where
+    R: Copy + Drop,
+{
+    let mut fault = add(whole, own);
+    for other in others {
+        fault = fault.or(add(whole, other.join(&rt)));
+    }
+    fault
+}
+
+// Adds what came of a part, or says why it ended before its end, which the end of another is no reason of.
+fn add(whole: &mut Tally, part: Result<Tally, Fault>) -> Option<Fault> {
+    match part {
+        Ok(tally) => {
+            whole.add(&tally);
+            None
+        }
+        Err(Fault::Other) => None,
+        Err(fault) => Some(fault),
+    }
+}
+
+// Where the server is.
+fn address_of(net: &impl Net, target: &Target) -> Result<SocketAddr, Fault> {
+    match target.host.as_str().to_socket_addrs(net) {
+        Ok(mut addresses) => addresses.next().ok_or(Fault::Unreachable),
+        Err(_) => Err(Fault::Unreachable),
+    }
+}
+
+// Half of the processors, since the server has some of them too.
+fn threads_for(rt: &impl Threads) -> u64 {
+    match thread::available_parallelism(rt) {
+        Ok(count) => (count.get() as u64 / 2).clamp(1, MOST_THREADS),
+        Err(_) => 1,
+    }
+}
