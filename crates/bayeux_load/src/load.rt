@@ -33,22 +33,58 @@ where
         + Drop
         + 'static,
 {
-    let address = address_of(&rt, &settings.target)?;
-    let (alloc, threads) = (rt.alloc(), threads_for(&rt));
-    let start = Instant::now(&rt)?;
-    let context = Arc::new(
-        alloc,
-        Context::new(alloc, settings, address, start, threads),
-    )?;
-    let mut whole = Tally::new(alloc)?;
-    let mut others = Vec::new(alloc);
-    for index in 1..threads {
-        begin(rt, &context, index, threads, &mut others)?;
+    let threads = threads_for(&rt);
+    let context = Arc::new(rt.alloc(), context_of(&rt, settings, threads)?)?;
+    let mut whole = Tally::new(rt.alloc())?;
+    match all_parts(rt, &context, threads, is_shown, &mut whole) {
+        Ok(()) => Ok(whole),
+        Err(fault) => Err(fault),
     }
-    let own = Part::new(alloc, 0, threads)?;
-    let own = work(&rt, &*context, own, is_shown);
-    match added(rt, &mut whole, own, others) {
-        None => Ok(whole),
+}
+
+// What the clients of so many threads share.
+fn context_of<R: Net + Clock + AllocGlobal>(
+    rt: &R,
+    settings: Settings,
+    threads: u64,
+) -> Result<Context, Fault> {
+    match (address_of(rt, &settings.target), Instant::now(rt)) {
+        (Ok(address), Ok(start)) => Ok(Context::new(rt.alloc(), settings, address, start, threads)),
+        (Err(fault), _) => Err(fault),
+        (_, Err(_)) => Err(Fault::System),
+    }
+}
+
+// Does all parts, the first on this thread, and adds what comes of them.
+fn all_parts<R>(
+    rt: R,
+    context: &Arc<Context, Global>,
+    threads: u64,
+    is_shown: bool,
+    whole: &mut Tally,
+) -> Result<(), Fault>
+where
+    R: Net<Listener = TcpListener, Stream = TcpStream>
+        + Clock
+        + Wait
+        + Threads
+        + Eprint
+        + Sync
+        + Send
+        + Copy
+        + Drop
+        + 'static,
+{
+    let mut others = Vec::new(context.alloc);
+    for index in 1..threads {
+        begin(rt, context, index, threads, &mut others)?;
+    }
+    let own = match Part::new(context.alloc, 0, threads) {
+        Ok(part) => work(&rt, &**context, part, is_shown),
+        Err(_) => Err(Fault::Memory),
+    };
+    match added(rt, whole, own, others) {
+        None => Ok(()),
         Some(fault) => Err(fault),
     }
 }

@@ -19,6 +19,8 @@ struct Waiting {
     poll: Poll,
     events: Events,
     buffer: Vec<u8>,
+    // When the line of progress was written; none: it is not to be.
+    shown: Option<u64>,
 }
 
 /// What comes of a part of a load, in which all threads have nothing left to do.
@@ -26,8 +28,8 @@ pub fn work<R>(rt: &R, context: &Context, mut part: Part, is_shown: bool) -> Res
 where
     R: Net<Listener = TcpListener, Stream = TcpStream> + Clock + Wait + Eprint,
 {
-    let result = match make_waiting(rt, context.alloc) {
-        Ok(mut waiting) => turns(rt, context, &mut part, &mut waiting, is_shown),
+    let result = match make_waiting(rt, context.alloc, is_shown) {
+        Ok(mut waiting) => turns(rt, context, &mut part, &mut waiting),
         Err(fault) => Err(fault),
     };
     match result {
@@ -39,44 +41,53 @@ where
     }
 }
 
-fn make_waiting(net: &impl Net, alloc: Global) -> Result<Waiting, Fault> {
+fn make_waiting(net: &impl Net, alloc: Global, is_shown: bool) -> Result<Waiting, Fault> {
     Ok(Waiting {
         events: Events::with_capacity(alloc, 1024)?,
         buffer: vec![in alloc; 0; 65_536]?,
         poll: Poll::new(net)?,
+        shown: if is_shown { Some(0) } else { None },
     })
 }
 
 // Goes on until all threads have nothing left to do.
-fn turns<R>(
-    rt: &R,
-    context: &Context,
-    part: &mut Part,
-    waiting: &mut Waiting,
-    is_shown: bool,
-) -> Result<(), Fault>
+fn turns<R>(rt: &R, context: &Context, part: &mut Part, waiting: &mut Waiting) -> Result<(), Fault>
 where
     R: Net<Listener = TcpListener, Stream = TcpStream> + Clock + Wait + Eprint,
 {
-    let mut shown = 0;
     for _ in rt.forever() {
-        turn(rt, context, part, waiting)?;
-        let now = context.now(rt)?;
-        part.publish(context, now)?;
-        let is_over = part.is_over(context, now)?;
-        if is_shown && (is_over || now.saturating_sub(shown) > SHOWN) {
-            shown = now;
-            show(rt, context, now, is_over);
-        }
-        if is_over {
+        if is_last(rt, context, part, waiting)? {
             break;
         }
     }
     Ok(())
 }
 
+// Makes one turn, and tells whether all threads have nothing left to do.
+fn is_last<R>(
+    rt: &R,
+    context: &Context,
+    part: &mut Part,
+    waiting: &mut Waiting,
+) -> Result<bool, Fault>
+where
+    R: Net<Listener = TcpListener, Stream = TcpStream> + Clock + Eprint,
+{
+    serve(rt, context, part, waiting)?;
+    let now = context.now(rt)?;
+    part.publish(context, now)?;
+    let is_over = part.is_over(context, now)?;
+    if let Some(shown) = waiting.shown
+        && (is_over || now.saturating_sub(shown) > SHOWN)
+    {
+        waiting.shown = Some(now);
+        show(rt, context, now, is_over);
+    }
+    Ok(is_over)
+}
+
 // Opens what is to be opened, waits, and goes on with the clients whose connections became ready.
-fn turn<R>(rt: &R, context: &Context, part: &mut Part, waiting: &mut Waiting) -> Result<(), Fault>
+fn serve<R>(rt: &R, context: &Context, part: &mut Part, waiting: &mut Waiting) -> Result<(), Fault>
 where
     R: Net<Listener = TcpListener, Stream = TcpStream> + Clock,
 {
