@@ -28,7 +28,10 @@ class Daemon:
     """A running daemon, with the times in milliseconds that it was started with."""
 
     def __init__(self, program, timeout, max_interval, shards=4):
-        words = [program, "127.0.0.1:0", str(shards), str(timeout), "0", str(max_interval), SEED, "0"]
+        self.begin([program, "127.0.0.1:0", str(shards), str(timeout), "0", str(max_interval), SEED, "0"])
+
+    def begin(self, words):
+        """Starts the process, and waits until it listens."""
         self.errors = tempfile.TemporaryFile()
         self.process = subprocess.Popen(words, stdout=subprocess.PIPE, stderr=self.errors, start_new_session=True)
         line = self.process.stdout.readline().decode()

@@ -1,0 +1,119 @@
+//! Serves connections, each as a task of a runtime.
+use crate::answer::Bare;
+use bx_serve::{Connections, Maker};
+use bytes::Bytes;
+use futures::Future;
+use futures::task::{Context, Poll};
+use http_body_util::Full;
+use hyper::server::conn::http1::{Builder, Connection};
+use std::alloc::AllocGlobal;
+use std::hash::RandomState;
+use std::io;
+use std::io::Write;
+use std::net::{Net, SocketAddr};
+use std::random::RandomSource;
+use std::sync::Wait;
+use std::thread::Threads;
+use std::time::{Clock, Duration};
+use tokio::net::{TcpListener, TcpStream};
+use tokio::runtime::Runtime;
+
+// For how long no connection is asked for after one could not be accepted, in milliseconds.
+const PAUSE: u64 = 20;
+
+/// A future whose output nobody wants.
+#[derive(Drop)]
+pub struct Quiet<F> {
+    inner: F,
+}
+
+impl<F: Future<Output = T>, T: Drop> Future for Quiet<F> {
+    type Output = ();
+
+    ghost can_poll = { λ q. F.can_poll q.inner };
+
+    ghost needs = { λ q. F.needs q.inner };
+
+    fn poll(&mut self, cx: &mut Context<'_>) -> Poll<()> {
+        match self.inner.poll(cx) {
+            Poll::Ready(_) => Poll::Ready(()),
+            Poll::Pending => Poll::Pending,
+        }
+    }
+}
+
+/// Serves each connection over HTTP alone.
+#[derive(Drop)]
+pub struct Server {
+    http: Builder,
+    service: Bare,
+}
+
+impl Maker for Server {
+    type Task = Quiet<Connection<TcpStream, Bare, Full<Bytes>>>;
+
+    fn make(&self, socket: TcpStream) -> Option<Self::Task> {
+        let _ = socket.set_nodelay(true);
+        Some(Quiet {
+            inner: self.http.serve_connection(socket, self.service),
+        })
+    }
+}
+
+/// Serves as the words say, an address and a number of connections after which it ends or 0, and prints the address once it
+/// listens. False where the words are no such arguments.
+pub fn serve<R, W>(rt: R, words: &[String], writer: &mut W) -> io::Result<bool>
+where
+    R: Wait + Threads + Clock + RandomSource + AllocGlobal + Net + Sync + Send + Copy + Drop,
+    W: Write,
+{
+    let [address, connections] = words else {
+        return Ok(false);
+    };
+    let (Ok(address), Ok(count)) = (address.as_str().parse(), connections.as_str().parse()) else {
+        return Ok(false);
+    };
+    run(rt, address, count, writer)?;
+    Ok(true)
+}
+
+// Serves so many connections; 0 is any number.
+fn run<R, W>(rt: R, address: SocketAddr, count: u64, writer: &mut W) -> io::Result<()>
+where
+    R: Wait + Threads + Clock + RandomSource + AllocGlobal + Net + Sync + Send + Copy + Drop,
+    W: Write,
+{
+    let mut runtime = Runtime::new(&rt)?;
+    let listener = TcpListener::bind(&rt, address, runtime.handle().reactor())?;
+    told(&listener, writer)?;
+    serve_connections(rt, &mut runtime, listener, count)
+}
+
+// Prints the address once it listens.
+fn told<W: Write>(listener: &TcpListener, writer: &mut W) -> io::Result<()> {
+    writeln!(writer, "listening {}", listener.local_addr()?)?;
+    writer.flush()
+}
+
+// Serves the connections of the listener.
+fn serve_connections<R>(
+    rt: R,
+    runtime: &mut Runtime,
+    listener: TcpListener,
+    count: u64,
+) -> io::Result<()>
+where
+    R: Wait + Threads + Clock + RandomSource + AllocGlobal + Sync + Send + Copy + Drop,
+{
+    let pause = runtime
+        .handle()
+        .time()
+        .interval(&rt, Duration::from_millis(PAUSE))?;
+    let keys = RandomState::new(&rt)?;
+    let server = Server {
+        http: Builder::new(rt.alloc(), keys),
+        service: Bare(rt.alloc()),
+    };
+    let connections = Connections::new(rt, listener.incoming(), server, count, pause);
+    runtime.run_all(&rt, connections)
+}

@@ -1,0 +1,163 @@
+//! Loads a server by several threads.
+use crate::context::Context;
+use crate::fault::Fault;
+use crate::part::Part;
+use crate::tally::Tally;
+use crate::worker::work;
+use bx_load::{Settings, Target};
+use std::alloc::{AllocGlobal, Global};
+use std::net::{Net, SocketAddr, TcpListener, TcpStream, ToSocketAddrs};
+use std::sync::{Arc, Wait};
+use std::thread;
+use std::thread::{JoinHandle, Threads};
+use std::time::{Clock, Instant};
+
+// With more threads than that nothing is gained on the machine that is measured.
+const MOST_THREADS: u64 = 8;
+
+// A thread that does a part.
+type Other = JoinHandle<Result<Tally, Fault>>;
+
+/// Loads the server as it is told, with a line of progress or without.
+pub fn load<R>(rt: R, settings: Settings, is_shown: bool) -> Result<Tally, Fault>
+where
+    R: Net<Listener = TcpListener, Stream = TcpStream>
+        + Clock
+        + Wait
+        + Threads
+        + Eprint
+        + AllocGlobal
+        + Sync
+        + Send
+        + Copy
+        + Drop
+        + 'static,
+{
+    let threads = threads_for(&rt);
+    let context = Arc::new(rt.alloc(), context_of(&rt, settings, threads)?)?;
+    let mut whole = Tally::new(rt.alloc())?;
+    match all_parts(rt, &context, threads, is_shown, &mut whole) {
+        Ok(()) => Ok(whole),
+        Err(fault) => Err(fault),
+    }
+}
+
+// What the clients of so many threads share.
+fn context_of<R: Net + Clock + AllocGlobal>(
+    rt: &R,
+    settings: Settings,
+    threads: u64,
+) -> Result<Context, Fault> {
+    match (address_of(rt, &settings.target), Instant::now(rt)) {
+        (Ok(address), Ok(start)) => Ok(Context::new(rt.alloc(), settings, address, start, threads)),
+        (Err(fault), _) => Err(fault),
+        (_, Err(_)) => Err(Fault::System),
+    }
+}
+
+// Does all parts, the first on this thread, and adds what comes of them.
+fn all_parts<R>(
+    rt: R,
+    context: &Arc<Context, Global>,
+    threads: u64,
+    is_shown: bool,
+    whole: &mut Tally,
+) -> Result<(), Fault>
+where
+    R: Net<Listener = TcpListener, Stream = TcpStream>
+        + Clock
+        + Wait
+        + Threads
+        + Eprint
+        + Sync
+        + Send
+        + Copy
+        + Drop
+        + 'static,
+{
+    let mut others = Vec::new(context.alloc);
+    for index in 1..threads {
+        begin(rt, context, index, threads, &mut others)?;
+    }
+    let own = match Part::new(context.alloc, 0, threads) {
+        Ok(part) => work(&rt, &**context, part, is_shown),
+        Err(_) => Err(Fault::Memory),
+    };
+    match added(rt, whole, own, others) {
+        None => Ok(()),
+        Some(fault) => Err(fault),
+    }
+}
+
+// Begins the part of this index on a thread of its own.
+fn begin<R>(
+    rt: R,
+    context: &Arc<Context, Global>,
+    index: u64,
+    threads: u64,
+    others: &mut Vec<Other>,
+) -> Result<(), Fault>
+where
+    R: Net<Listener = TcpListener, Stream = TcpStream>
+        + Clock
+        + Wait
+        + Threads
+        + Eprint
+        + Sync
+        + Send
+        + Copy
+        + Drop
+        + 'static,
+{
+    let part = Part::new(context.alloc, index, threads)?;
+    let context = Arc::try_clone(context)?;
+    match thread::spawn(&rt, move || work(&rt, &*context, part, false)) {
+        Ok(other) => Ok(others.push(other)?),
+        Err(_) => Err(Fault::System),
+    }
+}
+
+// Adds what came of all parts, or says why one ended before its end.
+fn added<R: Threads>(
+    rt: R,
+    whole: &mut Tally,
+    own: Result<Tally, Fault>,
+    others: Vec<Other>,
+) -> Option<Fault>
+where
+    R: Copy + Drop,
+{
+    let mut fault = add(whole, own);
+    for other in others {
+        fault = fault.or(add(whole, other.join(&rt)));
+    }
+    fault
+}
+
+// Adds what came of a part, or says why it ended before its end, which the end of another is no reason of.
+fn add(whole: &mut Tally, part: Result<Tally, Fault>) -> Option<Fault> {
+    match part {
+        Ok(tally) => {
+            whole.add(&tally);
+            None
+        }
+        Err(Fault::Other) => None,
+        Err(fault) => Some(fault),
+    }
+}
+
+// Where the server is.
+fn address_of(net: &impl Net, target: &Target) -> Result<SocketAddr, Fault> {
+    match target.host.as_str().to_socket_addrs(net) {
+        Ok(mut addresses) => addresses.next().ok_or(Fault::Unreachable),
+        Err(_) => Err(Fault::Unreachable),
+    }
+}
+
+// Half of the processors, since the server has some of them too.
+fn threads_for(rt: &impl Threads) -> u64 {
+    match thread::available_parallelism(rt) {
+        Ok(count) => (count.get() as u64 / 2).clamp(1, MOST_THREADS),
+        Err(_) => 1,
+    }
+}

@@ -1,0 +1,65 @@
+//! Loads a server of Bayeux, and says how many events it delivered, how fast, and whether any was lost.
+#![tactic(auto)]
+
+mod client;
+mod context;
+mod fault;
+mod link;
+mod load;
+mod part;
+mod report;
+mod role;
+mod tally;
+mod worker;
+
+use bx_load::Settings;
+use fault::Fault;
+use load::load;
+use report::report;
+use std::io::IsTerminal;
+use std::process::ExitCode;
+use std::{env, io};
+use tally::Tally;
+
+/// What standard error says of bad arguments.
+const USAGE: &str = "usage: bayeux_load url sessions channels publishers events [rate] [ack]";
+
+fn main(rt: HostRuntime) -> ExitCode {
+    match settings(&rt) {
+        Ok(Some(settings)) => match load(rt, settings, rt.stderr().is_terminal()) {
+            Ok(tally) => reported(&rt, &tally),
+            Err(fault) => failed(&rt, fault),
+        },
+        Ok(None) => {
+            let _ = rt.eprintln(USAGE);
+            ExitCode::from(2)
+        }
+        Err(_) => failed(&rt, Fault::Memory),
+    }
+}
+
+// What the arguments of the process say.
+fn settings(rt: &HostRuntime) -> io::Result<Option<Settings>> {
+    let mut words = Vec::new(rt.alloc());
+    for word in env::args(rt)?.skip(1) {
+        words.push(word)?;
+    }
+    Ok(Settings::read(rt.alloc(), words.as_slice())?)
+}
+
+// Prints what came of the load.
+fn reported(rt: &HostRuntime, tally: &Tally) -> ExitCode {
+    let Ok(text) = report(rt.alloc(), tally) else {
+        return failed(rt, Fault::Memory);
+    };
+    match rt.println(text.as_str()) {
+        Ok(()) if tally.is_whole() => ExitCode::SUCCESS,
+        _ => ExitCode::FAILURE,
+    }
+}
+
+fn failed(rt: &HostRuntime, fault: Fault) -> ExitCode {
+    let text = fault.text();
+    let _ = eprintln!(rt; "bayeux_load: {text}");
+    ExitCode::FAILURE
+}

@@ -1,0 +1,115 @@
+//! A thread of a load.
+use crate::context::Context;
+use crate::fault::Fault;
+use crate::part::Part;
+use crate::tally::Tally;
+use mio::{Events, Poll};
+use std::alloc::Global;
+use std::net::{Net, TcpListener, TcpStream};
+use std::sync::Wait;
+use std::sync::atomic::Ordering;
+use std::time::Clock;
+
+// How often the line of progress is written, in nanoseconds.
+const SHOWN: u64 = 200_000_000;
+
+/// What a thread waits with.
+#[derive(Drop)]
+struct Waiting {
+    poll: Poll,
+    events: Events,
+    buffer: Vec<u8>,
+    // When the line of progress was written; none: it is not to be.
+    shown: Option<u64>,
+}
+
+/// What comes of a part of a load, in which all threads have nothing left to do.
+pub fn work<R>(rt: &R, context: &Context, mut part: Part, is_shown: bool) -> Result<Tally, Fault>
+where
+    R: Net<Listener = TcpListener, Stream = TcpStream> + Clock + Wait + Eprint,
+{
+    let result = match make_waiting(rt, context.alloc, is_shown) {
+        Ok(mut waiting) => turns(rt, context, &mut part, &mut waiting),
+        Err(fault) => Err(fault),
+    };
+    match result {
+        Ok(()) => Ok(part.end()),
+        Err(fault) => {
+            context.has_failed.store(true, Ordering::SeqCst);
+            Err(fault)
+        }
+    }
+}
+
+fn make_waiting(net: &impl Net, alloc: Global, is_shown: bool) -> Result<Waiting, Fault> {
+    Ok(Waiting {
+        events: Events::with_capacity(alloc, 1024)?,
+        buffer: vec![in alloc; 0; 65_536]?,
+        poll: Poll::new(net)?,
+        shown: if is_shown { Some(0) } else { None },
+    })
+}
+
+// Goes on until all threads have nothing left to do.
+fn turns<R>(rt: &R, context: &Context, part: &mut Part, waiting: &mut Waiting) -> Result<(), Fault>
+where
+    R: Net<Listener = TcpListener, Stream = TcpStream> + Clock + Wait + Eprint,
+{
+    for _ in rt.forever() {
+        if is_last(rt, context, part, waiting)? {
+            break;
+        }
+    }
+    Ok(())
+}
+
+// Makes one turn, and tells whether all threads have nothing left to do.
+fn is_last<R>(
+    rt: &R,
+    context: &Context,
+    part: &mut Part,
+    waiting: &mut Waiting,
+) -> Result<bool, Fault>
+where
+    R: Net<Listener = TcpListener, Stream = TcpStream> + Clock + Eprint,
+{
+    serve(rt, context, part, waiting)?;
+    let now = context.now(rt)?;
+    part.publish(context, now)?;
+    let is_over = part.is_over(context, now)?;
+    if let Some(shown) = waiting.shown
+        && (is_over || now.saturating_sub(shown) > SHOWN)
+    {
+        waiting.shown = Some(now);
+        show(rt, context, now, is_over);
+    }
+    Ok(is_over)
+}
+
+// Opens what is to be opened, waits, and goes on with the clients whose connections became ready.
+fn serve<R>(rt: &R, context: &Context, part: &mut Part, waiting: &mut Waiting) -> Result<(), Fault>
+where
+    R: Net<Listener = TcpListener, Stream = TcpStream> + Clock,
+{
+    part.open(rt, context, waiting.poll.registry())?;
+    let pause = part.pause(context);
+    waiting.poll.poll(&mut waiting.events, Some(pause))?;
+    for event in waiting.events.iter() {
+        let token = event.token().0;
+        part.serve(rt, context, token, waiting.buffer.as_mut_slice())?;
+    }
+    Ok(())
+}
+
+// Writes the line of progress, or takes it away at the end.
+fn show(rt: &impl Eprint, context: &Context, now: u64, is_over: bool) {
+    if is_over {
+        let _ = rt.eprint("\r\x1b[K");
+        return;
+    }
+    let (unready, unpublished, delivered) = context.progress();
+    let seconds = now / 1_000_000_000;
+    let _ = eprint!(rt;
+        "\r{seconds:>5} s  {unready} to open, {unpublished} to publish, {delivered} events\x1b[K"
+    );
+}

@@ -1,0 +1,18 @@
+//! What a load of a server comes to: which events came and how late they were; and what a client writes and reads for it.
+#![tactic(auto)]
+
+mod arrivals;
+mod items;
+mod latencies;
+mod requests;
+mod response;
+mod settings;
+mod shares;
+
+pub use arrivals::{Arrival, Arrivals};
+pub use items::{Item, Stamp, client_of, item_of};
+pub use latencies::Latencies;
+pub use requests::{connect, handshake, publish, subscribe, touch};
+pub use response::{Malformed, Response, read_response};
+pub use settings::{Settings, Target};
+pub use shares::{due, events_of};
