@@ -1,0 +1,65 @@
+//! A connection in memory.
+ghost use Rattle.std.specs.Prelude.{⊤};
+
+use bytes::{Buf, Bytes};
+use futures::task::{Context, Poll};
+use std::alloc::{AllocError, Global};
+use std::io;
+use tokio::io::{AsyncRead, AsyncWrite};
+
+/// A connection on which some bytes come, and then its end. What is written to it is kept.
+#[derive(Drop)]
+pub struct Wire {
+    coming: Bytes,
+    pub written: Vec<u8>,
+}
+
+impl Wire {
+    /// A connection on which these bytes come.
+    pub fn new(alloc: Global, coming: &[u8]) -> Result<Wire, AllocError> {
+        Ok(Wire {
+            coming: Bytes::copy_from_slice(alloc, coming)?,
+            written: Vec::new(alloc),
+        })
+    }
+}
+
+impl AsyncRead for Wire {
+    ghost reads = { λ _ _ _. ⊤ };
+
+    ghost is_at_end = { λ _. ⊤ };
+
+    ghost reads_nothing = { λ _. tt };
+
+    ghost reads_in_order = { λ _ _ _ _ _ _ _. tt };
+
+    fn poll_read(&mut self, _cx: &mut Context<'_>, buf: &mut [u8]) -> Poll<io::Result<usize>> {
+        let count = self.coming.len().min(buf.len());
+        buf[..count].copy_from_slice(&self.coming.as_slice()[..count]);
+        self.coming.advance(count);
+        Poll::Ready(Ok(count))
+    }
+}
+
+impl AsyncWrite for Wire {
+    ghost writes = { λ _ _ _. ⊤ };
+
+    ghost writes_nothing = { λ _. tt };
+
+    ghost writes_in_order = { λ _ _ _ _ _ _ _. tt };
+
+    fn poll_write(&mut self, _cx: &mut Context<'_>, buf: &[u8]) -> Poll<io::Result<usize>> {
+        match self.written.extend_from_slice(buf) {
+            Ok(()) => Poll::Ready(Ok(buf.len())),
+            Err(_) => Poll::Ready(Err(io::Error::from(io::ErrorKind::OutOfMemory))),
+        }
+    }
+
+    fn poll_flush(&mut self, _cx: &mut Context<'_>) -> Poll<io::Result<()>> {
+        Poll::Ready(Ok(()))
+    }
+
+    fn poll_shutdown(&mut self, _cx: &mut Context<'_>) -> Poll<io::Result<()>> {
+        Poll::Ready(Ok(()))
+    }
+}
