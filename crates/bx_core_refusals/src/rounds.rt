@@ -1,4 +1,6 @@
 //! A round of two shards and one worker.
+ghost use Rattle.std.specs.Prelude.{◌≤◌};
+
 use crate::requests::{
     ACK_HANDSHAKE, CONNECT, HANDSHAKE, HOLD_NONE, PUBLISH, SUBSCRIBE, add_line, arrival_at, config,
     response,
@@ -16,6 +18,14 @@ const MOST_INPUTS: usize = 1_000;
 
 // Requests, each with its moment.
 type Requests = &'static [(u64, &'static str)];
+
+// Requests, among how many shards the sessions are dealt anew behind them, if they are, and the requests behind that.
+#[derive(Clone, Copy, Debug)]
+struct Worked {
+    first: Requests,
+    shards: Option<usize>,
+    then: Requests,
+}
 
 // The first session subscribes, and publishes an event that it gets itself.
 const SUBSCRIBE_AND_PUBLISH: &str =
@@ -51,46 +61,88 @@ const PUBLISH_BELOW: &str =
     r#"[{"channel":"/a/b/c","clientId":"000000000000000000000000000000000000000000000002","data":[1, 2]}]"#;
 
 // A publish answers a connect that is held.
-const ANSWERED: Requests = &[
-    (0, HANDSHAKE),
-    (0, HANDSHAKE),
-    (0, SUBSCRIBE),
-    (10, CONNECT),
-    (20, PUBLISH),
-];
+const ANSWERED: Worked = Worked {
+    first: &[
+        (0, HANDSHAKE),
+        (0, HANDSHAKE),
+        (0, SUBSCRIBE),
+        (10, CONNECT),
+        (20, PUBLISH),
+    ],
+    shards: None,
+    then: &[],
+};
 
 // Batches are given again until they are acknowledged.
-const BATCHES: Requests = &[
-    (0, ACK_HANDSHAKE),
-    (0, SUBSCRIBE_AND_PUBLISH),
-    (1, ACKNOWLEDGE_NONE),
-    (2, PUBLISH_TWO),
-    (3, ACKNOWLEDGE_NONE),
-    (4, UNSUBSCRIBE),
-    (5, ACKNOWLEDGE_NONE),
-    (6, ACKNOWLEDGE_FIRST),
-    (7, ACKNOWLEDGE_SECOND),
-];
+const BATCHES: Worked = Worked {
+    first: &[
+        (0, ACK_HANDSHAKE),
+        (0, SUBSCRIBE_AND_PUBLISH),
+        (1, ACKNOWLEDGE_NONE),
+        (2, PUBLISH_TWO),
+        (3, ACKNOWLEDGE_NONE),
+        (4, UNSUBSCRIBE),
+        (5, ACKNOWLEDGE_NONE),
+        (6, ACKNOWLEDGE_FIRST),
+        (7, ACKNOWLEDGE_SECOND),
+    ],
+    shards: None,
+    then: &[],
+};
 
 // The first batch answers a connect that is held, and is given again; what acknowledges it is held.
-const HELD_BATCHES: Requests = &[
-    (0, ACK_HANDSHAKE),
-    (0, HANDSHAKE),
-    (0, SUBSCRIBE_BELOW),
-    (1, HOLD_NONE),
-    (2, PUBLISH_BELOW),
-    (3, HOLD_NONE),
-    (4, HOLD_FIRST),
+const HELD_BATCHES: Worked = Worked {
+    first: &[
+        (0, ACK_HANDSHAKE),
+        (0, HANDSHAKE),
+        (0, SUBSCRIBE_BELOW),
+        (1, HOLD_NONE),
+        (2, PUBLISH_BELOW),
+        (3, HOLD_NONE),
+        (4, HOLD_FIRST),
+    ],
+    shards: None,
+    then: &[],
+};
+
+// While a connect is held the sessions are dealt anew.
+const DEALT_WHILE_HELD: Worked = Worked {
+    first: &[
+        (0, HANDSHAKE),
+        (0, HANDSHAKE),
+        (0, SUBSCRIBE),
+        (10, CONNECT),
+    ],
+    shards: Some(5),
+    then: &[(20, PUBLISH)],
+};
+
+// While a batch is outstanding they are.
+const DEALT_WITH_A_BATCH: Worked = Worked {
+    first: &[
+        (0, ACK_HANDSHAKE),
+        (0, SUBSCRIBE_AND_PUBLISH),
+        (1, ACKNOWLEDGE_NONE),
+    ],
+    shards: Some(1),
+    then: &[(2, ACKNOWLEDGE_NONE)],
+};
+
+const WORKED: [Worked; 5] = [
+    ANSWERED,
+    BATCHES,
+    HELD_BATCHES,
+    DEALT_WHILE_HELD,
+    DEALT_WITH_A_BATCH,
 ];
 
-const WORKED: [Requests; 3] = [ANSWERED, BATCHES, HELD_BATCHES];
-
-/// Worked runs, a round each. Says what each round gives, by the numbers of the requests from 1 on, and which connects are held at
-/// its end.
+/// Worked runs, in two of which the sessions are dealt anew. Says what each round gives, by the numbers of the requests from 1
+/// on, and which connects are held at its end.
 pub fn run<R: Threads + Sync>(rt: &R, alloc: Global) -> Result<String, Unlike> {
     let mut text = String::new(alloc);
-    for requests in WORKED {
-        let line = worked_text(rt, alloc, requests)?;
+    for worked in WORKED {
+        let mut outs = Vec::new(alloc);
+        let line = worked_text(rt, alloc, worked, &mut outs)?;
         add_line(&mut text, line.as_str())?;
     }
     Ok(text)
@@ -99,13 +151,28 @@ pub fn run<R: Threads + Sync>(rt: &R, alloc: Global) -> Result<String, Unlike> {
 fn worked_text<R: Threads + Sync>(
     rt: &R,
     alloc: Global,
-    requests: Requests,
+    worked: Worked,
+    outs: &mut Vec<Out>,
 ) -> Result<String, Unlike> {
-    let inputs = inputs(alloc, requests)?;
+    let mut round = first(rt, alloc, worked, outs)?;
+    ended(rt, alloc, &mut round, worked.then, outs)
+}
+
+// A round that has dealt with the first requests, and whose sessions are then dealt anew, if they are.
+fn first<R: Threads + Sync>(
+    rt: &R,
+    alloc: Global,
+    worked: Worked,
+    outs: &mut Vec<Out>,
+) -> Result<Round<ByRemainder>, Unlike> {
+    let placings = (placing(alloc)?, placing(alloc)?);
     let round = Round::new(alloc, config(2)?, placing(alloc)?, 1)?;
-    match round {
-        Some(mut round) => given(rt, alloc, &mut round, &inputs),
-        None => Err(Unlike::Wrong("no round")),
+    let mut round = round.ok_or(Unlike::Wrong("no round"))?;
+    let dealt = deal(rt, alloc, &mut round, worked.first, outs);
+    match (dealt, worked.shards) {
+        (Err(unlike), _) => Err(unlike),
+        (Ok(()), None) => Ok(round),
+        (Ok(()), Some(shards)) => dealt_anew(alloc, round, shards, placings),
     }
 }
 
@@ -113,16 +180,36 @@ fn placing(alloc: Global) -> Result<Arc<ByRemainder>, Unlike> {
     Ok(Arc::new(alloc, ByRemainder)?)
 }
 
-// Deals with these inputs, and says what the round gave and which connects it holds.
-fn given<R: Threads + Sync>(
+// The round with its sessions among so many shards, 1 to 64. Where memory was refused, the round that came back is dealt anew.
+fn dealt_anew(
+    alloc: Global,
+    round: Round<ByRemainder>,
+    shards: usize,
+    placings: (Arc<ByRemainder>, Arc<ByRemainder>),
+) -> Result<Round<ByRemainder>, Unlike> {
+    if shards < 1 || shards > 64 {
+        return Err(Unlike::Wrong("too many shards"));
+    }
+    let (once, again) = placings;
+    match round.reshard(alloc, shards, once) {
+        Ok(round) => Ok(round),
+        Err((round, _)) => match round.reshard(alloc, shards, again) {
+            Ok(round) => Ok(round),
+            Err(_) => Err(Unlike::Wrong("not dealt anew")),
+        },
+    }
+}
+
+// Deals with the last requests, and says what the round gave and which connects it holds.
+fn ended<R: Threads + Sync>(
     rt: &R,
     alloc: Global,
     round: &mut Round<ByRemainder>,
-    inputs: &[Input],
+    requests: Requests,
+    outs: &mut Vec<Out>,
 ) -> Result<String, Unlike> {
-    let mut outs = Vec::new(alloc);
-    deal(rt, alloc, round, inputs, &mut outs)?;
-    let mut text = written(alloc, &outs)?;
+    deal(rt, alloc, round, requests, outs)?;
+    let mut text = written(alloc, outs)?;
     for number in round.held(alloc)? {
         let line = format!(in alloc; "{} held", number.saturating_add(1))?;
         add_line(&mut text, line.as_str())?;
@@ -130,16 +217,17 @@ fn given<R: Threads + Sync>(
     Ok(text)
 }
 
-// Deals with inputs. Where memory was refused, it deals with the rest of them: what was given by then stays.
+// Deals with requests. Where memory was refused, it deals with the rest of them: what was given by then stays.
 fn deal<R: Threads + Sync>(
     rt: &R,
     alloc: Global,
     round: &mut Round<ByRemainder>,
-    inputs: &[Input],
+    requests: Requests,
     outs: &mut Vec<Out>,
 ) -> Result<(), Unlike> {
-    match refused_behind(rt, alloc, round, inputs, outs)? {
-        Some(admitted) => go_on(rt, alloc, round, inputs, admitted, outs),
+    let inputs = inputs(alloc, requests)?;
+    match refused_behind(rt, alloc, round, &inputs, outs)? {
+        Some(admitted) => go_on(rt, alloc, round, &inputs, admitted, outs),
         None => Ok(()),
     }
 }
