@@ -1,0 +1,124 @@
+'use strict';
+// A dashboard: a card with a live chart for each channel below /dashboard/ on which numbers are published.
+
+const PATTERN = '/dashboard/*';
+// The chart shows so many seconds (`?seconds=NUMBER`), in this box of the picture.
+const WORDS = new URLSearchParams(location.search);
+const SECONDS = Number(WORDS.get('seconds')) || 60;
+const BOX = { left: 36, right: 592, top: 10, bottom: 144 };
+const LINES = 4;
+
+const WORDS_OF_STATES = {
+  connecting: 'connecting …',
+  interrupted: 'connection lost, trying again …',
+  stopped: 'not connected',
+};
+
+const element = (id) => document.getElementById(id);
+const cards = new Map();
+
+// From disk: a server on this machine. From a web server: the path /cometd there. `?server=ADDRESS` is any other.
+function serverAddress() {
+  const own = location.protocol === 'file:' ? 'http://127.0.0.1:8087/cometd' : '/cometd';
+  return WORDS.get('server') || own;
+}
+
+/** One channel's newest numbers, and their chart. */
+class Card {
+  constructor(channel) {
+    this.points = [];
+    this.root = element('card').content.firstElementChild.cloneNode(true);
+    this.part('h2').textContent = channel.split('/').pop().replaceAll('-', ' ');
+    this.part('.start').textContent = `${SECONDS} s ago`;
+  }
+
+  part(selector) {
+    return this.root.querySelector(selector);
+  }
+
+  add(value) {
+    this.points.push({ time: Date.now(), value });
+    this.part('.value').textContent = inWords(value);
+    this.draw();
+  }
+
+  // Draws the curve anew. One point before its beginning is kept, so that it starts at the left edge.
+  draw() {
+    const start = Date.now() - 1000 * SECONDS;
+    while (this.points.length > 1 && this.points[1].time <= start) this.points.shift();
+    const values = this.points.map((point) => point.value);
+    const scale = scaleOf(values);
+    const across = (time) => BOX.left + (BOX.right - BOX.left) * Math.max(0, (time - start) / (1000 * SECONDS));
+    const up = (value) => BOX.bottom - (BOX.bottom - BOX.top) * ((value - scale.low) / (scale.high - scale.low));
+    const spots = this.points.map(({ time, value }) => `${across(time).toFixed(1)},${up(value).toFixed(1)}`);
+    const newest = this.points[this.points.length - 1];
+
+    this.part('.curve').setAttribute('d', `M${spots.join('L')}`);
+    this.part('.area').setAttribute('d',
+      `M${across(this.points[0].time)},${BOX.bottom}L${spots.join('L')}L${across(newest.time)},${BOX.bottom}Z`);
+    this.part('.newest').setAttribute('cx', across(newest.time));
+    this.part('.newest').setAttribute('cy', up(newest.value));
+    this.part('.newest').setAttribute('visibility', 'visible');
+    this.drawGrid(scale, up);
+    this.part('.least').textContent = inWords(Math.min(...values));
+    this.part('.greatest').textContent = inWords(Math.max(...values));
+    this.part('.mean').textContent = inWords(values.reduce((sum, value) => sum + value, 0) / values.length);
+  }
+
+  drawGrid(scale, up) {
+    const parts = [];
+    for (let line = 0; line <= LINES; line++) {
+      const value = scale.low + ((scale.high - scale.low) * line) / LINES;
+      const height = up(value);
+      parts.push(shape('line', { x1: BOX.left, x2: BOX.right, y1: height, y2: height }));
+      parts.push(shape('text', { x: BOX.left - 8, y: height + 4, 'text-anchor': 'end', class: 'label' }, inWords(value)));
+    }
+    this.part('.grid').replaceChildren(...parts);
+  }
+}
+
+function shape(kind, attributes, text = '') {
+  const made = document.createElementNS('http://www.w3.org/2000/svg', kind);
+  for (const [name, value] of Object.entries(attributes)) made.setAttribute(name, value);
+  made.textContent = text;
+  return made;
+}
+
+// Round numbers round the values; from nought, where none is below it.
+function scaleOf(values) {
+  const least = Math.min(0, ...values);
+  const greatest = Math.max(...values, least + 1e-9);
+  const rough = (greatest - least) / LINES;
+  const power = 10 ** Math.floor(Math.log10(rough));
+  const step = [1, 2, 2.5, 5, 10].map((factor) => factor * power).find((size) => size >= rough);
+  const low = Math.floor(least / step) * step;
+  return { low, high: low + step * LINES < greatest ? low + 2 * step * LINES : low + step * LINES };
+}
+
+function inWords(value) {
+  return value.toLocaleString('en', { maximumFractionDigits: Math.abs(value) < 10 ? 2 : 1 });
+}
+
+const client = new BayeuxClient(serverAddress());
+
+client.onstate = (state, why) => {
+  const isUp = state === 'connected';
+  element('state').className = state;
+  element('state').textContent = isUp ? `connected by ${client.connectionType}` : WORDS_OF_STATES[state];
+  element('state').title = why;
+};
+
+client.subscribe(PATTERN, (data, channel) => {
+  if (typeof data !== 'number') return;
+  element('empty').hidden = true;
+  if (!cards.has(channel)) {
+    cards.set(channel, new Card(channel));
+    element('cards').append(...[...cards.keys()].sort().map((key) => cards.get(key).root));
+  }
+  cards.get(channel).add(data);
+});
+
+// The curve goes on to the left while nothing comes.
+setInterval(() => cards.forEach((card) => card.draw()), 1000);
+window.addEventListener('pagehide', () => client.stop());
+client.start();
