@@ -4,6 +4,8 @@
 mod arguments;
 mod clock;
 mod serve;
+#[cfg(test)]
+mod tests;
 mod ticker;
 
 use serve::{ServeEnd, serve};

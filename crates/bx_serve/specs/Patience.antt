@@ -1,5 +1,10 @@
--- A body that is waited for only so long.
-use Rattle.std.specs.Prelude.{◌≡◌, ◌⊎◌, ℕ, ⊤, List, map, Option, Some, None, Result, Ok, Err, IsSomeAnd}
+-- What is waited for only so long.
+use Rattle.std.specs.Prelude.{◌≡◌, ◌⊎◌, ℕ, ⊤, ⊥, List, map, Option, Some, None, Result, Ok, Err, IsSomeAnd}
+use Rattle.std.specs.IoError.{error_kind}
+use Rattle.std.specs.declared.io.Error.{Error}
+use Rattle.std.specs.declared.io.ErrorKind.TheVariants.{TimedOut}
+use Rattle.futures.specs.declared.task.Poll.{Poll}
+use Rattle.futures.specs.declared.task.Poll.TheVariants.{Ready, Pending}
 use Rattle.futures.specs.Runs.{Runs}
 use Rattle.http_body.specs.declared.frame.Frame.{Frame}
 use Rattle.tokio.specs.Timers.{sleep_source}
@@ -11,9 +16,20 @@ use Rattle.bx_serve.specs.declared.patient.PatientFault.TheVariants.{Body, Late}
 abbrev pub TimerNeeds : Option Sleep → ℕ → Type 0
 TimerNeeds timer source = IsSomeAnd timer (λ sleep. source ≡ sleep_source sleep)
 
--- a source of the body, or that of the timer
-abbrev pub BodyOrTimer : (ℕ → Type 0) → Option Sleep → ℕ → Type 0
-BodyOrTimer body timer source = body source ⊎ TimerNeeds timer source
+-- one of these sources, or that of the timer
+abbrev pub OrTimer : (ℕ → Type 0) → Option Sleep → ℕ → Type 0
+OrTimer sources timer source = sources source ⊎ TimerNeeds timer source
+
+-- Of what a call gave that may wait: just that, or, where it waits, that it still does, or that it has lasted too long.
+abbrev pub InTime : {O : Type 0} → Poll (Result O Error) → Poll (Result O Error) → Type 0
+InTime (Ready given) made = made ≡ Ready given
+InTime Pending (Ready (Ok given)) = ⊥
+InTime Pending (Ready (Err e)) = error_kind e ≡ TimedOut
+InTime Pending Pending = ⊤
+
+-- what may fail so may be too late besides
+abbrev pub OrLate : (Error → Type 0) → Error → Type 0
+OrLate fails e = fails e ⊎ (error_kind e ≡ TimedOut)
 
 module _ {D E : Type 0} (source : Runs (Result (Frame D) E)) where
   -- Behind these frames the body ended, or went on, or failed. It may be late at any time.

@@ -4,9 +4,15 @@
 mod connections;
 mod listen;
 mod maker;
+mod patience;
 mod patient;
+mod peer;
+mod spawn_each;
 
 pub use connections::Connections;
 pub use listen::serve_connections;
 pub use maker::{Maker, Quiet, Server};
+pub use patience::Patience;
 pub use patient::{Patient, PatientFault, Patiently};
+pub use peer::Peer;
+pub use spawn_each::SpawnEach;

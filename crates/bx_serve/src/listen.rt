@@ -1,11 +1,10 @@
 //! Serves the connections of a listener.
 use crate::connections::Connections;
-use crate::maker::Server;
-use crate::patient::Patient;
+use crate::maker::{Coming, Server};
+use crate::spawn_each::SpawnEach;
 use bytes::Bytes;
 use http::{Request, Response};
 use http_body_util::Full;
-use hyper::body::Incoming;
 use hyper::rt::TokioTimer;
 use hyper::server::conn::http1;
 use hyper::service::Service;
@@ -22,12 +21,13 @@ use tokio::runtime::Runtime;
 // For how long no connection is asked for after one could not be accepted, in milliseconds.
 const PAUSE: u64 = 20;
 
-// For how long a body is waited for of which nothing comes, in milliseconds.
+// For how long a body is waited for of which nothing comes, or a peer that takes nothing of what is written, in milliseconds.
 const PATIENCE: u64 = 30_000;
 
 /// Serves so many connections of the listener over HTTP, each as a task of the runtime, and ends once they have come and
-/// have ended. 0 is any number. A head has 30 seconds to come; a body fails where nothing comes of it for 30 seconds. `Err`
-/// where there is no memory, or the system refuses the runtime a call.
+/// have ended. 0 is any number. A head has 30 seconds to come; a body fails where nothing comes of it for 30 seconds, and a
+/// connection whose peer takes nothing of what is written for as long. A connection for which there is no memory is dropped, and
+/// the next one is served. `Err` where there is no memory to begin with, or the system refuses the runtime a call.
 pub fn serve_connections<R, S, E>(
     rt: R,
     runtime: &mut Runtime,
@@ -38,7 +38,7 @@ pub fn serve_connections<R, S, E>(
 where
     R: Wait + Threads + Clock + RandomSource + AllocGlobal + Sync + Send + Copy + Drop,
     S: Service<
-        Request<Patient<Incoming, Option<TokioTimer<R>>>>,
+        Request<Coming<R>>,
         Response = Response<Full<Bytes>>,
         Error = E,
     >
@@ -57,8 +57,9 @@ where
         http,
         service,
         timer,
-        patience: Duration::from_millis(PATIENCE),
+        limit: Duration::from_millis(PATIENCE),
     };
     let connections = Connections::new(rt, listener.incoming(), maker, count, pause);
-    runtime.run_all(&rt, connections)
+    let tasks = runtime.task_set(&rt)?;
+    runtime.block_on_with(&rt, &tasks, SpawnEach::new(&tasks, connections))
 }

@@ -1,7 +1,9 @@
 //! What serves one connection.
 ghost use Rattle.std.specs.Prelude.{⊤, IfSome};
 
+use crate::patience::Patience;
 use crate::patient::{Patient, Patiently};
+use crate::peer::Peer;
 use bytes::Bytes;
 use futures::Future;
 use futures::task::{Context, Poll};
@@ -49,20 +51,27 @@ pub trait Maker: Drop {
         ensures { IfSome result Self.Task.can_poll };
 }
 
-/// Serves each connection over HTTP, by a service of its own, and waits for each body no longer than `patience` at a time.
+/// A connection as it is served.
+pub type Served<R> = Peer<TcpStream, TokioTimer<R>>;
+
+/// The body of a request as it comes to a service.
+pub type Coming<R> = Patient<Incoming<Served<R>>, Option<TokioTimer<R>>>;
+
+/// Serves each connection over HTTP, by a service of its own. It waits no longer than `limit` at a time for more of a body, or for
+/// the peer to take more of what is written.
 #[derive(Drop)]
 pub struct Server<R, S> {
     pub http: http1::Builder<TokioTimer<R>>,
     pub service: S,
     pub timer: TokioTimer<R>,
-    pub patience: Duration,
+    pub limit: Duration,
 }
 
 impl<R, S, E> Maker for Server<R, S>
 where
     R: Clock + Copy + Drop,
     S: Service<
-        Request<Patient<Incoming, Option<TokioTimer<R>>>>,
+        Request<Coming<R>>,
         Response = Response<Full<Bytes>>,
         Error = E,
     >
@@ -70,7 +79,7 @@ where
     E: Into<anyhow::Error> + Drop,
 {
     type Task = Quiet<
-        Connection<TcpStream, Patiently<S, TokioTimer<R>>, Full<Bytes>, TokioTimer<R>>,
+        Connection<Served<R>, Patiently<S, TokioTimer<R>>, Full<Bytes>, TokioTimer<R>>,
     >;
 
     ghost can_make = { λ _. (service : S) → S.can_call service };
@@ -80,10 +89,12 @@ where
         let service = Patiently {
             service: self.service.clone().ok()?,
             timer: self.timer.clone().ok()?,
-            patience: self.patience,
+            limit: self.limit,
         };
+        let patience = Patience::new(self.timer.clone().ok()?, self.limit);
+        let peer = Peer::new(socket, patience);
         Some(Quiet {
-            inner: self.http.serve_connection(socket, service),
+            inner: self.http.serve_connection(peer, service),
         })
     }
 }

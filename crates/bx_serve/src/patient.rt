@@ -1,17 +1,15 @@
 //! A body that is not waited for for ever.
 ghost use Rattle.std.specs.Prelude.{◌≡◌};
-ghost use Rattle.futures.specs.Poll.{OnPending};
-ghost use Rattle.futures.specs.Task.{Covers, Keeps};
-ghost use Rattle.bx_serve.specs.Patience.{Outlasts, TimerNeeds, BodyOrTimer};
+ghost use Rattle.bx_serve.specs.Patience.{Outlasts, OrTimer};
 
+use crate::patience::Patience;
+use futures::ready;
 use futures::task::{Context, Poll};
-use futures::{Future, ready};
 use http::Request;
 use http_body::{Body, Frame, SizeHint};
 use hyper::rt::Timer;
 use hyper::service::Service;
 use std::time::Duration;
-use tokio::time::Sleep;
 
 /// Why a body ends before its end.
 #[derive(Drop)]
@@ -22,74 +20,20 @@ pub enum PatientFault<E> {
     Late,
 }
 
-/// A body that fails where nothing comes of it for as long as `patience`, counted anew from each frame. Where the clock
+/// A body that fails where nothing comes of it for as long as it is waited for, counted anew from each frame. Where the clock
 /// cannot be read, or there is no memory for a timer, it fails as soon as it would wait.
 #[derive(Drop)]
 pub struct Patient<B, T> {
     body: B,
-    timer: T,
-    patience: Duration,
-    sleep: Option<Sleep>,
-    // The sleep ends that long after the last frame.
-    is_timed: bool,
+    patience: Patience<T>,
 }
 
 impl<B, T> Patient<B, T> {
     /// Nothing is counted before the first wait.
-    pub fn new(body: B, timer: T, patience: Duration) -> Patient<B, T>
+    pub fn new(body: B, patience: Patience<T>) -> Patient<B, T>
         ensures { result.body ≡ body }
     {
-        Patient {
-            body,
-            timer,
-            patience,
-            sleep: None,
-            is_timed: false,
-        }
-    }
-}
-
-impl<B, T: Timer> Patient<B, T> {
-    // Lets the time begin, unless it runs. False where there is no timer.
-    fn is_begun(&mut self) -> bool
-        ensures { self.new.body ≡ self.old.body }
-    {
-        if self.is_timed {
-            return true;
-        }
-        let Some(now) = self.timer.now() else {
-            return false;
-        };
-        let Some(deadline) = now.checked_add(self.patience) else {
-            return false;
-        };
-        match &mut self.sleep {
-            Some(sleep) => sleep.reset(deadline),
-            None => match self.timer.sleep_until(deadline) {
-                Ok(Some(sleep)) => self.sleep = Some(sleep),
-                _ => return false,
-            },
-        }
-        self.is_timed = true;
-        true
-    }
-
-    // Ready once the time is over.
-    fn poll_late(&mut self, cx: &mut Context<'_>) -> Poll<()>
-        ensures body { self.new.body ≡ self.old.body }
-        ensures waits { OnPending result (Covers cx.new (TimerNeeds self.new.sleep)) }
-        ensures kept { Keeps cx.old cx.new }
-    {
-        if !self.is_begun() {
-            return Poll::Ready(());
-        }
-        match &mut self.sleep {
-            Some(sleep) => {
-                let _ = ready!(sleep.poll_elapsed(cx));
-                Poll::Ready(())
-            }
-            None => Poll::Ready(()),
-        }
+        Patient { body, patience }
     }
 }
 
@@ -100,7 +44,7 @@ impl<B: Body, T: Timer> Body for Patient<B, T> {
 
     ghost can_poll = { λ p. B.can_poll p.body };
 
-    ghost needs = { λ p. BodyOrTimer (B.needs p.body) p.sleep };
+    ghost needs = { λ p. OrTimer (B.needs p.body) p.patience.sleep };
 
     ghost yields = { λ p. Outlasts (B.yields p.body) };
 
@@ -110,13 +54,13 @@ impl<B: Body, T: Timer> Body for Patient<B, T> {
     ) -> Poll<Option<Result<Frame<B::Data>, PatientFault<B::Error>>>> {
         match self.body.poll_frame(cx) {
             Poll::Ready(Some(Ok(frame))) => {
-                self.is_timed = false;
+                self.patience.renew();
                 Poll::Ready(Some(Ok(frame)))
             }
             Poll::Ready(Some(Err(error))) => Poll::Ready(Some(Err(PatientFault::Body(error)))),
             Poll::Ready(None) => Poll::Ready(None),
             Poll::Pending => {
-                ready!(self.poll_late(cx));
+                ready!(self.patience.poll_over(cx));
                 Poll::Ready(Some(Err(PatientFault::Late)))
             }
         }
@@ -132,7 +76,7 @@ impl<B: Body, T: Timer> Body for Patient<B, T> {
 pub struct Patiently<S, T> {
     pub service: S,
     pub timer: T,
-    pub patience: Duration,
+    pub limit: Duration,
 }
 
 impl<S, T, B> Service<Request<B>> for Patiently<S, T>
@@ -151,7 +95,8 @@ where
 
     fn call(&self, request: Request<B>) -> S::Future {
         let (parts, body) = request.into_parts();
-        let body = Patient::new(body, self.timer.clone().ok(), self.patience);
-        self.service.call(Request::from_parts(parts, body))
+        let patience = Patience::new(self.timer.clone().ok(), self.limit);
+        self.service
+            .call(Request::from_parts(parts, Patient::new(body, patience)))
     }
 }

@@ -1,8 +1,9 @@
-//! A hub of two shards, and the POST that comes to it.
+//! A hub of two shards that is served over connections in memory.
 ghost use Rattle.std.specs.Prelude.{◌≡◌};
 ghost use Rattle.bx_entry.specs.Placings.{by_remainder};
 
 use crate::wire::Wire;
+use crate::{forms, held, posts};
 use anyhow::{Result, anyhow};
 use bx_advice::Config;
 use bx_cut::Bodies;
@@ -19,16 +20,14 @@ use http_body_util::Full;
 use hyper::body::Incoming;
 use hyper::server::conn::http1;
 use hyper::service::Service;
-use std::alloc::{AllocGlobal, Global};
+use std::alloc::{AllocError, AllocGlobal, Global};
 use std::hash::RandomState;
 use std::marker::Brand;
 use std::random::RandomSource;
 use std::sync::{Arc, Wait};
 
-const HANDSHAKE: &str =
-    r#"[{"channel":"/meta/handshake","version":"1.0","supportedConnectionTypes":["long-polling"]}]"#;
-
-type Served<J, R> = Hub<J, ByRemainder, OpenGate, R>;
+/// A hub as the runs have it.
+pub type Served<J, R> = Hub<J, ByRemainder, OpenGate, R>;
 
 // A clock that stands still at 0.
 #[derive(Clone, Copy)]
@@ -50,8 +49,7 @@ impl Nonces for Zeros {
     }
 }
 
-/// A handshake, of which a connection has no byte, one byte, and so on, and at last all. Says behind how many connections that
-/// broke off the list is empty still, what the whole post is given, and how many entries the list then has.
+/// What all runs print.
 pub fn run<R>(rt: R) -> Result<String>
 where
     R: Wait + RandomSource + AllocGlobal + Copy + Drop,
@@ -82,54 +80,23 @@ where
     let hub = Arc::new(alloc, hub)?;
     let backend = HubBackend::new(rt, alloc, Arc::try_clone(&hub)?, Still, Zeros);
     let service = BayeuxService::new(alloc, backend)?;
-    broken_off(
-        &rt,
-        alloc,
-        &hub,
-        &service,
-        &http1::Builder::new(alloc, keys),
+    let http = http1::Builder::new(alloc, keys);
+    let mut text = posts::run(&rt, alloc, &hub, &service, &http)?;
+    forms::run(&rt, alloc, &service, &http, &mut text)?;
+    held::run(&rt, alloc, &service, &http, &mut text)?;
+    Ok(text)
+}
+
+/// A POST of this body, of JSON.
+pub fn post(alloc: Global, body: &str) -> Result<String, AllocError> {
+    let length = body.len();
+    format!(in alloc;
+        "POST /cometd HTTP/1.1\r\nhost: localhost\r\ncontent-type: application/json\r\ncontent-length: {length}\r\n\r\n{body}"
     )
 }
 
-fn broken_off<J, S, I, H, R>(
-    rt: &R,
-    alloc: Global,
-    hub: &Served<J, H>,
-    service: &BayeuxService<S>,
-    http: &http1::Builder,
-) -> Result<String>
-where
-    J: Naming,
-    S: Backend<Items = I> + Drop,
-    I: Future<Output = Result<Vec<Item>, Unanswered>> + Drop,
-    H: Wait + Drop,
-    R: Wait + RandomSource + AllocGlobal,
-{
-    let length = HANDSHAKE.len();
-    let post = format!(in alloc;
-        "POST /cometd HTTP/1.1\r\nhost: localhost\r\ncontent-type: application/json\r\ncontent-length: {length}\r\n\r\n{HANDSHAKE}"
-    )?;
-    let bytes = post.as_bytes();
-    let mut empty = 0usize;
-    for count in 0..bytes.len() {
-        let wire = Wire::new(alloc, &bytes[..count])?;
-        drop(serve(rt, http, service.clone()?, wire));
-        if entries(rt, alloc, hub)? == 0 {
-            empty = empty.saturating_add(1);
-        }
-    }
-    let wire = serve(rt, http, service.clone()?, Wire::new(alloc, bytes)?)?;
-    let given = String::from_utf8_lossy(alloc, wire.written.as_slice())?;
-    let (_, body) = given
-        .as_str()
-        .split_once("\r\n\r\n")
-        .ok_or(anyhow!("no response"))?;
-    let entries = entries(rt, alloc, hub)?;
-    Ok(format!(in alloc; "empty behind {empty}\n{body}\n{entries} entries")?)
-}
-
-// Serves a connection until its end, and gives it back.
-fn serve<S, E, R>(rt: &R, http: &http1::Builder, service: S, wire: Wire) -> Result<Wire>
+/// Serves a connection until its end, and gives it back.
+pub fn serve<S, E, R>(rt: &R, http: &http1::Builder, service: S, wire: Wire) -> Result<Wire>
 where
     S: Service<Request<Incoming<Wire>>, Response = Response<Full<Bytes>>, Error = E>,
     E: Into<anyhow::Error> + Drop,
@@ -140,8 +107,17 @@ where
     Ok(block_on(rt, connection.without_shutdown())??.io)
 }
 
-// How long the list is.
-fn entries<J: Naming, H: Wait + Drop, R: Wait>(
+/// Adds what was written to a connection, each line ended by a line feed alone.
+pub fn add_written(text: &mut String, alloc: Global, wire: &Wire) -> Result<(), AllocError> {
+    for line in String::from_utf8_lossy(alloc, wire.written.as_slice())?.lines() {
+        text.push_str(line)?;
+        text.push_str("\n")?;
+    }
+    Ok(())
+}
+
+/// How long the list of the hub is.
+pub fn entries<J: Naming, H: Wait + Drop, R: Wait>(
     rt: &R,
     alloc: Global,
     hub: &Served<J, H>,
@@ -155,4 +131,24 @@ fn entries<J: Naming, H: Wait + Drop, R: Wait>(
         .post(rt, alloc, &mut hub.pass(), &nothing)
         .map_err(|_| anyhow!("not posted"))?;
     Ok(posted.first)
+}
+
+/// Serves a POST of this body over a connection of its own, and adds what was written to it.
+pub fn add_post<S, I, R>(
+    rt: &R,
+    alloc: Global,
+    service: &BayeuxService<S>,
+    http: &http1::Builder,
+    body: &str,
+    text: &mut String,
+) -> Result<()>
+where
+    S: Backend<Items = I> + Drop,
+    I: Future<Output = Result<Vec<Item>, Unanswered>> + Drop,
+    R: Wait + RandomSource + AllocGlobal,
+{
+    let bytes = post(alloc, body)?;
+    let wire = serve(rt, http, service.clone()?, Wire::new(alloc, bytes.as_bytes())?)?;
+    add_written(text, alloc, &wire)?;
+    Ok(())
 }

@@ -1,0 +1,93 @@
+//! Requests in forms of HTTP that few clients send, each over a connection of its own.
+use crate::runs::{add_written, serve};
+use crate::wire::Wire;
+use anyhow::Result;
+use bx_message::Item;
+use bx_service::{Backend, BayeuxService, Unanswered};
+use futures::Future;
+use hyper::server::conn::http1;
+use std::alloc::{AllocGlobal, Global};
+use std::random::RandomSource;
+use std::sync::Wait;
+
+// Each has a name and the bytes that come.
+const FORMS: [(&str, &str); 13] = [
+    (
+        "in chunks",
+        "POST /cometd HTTP/1.1\r\nhost: a\r\ntransfer-encoding: chunked\r\n\r\n3\r\n[{\"\r\n20;last=no\r\nchannel\":\"/meta/ping\",\"id\":\"7\"}]\r\n0\r\n\r\n",
+    ),
+    (
+        "of HTTP/1.0",
+        "POST /cometd HTTP/1.0\r\ncontent-length: 35\r\n\r\n[{\"channel\":\"/meta/ping\",\"id\":\"7\"}]",
+    ),
+    (
+        "that asks whether to go on",
+        "POST /cometd HTTP/1.1\r\nhost: a\r\nexpect: 100-continue\r\ncontent-length: 35\r\n\r\n[{\"channel\":\"/meta/ping\",\"id\":\"7\"}]",
+    ),
+    (
+        "with its whole address",
+        "POST http://a/cometd/x?y HTTP/1.1\r\nhost: a\r\ncontent-length: 35\r\n\r\n[{\"channel\":\"/meta/ping\",\"id\":\"7\"}]",
+    ),
+    (
+        "of two documents",
+        "POST /cometd HTTP/1.1\r\nhost: a\r\ncontent-type: application/x-www-form-urlencoded\r\ncontent-length: 139\r\n\r\nmessage=[{%22channel%22:%22/meta/ping%22,%22id%22:%227%22}]&jsonp=no&message=[]&message=[{%22channel%22:%22/meta/ping%22,%22id%22:%227%22}]",
+    ),
+    (
+        "by a callback",
+        "GET /cometd?jsonp=a.b&message=[{%22channel%22:%22/meta/ping%22,%22id%22:%22%E2%80%A8%22}] HTTP/1.1\r\nhost: a\r\n\r\n",
+    ),
+    (
+        "two at once",
+        "POST /cometd HTTP/1.1\r\nhost: a\r\ncontent-length: 2\r\n\r\n[]GET /cometd?message=[{%22channel%22:%22/meta/ping%22,%22id%22:%227%22}] HTTP/1.1\r\nhost: a\r\n\r\n",
+    ),
+    (
+        "for its head alone",
+        "HEAD /cometd?message=[] HTTP/1.1\r\nhost: a\r\n\r\n",
+    ),
+    (
+        "by another method",
+        "PUT /cometd HTTP/1.1\r\nhost: a\r\ncontent-length: 2\r\n\r\n[]",
+    ),
+    (
+        "to another path",
+        "POST /comet HTTP/1.1\r\nhost: a\r\ncontent-length: 2\r\n\r\n[]",
+    ),
+    (
+        "longer than it says",
+        "POST /cometd HTTP/1.1\r\nhost: a\r\ncontent-length: 2\r\n\r\n[]]",
+    ),
+    (
+        "shorter than it says",
+        "POST /cometd HTTP/1.1\r\nhost: a\r\ncontent-length: 3\r\n\r\n[]",
+    ),
+    (
+        "in chunks that lie",
+        "POST /cometd HTTP/1.1\r\nhost: a\r\ntransfer-encoding: chunked\r\n\r\n1\r\n[]\r\n0\r\n\r\n",
+    ),
+];
+
+/// Adds for each what is written to its connection, or that it ended in an error.
+pub fn run<S, I, R>(
+    rt: &R,
+    alloc: Global,
+    service: &BayeuxService<S>,
+    http: &http1::Builder,
+    text: &mut String,
+) -> Result<()>
+where
+    S: Backend<Items = I> + Drop,
+    I: Future<Output = Result<Vec<Item>, Unanswered>> + Drop,
+    R: Wait + RandomSource + AllocGlobal,
+{
+    for (name, bytes) in FORMS {
+        text.push_str("\na request ")?;
+        text.push_str(name)?;
+        text.push_str("\n")?;
+        let wire = Wire::new(alloc, bytes.as_bytes())?;
+        match serve(rt, http, service.clone()?, wire) {
+            Ok(wire) => add_written(text, alloc, &wire)?,
+            Err(_) => text.push_str("ended in an error\n")?,
+        }
+    }
+    Ok(())
+}

@@ -1,0 +1,49 @@
+//! The futures of a stream, each as a task.
+ghost use Rattle.std.specs.Prelude.{◌≡◌};
+ghost use Rattle.futures.specs.Runs.{AllItems};
+
+use futures::executor::TaskSet;
+use futures::task::{Context, Poll};
+use futures::{Future, Stream, ready};
+
+// How many futures one poll spawns before it lets tasks run.
+const BUDGET: u32 = 128;
+
+/// Spawns each future of a stream, and is ready once the stream has ended, or the set is shut down. A future for which there is no
+/// memory is dropped, and those behind it are spawned as ever.
+#[derive(Drop)]
+pub struct SpawnEach<'a, F: Future, S> {
+    tasks: &'a TaskSet<F>,
+    futures: S,
+}
+
+impl<'a, F: Future, S> SpawnEach<'a, F, S> {
+    /// Nothing is spawned before the first poll.
+    pub fn new(tasks: &'a TaskSet<F>, futures: S) -> SpawnEach<'a, F, S>
+        ensures { result.futures ≡ futures }
+    {
+        SpawnEach { tasks, futures }
+    }
+}
+
+impl<F: Future<Output = ()>, S: Stream<Item = F>> Future for SpawnEach<'_, F, S> {
+    type Output = ();
+
+    ghost can_poll = { λ each. S.can_poll each.futures × AllItems (S.yields each.futures) F.can_poll };
+
+    ghost needs = { λ each. S.needs each.futures };
+
+    fn poll(&mut self, cx: &mut Context<'_>) -> Poll<()> {
+        for _ in 0..BUDGET {
+            let Some(future) = ready!(self.futures.poll_next(cx)) else {
+                return Poll::Ready(());
+            };
+            if let Err(refused) = self.tasks.spawn(future) {
+                if refused.is_shutdown() {
+                    return Poll::Ready(());
+                }
+            }
+        }
+        cx.yield_now()
+    }
+}
