@@ -71,7 +71,7 @@ fn receive(rt: &HostRuntime, stream: &mut TcpStream) -> Result<String, Fail> {
         };
         if length_of(head) == Some(body.len()) {
             assert_eq!(rt; head.lines().next(), Some("HTTP/1.1 200 OK"));
-            return Ok(body.to_string(rt.alloc())?);
+            return Ok(String::from_str(rt.alloc(), body)?);
         }
     }
     Err(Fail::from("no whole response"))
@@ -92,7 +92,7 @@ fn opened(rt: &HostRuntime, stream: &mut TcpStream) -> Result<String, Fail> {
         .ok_or("no client id")?;
     let (id, _) = behind.split_once('"').ok_or("no client id")?;
     assert_eq!(rt; id.len(), 48);
-    Ok(id.to_string(rt.alloc())?)
+    Ok(String::from_str(rt.alloc(), id)?)
 }
 
 // The first one subscribes and waits; the second one publishes, and the first one gets what was published.
@@ -122,7 +122,7 @@ fn two_clients_over_loopback(rt: HostRuntime) -> Result<(), Fail> {
     let mut words = Vec::new(alloc);
     words.push(format!(in alloc; "{address}")?)?;
     for word in WORDS {
-        words.push(word.to_string(alloc)?)?;
+        words.push(String::from_str(alloc, word)?)?;
     }
     let server = thread::spawn(&rt, move || serve(rt, words.as_slice(), &mut Vec::new(alloc)))?;
     let mut first = connect(&rt, address)?;

@@ -1,5 +1,5 @@
 //! A hub of two shards that is served over connections in memory.
-ghost use Rattle.std.specs.Prelude.{◌≡◌};
+ghost use Rattle.std.specs.Prelude.{◌≡◌, None};
 ghost use Rattle.bx_entry.specs.Placings.{by_remainder};
 
 use crate::wire::Wire;
@@ -14,7 +14,8 @@ use bx_service::{Backend, BayeuxService, Clock, HubBackend, Nonces, Unanswered};
 use bx_window::{Naming, Opened};
 use bytes::Bytes;
 use futures::Future;
-use futures::executor::block_on;
+use futures::task::Poll;
+use futures::test::MockTask;
 use http::{Request, Response};
 use http_body_util::Full;
 use hyper::body::Incoming;
@@ -25,6 +26,9 @@ use std::hash::RandomState;
 use std::marker::Brand;
 use std::random::RandomSource;
 use std::sync::{Arc, Wait};
+
+// How often a task is polled that is woken each time.
+const POLLS: u32 = 100;
 
 /// A hub as the runs have it.
 pub type Served<J, R> = Hub<J, ByRemainder, OpenGate, R>;
@@ -95,16 +99,38 @@ pub fn post(alloc: Global, body: &str) -> Result<String, AllocError> {
     )
 }
 
-/// Serves a connection until its end, and gives it back.
+/// Serves a connection until its end, which may be an error, and gives back what it was served over.
 pub fn serve<S, E, R>(rt: &R, http: &http1::Builder, service: S, wire: Wire) -> Result<Wire>
 where
     S: Service<Request<Incoming<Wire>>, Response = Response<Full<Bytes>>, Error = E>,
     E: Into<anyhow::Error> + Drop,
-    R: Wait + RandomSource + AllocGlobal,
+    R: RandomSource + AllocGlobal,
     requires { S.can_call service }
 {
-    let connection = http.serve_connection(wire, service);
-    Ok(block_on(rt, connection.without_shutdown())??.io)
+    let task = MockTask::new(rt)?;
+    let mut connection = http.serve_connection(wire, service);
+    match poll_on(&task, &mut connection) {
+        Some(_) => Ok(connection.into_parts().io),
+        None => Err(anyhow!("it waits")),
+    }
+}
+
+/// Polls a future as often as it wakes itself; none where it then waits for something else.
+pub fn poll_on<F: Future>(task: &MockTask, future: &mut F) -> Option<F::Output>
+    requires { F.can_poll future.old }
+    ensures { result ≡ None → F.can_poll future.new }
+{
+    for _ in 0..POLLS {
+        match task.poll(future) {
+            Poll::Ready(output) => return Some(output),
+            Poll::Pending => {
+                if !task.is_woken() {
+                    return None;
+                }
+            }
+        }
+    }
+    None
 }
 
 /// Adds what was written to a connection, each line ended by a line feed alone.
@@ -148,7 +174,12 @@ where
     R: Wait + RandomSource + AllocGlobal,
 {
     let bytes = post(alloc, body)?;
-    let wire = serve(rt, http, service.clone()?, Wire::new(alloc, bytes.as_bytes())?)?;
+    let wire = serve(
+        rt,
+        http,
+        service.clone()?,
+        Wire::new(alloc, bytes.as_bytes())?,
+    )?;
     add_written(text, alloc, &wire)?;
     Ok(())
 }

@@ -4,21 +4,28 @@ ghost use Rattle.std.specs.Prelude.{⊤};
 use bytes::{Buf, Bytes};
 use futures::task::{Context, Poll};
 use std::alloc::{AllocError, Global};
-use std::io;
+use std::{io, mem};
 use tokio::io::{AsyncRead, AsyncWrite};
 
-/// A connection on which some bytes come, and then its end. What is written to it is kept.
+/// A connection on which some bytes come, others once something was written to it, and then its end. What is written is kept.
 #[derive(Drop)]
 pub struct Wire {
     coming: Bytes,
+    later: Bytes,
     pub written: Vec<u8>,
 }
 
 impl Wire {
     /// A connection on which these bytes come.
     pub fn new(alloc: Global, coming: &[u8]) -> Result<Wire, AllocError> {
+        Wire::in_turn(alloc, coming, b"")
+    }
+
+    /// A connection on which the first bytes come, and the others once something was written.
+    pub fn in_turn(alloc: Global, coming: &[u8], later: &[u8]) -> Result<Wire, AllocError> {
         Ok(Wire {
             coming: Bytes::copy_from_slice(alloc, coming)?,
+            later: Bytes::copy_from_slice(alloc, later)?,
             written: Vec::new(alloc),
         })
     }
@@ -33,7 +40,13 @@ impl AsyncRead for Wire {
 
     ghost reads_in_order = { λ _ _ _ _ _ _ _. tt };
 
-    fn poll_read(&mut self, _cx: &mut Context<'_>, buf: &mut [u8]) -> Poll<io::Result<usize>> {
+    fn poll_read(&mut self, cx: &mut Context<'_>, buf: &mut [u8]) -> Poll<io::Result<usize>> {
+        if self.coming.is_empty() && !self.later.is_empty() {
+            if self.written.is_empty() {
+                return cx.yield_now();
+            }
+            mem::swap(&mut self.coming, &mut self.later);
+        }
         let count = self.coming.len().min(buf.len());
         buf[..count].copy_from_slice(&self.coming.as_slice()[..count]);
         self.coming.advance(count);

@@ -37,13 +37,7 @@ pub fn serve_connections<R, S, E>(
 ) -> io::Result<()>
 where
     R: Wait + Threads + Clock + RandomSource + AllocGlobal + Sync + Send + Copy + Drop,
-    S: Service<
-        Request<Coming<R>>,
-        Response = Response<Full<Bytes>>,
-        Error = E,
-    >
-        + Clone
-        + Send,
+    S: Service<Request<Coming<R>>, Response = Response<Full<Bytes>>, Error = E> + Clone + Send,
     S::Future: Send,
     E: Into<anyhow::Error> + Drop + Send,
     requires { (each : S) → S.can_call each }

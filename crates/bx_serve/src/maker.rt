@@ -70,12 +70,7 @@ pub struct Server<R, S> {
 impl<R, S, E> Maker for Server<R, S>
 where
     R: Clock + Copy + Drop,
-    S: Service<
-        Request<Coming<R>>,
-        Response = Response<Full<Bytes>>,
-        Error = E,
-    >
-        + Clone,
+    S: Service<Request<Coming<R>>, Response = Response<Full<Bytes>>, Error = E> + Clone,
     E: Into<anyhow::Error> + Drop,
 {
     type Task = Quiet<
