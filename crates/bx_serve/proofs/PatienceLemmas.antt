@@ -1,10 +1,14 @@
--- Each answer of a body is a step of the patient body.
-use Rattle.std.proofs.Common.{◌≡◌, List, [], ◌∷◌, Option, Some, None, Result, Ok, Err, subst, map}
+-- Each answer of a body is a step of the patient body; what fails in time.
+use Rattle.std.proofs.Common.{◌≡◌, List, [], ◌∷◌, Option, Some, None, Result, Ok, Err, subst, sym, map, inl, inr}
+use Rattle.std.specs.declared.io.Error.{Error}
 use Rattle.futures.specs.Runs.{Runs, After}
+use Rattle.futures.specs.declared.task.Poll.{Poll}
+use Rattle.futures.specs.declared.task.Poll.TheVariants.{Ready, Pending}
 use Rattle.http_body.specs.declared.frame.Frame.{Frame}
+use Rattle.tokio.specs.Io.Moved.{IfReadyErr}
 use Rattle.bx_serve.specs.declared.patient.PatientFault.{PatientFault}
 use Rattle.bx_serve.specs.declared.patient.PatientFault.TheVariants.{Body, Late}
-use Rattle.bx_serve.specs.Patience.{Comes, Outlasts}
+use Rattle.bx_serve.specs.Patience.{Comes, InTime, OrLate, Outlasts}
 
 module _ {D E : Type 0} (old : Runs (Result (Frame D) E)) where
   -- the first answer, where no frame came before it
@@ -31,3 +35,12 @@ module _ {D E : Type 0} (old : Runs (Result (Frame D) E)) where
   pub failing : (fault : PatientFault E) (new : Runs (Result (Frame D) (PatientFault E))) → After (Outlasts old) (Err fault) new
   failing fault new xs last came [] is = absurd (cc)
   failing fault new xs last came (frame ∷ frames) is = absurd (cc)
+
+-- what fails in time fails as it did, or too late
+pub in_time : {O : Type 0} (fails : Error → Type 0) (written made : Poll (Result O Error)) →
+    InTime written made → IfReadyErr written fails → IfReadyErr made (OrLate fails)
+in_time {O} fails (Ready (Ok x)) made same failed = subst (λ (m : Poll (Result O Error)). IfReadyErr m (OrLate fails)) (sym same) tt
+in_time {O} fails (Ready (Err e)) made same failed = subst (λ (m : Poll (Result O Error)). IfReadyErr m (OrLate fails)) (sym same) (inl failed)
+in_time fails Pending (Ready (Ok x)) never failed = absurd never
+in_time fails Pending (Ready (Err e)) late failed = inr late
+in_time fails Pending Pending waits failed = tt
