@@ -3,29 +3,9 @@
 
 const CHANNEL = '/chat/hall';
 
-const WORDS_OF_STATES = {
-  connecting: 'connecting …',
-  interrupted: 'connection lost, trying again …',
-  stopped: 'not connected',
-};
-
-const element = (id) => document.getElementById(id);
 let ownName = '';
 
-// From disk: a server on this machine. From a web server: the path /cometd there. `?server=ADDRESS` is any other.
-function serverAddress() {
-  const own = location.protocol === 'file:' ? 'http://127.0.0.1:8087/cometd' : '/cometd';
-  return new URLSearchParams(location.search).get('server') || own;
-}
-
-const client = new BayeuxClient(serverAddress());
-
-client.onstate = (state, why) => {
-  const isUp = state === 'connected';
-  element('state').className = state;
-  element('state').textContent = isUp ? `connected by ${client.connectionType}` : WORDS_OF_STATES[state];
-  element('state').title = why;
-};
+const client = newClient();
 
 // What others publish may be anything, so its form is looked at. It is shown as text and never as HTML.
 function showEvent(data) {
@@ -103,5 +83,3 @@ element('write').addEventListener('submit', (event) => {
   event.preventDefault();
   send();
 });
-
-window.addEventListener('pagehide', () => client.stop());

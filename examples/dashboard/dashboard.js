@@ -3,25 +3,11 @@
 
 const PATTERN = '/dashboard/*';
 // The chart shows so many seconds (`?seconds=NUMBER`), in this box of the picture.
-const WORDS = new URLSearchParams(location.search);
 const SECONDS = Number(WORDS.get('seconds')) || 60;
 const BOX = { left: 36, right: 592, top: 10, bottom: 144 };
 const LINES = 4;
 
-const WORDS_OF_STATES = {
-  connecting: 'connecting …',
-  interrupted: 'connection lost, trying again …',
-  stopped: 'not connected',
-};
-
-const element = (id) => document.getElementById(id);
 const cards = new Map();
-
-// From disk: a server on this machine. From a web server: the path /cometd there. `?server=ADDRESS` is any other.
-function serverAddress() {
-  const own = location.protocol === 'file:' ? 'http://127.0.0.1:8087/cometd' : '/cometd';
-  return WORDS.get('server') || own;
-}
 
 /** One channel's newest numbers, and their chart. */
 class Card {
@@ -99,14 +85,7 @@ function inWords(value) {
   return value.toLocaleString('en', { maximumFractionDigits: Math.abs(value) < 10 ? 2 : 1 });
 }
 
-const client = new BayeuxClient(serverAddress());
-
-client.onstate = (state, why) => {
-  const isUp = state === 'connected';
-  element('state').className = state;
-  element('state').textContent = isUp ? `connected by ${client.connectionType}` : WORDS_OF_STATES[state];
-  element('state').title = why;
-};
+const client = newClient();
 
 client.subscribe(PATTERN, (data, channel) => {
   if (typeof data !== 'number') return;
@@ -120,5 +99,4 @@ client.subscribe(PATTERN, (data, channel) => {
 
 // The curve goes on to the left while nothing comes.
 setInterval(() => cards.forEach((card) => card.draw()), 1000);
-window.addEventListener('pagehide', () => client.stop());
 client.start();

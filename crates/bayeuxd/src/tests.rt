@@ -8,6 +8,7 @@ use std::time::Duration;
 
 // How often a client tries to connect or to read, and for how long it waits in between, in milliseconds.
 const TRIES: u32 = 500;
+
 const PAUSE: u64 = 10;
 
 // The arguments behind the address: it ends behind two connections.
@@ -22,6 +23,14 @@ const WORDS: [&str; 6] = [
 
 const HANDSHAKE: &str =
     r#"{"channel":"/meta/handshake","version":"1.0","supportedConnectionTypes":["long-polling"]}"#;
+
+// The one is to be the other.
+fn check(found: &str, wanted: &str) -> Result<(), Fail> {
+    if found == wanted {
+        return Ok(());
+    }
+    Err(Fail::new(format_args!("{found} in place of {wanted}")))
+}
 
 // An address of loopback at which nobody listens.
 fn free_address(rt: &HostRuntime) -> Result<SocketAddr, Fail> {
@@ -70,7 +79,7 @@ fn receive(rt: &HostRuntime, stream: &mut TcpStream) -> Result<String, Fail> {
             continue;
         };
         if length_of(head) == Some(body.len()) {
-            assert_eq!(rt; head.lines().next(), Some("HTTP/1.1 200 OK"));
+            check(head.lines().next().unwrap_or(""), "HTTP/1.1 200 OK")?;
             return Ok(String::from_str(rt.alloc(), body)?);
         }
     }
@@ -91,28 +100,40 @@ fn opened(rt: &HostRuntime, stream: &mut TcpStream) -> Result<String, Fail> {
         .split_once(r#""clientId":""#)
         .ok_or("no client id")?;
     let (id, _) = behind.split_once('"').ok_or("no client id")?;
-    assert_eq!(rt; id.len(), 48);
+    if id.len() != 48 {
+        return Err(Fail::from("no id of 48 digits"));
+    }
     Ok(String::from_str(rt.alloc(), id)?)
 }
 
 // The first one subscribes and waits; the second one publishes, and the first one gets what was published.
-fn converse(
-    rt: &HostRuntime,
-    first: &mut TcpStream,
-    second: &mut TcpStream,
-) -> Result<(), Fail> {
+fn converse(rt: &HostRuntime, first: &mut TcpStream, second: &mut TcpStream) -> Result<(), Fail> {
     let alloc = rt.alloc();
     let id = opened(rt, first)?;
-    let message = format!(in alloc; r#"{{"channel":"/meta/subscribe","clientId":"{id}","subscription":"/a"}}"#)?;
-    let subscribed = format!(in alloc; r#"[{{"channel":"/meta/subscribe","clientId":"{id}","subscription":"/a","successful":true}}]"#)?;
-    assert_eq!(rt; ask(rt, first, message.as_str())?, subscribed);
-    let message = format!(in alloc; r#"{{"channel":"/meta/connect","clientId":"{id}","connectionType":"long-polling"}}"#)?;
+    let message = format!(in alloc;
+        r#"{{"channel":"/meta/subscribe","clientId":"{id}","subscription":"/a"}}"#
+    )?;
+    let subscribed = format!(in alloc;
+        r#"[{{"channel":"/meta/subscribe","clientId":"{id}","subscription":"/a","successful":true}}]"#
+    )?;
+    check(
+        ask(rt, first, message.as_str())?.as_str(),
+        subscribed.as_str(),
+    )?;
+    let message = format!(in alloc;
+        r#"{{"channel":"/meta/connect","clientId":"{id}","connectionType":"long-polling"}}"#
+    )?;
     send(rt, first, message.as_str())?;
     let message = format!(in alloc; r#"{{"channel":"/a","clientId":"{id}","data":7}}"#)?;
-    assert_eq!(rt; ask(rt, second, message.as_str())?.as_str(), r#"[{"channel":"/a","successful":true}]"#);
-    let answer = format!(in alloc; r#"[{{"channel":"/a","data":7}},{{"advice":{{"interval":0,"reconnect":"retry","timeout":30000}},"channel":"/meta/connect","clientId":"{id}","successful":true}}]"#)?;
-    assert_eq!(rt; receive(rt, first)?, answer);
-    Ok(())
+    let published = ask(rt, second, message.as_str())?;
+    check(
+        published.as_str(),
+        r#"[{"channel":"/a","successful":true}]"#,
+    )?;
+    let answer = format!(in alloc;
+        r#"[{{"channel":"/a","data":7}},{{"advice":{{"interval":0,"reconnect":"retry","timeout":30000}},"channel":"/meta/connect","clientId":"{id}","successful":true}}]"#
+    )?;
+    check(receive(rt, first)?.as_str(), answer.as_str())
 }
 
 #[test]
@@ -124,7 +145,10 @@ fn two_clients_over_loopback(rt: HostRuntime) -> Result<(), Fail> {
     for word in WORDS {
         words.push(String::from_str(alloc, word)?)?;
     }
-    let server = thread::spawn(&rt, move || serve(rt, words.as_slice(), &mut Vec::new(alloc)))?;
+    let server = thread::spawn(
+        &rt,
+        move || serve(rt, words.as_slice(), &mut Vec::new(alloc)),
+    )?;
     let mut first = connect(&rt, address)?;
     let mut second = connect(&rt, address)?;
     converse(&rt, &mut first, &mut second)?;

@@ -1,0 +1,55 @@
+#!/bin/sh
+# Prints the script of an overflow, and with the word `expected` what it must print. A session is subscribed to /a/b and fetches nothing:
+# four requests publish 1,024 events there, and one more event is one too many. Written out, each of the two is longer than it is worth.
+set -eu
+first=000000000000000000000000000000000000000000000001
+second=000000000000000000000000000000000000000000000002
+retry='"advice":{"interval":0,"reconnect":"retry","timeout":30000}'
+served='"successful":true,"supportedConnectionTypes":["long-polling","callback-polling"],"version":"1.0"'
+
+# Prints the text $1 256 times, with commas between: as many messages as a request may have.
+often() {
+    awk -v text="$1" 'BEGIN { for (n = 1; n <= 256; n++) printf "%s%s", (n > 1 ? "," : ""), text }'
+}
+
+script() {
+    handshake='{"channel":"/meta/handshake","version":"1.0","supportedConnectionTypes":["long-polling"]}'
+    publish='{"channel":"/a/b","clientId":"'$first'","data":1}'
+    echo "0 P [$handshake]"
+    echo '0 P [{"channel":"/meta/subscribe","clientId":"'$first'","subscription":"/a/b"}]'
+    for _ in 1 2 3 4; do
+        echo "0 P [$(often "$publish")]"
+    done
+    echo "0 P [$publish]"
+    # The session has overflowed: its connects are refused, and its other messages are served.
+    echo '0 P [{"channel":"/meta/connect","clientId":"'$first'","connectionType":"long-polling"}]'
+    echo "0 P [$publish]"
+    # Its client opens another one, and goes on with that.
+    echo "0 P [$handshake]"
+    echo '0 P [{"channel":"/meta/subscribe","clientId":"'$second'","subscription":"/a/b"},{"channel":"/a/b","clientId":"'$second'","data":2}]'
+    echo '0 P [{"channel":"/meta/connect","clientId":"'$second'","connectionType":"long-polling"}]'
+}
+
+expected() {
+    published='{"channel":"/a/b","successful":true}'
+    echo '1 200 [{'"$retry"',"channel":"/meta/handshake","clientId":"'$first'",'"$served"'}]'
+    echo '2 200 [{"channel":"/meta/subscribe","clientId":"'$first'","subscription":"/a/b","successful":true}]'
+    for line in 3 4 5 6; do
+        echo "$line 200 [$(often "$published")]"
+    done
+    echo "7 200 [$published]"
+    echo '8 200 [{"advice":{"interval":0,"reconnect":"handshake"},"channel":"/meta/connect","clientId":"'$first'","error":"413::Queue overflow","successful":false}]'
+    echo "9 200 [$published]"
+    echo '10 200 [{'"$retry"',"channel":"/meta/handshake","clientId":"'$second'",'"$served"'}]'
+    echo '11 200 [{"channel":"/meta/subscribe","clientId":"'$second'","subscription":"/a/b","successful":true},'"$published]"
+    echo '12 200 [{"channel":"/a/b","data":2},{'"$retry"',"channel":"/meta/connect","clientId":"'$second'","successful":true}]'
+}
+
+case ${1:-} in
+    script) script ;;
+    expected) expected ;;
+    *)
+        echo 'usage: examples/scripts/overflow.make script|expected' >&2
+        exit 2
+        ;;
+esac
