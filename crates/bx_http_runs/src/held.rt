@@ -43,16 +43,43 @@ where
     }
     let mut both = post(alloc, CONNECT)?;
     both.push_str(post(alloc, "[]")?.as_str())?;
-    let task = MockTask::new(rt)?;
     let wire = Wire::new(alloc, both.as_bytes())?;
-    let mut held = http.serve_connection(wire, service.clone()?);
-    if poll_on(&task, &mut held).is_some() {
+    let again = service.clone()?;
+    let task = MockTask::new(rt)?;
+    let mut connection = http.serve_connection(wire, again);
+    let done = publish_meanwhile(rt, alloc, service, http, &task, &mut connection, text);
+    let wire = connection.into_parts().io;
+    done?;
+    text.push_str("\nthe connect, and the request behind it\n")?;
+    add_written(text, alloc, &wire)?;
+    Ok(())
+}
+
+// Serves what is held until it waits, publishes over another connection, and goes on until it is over.
+fn publish_meanwhile<S, I, F, R>(
+    rt: &R,
+    alloc: Global,
+    service: &BayeuxService<S>,
+    http: &http1::Builder,
+    task: &MockTask,
+    held: &mut F,
+    text: &mut String,
+) -> Result<()>
+where
+    S: Backend<Items = I> + Drop,
+    I: Future<Output = Result<Vec<Item>, Unanswered>> + Drop,
+    F: Future,
+    F::Output: Drop,
+    R: Wait + RandomSource + AllocGlobal,
+    requires { F.can_poll held.old }
+{
+    if poll_on(task, held).is_some() {
         return Err(anyhow!("it does not wait"));
     }
     text.push_str("\nwhile its connect is held, it publishes\n")?;
     add_post(rt, alloc, service, http, PUBLISH, text)?;
-    poll_on(&task, &mut held).ok_or(anyhow!("it waits"))??;
-    text.push_str("\nthe connect, and the request behind it\n")?;
-    add_written(text, alloc, &held.into_parts().io)?;
-    Ok(())
+    match poll_on(task, held) {
+        Some(_) => Ok(()),
+        None => Err(anyhow!("it waits")),
+    }
 }

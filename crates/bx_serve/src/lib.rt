@@ -15,4 +15,4 @@ pub use maker::{Maker, Quiet, Server};
 pub use patience::Patience;
 pub use patient::{Patient, PatientFault, Patiently};
 pub use peer::Peer;
-pub use spawn_each::SpawnEach;
+pub use spawn_each::{SpawnEach, run_each};

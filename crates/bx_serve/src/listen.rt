@@ -1,7 +1,7 @@
 //! Serves the connections of a listener.
 use crate::connections::Connections;
 use crate::maker::{Coming, Server};
-use crate::spawn_each::SpawnEach;
+use crate::spawn_each::run_each;
 use bytes::Bytes;
 use http::{Request, Response};
 use http_body_util::Full;
@@ -54,6 +54,5 @@ where
         limit: Duration::from_millis(PATIENCE),
     };
     let connections = Connections::new(rt, listener.incoming(), maker, count, pause);
-    let tasks = runtime.task_set(&rt)?;
-    runtime.block_on_with(&rt, &tasks, SpawnEach::new(&tasks, connections))
+    run_each(&rt, runtime, connections)
 }

@@ -5,9 +5,31 @@ ghost use Rattle.futures.specs.Runs.{AllItems};
 use futures::executor::TaskSet;
 use futures::task::{Context, Poll};
 use futures::{Future, Stream, ready};
+use std::alloc::AllocGlobal;
+use std::io;
+use std::random::RandomSource;
+use std::sync::Wait;
+use std::thread::Threads;
+use std::time::Clock;
+use tokio::runtime::Runtime;
 
 // How many futures one poll spawns before it lets tasks run.
 const BUDGET: u32 = 128;
+
+/// Runs each future of a stream as a task of the runtime, until the stream has ended and each task is done. A future for which there
+/// is no memory is dropped, and those behind it are run as ever. `Err` where there is no memory to begin with, or the system refuses
+/// the runtime a call.
+pub fn run_each<R, S, F>(rt: &R, runtime: &mut Runtime, futures: S) -> io::Result<()>
+where
+    R: Wait + Threads + Clock + RandomSource + AllocGlobal + Sync,
+    S: Stream<Item = F>,
+    F: Future<Output = ()> + Send,
+    requires stream { S.can_poll futures }
+    requires items { AllItems (S.yields futures) F.can_poll }
+{
+    let tasks = runtime.task_set(rt)?;
+    runtime.block_on_with(rt, &tasks, SpawnEach::new(&tasks, futures))
+}
 
 /// Spawns each future of a stream, and is ready once the stream has ended, or the set is shut down. A future for which there is no
 /// memory is dropped, and those behind it are spawned as ever.
