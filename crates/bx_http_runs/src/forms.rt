@@ -2,10 +2,12 @@
 use crate::runs::{add_written, serve};
 use crate::wire::Wire;
 use anyhow::Result;
-use bx_message::Item;
-use bx_service::{Backend, BayeuxService, Unanswered};
-use futures::Future;
+use bytes::Bytes;
+use http::{Request, Response};
+use http_body_util::Full;
+use hyper::body::Incoming;
 use hyper::server::conn::http1;
+use hyper::service::Service;
 use std::alloc::{AllocGlobal, Global};
 use std::random::RandomSource;
 use std::sync::Wait;
@@ -70,17 +72,18 @@ const FORMS: [(&str, &str); 13] = [
 ];
 
 /// Adds for each what is written to its connection.
-pub fn run<S, I, R>(
+pub fn run<S, E, R>(
     rt: &R,
     alloc: Global,
-    service: &BayeuxService<S>,
+    service: &S,
     http: &http1::Builder,
     text: &mut String,
 ) -> Result<()>
 where
-    S: Backend<Items = I> + Drop,
-    I: Future<Output = Result<Vec<Item>, Unanswered>> + Drop,
+    S: Service<Request<Incoming<Wire>>, Response = Response<Full<Bytes>>, Error = E> + Clone,
+    E: Into<anyhow::Error> + Drop,
     R: Wait + RandomSource + AllocGlobal,
+    requires { (each : S) → S.can_call each }
 {
     for (name, bytes) in FORMS {
         text.push_str("\na request ")?;

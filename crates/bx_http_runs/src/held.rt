@@ -2,11 +2,14 @@
 use crate::runs::{add_post, add_written, poll_on, post};
 use crate::wire::Wire;
 use anyhow::{Result, anyhow};
-use bx_message::Item;
-use bx_service::{Backend, BayeuxService, Unanswered};
+use bytes::Bytes;
 use futures::Future;
 use futures::test::MockTask;
+use http::{Request, Response};
+use http_body_util::Full;
+use hyper::body::Incoming;
 use hyper::server::conn::http1;
+use hyper::service::Service;
 use std::alloc::{AllocGlobal, Global};
 use std::random::RandomSource;
 use std::sync::Wait;
@@ -25,17 +28,18 @@ const PUBLISH: &str =
 
 /// A session opens, subscribes and connects, and right behind the connect asks for nothing; over another connection it publishes what
 /// it has subscribed to. Adds all that is written, in this order: the publish is answered first, since the connect waits for it.
-pub fn run<S, I, R>(
+pub fn run<S, E, R>(
     rt: &R,
     alloc: Global,
-    service: &BayeuxService<S>,
+    service: &S,
     http: &http1::Builder,
     text: &mut String,
 ) -> Result<()>
 where
-    S: Backend<Items = I> + Drop,
-    I: Future<Output = Result<Vec<Item>, Unanswered>> + Drop,
+    S: Service<Request<Incoming<Wire>>, Response = Response<Full<Bytes>>, Error = E> + Clone,
+    E: Into<anyhow::Error> + Drop,
     R: Wait + RandomSource + AllocGlobal,
+    requires { (each : S) → S.can_call each }
 {
     text.push_str("\na session opens and subscribes\n")?;
     for body in OPENING {
@@ -56,22 +60,23 @@ where
 }
 
 // Serves what is held until it waits, publishes over another connection, and goes on until it is over.
-fn publish_meanwhile<S, I, F, R>(
+fn publish_meanwhile<S, E, F, R>(
     rt: &R,
     alloc: Global,
-    service: &BayeuxService<S>,
+    service: &S,
     http: &http1::Builder,
     task: &MockTask,
     held: &mut F,
     text: &mut String,
 ) -> Result<()>
 where
-    S: Backend<Items = I> + Drop,
-    I: Future<Output = Result<Vec<Item>, Unanswered>> + Drop,
+    S: Service<Request<Incoming<Wire>>, Response = Response<Full<Bytes>>, Error = E> + Clone,
+    E: Into<anyhow::Error> + Drop,
     F: Future,
     F::Output: Drop,
     R: Wait + RandomSource + AllocGlobal,
-    requires { F.can_poll held.old }
+    requires service { (each : S) → S.can_call each }
+    requires held { F.can_poll held.old }
 {
     if poll_on(task, held).is_some() {
         return Err(anyhow!("it does not wait"));

@@ -2,11 +2,13 @@
 use crate::runs::{Served, entries, post, serve};
 use crate::wire::Wire;
 use anyhow::{Result, anyhow};
-use bx_message::Item;
-use bx_service::{Backend, BayeuxService, Unanswered};
 use bx_window::Naming;
-use futures::Future;
+use bytes::Bytes;
+use http::{Request, Response};
+use http_body_util::Full;
+use hyper::body::Incoming;
 use hyper::server::conn::http1;
+use hyper::service::Service;
 use std::alloc::{AllocGlobal, Global};
 use std::random::RandomSource;
 use std::sync::Wait;
@@ -16,19 +18,20 @@ const HANDSHAKE: &str =
 
 /// A handshake, of which a connection has no byte, one byte, and so on, and at last all. Says behind how many connections that
 /// broke off the list is empty still, what the whole post is given, and how many entries the list then has.
-pub fn run<J, S, I, H, R>(
+pub fn run<J, S, E, H, R>(
     rt: &R,
     alloc: Global,
     hub: &Served<J, H>,
-    service: &BayeuxService<S>,
+    service: &S,
     http: &http1::Builder,
 ) -> Result<String>
 where
     J: Naming,
-    S: Backend<Items = I> + Drop,
-    I: Future<Output = Result<Vec<Item>, Unanswered>> + Drop,
+    S: Service<Request<Incoming<Wire>>, Response = Response<Full<Bytes>>, Error = E> + Clone,
+    E: Into<anyhow::Error> + Drop,
     H: Wait + Drop,
     R: Wait + RandomSource + AllocGlobal,
+    requires { (each : S) → S.can_call each }
 {
     let post = post(alloc, HANDSHAKE)?;
     let bytes = post.as_bytes();

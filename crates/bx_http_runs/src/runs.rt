@@ -9,8 +9,7 @@ use bx_advice::Config;
 use bx_cut::Bodies;
 use bx_entry::{Arrival, ByRemainder};
 use bx_hub::{Hub, OpenGate};
-use bx_message::Item;
-use bx_service::{Backend, BayeuxService, Clock, HubBackend, Nonces, Unanswered};
+use bx_service::{BayeuxService, Clock, HubBackend, Nonces};
 use bx_window::{Naming, Opened};
 use bytes::Bytes;
 use futures::Future;
@@ -160,18 +159,19 @@ pub fn entries<J: Naming, H: Wait + Drop, R: Wait>(
 }
 
 /// Serves a POST of this body over a connection of its own, and adds what was written to it.
-pub fn add_post<S, I, R>(
+pub fn add_post<S, E, R>(
     rt: &R,
     alloc: Global,
-    service: &BayeuxService<S>,
+    service: &S,
     http: &http1::Builder,
     body: &str,
     text: &mut String,
 ) -> Result<()>
 where
-    S: Backend<Items = I> + Drop,
-    I: Future<Output = Result<Vec<Item>, Unanswered>> + Drop,
+    S: Service<Request<Incoming<Wire>>, Response = Response<Full<Bytes>>, Error = E> + Clone,
+    E: Into<anyhow::Error> + Drop,
     R: Wait + RandomSource + AllocGlobal,
+    requires { (each : S) → S.can_call each }
 {
     let bytes = post(alloc, body)?;
     let wire = serve(
