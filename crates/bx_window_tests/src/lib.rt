@@ -5,5 +5,3 @@
 mod moves;
 #[cfg(test)]
 mod tests;
-#[cfg(test)]
-mod ticker;

@@ -1,7 +1,7 @@
 //! What readers find of batches of ticks, by the window's table of cases.
 ghost use Rattle.std.specs.Prelude.{◌≡◌, [], IfOk};
 
-use crate::ticker::{Taken, Ticker};
+use bx_ticks::{Taken, Ticker};
 use bx_window::{LogReader, MAX_BATCHES, Naming, Next, Opened, Refusal, entry_of, log_pair};
 use std::alloc::{AllocError, Global};
 use std::marker::Brand;

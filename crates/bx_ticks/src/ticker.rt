@@ -1,7 +1,7 @@
 //! A writer whose list is ticks alone.
-ghost use Rattle.std.specs.Prelude.{◌≡◌, ◌+◌, ◌<◌, ◌≤◌, ◌^◌, [], IfOk};
+ghost use Rattle.std.specs.Prelude.{◌≡◌, ◌+◌, ◌<◌, ◌≤◌, ◌^◌, [], IfOk, IfErr, OnErr};
 ghost use Rattle.bx_window.specs.Steps.{list_of};
-ghost use Rattle.bx_window_tests.specs.Ticks.{ticks, tick_entries};
+ghost use Rattle.bx_ticks.specs.Ticks.{ticks, tick_entries};
 
 use bx_entry::{Batch, Entry, Kind};
 use bx_listing::Listing;
@@ -29,7 +29,8 @@ pub enum Taken {
 #[derive(Drop)]
 pub struct Ticker<J: Naming, R: Wait + Drop> {
     writer: LogWriter<J, R>,
-    end: u64,
+    /// How many they are.
+    pub end: u64,
     ghost ticks: { list_of writer ≡ ticks end },
 }
 
@@ -52,20 +53,52 @@ impl<J: Naming, R: Wait + Drop> Ticker<J, R> {
 
     /// Publishes a batch of so many ticks.
     pub fn publish(&mut self, alloc: Global, count: u64) -> Result<Taken, AllocError> {
-        if count == 0 || count >= MOST || self.end >= MOST || self.writer.tell().steps() >= MOST {
-            return Err(AllocError);
-        }
-        let bundle = ticks(alloc, self.end, count)?;
-        match self.writer.publish(alloc, bundle) {
-            Ok(()) => {
-                self.end += count;
-                Ok(Taken::Published)
-            }
+        let bundle = self.bundle(alloc, count)?;
+        match self.publish_bundle(alloc, bundle, count) {
+            Ok(()) => Ok(Taken::Published),
             Err((back, why)) => Ok(Taken::Refused {
                 why,
                 first: back.batch.first,
                 entries: back.batch.entries.len(),
             }),
+        }
+    }
+
+    /// So many ticks behind the list. There are none past the numbers that tests have.
+    pub fn bundle(&self, alloc: Global, count: u64) -> Result<Bundle, AllocError>
+        ensures first { IfOk result (λ b. b.batch.first ≡ self.now.end) }
+        ensures entries { IfOk result (λ b. b.batch.entries ≡ tick_entries self.now.end count) }
+        ensures elements { IfOk result (λ b. b.elements ≡ ticks count) }
+    {
+        if count >= MOST || self.end >= MOST {
+            return Err(AllocError);
+        }
+        ticks(alloc, self.end, count)
+    }
+
+    /// Publishes so many ticks that were made behind this list. Where they are refused they come back, and the list ends where it
+    /// did. Past the numbers that tests have the window counts as full.
+    pub fn publish_bundle(
+        &mut self,
+        alloc: Global,
+        bundle: Bundle,
+        count: u64,
+    ) -> Result<(), (Bundle, Refusal)>
+        requires first { bundle.batch.first ≡ self.old.end }
+        requires entries { bundle.batch.entries ≡ tick_entries self.old.end count }
+        requires elements { bundle.elements ≡ ticks count }
+        ensures back { IfErr result (λ e. e.0 ≡ bundle) }
+        ensures same { OnErr result (self.new.end ≡ self.old.end) }
+    {
+        if count == 0 || count >= MOST || self.end >= MOST || self.writer.tell().steps() >= MOST {
+            return Err((bundle, Refusal::Full));
+        }
+        match self.writer.publish(alloc, bundle) {
+            Ok(()) => {
+                self.end += count;
+                Ok(())
+            }
+            Err(refused) => Err(refused),
         }
     }
 

@@ -1,6 +1,5 @@
-use Rattle.std.proofs.Common.{◌≡◌, ap, ◌∙◌}
-use Rattle.bx_window_tests.proofs.Ticks.{ticks_more, entries_more}
-use Rattle.bx_window_tests.proofs.ticker.ticks.Goals as goal
+use Rattle.bx_ticks.proofs.Ticks.{ticks_more, entries_more}
+use Rattle.bx_ticks.proofs.ticker.ticks.Goals as goal
 
 pub loop-step-preserved : goal.loop-step-preserved
 loop-step-preserved c = (

@@ -1,15 +1,15 @@
 -- The entries of a list of ticks.
 use Rattle.std.proofs.Common.{◌≡◌, ℕ, zero, suc, ◌+◌, ◌<◌, List, [], ◌∷◌, ◌++◌, length, map, refl, ap, sym, ◌∙◌, subst, arith, append_assoc, length-append}
 use Rattle.std.specs.List.{fold}
-use Rattle.std.proofs.lemmas.List.{append-nil, map-append, length-map}
+use Rattle.std.proofs.lemmas.List.{append-nil, map-append}
 use Rattle.bx_advice.specs.declared.config.Config.{Config}
 use Rattle.bx_entry.specs.Listing.{Listed, Tick}
-use Rattle.bx_entry.specs.Registry.{Judged, Registry, judge, found_at, entries_of, entries, empty_registry, NoSlot}
+use Rattle.bx_entry.specs.Registry.{Judged, Registry, judge, found_at, entries_of, entries, NoSlot}
 use Rattle.bx_entry.specs.declared.entry.Entry.{Entry}
 use Rattle.bx_entry.specs.declared.entry.Kind.TheVariants as kinds
 use Rattle.bx_window.specs.declared.batch.Bundle.{Bundle}
 use Rattle.bx_window.specs.Places.{Continues}
-use Rattle.bx_window_tests.specs.Ticks.{ticks, tick_at, tick_entries}
+use Rattle.bx_ticks.specs.Ticks.{ticks, tick_at, tick_entries}
 use Rattle.std.specs.Prelude.{None}
 
 pub ticks_add : (m n : ℕ) → ticks m ++ ticks n ≡ ticks (m + n)
