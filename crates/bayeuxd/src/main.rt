@@ -4,8 +4,6 @@
 mod arguments;
 mod clock;
 mod serve;
-#[cfg(test)]
-mod tests;
 mod ticker;
 
 use serve::{ServeEnd, serve};
