@@ -1,0 +1,12 @@
+//! Tests of the crates that keep what requests have changed, in a crate of their own: the gate proves a crate once more where it has
+//! tests, and each crate costs it more than a minute before its first function.
+#![tactic(auto)]
+
+#[cfg(test)]
+mod entry;
+#[cfg(test)]
+mod registry;
+#[cfg(test)]
+mod session;
+#[cfg(test)]
+mod tree;
