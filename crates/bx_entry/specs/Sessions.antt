@@ -1,5 +1,5 @@
 -- One session, over the whole list of entries: its patterns, its events, what of them was given and acknowledged, its held connect and its answers.
-use Rattle.std.specs.Prelude.{ℕ, ◌+◌, ◌-◌, ◌==◌, ◌&&◌, ◌||◌, not, min, Bool, true, false, List, [], ◌∷◌, ◌++◌, length, take, drop, fold, nat_lt, nat_le, if◌then◌else◌, Option, Some, None}
+use Rattle.std.specs.Prelude.{ℕ, ◌+◌, ◌==◌, ◌&&◌, not, min, Bool, true, false, List, [], ◌∷◌, ◌++◌, length, take, drop, fold, nat_lt, nat_le, if◌then◌else◌, Option, Some, None}
 use Rattle.std.specs.List.{list_any}
 use Rattle.bx_names.specs.Globs.{Glob, any_matches}
 use Rattle.bx_names.specs.InForce.{with_pattern, without_pattern}
@@ -47,25 +47,40 @@ pub data Stage : Type 0 where
   Live : Stage
   Closed : Stage
 
--- `patterns` are those in force; `events` are all that the session was ever to get, in the order of their places.
--- Of the events the first `done` are given for good; the next `out` are the outstanding batch; `num` is the number of the last batch formed.
--- `answers` are all so far, in the order in which they were given.
+-- `patterns` are those in force; `queue` has the events that wait or are outstanding, of which the first `out` are the outstanding batch; `num` is the
+-- number of the last batch formed. An overflow ends patterns, queue and batch.
+-- The other three say what came of the session so far, and no rule asks them: `events` are all that it was ever to get, in the order of their places,
+-- of which the first `done` are given for good; `answers` are all of its answers, in the order in which they were given.
 pub record Session : Type 0 where
   pub number : ℕ
   pub stage : Stage
   pub ack : Bool
+  pub overflow : Bool
+  pub held : Option Pending
   pub patterns : List Glob
-  pub events : List Publication
-  pub done : ℕ
+  pub queue : List Publication
   pub out : ℕ
   pub num : ℕ
-  pub held : Option Pending
-  pub overflow : Bool
+  pub events : List Publication
+  pub done : ℕ
   pub answers : List Filed
 
 -- nothing is known of a session before it is opened
 abbrev pub unopened : ℕ → Session
-unopened number = record { number = number; stage = Unopened; ack = false; patterns = []; events = []; done = 0; out = 0; num = 0; held = None; overflow = false; answers = [] }
+unopened number = record {
+  number = number;
+  stage = Unopened;
+  ack = false;
+  overflow = false;
+  held = None;
+  patterns = [];
+  queue = [];
+  out = 0;
+  num = 0;
+  events = [];
+  done = 0;
+  answers = [];
+}
 
 -- whether the session is live
 abbrev pub is_live : Stage → Bool
@@ -75,29 +90,25 @@ is_live Closed = false
 
 -- how many events wait or are outstanding
 abbrev pub pending_count : Session → ℕ
-pending_count s = length s.events - s.done
-
--- the events that wait or are outstanding; an overflow drops them
-abbrev pub queue : Session → List Publication
-queue s = if s.overflow then [] else drop s.done s.events
+pending_count s = length s.queue
 
 -- the outstanding batch
 abbrev pub batch : Session → List Publication
-batch s = take s.out (queue s)
+batch s = take s.out s.queue
 
 -- ---- answers
 
 -- a connect's success in an acknowledging session carries the number of the last batch formed
-abbrev pub ack_for : Session → Case → AckReply
-ack_for s Opened = NoAck
-ack_for s Connected = if s.ack then AckNumber s.num else NoAck
-ack_for s Disconnected = if s.ack then AckNumber s.num else NoAck
-ack_for s Done = NoAck
-ack_for s (Failed error) = NoAck
+abbrev pub ack_given : Bool → ℕ → Case → AckReply
+ack_given ack num Opened = NoAck
+ack_given ack num Connected = if ack then AckNumber num else NoAck
+ack_given ack num Disconnected = if ack then AckNumber num else NoAck
+ack_given ack num Done = NoAck
+ack_given ack num (Failed error) = NoAck
 
 -- the answer to a connect at this place
 abbrev pub filing : Config → Pending → ℕ → List Publication → Case → Session → Filed
-filing config p place given case s = record { connect = p.place; place = place; publications = given; reply = connect_reply config p.client p.id case (ack_for s case) }
+filing config p place given case s = record { connect = p.place; place = place; publications = given; reply = connect_reply config p.client p.id case (ack_given s.ack s.num case) }
 
 -- the connect is answered at this place, with these events
 abbrev pub answered : Config → Pending → ℕ → List Publication → Case → Session → Session
@@ -120,7 +131,7 @@ released config place case s = released_from config place case s s.held
 
 -- the outstanding batch is given for good
 abbrev pub cleared : Session → Session
-cleared s = record s { done = s.done + s.out; out = 0 }
+cleared s = record s { queue = drop s.out s.queue; out = 0; done = s.done + s.out }
 
 -- a number at or above that of the last batch acknowledges all that was given
 abbrev pub acknowledged : Option ℕ → Session → Session
@@ -141,7 +152,7 @@ formed config s = if (s.out == 0) && nat_lt 0 (portion config s) then with_batch
 
 -- so many events are given for good at once
 abbrev pub forgotten : ℕ → Session → Session
-forgotten count s = record s { done = s.done + count }
+forgotten count s = record s { queue = drop count s.queue; done = s.done + count }
 
 -- a plain session's events are forgotten once they are given
 abbrev pub gives : Config → Session → Session
@@ -149,7 +160,7 @@ gives config s = if s.ack then formed config s else forgotten (portion config s)
 
 -- what a connect is given
 abbrev pub given : Config → Session → List Publication
-given config s = if s.ack then batch (formed config s) else take (portion config s) (queue s)
+given config s = if s.ack then batch (formed config s) else take (portion config s) s.queue
 
 -- the connect is held
 abbrev pub holding : Pending → Session → Session
@@ -171,13 +182,19 @@ connected config p acked s =
     if s.overflow then answered config p p.place [] (Failed QueueOverflow) (released config p.place (Failed SupersededConnect) s)
     else answered_or_held config p (acknowledged acked (released config p.place (Failed SupersededConnect) s))
 
--- ---- patterns
+-- ---- overflow and patterns
 
--- a session with more patterns in force than the limit overflows
+-- the session overflows: no pattern is in force any longer, and the events that wait or are outstanding are given to nobody
+abbrev pub overflowed : Session → Session
+overflowed s = record s { overflow = true; patterns = []; queue = []; out = 0 }
+
+-- with these patterns in force, unless they are more than the limit
+abbrev pub with_patterns : Config → List Glob → Session → Session
+with_patterns config patterns s = if nat_lt config.limits.patterns (length patterns) then overflowed s else record s { patterns = patterns }
+
+-- these patterns too are in force, except after an overflow
 abbrev pub subscribed : Config → List Glob → Session → Session
-subscribed config ps s =
-    let patterns = fold with_pattern s.patterns ps in
-    record s { patterns = patterns; overflow = s.overflow || nat_lt config.limits.patterns (length patterns) }
+subscribed config ps s = if s.overflow then s else with_patterns config (fold with_pattern s.patterns ps) s
 
 -- these patterns are no longer in force
 abbrev pub unsubscribed : List Glob → Session → Session
@@ -204,15 +221,11 @@ delivered_to config e s (Some p) = answered config p e.place (e ∷ []) Connecte
 
 -- the event is the session's last
 abbrev pub with_event : Publication → Session → Session
-with_event e s = record s { events = s.events ++ e ∷ [] }
+with_event e s = record s { queue = s.queue ++ e ∷ []; events = s.events ++ e ∷ [] }
 
 -- one more event of the session
 abbrev pub delivered : Config → Publication → Session → Session
 delivered config e s = delivered_to config e (with_event e s) s.held
-
--- the session overflows
-abbrev pub overflowed : Session → Session
-overflowed s = record s { overflow = true }
 
 -- a hit that finds the queue full makes the session overflow
 abbrev pub published : Config → Publication → Session → Session

@@ -1,7 +1,7 @@
 -- A batch is given again until it is acknowledged.
 use Rattle.std.proofs.Common.{◌≡◌, ℕ, ◌+◌, ◌-◌, ◌<◌, ◌≤◌, min, ◌⊎◌, inl, inr, ⊎_elim, true, false, cond, not, ◌&&◌, is_some, Option, Some, None, List, [], ◌∷◌, ◌++◌, length, take, drop, fold, nat_lt, nat_le, ◌==◌, refl, sym, ap, ◌∙◌, subst, arith, length-take, length-drop, eq-eqb, eq-zero-or-pos}
 use Rattle.std.proofs.lemmas.Bool.{cond_both, cond-true, cond-false, and_parts, and_right, not-true, lt-leb, ne_eqb, and_left, cases_lt}
-use Rattle.std.proofs.lemmas.List.{drop-append-le, take-append-le, drop_at}
+use Rattle.std.proofs.lemmas.List.{drop-append-le, take-append-le, drop_all}
 use Rattle.std.proofs.lemmas.List.Sums.{fold-append}
 use Rattle.bx_advice.specs.declared.config.Config.{Config}
 use Rattle.bx_advice.specs.declared.advice.Case.{Case}
@@ -15,10 +15,10 @@ use Rattle.bx_entry.specs.declared.entry.Entry.{Entry}
 use Rattle.bx_entry.specs.declared.entry.Kind.{Kind}
 use Rattle.bx_entry.specs.declared.entry.Kind.TheVariants.{Connect, Subscribe, Unsubscribe, Publish, Disconnect, Refused, Tick}
 use Rattle.bx_entry.specs.declared.entry.Kind.TheVariants as entries
-use Rattle.bx_entry.specs.Sessions.{Session, Publication, Pending, Filed, filing, answered, unheld, released_from, released, acknowledged, cleared, portion, queue, batch, with_batch, formed, forgotten, gives, given, idle, answered_or_held, connected, gives_one, with_event, delivered_to, delivered, overflowed, is_live, is_hit, has_room, published, begun, expired, step_by, step, session, unopened}
+use Rattle.bx_entry.specs.Sessions.{Session, Publication, Pending, Filed, filing, answered, unheld, released_from, released, acknowledged, cleared, portion, batch, with_batch, formed, forgotten, gives, given, idle, answered_or_held, connected, gives_one, with_event, delivered_to, delivered, overflowed, is_live, is_hit, has_room, published, begun, expired, step_by, step, session, unopened}
 use Rattle.bx_laws.specs.Laws.{InStep, Repeats, LastAnswer, SameBatch, Repetition, BatchRepeats}
-use Rattle.bx_laws.proofs.Counts.{stays_in_step, all_in_step, unopened_in_step, queue_is, released_in, released_from_full, acknowledged_full}
-use Rattle.bx_laws.proofs.Moves.{Quiet, either, idle_quiet, acknowledged_quiet, released_quiet, quiet_after, expired_from_quiet, closed_by_quiet, begun_quiet}
+use Rattle.bx_laws.proofs.Counts.{hit_full, stays_in_step, all_in_step, unopened_in_step, queue_is, released_in, released_from_full, acknowledged_full}
+use Rattle.bx_laws.proofs.Moves.{Quiet, either, idle_quiet, acknowledged_quiet, released_quiet, quiet_after, expired_from_quiet, closed_by_quiet, subscribed_quiet, begun_quiet}
 use Rattle.bx_laws.proofs.Runs.{Grown, run_grown, all_places}
 
 -- the session's last answer gave its outstanding batch
@@ -57,7 +57,7 @@ gave config p num u next acks full = record {
 
 given_forms : (config : Config) (p : Pending) (s : Session) → s.overflow ≡ false → Forms s.num (answered config p p.place (given config s) Connected (gives config s))
 given_forms config p s full = either s.ack (Forms s.num (answered config p p.place (given config s) Connected (gives config s)))
-    (λ h. subst (λ (g : List Publication). Forms s.num (answered config p p.place g Connected (gives config s))) (sym (cond-true s.ack (batch (formed config s)) (take (portion config s) (queue s)) h))
+    (λ h. subst (λ (g : List Publication). Forms s.num (answered config p p.place g Connected (gives config s))) (sym (cond-true s.ack (batch (formed config s)) (take (portion config s) s.queue) h))
     (subst (λ (u : Session). Forms s.num (answered config p p.place (batch (formed config s)) Connected u)) (sym (cond-true s.ack (formed config s) (forgotten (portion config s) s) h))
     (inr (gave config p s.num (formed config s) (formed_next config s) (formed_ack config s ∙ h) (formed_full config s ∙ full)))))
     (λ h. subst (λ (u : Session). Forms s.num (answered config p p.place (given config s) Connected u)) (sym (cond-false s.ack (formed config s) (forgotten (portion config s) s) h)) (inl refl))
@@ -87,8 +87,7 @@ one_forms config p e s full done i =
       next = omega arith;
       first = filing config p e.place (e ∷ []) Connected (with_batch 1 t);
       last = (s.answers, refl);
-      same = let d : length s.events ≡ s.done = omega (arith, i.few) in
-          sym (ap (take 1) (queue_is (with_batch 1 t) full ∙ drop_at s.events (e ∷ []) s.done d));
+      same = sym (ap (take 1) (ap (λ (q : List Publication). q ++ e ∷ []) (queue_is config s i full ∙ drop_all s.done s.events done)));
       number = cond-true s.ack (AckNumber (s.num + 1)) NoAck h;
       full = full;
     }))
@@ -98,17 +97,11 @@ delivered_to_forms : (config : Config) (e : Publication) (s : Session) (held : O
 delivered_to_forms config e s None h full i = inl refl
 delivered_to_forms config e s (Some p) h full i = one_forms config p e s full (i.idle (ap is_some h)).0 i
 
-hit_full : (s : Session) (e : Publication) → is_hit s e.event ≡ true → s.overflow ≡ false
-hit_full s e h =
-    let a = and_parts (is_live s.stage && not s.overflow && is_broadcast e.event.channel) (any_matches s.patterns (segments e.event.channel)) h in
-    let b = and_parts (is_live s.stage && not s.overflow) (is_broadcast e.event.channel) a.0 in
-    not-true s.overflow (and_parts (is_live s.stage) (not s.overflow) b.0).1
-
 published_forms : (config : Config) (e : Publication) (s : Session) → InStep config s → Forms s.num (published config e s)
 published_forms config e s i =
     cond_both (is_hit s e.event) (cond (has_room config s) (delivered config e s) (overflowed s)) s (Forms s.num)
     (λ h. cond_both (has_room config s) (delivered config e s) (overflowed s) (Forms s.num)
-    (λ g. delivered_to_forms config e s s.held refl (hit_full s e h) i) (λ g. inl refl))
+    (λ g. delivered_to_forms config e s s.held refl (hit_full s e.event h) i) (λ g. inl refl))
     (λ h. inl refl)
 
 step_by_forms : (config : Config) (place moment : ℕ) (s : Session) (k : Kind) → InStep config s → Forms s.num (step_by config place moment s k)
@@ -116,7 +109,7 @@ step_by_forms config place moment s (entries.Opened n ack) i = cond_both (n == s
 step_by_forms config place moment s (Connect n client id acked hold) i =
     let p : Pending = record { place = place; client = client; id = id; moment = moment; hold = hold } in
     cond_both (n == s.number) (connected config p acked s) s (Forms s.num) (λ h. connected_forms config p acked s) (λ h. inl refl)
-step_by_forms config place moment s (Subscribe n ps) i = cond_both (n == s.number) _ s (Forms s.num) (λ h. inl refl) (λ h. inl refl)
+step_by_forms config place moment s (Subscribe n ps) i = cond_both (n == s.number) _ s (Forms s.num) (λ h. inl (subscribed_quiet config place ps s).num) (λ h. inl refl)
 step_by_forms config place moment s (Unsubscribe n ps) i = cond_both (n == s.number) _ s (Forms s.num) (λ h. inl refl) (λ h. inl refl)
 step_by_forms config place moment s (Publish e) i = published_forms config (record { place = place; event = e }) s i
 step_by_forms config place moment s (Disconnect n) i = cond_both (n == s.number) _ s (Forms s.num) (λ h. inl (released_quiet config place Disconnected s).num) (λ h. inl refl)
@@ -139,14 +132,14 @@ given_again : (config : Config) (s : Session) → s.ack ≡ true → 0 < s.out �
 given_again config s acks out =
     let none : ((s.out == 0) && nat_lt 0 (portion config s)) ≡ false = and_left (s.out == 0) (nat_lt 0 (portion config s)) (ne_eqb s.out 0 (λ h. omega arith)) in
     let same : formed config s ≡ s = cond-false ((s.out == 0) && nat_lt 0 (portion config s)) (with_batch (portion config s) s) s none in (
-      cond-true s.ack (batch (formed config s)) (take (portion config s) (queue s)) acks ∙ ap batch same,
+      cond-true s.ack (batch (formed config s)) (take (portion config s) s.queue) acks ∙ ap batch same,
       cond-true s.ack (formed config s) (forgotten (portion config s) s) acks ∙ same,
     )
 
 batch_length : (config : Config) (s : Session) → s.overflow ≡ false → 0 < s.out → InStep config s → 0 < length (batch s)
 batch_length config s full out i =
     let shown : length (batch s) ≡ min s.out (length s.events - s.done) =
-    ap (λ (xs : List Publication). length (take s.out xs)) (queue_is s full) ∙ length-take s.out (drop s.done s.events) ∙ ap (min s.out) (length-drop s.done s.events) in
+    ap (λ (xs : List Publication). length (take s.out xs)) (queue_is config s i full) ∙ length-take s.out (drop s.done s.events) ∙ ap (min s.out) (length-drop s.done s.events) in
     omega (arith, shown, i.few)
 
 repeats_here : (config : Config) (p : Pending) (s : Session) → s.ack ≡ true → s.overflow ≡ false → 0 < s.out → InStep config s →
@@ -184,16 +177,16 @@ connected_again config p acked s acks full out r i =
 acks_with_batch : (config : Config) (s : Session) → InStep config s → 0 < s.out → s.ack ≡ true
 acks_with_batch config s i out = either s.ack (s.ack ≡ true) (λ h. h) (λ h. absurd (let z : s.out ≡ 0 = i.plain h in omega arith))
 
-same_batch : (config : Config) (s t : Session) → InStep config s → Grown 0 s t → s.overflow ≡ false → t.overflow ≡ false → t.out ≡ s.out → t.done ≡ s.done → batch t ≡ batch s
-same_batch config s t i g full full' out done =
+same_batch : (config : Config) (s t : Session) → InStep config s → InStep config t → Grown 0 s t → s.overflow ≡ false → t.overflow ≡ false → t.out ≡ s.out → t.done ≡ s.done → batch t ≡ batch s
+same_batch config s t i j g full full' out done =
     let whole : drop s.done (s.events ++ g.later) ≡ drop s.done s.events ++ g.later = drop-append-le s.done s.events g.later (omega (arith, i.few)) in
-    ap (take t.out) (queue_is t full')
+    ap (take t.out) (queue_is config t j full')
     ∙ ap (λ (n : ℕ). take n (drop t.done t.events)) out
     ∙ ap (λ (n : ℕ). take s.out (drop n t.events)) done
     ∙ ap (λ (es : List Publication). take s.out (drop s.done es)) g.events
     ∙ ap (take s.out) whole
     ∙ take-append-le s.out (drop s.done s.events) g.later (omega (arith, i.few, length-drop s.done s.events))
-    ∙ sym (ap (take s.out) (queue_is s full))
+    ∙ sym (ap (take s.out) (queue_is config s i full))
 
 repeated_at : (config : Config) (num0 : ℕ) (s t : Session) (p : Pending) (acked : Option ℕ) → InStep config s → InStep config t → Formed num0 s → Grown 0 s t →
     t.num ≡ s.num → 0 < t.out → t.overflow ≡ false → Repeats t.num acked → SameBatch s p.place (connected config p acked t)
@@ -209,7 +202,7 @@ repeated_at config num0 s t p acked i j f g num out full r =
       given = (free.answers, refl);
       connect = refl;
       place = refl;
-      same = c.same ∙ same_batch config s t i g f.full full st.0 st.1 ∙ sym f.same;
+      same = c.same ∙ same_batch config s t i j g f.full full st.0 st.1 ∙ sym f.same;
       number = f.number;
       same_number = cond-true free.ack (AckNumber free.num) NoAck (c.ack ∙ acks) ∙ ap AckNumber (c.num ∙ num);
     })

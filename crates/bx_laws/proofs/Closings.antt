@@ -19,7 +19,7 @@ use Rattle.bx_entry.specs.declared.entry.Entry.{Entry}
 use Rattle.bx_entry.specs.Registry.{Registry, Registered, Judged, judge, judged_by, kind_for, left_by, extended, swept, overdue, is_overdue, named_by, refusal, hold_of, is_ack, acked_by, patterns_of, event_of, opened, registry, empty_registry, entries_of}
 use Rattle.bx_entry.specs.Sessions.{Session, Publication, Pending, Stage, Unopened, Live, Closed, is_live, stage_after, answered, unheld, released, acknowledged, with_batch, formed, forgotten, gives, given, portion, holding, idle, answered_or_held, connected, subscribed, unsubscribed, gives_one, with_event, delivered_to, delivered, overflowed, is_hit, has_room, published, expired_from, expired, ended, closed_by, disconnected, begun, step_by, step, unopened, session}
 use Rattle.bx_laws.specs.Readings.{unclosed, EachSession, NothingMore, ClosedIsOver}
-use Rattle.bx_laws.proofs.Counts.{acknowledged_held, released_from_held}
+use Rattle.bx_laws.proofs.Counts.{subscribed_by, acknowledged_held, released_from_held}
 use Rattle.bx_laws.proofs.Moves.{either}
 use Rattle.bx_laws.proofs.Keeps.{connected_k}
 use Rattle.bx_laws.proofs.Stages.{live_reading, step_number}
@@ -244,7 +244,9 @@ served_holding config place moment c p q hold number s rs same live h = by c
     by Column.Connect =
         let x : Pending = record { place = place; client = q.client; id = p.message.id; moment = moment; hold = hold } in
         connected_holds config x (acked_by p.message.ack) number s rs (extended q.number (moment + hold + config.max_interval) rs) (q.number == s.number) live here (rises Column.Connect) h
-    by Column.Subscribe = keep Column.Subscribe (subscribed config (patterns_of p.message) s) refl refl
+    by Column.Subscribe = keep Column.Subscribe (subscribed config (patterns_of p.message) s)
+            (subscribed_by config (patterns_of p.message) s (λ (u : Session). u.held ≡ s.held) refl refl refl)
+            (subscribed_by config (patterns_of p.message) s (λ (u : Session). u.stage ≡ s.stage) refl refl refl)
     by Column.Unsubscribe = keep Column.Unsubscribe (unsubscribed (patterns_of p.message) s) refl refl
     by Column.Disconnect =
         let x : Session = disconnected config place s in

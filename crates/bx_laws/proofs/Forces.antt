@@ -1,5 +1,5 @@
 -- A pattern is in force where its last mention is in a subscribe.
-use Rattle.std.proofs.Common.{◌≡◌, ℕ, Bool, true, false, cond, not, ◌&&◌, ◌||◌, Option, Some, None, List, [], ◌∷◌, ◌++◌, fold, filter_map, ◌==◌, refl, sym, ap, ap₂, ◌∙◌, subst}
+use Rattle.std.proofs.Common.{◌≡◌, ℕ, Bool, true, false, cond, not, ◌&&◌, ◌||◌, Option, Some, None, List, [], ◌∷◌, ◌++◌, length, fold, nat_lt, filter_map, ◌==◌, refl, sym, ap, ap₂, ◌∙◌, subst}
 use Rattle.std.proofs.lemmas.Bool.{cond_both, cond-true, cond-false, and_parts, false_from_ne_true, both_ways}
 use Rattle.std.proofs.lemmas.List.Folds.{list_any-append}
 use Rattle.std.proofs.lemmas.Slice.Eq.{bytes_eq-Decides}
@@ -15,10 +15,10 @@ use Rattle.bx_entry.specs.declared.entry.Kind.{Kind}
 use Rattle.bx_entry.specs.declared.entry.Kind.TheVariants.{Connect, Subscribe, Unsubscribe, Publish, Disconnect, Refused, Tick}
 use Rattle.bx_entry.specs.declared.entry.Kind.TheVariants as entries
 use Rattle.bx_names.specs.InForce.{in_force, with_pattern, without_pattern}
-use Rattle.bx_entry.specs.Sessions.{Session, Publication, Pending, Stage, Unopened, Live, Closed, connected, subscribed, unsubscribed, with_event, delivered, overflowed, is_hit, has_room, published, expired, ended, closed_by, disconnected, begun, step_by, step, unopened}
+use Rattle.bx_entry.specs.Sessions.{Session, Publication, Pending, Stage, Unopened, Live, Closed, connected, with_patterns, subscribed, unsubscribed, with_event, delivered, overflowed, is_hit, has_room, published, expired, ended, closed_by, released, disconnected, begun, step_by, step, unopened}
 use Rattle.bx_laws.specs.Readings.{mention_by, last_of, InForceReading}
 use Rattle.bx_laws.proofs.Moves.{either}
-use Rattle.bx_laws.proofs.Keeps.{connected_k, delivered_to_k, released_from_k, expired_from_k, or_false, or_true, or_assoc}
+use Rattle.bx_laws.proofs.Keeps.{Keeps, connected_k, delivered_to_k, released_from_k, expired_from_k, or_false, or_true, or_assoc}
 use Rattle.bx_laws.proofs.Stages.{step_number}
 
 -- ---- the test decides equality
@@ -113,62 +113,85 @@ abbrev next : Bool → Option Bool → Bool
 next b None = b
 next b (Some c) = c
 
-subscribed_next : (config : Config) (ps : List Glob) (s : Session) (p : Glob) (b : Bool) →
-    in_force (cond b (subscribed config ps s) s).patterns p ≡ next (in_force s.patterns p) (cond (b && in_force ps p) (Some true) None)
-subscribed_next config ps s p true = with_all s.patterns ps p ∙ (elim (in_force ps p) as (λ c. (in_force s.patterns p || c) ≡ next (in_force s.patterns p) (cond c (Some true) None)) [ true ↦ sym (or_true (in_force s.patterns p)) | false ↦ sym (or_false (in_force s.patterns p)) ])
-subscribed_next config ps s p false = refl
+-- the pattern is in force where this says so, and after an overflow it is not
+abbrev Says : Glob → Bool → Session → Type 0
+Says p b s = in_force s.patterns p ≡ (not s.overflow && b)
 
-unsubscribed_next : (ps : List Glob) (s : Session) (p : Glob) (b : Bool) →
-    in_force (cond b (unsubscribed ps s) s).patterns p ≡ next (in_force s.patterns p) (cond (b && in_force ps p) (Some false) None)
-unsubscribed_next ps s p true = without_all s.patterns ps p ∙ (elim (in_force ps p) as (λ c. (in_force s.patterns p && not c) ≡ next (in_force s.patterns p) (cond c (Some false) None)) [ true ↦ none (in_force s.patterns p) | false ↦ all (in_force s.patterns p) ])
+kept_says : (s t : Session) (p : Glob) (b : Bool) → t.patterns ≡ s.patterns → t.overflow ≡ s.overflow → Says p b s → Says p b t
+kept_says s t p b e f h = ap (λ (qs : List Glob). in_force qs p) e ∙ h ∙ sym (ap (λ (o : Bool). not o && b) f)
+
+subscribed_says : (config : Config) (ps : List Glob) (s : Session) (p : Glob) (b c : Bool) → Says p b s → Says p (next b (cond (c && in_force ps p) (Some true) None)) (cond c (subscribed config ps s) s)
+subscribed_says config ps s p b true h =
+    let patterns : List Glob = fold with_pattern s.patterns ps in
+    let now : Bool = next b (cond (in_force ps p) (Some true) None) in
+    either s.overflow (Says p now (subscribed config ps s))
+    (λ o. subst (Says p now) (sym (cond-true s.overflow s (with_patterns config patterns s) o)) (h ∙ ap (λ (q : Bool). not q && b) o ∙ sym (ap (λ (q : Bool). not q && now) o)))
+    (λ o. subst (Says p now) (sym (cond-false s.overflow s (with_patterns config patterns s) o))
+    (cond_both (nat_lt config.limits.patterns (length patterns)) (overflowed s) (record s { patterns = patterns }) (Says p now) (λ g. refl)
+    (λ g. with_all s.patterns ps p ∙ ap (λ (q : Bool). q || in_force ps p) (h ∙ ap (λ (q : Bool). not q && b) o)
+    ∙ (elim (in_force ps p) as (λ d. (b || d) ≡ next b (cond d (Some true) None)) [ true ↦ sym (or_true b) | false ↦ sym (or_false b) ])
+    ∙ sym (ap (λ (q : Bool). not q && now) o))))
+subscribed_says config ps s p b false h = h
+
+unsubscribed_says : (ps : List Glob) (s : Session) (p : Glob) (b c : Bool) → Says p b s → Says p (next b (cond (c && in_force ps p) (Some false) None)) (cond c (unsubscribed ps s) s)
+unsubscribed_says ps s p b true h = without_all s.patterns ps p ∙ ap (λ (q : Bool). q && not (in_force ps p)) h ∙ without s.overflow b (in_force ps p)
   where
-    none : (b : Bool) → (b && false) ≡ false
-    none true = refl
-    none false = refl
+    without : (o b c : Bool) → ((not o && b) && not c) ≡ (not o && next b (cond c (Some false) None))
+    without true b c = refl
+    without false true true = refl
+    without false true false = refl
+    without false false true = refl
+    without false false false = refl
+unsubscribed_says ps s p b false h = h
 
-    all : (b : Bool) → (b && true) ≡ b
-    all true = refl
-    all false = refl
-unsubscribed_next ps s p false = refl
+-- where it is changed at most, it keeps both
+either_says : (c : Bool) (s t : Session) (p : Glob) (b : Bool) → t.patterns ≡ s.patterns → t.overflow ≡ s.overflow → Says p b s → Says p b (cond c t s)
+either_says c s t p b e f h = cond_both c t s (Says p b) (λ g. kept_says s t p b e f h) (λ g. h)
 
-kept_patterns : (b : Bool) (s t : Session) (p : Glob) → t.patterns ≡ s.patterns → in_force (cond b t s).patterns p ≡ in_force s.patterns p
-kept_patterns b s t p e = cond_both b t s (λ (u : Session). in_force u.patterns p ≡ in_force s.patterns p) (λ h. ap (λ (qs : List Glob). in_force qs p) e) (λ h. refl)
+begun_says : (ack : Bool) (s : Session) (stage : Stage) (p : Glob) (b : Bool) → Says p b s → Says p b (begun ack s stage)
+begun_says ack s Unopened p b h = h
+begun_says ack s Live p b h = h
+begun_says ack s Closed p b h = h
 
-begun_patterns : (ack : Bool) (s : Session) (stage : Stage) → (begun ack s stage).patterns ≡ s.patterns
-begun_patterns ack s Unopened = refl
-begun_patterns ack s Live = refl
-begun_patterns ack s Closed = refl
+closed_by_says : (numbers : List ℕ) (s : Session) (p : Glob) (b : Bool) → Says p b s → Says p b (closed_by numbers s)
+closed_by_says numbers s p b h = cond_both (list_any (λ n. n == s.number) numbers) (ended s) s (Says p b) (λ g. h) (λ g. h)
 
-closed_by_patterns : (numbers : List ℕ) (s : Session) → (closed_by numbers s).patterns ≡ s.patterns
-closed_by_patterns numbers s = cond_both (list_any (λ n. n == s.number) numbers) (ended s) s (λ (u : Session). u.patterns ≡ s.patterns) (λ h. refl) (λ h. refl)
+published_says : (config : Config) (e : Publication) (s : Session) (p : Glob) (b : Bool) → Says p b s → Says p b (published config e s)
+published_says config e s p b h =
+    let k : Keeps (with_event e s) (delivered config e s) = delivered_to_k config e (with_event e s) s.held in
+    cond_both (is_hit s e.event) (cond (has_room config s) (delivered config e s) (overflowed s)) s (Says p b)
+    (λ g. cond_both (has_room config s) (delivered config e s) (overflowed s) (Says p b) (λ r. kept_says s (delivered config e s) p b k.patterns k.overflow h) (λ r. refl))
+    (λ g. h)
 
-published_patterns : (config : Config) (e : Publication) (s : Session) → (published config e s).patterns ≡ s.patterns
-published_patterns config e s =
-    cond_both (is_hit s e.event) (cond (has_room config s) (delivered config e s) (overflowed s)) s (λ (u : Session). u.patterns ≡ s.patterns)
-    (λ h. cond_both (has_room config s) (delivered config e s) (overflowed s) (λ (u : Session). u.patterns ≡ s.patterns) (λ g. (delivered_to_k config e (with_event e s) s.held).patterns) (λ g. refl))
-    (λ h. refl)
-
-step_by_force : (config : Config) (place moment : ℕ) (s : Session) (p : Glob) (k : Kind) → in_force (step_by config place moment s k).patterns p ≡ next (in_force s.patterns p) (mention_by s.number p k)
-step_by_force config place moment s p (entries.Opened n ack) = kept_patterns (n == s.number) s (begun ack s s.stage) p (begun_patterns ack s s.stage)
-step_by_force config place moment s p (Connect n client id acked hold) =
-    let q : Pending = record { place = place; client = client; id = id; moment = moment; hold = hold } in kept_patterns (n == s.number) s (connected config q acked s) p (connected_k config q acked s).patterns
-step_by_force config place moment s p (Subscribe n ps) = subscribed_next config ps s p (n == s.number)
-step_by_force config place moment s p (Unsubscribe n ps) = unsubscribed_next ps s p (n == s.number)
-step_by_force config place moment s p (Publish e) = ap (λ (qs : List Glob). in_force qs p) (published_patterns config (record { place = place; event = e }) s)
-step_by_force config place moment s p (Disconnect n) = kept_patterns (n == s.number) s (disconnected config place s) p (released_from_k config place Disconnected s s.held).patterns
-step_by_force config place moment s p Refused = refl
-step_by_force config place moment s p (Tick numbers) = ap (λ (qs : List Glob). in_force qs p) (closed_by_patterns numbers (expired config place moment s) ∙ (expired_from_k config place moment s s.held).patterns)
+step_by_says : (config : Config) (place moment : ℕ) (s : Session) (p : Glob) (b : Bool) (k : Kind) → Says p b s → Says p (next b (mention_by s.number p k)) (step_by config place moment s k)
+step_by_says config place moment s p b (entries.Opened n ack) h = cond_both (n == s.number) (begun ack s s.stage) s (Says p b) (λ g. begun_says ack s s.stage p b h) (λ g. h)
+step_by_says config place moment s p b (Connect n client id acked hold) h =
+    let q : Pending = record { place = place; client = client; id = id; moment = moment; hold = hold } in
+    let k : Keeps s (connected config q acked s) = connected_k config q acked s in
+    either_says (n == s.number) s (connected config q acked s) p b k.patterns k.overflow h
+step_by_says config place moment s p b (Subscribe n ps) h = subscribed_says config ps s p b (n == s.number) h
+step_by_says config place moment s p b (Unsubscribe n ps) h = unsubscribed_says ps s p b (n == s.number) h
+step_by_says config place moment s p b (Publish e) h = published_says config (record { place = place; event = e }) s p b h
+step_by_says config place moment s p b (Disconnect n) h =
+    let k : Keeps s (released config place Disconnected s) = released_from_k config place Disconnected s s.held in
+    either_says (n == s.number) s (disconnected config place s) p b k.patterns k.overflow h
+step_by_says config place moment s p b Refused h = h
+step_by_says config place moment s p b (Tick numbers) h =
+    let k : Keeps s (expired config place moment s) = expired_from_k config place moment s s.held in
+    closed_by_says numbers (expired config place moment s) p b (kept_says s (expired config place moment s) p b k.patterns k.overflow h)
 
 last_next : (b : Bool) (o : Option Bool) (h : Entry → Option Bool) (e : Entry) (es : List Entry) → h e ≡ o → last_of (next b o) (filter_map h es) ≡ last_of b (filter_map h (e ∷ es))
 last_next b None h e es g = sym (ap (λ (o : Option Bool). last_of b (cons_option o (filter_map h es))) g)
 last_next b (Some c) h e es g = sym (ap (λ (o : Option Bool). last_of b (cons_option o (filter_map h es))) g)
 
-force_run : (config : Config) (s : Session) (es : List Entry) (p : Glob) → in_force (fold (step config) s es).patterns p ≡ last_of (in_force s.patterns p) (filter_map (λ (e : Entry). mention_by s.number p e.kind) es)
-force_run config s [] p = refl
-force_run config s (e ∷ es) p = force_run config (step config s e) es p
-    ∙ ap (λ (n : ℕ). last_of (in_force (step config s e).patterns p) (filter_map (λ (x : Entry). mention_by n p x.kind) es)) (step_number config s e)
-    ∙ ap (λ (b : Bool). last_of b (filter_map (λ (x : Entry). mention_by s.number p x.kind) es)) (step_by_force config e.place e.moment s p e.kind)
-    ∙ last_next (in_force s.patterns p) (mention_by s.number p e.kind) (λ (x : Entry). mention_by s.number p x.kind) e es refl
+run_says : (config : Config) (s : Session) (es : List Entry) (p : Glob) (b : Bool) → Says p b s → Says p (last_of b (filter_map (λ (e : Entry). mention_by s.number p e.kind) es)) (fold (step config) s es)
+run_says config s [] p b h = h
+run_says config s (e ∷ es) p b h =
+    let t : Session = fold (step config) (step config s e) es in
+    let now : Bool = next b (mention_by s.number p e.kind) in
+    run_says config (step config s e) es p now (step_by_says config e.place e.moment s p b e.kind h)
+    ∙ ap (λ (n : ℕ). not t.overflow && last_of now (filter_map (λ (x : Entry). mention_by n p x.kind) es)) (step_number config s e)
+    ∙ ap (λ (q : Bool). not t.overflow && q) (last_next b (mention_by s.number p e.kind) (λ (x : Entry). mention_by s.number p x.kind) e es refl)
 
 pub in_force_reading : InForceReading
-in_force_reading config number es p = force_run config (unopened number) es p
+in_force_reading config number es p = run_says config (unopened number) es p false refl

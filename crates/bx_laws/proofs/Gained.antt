@@ -16,9 +16,11 @@ use Rattle.bx_entry.specs.declared.entry.Kind.TheVariants.{Connect, Subscribe, U
 use Rattle.bx_entry.specs.declared.entry.Kind.TheVariants as entries
 use Rattle.bx_names.specs.InForce.{in_force}
 use Rattle.bx_entry.specs.Sessions.{Session, Publication, Pending, Stage, Unopened, Live, Closed, connected, subscribed, unsubscribed, with_event, delivered, overflowed, is_live, is_hit, has_room, pending_count, published, expired, ended, closed_by, disconnected, begun, step_by, step, unopened, session}
+use Rattle.bx_laws.specs.Readings.{mention_by, last_of}
 use Rattle.bx_laws.specs.Laws.{EachOf, PlacesFrom}
 use Rattle.bx_laws.specs.Events.{IsEvent, GetsPublish, Rising, EventsWerePublished, PublishesAreEvents, EventsRise}
 use Rattle.bx_laws.proofs.Moves.{LaterAt, either}
+use Rattle.bx_laws.proofs.Counts.{subscribed_by}
 use Rattle.bx_laws.proofs.Keeps.{connected_k, delivered_to_k, released_from_k, expired_from_k, overflow_reading}
 use Rattle.bx_laws.proofs.Rising.{RisingBelow, rising_later}
 use Rattle.bx_laws.proofs.Stages.{live_reading}
@@ -69,7 +71,7 @@ step_by_gains config place moment s (entries.Opened n ack) = kept_events (n == s
 step_by_gains config place moment s (Connect n client id acked hold) =
     let p : Pending = record { place = place; client = client; id = id; moment = moment; hold = hold } in
     kept_events (n == s.number) s (connected config p acked s) (connected_k config p acked s).events
-step_by_gains config place moment s (Subscribe n ps) = kept_events (n == s.number) s (subscribed config ps s) refl
+step_by_gains config place moment s (Subscribe n ps) = kept_events (n == s.number) s (subscribed config ps s) (subscribed_by config ps s (λ (u : Session). u.events ≡ s.events) refl refl refl)
 step_by_gains config place moment s (Unsubscribe n ps) = kept_events (n == s.number) s (unsubscribed ps s) refl
 step_by_gains config place moment s (Publish e) = published_events config (record { place = place; event = e }) s
 step_by_gains config place moment s (Disconnect n) = kept_events (n == s.number) s (disconnected config place s) (released_from_k config place Disconnected s s.held).events
@@ -164,7 +166,7 @@ hit_reads config number before e h =
       live = sym (live_reading config number before) ∙ hit.0;
       within = sym (overflow_reading config (unopened number) before) ∙ not_true s.overflow hit.1;
       pattern = m.pattern;
-      in_force = sym (in_force_reading config number before m.pattern) ∙ m.force;
+      in_force = (and_parts (not s.overflow) (last_of false (filter_map (λ (x : Entry). mention_by number m.pattern x.kind) before)) (sym (in_force_reading config number before m.pattern) ∙ m.force)).1;
       matching = m.matching;
       room = ltb-true (pending_count (session config number before)) config.limits.events a.1;
     }
@@ -182,7 +184,10 @@ reads_hit config number before e i =
     (live_reading config number before ∙ i.live)
     (overflow_reading config (unopened number) before ∙ i.within)
     i.broadcast
-    (matching_any s.patterns (segments e.channel) i.pattern (in_force_reading config number before i.pattern ∙ i.in_force) i.matching)
+    (matching_any s.patterns (segments e.channel) i.pattern
+    (in_force_reading config number before i.pattern
+    ∙ ap (λ (o : Bool). not o && last_of false (filter_map (λ (x : Entry). mention_by number i.pattern x.kind) before)) (overflow_reading config (unopened number) before ∙ i.within)
+    ∙ i.in_force) i.matching)
     (lt-ltb (pending_count (session config number before)) config.limits.events i.room)
   where
     all_true : (a o c d r : Bool) → a ≡ true → o ≡ false → c ≡ true → d ≡ true → r ≡ true → ((a && not o && c && d) && r) ≡ true

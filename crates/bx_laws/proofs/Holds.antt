@@ -11,6 +11,7 @@ use Rattle.bx_entry.specs.declared.entry.Kind.TheVariants.{Connect, Subscribe, U
 use Rattle.bx_entry.specs.declared.entry.Kind.TheVariants as entries
 use Rattle.bx_entry.specs.Sessions.{Session, Publication, Pending, Filed, Stage, Unopened, Live, Closed, filing, unheld, released_from, released, connected, subscribed, unsubscribed, with_batch, forgotten, gives_one, with_event, delivered_to, delivered, overflowed, is_hit, has_room, published, expired_from, expired, ended, closed_by, disconnected, begun, step_by, step}
 use Rattle.bx_laws.specs.Readings.{ends_by, AnsweredAt, HeldReading, EndingReading}
+use Rattle.bx_laws.proofs.Counts.{subscribed_by}
 use Rattle.bx_laws.proofs.Keeps.{Keeps, freed_k}
 
 -- ---- what doesn't end it
@@ -43,7 +44,7 @@ step_by_held : (config : Config) (place moment : ℕ) (s : Session) (p : Pending
 step_by_held config place moment s p (entries.Opened n ack) h e = either_held (n == s.number) (begun ack s s.stage) s (Some p) (begun_held ack s s.stage ∙ h) h
 step_by_held config place moment s p (Connect n client id acked hold) h e =
     let q : Pending = record { place = place; client = client; id = id; moment = moment; hold = hold } in not_taken (n == s.number) (connected config q acked s) s (Some p) e h
-step_by_held config place moment s p (Subscribe n ps) h e = either_held (n == s.number) (subscribed config ps s) s (Some p) h h
+step_by_held config place moment s p (Subscribe n ps) h e = either_held (n == s.number) (subscribed config ps s) s (Some p) (subscribed_by config ps s (λ (u : Session). u.held ≡ Some p) h h h) h
 step_by_held config place moment s p (Unsubscribe n ps) h e = either_held (n == s.number) (unsubscribed ps s) s (Some p) h h
 step_by_held config place moment s p (Publish v) h e = published_held config (record { place = place; event = v }) s (Some p) e h
 step_by_held config place moment s p (Disconnect n) h e = not_taken (n == s.number) (disconnected config place s) s (Some p) e h

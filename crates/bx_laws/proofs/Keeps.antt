@@ -1,5 +1,5 @@
 -- What connects, deliveries and ticks leave alone, and the readings of live, overflow and the queue's bound.
-use Rattle.std.proofs.Common.{◌≡◌, ℕ, ◌+◌, ◌<◌, ◌≤◌, Bool, true, false, cond, not, ◌&&◌, ◌||◌, Option, Some, None, List, [], ◌∷◌, ◌++◌, length, fold, nat_lt, nat_le, ◌==◌, refl, sym, ap, ◌∙◌, arith, append-nil, append_assoc, ltb-true}
+use Rattle.std.proofs.Common.{◌≡◌, ℕ, ◌+◌, ◌<◌, ◌≤◌, Bool, true, false, cond, not, ◌&&◌, ◌||◌, Option, Some, None, List, [], ◌∷◌, ◌++◌, length, fold, nat_lt, nat_le, ◌==◌, refl, sym, ap, ◌∙◌, arith, length-drop, append-nil, append_assoc, ltb-true}
 use Rattle.std.proofs.lemmas.Bool.{cond_both, cond-true, cond-false}
 use Rattle.std.proofs.lemmas.List.{length_push}
 use Rattle.std.specs.List.{list_any}
@@ -13,8 +13,9 @@ use Rattle.bx_entry.specs.declared.entry.Kind.{Kind}
 use Rattle.bx_entry.specs.declared.entry.Kind.TheVariants.{Connect, Subscribe, Unsubscribe, Publish, Disconnect, Refused, Tick}
 use Rattle.bx_entry.specs.declared.entry.Kind.TheVariants as entries
 use Rattle.bx_names.specs.InForce.{with_pattern}
-use Rattle.bx_entry.specs.Sessions.{Session, Publication, Pending, Filed, Stage, Unopened, Live, Closed, filing, answered, unheld, released_from, released, cleared, acknowledged, portion, pending_count, with_batch, formed, forgotten, gives, given, holding, idle, answered_or_held, connected, subscribed, unsubscribed, gives_one, with_event, delivered_to, delivered, overflowed, is_hit, has_room, published, expired_from, expired, ended, closed_by, disconnected, begun, step_by, step, unopened}
+use Rattle.bx_entry.specs.Sessions.{Session, Publication, Pending, Filed, Stage, Unopened, Live, Closed, filing, answered, unheld, released_from, released, cleared, acknowledged, portion, pending_count, with_batch, formed, forgotten, gives, given, holding, idle, answered_or_held, connected, with_patterns, subscribed, unsubscribed, gives_one, with_event, delivered_to, delivered, overflowed, is_hit, has_room, published, expired_from, expired, ended, closed_by, disconnected, begun, step_by, step, unopened}
 use Rattle.bx_laws.specs.Readings.{overfills_by, some_overfills, OverflowReading, QueueBounded}
+use Rattle.bx_laws.proofs.Counts.{subscribed_by}
 use Rattle.bx_laws.proofs.Moves.{either}
 
 pub record Keeps (s t : Session) : Type 0 where
@@ -23,12 +24,12 @@ pub record Keeps (s t : Session) : Type 0 where
   pub overflow : t.overflow ≡ s.overflow
   pub patterns : t.patterns ≡ s.patterns
   pub events : t.events ≡ s.events
-  pub done : s.done ≤ t.done
+  pub shorter : length t.queue ≤ length s.queue
   pub more : List Filed
   pub answers : t.answers ≡ s.answers ++ more
 
 pub keeps_same : (s : Session) → Keeps s s
-keeps_same s = record { number = refl; stage = refl; overflow = refl; patterns = refl; events = refl; done = omega arith; more = []; answers = sym (append-nil s.answers) }
+keeps_same s = record { number = refl; stage = refl; overflow = refl; patterns = refl; events = refl; shorter = omega arith; more = []; answers = sym (append-nil s.answers) }
 
 pub keeps_after : (s t u : Session) → Keeps s t → Keeps t u → Keeps s u
 keeps_after s t u k l = record {
@@ -37,28 +38,28 @@ keeps_after s t u k l = record {
   overflow = l.overflow ∙ k.overflow;
   patterns = l.patterns ∙ k.patterns;
   events = l.events ∙ k.events;
-  done = omega (arith, k.done, l.done);
+  shorter = omega (arith, k.shorter, l.shorter);
   more = k.more ++ l.more;
   answers = l.answers ∙ ap (λ (fs : List Filed). fs ++ l.more) k.answers ∙ append_assoc s.answers k.more l.more;
 }
 
 answered_k : (config : Config) (p : Pending) (place : ℕ) (given : List Publication) (case : Case) (s : Session) → Keeps s (answered config p place given case s)
-answered_k config p place given case s = record { number = refl; stage = refl; overflow = refl; patterns = refl; events = refl; done = omega arith; more = filing config p place given case s ∷ []; answers = refl }
+answered_k config p place given case s = record { number = refl; stage = refl; overflow = refl; patterns = refl; events = refl; shorter = omega arith; more = filing config p place given case s ∷ []; answers = refl }
 
 unheld_k : (s : Session) → Keeps s (unheld s)
-unheld_k s = record { number = refl; stage = refl; overflow = refl; patterns = refl; events = refl; done = omega arith; more = []; answers = sym (append-nil s.answers) }
+unheld_k s = record { number = refl; stage = refl; overflow = refl; patterns = refl; events = refl; shorter = omega arith; more = []; answers = sym (append-nil s.answers) }
 
 holding_k : (p : Pending) (s : Session) → Keeps s (holding p s)
-holding_k p s = record { number = refl; stage = refl; overflow = refl; patterns = refl; events = refl; done = omega arith; more = []; answers = sym (append-nil s.answers) }
+holding_k p s = record { number = refl; stage = refl; overflow = refl; patterns = refl; events = refl; shorter = omega arith; more = []; answers = sym (append-nil s.answers) }
 
 cleared_k : (s : Session) → Keeps s (cleared s)
-cleared_k s = record { number = refl; stage = refl; overflow = refl; patterns = refl; events = refl; done = omega arith; more = []; answers = sym (append-nil s.answers) }
+cleared_k s = record { number = refl; stage = refl; overflow = refl; patterns = refl; events = refl; shorter = omega (arith, length-drop s.out s.queue); more = []; answers = sym (append-nil s.answers) }
 
 with_batch_k : (n : ℕ) (s : Session) → Keeps s (with_batch n s)
-with_batch_k n s = record { number = refl; stage = refl; overflow = refl; patterns = refl; events = refl; done = omega arith; more = []; answers = sym (append-nil s.answers) }
+with_batch_k n s = record { number = refl; stage = refl; overflow = refl; patterns = refl; events = refl; shorter = omega arith; more = []; answers = sym (append-nil s.answers) }
 
 forgotten_k : (n : ℕ) (s : Session) → Keeps s (forgotten n s)
-forgotten_k n s = record { number = refl; stage = refl; overflow = refl; patterns = refl; events = refl; done = omega arith; more = []; answers = sym (append-nil s.answers) }
+forgotten_k n s = record { number = refl; stage = refl; overflow = refl; patterns = refl; events = refl; shorter = omega (arith, length-drop n s.queue); more = []; answers = sym (append-nil s.answers) }
 
 pub released_from_k : (config : Config) (place : ℕ) (case : Case) (s : Session) (held : Option Pending) → Keeps s (released_from config place case s held)
 released_from_k config place case s None = keeps_same s
@@ -130,9 +131,21 @@ published_overflow config e s = either (is_hit s e.event) ((published config e s
     (λ h. ap (λ (t : Session). t.overflow) (cond-false (is_hit s e.event) (cond (has_room config s) (delivered config e s) (overflowed s)) s h)
     ∙ or_false s.overflow ∙ sym (ap (λ (b : Bool). s.overflow || (b && not (has_room config s))) h))
 
+patterned_overflow : (s : Session) (patterns : List Glob) (many : Bool) → (cond many (overflowed s) (record s { patterns = patterns })).overflow ≡ (s.overflow || many)
+patterned_overflow s patterns true = or_true s.overflow
+patterned_overflow s patterns false = or_false s.overflow
+
+subscribed_full : (config : Config) (ps : List Glob) (s : Session) → (subscribed config ps s).overflow ≡ (s.overflow || nat_lt config.limits.patterns (length (fold with_pattern s.patterns ps)))
+subscribed_full config ps s =
+    let patterns : List Glob = fold with_pattern s.patterns ps in
+    let many : Bool = nat_lt config.limits.patterns (length patterns) in
+    either s.overflow ((subscribed config ps s).overflow ≡ (s.overflow || many))
+    (λ h. ap (λ (t : Session). t.overflow) (cond-true s.overflow s (with_patterns config patterns s) h) ∙ h ∙ sym (ap (λ (b : Bool). b || many) h))
+    (λ h. ap (λ (t : Session). t.overflow) (cond-false s.overflow s (with_patterns config patterns s) h) ∙ patterned_overflow s patterns many)
+
 subscribed_overflow : (config : Config) (n : ℕ) (ps : List Glob) (s : Session) → (cond (n == s.number) (subscribed config ps s) s).overflow ≡ (s.overflow || ((n == s.number) && nat_lt config.limits.patterns (length (fold with_pattern s.patterns ps))))
 subscribed_overflow config n ps s = let P : Bool → Type 0 = λ b. (cond b (subscribed config ps s) s).overflow ≡ (s.overflow || (b && nat_lt config.limits.patterns (length (fold with_pattern s.patterns ps)))) in
-    elim (n == s.number) as P [ true ↦ refl | false ↦ or_false s.overflow ]
+    elim (n == s.number) as P [ true ↦ subscribed_full config ps s | false ↦ or_false s.overflow ]
 
 -- where it is changed at most, it keeps its flag
 kept_flag : (b : Bool) (s t : Session) → t.overflow ≡ s.overflow → (cond b t s).overflow ≡ (s.overflow || false)
@@ -165,11 +178,11 @@ abbrev Bounded : Config → Session → Type 0
 Bounded config s = pending_count s ≤ config.limits.events
 
 kept_bound : (config : Config) (s t : Session) → Keeps s t → Bounded config s → Bounded config t
-kept_bound config s t k b = omega (arith, k.done, ap length k.events)
+kept_bound config s t k b = omega (arith, k.shorter)
 
 delivered_bound : (config : Config) (e : Publication) (s : Session) → has_room config s ≡ true → Bounded config (delivered config e s)
 delivered_bound config e s h = kept_bound config (with_event e s) (delivered config e s) (delivered_to_k config e (with_event e s) s.held)
-    (let r : pending_count s < config.limits.events = ltb-true (pending_count s) config.limits.events h in omega (arith, length_push s.events e))
+    (let r : pending_count s < config.limits.events = ltb-true (pending_count s) config.limits.events h in omega (arith, length_push s.queue e))
 
 begun_bound : (config : Config) (ack : Bool) (s : Session) (stage : Stage) → Bounded config s → Bounded config (begun ack s stage)
 begun_bound config ack s Unopened b = b
@@ -184,12 +197,12 @@ step_by_bound config place moment s (entries.Opened n ack) b = cond_both (n == s
 step_by_bound config place moment s (Connect n client id acked hold) b =
     let p : Pending = record { place = place; client = client; id = id; moment = moment; hold = hold } in
     cond_both (n == s.number) (connected config p acked s) s (Bounded config) (λ h. kept_bound config s (connected config p acked s) (connected_k config p acked s) b) (λ h. b)
-step_by_bound config place moment s (Subscribe n ps) b = cond_both (n == s.number) (subscribed config ps s) s (Bounded config) (λ h. b) (λ h. b)
+step_by_bound config place moment s (Subscribe n ps) b = cond_both (n == s.number) (subscribed config ps s) s (Bounded config) (λ h. subscribed_by config ps s (Bounded config) b (omega arith) b) (λ h. b)
 step_by_bound config place moment s (Unsubscribe n ps) b = cond_both (n == s.number) (unsubscribed ps s) s (Bounded config) (λ h. b) (λ h. b)
 step_by_bound config place moment s (Publish e) b =
     let p : Publication = record { place = place; event = e } in
     cond_both (is_hit s e) (cond (has_room config s) (delivered config p s) (overflowed s)) s (Bounded config)
-    (λ h. cond_both (has_room config s) (delivered config p s) (overflowed s) (Bounded config) (λ g. delivered_bound config p s g) (λ g. b)) (λ h. b)
+    (λ h. cond_both (has_room config s) (delivered config p s) (overflowed s) (Bounded config) (λ g. delivered_bound config p s g) (λ g. omega arith)) (λ h. b)
 step_by_bound config place moment s (Disconnect n) b = cond_both (n == s.number) (disconnected config place s) s (Bounded config)
     (λ h. kept_bound config s (released config place Disconnected s) (released_from_k config place Disconnected s s.held) b) (λ h. b)
 step_by_bound config place moment s Refused b = b

@@ -12,9 +12,9 @@ use Rattle.bx_entry.specs.declared.entry.Entry.{Entry}
 use Rattle.bx_entry.specs.declared.entry.Kind.{Kind}
 use Rattle.bx_entry.specs.declared.entry.Kind.TheVariants.{Connect, Subscribe, Unsubscribe, Publish, Disconnect, Refused, Tick}
 use Rattle.bx_entry.specs.declared.entry.Kind.TheVariants as entries
-use Rattle.bx_entry.specs.Sessions.{Session, Publication, Pending, Filed, Stage, Unopened, Live, Closed, filing, answered, unheld, released_from, released, cleared, acknowledged, portion, queue, batch, with_batch, formed, forgotten, gives, given, holding, idle, answered_or_held, connected, subscribed, unsubscribed, gives_one, with_event, delivered_to, delivered, overflowed, is_hit, has_room, published, expired_from, expired, ended, closed_by, disconnected, begun, step_by, step}
+use Rattle.bx_entry.specs.Sessions.{Session, Publication, Pending, Filed, Stage, Unopened, Live, Closed, filing, answered, unheld, released_from, released, cleared, acknowledged, portion, batch, with_batch, formed, forgotten, gives, given, holding, idle, answered_or_held, connected, overflowed, subscribed, unsubscribed, gives_one, with_event, delivered_to, delivered, is_hit, has_room, published, expired_from, expired, ended, closed_by, disconnected, begun, step_by, step}
 use Rattle.bx_laws.specs.Laws.{InStep, Each, Slice}
-use Rattle.bx_laws.proofs.Counts.{few_wait, queue_is, released_in, acknowledged_in, released_from_full, acknowledged_full}
+use Rattle.bx_laws.proofs.Counts.{subscribed_by, few_wait, queue_is, released_in, acknowledged_in, released_from_full, acknowledged_full}
 
 -- the batch that is outstanding is the one that was, unless a new one was formed
 abbrev pub Still : Session → Session → Type 0
@@ -108,10 +108,11 @@ pub ended_quiet : (place : ℕ) (s : Session) → Quiet place s (ended s)
 ended_quiet place s = record { number = refl; done = omega arith; num = refl; events = refl; filed = []; answers = sym (append-nil s.answers); here = tt; still = λ n o. (refl, refl) }
 
 overflowed_quiet : (place : ℕ) (s : Session) → Quiet place s (overflowed s)
-overflowed_quiet place s = record { number = refl; done = omega arith; num = refl; events = refl; filed = []; answers = sym (append-nil s.answers); here = tt; still = λ n o. (refl, refl) }
+overflowed_quiet place s = record { number = refl; done = omega arith; num = refl; events = refl; filed = []; answers = sym (append-nil s.answers); here = tt; still = λ n o. absurd (let l : 0 < 0 = o in omega arith) }
 
-subscribed_quiet : (config : Config) (place : ℕ) (ps : List Glob) (s : Session) → Quiet place s (subscribed config ps s)
-subscribed_quiet config place ps s = record { number = refl; done = omega arith; num = refl; events = refl; filed = []; answers = sym (append-nil s.answers); here = tt; still = λ n o. (refl, refl) }
+pub subscribed_quiet : (config : Config) (place : ℕ) (ps : List Glob) (s : Session) → Quiet place s (subscribed config ps s)
+subscribed_quiet config place ps s = subscribed_by config ps s (Quiet place s) (quiet_same place s) (overflowed_quiet place s)
+    (record { number = refl; done = omega arith; num = refl; events = refl; filed = []; answers = sym (append-nil s.answers); here = tt; still = λ n o. (refl, refl) })
 
 unsubscribed_quiet : (place : ℕ) (ps : List Glob) (s : Session) → Quiet place s (unsubscribed ps s)
 unsubscribed_quiet place ps s = record { number = refl; done = omega arith; num = refl; events = refl; filed = []; answers = sym (append-nil s.answers); here = tt; still = λ n o. (refl, refl) }
@@ -194,8 +195,8 @@ grew_not n e = absurd (omega arith)
 
 -- a batch is given, of a state that differs from the session at most in its batch
 batch_moved : (config : Config) (p : Pending) (s u : Session) → u.number ≡ s.number → u.done ≡ s.done → s.num ≤ u.num → u.events ≡ s.events → u.answers ≡ s.answers →
-    u.done + u.out ≤ length u.events → u.overflow ≡ false → Still s u → Moved p.place s (answered config p p.place (batch u) Connected u)
-batch_moved config p s u number done num events answers few full still = record {
+    u.done + u.out ≤ length u.events → u.queue ≡ drop u.done u.events → Still s u → Moved p.place s (answered config p p.place (batch u) Connected u)
+batch_moved config p s u number done num events answers few waits still = record {
   number = number;
   done = omega (arith, done);
   num = num;
@@ -211,7 +212,7 @@ batch_moved config p s u number done num events answers few full still = record 
       count = u.out;
       above = λ c. either u.ack (low ≤ u.done) a (λ h. let l : low ≤ s.done = b h in omega (arith, done));
       within = few;
-      is = ap (take u.out) (queue_is u full);
+      is = ap (take u.out) waits;
     },
     tt,
   );
@@ -221,11 +222,11 @@ batch_moved config p s u number done num events answers few full still = record 
 formed_moved : (config : Config) (p : Pending) (s : Session) → s.overflow ≡ false → InStep config s → Moved p.place s (answered config p p.place (batch (formed config s)) Connected (formed config s))
 formed_moved config p s full i =
     cond_both ((s.out == 0) && nat_lt 0 (portion config s)) (with_batch (portion config s) s) s (λ (u : Session). Moved p.place s (answered config p p.place (batch u) Connected u))
-    (λ h. batch_moved config p s (with_batch (portion config s) s) refl refl (omega arith) refl refl (few_wait config s i) full (λ n o. grew_not s.num n))
-    (λ h. batch_moved config p s s refl refl (omega arith) refl refl i.few full (λ n o. (refl, refl)))
+    (λ h. batch_moved config p s (with_batch (portion config s) s) refl refl (omega arith) refl refl (few_wait config s i) (queue_is config s i full) (λ n o. grew_not s.num n))
+    (λ h. batch_moved config p s s refl refl (omega arith) refl refl i.few (queue_is config s i full) (λ n o. (refl, refl)))
 
 forgotten_moved : (config : Config) (p : Pending) (s : Session) → s.overflow ≡ false → s.ack ≡ false → InStep config s →
-    Moved p.place s (answered config p p.place (take (portion config s) (queue s)) Connected (forgotten (portion config s) s))
+    Moved p.place s (answered config p p.place (take (portion config s) s.queue) Connected (forgotten (portion config s) s))
 forgotten_moved config p s full plain i = record {
   number = refl;
   done = omega arith;
@@ -236,17 +237,17 @@ forgotten_moved config p s full plain i = record {
   filed = _;
   answers = refl;
   here = (refl, tt);
-  slices = λ low a b. (record { from = s.done; count = portion config s; above = λ c. b plain; within = few_wait config s i; is = ap (take (portion config s)) (queue_is s full) }, tt);
+  slices = λ low a b. (record { from = s.done; count = portion config s; above = λ c. b plain; within = few_wait config s i; is = ap (take (portion config s)) (queue_is config s i full) }, tt);
   still = λ n o. absurd (let l : 0 < s.out = o in omega (arith, i.plain plain));
 }
 
 given_moved : (config : Config) (p : Pending) (s : Session) → s.overflow ≡ false → InStep config s → Moved p.place s (answered config p p.place (given config s) Connected (gives config s))
 given_moved config p s full i = either s.ack (Moved p.place s (answered config p p.place (given config s) Connected (gives config s)))
-    (λ h. subst (λ (g : List Publication). Moved p.place s (answered config p p.place g Connected (gives config s))) (sym (cond-true s.ack (batch (formed config s)) (take (portion config s) (queue s)) h))
+    (λ h. subst (λ (g : List Publication). Moved p.place s (answered config p p.place g Connected (gives config s))) (sym (cond-true s.ack (batch (formed config s)) (take (portion config s) s.queue) h))
     (subst (λ (u : Session). Moved p.place s (answered config p p.place (batch (formed config s)) Connected u)) (sym (cond-true s.ack (formed config s) (forgotten (portion config s) s) h))
     (formed_moved config p s full i)))
-    (λ h. subst (λ (g : List Publication). Moved p.place s (answered config p p.place g Connected (gives config s))) (sym (cond-false s.ack (batch (formed config s)) (take (portion config s) (queue s)) h))
-    (subst (λ (u : Session). Moved p.place s (answered config p p.place (take (portion config s) (queue s)) Connected u)) (sym (cond-false s.ack (formed config s) (forgotten (portion config s) s) h))
+    (λ h. subst (λ (g : List Publication). Moved p.place s (answered config p p.place g Connected (gives config s))) (sym (cond-false s.ack (batch (formed config s)) (take (portion config s) s.queue) h))
+    (subst (λ (u : Session). Moved p.place s (answered config p p.place (take (portion config s) s.queue) Connected u)) (sym (cond-false s.ack (formed config s) (forgotten (portion config s) s) h))
     (forgotten_moved config p s full h i)))
 
 answered_or_held_moved : (config : Config) (p : Pending) (s : Session) → s.overflow ≡ false → InStep config s → Moved p.place s (answered_or_held config p s)

@@ -13,9 +13,9 @@ use Rattle.bx_entry.specs.declared.entry.Entry.{Entry}
 use Rattle.bx_entry.specs.declared.entry.Kind.{Kind}
 use Rattle.bx_entry.specs.declared.entry.Kind.TheVariants.{Connect, Subscribe, Unsubscribe, Publish, Disconnect, Refused, Tick}
 use Rattle.bx_entry.specs.declared.entry.Kind.TheVariants as entries
-use Rattle.bx_entry.specs.Sessions.{Session, Publication, Pending, Filed, Stage, Unopened, Live, Closed, filing, answered, unheld, released_from, released, cleared, acknowledged, portion, queue, batch, with_batch, formed, forgotten, gives, given, holding, idle, answered_or_held, connected, subscribed, unsubscribed, gives_one, with_event, delivered_to, delivered, overflowed, is_hit, has_room, published, expired_from, expired, ended, closed_by, disconnected, begun, step_by, step, unopened}
+use Rattle.bx_entry.specs.Sessions.{Session, Publication, Pending, Filed, Stage, Unopened, Live, Closed, filing, answered, unheld, released_from, released, cleared, acknowledged, portion, batch, with_batch, formed, forgotten, gives, given, holding, idle, answered_or_held, connected, subscribed, unsubscribed, gives_one, with_event, delivered_to, delivered, overflowed, is_hit, has_room, published, expired_from, expired, ended, closed_by, disconnected, begun, step_by, step, unopened}
 use Rattle.bx_laws.specs.Laws.{InStep, given_in, GivenOnce}
-use Rattle.bx_laws.proofs.Counts.{stays_in_step, unopened_in_step, queue_is, released_from_full, acknowledged_full}
+use Rattle.bx_laws.proofs.Counts.{subscribed_by, acknowledged_in, released_in, stays_in_step, unopened_in_step, queue_is, released_from_full, acknowledged_full}
 use Rattle.bx_laws.proofs.Moves.{either}
 
 abbrev Once : Session → Type 0
@@ -38,31 +38,32 @@ acknowledged_o (Some n) s o = cond_both (s.ack && nat_le s.num n) (cleared s) s 
 formed_acks : (config : Config) (s : Session) → (formed config s).ack ≡ s.ack
 formed_acks config s = cond_both ((s.out == 0) && nat_lt 0 (portion config s)) (with_batch (portion config s) s) s (λ (u : Session). u.ack ≡ s.ack) (λ h. refl) (λ h. refl)
 
-given_o : (config : Config) (p : Pending) (s : Session) → s.overflow ≡ false → Once s → Once (answered config p p.place (given config s) Connected (gives config s))
-given_o config p s full o = either s.ack (Once (answered config p p.place (given config s) Connected (gives config s)))
+given_o : (config : Config) (p : Pending) (s : Session) → s.overflow ≡ false → InStep config s → Once s → Once (answered config p p.place (given config s) Connected (gives config s))
+given_o config p s full i o = either s.ack (Once (answered config p p.place (given config s) Connected (gives config s)))
     (λ h. subst (λ (u : Session). Once (answered config p p.place (given config s) Connected u)) (sym (cond-true s.ack (formed config s) (forgotten (portion config s) s) h))
     (λ a. absurd (true≢false (sym (formed_acks config s ∙ h) ∙ a))))
-    (λ h. subst (λ (g : List Publication). Once (answered config p p.place g Connected (gives config s))) (sym (cond-false s.ack (batch (formed config s)) (take (portion config s) (queue s)) h))
-    (subst (λ (u : Session). Once (answered config p p.place (take (portion config s) (queue s)) Connected u)) (sym (cond-false s.ack (formed config s) (forgotten (portion config s) s) h))
-    (λ a. given_push s.answers (filing config p p.place (take (portion config s) (queue s)) Connected (forgotten (portion config s) s))
-    ∙ ap (λ (ps : List Publication). ps ++ take (portion config s) (queue s)) (o h)
-    ∙ ap (λ (ps : List Publication). take s.done s.events ++ take (portion config s) ps) (queue_is s full)
+    (λ h. subst (λ (g : List Publication). Once (answered config p p.place g Connected (gives config s))) (sym (cond-false s.ack (batch (formed config s)) (take (portion config s) s.queue) h))
+    (subst (λ (u : Session). Once (answered config p p.place (take (portion config s) s.queue) Connected u)) (sym (cond-false s.ack (formed config s) (forgotten (portion config s) s) h))
+    (λ a. given_push s.answers (filing config p p.place (take (portion config s) s.queue) Connected (forgotten (portion config s) s))
+    ∙ ap (λ (ps : List Publication). ps ++ take (portion config s) s.queue) (o h)
+    ∙ ap (λ (ps : List Publication). take s.done s.events ++ take (portion config s) ps) (queue_is config s i full)
     ∙ sym (take-add s.done (portion config s) s.events))))
 
-answered_or_held_o : (config : Config) (p : Pending) (s : Session) → s.overflow ≡ false → Once s → Once (answered_or_held config p s)
-answered_or_held_o config p s full o =
+answered_or_held_o : (config : Config) (p : Pending) (s : Session) → s.overflow ≡ false → InStep config s → Once s → Once (answered_or_held config p s)
+answered_or_held_o config p s full i o =
     cond_both (length (given config s) == 0) (idle config p s) (answered config p p.place (given config s) Connected (gives config s)) Once
     (λ h. cond_both (p.hold == 0) (answered config p p.place [] Connected s) (holding p s) Once (λ g. answered_o config p p.place Connected s o) (λ g. o))
-    (λ h. given_o config p s full o)
+    (λ h. given_o config p s full i o)
 
-connected_o : (config : Config) (p : Pending) (acked : Option ℕ) (s : Session) → Once s → Once (connected config p acked s)
-connected_o config p acked s o =
+connected_o : (config : Config) (p : Pending) (acked : Option ℕ) (s : Session) → InStep config s → Once s → Once (connected config p acked s)
+connected_o config p acked s i o =
     let free = released config p.place (Failed SupersededConnect) s in
     let f : Once free = released_from_o config p.place (Failed SupersededConnect) s s.held o in
     cond_both s.overflow (answered config p p.place [] (Failed QueueOverflow) free) (answered_or_held config p (acknowledged acked free)) Once
     (λ h. answered_o config p p.place (Failed QueueOverflow) free f)
     (λ h. answered_or_held_o config p (acknowledged acked free)
-    (acknowledged_full acked free ∙ released_from_full config p.place (Failed SupersededConnect) s s.held ∙ h) (acknowledged_o acked free f))
+    (acknowledged_full acked free ∙ released_from_full config p.place (Failed SupersededConnect) s s.held ∙ h)
+    (acknowledged_in config acked free (released_in config p.place (Failed SupersededConnect) s i)) (acknowledged_o acked free f))
 
 with_event_o : (config : Config) (e : Publication) (s : Session) → InStep config s → Once s → Once (with_event e s)
 with_event_o config e s i o = λ a. o a ∙ sym (take-append-le s.done s.events (e ∷ []) (omega (arith, i.few)))
@@ -105,8 +106,8 @@ step_by_o : (config : Config) (place moment : ℕ) (s : Session) (k : Kind) → 
 step_by_o config place moment s (entries.Opened n ack) i o = cond_both (n == s.number) (begun ack s s.stage) s Once (λ h. begun_o config ack s s.stage refl i o) (λ h. o)
 step_by_o config place moment s (Connect n client id acked hold) i o =
     let p : Pending = record { place = place; client = client; id = id; moment = moment; hold = hold } in
-    cond_both (n == s.number) (connected config p acked s) s Once (λ h. connected_o config p acked s o) (λ h. o)
-step_by_o config place moment s (Subscribe n ps) i o = cond_both (n == s.number) (subscribed config ps s) s Once (λ h. o) (λ h. o)
+    cond_both (n == s.number) (connected config p acked s) s Once (λ h. connected_o config p acked s i o) (λ h. o)
+step_by_o config place moment s (Subscribe n ps) i o = cond_both (n == s.number) (subscribed config ps s) s Once (λ h. subscribed_by config ps s Once o o o) (λ h. o)
 step_by_o config place moment s (Unsubscribe n ps) i o = cond_both (n == s.number) (unsubscribed ps s) s Once (λ h. o) (λ h. o)
 step_by_o config place moment s (Publish e) i o = published_o config (record { place = place; event = e }) s i o
 step_by_o config place moment s (Disconnect n) i o = cond_both (n == s.number) (disconnected config place s) s Once (λ h. released_from_o config place Disconnected s s.held o) (λ h. o)

@@ -12,6 +12,7 @@ use Rattle.bx_entry.specs.declared.entry.Kind.TheVariants.{Connect, Subscribe, U
 use Rattle.bx_entry.specs.declared.entry.Kind.TheVariants as entries
 use Rattle.bx_entry.specs.Sessions.{Session, Publication, Pending, Stage, Unopened, Live, Closed, filing, answered, unheld, released_from, released, cleared, acknowledged, portion, with_batch, formed, forgotten, gives, given, holding, idle, answered_or_held, connected, subscribed, unsubscribed, gives_one, with_event, delivered_to, delivered, overflowed, is_hit, has_room, published, expired_from, expired, ended, closed_by, disconnected, begun, step_by, step, unopened}
 use Rattle.bx_laws.specs.Laws.{Each, PlacesFrom}
+use Rattle.bx_laws.proofs.Counts.{subscribed_by}
 use Rattle.bx_laws.proofs.Moves.{each_append}
 use Rattle.bx_laws.proofs.Runs.{EachEntry}
 use Rattle.bx_laws.proofs.Stages.{step_number}
@@ -112,7 +113,8 @@ step_by_b P config place moment s (entries.Opened m ack) l b = cond_both (m == s
 step_by_b P config place moment s (Connect m client id acked hold) l b =
     let p : Pending = record { place = place; client = client; id = id; moment = moment; hold = hold } in
     cond_both (m == s.number) (connected config p acked s) s (Only P) (λ h. connected_b P config p acked s (l h) b) (λ h. b)
-step_by_b P config place moment s (Subscribe m ps) l b = cond_both (m == s.number) (subscribed config ps s) s (Only P) (λ h. record { held = b.held; answers = b.answers }) (λ h. b)
+step_by_b P config place moment s (Subscribe m ps) l b = cond_both (m == s.number) (subscribed config ps s) s (Only P)
+    (λ h. subscribed_by config ps s (Only P) b (record { held = b.held; answers = b.answers }) (record { held = b.held; answers = b.answers })) (λ h. b)
 step_by_b P config place moment s (Unsubscribe m ps) l b = cond_both (m == s.number) (unsubscribed ps s) s (Only P) (λ h. record { held = b.held; answers = b.answers }) (λ h. b)
 step_by_b P config place moment s (Publish e) l b = published_b P config (record { place = place; event = e }) s b
 step_by_b P config place moment s (Disconnect m) l b = cond_both (m == s.number) (disconnected config place s) s (Only P) (λ h. ended_b P (released config place Disconnected s) (released_b P config place Disconnected s b)) (λ h. b)

@@ -10,6 +10,7 @@ use Rattle.bx_entry.specs.declared.entry.Kind.TheVariants.{Connect, Subscribe, U
 use Rattle.bx_entry.specs.declared.entry.Kind.TheVariants as entries
 use Rattle.bx_entry.specs.Sessions.{Session, Publication, Pending, Stage, Unopened, Live, Closed, released, connected, subscribed, unsubscribed, with_event, delivered, overflowed, is_live, is_hit, has_room, published, expired, stage_after, ended, disconnected, begun, step_by, step, unopened}
 use Rattle.bx_laws.specs.Readings.{opens_by, closes_by, closes, since_opening, unclosed, LiveReading}
+use Rattle.bx_laws.proofs.Counts.{subscribed_by}
 use Rattle.bx_laws.proofs.Keeps.{Keeps, connected_k, delivered_to_k, released_from_k, expired_from_k}
 
 -- number and stage
@@ -74,7 +75,7 @@ step_by_next config place moment s (Connect n client id acked hold) =
     let p : Pending = record { place = place; client = client; id = id; moment = moment; hold = hold } in
     let k : Stays s (cond (n == s.number) (connected config p acked s) s) = stays_either (n == s.number) s (connected config p acked s) (stays s (connected config p acked s) (connected_k config p acked s)) in
     record { number = k.number; stage = k.stage }
-step_by_next config place moment s (Subscribe n ps) = let k : Stays s (cond (n == s.number) (subscribed config ps s) s) = stays_either (n == s.number) s (subscribed config ps s) (record { number = refl; stage = refl }) in record { number = k.number; stage = k.stage }
+step_by_next config place moment s (Subscribe n ps) = let k : Stays s (cond (n == s.number) (subscribed config ps s) s) = stays_either (n == s.number) s (subscribed config ps s) (subscribed_by config ps s (Stays s) (record { number = refl; stage = refl }) (record { number = refl; stage = refl }) (record { number = refl; stage = refl })) in record { number = k.number; stage = k.stage }
 step_by_next config place moment s (Unsubscribe n ps) = let k : Stays s (cond (n == s.number) (unsubscribed ps s) s) = stays_either (n == s.number) s (unsubscribed ps s) (record { number = refl; stage = refl }) in record { number = k.number; stage = k.stage }
 step_by_next config place moment s (Publish e) = let k = published_stays config (record { place = place; event = e }) s in record { number = k.number; stage = k.stage }
 step_by_next config place moment s (Disconnect n) =

@@ -72,10 +72,10 @@ abbrev pub last_of : Bool → List Bool → Bool
 last_of b [] = b
 last_of b (c ∷ cs) = last_of c cs
 
--- the patterns that the entries lead to, one after another, say the same
+-- the patterns that the entries lead to, one after another, say the same; after an overflow none is in force
 abbrev pub InForceReading : Type 0
 InForceReading = (config : Config) (number : ℕ) (es : List Entry) (p : Glob) →
-    in_force (session config number es).patterns p ≡ last_of false (filter_map (λ (e : Entry). mention_by number p e.kind) es)
+    in_force (session config number es).patterns p ≡ (not (session config number es).overflow && last_of false (filter_map (λ (e : Entry). mention_by number p e.kind) es))
 
 -- ---- held: no ending entry since
 

@@ -117,12 +117,12 @@ pub fn outs_grow()
     ensures { OutsGrow }
 {}
 
-/// A step on what is kept of a session agrees with the step on the whole session, and gives the same answers.
+/// What is kept of a session settles what is kept after each entry, and the answers that the entry gives.
 pub fn kept_steps()
     ensures { KeptSteps }
 {}
 
-/// So do all steps, one after another, from a session that isn't opened yet.
+/// So what is kept of a session comes of entry after entry, of which never more is kept.
 pub fn kept_runs()
     ensures { KeptRuns }
 {}
