@@ -8,7 +8,7 @@ use Rattle.bx_advice.specs.declared.advice.Case.{Case}
 use Rattle.bx_advice.specs.declared.advice.Case.TheVariants.{Connected, Disconnected, Failed}
 use Rattle.bx_advice.specs.declared.error.Error.TheVariants.{SupersededConnect, QueueOverflow}
 use Rattle.bx_names.specs.Globs.{Glob, any_matches}
-use Rattle.bx_names.specs.InForce.{with_pattern}
+use Rattle.bx_names.specs.InForce.{with_pattern, without_pattern}
 use Rattle.bx_names.specs.Kinds.{is_broadcast}
 use Rattle.bx_names.specs.Segments.{segments}
 use Rattle.bx_message.specs.declared.event.Event.{Event}
@@ -34,10 +34,10 @@ few_queued config s i =
     (cond_both s.overflow [] (drop s.done s.events) (λ (q : List Publication). length q ≤ length s.events - s.done) (λ h. omega arith) (λ h. omega (arith, length-drop s.done s.events)))
 
 answered_in : (config : Config) (p : Pending) (place : ℕ) (given : List Publication) (case : Case) (s : Session) → InStep config s → InStep config (answered config p place given case s)
-answered_in config p place given case s i = record { queue = i.queue; front = i.front; few = i.few; small = i.small; plain = i.plain; fresh = i.fresh; idle = i.idle }
+answered_in config p place given case s i = record { queue = i.queue; emptied = i.emptied; front = i.front; few = i.few; small = i.small; plain = i.plain; fresh = i.fresh; idle = i.idle }
 
 unheld_in : (config : Config) (s : Session) → InStep config s → InStep config (unheld s)
-unheld_in config s i = record { queue = i.queue; front = i.front; few = i.few; small = i.small; plain = i.plain; fresh = i.fresh; idle = λ h. no_hold h }
+unheld_in config s i = record { queue = i.queue; emptied = i.emptied; front = i.front; few = i.few; small = i.small; plain = i.plain; fresh = i.fresh; idle = λ h. no_hold h }
 
 released_from_in : (config : Config) (place : ℕ) (case : Case) (s : Session) (held : Option Pending) → InStep config s → InStep config (released_from config place case s held)
 released_from_in config place case s None i = i
@@ -47,7 +47,7 @@ pub released_in : (config : Config) (place : ℕ) (case : Case) (s : Session) �
 released_in config place case s i = released_from_in config place case s s.held i
 
 cleared_in : (config : Config) (s : Session) → InStep config s → InStep config (cleared s)
-cleared_in config s i = record { queue = ap (drop s.out) i.queue ∙ dropped s.overflow s.out s.done s.events; front = omega arith; few = omega (arith, i.few); small = omega arith; plain = λ e. refl; fresh = i.fresh; idle = λ e. (omega (arith, (i.idle e).0), refl) }
+cleared_in config s i = record { queue = ap (drop s.out) i.queue ∙ dropped s.overflow s.out s.done s.events; emptied = i.emptied; front = omega arith; few = omega (arith, i.few); small = omega arith; plain = λ e. refl; fresh = i.fresh; idle = λ e. (omega (arith, (i.idle e).0), refl) }
 
 pub acknowledged_in : (config : Config) (acked : Option ℕ) (s : Session) → InStep config s → InStep config (acknowledged acked s)
 acknowledged_in config None s i = i
@@ -55,10 +55,10 @@ acknowledged_in config (Some n) s i = cond_both (s.ack && nat_le s.num n) (clear
 
 -- a batch formed of what waits
 with_batch_in : (config : Config) (count : ℕ) (s : Session) → s.ack ≡ true → (is_some s.held ≡ false) → s.done + count ≤ length s.events → count ≤ length s.queue → count ≤ config.limits.batch → InStep config s → InStep config (with_batch count s)
-with_batch_in config count s acks free few front small i = record { queue = i.queue; front = front; few = few; small = small; plain = λ e. absurd (true≢false (sym acks ∙ e)); fresh = i.fresh; idle = λ e. absurd (true≢false (sym e ∙ free)) }
+with_batch_in config count s acks free few front small i = record { queue = i.queue; emptied = i.emptied; front = front; few = few; small = small; plain = λ e. absurd (true≢false (sym acks ∙ e)); fresh = i.fresh; idle = λ e. absurd (true≢false (sym e ∙ free)) }
 
 forgotten_in : (config : Config) (count : ℕ) (s : Session) → s.ack ≡ false → (is_some s.held ≡ false) → s.done + count ≤ length s.events → InStep config s → InStep config (forgotten count s)
-forgotten_in config count s plain free few i = record { queue = ap (drop count) i.queue ∙ dropped s.overflow count s.done s.events; front = omega (arith, i.plain plain); few = omega (arith, i.plain plain); small = i.small; plain = i.plain; fresh = i.fresh; idle = λ e. absurd (true≢false (sym e ∙ free)) }
+forgotten_in config count s plain free few i = record { queue = ap (drop count) i.queue ∙ dropped s.overflow count s.done s.events; emptied = i.emptied; front = omega (arith, i.plain plain); few = omega (arith, i.plain plain); small = i.small; plain = i.plain; fresh = i.fresh; idle = λ e. absurd (true≢false (sym e ∙ free)) }
 
 pub few_wait : (config : Config) (s : Session) → InStep config s → s.done + portion config s ≤ length s.events
 few_wait config s i = omega (arith, i.few, few_queued config s i)
@@ -72,7 +72,7 @@ gives_in config s free i = cond_both s.ack (formed config s) (forgotten (portion
     (λ h. formed_in config s h free i) (λ h. forgotten_in config (portion config s) s h free (few_wait config s i) i)
 
 holding_in : (config : Config) (p : Pending) (s : Session) → length s.events ≤ s.done → s.out ≡ 0 → InStep config s → InStep config (holding p s)
-holding_in config p s done out i = record { queue = i.queue; front = i.front; few = i.few; small = i.small; plain = i.plain; fresh = i.fresh; idle = λ e. (done, out) }
+holding_in config p s done out i = record { queue = i.queue; emptied = i.emptied; front = i.front; few = i.few; small = i.small; plain = i.plain; fresh = i.fresh; idle = λ e. (done, out) }
 
 pub queue_is : (config : Config) (s : Session) → InStep config s → s.overflow ≡ false → s.queue ≡ drop s.done s.events
 queue_is config s i full = i.queue ∙ cond-false s.overflow [] (drop s.done s.events) full
@@ -158,7 +158,7 @@ connected_in config p acked s room i =
     (acknowledged_in config acked free j))
 
 overflowed_in : (config : Config) (s : Session) → InStep config s → InStep config (overflowed s)
-overflowed_in config s i = record { queue = refl; front = omega arith; few = omega (arith, i.few); small = omega arith; plain = λ h. refl; fresh = i.fresh; idle = λ h. ((i.idle h).0, refl) }
+overflowed_in config s i = record { queue = refl; emptied = λ h. refl; front = omega arith; few = omega (arith, i.few); small = omega arith; plain = λ h. refl; fresh = i.fresh; idle = λ h. ((i.idle h).0, refl) }
 
 -- a subscription leaves a session as it is, ends it by an overflow, or changes its patterns
 pub subscribed_by : (config : Config) (ps : List Glob) (s : Session) (P : Session → Type 0) → P s → P (overflowed s) → P (record s { patterns = fold with_pattern s.patterns ps }) → P (subscribed config ps s)
@@ -168,10 +168,28 @@ subscribed_by config ps s P same full more =
     (λ h. cond_both (nat_lt config.limits.patterns (length patterns)) (overflowed s) (record s { patterns = patterns }) P (λ g. full) (λ g. more))
 
 subscribed_in : (config : Config) (ps : List Glob) (s : Session) → InStep config s → InStep config (subscribed config ps s)
-subscribed_in config ps s i = subscribed_by config ps s (InStep config) i (overflowed_in config s i) (record { queue = i.queue; front = i.front; few = i.few; small = i.small; plain = i.plain; fresh = i.fresh; idle = i.idle })
+subscribed_in config ps s i =
+    let patterns : List Glob = fold with_pattern s.patterns ps in
+    cond_both s.overflow s (with_patterns config patterns s) (InStep config) (λ h. i)
+    (λ h. cond_both (nat_lt config.limits.patterns (length patterns)) (overflowed s) (record s { patterns = patterns }) (InStep config) (λ g. overflowed_in config s i)
+    (λ g. record { queue = i.queue; emptied = λ o. absurd (true≢false (sym o ∙ h)); front = i.front; few = i.few; small = i.small; plain = i.plain; fresh = i.fresh; idle = i.idle }))
+
+-- of no pattern none is left
+none_left : (ps : List Glob) → fold without_pattern [] ps ≡ []
+none_left [] = refl
+none_left (p ∷ ps) = none_left ps
 
 unsubscribed_in : (config : Config) (ps : List Glob) (s : Session) → InStep config s → InStep config (unsubscribed ps s)
-unsubscribed_in config ps s i = record { queue = i.queue; front = i.front; few = i.few; small = i.small; plain = i.plain; fresh = i.fresh; idle = i.idle }
+unsubscribed_in config ps s i = record {
+  queue = i.queue;
+  emptied = λ h. ap (λ (gs : List Glob). fold without_pattern gs ps) (i.emptied h) ∙ none_left ps;
+  front = i.front;
+  few = i.few;
+  small = i.small;
+  plain = i.plain;
+  fresh = i.fresh;
+  idle = i.idle;
+}
 
 -- a session that is hit hasn't overflowed
 pub hit_full : (s : Session) (e : Event) → is_hit s e ≡ true → s.overflow ≡ false
@@ -190,6 +208,7 @@ queued_event config e s full i =
 with_event_in : (config : Config) (e : Publication) (s : Session) → s.overflow ≡ false → s.held ≡ None → InStep config s → InStep config (with_event e s)
 with_event_in config e s full free i = record {
   queue = queued_event config e s full i;
+  emptied = i.emptied;
   front = omega (arith, i.front, length-append s.queue (e ∷ []));
   few = omega (arith, i.few, length-append s.events (e ∷ []));
   small = i.small;
@@ -204,9 +223,10 @@ gives_one_in config e s full room done out i =
     let t = unheld (with_event e s) in
     let more : s.queue ++ e ∷ [] ≡ cond s.overflow [] (drop s.done (s.events ++ e ∷ [])) = queued_event config e s full i in
     cond_both s.ack (with_batch 1 t) (forgotten 1 t) (InStep config)
-    (λ h. record { queue = more; front = omega (arith, length-append s.queue (e ∷ [])); few = omega (arith, i.few, length-append s.events (e ∷ [])); small = room; plain = λ p. absurd (true≢false (sym h ∙ p)); fresh = i.fresh; idle = λ n. no_hold n })
+    (λ h. record { queue = more; emptied = i.emptied; front = omega (arith, length-append s.queue (e ∷ [])); few = omega (arith, i.few, length-append s.events (e ∷ [])); small = room; plain = λ p. absurd (true≢false (sym h ∙ p)); fresh = i.fresh; idle = λ n. no_hold n })
     (λ h. record {
       queue = ap (drop 1) more ∙ dropped s.overflow 1 s.done (s.events ++ e ∷ []);
+      emptied = i.emptied;
       front = omega (arith, out);
       few = omega (arith, i.few, out, length-append s.events (e ∷ []));
       small = i.small;
@@ -239,13 +259,13 @@ begins_not Live h = cc
 begins_not Closed h = cc
 
 ended_in : (config : Config) (s : Session) → InStep config s → InStep config (ended s)
-ended_in config s i = record { queue = i.queue; front = i.front; few = i.few; small = i.small; plain = i.plain; fresh = λ h. i.fresh (begins_not s.stage h); idle = i.idle }
+ended_in config s i = record { queue = i.queue; emptied = i.emptied; front = i.front; few = i.few; small = i.small; plain = i.plain; fresh = λ h. i.fresh (begins_not s.stage h); idle = i.idle }
 
 closed_by_in : (config : Config) (numbers : List ℕ) (s : Session) → InStep config s → InStep config (closed_by numbers s)
 closed_by_in config numbers s i = cond_both (list_any (λ n. n == s.number) numbers) (ended s) s (InStep config) (λ h. ended_in config s i) (λ h. i)
 
 begun_in : (config : Config) (ack : Bool) (s : Session) (stage : Stage) → s.stage ≡ stage → InStep config s → InStep config (begun ack s stage)
-begun_in config ack s Unopened h i = record { queue = i.queue; front = i.front; few = i.few; small = i.small; plain = λ e. i.plain (i.fresh h); fresh = λ e. cc; idle = i.idle }
+begun_in config ack s Unopened h i = record { queue = i.queue; emptied = i.emptied; front = i.front; few = i.few; small = i.small; plain = λ e. i.plain (i.fresh h); fresh = λ e. cc; idle = i.idle }
 begun_in config ack s Live h i = i
 begun_in config ack s Closed h i = i
 
@@ -273,7 +293,7 @@ pub all_in_step : (config : Config) (s : Session) (es : List Entry) → 0 < conf
 all_in_step config s es room i = all_in config s es room i
 
 pub unopened_in_step : (config : Config) (number : ℕ) → InStep config (unopened number)
-unopened_in_step config number = record { queue = refl; front = omega arith; few = omega arith; small = omega arith; plain = λ e. refl; fresh = λ e. refl; idle = λ h. no_hold h }
+unopened_in_step config number = record { queue = refl; emptied = λ h. refl; front = omega arith; few = omega arith; small = omega arith; plain = λ e. refl; fresh = λ e. refl; idle = λ h. no_hold h }
 
 pub counts_agree : CountsAgree
 counts_agree config number es room = all_in config (unopened number) es room (unopened_in_step config number)

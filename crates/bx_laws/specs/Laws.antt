@@ -15,10 +15,11 @@ use Rattle.bx_entry.specs.Answers.{PlacedAnswer, answer}
 abbrev pub DoneNeverFalls : Type 0
 DoneNeverFalls = (config : Config) (number : ℕ) (xs ys : List Entry) → (session config number xs).done ≤ (session config number (xs ++ ys)).done
 
--- What holds of a session at any time: the queue has the events behind those that are given for good, or none after an overflow, and the outstanding
--- batch is its front; the counts never pass each other, a batch is no longer than its limit, a plain session has none, and while a connect is held nothing waits.
+-- What holds of a session at any time: the queue has the events behind those that are given for good, or none after an overflow, when no pattern is in
+-- force either; the outstanding batch is its front; the counts never pass each other, a batch is no longer than its limit, a plain session has none, and while a connect is held nothing waits.
 pub record InStep (config : Config) (s : Session) : Type 0 where
   pub queue : s.queue ≡ (if s.overflow then [] else drop s.done s.events)
+  pub emptied : s.overflow ≡ true → s.patterns ≡ []
   pub front : s.out ≤ length s.queue
   pub few : s.done + s.out ≤ length s.events
   pub small : s.out ≤ config.limits.batch

@@ -1,4 +1,4 @@
--- The words of windows agree with those of what is kept.
+-- The words of windows agree with those of sessions.
 use Rattle.std.proofs.Common.{◌≡◌, ℕ, ◌+◌, min, Bool, true, false, cond, not, ◌&&◌, Option, Some, None, List, [], ◌∷◌, length, take, nat_lt, nat_le, ◌==◌, refl, sym, ap, ◌∙◌, arith}
 use Rattle.std.proofs.lemmas.Bool.Decides.{nat_tests}
 use Rattle.std.proofs.lemmas.List.{drop-map, take-map, length-map, map-append}
@@ -6,21 +6,20 @@ use Rattle.bx_advice.specs.declared.config.Config.{Config}
 use Rattle.bx_message.specs.declared.event.Event.{Event}
 use Rattle.bx_batches.specs.Windows.{Contents, acknowledged, cleared, forgotten, formed, full, outstanding, portion, with_event}
 use Rattle.bx_entry.specs.Answers.{events_of}
-use Rattle.bx_entry.specs.Sessions.{Publication}
-use Rattle.bx_entry.specs.Keeping.{Kept, cleared_kept, acknowledged_kept, portion_kept, with_batch_kept, formed_kept, forgotten_kept, gives_kept, given_kept, has_room_kept, with_event_kept}
-use Rattle.bx_session.specs.Seats.{window_of}
+use Rattle.bx_entry.specs.Sessions as sessions
+use Rattle.bx_entry.specs.Sessions.{Session, Publication}
 use Rattle.bx_session.specs.Steps.{window_acknowledged, given_from, window_given}
-use Rattle.bx_session.specs.Agreement.{WindowsAgree}
+use Rattle.bx_session.specs.Agreement.{WindowsAgree, window_in}
 
 abbrev event_in : Publication → Event
 event_in p = p.event
 
 -- the window with these events, of which so many are outstanding
-abbrev holding : Config → Kept → ℕ → ℕ → List Event → Contents
-holding config k out number es = record { events = es; out = out; number = number; limit = config.limits.events; batch = config.limits.batch }
+abbrev pub holding : Config → ℕ → ℕ → List Event → Contents
+holding config out number es = record { events = es; out = out; number = number; limit = config.limits.events; batch = config.limits.batch }
 
 -- the window of the one or the other
-pick : (config : Config) (b : Bool) (x y : Kept) → window_of config (cond b x y) ≡ cond b (window_of config x) (window_of config y)
+pick : (config : Config) (b : Bool) (x y : Session) → window_in config (cond b x y) ≡ cond b (window_in config x) (window_in config y)
 pick config true x y = refl
 pick config false x y = refl
 
@@ -33,61 +32,61 @@ events_pick : (b : Bool) (x y : List Publication) → events_of (cond b x y) ≡
 events_pick true x y = refl
 events_pick false x y = refl
 
-pub cleared_w : (config : Config) (k : Kept) → window_of config (cleared_kept k) ≡ cleared (window_of config k)
-cleared_w config k = ap (holding config k 0 k.num) (sym (drop-map event_in k.out k.queue))
+cleared_w : (config : Config) (s : Session) → window_in config (sessions.cleared s) ≡ cleared (window_in config s)
+cleared_w config s = ap (holding config 0 s.num) (sym (drop-map event_in s.out s.queue))
 
-pub acknowledged_w : (config : Config) (acked : Option ℕ) (k : Kept) → window_of config (acknowledged_kept acked k) ≡ window_acknowledged k.ack acked (window_of config k)
-acknowledged_w config None k = refl
-acknowledged_w config (Some n) k =
-    pick config (k.ack && nat_le k.num n) (cleared_kept k) k
-    ∙ ap (λ (w : Contents). cond (k.ack && nat_le k.num n) w (window_of config k)) (cleared_w config k)
-    ∙ both k.ack (nat_le k.num n) (cleared (window_of config k)) (window_of config k)
+pub acknowledged_w : (config : Config) (acked : Option ℕ) (s : Session) → window_in config (sessions.acknowledged acked s) ≡ window_acknowledged s.ack acked (window_in config s)
+acknowledged_w config None s = refl
+acknowledged_w config (Some n) s =
+    pick config (s.ack && nat_le s.num n) (sessions.cleared s) s
+    ∙ ap (λ (w : Contents). cond (s.ack && nat_le s.num n) w (window_in config s)) (cleared_w config s)
+    ∙ both s.ack (nat_le s.num n) (cleared (window_in config s)) (window_in config s)
 
-pub portion_w : (config : Config) (k : Kept) → portion_kept config k ≡ portion (window_of config k)
-portion_w config k = ap (min config.limits.batch) (sym (length-map k.queue event_in))
+portion_w : (config : Config) (s : Session) → sessions.portion config s ≡ portion (window_in config s)
+portion_w config s = ap (min config.limits.batch) (sym (length-map s.queue event_in))
 
-pub formed_w : (config : Config) (k : Kept) → window_of config (formed_kept config k) ≡ formed (window_of config k)
-formed_w config k =
-    pick config ((k.out == 0) && nat_lt 0 (portion_kept config k)) (with_batch_kept (portion_kept config k) k) k
-    ∙ ap (λ (n : ℕ). cond ((k.out == 0) && nat_lt 0 n) (holding config k n (k.num + 1) (events_of k.queue)) (window_of config k)) (portion_w config k)
+formed_w : (config : Config) (s : Session) → window_in config (sessions.formed config s) ≡ formed (window_in config s)
+formed_w config s =
+    pick config ((s.out == 0) && nat_lt 0 (sessions.portion config s)) (sessions.with_batch (sessions.portion config s) s) s
+    ∙ ap (λ (n : ℕ). cond ((s.out == 0) && nat_lt 0 n) (holding config n (s.num + 1) (events_of s.queue)) (window_in config s)) (portion_w config s)
 
-pub outstanding_w : (config : Config) (k : Kept) → outstanding (window_of config k) ≡ events_of (take k.out k.queue)
-outstanding_w config k = take-map event_in k.out k.queue
+outstanding_w : (config : Config) (s : Session) → outstanding (window_in config s) ≡ events_of (sessions.batch s)
+outstanding_w config s = take-map event_in s.out s.queue
 
-pub forgotten_w : (config : Config) (count : ℕ) (k : Kept) → window_of config (forgotten_kept count k) ≡ forgotten count (window_of config k)
-forgotten_w config count k = ap (holding config k k.out k.num) (sym (drop-map event_in count k.queue))
+forgotten_w : (config : Config) (count : ℕ) (s : Session) → window_in config (sessions.forgotten count s) ≡ forgotten count (window_in config s)
+forgotten_w config count s = ap (holding config s.out s.num) (sym (drop-map event_in count s.queue))
 
-pub added_w : (config : Config) (e : Publication) (k : Kept) → window_of config (with_event_kept e k) ≡ with_event e.event (window_of config k)
-added_w config e k = ap (holding config k k.out k.num) (map-append event_in k.queue (e ∷ []))
+pub added_w : (config : Config) (e : Publication) (s : Session) → window_in config (sessions.with_event e s) ≡ with_event e.event (window_in config s)
+added_w config e s = ap (holding config s.out s.num) (map-append event_in s.queue (e ∷ []))
 
 -- one test, and its contrary
 contrary : (a b : ℕ) → nat_le a b ≡ not (nat_lt b a)
 contrary a b = grind (arith, nat_tests)
 
-pub full_w : (config : Config) (k : Kept) → full (window_of config k) ≡ not (has_room_kept config k)
-full_w config k = ap (nat_le config.limits.events) (length-map k.queue event_in) ∙ contrary config.limits.events (length k.queue)
+pub full_w : (config : Config) (s : Session) → full (window_in config s) ≡ not (sessions.has_room config s)
+full_w config s = ap (nat_le config.limits.events) (length-map s.queue event_in) ∙ contrary config.limits.events (length s.queue)
 
-pub windows_agree : (config : Config) (k : Kept) → WindowsAgree config k
-windows_agree config k = record {
-  cleared = cleared_w config k;
-  acknowledged = λ number acks. acknowledged_w config (Some number) k ∙ ap (λ (b : Bool). cond b (acknowledged number (window_of config k)) (window_of config k)) acks;
-  formed = formed_w config k;
-  outstanding = outstanding_w config k;
-  forgotten = λ count. forgotten_w config count k;
-  added = λ e. added_w config e k;
-  full = full_w config k;
+pub windows_agree : (config : Config) (s : Session) → WindowsAgree config s
+windows_agree config s = record {
+  cleared = cleared_w config s;
+  acknowledged = λ number acks. acknowledged_w config (Some number) s ∙ ap (λ (b : Bool). cond b (acknowledged number (window_in config s)) (window_in config s)) acks;
+  formed = formed_w config s;
+  outstanding = outstanding_w config s;
+  forgotten = λ count. forgotten_w config count s;
+  added = λ e. added_w config e s;
+  full = full_w config s;
 }
 
 -- ---- what a connect is given
 
-pub given_w : (config : Config) (k : Kept) → events_of (given_kept config k) ≡ given_from k.ack (window_of config k)
-given_w config k =
-    events_pick k.ack (take (formed_kept config k).out (formed_kept config k).queue) (take (portion_kept config k) k.queue)
-    ∙ ap (λ (es : List Event). cond k.ack es (events_of (take (portion_kept config k) k.queue))) (sym (outstanding_w config (formed_kept config k)) ∙ ap outstanding (formed_w config k))
-    ∙ ap (cond k.ack (outstanding (formed (window_of config k)))) (sym (take-map event_in (portion_kept config k) k.queue) ∙ ap (λ (n : ℕ). take n (events_of k.queue)) (portion_w config k))
+pub given_w : (config : Config) (s : Session) → events_of (sessions.given config s) ≡ given_from s.ack (window_in config s)
+given_w config s =
+    events_pick s.ack (sessions.batch (sessions.formed config s)) (take (sessions.portion config s) s.queue)
+    ∙ ap (λ (es : List Event). cond s.ack es (events_of (take (sessions.portion config s) s.queue))) (sym (outstanding_w config (sessions.formed config s)) ∙ ap outstanding (formed_w config s))
+    ∙ ap (cond s.ack (outstanding (formed (window_in config s)))) (sym (take-map event_in (sessions.portion config s) s.queue) ∙ ap (λ (n : ℕ). take n (events_of s.queue)) (portion_w config s))
 
-pub gives_w : (config : Config) (k : Kept) → window_of config (gives_kept config k) ≡ window_given k.ack (window_of config k)
-gives_w config k =
-    pick config k.ack (formed_kept config k) (forgotten_kept (portion_kept config k) k)
-    ∙ ap (λ (w : Contents). cond k.ack w (window_of config (forgotten_kept (portion_kept config k) k))) (formed_w config k)
-    ∙ ap (cond k.ack (formed (window_of config k))) (forgotten_w config (portion_kept config k) k ∙ ap (λ (n : ℕ). forgotten n (window_of config k)) (portion_w config k))
+pub gives_w : (config : Config) (s : Session) → window_in config (sessions.gives config s) ≡ window_given s.ack (window_in config s)
+gives_w config s =
+    pick config s.ack (sessions.formed config s) (sessions.forgotten (sessions.portion config s) s)
+    ∙ ap (λ (w : Contents). cond s.ack w (window_in config (sessions.forgotten (sessions.portion config s) s))) (formed_w config s)
+    ∙ ap (cond s.ack (formed (window_in config s))) (forgotten_w config (sessions.portion config s) s ∙ ap (λ (n : ℕ). forgotten n (window_in config s)) (portion_w config s))

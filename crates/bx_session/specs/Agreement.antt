@@ -1,18 +1,19 @@
--- The steps on windows and seats agree with those on what is kept of a session.
+-- The steps on windows and seats agree with the step of a session.
 use Rattle.std.specs.Prelude.{ℕ, ◌+◌, ◌-◌, ◌==◌, ◌≡◌, ◌≤◌, not, Bool, true, false, List, [], ◌∷◌, ◌++◌, length, take, map, fold, Option, Some}
 use Rattle.std.specs.Option.{option_to_list}
 use Rattle.bx_names.specs.Globs.{Glob}
 use Rattle.bx_names.specs.InForce.{with_pattern, without_pattern}
 use Rattle.bx_advice.specs.declared.config.Config.{Config}
 use Rattle.bx_advice.specs.declared.advice.Case.TheVariants.{Disconnected}
-use Rattle.bx_batches.specs.Windows.{acknowledged, cleared, forgotten, formed, full, outstanding, with_event}
+use Rattle.bx_batches.specs.Windows.{Contents, acknowledged, cleared, forgotten, formed, full, outstanding, with_event}
 use Rattle.bx_message.specs.declared.event.Event.{Event}
 use Rattle.bx_entry.specs.declared.entry.Entry.{Entry}
 use Rattle.bx_entry.specs.declared.entry.Kind.{Kind}
 use Rattle.bx_entry.specs.declared.entry.Kind.TheVariants as entries
 use Rattle.bx_entry.specs.Answers.{events_of}
-use Rattle.bx_entry.specs.Sessions.{Publication, Filed, unopened}
-use Rattle.bx_entry.specs.Keeping.{Kept, InBounds, kept, kept_step, kept_answers, kept_run, cleared_kept, acknowledged_kept, formed_kept, forgotten_kept, has_room_kept, is_hit_kept, with_event_kept}
+use Rattle.bx_entry.specs.Sessions as sessions
+use Rattle.bx_entry.specs.Sessions.{Session, Publication, Filed, is_hit, session, unopened}
+use Rattle.bx_entry.specs.Keeping.{Kept, InBounds, kept, resumed, kept_step, kept_answers}
 use Rattle.bx_session.specs.declared.answered.Answered.{Answered}
 use Rattle.bx_session.specs.declared.answered.Connection.{Connection}
 use Rattle.bx_session.specs.declared.answered.Delivery.{Delivery}
@@ -22,19 +23,23 @@ use Rattle.bx_session.specs.Steps.{answered, connected, connection, delivered, d
 
 -- ---- windows
 
--- each word of windows says of the window what its namesake says of what is kept
-pub record WindowsAgree (config : Config) (k : Kept) : Type 0 where
-  pub cleared : window_of config (cleared_kept k) ≡ cleared (window_of config k)
-  pub acknowledged : (number : ℕ) → k.ack ≡ true → window_of config (acknowledged_kept (Some number) k) ≡ acknowledged number (window_of config k)
-  pub formed : window_of config (formed_kept config k) ≡ formed (window_of config k)
-  pub outstanding : outstanding (window_of config k) ≡ events_of (take k.out k.queue)
-  pub forgotten : (count : ℕ) → window_of config (forgotten_kept count k) ≡ forgotten count (window_of config k)
-  pub added : (e : Publication) → window_of config (with_event_kept e k) ≡ with_event e.event (window_of config k)
-  pub full : full (window_of config k) ≡ not (has_room_kept config k)
+-- the window of a session
+abbrev pub window_in : Config → Session → Contents
+window_in config s = window_of config (kept s)
 
--- so it is whatever is kept
+-- each word of windows says of the window what its namesake says of the session
+pub record WindowsAgree (config : Config) (s : Session) : Type 0 where
+  pub cleared : window_in config (sessions.cleared s) ≡ cleared (window_in config s)
+  pub acknowledged : (number : ℕ) → s.ack ≡ true → window_in config (sessions.acknowledged (Some number) s) ≡ acknowledged number (window_in config s)
+  pub formed : window_in config (sessions.formed config s) ≡ formed (window_in config s)
+  pub outstanding : outstanding (window_in config s) ≡ events_of (sessions.batch s)
+  pub forgotten : (count : ℕ) → window_in config (sessions.forgotten count s) ≡ forgotten count (window_in config s)
+  pub added : (e : Publication) → window_in config (sessions.with_event e s) ≡ with_event e.event (window_in config s)
+  pub full : full (window_in config s) ≡ not (sessions.has_room config s)
+
+-- so it is with every session
 abbrev pub WindowsAlike : Type 0
-WindowsAlike = (config : Config) (k : Kept) → WindowsAgree config k
+WindowsAlike = (config : Config) (s : Session) → WindowsAgree config s
 
 -- ---- seats
 
@@ -93,12 +98,12 @@ UnsubscribesAlike = (config : Config) (k : Kept) (place moment : ℕ) (ps : List
 
 -- a publish that some pattern of the session matches, which hasn't overflowed then
 abbrev pub DeliversAlike : Type 0
-DeliversAlike = (config : Config) (k : Kept) (place moment : ℕ) (e : Event) → InBounds config k → is_hit_kept k e ≡ true →
+DeliversAlike = (config : Config) (k : Kept) (place moment : ℕ) (e : Event) → InBounds config k → is_hit (resumed k) e ≡ true →
     (k.overflow ≡ false) × Becomes config k (entry place moment (entries.Publish e)) (delivered e (seat_of config k)) (delivery_answers (delivery config e (seat_of config k)))
 
 -- any other publish
 abbrev pub MissesAlike : Type 0
-MissesAlike = (config : Config) (k : Kept) (place moment : ℕ) (e : Event) → is_hit_kept k e ≡ false →
+MissesAlike = (config : Config) (k : Kept) (place moment : ℕ) (e : Event) → is_hit (resumed k) e ≡ false →
     Becomes config k (entry place moment (entries.Publish e)) (seat_of config k) []
 
 -- a tick, whether it closes the session or not
@@ -134,4 +139,4 @@ NumbersStep = (config : Config) (k : Kept) (e : Entry) → (kept_step config k e
 
 -- so no more batches are formed than there are entries
 abbrev pub NumbersCount : Type 0
-NumbersCount = (config : Config) (number : ℕ) (es : List Entry) → (kept_run config number es).kept.num ≤ length es
+NumbersCount = (config : Config) (number : ℕ) (es : List Entry) → (session config number es).num ≤ length es

@@ -1,5 +1,5 @@
 -- One session as the program holds it: neither the places of its events nor its patterns, only how many of these there are.
-use Rattle.std.specs.Prelude.{ℕ, Bool, false, List, [], length, if◌then◌else◌, Option, None}
+use Rattle.std.specs.Prelude.{ℕ, Bool, false, List, [], length, Option, None}
 use Rattle.bx_advice.specs.declared.config.Config.{Config}
 use Rattle.bx_batches.specs.Windows.{Contents, empty}
 use Rattle.bx_entry.specs.Answers.{events_of}
@@ -32,7 +32,7 @@ window_of config k = record { events = events_of k.queue; out = k.out; number = 
 abbrev pub dropped : Contents → Contents
 dropped w = record w { events = []; out = 0 }
 
--- what the program holds of what is kept of a session; after an overflow no event waits
+-- what the program holds of what is kept of a session
 abbrev pub seat_of : Config → Kept → Seat
 seat_of config k = record {
   number = k.number;
@@ -40,7 +40,7 @@ seat_of config k = record {
   overflow = k.overflow;
   held = k.held;
   patterns = length k.patterns;
-  window = record (window_of config k) { events = if k.overflow then [] else events_of k.queue; out = if k.overflow then 0 else k.out };
+  window = window_of config k;
 }
 
 -- a session that was just opened

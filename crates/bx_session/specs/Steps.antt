@@ -6,8 +6,7 @@ use Rattle.bx_advice.specs.declared.advice.Case.TheVariants.{Connected, Failed}
 use Rattle.bx_advice.specs.declared.error.Error.TheVariants.{SupersededConnect, QueueOverflow}
 use Rattle.bx_advice.specs.Limits.{greatest_length}
 use Rattle.bx_batches.specs.Windows.{Contents, acknowledged, forgotten, formed, full, outstanding, portion, with_event}
-use Rattle.bx_entry.specs.Keeping.{ack_given}
-use Rattle.bx_entry.specs.Sessions.{Pending}
+use Rattle.bx_entry.specs.Sessions.{Pending, ack_given}
 use Rattle.bx_message.specs.Replies.{connect_reply}
 use Rattle.bx_message.specs.declared.event.Event.{Event}
 use Rattle.bx_message.specs.declared.reply.Reply.{Reply}

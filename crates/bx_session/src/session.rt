@@ -1,7 +1,7 @@
 //! One session, entry by entry.
 ghost use Rattle.std.specs.Prelude.{◌≡◌, ◌<◌, ◌≤◌, ◌+◌, ◌==◌, [], IfOk, IsOk, OnOk, OnErr, true, false, length, take, drop, nat_lt, is_some, Option, Some, None};
 ghost use Rattle.std.specs.VecDeque.Iter.{deque_iter_rest};
-ghost use Rattle.bx_entry.specs.Keeping.{ack_given};
+ghost use Rattle.bx_entry.specs.Sessions.{ack_given};
 ghost use Rattle.bx_advice.specs.declared.advice.Case.TheVariants.{Connected, Disconnected};
 ghost use Rattle.bx_session.specs.Seats.{opened};
 ghost use Rattle.bx_session.specs.Steps.{Countable, acknowledging, connect_answer, connected, connection, delivered, delivery, given_from, giving, is_due, overflowed, released, settled, settled_answer, subscribed, tick_answer, ticked, too_many, unheld, unsubscribed, window_acknowledged};

@@ -11,9 +11,8 @@ use Rattle.bx_entry.specs.Registry.{Registry, judge, registry, entries_of, Waiti
 use Rattle.bx_entry.specs.Sessions.{Session, Live, is_live, step_by, step, unopened, session, Filed}
 use Rattle.bx_entry.specs.Keeping.{Kept, kept, StepsAlike, kept_answers}
 use Rattle.bx_shard.specs.Shards.{Setup, stands_in, is_taken, shard_at, sessions_in}
-use Rattle.bx_laws.proofs.Counts.{all_in_step, unopened_in_step}
 use Rattle.bx_laws.proofs.Moves.{either}
-use Rattle.bx_laws.proofs.Kept.{steps_alike}
+use Rattle.bx_laws.proofs.Kept.{kept_steps}
 use Rattle.std.specs.Option.{option_or}
 use Rattle.std.proofs.lemmas.Grind.{flat_map-append}
 use Rattle.std.proofs.lemmas.List.Folds.{find-append}
@@ -122,7 +121,7 @@ live_answers config ys x (n ∷ ns) room a =
     let F : List Kept → List Filed = λ ks. answers_by config e ks in
     let rest : List Kept = held_by config es ns in
     let B : Answers = λ m. kept_answers config (kept (session config m es)) e in
-    let alike : StepsAlike config s e = steps_alike config s e (all_in_step config (unopened n) es room (unopened_in_step config n)) in
+    let alike : StepsAlike config s e = kept_steps config s e in
     ap (λ (fs : List Filed). B n ++ fs) (live_answers config ys x ns room a)
     ∙ either (is_live s.stage) (B n ++ F rest ≡ F (one_kept s rest))
     (λ h. sym (ap F (cond-true (is_live s.stage) (kept s ∷ rest) rest h)))
@@ -151,7 +150,7 @@ filed_next setup shard place ys x room a =
     let C : Answers = λ n. (session setup.config n (entries_of (registry setup.config (ys ++ x ∷ [])))).answers in
     let nums : numbers (registry setup.config (ys ++ x ∷ [])).sessions ≡ numbers (registry setup.config ys).sessions ++ opened_numbers a.found.entry.kind = ap (λ (t : Registry). numbers t.sessions) (next_is config ys x) ∙ a.sessions in
     let split : (n : ℕ) → C n ≡ A n ++ B n =
-    λ n. ap (λ (u : Session). u.answers) (session_next config n ys x a) ∙ (steps_alike config (session config n es) e (all_in_step config (unopened n) es room (unopened_in_step config n))).answers in
+    λ n. ap (λ (u : Session). u.answers) (session_next config n ys x a) ∙ (kept_steps config (session config n es) e).answers in
     ap (λ (ks : List ℕ). find test (flat_map C (filter here ks))) nums
     ∙ ap (λ (ks : List ℕ). find test (flat_map C ks)) (filter-append here ns ms)
     ∙ ap (find test) (flat_map-append C (filter here ns) (filter here ms))

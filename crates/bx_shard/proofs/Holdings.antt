@@ -11,11 +11,13 @@ use Rattle.bx_entry.specs.declared.entry.Entry.{Entry}
 use Rattle.bx_entry.specs.Listing.{Listed}
 use Rattle.bx_entry.specs.Registry.{Registry, Registered, Judged, judge, registry, entries_of}
 use Rattle.bx_entry.specs.Sessions.{Session, Stage, Unopened, Live, Closed, is_live, unopened, session}
-use Rattle.bx_entry.specs.Keeping.{Kept, kept, kept_run}
+use Rattle.bx_entry.specs.Keeping.{Kept, kept}
 use Rattle.bx_laws.proofs.Dues.{NumberedFrom}
 use Rattle.bx_laws.proofs.Lives.{numbered}
 use Rattle.bx_laws.proofs.Lists.{judged_length}
-use Rattle.bx_laws.proofs.Kept.{kept_in_bounds, kept_runs}
+use Rattle.bx_laws.specs.Laws.{InStep}
+use Rattle.bx_laws.proofs.Counts.{counts_agree}
+use Rattle.bx_laws.proofs.Kept.{kept_in_bounds}
 use Rattle.bx_session.specs.Reaching.{was_opened}
 use Rattle.bx_session.proofs.NumberLemmas.{numbers_count}
 use Rattle.bx_shard.specs.Shards.{Setup, shard_at, stands_in}
@@ -47,14 +49,13 @@ session_reached : (config : Config) (number place : ℕ) (es : List Entry) → 0
 session_reached config number place es room many live =
     let s : Session = session config number es in
     let stage : (session config number es).stage ≡ Live = live_stage (session config number es).stage live in
-    let num : (kept (session config number es)).num ≡ (kept_run config number es).kept.num = ap (λ (k : Kept). k.num) (kept_runs config number es room).0 in
-    let count : (kept_run config number es).kept.num ≤ length es = numbers_count config number es in
+    let i : InStep config (session config number es) = counts_agree config number es room in
     record {
       reached = record {
         bounds = kept_in_bounds config number es room;
         opened = ap was_opened stage;
-        emptied = λ h. cond-true s.overflow [] s.patterns h;
-        numbers = omega (arith, num, count);
+        emptied = i.emptied;
+        numbers = omega (arith, numbers_count config number es);
       };
       live = stage;
     }

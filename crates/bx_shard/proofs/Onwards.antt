@@ -12,9 +12,9 @@ use Rattle.bx_entry.specs.declared.entry.Kind.{Kind}
 use Rattle.bx_entry.specs.declared.entry.Kind.TheVariants.{Opened, Connect, Subscribe, Unsubscribe, Publish, Disconnect, Refused, Tick}
 use Rattle.bx_entry.specs.Answers.{answer_of}
 use Rattle.bx_entry.specs.Listing.{Listed}
-use Rattle.bx_entry.specs.Keeping.{Kept, Turn, kept, kept_answers, kept_step, turn_of}
+use Rattle.bx_entry.specs.Keeping.{Kept, kept, kept_answers, kept_step, resumed}
 use Rattle.bx_entry.specs.Registry.{entries, registry}
-use Rattle.bx_entry.specs.Sessions.{Filed, Live, Session, is_live, unopened}
+use Rattle.bx_entry.specs.Sessions.{Filed, Live, Session, is_live, step, unopened}
 use Rattle.bx_laws.proofs.Moves.{either}
 use Rattle.bx_session.specs.declared.answered.Answered.{Answered}
 use Rattle.bx_session.specs.Agreement.{answered_of, entry}
@@ -54,10 +54,9 @@ found_as config m ks = option_map (subscriber_of config) (find_kept m ks)
 opened_one : (config : Config) (place moment n : ℕ) (ack : Bool) (m : ℕ) →
     found_as config m (steps config (entry place moment (Opened n ack)) (kept (unopened n) ∷ [])) ≡ cond ((n == m) && true) (Some (newcomer config n ack)) None
 opened_one config place moment n ack m =
-    let t : Turn = record { kept = opening n ack; answers = [] } in
-    let u : Turn = record { kept = kept (unopened n); answers = [] } in
-    let same : turn_of config (kept (unopened n)) (entry place moment (Opened n ack)) ≡ t = cond-true (n == n) t u (eq-eqb n n refl) in
-    ap (λ (x : Turn). found_as config m (filter (λ (k : Kept). is_live k.stage) (x.kept ∷ []))) same
+    let s : Session = resumed (kept (unopened n)) in
+    let same : step config s (entry place moment (Opened n ack)) ≡ record s { stage = Live; ack = ack } = cond-true (n == n) (record s { stage = Live; ack = ack }) s (eq-eqb n n refl) in
+    ap (λ (x : Session). found_as config m (filter (λ (k : Kept). is_live k.stage) (kept x ∷ []))) same
     ∙ (elim (n == m) as (λ b. option_map (subscriber_of config) (cond b (Some (opening n ack)) None) ≡ cond (b && true) (Some (newcomer config n ack)) None) [ true ↦ refl | false ↦ refl ])
 
 -- the session that the entry opens in the shard

@@ -14,12 +14,11 @@ use Rattle.bx_laws.specs.Readings.{opens_by, closes_by, EachSession}
 use Rattle.bx_entry.specs.Keeping.{Kept, kept, kept_step, StepsAlike}
 use Rattle.bx_shard.specs.Shards.{Setup, stands_in, shard_at}
 use Rattle.bx_shard.specs.Steps.{opening_by, ShardsStep, stepped}
-use Rattle.bx_laws.proofs.Counts.{all_in_step, unopened_in_step}
 use Rattle.bx_laws.proofs.Moves.{either}
 use Rattle.bx_laws.proofs.Stages.{Next, step_by_next}
 use Rattle.bx_laws.proofs.Dues.{numbered_below}
 use Rattle.bx_laws.proofs.Lives.{numbered}
-use Rattle.bx_laws.proofs.Kept.{steps_alike}
+use Rattle.bx_laws.proofs.Kept.{kept_steps}
 use Rattle.bx_shard.proofs.Elements.{numbers, opened_numbers, Adds, next_is, session_next, all_fresh, opens_above, Met, met}
 
 -- ---- sessions by their numbers
@@ -131,7 +130,7 @@ held_step config ys x (n ∷ ns) room d a =
     held_cons config after n ns
     ∙ ap (λ (u : Session). one_kept u (held_by config after ns)) (session_next config n ys x a)
     ∙ ap (one_kept (step config s e)) (held_step config ys x ns room d.1 a)
-    ∙ one_step config s e (held_by config es ns) (steps_alike config s e (all_in_step config (unopened n) es room (unopened_in_step config n))) (λ h. dead_step config s e own h)
+    ∙ one_step config s e (held_by config es ns) (kept_steps config s e) (λ h. dead_step config s e own h)
     ∙ sym (ap (each_step config e) (held_cons config es n ns))
 
 -- the session that the entry opens
@@ -148,7 +147,7 @@ opening_step setup shard ys x (Opened n ack) room a h =
     let one : session setup.config n (entries_of (registry setup.config (ys ++ x ∷ []))) ≡ step setup.config (unopened n) a.found.entry = session_next setup.config n ys x a ∙ ap (λ (s : Session). step setup.config s a.found.entry) begin in
     (elim (stands_in setup shard n) as (λ b. held_by setup.config (entries_of (registry setup.config (ys ++ x ∷ []))) (cond b (n ∷ []) []) ≡ each_step setup.config a.found.entry (cond b (kept (unopened n) ∷ []) [])) [
       | true ↦ held_cons config after n [] ∙ ap (λ (s : Session). one_kept s none) one
-          ∙ ap (λ (k : Kept). cond (is_live k.stage) (k ∷ none) none) (steps_alike setup.config (unopened n) a.found.entry (unopened_in_step setup.config n)).state
+          ∙ ap (λ (k : Kept). cond (is_live k.stage) (k ∷ none) none) (kept_steps setup.config (unopened n) a.found.entry).state
       | false ↦ refl
     ])
 opening_step setup shard ys x (Connect n client id acked hold) room a h = refl
