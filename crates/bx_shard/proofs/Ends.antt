@@ -16,7 +16,7 @@ use Rattle.bx_session.specs.Seats.{Seat}
 use Rattle.bx_session.specs.declared.answered.Delivery.TheVariants.{Overflowed}
 use Rattle.bx_session.specs.Steps.{answer_to, begun, connect_answer, connected, deadline_of, delivered, delivered_to, delivery, delivery_to, given_from, giving, idle, idle_answer, is_due, overflowed, released, settled, settled_answer, success, ticked, unheld, window_given}
 use Rattle.bx_message.specs.declared.reply.AckReply.TheVariants.{NoAck}
-use Rattle.bx_entry.specs.Keeping.{ack_given}
+use Rattle.bx_entry.specs.Sessions.{ack_given}
 use Rattle.bx_connects.specs.declared.connects.ConnectState.{ConnectState}
 use Rattle.bx_connects.specs.declared.connects.ConnectState.TheVariants.{Held, Filed}
 use Rattle.bx_connects.specs.Connects.{filed_as, filing, held_by}

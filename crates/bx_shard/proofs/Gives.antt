@@ -15,7 +15,7 @@ use Rattle.bx_entry.specs.declared.entry.Entry.{Entry}
 use Rattle.bx_entry.specs.declared.entry.Kind.{Kind}
 use Rattle.bx_entry.specs.declared.entry.Kind.TheVariants.{Opened, Connect, Subscribe, Unsubscribe, Publish, Disconnect, Refused, Tick}
 use Rattle.bx_entry.specs.Sessions.{Pending}
-use Rattle.bx_entry.specs.Keeping.{ack_given}
+use Rattle.bx_entry.specs.Sessions.{ack_given}
 use Rattle.bx_session.specs.declared.answered.Answered.{Answered}
 use Rattle.bx_session.specs.declared.answered.Delivery.{Delivery}
 use Rattle.bx_session.specs.declared.answered.Delivery.TheVariants.{Overflowed}

@@ -5,7 +5,7 @@ use Rattle.std.proofs.lemmas.Bool.{eqb-true, eq-eqb, ne_eqb, ltb-false, le-leb, 
 use Rattle.bx_names.specs.Globs.{Glob}
 use Rattle.bx_advice.specs.declared.config.Config.{Config}
 use Rattle.bx_advice.specs.declared.advice.Case.TheVariants.{Connected}
-use Rattle.bx_entry.specs.Keeping.{ack_given}
+use Rattle.bx_entry.specs.Sessions.{ack_given}
 use Rattle.bx_entry.specs.Sessions.{Pending}
 use Rattle.bx_session.specs.declared.answered.Answered.{Answered}
 use Rattle.bx_session.specs.Seats.{Seat}
