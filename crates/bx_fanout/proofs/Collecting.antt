@@ -12,7 +12,7 @@ use Rattle.bx_message.specs.declared.reply.Answer.{Answer}
 use Rattle.bx_shard.specs.Shards.{Setup, is_taken}
 use Rattle.bx_world.specs.Headline.{EachSlot, IsTicket}
 use Rattle.bx_world.specs.Worlds.{IsOutput, WorldState, after}
-use Rattle.bx_shard.specs.Held.{given_of}
+use Rattle.bx_shard.specs.Refining.{given_of}
 use Rattle.bx_world.specs.declared.step.Step.TheVariants.{Take}
 use Rattle.bx_world.specs.declared.step.StepOut.TheVariants.{Taken}
 use Rattle.bx_world.proofs.Files.{answers_can_be_taken}

@@ -15,7 +15,7 @@ use Rattle.bx_message.specs.declared.reply.Answer.{Answer}
 use Rattle.bx_shard.specs.Shards.{Setup, is_taken, sessions_in, shard_at}
 use Rattle.bx_world.specs.Headline.{IsTicket, slot_at}
 use Rattle.bx_world.specs.Worlds.{IsOutput, WorldState, after, filed_under}
-use Rattle.bx_shard.specs.Held.{given_of}
+use Rattle.bx_shard.specs.Refining.{given_of}
 use Rattle.bx_world.specs.declared.step.Step.TheVariants.{Take}
 use Rattle.bx_world.specs.declared.step.StepOut.TheVariants.{Taken}
 use Rattle.bx_fanout.specs.Desks.{Row, answered_at, waits_there, with_answer}

@@ -11,7 +11,7 @@ use Rattle.bx_shard.specs.Shards.{Setup}
 use Rattle.bx_world.specs.Headline.{EachSlot}
 use Rattle.bx_world.specs.Seen.{setup_of, world_of}
 use Rattle.bx_world.specs.Worlds.{WorldState}
-use Rattle.bx_shard.specs.Held.{given_of}
+use Rattle.bx_shard.specs.Refining.{given_of}
 use Rattle.bx_fanout.specs.Desks.{Row}
 use Rattle.bx_fanout.specs.Newests.{Collects, IsCollected, NextBy, NextReady, NoneTakenFrom, next_place}
 use Rattle.bx_fanout.specs.Parts.{Stands}

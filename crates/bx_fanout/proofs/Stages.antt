@@ -17,7 +17,7 @@ use Rattle.bx_message.specs.declared.reply.Answer.{Answer}
 use Rattle.bx_message.specs.declared.reply.Item.{Item}
 use Rattle.bx_shard.specs.Shards.{Setup, is_taken}
 use Rattle.bx_world.specs.Worlds.{WorldState}
-use Rattle.bx_shard.specs.Held.{given_of}
+use Rattle.bx_shard.specs.Refining.{given_of}
 use Rattle.bx_fanout.specs.Desks.{Row, items_of, outs_of, waits}
 use Rattle.bx_fanout.specs.Draining.{Drained, filled}
 use Rattle.bx_fanout.specs.Newests.{AreAnswers, IsCollected, IsWhole, NoneTakenFrom, given_at, next_place, response_of}

@@ -14,7 +14,7 @@ use Rattle.bx_message.specs.declared.reply.Item.{Item}
 use Rattle.bx_shard.specs.Shards.{Setup, is_taken}
 use Rattle.bx_world.specs.Headline.{EachSlot}
 use Rattle.bx_world.specs.Worlds.{WorldState}
-use Rattle.bx_shard.specs.Held.{given_of}
+use Rattle.bx_shard.specs.Refining.{given_of}
 
 -- every shard has applied the whole list
 abbrev pub IsLevel : WorldState → Type 0

@@ -14,7 +14,7 @@ use Rattle.bx_fanout.specs.declared.out.RoundFault.{RoundFault}
 use Rattle.bx_fanout.specs.declared.out.RoundFault.TheVariants.{Memory}
 use Rattle.bx_fanout.specs.declared.parts.Parts.{Parts}
 use Rattle.bx_shard.specs.Shards.{Setup}
-use Rattle.bx_world.specs.Seen.{ShardsHold, setup_of, world_of}
+use Rattle.bx_world.specs.Seen.{ShardsRefine, setup_of, world_of}
 
 -- these are the numbers of the inputs that were not whole before the last one, and its own
 pub record AreHeldBefore (config : Config) (inputs : List ReadInput) (numbers : List ℕ) : Type 0 where
@@ -44,7 +44,7 @@ module _ {P : Type 0} {g : Ghosts P} where
   pub record IsLevel (r : Parts P g) : Type 0 where
     pub list : (world_of r.world).list ≡ (taken_in (inputs_of r)).list
     pub level : (k n : ℕ) → slice_get (world_of r.world).applied k ≡ Some n → n ≡ length (world_of r.world).list
-    pub holds : ShardsHold r.world
+    pub holds : ShardsRefine r.world
 
   -- Outs were added behind those that were there. All that the runs have added is how the outs of the inputs dealt with begin.
   pub record Adds (old : Parts P g) (before after : List Out) (new : Parts P g) : Type 0 where

@@ -14,15 +14,15 @@ use Rattle.bx_entry.specs.declared.entry.Entry.{Entry}
 use Rattle.bx_entry.specs.declared.entry.Ticket.{Ticket}
 use Rattle.bx_connects.specs.Connects.{filed_answer}
 use Rattle.futures.specs.declared.task.waker.Waker.{Waker}
-use Rattle.bx_shard.specs.Held.{Holds, Took, given_of, swept_places}
+use Rattle.bx_shard.specs.Refining.{Refines, Took, given_of, swept_places}
 use Rattle.bx_shard.specs.Shards.{Setup}
 use Rattle.bx_shard.specs.States.{Applied, IsAsBefore, IsSound, State, Swept, Watched, WasShut, connect_in}
-use Rattle.bx_shard.proofs.Holding.{holds_still, holds_longer}
+use Rattle.bx_shard.proofs.Holding.{refines_still, refines_longer}
 use Rattle.bx_shard.proofs.Placed.{entry_placed}
-use Rattle.bx_shard.proofs.Onwards.{holds_onwards}
-use Rattle.bx_shard.proofs.Sweeping.{holds_swept}
-use Rattle.bx_shard.proofs.Taking.{holds_taken}
-use Rattle.bx_shard.proofs.Waking.{holds_watched, holds_shut}
+use Rattle.bx_shard.proofs.Onwards.{refines_onwards}
+use Rattle.bx_shard.proofs.Sweeping.{refines_swept}
+use Rattle.bx_shard.proofs.Taking.{refines_taken}
+use Rattle.bx_shard.proofs.Waking.{refines_watched, refines_shut}
 use Rattle.bx_window.specs.declared.law.Step.{Step}
 use Rattle.bx_window.specs.Steps.{list_of}
 use Rattle.bx_window.specs.Places.{IsOf, StandsIn}
@@ -35,8 +35,8 @@ use Rattle.bx_hub.proofs.Lists.{takes_same, got, list_length}
 abbrev pub held : List Step → List Step → List ℕ → State → Held
 held seen told taken state = record { seen = seen; told = told; taken = taken; state = state }
 
-holds_over : (setup : Setup) (xs ys : List Listed) (taken : List ℕ) (k n : ℕ) (s : State) → IsPrefix xs ys → Holds setup xs taken k n s → Holds setup ys taken k n s
-holds_over setup xs ys taken k n s p h = subst (λ (l : List Listed). Holds setup l taken k n s) p.1 (holds_longer setup xs p.0 taken k n s h)
+refines_over : (setup : Setup) (xs ys : List Listed) (taken : List ℕ) (k n : ℕ) (s : State) → IsPrefix xs ys → Refines setup xs taken k n s → Refines setup ys taken k n s
+refines_over setup xs ys taken k n s p h = subst (λ (l : List Listed). Refines setup l taken k n s) p.1 (refines_longer setup xs p.0 taken k n s h)
 
 -- the reader has seen more, and a longer note was brought
 pub stands_grown : (setup : Setup) (seen told seen' told' : List Step) (taken : List ℕ) (s : State) → Stands setup (held seen told taken s) → IsPrefix seen seen' → IsPrefix told told' → IsPrefix told' seen' → Stands setup (held seen' told' taken s)
@@ -45,7 +45,7 @@ stands_grown setup seen told seen' told' taken s h p q r =
     record {
       learnt = r;
       within = omega (arith, h.within, a);
-      holds = holds_over setup (list_of seen) (list_of seen') taken s.index s.place s (list_of-prefix seen seen' p) h.holds;
+      holds = refines_over setup (list_of seen) (list_of seen') taken s.index s.place s (list_of-prefix seen seen' p) h.holds;
     }
 
 -- the reader alone has seen more
@@ -66,11 +66,11 @@ entry_here config seen b place e right is = entry_placed config (list_of seen) p
 -- the shard is the same but for what is not seen of it
 pub stands_still : (setup : Setup) (seen told : List Step) (taken : List ℕ) (s t : State) → Stands setup (held seen told taken s) → IsAsBefore s t → IsSound t → Stands setup (held seen told taken t)
 stands_still setup seen told taken s t h b sound =
-    let on : Holds setup (list_of seen) taken s.index s.place t = holds_still setup (list_of seen) taken s.index s.place s t h.holds b sound in
+    let on : Refines setup (list_of seen) taken s.index s.place t = refines_still setup (list_of seen) taken s.index s.place s t h.holds b sound in
     record {
       learnt = h.learnt;
       within = omega (arith, h.within, b.place);
-      holds = subst (λ (i : ℕ). Holds setup (list_of seen) taken i t.place t) (sym b.index) (subst (λ (n : ℕ). Holds setup (list_of seen) taken s.index n t) (sym b.place) on);
+      holds = subst (λ (i : ℕ). Refines setup (list_of seen) taken i t.place t) (sym b.index) (subst (λ (n : ℕ). Refines setup (list_of seen) taken s.index n t) (sym b.place) on);
     }
 
 -- the next entry was applied
@@ -80,11 +80,11 @@ stands_stepped setup seen told taken s t b e room h lt right is applied sound =
     let there : slice_get (entries setup.config (list_of seen)) s.place ≡ Some e = got setup.config (list_of seen) b s.place e right.1 right.0 is in
     let here : e.place ≡ s.place = entry_placed setup.config (list_of seen) s.place e there in
     let next : t.place ≡ s.place + 1 = applied.place ∙ ap (λ n. n + 1) here in
-    let on : Holds setup (list_of seen) taken s.index (s.place + 1) t = holds_onwards setup (list_of seen) taken s.index s.place e s t room there h.holds applied sound in
+    let on : Refines setup (list_of seen) taken s.index (s.place + 1) t = refines_onwards setup (list_of seen) taken s.index s.place e s t room there h.holds applied sound in
     record {
       learnt = h.learnt;
       within = omega (arith, lt, next);
-      holds = subst (λ (i : ℕ). Holds setup (list_of seen) taken i t.place t) (sym applied.index) (subst (λ (n : ℕ). Holds setup (list_of seen) taken s.index n t) (sym next) on);
+      holds = subst (λ (i : ℕ). Refines setup (list_of seen) taken i t.place t) (sym applied.index) (subst (λ (n : ℕ). Refines setup (list_of seen) taken s.index n t) (sym next) on);
     }
 
 -- the next entry was applied, or there was no memory
@@ -97,11 +97,11 @@ stands_applied setup seen told taken s t b e (Err x) room h lt right is done ref
 pub stands_taken : (setup : Setup) (seen told : List Step) (taken : List ℕ) (place : ℕ) (s t : State) → 0 < setup.config.limits.batch → Stands setup (held seen told taken s) → IsSome (filed_answer (connect_in s place)) → Took place s t → IsSound t
     → Stands setup (held seen told (taken ++ place ∷ []) t)
 stands_taken setup seen told taken place s t room h some took sound =
-    let on : Holds setup (list_of seen) (taken ++ place ∷ []) s.index s.place t = holds_taken setup (list_of seen) taken s.index s.place place s t room h.holds some took sound in
+    let on : Refines setup (list_of seen) (taken ++ place ∷ []) s.index s.place t = refines_taken setup (list_of seen) taken s.index s.place place s t room h.holds some took sound in
     record {
       learnt = h.learnt;
       within = omega (arith, h.within, took.place_is);
-      holds = subst (λ (i : ℕ). Holds setup (list_of seen) (taken ++ place ∷ []) i t.place t) (sym took.index_is) (subst (λ (n : ℕ). Holds setup (list_of seen) (taken ++ place ∷ []) s.index n t) (sym took.place_is) on);
+      holds = subst (λ (i : ℕ). Refines setup (list_of seen) (taken ++ place ∷ []) i t.place t) (sym took.index_is) (subst (λ (n : ℕ). Refines setup (list_of seen) (taken ++ place ∷ []) s.index n t) (sym took.place_is) on);
     }
 
 -- what is filed is what one thread gives over the longest note that was brought
@@ -163,11 +163,11 @@ filed_first {F} i j (Some a) r given filed here at =
 pub stands_watched : (setup : Setup) (seen told : List Step) (taken : List ℕ) (place : ℕ) (waker : Waker) (s t : State) (b : Bool) → Stands setup (held seen told taken s) → (b ≡ true → Watched place waker s t) → (b ≡ false → t ≡ s) → IsSound t → Stands setup (held seen told taken t)
 stands_watched setup seen told taken place waker s t true h own other sound =
     let w = own refl in
-    let on : Holds setup (list_of seen) taken s.index s.place t = holds_watched setup (list_of seen) taken s.index s.place place waker s t h.holds w sound in
+    let on : Refines setup (list_of seen) taken s.index s.place t = refines_watched setup (list_of seen) taken s.index s.place place waker s t h.holds w sound in
     record {
       learnt = h.learnt;
       within = omega (arith, h.within, w.place);
-      holds = subst (λ (i : ℕ). Holds setup (list_of seen) taken i t.place t) (sym w.index) (subst (λ (n : ℕ). Holds setup (list_of seen) taken s.index n t) (sym w.place) on);
+      holds = subst (λ (i : ℕ). Refines setup (list_of seen) taken i t.place t) (sym w.index) (subst (λ (n : ℕ). Refines setup (list_of seen) taken s.index n t) (sym w.place) on);
     }
 stands_watched setup seen told taken place waker s t false h own other sound = subst (λ (u : State). Stands setup (held seen told taken u)) (sym (other refl)) h
 
@@ -177,20 +177,20 @@ watched_index place waker s t false own other = ap (λ (u : State). u.index) (ot
 
 pub stands_swept : (setup : Setup) (seen told : List Step) (taken : List ℕ) (before : ℕ) (s t : State) → Stands setup (held seen told taken s) → Swept before s t → IsSound t → Stands setup (held seen told (taken ++ swept_places before s) t)
 stands_swept setup seen told taken before s t h w sound =
-    let on : Holds setup (list_of seen) (taken ++ swept_places before s) s.index s.place t = holds_swept setup (list_of seen) taken s.index s.place before s t h.holds w sound in
+    let on : Refines setup (list_of seen) (taken ++ swept_places before s) s.index s.place t = refines_swept setup (list_of seen) taken s.index s.place before s t h.holds w sound in
     record {
       learnt = h.learnt;
       within = omega (arith, h.within, w.place);
-      holds = subst (λ (i : ℕ). Holds setup (list_of seen) (taken ++ swept_places before s) i t.place t) (sym w.index) (subst (λ (n : ℕ). Holds setup (list_of seen) (taken ++ swept_places before s) s.index n t) (sym w.place) on);
+      holds = subst (λ (i : ℕ). Refines setup (list_of seen) (taken ++ swept_places before s) i t.place t) (sym w.index) (subst (λ (n : ℕ). Refines setup (list_of seen) (taken ++ swept_places before s) s.index n t) (sym w.place) on);
     }
 
 pub stands_shut : (setup : Setup) (seen told : List Step) (taken : List ℕ) (s t : State) → Stands setup (held seen told taken s) → WasShut s t → IsSound t → Stands setup (held seen told taken t)
 stands_shut setup seen told taken s t h w sound =
-    let on : Holds setup (list_of seen) taken s.index s.place t = holds_shut setup (list_of seen) taken s.index s.place s t h.holds w sound in
+    let on : Refines setup (list_of seen) taken s.index s.place t = refines_shut setup (list_of seen) taken s.index s.place s t h.holds w sound in
     record {
       learnt = h.learnt;
       within = omega (arith, h.within, w.place);
-      holds = subst (λ (i : ℕ). Holds setup (list_of seen) taken i t.place t) (sym w.index) (subst (λ (n : ℕ). Holds setup (list_of seen) taken s.index n t) (sym w.place) on);
+      holds = subst (λ (i : ℕ). Refines setup (list_of seen) taken i t.place t) (sym w.index) (subst (λ (n : ℕ). Refines setup (list_of seen) taken s.index n t) (sym w.place) on);
     }
 
 -- ---- which shard it is
@@ -216,5 +216,5 @@ prefix_taken (x ∷ xs) (y ∷ ys) p =
 pub taken_prefix : {A : Type 0} (xs ys : List A) → take (length xs) ys ≡ xs → IsPrefix xs ys
 taken_prefix xs ys e = (drop (length xs) ys, ap (λ l. l ++ drop (length xs) ys) (sym e) ∙ take-append-drop (length xs) ys)
 
-pub stands_of : (setup : Setup) (seen told : List Step) (taken : List ℕ) (s : State) → take (length told) seen ≡ told → s.place ≤ length (list_of told) → Holds setup (list_of seen) taken s.index s.place s → Stands setup (held seen told taken s)
+pub stands_of : (setup : Setup) (seen told : List Step) (taken : List ℕ) (s : State) → take (length told) seen ≡ told → s.place ≤ length (list_of told) → Refines setup (list_of seen) taken s.index s.place s → Stands setup (held seen told taken s)
 stands_of setup seen told taken s learnt within holds = record { learnt = taken_prefix told seen learnt; within = within; holds = holds }

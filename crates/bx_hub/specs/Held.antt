@@ -4,7 +4,7 @@ use mathlib.Core.List.{IsPrefix}
 use Rattle.bx_advice.specs.declared.config.Config.{Config}
 use Rattle.bx_entry.specs.Answers.{answer}
 use Rattle.bx_message.specs.declared.reply.Answer.{Answer}
-use Rattle.bx_shard.specs.Held.{Holds, given_of}
+use Rattle.bx_shard.specs.Refining.{Refines, given_of}
 use Rattle.bx_shard.specs.Shards.{Setup}
 use Rattle.bx_shard.specs.Seen.{state}
 use Rattle.bx_connects.specs.Connects.{filed_answer}
@@ -28,7 +28,7 @@ pub record Held : Type 0 where
 pub record Stands (setup : Setup) (h : Held) : Type 0 where
   pub learnt : IsPrefix h.told h.seen
   pub within : h.state.place ≤ length (list_of h.told)
-  pub holds : Holds setup (list_of h.seen) h.taken h.state.index h.state.place h.state
+  pub holds : Refines setup (list_of h.seen) h.taken h.state.index h.state.place h.state
 
 -- what lies under a shard's lock, with the shard's state
 abbrev pub held_of : {J P : Type 0} {g : Naming.Ghosts J} {h : Placing.Ghosts P} → Desk J P g h → Held

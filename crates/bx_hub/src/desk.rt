@@ -3,7 +3,7 @@ ghost use Rattle.std.specs.Prelude.{◌≡◌, ◌+◌, ◌<◌, ◌≤◌, ◌�
 ghost use Rattle.std.specs.Arc.{arc_value};
 ghost use mathlib.Core.List.{IsPrefix};
 ghost use Rattle.bx_connects.specs.Connects.{count_filed_below, filed_answer, watched};
-ghost use Rattle.bx_shard.specs.Held.{Holds};
+ghost use Rattle.bx_shard.specs.Refining.{Refines};
 ghost use Rattle.bx_shard.specs.Props.{holds_props};
 ghost use Rattle.bx_shard.specs.Seen.{state};
 ghost use Rattle.bx_shard.specs.States.{Swept, WasShut, Watched, connect_in};
@@ -39,13 +39,13 @@ pub(crate) struct Desk<J: Naming, P: Placing> {
     activity: Activity,
     ghost learnt: { take (length note) reader ≡ note },
     ghost within: { shard.place ≤ length (list_of note) },
-    ghost holds: { Holds (placed_by J.config J.config.shards J.placing) (list_of reader) taken shard.index shard.place (state P.place_of shard) } by { Prim.hlevel holds_props },
+    ghost holds: { Refines (placed_by J.config J.config.shards J.placing) (list_of reader) taken shard.index shard.place (state P.place_of shard) } by { Prim.hlevel holds_props },
 }
 
 impl<J: Naming, P: Placing> Desk<J, P> {
     ghost use Rattle.bx_hub.specs.Held.{IsLevelWithout, Stands, answer_over, held_of};
     ghost use Rattle.bx_hub.specs.Watches.{IsBack};
-    ghost use Rattle.bx_shard.specs.Held.{swept_places};
+    ghost use Rattle.bx_shard.specs.Refining.{swept_places};
 
     /// The shard of this index, which has applied nothing.
     pub(crate) fn new(
@@ -328,7 +328,7 @@ impl<J: Naming, P: Placing> Desk<J, P> {
 struct SweptPlaces;
 
 impl<'a, P: Placing> Lists<(u64, &'a Shard<P>), u64> for SweptPlaces {
-    ghost use Rattle.bx_shard.specs.Held.{swept_places};
+    ghost use Rattle.bx_shard.specs.Refining.{swept_places};
     ghost use Rattle.bx_shard.specs.Seen.{state};
 
     ghost listed = { λ p. swept_places p.0 (state P.place_of p.1.now) };

@@ -1,5 +1,4 @@
 pub mod WindowLemmas
 pub mod SeatLemmas
 pub mod NumberLemmas
-pub mod ReachLemmas
 pub mod FilingLemmas

@@ -1,7 +1,7 @@
 //! Laws of windows and seats, for every configuration and whatever is kept of a session.
 ghost use Rattle.bx_session.specs.Agreement.{ClosesAlike, ConnectsAlike, DeliversAlike, MissesAlike, NumbersCount, NumbersStep, OpensAlike, OthersAlike, SubscribesAlike, TicksAlike, UnsubscribesAlike, WindowsAlike};
 ghost use Rattle.bx_session.specs.Filing.{FilesAlike};
-ghost use Rattle.bx_session.specs.Reaching.{ReachedAtFirst, ReachedCounts, ReachedLater, ReachedOnwards};
+ghost use Rattle.bx_session.specs.Reaching.{ReachedCounts};
 
 /// The words of windows agree with those of what is kept of a session.
 pub fn windows_alike()
@@ -68,22 +68,7 @@ pub fn numbers_count()
     ensures { NumbersCount }
 {}
 
-/// The bounds hold once a session is opened.
-pub fn reached_at_first()
-    ensures { ReachedAtFirst }
-{}
-
-/// They hold after each entry.
-pub fn reached_onwards()
-    ensures { ReachedOnwards }
-{}
-
-/// They hold at each later place.
-pub fn reached_later()
-    ensures { ReachedLater }
-{}
-
-/// Where they hold, another batch can be counted.
+/// Of a session that a list comes to another batch can be counted.
 pub fn reached_counts()
     ensures { ReachedCounts }
 {}

@@ -9,8 +9,8 @@ mod session;
 pub use answered::{Answered, Connection, Delivery};
 pub use laws::{
     closes_alike, connects_alike, delivers_alike, files_alike, misses_alike, numbers_count,
-    numbers_step, opens_alike, others_alike, reached_at_first, reached_counts, reached_later,
-    reached_onwards, subscribes_alike, ticks_alike, unsubscribes_alike, windows_alike,
+    numbers_step, opens_alike, others_alike, reached_counts, subscribes_alike, ticks_alike,
+    unsubscribes_alike, windows_alike,
 };
 pub use pending::PendingConnect;
 pub use session::Session;

@@ -15,8 +15,8 @@ use Rattle.bx_laws.proofs.Moves.{either}
 use Rattle.bx_connects.specs.declared.connects.ConnectState.{ConnectState}
 use Rattle.bx_connects.specs.declared.connects.ConnectState.TheVariants as states
 use Rattle.bx_connects.specs.Connects.{session_at}
-use Rattle.bx_shard.specs.Dealing.{AreAlike, AreApart, HoldersAreApart, HoldsDealt, IsDealt, among, connect_among, dealt_connect, session_among}
-use Rattle.bx_shard.specs.Held.{Holds, IsConnectOf, IsOwn, filed_with_place}
+use Rattle.bx_shard.specs.Dealing.{AreAlike, AreApart, HoldersAreApart, RefinesDealt, IsDealt, among, connect_among, dealt_connect, session_among}
+use Rattle.bx_shard.specs.Refining.{Refines, IsConnectOf, IsOwn, filed_with_place}
 use Rattle.bx_shard.specs.Shards.{Setup, is_taken, live_among, sessions_in, shard_at, stands_in}
 use Rattle.bx_shard.specs.States.{State, connect_in, session_in}
 use Rattle.bx_shard.specs.Subscribers.{Subscriber, subscriber_of}
@@ -198,7 +198,7 @@ untaken_standing setup list taken n p m only shard =
 
 -- ---- the shards before
 
-module _ (setup : Setup) (list : List Listed) (taken : List ℕ) (n : ℕ) (old : List State) (each : (k : ℕ) (s : State) → slice_get old k ≡ Some s → Holds setup list taken k n s) where
+module _ (setup : Setup) (list : List Listed) (taken : List ℕ) (n : ℕ) (old : List State) (each : (k : ℕ) (s : State) → slice_get old k ≡ Some s → Refines setup list taken k n s) where
   -- a session that a shard holds stands in it
   stands : (k : ℕ) (s : State) (m : ℕ) → slice_get old k ≡ Some s → is_some (session_in s m) ≡ true → setup.placing m setup.shards ≡ k
   stands k s m at here = by (stands_in setup k m) refl
@@ -280,7 +280,7 @@ abbrev dealt_setup : Setup → ℕ → (ℕ → ℕ → ℕ) → Setup
 dealt_setup setup count placing = record { config = setup.config; shards = count; placing = placing }
 
 module _ (setup : Setup) (list : List Listed) (taken : List ℕ) (n count : ℕ) (placing : ℕ → ℕ → ℕ) (old : List State) (many : length old ≡ setup.shards) (below : (m : ℕ) → setup.placing m setup.shards < setup.shards)
-    (each : (k : ℕ) (s : State) → slice_get old k ≡ Some s → Holds setup list taken k n s) (k : ℕ) (t : State) (d : IsDealt placing count old k t) where
+    (each : (k : ℕ) (s : State) → slice_get old k ≡ Some s → Refines setup list taken k n s) (k : ℕ) (t : State) (d : IsDealt placing count old k t) where
   -- the shard where the session stood
   home : (m : ℕ) → There old (setup.placing m setup.shards)
   home m = there old (setup.placing m setup.shards) (omega (arith, below m, many))
@@ -365,7 +365,7 @@ module _ (setup : Setup) (list : List Listed) (taken : List ℕ) (n count : ℕ)
           let h = has_one (λ s. connect_in s p) old state e in
           record { waits = ((each h.index h.shard h.there).owned p m (ap session_at h.has ∙ known)).waits; stands = placed }
 
-  holds_one : Holds (dealt_setup setup count placing) list taken k n t
+  holds_one : Refines (dealt_setup setup count placing) list taken k n t
   holds_one =
       let s0 = home 0 in
       let h = each (setup.placing 0 setup.shards) (home 0).shard (home 0).at in
@@ -382,5 +382,5 @@ module _ (setup : Setup) (list : List Listed) (taken : List ℕ) (n count : ℕ)
         owned = owned_dealt;
       }
 
-pub holds_dealt : HoldsDealt
-holds_dealt setup list taken n count placing old new room many below each dealt k s at = holds_one setup list taken n count placing old many below each k s (dealt.each k s at)
+pub refines_dealt : RefinesDealt
+refines_dealt setup list taken n count placing old new room many below each dealt k s at = holds_one setup list taken n count placing old many below each k s (dealt.each k s at)

@@ -16,7 +16,7 @@ use Rattle.bx_laws.proofs.Moves.{either}
 use Rattle.bx_session.specs.declared.answered.Answered.{Answered}
 use Rattle.bx_session.specs.Agreement.{answered_of}
 use Rattle.bx_session.specs.Filing.{filed_as, filed_at}
-use Rattle.bx_shard.specs.Held.{placed}
+use Rattle.bx_shard.specs.Refining.{placed}
 use Rattle.bx_shard.proofs.Taking.{find_of}
 
 -- ---- numbers

@@ -14,7 +14,7 @@ use Rattle.bx_entry.specs.Answers.{PlacedAnswer, answer_of, filed_for, answer_by
 use Rattle.bx_connects.specs.Connects.{filed_answer, taken_from}
 use Rattle.bx_connects.specs.declared.connects.ConnectState.{ConnectState}
 use Rattle.bx_connects.specs.declared.connects.ConnectState.TheVariants as states
-use Rattle.bx_shard.specs.Held.{FiledIsGiven, Holds, Took, filed_with_place, given_of}
+use Rattle.bx_shard.specs.Refining.{FiledIsGiven, Refines, Took, filed_with_place, given_of}
 use Rattle.bx_shard.specs.Shards.{Setup, shard_at, sessions_in, stands_in}
 use Rattle.bx_shard.specs.States.{State, IsAsBefore, connect_in}
 use Rattle.bx_laws.proofs.Moves.{either}

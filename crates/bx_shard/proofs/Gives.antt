@@ -25,7 +25,7 @@ use Rattle.bx_session.specs.Steps.{answer_to, begun, connect_answer, connection,
 use Rattle.bx_tree.specs.Patterns.{patterns_of}
 use Rattle.bx_connects.specs.declared.connects.ConnectState.{ConnectState}
 use Rattle.bx_connects.specs.declared.connects.ConnectState.TheVariants as states
-use Rattle.bx_shard.specs.Held.{filed_with_place}
+use Rattle.bx_shard.specs.Refining.{filed_with_place}
 use Rattle.bx_shard.specs.Sessions.{ends_for, held_until, holds_until, seat_in}
 use Rattle.bx_shard.specs.States.{IsGiven, IsSound, State, connect_in, session_in}
 use Rattle.bx_shard.specs.Subscribers.{Subscriber, answers, hears}

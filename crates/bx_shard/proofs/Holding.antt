@@ -10,14 +10,14 @@ use Rattle.bx_entry.specs.Sessions.{Session, Filed, session}
 use Rattle.bx_laws.proofs.Lists.{judged_length, judged_more}
 use Rattle.bx_connects.specs.Connects.{session_at}
 use Rattle.bx_shard.specs.Shards.{Setup, filed_among, live_among, stands_in}
-use Rattle.bx_shard.specs.Held.{HoldsAtFirst, HoldsLonger, HoldsStill, IsConnectOf, filed_with_place}
+use Rattle.bx_shard.specs.Refining.{RefinesAtFirst, RefinesLonger, RefinesStill, IsConnectOf, filed_with_place}
 use Rattle.bx_shard.specs.Subscribers.{subscriber_of}
 use Rattle.bx_shard.proofs.Taking.{waits_later}
 
 -- ---- at first, and after a call that changed nothing
 
-pub holds_at_first : HoldsAtFirst
-holds_at_first setup shard s setup_is index_is place_is sound none_here none_known = record {
+pub refines_at_first : RefinesAtFirst
+refines_at_first setup shard s setup_is index_is place_is sound none_here none_known = record {
   setup_is = setup_is;
   index_is = index_is;
   place_is = place_is;
@@ -30,8 +30,8 @@ holds_at_first setup shard s setup_is index_is place_is sound none_here none_kno
   owned = λ p m k. absurd (let no : None ≡ Some m = sym (ap session_at (none_known p)) ∙ k in cc);
 }
 
-pub holds_still : HoldsStill
-holds_still setup list taken shard n old new h b sound = record {
+pub refines_still : RefinesStill
+refines_still setup list taken shard n old new h b sound = record {
   setup_is = b.setup ∙ h.setup_is;
   index_is = b.index ∙ h.index_is;
   place_is = b.place ∙ h.place_is;
@@ -81,8 +81,8 @@ connect_before setup list more shard p h c = record {
   stands = c.stands;
 }
 
-pub holds_longer : HoldsLonger
-holds_longer setup list more taken shard n s h =
+pub refines_longer : RefinesLonger
+refines_longer setup list more taken shard n s h =
     let front : take n list ≡ take n (list ++ more) = sym (take-append-le n list more h.within) in
     record {
       setup_is = h.setup_is;

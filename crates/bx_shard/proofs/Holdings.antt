@@ -21,7 +21,7 @@ use Rattle.bx_laws.proofs.Kept.{kept_in_bounds}
 use Rattle.bx_session.specs.Reaching.{was_opened}
 use Rattle.bx_session.proofs.NumberLemmas.{numbers_count}
 use Rattle.bx_shard.specs.Shards.{Setup, shard_at, stands_in}
-use Rattle.bx_shard.specs.Holdings.{ReachedLive, HoldsReached, NumbersAscend, OpenedIsFresh}
+use Rattle.bx_shard.specs.Holdings.{ReachedLive, SessionsReached, NumbersAscend, OpenedIsFresh}
 use Rattle.bx_shard.proofs.Elements.{numbers, opens_above, Met, met}
 use Rattle.bx_shard.proofs.Stepping.{held_by, held_cons, numbers_in, held_at, EachNumber, numbers_below, run_number}
 
@@ -60,7 +60,7 @@ session_reached config number place es room many live =
       live = stage;
     }
 
-pub holds_reached : HoldsReached
+pub holds_reached : SessionsReached
 holds_reached setup list taken shard n room =
     let config : Config = setup.config in
     let es : List Entry = entries_of (registry setup.config (take n list)) in

@@ -25,7 +25,7 @@ use Rattle.bx_connects.specs.declared.connects.ConnectState.{ConnectState}
 use Rattle.bx_connects.specs.declared.connects.ConnectState.TheVariants as states
 use Rattle.bx_connects.specs.Connects.{held_by, session_at}
 use Rattle.bx_shard.specs.Effects.{holding}
-use Rattle.bx_shard.specs.Held.{Holds, HoldsOnwards, IsConnectOf, IsOwn, filed_with_place, placed}
+use Rattle.bx_shard.specs.Refining.{Refines, RefinesOnwards, IsConnectOf, IsOwn, filed_with_place, placed}
 use Rattle.bx_shard.specs.Holdings.{ReachedLive}
 use Rattle.bx_shard.specs.Shards.{Setup, is_taken, sessions_in, shard_at, stands_in}
 use Rattle.bx_shard.specs.States.{Applied, IsGiven, IsSound, State, begun, connect_in, let_go, opened_by, session_after, session_in}
@@ -248,13 +248,13 @@ begun_none s e (Tick numbers) p none other = let_go_none numbers (connect_in s p
 record Before (list : List Listed) (taken : List ℕ) (n : ℕ) (e : Entry) (s : State) : Type 0 where
   room : 0 < s.setup.config.limits.batch
   there : slice_get (entries s.setup.config list) n ≡ Some e
-  holds : Holds s.setup list taken s.index n s
+  holds : Refines s.setup list taken s.index n s
   place : e.place ≡ n
   reached : AllReached s e (shard_at s.setup list taken s.index n).sessions
   apart : Apart (numbers_of (shard_at s.setup list taken s.index n).sessions)
   fresh : connect_in s e.place ≡ None
 
-before : (list : List Listed) (taken : List ℕ) (n : ℕ) (e : Entry) (s : State) → 0 < s.setup.config.limits.batch → slice_get (entries s.setup.config list) n ≡ Some e → Holds s.setup list taken s.index n s → Before list taken n e s
+before : (list : List Listed) (taken : List ℕ) (n : ℕ) (e : Entry) (s : State) → 0 < s.setup.config.limits.batch → slice_get (entries s.setup.config list) n ≡ Some e → Refines s.setup list taken s.index n s → Before list taken n e s
 before list taken n e s room there h =
     let place : e.place ≡ n = entry_placed s.setup.config list n e there in
     let ks : List Kept = (shard_at s.setup list taken s.index n).sessions in
@@ -308,7 +308,7 @@ none_answer (Some f) h = absurd (let no : Some (answer_of f) ≡ None = h in cc)
 
 answered : (list : List Listed) (taken : List ℕ) (n : ℕ) (e : Entry) (s : State) (p : ℕ) (f : Filed) → Before list taken n e s → given_at list taken n e s p ≡ Some f → Answers list taken n e s p f
 answered list taken n e s p f b some =
-    let h : Holds s.setup list taken s.index n s = b.holds in
+    let h : Refines s.setup list taken s.index n s = b.holds in
     let g : Gave s e p f = gave s e (shard_at s.setup list taken s.index n).sessions p f b.reached b.apart h.sessions some in
     let u : Unanswered e.place p (connect_in s p) =
     subst (λ (q : ℕ). Unanswered e.place q (connect_in s q)) g.connect (given_unanswered s e g.number (answered_of f) h.sound (h.place_is ∙ sym b.place) g.given) in
@@ -379,7 +379,7 @@ shorter_by_one list n x e =
     let l : length (take (n + 1) list) ≡ length (take n list) + 1 = ap length e ∙ length_push (take n list) x in
     omega (arith, l, length-take (n + 1) list, length-take n list)
 
-onwards : (list : List Listed) (taken : List ℕ) (n : ℕ) (e : Entry) (s new : State) → Before list taken n e s → Applied s e new → IsSound new → Holds s.setup list taken s.index (n + 1) new
+onwards : (list : List Listed) (taken : List ℕ) (n : ℕ) (e : Entry) (s new : State) → Before list taken n e s → Applied s e new → IsSound new → Refines s.setup list taken s.index (n + 1) new
 onwards list taken n e s new b a sound =
     let m : Met s.setup.config list n e = met s.setup.config list n e b.there in
     let ks : List Kept = (shard_at s.setup list taken s.index n).sessions in
@@ -401,8 +401,8 @@ onwards list taken n e s new b a sound =
 abbrev with_setup : Setup → ℕ → State → State
 with_setup setup shard s = record { setup = setup; index = shard; place = s.place; shut = s.shut; sessions = s.sessions }
 
-pub holds_onwards : HoldsOnwards
-holds_onwards setup list taken shard n e old new room there h a sound =
+pub refines_onwards : RefinesOnwards
+refines_onwards setup list taken shard n e old new room there h a sound =
     let s : State = with_setup setup shard old in
     let same : old ≡ with_setup setup shard old = ap (λ (x : Setup). with_setup x old.index old) h.setup_is ∙ ap (λ (i : ℕ). with_setup setup i old) h.index_is in
-    onwards list taken n e s new (before list taken n e s room there (subst (Holds setup list taken shard n) same h)) (subst (λ (x : State). Applied x e new) same a) sound
+    onwards list taken n e s new (before list taken n e s room there (subst (Refines setup list taken shard n) same h)) (subst (λ (x : State). Applied x e new) same a) sound

@@ -9,8 +9,8 @@ use Rattle.bx_entry.specs.declared.entry.Entry.{Entry}
 use Rattle.bx_entry.specs.declared.entry.Kind.TheVariants.{Opened}
 use Rattle.bx_session.specs.Seats.{Seat}
 use Rattle.bx_session.specs.Steps.{Countable}
-use Rattle.bx_session.proofs.ReachLemmas.{reached_counts}
-use Rattle.bx_shard.specs.Held.{Holds}
+use Rattle.bx_session.proofs.NumberLemmas.{reached_counts}
+use Rattle.bx_shard.specs.Refining.{Refines}
 use Rattle.bx_shard.specs.Holdings.{ReachedLive}
 use Rattle.bx_shard.specs.Sessions.{AreCountable, seat_in}
 use Rattle.bx_shard.specs.Shards.{Setup, shard_at}
@@ -20,7 +20,7 @@ use Rattle.bx_shard.proofs.Finding.{find_kept, found_each}
 use Rattle.bx_shard.proofs.Holdings.{holds_reached, opened_is_fresh}
 
 -- another batch of each session can be counted, as long as the list can grow
-pub holds_countable : (setup : Setup) (list : List Listed) (taken : List ℕ) (shard n : ℕ) (s : State) → 0 < setup.config.limits.batch → Holds setup list taken shard n s → n ≤ greatest_length → AreCountable s.sessions
+pub holds_countable : (setup : Setup) (list : List Listed) (taken : List ℕ) (shard n : ℕ) (s : State) → 0 < setup.config.limits.batch → Refines setup list taken shard n s → n ≤ greatest_length → AreCountable s.sessions
 holds_countable setup list taken shard n s room h few number =
     let sub : Kept → Subscriber = subscriber_of setup.config in
     let ks : List Kept = (shard_at setup list taken shard n).sessions in
@@ -32,7 +32,7 @@ holds_countable setup list taken shard n s room h few number =
     subst Q (sym (ap seen (h.sessions number)) ∙ same (seat_in s.sessions number) _ (λ x. refl)) ((elim (find_kept number ks) as P [ None ↦ λ f. tt | Some k ↦ at_some k ]) refl)
 
 -- a session that the next entry opens isn't there
-pub holds_unopened : (setup : Setup) (list : List Listed) (taken : List ℕ) (shard n number : ℕ) (ack : Bool) (e : Entry) (s : State) → Holds setup list taken shard n s →
+pub holds_unopened : (setup : Setup) (list : List Listed) (taken : List ℕ) (shard n number : ℕ) (ack : Bool) (e : Entry) (s : State) → Refines setup list taken shard n s →
     slice_get (entries setup.config list) n ≡ Some e → e.kind ≡ Opened number ack → session_in s number ≡ None
 holds_unopened setup list taken shard n number ack e s h there kind =
     let sub : Kept → Subscriber = subscriber_of setup.config in

@@ -17,7 +17,7 @@ use Rattle.bx_connects.specs.declared.held.HeldConnect.{HeldConnect}
 use Rattle.bx_connects.specs.Connects.{filed_answer, filing_at, hold_at, session_at, state_by, unswept}
 use Rattle.bx_shard.specs.Shards.{is_taken, sessions_in, shard_at}
 use Rattle.bx_shard.specs.States.{State, connect_in}
-use Rattle.bx_shard.specs.Held.{HoldsBesideSwept, HoldsSwept, IsConnectOf, filed_with_place, is_swept, swept_places}
+use Rattle.bx_shard.specs.Refining.{RefinesBesideSwept, RefinesSwept, IsConnectOf, filed_with_place, is_swept, swept_places}
 use Rattle.bx_shard.proofs.Taking.{connect_of_filed, connect_of_known, filed_below, find_of, none_taken, one_shard, untaken}
 use Rattle.bx_shard.proofs.Untaken.{find_untaken}
 use Rattle.bx_shard.proofs.Keeps.{unswept_session}
@@ -88,8 +88,8 @@ same_found taken places p fs h =
 
 -- ---- the shard from which they were dropped
 
-pub holds_swept : HoldsSwept
-holds_swept setup list taken shard n before old new h swept sound =
+pub refines_swept : RefinesSwept
+refines_swept setup list taken shard n before old new h swept sound =
     let places : List ℕ = swept_places before old in
     let more : List ℕ = taken ++ swept_places before old in
     let fs : List Filed = flat_map (λ (s : Session). s.answers) (sessions_in setup list shard n) in
@@ -117,8 +117,8 @@ holds_swept setup list taken shard n before old new h swept sound =
 
 -- ---- the others
 
-pub holds_beside_swept : HoldsBesideSwept
-holds_beside_swept setup list taken shard n before s other m beside h apart g =
+pub refines_beside_swept : RefinesBesideSwept
+refines_beside_swept setup list taken shard n before s other m beside h apart g =
     let places : List ℕ = swept_places before s in
     let more : List ℕ = taken ++ swept_places before s in
     let fs : List Filed = flat_map (λ (t : Session). t.answers) (sessions_in setup list other m) in

@@ -17,7 +17,7 @@ use Rattle.bx_connects.specs.declared.connects.ConnectState.TheVariants as state
 use Rattle.bx_connects.specs.Connects.{filed_answer, session_at, taken_from}
 use Rattle.bx_shard.specs.Shards.{Setup, is_taken, sessions_in, shard_at, stands_in}
 use Rattle.bx_shard.specs.States.{IsSound, State, connect_in}
-use Rattle.bx_shard.specs.Held.{Holds, HoldsBeside, HoldsTaken, IsConnectOf, IsOwn, filed_with_place}
+use Rattle.bx_shard.specs.Refining.{Refines, RefinesBeside, RefinesTaken, IsConnectOf, IsOwn, filed_with_place}
 use Rattle.bx_shard.proofs.Untaken.{find_untaken, found_kept}
 use Rattle.bx_shard.proofs.Waits.{WaitsAt, answered_waits}
 
@@ -132,7 +132,7 @@ one_shard setup list a b p c d =
     let same : c.session ≡ d.session = cc in
     sym (eqb-true (setup.placing c.session setup.shards) a c.stands) ∙ ap (λ (m : ℕ). setup.placing m setup.shards) same ∙ eqb-true (setup.placing d.session setup.shards) b d.stands
 
-pub connect_of_known : (setup : Setup) (list : List Listed) (taken : List ℕ) (shard n p : ℕ) (s : State) → Holds setup list taken shard n s → IsSome (filed_answer (connect_in s p)) → IsConnectOf setup list shard p
+pub connect_of_known : (setup : Setup) (list : List Listed) (taken : List ℕ) (shard n p : ℕ) (s : State) → Refines setup list taken shard n s → IsSome (filed_answer (connect_in s p)) → IsConnectOf setup list shard p
 connect_of_known setup list taken shard n p s h some =
     let P : Option Filed → Type 0 = λ u. find_of p (shard_at setup list taken shard n).filed ≡ u → filed_with_place (connect_in s p) ≡ option_map answer_of u → IsConnectOf setup list shard p in
     let at_none : P None = λ a b. absurd (none_filed (connect_in s p) some b) in
@@ -141,8 +141,8 @@ connect_of_known setup list taken shard n p s h some =
 
 -- ---- the shard from which it was taken
 
-pub holds_taken : HoldsTaken
-holds_taken setup list taken shard n place old new room h some took sound =
+pub refines_taken : RefinesTaken
+refines_taken setup list taken shard n place old new room h some took sound =
     let more : List ℕ = taken ++ place ∷ [] in
     let fs : List Filed = flat_map (λ (s : Session). s.answers) (sessions_in setup list shard n) in
     let below : place < n = let l : place < old.place = filed_below old place h.sound some in omega (arith, l, h.place_is) in
@@ -173,8 +173,8 @@ holds_taken setup list taken shard n place old new room h some took sound =
 
 -- ---- the others
 
-pub holds_beside : HoldsBeside
-holds_beside setup list taken shard n place s other m beside room h some apart g =
+pub refines_beside : RefinesBeside
+refines_beside setup list taken shard n place s other m beside room h some apart g =
     let more : List ℕ = taken ++ place ∷ [] in
     let fs : List Filed = flat_map (λ (s : Session). s.answers) (sessions_in setup list other m) in
     let below : place < length list = let l : place < s.place = filed_below s place h.sound some in omega (arith, l, h.place_is, h.within) in

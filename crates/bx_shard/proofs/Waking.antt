@@ -8,7 +8,7 @@ use Rattle.bx_connects.specs.declared.connects.ConnectState.TheVariants as state
 use Rattle.bx_connects.specs.Connects.{session_at, unwatched, with_waker}
 use Rattle.bx_shard.specs.Sessions.{held_until}
 use Rattle.bx_shard.specs.States.{connect_in}
-use Rattle.bx_shard.specs.Held.{HoldsShut, HoldsWatched, filed_with_place}
+use Rattle.bx_shard.specs.Refining.{RefinesShut, RefinesWatched, filed_with_place}
 use Rattle.bx_shard.proofs.Keeps.{unwatched_session, watched_session}
 
 -- a waker changes no answer that is filed
@@ -51,8 +51,8 @@ at_each P shut connect waker old new stored same turned p =
     let is : new p ≡ old p = stored p ∙ cond-false (nat_eq connect p) (turn (old connect)) (old p) e in
     subst (P (old p)) (sym is) (same (old p)))
 
-pub holds_watched : HoldsWatched
-holds_watched setup list taken shard n connect waker old new h w sound = record {
+pub refines_watched : RefinesWatched
+refines_watched setup list taken shard n connect waker old new h w sound = record {
   setup_is = w.setup ∙ h.setup_is;
   index_is = w.index ∙ h.index_is;
   place_is = w.place ∙ h.place_is;
@@ -65,8 +65,8 @@ holds_watched setup list taken shard n connect waker old new h w sound = record 
   owned = λ p m k. h.owned p m (sym (at_each (λ o q. session_at q ≡ session_at o) old.shut connect waker (connect_in old) (connect_in new) w.connects (λ o. refl) (λ o. watched_session old.shut waker o) p) ∙ k);
 }
 
-pub holds_shut : HoldsShut
-holds_shut setup list taken shard n old new h w sound = record {
+pub refines_shut : RefinesShut
+refines_shut setup list taken shard n old new h w sound = record {
   setup_is = w.setup ∙ h.setup_is;
   index_is = w.index ∙ h.index_is;
   place_is = w.place ∙ h.place_is;

@@ -4,7 +4,7 @@ use Rattle.std.specs.Option.{option_or}
 use Rattle.bx_entry.specs.Listing.{Listed}
 use Rattle.bx_connects.specs.declared.connects.ConnectState.{ConnectState}
 use Rattle.bx_connects.specs.declared.connects.ConnectState.TheVariants.{Held, Filed}
-use Rattle.bx_shard.specs.Held.{Holds}
+use Rattle.bx_shard.specs.Refining.{Refines}
 use Rattle.bx_shard.specs.Shards.{Setup}
 use Rattle.bx_shard.specs.States.{IsSound, State, connect_in, session_in}
 use Rattle.bx_shard.specs.Subscribers.{Subscriber}
@@ -37,7 +37,7 @@ AreApart shards = (i j : ℕ) (s t : State) → i ≢ j → slice_get shards i �
 
 -- shards that hold what the definition's shards hold are alike and apart
 abbrev pub HoldersAreApart : Type 0
-HoldersAreApart = (setup : Setup) (list : List Listed) (taken : List ℕ) (n : ℕ) (shards : List State) → ((k : ℕ) (s : State) → slice_get shards k ≡ Some s → Holds setup list taken k n s) →
+HoldersAreApart = (setup : Setup) (list : List Listed) (taken : List ℕ) (n : ℕ) (shards : List State) → ((k : ℕ) (s : State) → slice_get shards k ≡ Some s → Refines setup list taken k n s) →
     AreAlike shards × AreApart shards
 
 -- ---- after they were dealt anew
@@ -65,7 +65,7 @@ pub record Dealt (placing : ℕ → ℕ → ℕ) (count : ℕ) (old new : List S
 
 -- Where all shards of a server held what the definition's shards hold, those that were dealt anew hold what the definition's hold with the other number of
 -- shards and the other placing.
-abbrev pub HoldsDealt : Type 0
-HoldsDealt = (setup : Setup) (list : List Listed) (taken : List ℕ) (n count : ℕ) (placing : ℕ → ℕ → ℕ) (old new : List State) → 0 < setup.config.limits.batch →
-    length old ≡ setup.shards → ((m : ℕ) → setup.placing m setup.shards < setup.shards) → ((k : ℕ) (s : State) → slice_get old k ≡ Some s → Holds setup list taken k n s) →
-    Dealt placing count old new → (k : ℕ) (s : State) → slice_get new k ≡ Some s → Holds (record { config = setup.config; shards = count; placing = placing }) list taken k n s
+abbrev pub RefinesDealt : Type 0
+RefinesDealt = (setup : Setup) (list : List Listed) (taken : List ℕ) (n count : ℕ) (placing : ℕ → ℕ → ℕ) (old new : List State) → 0 < setup.config.limits.batch →
+    length old ≡ setup.shards → ((m : ℕ) → setup.placing m setup.shards < setup.shards) → ((k : ℕ) (s : State) → slice_get old k ≡ Some s → Refines setup list taken k n s) →
+    Dealt placing count old new → (k : ℕ) (s : State) → slice_get new k ≡ Some s → Refines (record { config = setup.config; shards = count; placing = placing }) list taken k n s

@@ -18,8 +18,8 @@ pub record ReachedLive (config : Config) (place : ℕ) (k : Kept) : Type 0 where
   pub live : k.stage ≡ Live
 
 -- so it is of every session that a shard holds, whatever number of entries it has applied
-abbrev pub HoldsReached : Type 0
-HoldsReached = (setup : Setup) (list : List Listed) (taken : List ℕ) (shard n : ℕ) → 0 < setup.config.limits.batch → All (ReachedLive setup.config n) (shard_at setup list taken shard n).sessions
+abbrev pub SessionsReached : Type 0
+SessionsReached = (setup : Setup) (list : List Listed) (taken : List ℕ) (shard n : ℕ) → 0 < setup.config.limits.batch → All (ReachedLive setup.config n) (shard_at setup list taken shard n).sessions
 
 -- each number is below the next, so no two sessions have the same
 abbrev pub NumbersAscend : Type 0

@@ -2,7 +2,7 @@ pub mod Dealing
 pub mod Effects
 pub mod Following
 pub mod Heirs
-pub mod Held
+pub mod Refining
 pub mod Holdings
 pub mod Making
 pub mod Props

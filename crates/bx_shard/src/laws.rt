@@ -1,7 +1,7 @@
 //! Laws of what a shard holds, for every configuration, every placing and every list.
-ghost use Rattle.bx_shard.specs.Dealing.{HoldersAreApart, HoldsDealt};
-ghost use Rattle.bx_shard.specs.Held.{FiledIsGiven, HoldsAtFirst, HoldsBeside, HoldsBesideSwept, HoldsLonger, HoldsOnwards, HoldsShut, HoldsStill, HoldsSwept, HoldsTaken, HoldsWatched};
-ghost use Rattle.bx_shard.specs.Holdings.{HoldsReached, NumbersAscend, OpenedIsFresh};
+ghost use Rattle.bx_shard.specs.Dealing.{HoldersAreApart, RefinesDealt};
+ghost use Rattle.bx_shard.specs.Refining.{FiledIsGiven, RefinesAtFirst, RefinesBeside, RefinesBesideSwept, RefinesLonger, RefinesOnwards, RefinesShut, RefinesStill, RefinesSwept, RefinesTaken, RefinesWatched};
+ghost use Rattle.bx_shard.specs.Holdings.{SessionsReached, NumbersAscend, OpenedIsFresh};
 ghost use Rattle.bx_shard.specs.Steps.{ShardsFile, ShardsStep};
 
 /// The live sessions of a shard after one more entry come of those before it and of that entry alone.
@@ -16,7 +16,7 @@ pub fn shards_file()
 
 /// Every session that a shard holds is live, and its calls can be made at the place that comes next.
 pub fn sessions_are_reached()
-    ensures { HoldsReached }
+    ensures { SessionsReached }
 {}
 
 /// The sessions of a shard stand in the order of their numbers, each number once.
@@ -30,53 +30,53 @@ pub fn opened_is_fresh()
 {}
 
 /// A shard that has applied nothing holds what the definition's shard holds at first.
-pub fn holds_at_first()
-    ensures { HoldsAtFirst }
+pub fn refines_at_first()
+    ensures { RefinesAtFirst }
 {}
 
 /// A call that left a shard as it was leaves what it holds.
-pub fn holds_still()
-    ensures { HoldsStill }
+pub fn refines_still()
+    ensures { RefinesStill }
 {}
 
 /// What a shard holds, it holds over every longer list.
-pub fn holds_longer()
-    ensures { HoldsLonger }
+pub fn refines_longer()
+    ensures { RefinesLonger }
 {}
 
 /// A shard that has applied an entry of the list holds what the definition's shard holds after it.
-pub fn holds_onwards()
-    ensures { HoldsOnwards }
+pub fn refines_onwards()
+    ensures { RefinesOnwards }
 {}
 
 /// A shard from which an answer was taken holds what the definition's shard holds then.
-pub fn holds_taken()
-    ensures { HoldsTaken }
+pub fn refines_taken()
+    ensures { RefinesTaken }
 {}
 
 /// A shard holds the same after an answer was taken from another.
-pub fn holds_beside()
-    ensures { HoldsBeside }
+pub fn refines_beside()
+    ensures { RefinesBeside }
 {}
 
 /// A shard to which a waker was brought holds what it held.
-pub fn holds_watched()
-    ensures { HoldsWatched }
+pub fn refines_watched()
+    ensures { RefinesWatched }
 {}
 
 /// A shard that was shut holds what it held.
-pub fn holds_shut()
-    ensures { HoldsShut }
+pub fn refines_shut()
+    ensures { RefinesShut }
 {}
 
 /// A shard from which a sweep dropped answers holds what the definition's shard holds where they were taken.
-pub fn holds_swept()
-    ensures { HoldsSwept }
+pub fn refines_swept()
+    ensures { RefinesSwept }
 {}
 
 /// A shard holds the same after a sweep dropped answers from another.
-pub fn holds_beside_swept()
-    ensures { HoldsBesideSwept }
+pub fn refines_beside_swept()
+    ensures { RefinesBesideSwept }
 {}
 
 /// Shards that hold what the definition's shards hold are alike, and no session or connect is in two of them.
@@ -85,8 +85,8 @@ pub fn holders_are_apart()
 {}
 
 /// Shards that were dealt anew hold what the definition's shards hold with the other number of shards and the other placing.
-pub fn holds_dealt()
-    ensures { HoldsDealt }
+pub fn refines_dealt()
+    ensures { RefinesDealt }
 {}
 
 /// What a shard has filed for a connect is what one thread gives it over the entries that the shard has applied.

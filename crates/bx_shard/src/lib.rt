@@ -18,9 +18,9 @@ mod tick;
 pub use bx_connects::{Filing, Watch};
 pub use deal_anew::deal;
 pub use laws::{
-    filed_is_given, holders_are_apart, holds_at_first, holds_beside, holds_beside_swept,
-    holds_dealt, holds_longer, holds_onwards, holds_shut, holds_still, holds_swept, holds_taken,
-    holds_watched, opened_is_fresh, sessions_are_reached, sessions_ascend, shards_file,
-    shards_step,
+    filed_is_given, holders_are_apart, opened_is_fresh, refines_at_first, refines_beside,
+    refines_beside_swept, refines_dealt, refines_longer, refines_onwards, refines_shut,
+    refines_still, refines_swept, refines_taken, refines_watched, sessions_are_reached,
+    sessions_ascend, shards_file, shards_step,
 };
 pub use shard::Shard;

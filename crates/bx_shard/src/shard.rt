@@ -42,7 +42,7 @@ impl<P: Placing> Shard<P> {
     ghost use Rattle.bx_entry.specs.declared.entry.Entry.{Entry};
     ghost use Rattle.bx_connects.specs.Connects.{count_filed_below, filed_answer, watched};
     ghost use Rattle.bx_connects.specs.declared.connects.ConnectState.TheVariants.{Filed};
-    ghost use Rattle.bx_shard.specs.Held.{Took};
+    ghost use Rattle.bx_shard.specs.Refining.{Took};
     ghost use Rattle.bx_shard.specs.States.{Applied, IsAsBefore, IsSound, Swept, Watched, WasShut, connect_in, opens_in, session_in, takes_no_memory};
     ghost use Rattle.bx_shard.specs.Seen.{setup_in, state};
 

@@ -6,13 +6,13 @@ use Rattle.std.specs.Prelude.{slice_get, Some, Bool}
 use Rattle.bx_entry.specs.Listing.{Listed}
 use Rattle.bx_entry.specs.Registry.{entries}
 use Rattle.bx_entry.specs.declared.entry.Entry.{Entry}
-use Rattle.bx_shard.specs.Held.{Holds}
+use Rattle.bx_shard.specs.Refining.{Refines}
 use Rattle.bx_shard.specs.Seen.{setup_in, state}
 use Rattle.bx_shard.specs.Shards.{Setup}
 use Rattle.bx_shard.specs.States.{Applied, IsAsBefore, IsSound, takes_no_memory}
 use Rattle.bx_shard.specs.declared.shard.Shard.{Shard}
-use Rattle.bx_shard.proofs.Holding.{holds_still}
-use Rattle.bx_shard.proofs.Onwards.{holds_onwards}
+use Rattle.bx_shard.proofs.Holding.{refines_still}
+use Rattle.bx_shard.proofs.Onwards.{refines_onwards}
 use Rattle.bx_workers.specs.Upward.{AreConsecutive, AreOf, IsWithin, WentOn, end_of, first_of}
 
 -- the shard applied so many of the entries
@@ -22,7 +22,7 @@ pub record Goes {P : Type 0} (place_of : P → ℕ → ℕ → ℕ) (es : List E
   pub index : new.index ≡ old.index
   pub shut : new.is_shut ≡ old.is_shut
   pub holds : (setup : Setup) (list : List Listed) (taken : List ℕ) (k : ℕ) → 0 < setup.config.limits.batch → AreOf setup list es →
-      Holds setup list taken k old.place (state place_of old) → Holds setup list taken k new.place (state place_of new)
+      Refines setup list taken k old.place (state place_of old) → Refines setup list taken k new.place (state place_of new)
 
 module _ {P : Type 0} (place_of : P → ℕ → ℕ → ℕ) (es : List Entry) where
   -- one more
@@ -36,8 +36,8 @@ module _ {P : Type 0} (place_of : P → ℕ → ℕ → ℕ) (es : List Entry) w
     holds = λ setup list taken k room of h.
         let next : slice_get (entries setup.config list) mid.place ≡ Some e = subst (λ (p : ℕ). slice_get (entries setup.config list) p ≡ Some e) at (of (mid.place - first_of es) e there) in
         let reached : new.place ≡ mid.place + 1 = omega (arith, a.place, at) in
-        subst (λ (p : ℕ). Holds setup list taken k p (state place_of new)) (sym reached)
-        (holds_onwards setup list taken k mid.place e (state place_of mid) (state place_of new) room next (g.holds setup list taken k room of h) a sound);
+        subst (λ (p : ℕ). Refines setup list taken k p (state place_of new)) (sym reached)
+        (refines_onwards setup list taken k mid.place e (state place_of mid) (state place_of new) room next (g.holds setup list taken k room of h) a sound);
   }
 
   -- the next found no memory
@@ -49,8 +49,8 @@ module _ {P : Type 0} (place_of : P → ℕ → ℕ → ℕ) (es : List Entry) w
     index = same.index ∙ g.index;
     shut = same.shut ∙ g.shut;
     holds = λ setup list taken k room of h.
-        subst (λ (p : ℕ). Holds setup list taken k p (state place_of new)) (sym same.place)
-        (holds_still setup list taken k mid.place (state place_of mid) (state place_of new) (g.holds setup list taken k room of h) same sound);
+        subst (λ (p : ℕ). Refines setup list taken k p (state place_of new)) (sym same.place)
+        (refines_still setup list taken k mid.place (state place_of mid) (state place_of new) (g.holds setup list taken k room of h) same sound);
   }
 
   -- so many that it lacked, and an entry for which memory can be refused is next, if one is

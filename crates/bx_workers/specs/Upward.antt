@@ -3,7 +3,7 @@ use Rattle.std.specs.Prelude.{ℕ, ◌+◌, ◌-◌, ◌<◌, ◌≤◌, ◌≡�
 use Rattle.bx_entry.specs.Listing.{Listed}
 use Rattle.bx_entry.specs.Registry.{entries}
 use Rattle.bx_entry.specs.declared.entry.Entry.{Entry}
-use Rattle.bx_shard.specs.Held.{Holds}
+use Rattle.bx_shard.specs.Refining.{Refines}
 use Rattle.bx_shard.specs.Seen.{setup_in, state}
 use Rattle.bx_shard.specs.Shards.{Setup}
 use Rattle.bx_shard.specs.States.{takes_no_memory}
@@ -48,7 +48,7 @@ pub record WentOn {P : Type 0} (place_of : P → ℕ → ℕ → ℕ) (es : List
   pub index : new.index ≡ old.index
   pub shut : new.is_shut ≡ old.is_shut
   pub holds : (setup : Setup) (list : List Listed) (taken : List ℕ) (k : ℕ) → 0 < setup.config.limits.batch → AreOf setup list es →
-      Holds setup list taken k old.place (state place_of old) → Holds setup list taken k new.place (state place_of new)
+      Refines setup list taken k old.place (state place_of old) → Refines setup list taken k new.place (state place_of new)
   pub stopped : (e : Entry) → slice_get es (new.place - first_of es) ≡ Some e → takes_no_memory e.kind ≡ false
 
 -- ---- many shards

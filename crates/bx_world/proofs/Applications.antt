@@ -10,16 +10,16 @@ use Rattle.bx_entry.specs.Listing.{Listed}
 use Rattle.bx_entry.specs.Registry.{entries}
 use Rattle.bx_entry.specs.declared.entry.Entry.{Entry}
 use Rattle.bx_laws.proofs.Lists.{entries_length}
-use Rattle.bx_shard.specs.Held.{Holds}
+use Rattle.bx_shard.specs.Refining.{Refines}
 use Rattle.bx_shard.specs.Seen.{state}
 use Rattle.bx_shard.specs.Shards.{Setup}
 use Rattle.bx_shard.specs.declared.shard.Shard.{Shard}
-use Rattle.bx_shard.proofs.Holding.{holds_still}
+use Rattle.bx_shard.proofs.Holding.{refines_still}
 use Rattle.bx_shard.proofs.Placed.{entry_placed}
-use Rattle.bx_shard.proofs.Onwards.{holds_onwards}
+use Rattle.bx_shard.proofs.Onwards.{refines_onwards}
 use Rattle.bx_world.specs.Admissions.{Admitting}
 use Rattle.bx_admission.specs.Slots.{placed_by}
-use Rattle.bx_world.specs.Held.{StandFrom, EachHolds, HasApplied, HasStayed, HoldsFrom, IsApplication}
+use Rattle.bx_world.specs.Refining.{StandFrom, EachRefines, HasApplied, HasStayed, RefinesFrom, IsApplication}
 use Rattle.bx_world.specs.Outputs.{application}
 use Rattle.bx_world.specs.Worlds.{WorldState, IsOutput, after, is_level, may_take_memory, next_entry}
 use Rattle.bx_world.specs.declared.step.Applied as applications
@@ -73,33 +73,33 @@ module _ {P : Type 0} (place_of : P → ℕ → ℕ → ℕ) (setup : Setup) (li
   place_after : HasApplied place_of (entries setup.config list) old new → new.place ≡ old.place + 1
   place_after a = a.applied.place ∙ ap (λ (n : ℕ). n + 1) (entry_placed setup.config list old.place a.entry a.next)
 
-  done : 0 < setup.config.limits.batch → HoldsFrom place_of setup list taken first k old → HasApplied place_of (entries setup.config list) old new → HoldsFrom place_of setup list taken first k new
+  done : 0 < setup.config.limits.batch → RefinesFrom place_of setup list taken first k old → HasApplied place_of (entries setup.config list) old new → RefinesFrom place_of setup list taken first k new
   done room h a = record {
-    holds = subst (λ (n : ℕ). Holds setup list taken k n (state place_of new)) (sym (place_after a))
-        (holds_onwards setup list taken k old.place a.entry (state place_of old) (state place_of new) room a.next h.holds a.applied a.sound);
+    holds = subst (λ (n : ℕ). Refines setup list taken k n (state place_of new)) (sym (place_after a))
+        (refines_onwards setup list taken k old.place a.entry (state place_of old) (state place_of new) room a.next h.holds a.applied a.sound);
     past = omega (arith, h.past, place_after a);
   }
 
-  stayed : HoldsFrom place_of setup list taken first k old → HasStayed place_of (entries setup.config list) old new → HoldsFrom place_of setup list taken first k new
+  stayed : RefinesFrom place_of setup list taken first k old → HasStayed place_of (entries setup.config list) old new → RefinesFrom place_of setup list taken first k new
   stayed h a = record {
-    holds = subst (λ (n : ℕ). Holds setup list taken k n (state place_of new)) (sym a.same.place) (holds_still setup list taken k old.place (state place_of old) (state place_of new) h.holds a.same a.sound);
+    holds = subst (λ (n : ℕ). Refines setup list taken k n (state place_of new)) (sym a.same.place) (refines_still setup list taken k old.place (state place_of old) (state place_of new) h.holds a.same a.sound);
     past = let same : new.place ≡ old.place = a.same.place in omega (arith, h.past, same);
   }
 
   -- it holds what it is to hold
-  pub applied_holds : (a : applications.Applied) → 0 < setup.config.limits.batch → HoldsFrom place_of setup list taken first k old → IsApplication place_of (entries setup.config list) old a new → HoldsFrom place_of setup list taken first k new
+  pub applied_holds : (a : applications.Applied) → 0 < setup.config.limits.batch → RefinesFrom place_of setup list taken first k old → IsApplication place_of (entries setup.config list) old a new → RefinesFrom place_of setup list taken first k new
   applied_holds Done room h a = done room h a
-  applied_holds Level room h a = subst (HoldsFrom place_of setup list taken first k) (sym a.1) h
+  applied_holds Level room h a = subst (RefinesFrom place_of setup list taken first k) (sym a.1) h
   applied_holds Memory room h a = stayed h a
 
 -- ---- all shards
 
 module _ {P : Type 0} (place_of : P → ℕ → ℕ → ℕ) (setup : Setup) (list : List Listed) (taken : List ℕ) (first : ℕ) (xs : List (Shard P)) (i : ℕ) (old new : Shard P) where
   -- so it is with all shards, where the next entry is applied to one of them
-  pub each_applied : (a : applications.Applied) → 0 < setup.config.limits.batch → slice_get xs i ≡ Some old → EachHolds place_of setup list taken first xs → IsApplication place_of (entries setup.config list) old a new →
-      EachHolds place_of setup list taken first (slice_set xs i new)
+  pub each_applied : (a : applications.Applied) → 0 < setup.config.limits.batch → slice_get xs i ≡ Some old → EachRefines place_of setup list taken first xs → IsApplication place_of (entries setup.config list) old a new →
+      EachRefines place_of setup list taken first (slice_set xs i new)
   each_applied a room there each is =
-      each_set (HoldsFrom place_of setup list taken first) xs i new (slice_get_within xs i old there) (applied_holds place_of setup list taken first i old new a room (each i old there) is) (λ k x apart e. each k x e)
+      each_set (RefinesFrom place_of setup list taken first) xs i new (slice_get_within xs i old there) (applied_holds place_of setup list taken first i old new a room (each i old there) is) (λ k x apart e. each k x e)
 
   abbrev before : WorldState
   before = record { list = list; applied = map (λ (s : Shard P). s.place) xs; taken = taken }
@@ -122,7 +122,7 @@ module _ {P : Type 0} (place_of : P → ℕ → ℕ → ℕ) (setup : Setup) (li
       (map-set (λ (s : Shard P). s.place) xs i new ∙ ap (slice_set before.applied i) (e ∙ ap (λ (n : ℕ). n + 1) (sym (stands there))))
 
   -- what it gives, and the world after it
-  pub application_steps : (a : applications.Applied) → slice_get xs i ≡ Some old → EachHolds place_of setup list taken first xs → IsApplication place_of (entries setup.config list) old a new →
+  pub application_steps : (a : applications.Applied) → slice_get xs i ≡ Some old → EachRefines place_of setup list taken first xs → IsApplication place_of (entries setup.config list) old a new →
       IsOutput setup before (Apply i) (application a) × (behind_it ≡ after before (Apply i) (application a))
   application_steps Done there each a =
       let w : is_level before i ≡ false = behind before i old.place (in_range there) (stands there) (place_within setup.config list old.place a.entry a.next) in
@@ -137,8 +137,8 @@ module _ {P : Type 0} (place_of : P → ℕ → ℕ → ℕ) (setup : Setup) (li
       (gives_refusal setup before i w (ap may_take_memory next ∙ ap not a.takes), same_places there a.same.place)
 
 -- once fewer entries are kept, as long as each shard's next one is
-pub each_from : {P : Type 0} (place_of : P → ℕ → ℕ → ℕ) (placing : ℕ → ℕ → ℕ) (old new : Admitting) (taken : List ℕ) (xs : List (Shard P)) → EachHolds place_of (placed_by old.config old.shards placing) old.list taken old.first xs →
-    new ≡ record old { first = new.first } → StandFrom new.first xs → EachHolds place_of (placed_by new.config new.shards placing) new.list taken new.first xs
+pub each_from : {P : Type 0} (place_of : P → ℕ → ℕ → ℕ) (placing : ℕ → ℕ → ℕ) (old new : Admitting) (taken : List ℕ) (xs : List (Shard P)) → EachRefines place_of (placed_by old.config old.shards placing) old.list taken old.first xs →
+    new ≡ record old { first = new.first } → StandFrom new.first xs → EachRefines place_of (placed_by new.config new.shards placing) new.list taken new.first xs
 each_from {P} place_of placing old new taken xs each others from =
-    let kept : EachHolds place_of (placed_by old.config old.shards placing) old.list taken new.first xs = λ k s e. record { holds = (each k s e).holds; past = from k s e } in
-    subst (λ (a : Admitting). EachHolds place_of (placed_by a.config a.shards placing) a.list taken a.first xs) (sym others) kept
+    let kept : EachRefines place_of (placed_by old.config old.shards placing) old.list taken new.first xs = λ k s e. record { holds = (each k s e).holds; past = from k s e } in
+    subst (λ (a : Admitting). EachRefines place_of (placed_by a.config a.shards placing) a.list taken a.first xs) (sym others) kept

@@ -18,7 +18,7 @@ use Rattle.bx_entry.specs.Answers.{PlacedAnswer, answer_of, answer_by, answer_at
 use Rattle.bx_laws.specs.Readings.{EachSession}
 use Rattle.bx_shard.specs.Shards.{Setup, shard_at, sessions_in, stands_in, is_taken}
 use Rattle.bx_world.specs.Worlds.{WorldState, IsOutput, Runs, after, filed_under}
-use Rattle.bx_shard.specs.Held.{given_of}
+use Rattle.bx_shard.specs.Refining.{given_of}
 use Rattle.bx_world.specs.declared.step.Step.{Step}
 use Rattle.bx_world.specs.declared.step.Step.TheVariants.{Admit, Apply, Take}
 use Rattle.bx_world.specs.declared.step.StepOut.{StepOut}

@@ -11,7 +11,7 @@ use Rattle.bx_entry.specs.Registry.{Judged, Waiting, registry, entries}
 use Rattle.bx_entry.specs.Sessions.{Session, Filed, step, session, unopened}
 use Rattle.bx_entry.specs.Answers.{answer_of, events_of, filed_for, answer_by, answer_at, answer}
 use Rattle.bx_laws.specs.Laws.{InStep, Each, AllBelow, PlacesFrom, GivesLater}
-use Rattle.bx_shard.specs.Held.{given_of}
+use Rattle.bx_shard.specs.Refining.{given_of}
 use Rattle.bx_world.specs.Schedules.{EachTook}
 use Rattle.bx_world.specs.Headline.{slot_at, Gave, GaveIn, GivenLater, NoneGivenAgain}
 use Rattle.bx_world.specs.declared.step.Step.{Step}

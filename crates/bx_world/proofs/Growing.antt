@@ -9,10 +9,10 @@ use Rattle.bx_entry.specs.declared.input.Refusal.TheVariants.{BadMoment, Ended}
 use Rattle.bx_registry.proofs.Planning.{length-listed}
 use Rattle.bx_shard.specs.Shards.{Setup}
 use Rattle.bx_shard.specs.declared.shard.Shard.{Shard}
-use Rattle.bx_shard.proofs.Holding.{holds_longer}
+use Rattle.bx_shard.proofs.Holding.{refines_longer}
 use Rattle.bx_world.specs.Admissions.{Admitting, IsAdmission}
 use Rattle.bx_admission.specs.Slots.{placed_by}
-use Rattle.bx_world.specs.Held.{EachHolds}
+use Rattle.bx_world.specs.Refining.{EachRefines}
 use Rattle.bx_world.specs.Outputs.{admission}
 use Rattle.bx_world.specs.Worlds.{WorldState, IsOutput, after, output_admit}
 use Rattle.bx_world.specs.declared.step.Admitted.{Admitted}
@@ -55,13 +55,13 @@ same_first placing old new input (Err (Refused refusal)) is = ap (λ (b : Admitt
 same_first placing old new input (Err Memory) is = ap (λ (b : Admitting). b.first) is
 
 abbrev pub EachOver : {P : Type 0} → (P → ℕ → ℕ → ℕ) → (ℕ → ℕ → ℕ) → List ℕ → List (Shard P) → Admitting → Type 0
-EachOver place_of placing taken xs a = EachHolds place_of (placed_by a.config a.shards placing) a.list taken a.first xs
+EachOver place_of placing taken xs a = EachRefines place_of (placed_by a.config a.shards placing) a.list taken a.first xs
 
 pub each_longer : {P : Type 0} (place_of : P → ℕ → ℕ → ℕ) (placing : ℕ → ℕ → ℕ) (old new : Admitting) (taken : List ℕ) (xs : List (Shard P)) (input : ReadInput) (r : Result Admitted AdmissionFault) →
     IsAdmission placing old input r new → EachOver place_of placing taken xs old → EachOver place_of placing taken xs new
 each_longer place_of placing old new taken xs input (Ok a) is each =
-    let longer : EachHolds place_of (placed_by old.config old.shards placing) (old.list ++ added_by input) taken old.first xs =
-    λ k s e. record { holds = holds_longer (placed_by old.config old.shards placing) old.list (added_by input) taken k s.place _ (each k s e).holds; past = (each k s e).past } in
+    let longer : EachRefines place_of (placed_by old.config old.shards placing) (old.list ++ added_by input) taken old.first xs =
+    λ k s e. record { holds = refines_longer (placed_by old.config old.shards placing) old.list (added_by input) taken k s.place _ (each k s e).holds; past = (each k s e).past } in
     subst (EachOver place_of placing taken xs) (sym is.3) longer
 each_longer place_of placing old new taken xs input (Err (Refused refusal)) is each = subst (EachOver place_of placing taken xs) (sym is.1) each
 each_longer place_of placing old new taken xs input (Err Memory) is each = subst (EachOver place_of placing taken xs) (sym is) each

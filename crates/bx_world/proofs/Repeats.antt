@@ -16,7 +16,7 @@ use Rattle.bx_laws.proofs.Counts.{all_in_step, unopened_in_step}
 use Rattle.bx_laws.proofs.Lists.{find_each, entries_in_order}
 use Rattle.bx_laws.proofs.Runs.{Grown, run_grown, all_places}
 use Rattle.bx_shard.proofs.Waits.{WaitsAt, answered_waits}
-use Rattle.bx_shard.specs.Held.{given_of}
+use Rattle.bx_shard.specs.Refining.{given_of}
 use Rattle.bx_world.specs.Schedules.{EachTook}
 use Rattle.bx_world.specs.Headline.{slot_at, Gave, AsksAgain, GivenAgain, BatchesRepeat}
 use Rattle.bx_world.specs.declared.step.Step.{Step}

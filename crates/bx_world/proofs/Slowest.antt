@@ -6,7 +6,7 @@ use Rattle.std.proofs.lemmas.Bool.{cases_lt, eq-eqb, or_right}
 use Rattle.std.proofs.lemmas.List.{map-set}
 use Rattle.std.proofs.lemmas.Option.{slice_get-map}
 use Rattle.bx_shard.specs.declared.shard.Shard.{Shard}
-use Rattle.bx_world.specs.Held.{StandFrom, StandWithin, some_stands_at}
+use Rattle.bx_world.specs.Refining.{StandFrom, StandWithin, some_stands_at}
 use Rattle.bx_world.proofs.Rows.{number_there}
 
 -- ---- numbers

@@ -4,14 +4,14 @@ use Rattle.std.specs.Prelude.{replicate}
 use Rattle.std.specs.Arc.{arc_value}
 use Rattle.bx_advice.specs.declared.config.Config.{Config}
 use Rattle.bx_entry.specs.Listing.{Listed}
-use Rattle.bx_shard.specs.Held.{Holds}
+use Rattle.bx_shard.specs.Refining.{Refines}
 use Rattle.bx_shard.specs.Seen.{setup_in, state}
 use Rattle.bx_shard.specs.States.{IsSound, connect_in, session_in}
 use Rattle.bx_shard.specs.declared.shard.Shard.{Shard}
-use Rattle.bx_shard.proofs.Holding.{holds_at_first}
+use Rattle.bx_shard.proofs.Holding.{refines_at_first}
 use Rattle.bx_world.specs.Admissions.{Admitting}
 use Rattle.bx_admission.specs.Slots.{placed_by}
-use Rattle.bx_world.specs.Held.{EachHolds}
+use Rattle.bx_world.specs.Refining.{EachRefines}
 use Rattle.bx_world.specs.Worlds.{WorldState, new_world}
 
 -- a shard of this index that has applied nothing
@@ -50,12 +50,12 @@ setup_is {P} place_of config placing k s h =
     ∙ ap (λ (n : ℕ). placed_by config n (place_of (arc_value s.placing))) h.shards_is
     ∙ ap (λ (p : P). placed_by config config.shards (place_of p)) h.placing_is
 
-pub first_hold : {P : Type 0} (place_of : P → ℕ → ℕ → ℕ) (config : Config) (placing : P) (xs : List (Shard P)) → AreFirst place_of config placing xs → EachHolds place_of (placed_by config config.shards (place_of placing)) [] [] 0 xs
+pub first_hold : {P : Type 0} (place_of : P → ℕ → ℕ → ℕ) (config : Config) (placing : P) (xs : List (Shard P)) → AreFirst place_of config placing xs → EachRefines place_of (placed_by config config.shards (place_of placing)) [] [] 0 xs
 first_hold place_of config placing xs each k s e =
     let h : IsFirst place_of config placing k s = each k s e in
     record {
-      holds = subst (λ (n : ℕ). Holds (placed_by config config.shards (place_of placing)) [] [] k n (state place_of s)) (sym h.place_is)
-          (holds_at_first (placed_by config config.shards (place_of placing)) k (state place_of s) (setup_is place_of config placing k s h) h.index_is h.place_is h.sound h.sessions h.connects);
+      holds = subst (λ (n : ℕ). Refines (placed_by config config.shards (place_of placing)) [] [] k n (state place_of s)) (sym h.place_is)
+          (refines_at_first (placed_by config config.shards (place_of placing)) k (state place_of s) (setup_is place_of config placing k s h) h.index_is h.place_is h.sound h.sessions h.connects);
       past = omega arith;
     }
 

@@ -8,7 +8,7 @@ use Rattle.bx_entry.specs.Sessions.{Filed}
 use Rattle.bx_entry.specs.Answers.{PlacedAnswer, answer_of, answer}
 use Rattle.bx_shard.specs.Shards.{Setup, shard_at}
 use Rattle.bx_world.specs.Worlds.{WorldState, IsOutput, Runs, after, filed_under}
-use Rattle.bx_shard.specs.Held.{given_of}
+use Rattle.bx_shard.specs.Refining.{given_of}
 use Rattle.bx_world.specs.declared.step.Step.{Step}
 use Rattle.bx_world.specs.declared.step.Step.TheVariants.{Admit, Apply, Take}
 use Rattle.bx_world.specs.declared.step.StepOut.{StepOut}

@@ -12,7 +12,7 @@ use Rattle.bx_entry.specs.Sessions.{Filed}
 use Rattle.bx_entry.specs.declared.entry.Ticket.{Ticket}
 use Rattle.bx_message.specs.declared.reply.Answer.{Answer}
 use Rattle.bx_connects.specs.Connects.{filed_answer}
-use Rattle.bx_shard.specs.Held.{Holds, Took, filed_with_place, given_of}
+use Rattle.bx_shard.specs.Refining.{Refines, Took, filed_with_place, given_of}
 use Rattle.bx_shard.specs.Seen.{state}
 use Rattle.bx_shard.specs.Shards.{Setup, shard_at}
 use Rattle.bx_shard.specs.States.{IsSound, connect_in}
@@ -20,9 +20,9 @@ use Rattle.bx_connects.specs.declared.connects.ConnectState.{ConnectState}
 use Rattle.bx_connects.specs.declared.connects.ConnectState.TheVariants as states
 use Rattle.bx_shard.specs.declared.shard.Shard.{Shard}
 use Rattle.bx_shard.proofs.Given.{as_before, given_filed}
-use Rattle.bx_shard.proofs.Holding.{holds_still}
-use Rattle.bx_shard.proofs.Taking.{holds_beside, holds_taken}
-use Rattle.bx_world.specs.Held.{EachHolds, HoldsFrom}
+use Rattle.bx_shard.proofs.Holding.{refines_still}
+use Rattle.bx_shard.proofs.Taking.{refines_beside, refines_taken}
+use Rattle.bx_world.specs.Refining.{EachRefines, RefinesFrom}
 use Rattle.bx_world.specs.Worlds.{WorldState, IsOutput, filed_under}
 use Rattle.bx_world.specs.declared.step.Step.TheVariants.{Take}
 use Rattle.bx_world.specs.declared.step.StepOut.TheVariants.{Taken}
@@ -37,11 +37,11 @@ some_filed o a e = subst IsSome e refl
 
 module _ {P : Type 0} (place_of : P → ℕ → ℕ → ℕ) (setup : Setup) (list : List Listed) (taken : List ℕ) (first : ℕ) (xs : List (Shard P)) (t : Ticket) (old new : Shard P) where
   -- the shard that a ticket names is the one of its index
-  pub own : slice_get xs t.shard ≡ Some old → EachHolds place_of setup list taken first xs → nat_eq t.shard old.index ≡ true
+  pub own : slice_get xs t.shard ≡ Some old → EachRefines place_of setup list taken first xs → nat_eq t.shard old.index ≡ true
   own there each = let here : old.index ≡ t.shard = (each t.shard old there).holds.index_is in eq-eqb t.shard old.index (sym here)
 
   -- what is taken is what is filed
-  pub answered : (o : Option Answer) → slice_get xs t.shard ≡ Some old → EachHolds place_of setup list taken first xs → o ≡ (if nat_eq t.shard old.index then filed_answer (connect_in (state place_of old) t.place) else None) →
+  pub answered : (o : Option Answer) → slice_get xs t.shard ≡ Some old → EachRefines place_of setup list taken first xs → o ≡ (if nat_eq t.shard old.index then filed_answer (connect_in (state place_of old) t.place) else None) →
       o ≡ filed_answer (connect_in (state place_of old) t.place)
   answered o there each e = e ∙ cond-true (nat_eq t.shard old.index) (filed_answer (connect_in (state place_of old) t.place)) None (own there each)
 
@@ -51,7 +51,7 @@ module _ {P : Type 0} (place_of : P → ℕ → ℕ → ℕ) (setup : Setup) (li
   abbrev pub before : WorldState
   before = record { list = list; applied = map (λ (s : Shard P). s.place) xs; taken = taken }
 
-  pub taking_gives : (o : Option Answer) → slice_get xs t.shard ≡ Some old → EachHolds place_of setup list taken first xs → o ≡ filed_answer (connect_in (state place_of old) t.place) → IsOutput setup before (Take t) (Taken o)
+  pub taking_gives : (o : Option Answer) → slice_get xs t.shard ≡ Some old → EachRefines place_of setup list taken first xs → o ≡ filed_answer (connect_in (state place_of old) t.place) → IsOutput setup before (Take t) (Taken o)
   taking_gives o there each e =
       let in_range : t.shard < length before.applied = let l : t.shard < length xs = slice_get_within xs t.shard old there in omega (arith, l, length-map xs (λ (s : Shard P). s.place)) in
       let here : filed_under setup before t ≡ found_at old.place =
@@ -64,35 +64,35 @@ module _ {P : Type 0} (place_of : P → ℕ → ℕ → ℕ) (setup : Setup) (li
   pub same_places : slice_get xs t.shard ≡ Some old → new.place ≡ old.place → map (λ (s : Shard P). s.place) (slice_set xs t.shard new) ≡ map (λ (s : Shard P). s.place) xs
   same_places there e = map-set_same (λ (s : Shard P). s.place) xs t.shard new old (e ∙ ap (λ (s : Shard P). s.place) (sym (get_or_from_slice_get xs t.shard old old there)))
 
-  past_still : slice_get xs t.shard ≡ Some old → EachHolds place_of setup list taken first xs → new.place ≡ old.place → first ≤ new.place
+  past_still : slice_get xs t.shard ≡ Some old → EachRefines place_of setup list taken first xs → new.place ≡ old.place → first ≤ new.place
   past_still there each e = let p = (each t.shard old there).past in subst (λ (n : ℕ). first ≤ n) (sym e) p
 
   -- what shards hold where none was taken
-  pub each_still : slice_get xs t.shard ≡ Some old → EachHolds place_of setup list taken first xs → None ≡ filed_answer (connect_in (state place_of old) t.place) → Took t.place (state place_of old) (state place_of new) → IsSound (state place_of new) →
-      EachHolds place_of setup list taken first (slice_set xs t.shard new)
+  pub each_still : slice_get xs t.shard ≡ Some old → EachRefines place_of setup list taken first xs → None ≡ filed_answer (connect_in (state place_of old) t.place) → Took t.place (state place_of old) (state place_of new) → IsSound (state place_of new) →
+      EachRefines place_of setup list taken first (slice_set xs t.shard new)
   each_still there each none took sound =
       let k : ℕ = t.shard in
-      let still : HoldsFrom place_of setup list taken first k new = record {
-        holds = subst (λ (n : ℕ). Holds setup list taken k n (state place_of new)) (sym took.place_is)
-            (holds_still setup list taken k old.place (state place_of old) (state place_of new) (each k old there).holds (as_before t.place (state place_of old) (state place_of new) (sym none) took) sound);
+      let still : RefinesFrom place_of setup list taken first k new = record {
+        holds = subst (λ (n : ℕ). Refines setup list taken k n (state place_of new)) (sym took.place_is)
+            (refines_still setup list taken k old.place (state place_of old) (state place_of new) (each k old there).holds (as_before t.place (state place_of old) (state place_of new) (sym none) took) sound);
         past = past_still there each took.place_is;
       } in
-      each_set (HoldsFrom place_of setup list taken first) xs k new (slice_get_within xs k old there) still (λ j x apart e. each j x e)
+      each_set (RefinesFrom place_of setup list taken first) xs k new (slice_get_within xs k old there) still (λ j x apart e. each j x e)
 
   -- and where one was
-  pub each_taken : (a : Answer) → 0 < setup.config.limits.batch → slice_get xs t.shard ≡ Some old → EachHolds place_of setup list taken first xs → Some a ≡ filed_answer (connect_in (state place_of old) t.place) →
-      Took t.place (state place_of old) (state place_of new) → IsSound (state place_of new) → EachHolds place_of setup list (taken ++ t.place ∷ []) first (slice_set xs t.shard new)
+  pub each_taken : (a : Answer) → 0 < setup.config.limits.batch → slice_get xs t.shard ≡ Some old → EachRefines place_of setup list taken first xs → Some a ≡ filed_answer (connect_in (state place_of old) t.place) →
+      Took t.place (state place_of old) (state place_of new) → IsSound (state place_of new) → EachRefines place_of setup list (taken ++ t.place ∷ []) first (slice_set xs t.shard new)
   each_taken a room there each some took sound =
       let k : ℕ = t.shard in
       let filed : IsSome (filed_answer (connect_in (state place_of old) t.place)) = some_filed (filed_answer (connect_in (state place_of old) t.place)) a some in
-      let held : Holds setup list taken k old.place (state place_of old) = (each k old there).holds in
-      let own_one : HoldsFrom place_of setup list (taken ++ t.place ∷ []) first k new = record {
-        holds = subst (λ (n : ℕ). Holds setup list (taken ++ t.place ∷ []) k n (state place_of new)) (sym took.place_is)
-            (holds_taken setup list taken k old.place t.place (state place_of old) (state place_of new) room held filed took sound);
+      let held : Refines setup list taken k old.place (state place_of old) = (each k old there).holds in
+      let own_one : RefinesFrom place_of setup list (taken ++ t.place ∷ []) first k new = record {
+        holds = subst (λ (n : ℕ). Refines setup list (taken ++ t.place ∷ []) k n (state place_of new)) (sym took.place_is)
+            (refines_taken setup list taken k old.place t.place (state place_of old) (state place_of new) room held filed took sound);
         past = past_still there each took.place_is;
       } in
-      each_set (HoldsFrom place_of setup list (taken ++ t.place ∷ []) first) xs k new (slice_get_within xs k old there) own_one
-      (λ j x apart e. record { holds = holds_beside setup list taken k old.place t.place (state place_of old) j x.place (state place_of x) room held filed apart (each j x e).holds; past = (each j x e).past })
+      each_set (RefinesFrom place_of setup list (taken ++ t.place ∷ []) first) xs k new (slice_get_within xs k old there) own_one
+      (λ j x apart e. record { holds = refines_beside setup list taken k old.place t.place (state place_of old) j x.place (state place_of x) room held filed apart (each j x e).holds; past = (each j x e).past })
 
 -- ---- some answer
 
@@ -106,7 +106,7 @@ module _ {P : Type 0} (place_of : P → ℕ → ℕ → ℕ) (setup : Setup) (li
   world = record { list = list; applied = map (λ (s : Shard P). s.place) xs; taken = taken }
 
   -- nothing is filed under any ticket, where the shard has filed none
-  pub none_filed : slice_get xs i ≡ Some old → EachHolds place_of setup list taken first xs → ((p : ℕ) → filed_answer (connect_in (state place_of old) p) ≡ None) → (place : ℕ) →
+  pub none_filed : slice_get xs i ≡ Some old → EachRefines place_of setup list taken first xs → ((p : ℕ) → filed_answer (connect_in (state place_of old) p) ≡ None) → (place : ℕ) →
       (let t : Ticket = record { place = place; shard = i } in filed_under setup world t ≡ None)
   none_filed there each none place =
       let found : ℕ → Option PlacedAnswer = λ n. option_map answer_of (find (λ (f : Filed). f.connect == place) (shard_at setup list taken i n).filed) in
@@ -116,6 +116,6 @@ module _ {P : Type 0} (place_of : P → ℕ → ℕ → ℕ) (setup : Setup) (li
       ∙ sym ((each i old there).holds.filed place) ∙ none_placed (connect_in (state place_of old) place) (none place)
 
   -- what shards hold, where this one is as before
-  pub each_same : slice_get xs i ≡ Some old → EachHolds place_of setup list taken first xs → new ≡ old → EachHolds place_of setup list taken first (slice_set xs i new)
+  pub each_same : slice_get xs i ≡ Some old → EachRefines place_of setup list taken first xs → new ≡ old → EachRefines place_of setup list taken first (slice_set xs i new)
   each_same there each same =
-      each_set (HoldsFrom place_of setup list taken first) xs i new (slice_get_within xs i old there) (subst (HoldsFrom place_of setup list taken first i) (sym same) (each i old there)) (λ j x apart e. each j x e)
+      each_set (RefinesFrom place_of setup list taken first) xs i new (slice_get_within xs i old there) (subst (RefinesFrom place_of setup list taken first i) (sym same) (each i old there)) (λ j x apart e. each j x e)

@@ -14,7 +14,7 @@ use Rattle.bx_shard.specs.declared.shard.Shard.{Shard}
 use Rattle.bx_shard.proofs.Placed.{entry_placed}
 use Rattle.bx_workers.specs.Upward.{AreConsecutive, AreOf, AreWithin, BroughtUp, WentOn, count_behind, end_of, first_of, is_behind}
 use Rattle.bx_world.specs.Admissions.{Admitting, entries_kept}
-use Rattle.bx_world.specs.Held.{EachHolds, HoldsFrom, StandFrom, StandWithin}
+use Rattle.bx_world.specs.Refining.{EachRefines, RefinesFrom, StandFrom, StandWithin}
 use Rattle.bx_laws.proofs.Lists.{entries_length}
 use Rattle.bx_world.proofs.Applications.{place_within}
 
@@ -119,10 +119,10 @@ module _ (a : Admitting) where
 
   -- each holds what it is to hold
   pub each_upward : {P : Type 0} (place_of : P → ℕ → ℕ → ℕ) (setup : Setup) (taken : List ℕ) (xs ys : List (Shard P)) → setup.config ≡ a.config → 0 < setup.config.limits.batch →
-      EachHolds place_of setup a.list taken a.first xs → BroughtUp place_of (entries_kept a) xs ys → EachHolds place_of setup a.list taken a.first ys
+      EachRefines place_of setup a.list taken a.first xs → BroughtUp place_of (entries_kept a) xs ys → EachRefines place_of setup a.list taken a.first ys
   each_upward place_of setup taken xs ys same room each up k t is =
       let before = was place_of xs ys up k t is in
-      let held : HoldsFrom place_of setup a.list taken a.first k before.old = each k before.old before.there in
+      let held : RefinesFrom place_of setup a.list taken a.first k before.old = each k before.old before.there in
       let past : a.first ≤ before.old.place = held.past in
       let on : before.old.place ≤ t.place = before.went.onward in
       record { holds = before.went.holds setup a.list taken k room (kept_of setup same) held.holds; past = omega (arith, past, on) }

@@ -4,5 +4,5 @@ pub mod Headline
 pub mod Outputs
 pub mod Backlogs
 pub mod Admissions
-pub mod Held
+pub mod Refining
 pub mod Seen

@@ -2,7 +2,7 @@
 use Rattle.std.specs.Prelude.{ℕ, ◌≡◌, ◌++◌, ◌<◌, List, map, length, slice_get, take, Some, Result, Ok, Err}
 use Rattle.std.specs.Arc.{arc_value}
 use Rattle.bx_entry.specs.declared.Placing.{Ghosts}
-use Rattle.bx_shard.specs.Held.{Holds}
+use Rattle.bx_shard.specs.Refining.{Refines}
 use Rattle.bx_shard.specs.Seen.{state}
 use Rattle.bx_shard.specs.Shards.{Setup}
 use Rattle.bx_shard.specs.declared.shard.Shard.{Shard}
@@ -30,8 +30,8 @@ module _ {P : Type 0} {g : Ghosts P} where
 
   -- Each shard holds what the definitions' shard of its index holds after as many entries of the list: its live sessions, each with its queue, its
   -- batch and its counts, and the answers that it has filed.
-  abbrev pub ShardsHold : World P g → Type 0
-  ShardsHold w = (k : ℕ) (s : Shard P) → slice_get w.shards.items k ≡ Some s → Holds (setup_of w) w.admission.list w.taken k s.place (state g.place_of s)
+  abbrev pub ShardsRefine : World P g → Type 0
+  ShardsRefine w = (k : ℕ) (s : Shard P) → slice_get w.shards.items k ≡ Some s → Refines (setup_of w) w.admission.list w.taken k s.place (state g.place_of s)
 
   -- These steps in order gave the outputs that came behind the earlier ones, what they gave is what one thread gives, and so is what the shards hold.
   pub record Ran (old : World P g) (steps : List Step) (before outs : List StepOut) (new : World P g) : Type 0 where
@@ -39,7 +39,7 @@ module _ {P : Type 0} {g : Ghosts P} where
     pub behind : outs ≡ before ++ given
     pub runs : Runs (setup_of old) (world_of old) steps given (world_of new)
     pub one : AsOneThread (setup_of old) (world_of old) steps given (world_of new)
-    pub holds : ShardsHold new
+    pub holds : ShardsRefine new
     pub setup : setup_of new ≡ setup_of old
 
   -- all steps were run, or there was no memory for the output of the n-th and those before it were run

@@ -11,7 +11,7 @@ use Rattle.bx_entry.specs.Registry.{entries}
 use Rattle.bx_entry.specs.Sessions.{Filed}
 use Rattle.bx_entry.specs.Answers.{PlacedAnswer, answer_of}
 use Rattle.bx_admission.specs.Slots.{admitted_slots}
-use Rattle.bx_shard.specs.Held.{given_of}
+use Rattle.bx_shard.specs.Refining.{given_of}
 use Rattle.bx_shard.specs.Shards.{Setup, shard_at}
 use Rattle.bx_shard.specs.States.{takes_no_memory}
 use Rattle.bx_world.specs.declared.step.Step.{Step}

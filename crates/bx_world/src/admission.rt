@@ -8,7 +8,7 @@ ghost use Rattle.bx_entry.specs.Requests.{read_input};
 ghost use Rattle.bx_entry.specs.declared.input.Input.TheVariants.{Post, Tick};
 ghost use Rattle.bx_workers.specs.Upward.{BroughtUp, count_behind};
 ghost use Rattle.bx_world.specs.Admissions.{IsAdmission, entries_kept};
-ghost use Rattle.bx_world.specs.Held.{StandFrom, StandWithin};
+ghost use Rattle.bx_world.specs.Refining.{StandFrom, StandWithin};
 ghost use Rattle.bx_world.specs.declared.step.AdmissionFault.TheVariants.{Refused};
 
 use crate::backlog::Backlog;

@@ -5,7 +5,7 @@ ghost use Rattle.bx_advice.specs.Limits.{greatest_length};
 ghost use Rattle.bx_entry.specs.Registry.{entries, registry};
 ghost use Rattle.bx_admission.specs.Ledgers.{count_live};
 ghost use Rattle.bx_admission.specs.Slots.{placed_by};
-ghost use Rattle.bx_world.specs.Held.{EachHolds, IsApplication, StandFrom, StandWithin, some_stands_at};
+ghost use Rattle.bx_world.specs.Refining.{EachRefines, IsApplication, StandFrom, StandWithin, some_stands_at};
 ghost use Rattle.bx_shard.specs.Props.{holds_props};
 
 use crate::admission::Admission;
@@ -35,7 +35,7 @@ pub struct World<P: Placing> {
     ghost some_shard: { 1 ≤ admission.shards },
     ghost shards_in_range: { admission.shards ≤ 64 },
     ghost counted: { length shards.items ≡ admission.shards },
-    ghost holding: { EachHolds P.place_of (placed_by admission.config admission.shards (P.place_of (arc_value placing)))
+    ghost holding: { EachRefines P.place_of (placed_by admission.config admission.shards (P.place_of (arc_value placing)))
         admission.list taken admission.first shards.items } by { Prim.hlevel holds_props },
     ghost slowest: { some_stands_at admission.first shards.items ≡ true },
 }

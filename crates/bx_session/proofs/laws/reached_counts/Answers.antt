@@ -1,4 +1,4 @@
-use Rattle.bx_session.proofs.ReachLemmas.{reached_counts}
+use Rattle.bx_session.proofs.NumberLemmas.{reached_counts}
 use Rattle.bx_session.proofs.laws.reached_counts.Goals as goal
 
 pub returns : goal.returns

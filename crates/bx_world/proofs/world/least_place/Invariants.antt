@@ -1,6 +1,6 @@
 use Rattle.std.proofs.Common.{◌≡◌, ◌≤◌, ℕ, ◌<◌, Some, slice_get, true}
 use Rattle.bx_shard.specs.declared.shard.Shard.{Shard}
-use Rattle.bx_world.specs.Held.{some_stands_at}
+use Rattle.bx_world.specs.Refining.{some_stands_at}
 use Rattle.bx_world.proofs.world.least_place.Given as goal
 
 abbrev pub invariant-loop-shard : goal.invariant-loop-shard

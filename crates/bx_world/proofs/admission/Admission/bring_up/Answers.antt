@@ -4,7 +4,7 @@ use Rattle.bx_entry.specs.declared.entry.Entry.{Entry}
 use Rattle.bx_workers.specs.Upward.{AreConsecutive, AreWithin, end_of}
 use Rattle.bx_world.specs.Admissions.{Admitting, entries_kept}
 use Rattle.bx_world.specs.Backlogs.{kept_in}
-use Rattle.bx_world.specs.Held.{StandFrom, StandWithin}
+use Rattle.bx_world.specs.Refining.{StandFrom, StandWithin}
 use Rattle.bx_world.proofs.Upwards.{kept_bounded, kept_consecutive, kept_within}
 use Rattle.bx_world.proofs.admission.Admission.bring_up.Goals as goal
 

@@ -6,7 +6,7 @@ use Rattle.bx_advice.specs.Limits.{greatest_length}
 use Rattle.bx_shard.specs.declared.shard.Shard.{Shard}
 use Rattle.bx_world.specs.Admissions.{Admitting}
 use Rattle.bx_admission.specs.Slots.{placed_by}
-use Rattle.bx_world.specs.Held.{EachHolds, some_stands_at}
+use Rattle.bx_world.specs.Refining.{EachRefines, some_stands_at}
 use Rattle.bx_world.proofs.Applications.{application_steps, each_applied, each_from}
 use Rattle.bx_world.proofs.Slowest.{still_slowest}
 use Rattle.bx_world.proofs.world.World.apply.Goals as goal
@@ -22,7 +22,7 @@ forget_applied-requires-clause-first g c = λ k s e.
     let here : i < w.shards.len = c.in-Some.ensures.variant.0 (refl {a = true}) in
     let there : slice_get w.shards.items i ≡ Some old = slice_get_read w.shards.items w.shards.len i old (omega (arith, w.shards.ok.0)) here c.in-Some.ensures.value in
     let room : 0 < w.admission.config.limits.batch = omega (arith, w.admission.config.limits.some_batch) in
-    let each : EachHolds place_of (placed_by w.admission.config w.admission.shards placing) w.admission.list w.taken w.admission.first (slice_set w.shards.items i new) =
+    let each : EachRefines place_of (placed_by w.admission.config w.admission.shards placing) w.admission.list w.taken w.admission.first (slice_set w.shards.items i new) =
     each_applied place_of (placed_by w.admission.config w.admission.shards placing) w.admission.list w.taken w.admission.first w.shards.items i old new c.apply_next-applied.result room there w.holding c.apply_next-applied.ensures in
     (each k s (ap (λ (xs : List (Shard g.row.P.Denot)). slice_get xs k) (sym c.deref.ensures.value) ∙ e)).past
 
@@ -37,7 +37,7 @@ forget_applied-requires-clause-end g c = λ k s e.
     let here : i < w.shards.len = c.in-Some.ensures.variant.0 (refl {a = true}) in
     let there : slice_get w.shards.items i ≡ Some old = slice_get_read w.shards.items w.shards.len i old (omega (arith, w.shards.ok.0)) here c.in-Some.ensures.value in
     let room : 0 < w.admission.config.limits.batch = omega (arith, w.admission.config.limits.some_batch) in
-    let each : EachHolds place_of (placed_by w.admission.config w.admission.shards placing) w.admission.list w.taken w.admission.first (slice_set w.shards.items i new) =
+    let each : EachRefines place_of (placed_by w.admission.config w.admission.shards placing) w.admission.list w.taken w.admission.first (slice_set w.shards.items i new) =
     each_applied place_of (placed_by w.admission.config w.admission.shards placing) w.admission.list w.taken w.admission.first w.shards.items i old new c.apply_next-applied.result room there w.holding c.apply_next-applied.ensures in
     (each k s (ap (λ (xs : List (Shard g.row.P.Denot)). slice_get xs k) (sym c.deref.ensures.value) ∙ e)).holds.within
 
@@ -68,7 +68,7 @@ invariant_of-self-2 g c =
     let here : i < w.shards.len = c.in-Some.ensures.variant.0 (refl {a = true}) in
     let there : slice_get w.shards.items i ≡ Some old = slice_get_read w.shards.items w.shards.len i old (omega (arith, w.shards.ok.0)) here c.in-Some.ensures.value in
     let room : 0 < w.admission.config.limits.batch = omega (arith, w.admission.config.limits.some_batch) in
-    let each : EachHolds place_of (placed_by w.admission.config w.admission.shards placing) w.admission.list w.taken w.admission.first (slice_set w.shards.items i new) =
+    let each : EachRefines place_of (placed_by w.admission.config w.admission.shards placing) w.admission.list w.taken w.admission.first (slice_set w.shards.items i new) =
     each_applied place_of (placed_by w.admission.config w.admission.shards placing) w.admission.list w.taken w.admission.first w.shards.items i old new c.apply_next-applied.result room there w.holding c.apply_next-applied.ensures in
     let others = c.forget_applied.ensures.others in
     record {

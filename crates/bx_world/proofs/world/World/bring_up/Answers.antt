@@ -7,7 +7,7 @@ use Rattle.bx_shard.specs.declared.shard.Shard.{Shard}
 use Rattle.bx_workers.specs.Upward.{BroughtUp}
 use Rattle.bx_world.specs.Admissions.{Admitting, entries_kept}
 use Rattle.bx_admission.specs.Slots.{placed_by}
-use Rattle.bx_world.specs.Held.{EachHolds, StandFrom, StandWithin, some_stands_at}
+use Rattle.bx_world.specs.Refining.{EachRefines, StandFrom, StandWithin, some_stands_at}
 use Rattle.bx_world.proofs.Applications.{each_from}
 use Rattle.bx_world.proofs.Upwards.{count_upward, each_upward, places_onward, places_stopped, places_within, written_back}
 use Rattle.bx_world.proofs.world.World.bring_up.Goals as goal
@@ -26,7 +26,7 @@ brought : (g : _) (c : After-bring_up-behind g) → BroughtUp g.P.Placing.place_
 brought g c = subst (λ (xs : List (Shard g.row.P.Denot)). BroughtUp g.P.Placing.place_of (entries_kept c.args.self.now.admission) xs c.bring_up-behind.new.shards) c.deref_mut.ensures.value c.bring_up-behind.ensures.brought
 
 holds : (g : _) (c : After-bring_up-behind g) →
-    EachHolds g.P.Placing.place_of (placed_by c.args.self.now.admission.config c.args.self.now.admission.shards (g.P.Placing.place_of (arc_value c.args.self.now.placing))) c.args.self.now.admission.list c.args.self.now.taken c.args.self.now.admission.first c.bring_up-behind.new.shards
+    EachRefines g.P.Placing.place_of (placed_by c.args.self.now.admission.config c.args.self.now.admission.shards (g.P.Placing.place_of (arc_value c.args.self.now.placing))) c.args.self.now.admission.list c.args.self.now.taken c.args.self.now.admission.first c.bring_up-behind.new.shards
 holds g c =
     let w = c.args.self.now in
     let room : 0 < w.admission.config.limits.batch = omega (arith, w.admission.config.limits.some_batch) in
@@ -70,7 +70,7 @@ invariant_of-self g c =
       some_shard = subst (λ (a : Admitting). 1 ≤ a.shards) (sym (whole g after)) w.some_shard;
       shards_in_range = subst (λ (a : Admitting). a.shards ≤ 64) (sym (whole g after)) w.shards_in_range;
       counted = ap (λ (xs : List (Shard g.row.P.Denot)). length xs) (back g before) ∙ (brought g before).all ∙ w.counted ∙ sym (ap (λ (a : Admitting). a.shards) (whole g after));
-      holding = subst (EachHolds place_of (placed_by new.config new.shards placing) new.list w.taken new.first) (sym (back g before)) (each_from place_of placing w.admission new w.taken ys (holds g before) (whole g after) from);
+      holding = subst (EachRefines place_of (placed_by new.config new.shards placing) new.list w.taken new.first) (sym (back g before)) (each_from place_of placing w.admission new w.taken ys (holds g before) (whole g after) from);
       slowest = subst (λ (xs : List (Shard g.row.P.Denot)). some_stands_at new.first xs ≡ true) c.deref.ensures.value c.forget_applied.ensures.slowest;
     }
 

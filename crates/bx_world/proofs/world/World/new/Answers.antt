@@ -5,7 +5,7 @@ use Rattle.bx_advice.specs.Limits.{greatest_length}
 use Rattle.bx_shard.specs.declared.shard.Shard.{Shard}
 use Rattle.bx_world.specs.Admissions.{Admitting}
 use Rattle.bx_admission.specs.Slots.{placed_by}
-use Rattle.bx_world.specs.Held.{EachHolds, some_stands_at}
+use Rattle.bx_world.specs.Refining.{EachRefines, some_stands_at}
 use Rattle.bx_world.proofs.Slowest.{all_stand}
 use Rattle.bx_world.proofs.Starting.{AreFirst, IsFirst, first_hold, first_places, one_more_first, world_first}
 use Rattle.bx_world.proofs.world.World.new.Goals as goal
@@ -44,14 +44,14 @@ invariant_of-result g c =
     let made = c.in_ok-new.ensures in
     let whole : loop.index ≡ config.shards = omega (arith, loop.auto.index-end, c.loop-index-test.false) in
     let none : length {A = ℕ} [] ≤ greatest_length = omega arith in
-    let held : EachHolds place_of (placed_by config config.shards (place_of placing)) [] [] 0 xs = first_hold place_of config placing xs loop.invariant.first in
+    let held : EachRefines place_of (placed_by config config.shards (place_of placing)) [] [] 0 xs = first_hold place_of config placing xs loop.invariant.first in
     record {
       bounded = subst (λ (a : Admitting). length a.list ≤ greatest_length) (sym made) none;
       some_shard = subst (λ (a : Admitting). 1 ≤ a.shards) (sym made) config.some_shard;
       shards_in_range = subst (λ (a : Admitting). a.shards ≤ 64) (sym made) config.shards_in_range;
       counted = loop.invariant.many ∙ whole ∙ sym (ap (λ (a : Admitting). a.shards) made);
-      holding = subst (λ (taken : List ℕ). EachHolds place_of (placed_by c.in_ok-new.field-0.config c.in_ok-new.field-0.shards (place_of placing)) c.in_ok-new.field-0.list taken c.in_ok-new.field-0.first xs) (sym c.new-2.ensures)
-          (subst (λ (a : Admitting). EachHolds place_of (placed_by a.config a.shards (place_of placing)) a.list [] a.first xs) (sym made) held);
+      holding = subst (λ (taken : List ℕ). EachRefines place_of (placed_by c.in_ok-new.field-0.config c.in_ok-new.field-0.shards (place_of placing)) c.in_ok-new.field-0.list taken c.in_ok-new.field-0.first xs) (sym c.new-2.ensures)
+          (subst (λ (a : Admitting). EachRefines place_of (placed_by a.config a.shards (place_of placing)) a.list [] a.first xs) (sym made) held);
       slowest = subst (λ (a : Admitting). some_stands_at a.first xs ≡ true) (sym made)
           (all_stand xs config.shards 0 (first_places place_of config placing xs config.shards (loop.invariant.many ∙ whole) loop.invariant.first) config.some_shard);
     }

@@ -7,7 +7,7 @@ use Rattle.bx_shard.specs.declared.shard.Shard.{Shard}
 use Rattle.bx_shard.proofs.DealLaws.{holders_are_apart}
 use Rattle.bx_world.specs.Admissions.{Admitting}
 use Rattle.bx_admission.specs.Slots.{placed_by}
-use Rattle.bx_world.specs.Held.{EachHolds, some_stands_at}
+use Rattle.bx_world.specs.Refining.{EachRefines, some_stands_at}
 use Rattle.bx_world.proofs.Dealing.{AreAtEnd, dealt_at_end, same_world, states_hold}
 use Rattle.bx_world.proofs.world.World.reshard.Goals as goal
 use Rattle.bx_world.proofs.world.World.reshard.Goals.{In-Ok-deal, Start}
@@ -52,7 +52,7 @@ invariant_of-result g c =
       some_shard = subst (λ (a : Admitting). 1 ≤ a.shards) (sym now) c.requires.some_shard;
       shards_in_range = subst (λ (a : Admitting). a.shards ≤ 64) (sym now) c.requires.shards_in_range;
       counted = d.many ∙ sym (ap (λ (a : Admitting). a.shards) now);
-      holding = subst (λ (a : Admitting). EachHolds g.P.Placing.place_of (placed_by a.config a.shards (g.P.Placing.place_of (arc_value c.args.placing))) a.list w.taken a.first ys) (sym now) d.each;
+      holding = subst (λ (a : Admitting). EachRefines g.P.Placing.place_of (placed_by a.config a.shards (g.P.Placing.place_of (arc_value c.args.placing))) a.list w.taken a.first ys) (sym now) d.each;
       slowest = subst (λ (a : Admitting). some_stands_at a.first ys ≡ true) (sym now) d.some;
     }
 
@@ -65,7 +65,7 @@ invariant_of-world g c =
       some_shard = w.some_shard;
       shards_in_range = w.shards_in_range;
       counted = ap (λ (xs : List (Shard g.row.P.Denot)). length xs) (sym same) ∙ w.counted;
-      holding = subst (EachHolds g.P.Placing.place_of (placed_by w.admission.config w.admission.shards (g.P.Placing.place_of (arc_value w.placing))) w.admission.list w.taken w.admission.first) same w.holding;
+      holding = subst (EachRefines g.P.Placing.place_of (placed_by w.admission.config w.admission.shards (g.P.Placing.place_of (arc_value w.placing))) w.admission.list w.taken w.admission.first) same w.holding;
       slowest = subst (λ (xs : List (Shard g.row.P.Denot)). some_stands_at w.admission.first xs ≡ true) same w.slowest;
     }
 

@@ -3,13 +3,13 @@ use Rattle.std.specs.Arc.{arc_value}
 use Rattle.std.proofs.lemmas.List.{length-set}
 use Rattle.std.proofs.lemmas.Option.{slice_get_read}
 use Rattle.bx_connects.specs.Connects.{filed_answer}
-use Rattle.bx_shard.specs.Held.{Took}
+use Rattle.bx_shard.specs.Refining.{Took}
 use Rattle.bx_shard.specs.Seen.{state}
 use Rattle.bx_shard.specs.States.{connect_in}
 use Rattle.bx_shard.specs.declared.shard.Shard.{Shard}
 use Rattle.bx_admission.specs.Slots.{placed_by}
 use Rattle.bx_message.specs.declared.reply.Answer.{Answer}
-use Rattle.bx_world.specs.Held.{EachHolds}
+use Rattle.bx_world.specs.Refining.{EachRefines}
 use Rattle.bx_world.specs.Worlds.{WorldState, IsOutput, after}
 use Rattle.bx_world.specs.declared.step.Step.TheVariants.{Take}
 use Rattle.bx_world.specs.declared.step.StepOut.TheVariants.{Taken}
@@ -81,7 +81,7 @@ invariant_of-self-2 g c =
       some_shard = w.some_shard;
       shards_in_range = w.shards_in_range;
       counted = length-set w.shards.items t.shard new ∙ w.counted;
-      holding = subst (λ (taken : List ℕ). EachHolds place_of setup w.admission.list taken w.admission.first (slice_set w.shards.items t.shard new)) (sym c.push.ensures)
+      holding = subst (λ (taken : List ℕ). EachRefines place_of setup w.admission.list taken w.admission.first (slice_set w.shards.items t.shard new)) (sym c.push.ensures)
           (each_taken place_of setup w.admission.list w.taken w.admission.first w.shards.items t old new a room there w.holding some took c.take.ensures.sound);
       slowest = same_slowest w.shards.items (slice_set w.shards.items t.shard new) w.admission.first (same_places place_of setup w.admission.list w.taken w.admission.first w.shards.items t old new there took.place_is) w.slowest;
     }

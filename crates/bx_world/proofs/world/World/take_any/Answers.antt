@@ -5,13 +5,13 @@ use Rattle.std.proofs.lemmas.List.{length-set}
 use Rattle.std.proofs.lemmas.Option.{slice_get_read}
 use Rattle.bx_entry.specs.declared.entry.Ticket.{Ticket}
 use Rattle.bx_connects.specs.Connects.{filed_answer}
-use Rattle.bx_shard.specs.Held.{Took}
+use Rattle.bx_shard.specs.Refining.{Took}
 use Rattle.bx_shard.specs.Seen.{state}
 use Rattle.bx_shard.specs.States.{connect_in}
 use Rattle.bx_connects.specs.declared.filing.Filing.{Filing}
 use Rattle.bx_shard.specs.declared.shard.Shard.{Shard}
 use Rattle.bx_admission.specs.Slots.{placed_by}
-use Rattle.bx_world.specs.Held.{EachHolds}
+use Rattle.bx_world.specs.Refining.{EachRefines}
 use Rattle.bx_world.specs.Worlds.{WorldState, filed_under}
 use Rattle.bx_world.proofs.Slowest.{same_slowest}
 use Rattle.bx_world.proofs.Takings.{each_same, each_taken, none_filed, same_places, taking_gives}
@@ -80,7 +80,7 @@ invariant_of-self-2 g c =
       some_shard = w.some_shard;
       shards_in_range = w.shards_in_range;
       counted = length-set w.shards.items t.shard new ∙ w.counted;
-      holding = subst (λ (taken : List ℕ). EachHolds place_of setup w.admission.list taken w.admission.first (slice_set w.shards.items t.shard new)) (sym c.push.ensures)
+      holding = subst (λ (taken : List ℕ). EachRefines place_of setup w.admission.list taken w.admission.first (slice_set w.shards.items t.shard new)) (sym c.push.ensures)
           (each_taken place_of setup w.admission.list w.taken w.admission.first w.shards.items t old new filing.answer room there w.holding some took c.take_any.ensures.sound);
       slowest = same_slowest w.shards.items (slice_set w.shards.items t.shard new) w.admission.first (same_places place_of setup w.admission.list w.taken w.admission.first w.shards.items t old new there took.place_is) w.slowest;
     }

@@ -44,7 +44,7 @@ pub record IsOwn (setup : Setup) (list : List Listed) (shard place session : ℕ
 -- What the program's shard holds is what the definition's shard holds after the first n entries, when the answers at `taken` were taken. What was
 -- taken stands in the list, and of a connect of the shard whose answer was taken nothing is known any longer. Each connect that is known is one of a
 -- session that stands in the shard.
-pub record Holds (setup : Setup) (list : List Listed) (taken : List ℕ) (shard n : ℕ) (s : State) : Type 0 where
+pub record Refines (setup : Setup) (list : List Listed) (taken : List ℕ) (shard n : ℕ) (s : State) : Type 0 where
   pub setup_is : s.setup ≡ setup
   pub index_is : s.index ≡ shard
   pub place_is : s.place ≡ n
@@ -57,23 +57,23 @@ pub record Holds (setup : Setup) (list : List Listed) (taken : List ℕ) (shard 
   pub owned : (p m : ℕ) → session_at (connect_in s p) ≡ Some m → IsOwn setup list shard p m
 
 -- so it is of a shard that has applied nothing yet
-abbrev pub HoldsAtFirst : Type 0
-HoldsAtFirst = (setup : Setup) (shard : ℕ) (s : State) → s.setup ≡ setup → s.index ≡ shard → s.place ≡ 0 → IsSound s →
-    ((m : ℕ) → session_in s m ≡ None) → ((p : ℕ) → connect_in s p ≡ None) → Holds setup [] [] shard 0 s
+abbrev pub RefinesAtFirst : Type 0
+RefinesAtFirst = (setup : Setup) (shard : ℕ) (s : State) → s.setup ≡ setup → s.index ≡ shard → s.place ≡ 0 → IsSound s →
+    ((m : ℕ) → session_in s m ≡ None) → ((p : ℕ) → connect_in s p ≡ None) → Refines setup [] [] shard 0 s
 
 -- after one more entry of the list, where the shard has applied it
-abbrev pub HoldsOnwards : Type 0
-HoldsOnwards = (setup : Setup) (list : List Listed) (taken : List ℕ) (shard n : ℕ) (e : Entry) (old new : State) → 0 < setup.config.limits.batch →
-    slice_get (entries setup.config list) n ≡ Some e → Holds setup list taken shard n old → Applied old e new → IsSound new → Holds setup list taken shard (n + 1) new
+abbrev pub RefinesOnwards : Type 0
+RefinesOnwards = (setup : Setup) (list : List Listed) (taken : List ℕ) (shard n : ℕ) (e : Entry) (old new : State) → 0 < setup.config.limits.batch →
+    slice_get (entries setup.config list) n ≡ Some e → Refines setup list taken shard n old → Applied old e new → IsSound new → Refines setup list taken shard (n + 1) new
 
 -- after a call that left it as it was
-abbrev pub HoldsStill : Type 0
-HoldsStill = (setup : Setup) (list : List Listed) (taken : List ℕ) (shard n : ℕ) (old new : State) →
-    Holds setup list taken shard n old → IsAsBefore old new → IsSound new → Holds setup list taken shard n new
+abbrev pub RefinesStill : Type 0
+RefinesStill = (setup : Setup) (list : List Listed) (taken : List ℕ) (shard n : ℕ) (old new : State) →
+    Refines setup list taken shard n old → IsAsBefore old new → IsSound new → Refines setup list taken shard n new
 
 -- over every longer list
-abbrev pub HoldsLonger : Type 0
-HoldsLonger = (setup : Setup) (list more : List Listed) (taken : List ℕ) (shard n : ℕ) (s : State) → Holds setup list taken shard n s → Holds setup (list ++ more) taken shard n s
+abbrev pub RefinesLonger : Type 0
+RefinesLonger = (setup : Setup) (list more : List Listed) (taken : List ℕ) (shard n : ℕ) (s : State) → Refines setup list taken shard n s → Refines setup (list ++ more) taken shard n s
 
 -- the shard after the answer to the connect at this place was taken, where it was filed
 pub record Took (place : ℕ) (old new : State) : Type 0 where
@@ -85,25 +85,25 @@ pub record Took (place : ℕ) (old new : State) : Type 0 where
   pub connects : (p : ℕ) → connect_in new p ≡ (if nat_eq place p then taken_from (connect_in old place) else connect_in old p)
 
 -- after an answer was taken
-abbrev pub HoldsTaken : Type 0
-HoldsTaken = (setup : Setup) (list : List Listed) (taken : List ℕ) (shard n place : ℕ) (old new : State) → 0 < setup.config.limits.batch →
-    Holds setup list taken shard n old → IsSome (filed_answer (connect_in old place)) → Took place old new → IsSound new → Holds setup list (taken ++ place ∷ []) shard n new
+abbrev pub RefinesTaken : Type 0
+RefinesTaken = (setup : Setup) (list : List Listed) (taken : List ℕ) (shard n place : ℕ) (old new : State) → 0 < setup.config.limits.batch →
+    Refines setup list taken shard n old → IsSome (filed_answer (connect_in old place)) → Took place old new → IsSound new → Refines setup list (taken ++ place ∷ []) shard n new
 
 -- and after one was taken from another shard
-abbrev pub HoldsBeside : Type 0
-HoldsBeside = (setup : Setup) (list : List Listed) (taken : List ℕ) (shard n place : ℕ) (s : State) (other m : ℕ) (beside : State) → 0 < setup.config.limits.batch →
-    Holds setup list taken shard n s → IsSome (filed_answer (connect_in s place)) → other ≢ shard → Holds setup list taken other m beside →
-    Holds setup list (taken ++ place ∷ []) other m beside
+abbrev pub RefinesBeside : Type 0
+RefinesBeside = (setup : Setup) (list : List Listed) (taken : List ℕ) (shard n place : ℕ) (s : State) (other m : ℕ) (beside : State) → 0 < setup.config.limits.batch →
+    Refines setup list taken shard n s → IsSome (filed_answer (connect_in s place)) → other ≢ shard → Refines setup list taken other m beside →
+    Refines setup list (taken ++ place ∷ []) other m beside
 
 -- after a waker was brought for a connect
-abbrev pub HoldsWatched : Type 0
-HoldsWatched = (setup : Setup) (list : List Listed) (taken : List ℕ) (shard n connect : ℕ) (waker : Waker) (old new : State) →
-    Holds setup list taken shard n old → Watched connect waker old new → IsSound new → Holds setup list taken shard n new
+abbrev pub RefinesWatched : Type 0
+RefinesWatched = (setup : Setup) (list : List Listed) (taken : List ℕ) (shard n connect : ℕ) (waker : Waker) (old new : State) →
+    Refines setup list taken shard n old → Watched connect waker old new → IsSound new → Refines setup list taken shard n new
 
 -- after it was shut
-abbrev pub HoldsShut : Type 0
-HoldsShut = (setup : Setup) (list : List Listed) (taken : List ℕ) (shard n : ℕ) (old new : State) →
-    Holds setup list taken shard n old → WasShut old new → IsSound new → Holds setup list taken shard n new
+abbrev pub RefinesShut : Type 0
+RefinesShut = (setup : Setup) (list : List Listed) (taken : List ℕ) (shard n : ℕ) (old new : State) →
+    Refines setup list taken shard n old → WasShut old new → IsSound new → Refines setup list taken shard n new
 
 -- whether the answer is filed, and below this place
 abbrev pub is_swept : ℕ → Option ConnectState → Bool
@@ -115,18 +115,18 @@ abbrev pub swept_places : ℕ → State → List ℕ
 swept_places before s = filter (λ (place : ℕ). is_swept before (connect_in s place)) (keys_of s.sessions.connects.filed)
 
 -- after those answers were dropped
-abbrev pub HoldsSwept : Type 0
-HoldsSwept = (setup : Setup) (list : List Listed) (taken : List ℕ) (shard n before : ℕ) (old new : State) →
-    Holds setup list taken shard n old → Swept before old new → IsSound new → Holds setup list (taken ++ swept_places before old) shard n new
+abbrev pub RefinesSwept : Type 0
+RefinesSwept = (setup : Setup) (list : List Listed) (taken : List ℕ) (shard n before : ℕ) (old new : State) →
+    Refines setup list taken shard n old → Swept before old new → IsSound new → Refines setup list (taken ++ swept_places before old) shard n new
 
 -- and after they were dropped from another shard
-abbrev pub HoldsBesideSwept : Type 0
-HoldsBesideSwept = (setup : Setup) (list : List Listed) (taken : List ℕ) (shard n before : ℕ) (s : State) (other m : ℕ) (beside : State) →
-    Holds setup list taken shard n s → other ≢ shard → Holds setup list taken other m beside → Holds setup list (taken ++ swept_places before s) other m beside
+abbrev pub RefinesBesideSwept : Type 0
+RefinesBesideSwept = (setup : Setup) (list : List Listed) (taken : List ℕ) (shard n before : ℕ) (s : State) (other m : ℕ) (beside : State) →
+    Refines setup list taken shard n s → other ≢ shard → Refines setup list taken other m beside → Refines setup list (taken ++ swept_places before s) other m beside
 
 -- ---- what it gives
 
 -- what is filed for a connect is what one thread gives it over the entries that the shard has applied
 abbrev pub FiledIsGiven : Type 0
-FiledIsGiven = (setup : Setup) (list : List Listed) (taken : List ℕ) (shard n place : ℕ) (s : State) (a : Answer) → Holds setup list taken shard n s →
+FiledIsGiven = (setup : Setup) (list : List Listed) (taken : List ℕ) (shard n place : ℕ) (s : State) (a : Answer) → Refines setup list taken shard n s →
     filed_answer (connect_in s place) ≡ Some a → option_map given_of (answer setup.config (take n list) place) ≡ Some a

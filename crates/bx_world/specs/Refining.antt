@@ -3,7 +3,7 @@ use Rattle.std.specs.Prelude.{ℕ, ◌≡◌, ◌≤◌, ◌==◌, Bool, false, 
 use Rattle.std.specs.List.{list_any}
 use Rattle.bx_entry.specs.Listing.{Listed}
 use Rattle.bx_entry.specs.declared.entry.Entry.{Entry}
-use Rattle.bx_shard.specs.Held.{Holds}
+use Rattle.bx_shard.specs.Refining.{Refines}
 use Rattle.bx_shard.specs.Seen.{state}
 use Rattle.bx_shard.specs.Shards.{Setup}
 use Rattle.bx_shard.specs.States as states
@@ -13,13 +13,13 @@ use Rattle.bx_world.specs.declared.step.Applied.{Applied}
 use Rattle.bx_world.specs.declared.step.Applied.TheVariants.{Done, Level, Memory}
 
 -- a shard holds what the definition's shard of this index holds, and has applied every entry below a place
-pub record HoldsFrom {P : Type 0} (place_of : P → ℕ → ℕ → ℕ) (setup : Setup) (list : List Listed) (taken : List ℕ) (first k : ℕ) (s : Shard P) : Type 0 where
-  pub holds : Holds setup list taken k s.place (state place_of s)
+pub record RefinesFrom {P : Type 0} (place_of : P → ℕ → ℕ → ℕ) (setup : Setup) (list : List Listed) (taken : List ℕ) (first k : ℕ) (s : Shard P) : Type 0 where
+  pub holds : Refines setup list taken k s.place (state place_of s)
   pub past : first ≤ s.place
 
 -- so does each shard
-abbrev pub EachHolds : {P : Type 0} → (P → ℕ → ℕ → ℕ) → Setup → List Listed → List ℕ → ℕ → List (Shard P) → Type 0
-EachHolds {P} place_of setup list taken first shards = (k : ℕ) → (s : Shard P) → slice_get shards k ≡ Some s → HoldsFrom place_of setup list taken first k s
+abbrev pub EachRefines : {P : Type 0} → (P → ℕ → ℕ → ℕ) → Setup → List Listed → List ℕ → ℕ → List (Shard P) → Type 0
+EachRefines {P} place_of setup list taken first shards = (k : ℕ) → (s : Shard P) → slice_get shards k ≡ Some s → RefinesFrom place_of setup list taken first k s
 
 -- each shard has applied every entry below a place
 abbrev pub StandFrom : {P : Type 0} → ℕ → List (Shard P) → Type 0
