@@ -6,6 +6,7 @@ pub mod Values
 pub mod Words
 pub mod Bytes
 pub mod Checks
+pub mod Converted
 pub mod Contents
 pub mod Lists
 pub mod Insides

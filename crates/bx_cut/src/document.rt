@@ -1,20 +1,17 @@
-ghost use Rattle.std.specs.Prelude.{◌≡◌, ◌≢◌, ◌<◌, ◌≤◌, length, map, option_map, is_some, IfOk, IfErr, OnOk, IfSome, Some, None};
-ghost use Rattle.std.specs.List.{list_all};
+ghost use Rattle.std.specs.Prelude.{◌≡◌, ◌≢◌, ◌<◌, length, map, option_map, IfOk, IfErr, OnOk, IfSome, Some, None};
 ghost use Rattle.serde_json.specs.Data.{Data};
-ghost use Rattle.serde_json.specs.Find.{as_object};
 ghost use Rattle.serde_json.specs.Read.{read};
-ghost use Rattle.serde_json.specs.View.{view};
 ghost use Rattle.bx_cut.specs.Cut.{IsRest, listed, split_member};
-ghost use Rattle.bx_cut.specs.Faults.{fault, value_fault};
+ghost use Rattle.bx_cut.specs.Faults.{fault};
 ghost use Rattle.bx_cut.specs.Laws.{ArePiecesOf, LieIn};
 ghost use Rattle.bx_cut.specs.Pieces.{last_member, pieces, split_object};
 ghost use Rattle.bx_cut.specs.Views.{member_view};
 
+use crate::check::check;
 use crate::error::CutError;
 use crate::scan::after_first;
 use crate::split::{Member, past, past_blank, split_member};
 use crate::string::spells;
-use serde_json::Value;
 use std::alloc::{AllocError, Global};
 use std::marker::Model;
 
@@ -104,38 +101,6 @@ impl<'a> Piece<'a> {
         }
         found
     }
-}
-
-// Whether the text is a value that may be cut.
-fn check(alloc: Global, text: &str) -> Result<(), CutError>
-    ensures ok { OnOk result (value_fault (read text.now) ≡ None) }
-    ensures fault { IfErr result (λ e. e ≢ CutError.Memory
-        → value_fault (read text.now) ≡ Some e) }
-{
-    let value = match Value::from_str(alloc, text) {
-        Ok(value) => value,
-        Err(error) if error.is_memory() => return Err(CutError::Memory),
-        Err(_) => return Err(CutError::NotJson),
-    };
-    if value.is_object() {
-        return Ok(());
-    }
-    let Some(items) = value.as_array() else {
-        return Err(CutError::NotObject);
-    };
-    if !are_objects(items) {
-        return Err(CutError::NotObject);
-    }
-    if items.len() > MAX_MESSAGES {
-        return Err(CutError::TooMany);
-    }
-    Ok(())
-}
-
-fn are_objects(items: &[Value]) -> bool
-    ensures { result ≡ list_all (λ item. is_some (as_object (view item))) items.now }
-{
-    items.iter().all(|item| item.is_object())
 }
 
 // The messages of a text that is a value which may be cut.

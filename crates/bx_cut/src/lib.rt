@@ -2,6 +2,7 @@
 #![tactic(auto)]
 
 mod bodies;
+mod check;
 mod document;
 mod error;
 mod scan;

@@ -186,6 +186,191 @@ fn limits_are_exact(rt: HostRuntime) -> Result<(), Fail> {
     Ok(())
 }
 
+#[test]
+fn bodies_are_read_to_their_end(rt: HostRuntime) {
+    let broken: [&str; 21] = [
+        "{}1",
+        "{}x",
+        "{},",
+        "{}}",
+        "1,2",
+        "[{}]]",
+        "[] []",
+        "[{}] {}",
+        "]",
+        "}",
+        "[}",
+        "{]",
+        r#"{"a":[1}"#,
+        r#"{"a":{"b":1]}"#,
+        r#"[{"a":{"b":tru}}]"#,
+        r#"[{"a":{"b":1,}}]"#,
+        r#"[{"a":{"b"}}]"#,
+        r#"[{"a":[{},{1}]}]"#,
+        r#"[1,{"a":[,]}]"#,
+        r#"{"\ud800":1}"#,
+        r#"[{"a":{"\udc00":1}}]"#,
+    ];
+    for body in broken {
+        assert_fault(&rt, rt.alloc(), body.as_bytes(), CutError::NotJson);
+    }
+}
+
+#[test]
+fn only_objects_are_messages(rt: HostRuntime) {
+    for body in [
+        "-0",
+        "true",
+        "[1,{}]",
+        "[[{}]]",
+        "[{},[{}]]",
+        "[{},\"{}\"]",
+        "[{},null,{}]",
+        "[[],{}]",
+        "[{},false]",
+    ] {
+        assert_fault(&rt, rt.alloc(), body.as_bytes(), CutError::NotObject);
+    }
+}
+
+// How many messages the body has in which the number stands at this place.
+fn count_with(
+    alloc: Global,
+    (front, back): (&str, &str),
+    number: &str,
+) -> Result<Result<usize, CutError>, Fail> {
+    let body = repeated(alloc, front, number, 1, back)?;
+    Ok(texts_of(alloc, body.as_str().as_bytes()).map(|texts| texts.len()))
+}
+
+#[test]
+fn numbers_in_range_are_read(rt: HostRuntime) -> Result<(), Fail> {
+    for number in [
+        "0",
+        "-0",
+        "-0.0",
+        "0e999999",
+        "1e-400",
+        "1e308",
+        "-1e308",
+        "1.7976931348623157e308",
+        "-1.7976931348623157e308",
+        "9223372036854775808",
+        "-9223372036854775808",
+        "-9223372036854775809",
+        "18446744073709551615",
+        "18446744073709551616",
+        "-18446744073709551616",
+    ] {
+        for place in [
+            ("{\"a\":", "}"),
+            ("[{\"a\":[1,", "]}]"),
+            ("{\"b\":{\"c\":", "}}"),
+        ] {
+            assert_eq!(rt; count_with(rt.alloc(), place, number)?, Ok(1), "{number}");
+        }
+        assert_eq!(rt;
+            count_with(rt.alloc(), ("", ""), number)?,
+            Err(CutError::NotObject)
+        );
+    }
+    Ok(())
+}
+
+#[test]
+fn numbers_too_large_for_a_float_are_no_json(rt: HostRuntime) -> Result<(), Fail> {
+    for number in [
+        "1e309",
+        "-1e309",
+        "1e400",
+        "-1e400",
+        "1.8e308",
+        "1.7976931348623159e308",
+        "-1.7976931348623159e308",
+        "10e308",
+    ] {
+        for place in [
+            ("{\"a\":", "}"),
+            ("[{\"a\":[", "]}]"),
+            ("[{},", "]"),
+            ("", ""),
+        ] {
+            assert_eq!(rt;
+                count_with(rt.alloc(), place, number)?,
+                Err(CutError::NotJson),
+                "{number}"
+            );
+        }
+    }
+    for front in ["{\"a\":1", "{\"a\":-1"] {
+        let longest = repeated(rt.alloc(), front, "0", 308, "}")?;
+        assert_eq!(rt; texts_of(rt.alloc(), longest.as_str().as_bytes())?.len(), 1);
+        let longer = repeated(rt.alloc(), front, "0", 309, "}")?;
+        assert_fault(
+            &rt,
+            rt.alloc(),
+            longer.as_str().as_bytes(),
+            CutError::NotJson,
+        );
+    }
+    Ok(())
+}
+
+// `depth` times `open`, `inside`, and as many times `close`.
+fn nested(
+    alloc: Global,
+    open: &str,
+    inside: &str,
+    close: &str,
+    depth: usize,
+) -> Result<String, Fail> {
+    let end = repeated(alloc, inside, close, depth, "")?;
+    repeated(alloc, "", open, depth, end.as_str())
+}
+
+#[test]
+fn values_nest_127_deep(rt: HostRuntime) -> Result<(), Fail> {
+    let alloc = rt.alloc();
+    let arrays = nested(alloc, "[", "", "]", 127)?;
+    assert_fault(&rt, alloc, arrays.as_str().as_bytes(), CutError::NotObject);
+    let deeper = nested(alloc, "[", "", "]", 128)?;
+    assert_fault(&rt, alloc, deeper.as_str().as_bytes(), CutError::NotJson);
+
+    let objects = nested(alloc, "{\"a\":", "0", "}", 127)?;
+    assert_eq!(rt; texts_of(alloc, objects.as_str().as_bytes())?.len(), 1);
+    let deeper = nested(alloc, "{\"a\":", "0", "}", 128)?;
+    assert_fault(&rt, alloc, deeper.as_str().as_bytes(), CutError::NotJson);
+
+    let inside = nested(alloc, "[", "", "]", 125)?;
+    let listed = repeated(alloc, "[{},{\"a\":", inside.as_str(), 1, "},{}]")?;
+    assert_eq!(rt; texts_of(alloc, listed.as_str().as_bytes())?.len(), 3);
+    let inside = nested(alloc, "[", "", "]", 126)?;
+    let deeper = repeated(alloc, "[{},{\"a\":", inside.as_str(), 1, "},{}]")?;
+    assert_fault(&rt, alloc, deeper.as_str().as_bytes(), CutError::NotJson);
+    Ok(())
+}
+
+#[test]
+fn only_messages_are_counted(rt: HostRuntime) -> Result<(), Fail> {
+    let alloc = rt.alloc();
+    let inside = repeated(alloc, "[{\"a\":[", "{},", 300, "{}]},{}]")?;
+    assert_eq!(rt; texts_of(alloc, inside.as_str().as_bytes())?.len(), 2);
+    let member = repeated(alloc, "{\"a\":[", "{},", 300, "1]}")?;
+    assert_eq!(rt; texts_of(alloc, member.as_str().as_bytes())?.len(), 1);
+    let table = [
+        ("[[", "{},", "{}]]", CutError::NotObject),
+        ("[1,", "{},", "{}]", CutError::NotObject),
+        ("[", "1,", "1]", CutError::NotObject),
+        ("[", "{},", "{}]", CutError::TooMany),
+        ("[", "{},", "{}]]", CutError::NotJson),
+    ];
+    for (front, part, back, wanted) in table {
+        let body = repeated(alloc, front, part, 999, back)?;
+        assert_fault(&rt, alloc, body.as_str().as_bytes(), wanted);
+    }
+    Ok(())
+}
+
 fn assert_elements(rt: &impl Abort, array: &str, wanted: &[&str]) {
     let mut elements = elements_of(array);
     for want in wanted {
