@@ -3,6 +3,7 @@ pub mod FreshLemmas
 pub mod IndexLemmas
 pub mod KeptLemmas
 pub mod MeetLemmas
+pub mod PathLemmas
 pub mod NodeLemmas
 pub mod SessionLemmas
 pub mod StandsLemmas

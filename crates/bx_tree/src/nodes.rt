@@ -137,18 +137,20 @@ impl Nodes {
             numbers: Vec::new(alloc),
             visited: 0,
         };
-        let mut path = String::with_capacity(alloc, name.as_str().len())?;
+        let text = name.as_str();
+        // How many bytes of the name the path has.
+        let mut len = 0;
         let mut left = name.segment_count();
         for segment in name.segments() {
-            found.reach(&self.many, path.as_str())?;
+            let (path, _) = text.split_at(len);
+            found.reach(&self.many, path)?;
             if left == 1 {
-                found.reach(&self.one, path.as_str())?;
+                found.reach(&self.one, path)?;
             }
             left -= 1;
-            path.push('/')?;
-            path.push_str(segment)?;
+            len += 1 + segment.len();
         }
-        found.reach(&self.exact, path.as_str())?;
+        found.reach(&self.exact, text)?;
         Ok(found)
     }
 }
