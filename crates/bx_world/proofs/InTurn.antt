@@ -12,6 +12,7 @@ use Rattle.bx_entry.specs.declared.entry.Kind.TheVariants.{Connect, Subscribe, U
 use Rattle.bx_entry.specs.declared.entry.Kind.TheVariants as entries
 use Rattle.bx_entry.specs.Sessions.{Session, Publication, Pending, Filed, Stage, Unopened, Live, Closed, filing, answered, unheld, released_from, released, cleared, acknowledged, portion, with_batch, formed, forgotten, gives, given, holding, idle, answered_or_held, connected, subscribed, unsubscribed, gives_one, with_event, delivered_to, delivered, overflowed, is_hit, has_room, published, begun, expired_from, expired, ended, closed_by, disconnected, step_by, step, session, unopened}
 use Rattle.bx_laws.specs.Laws.{Each, PlacesFrom}
+use Rattle.bx_laws.proofs.Counts.{subscribed_by}
 use Rattle.bx_laws.proofs.Moves.{each_map, each_append}
 
 -- each answered connect stands before those that were answered later
@@ -149,7 +150,8 @@ step_by_turn config place moment s (Connect m client id acked hold) t =
     cond_both (m == s.number) (connected config p acked s) s (InTurn (place + 1)) (λ h. connected_turn config p acked s t) (λ h. turn_more place (place + 1) s (omega arith) t)
 step_by_turn config place moment s (Subscribe m ps) t =
     turn_more place (place + 1) (step_by config place moment s (Subscribe m ps)) (omega arith)
-    (cond_both (m == s.number) (subscribed config ps s) s (InTurn place) (λ h. record { rising = t.rising; behind = t.behind }) (λ h. t))
+    (cond_both (m == s.number) (subscribed config ps s) s (InTurn place)
+    (λ h. subscribed_by config ps s (InTurn place) t (record { rising = t.rising; behind = t.behind }) (record { rising = t.rising; behind = t.behind })) (λ h. t))
 step_by_turn config place moment s (Unsubscribe m ps) t =
     turn_more place (place + 1) (step_by config place moment s (Unsubscribe m ps)) (omega arith)
     (cond_both (m == s.number) (unsubscribed ps s) s (InTurn place) (λ h. record { rising = t.rising; behind = t.behind }) (λ h. t))

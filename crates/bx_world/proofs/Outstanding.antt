@@ -1,5 +1,5 @@
 -- A connect that acknowledges nothing new is answered with the outstanding batch.
-use Rattle.std.proofs.Common.{◌≡◌, ℕ, ◌-◌, ◌<◌, min, false, true, ◌==◌, ◌&&◌, Option, Some, None, List, [], ◌∷◌, ◌++◌, length, take, drop, nat_lt, nat_le, refl, sym, ap, ◌∙◌, subst, arith, length-take, length-drop, eq-eqb}
+use Rattle.std.proofs.Common.{◌≡◌, ℕ, ◌<◌, min, false, true, ◌==◌, ◌&&◌, Option, Some, None, List, [], ◌∷◌, ◌++◌, length, take, nat_lt, nat_le, refl, sym, ap, ◌∙◌, subst, arith, length-take, eq-eqb}
 use Rattle.std.proofs.lemmas.Bool.{cond-true, cond-false, and_left, and_right, lt-leb, ne_eqb}
 use Rattle.bx_advice.specs.declared.config.Config.{Config}
 use Rattle.bx_advice.specs.declared.advice.Case.{Case}
@@ -7,9 +7,9 @@ use Rattle.bx_advice.specs.declared.advice.Case.TheVariants.{Connected, Failed}
 use Rattle.bx_advice.specs.declared.error.Error.TheVariants.{SupersededConnect, QueueOverflow}
 use Rattle.bx_entry.specs.declared.entry.Entry.{Entry}
 use Rattle.bx_entry.specs.declared.entry.Kind.TheVariants.{Connect}
-use Rattle.bx_entry.specs.Sessions.{Session, Publication, Pending, Filed, filing, answered, released_from, released, acknowledged, cleared, portion, queue, batch, with_batch, formed, gives, given, idle, answered_or_held, connected, step_by, step, session, unopened}
+use Rattle.bx_entry.specs.Sessions.{Session, Publication, Pending, Filed, filing, answered, released_from, released, acknowledged, cleared, portion, batch, with_batch, formed, gives, given, idle, answered_or_held, connected, step_by, step, session, unopened}
 use Rattle.bx_laws.specs.Laws.{InStep, Repeats, LastAnswer}
-use Rattle.bx_laws.proofs.Counts.{all_in_step, unopened_in_step, queue_is, released_in}
+use Rattle.bx_laws.proofs.Counts.{all_in_step, unopened_in_step, released_in}
 use Rattle.bx_laws.proofs.Moves.{either}
 use Rattle.bx_laws.proofs.Runs.{Grown, run_grown, all_places}
 
@@ -34,15 +34,14 @@ acknowledged_stands config num b (Some n) s r t = cond-false (s.ack && nat_le s.
 given_stands : (config : Config) (num : ℕ) (b : List Publication) (s : Session) → Stands config num b s → given config s ≡ b
 given_stands config num b s t =
     let none : ((s.out == 0) && nat_lt 0 (portion config s)) ≡ false = and_left (s.out == 0) (nat_lt 0 (portion config s)) (ne_eqb s.out 0 (λ h. omega (arith, h, t.out))) in
-    cond-true s.ack (batch (formed config s)) (take (portion config s) (queue s)) t.ack
+    cond-true s.ack (batch (formed config s)) (take (portion config s) s.queue) t.ack
     ∙ ap batch (cond-false ((s.out == 0) && nat_lt 0 (portion config s)) (with_batch (portion config s) s) s none) ∙ t.same
 
 some_stands : (config : Config) (num : ℕ) (b : List Publication) (s : Session) → Stands config num b s → 0 < length b
 some_stands config num b s t =
-    let shown : length (batch s) ≡ min s.out (length s.events - s.done) =
-    ap (λ (xs : List Publication). length (take s.out xs)) (queue_is s t.overflow) ∙ length-take s.out (drop s.done s.events) ∙ ap (min s.out) (length-drop s.done s.events) in
+    let shown : length (batch s) ≡ min s.out (length s.queue) = length-take s.out s.queue in
     let same : length (batch s) ≡ length b = ap length t.same in
-    omega (arith, shown, same, t.inside.few, t.out)
+    omega (arith, shown, same, t.inside.front, t.out)
 
 -- what is given last is the batch
 abbrev Gives : List Publication → Session → Type 0
