@@ -1,7 +1,7 @@
 //! Schedules of a world, and what each of their steps gives.
+use crate::requests::request;
 use bx_advice::Config;
-use bx_cut::Bodies;
-use bx_entry::{AllFirst, Arrival, ByRemainder, ByTable, Input, Placing, Refusal, Slot, Ticket};
+use bx_entry::{AllFirst, ByRemainder, ByTable, Input, Placing, Refusal, Slot, Ticket};
 use bx_message::{Answer, event_text, reply_text};
 use bx_world::{AdmissionFault, Applied, Step, StepOut, World};
 use std::alloc::{AllocError, Global};
@@ -136,18 +136,10 @@ const HELD: [Line; 16] = [
 
 fn step(alloc: Global, deed: Deed) -> Result<Step, AllocError> {
     Ok(match deed {
-        Deed::Post(moment, body) => Step::Admit(Input::Post(arrival(alloc, moment, body)?)),
+        Deed::Post(moment, body) => Step::Admit(request(alloc, moment, body)?),
         Deed::Tick(moment) => Step::Admit(Input::Tick(moment)),
         Deed::Apply(shard) => Step::Apply(shard),
         Deed::Take(place, shard) => Step::Take(Ticket { place, shard }),
-    })
-}
-
-fn arrival(alloc: Global, moment: u64, body: &str) -> Result<Arrival, AllocError> {
-    Ok(Arrival {
-        moment,
-        nonce: 0,
-        bodies: Bodies::Whole(body.as_bytes().to_vec(alloc)?),
     })
 }
 

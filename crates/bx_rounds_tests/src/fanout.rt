@@ -1,9 +1,9 @@
 //! Five inputs at once and one by one, with one worker and with several, by each placing, and with another number of shards.
 ghost use Rattle.std.specs.Prelude.{◌≤◌};
 
+use crate::requests::request;
 use bx_advice::Config;
-use bx_cut::Bodies;
-use bx_entry::{Arrival, ByTable, Input};
+use bx_entry::{ByTable, Input};
 use bx_fanout::{Out, Round};
 use bx_message::body_text;
 use bx_workers::{Gate, OpenGate};
@@ -86,24 +86,16 @@ fn inputs(alloc: Global, count: usize) -> Result<Vec<Input>, Fail> {
 fn requests(alloc: Global, table: &[(u64, &str)]) -> Result<Vec<Input>, Fail> {
     let mut inputs = Vec::new(alloc);
     for (moment, body) in table {
-        inputs.push(request(*moment, body.as_bytes().to_vec(alloc)?))?;
+        inputs.push(request(alloc, *moment, body)?)?;
     }
     Ok(inputs)
-}
-
-fn request(moment: u64, body: Vec<u8>) -> Input {
-    Input::Post(Arrival {
-        moment,
-        nonce: 0,
-        bodies: Bodies::Whole(body),
-    })
 }
 
 // The requests of the crowd.
 fn crowd(alloc: Global) -> Result<Vec<Input>, AllocError> {
     let mut inputs = Vec::new(alloc);
     for _ in 0..CROWD {
-        inputs.push(request(0, HANDSHAKE.as_bytes().to_vec(alloc)?))?;
+        inputs.push(request(alloc, 0, HANDSHAKE)?)?;
     }
     Ok(inputs)
 }

@@ -1,0 +1,13 @@
+//! Requests.
+use bx_cut::Bodies;
+use bx_entry::{Arrival, Input};
+use std::alloc::{AllocError, Global};
+
+/// A request of this body, at a moment.
+pub fn request(alloc: Global, moment: u64, body: &str) -> Result<Input, AllocError> {
+    Ok(Input::Post(Arrival {
+        moment,
+        nonce: 0,
+        bodies: Bodies::Whole(body.as_bytes().to_vec(alloc)?),
+    }))
+}
