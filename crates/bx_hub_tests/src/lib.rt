@@ -1,4 +1,4 @@
-//! Tests of the crate `bx_hub`: calls of one thread, and of several.
+//! Tests of the crates `bx_window` and `bx_hub`: what readers of a window find, and calls of one thread, and of several.
 #![tactic(auto)]
 
 #[cfg(test)]
@@ -8,6 +8,8 @@ mod crowd;
 #[cfg(test)]
 mod gates;
 #[cfg(test)]
+mod moves;
+#[cfg(test)]
 mod pauses;
 #[cfg(test)]
 mod tests;
@@ -15,3 +17,5 @@ mod tests;
 mod threads;
 #[cfg(test)]
 mod wakers;
+#[cfg(test)]
+mod window;

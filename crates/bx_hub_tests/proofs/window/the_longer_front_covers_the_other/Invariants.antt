@@ -1,5 +1,5 @@
 use Rattle.bx_window.specs.Steps.{unnamed}
-use Rattle.bx_window_tests.proofs.tests.the_longer_front_covers_the_other.Given as goal
+use Rattle.bx_hub_tests.proofs.window.the_longer_front_covers_the_other.Given as goal
 
 -- the window that was just opened
 abbrev pub ghosts-compared : goal.ghosts-compared

@@ -1,5 +1,5 @@
 use Rattle.bx_window.specs.Steps.{unnamed}
-use Rattle.bx_window_tests.proofs.tests.a_trim_drops_whole_batches.Given as goal
+use Rattle.bx_hub_tests.proofs.window.a_trim_drops_whole_batches.Given as goal
 
 -- the window that was just opened
 abbrev pub ghosts-trimmed : goal.ghosts-trimmed

@@ -1,5 +1,5 @@
 use Rattle.bx_window.specs.Steps.{unnamed}
-use Rattle.bx_window_tests.proofs.tests.a_reader_learns_of_another.Given as goal
+use Rattle.bx_hub_tests.proofs.window.a_reader_learns_of_another.Given as goal
 
 -- the window that was just opened
 abbrev pub ghosts-learnt : goal.ghosts-learnt

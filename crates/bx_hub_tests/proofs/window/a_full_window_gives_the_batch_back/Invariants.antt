@@ -1,5 +1,5 @@
 use Rattle.bx_window.specs.Steps.{unnamed}
-use Rattle.bx_window_tests.proofs.tests.a_full_window_gives_the_batch_back.Given as goal
+use Rattle.bx_hub_tests.proofs.window.a_full_window_gives_the_batch_back.Given as goal
 
 -- the window that was just opened
 abbrev pub ghosts-filled : goal.ghosts-filled

@@ -1,5 +1,5 @@
 use Rattle.bx_window.specs.Steps.{unnamed}
-use Rattle.bx_window_tests.proofs.tests.a_batch_stands_at_its_places.Given as goal
+use Rattle.bx_hub_tests.proofs.window.a_batch_stands_at_its_places.Given as goal
 
 -- the window that was just opened
 abbrev pub ghosts-published : goal.ghosts-published
