@@ -1,8 +1,10 @@
-//! Tests of the crate `bx_service`: requests whose bodies and responses one thread polls.
+//! Tests of the crates `bx_held` and `bx_service`: held connects, and requests whose bodies and responses one thread polls.
 #![tactic(auto)]
 
 #[cfg(test)]
 mod bench;
+#[cfg(test)]
+mod connects;
 #[cfg(test)]
 mod held;
 #[cfg(test)]

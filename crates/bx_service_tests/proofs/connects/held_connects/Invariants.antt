@@ -1,5 +1,5 @@
 use Rattle.bx_entry.specs.Placings.{by_remainder}
-use Rattle.bx_held_tests.proofs.tests.held_connects.Given as goal
+use Rattle.bx_service_tests.proofs.connects.held_connects.Given as goal
 
 -- the book that was just opened, with its configuration and placing
 abbrev pub ghosts-check_hub : goal.ghosts-check_hub

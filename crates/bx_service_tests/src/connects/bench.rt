@@ -1,8 +1,10 @@
 //! A hub with two tasks, of which one or the other waits.
+use crate::bench::TestHub;
+use crate::texts::{CONNECT, HANDSHAKE, PUBLISH, SUBSCRIBE};
 use bx_cut::Bodies;
 use bx_entry::{Arrival, ByRemainder, Slot, Ticket};
 use bx_held::{HeldConnect, HeldFault};
-use bx_hub::{Hub, OpenGate, Pass};
+use bx_hub::{OpenGate, Pass};
 use bx_message::{Answer, event_text, reply_text};
 use bx_window::Naming;
 use futures::task::Poll;
@@ -10,24 +12,6 @@ use futures::test::MockTask;
 use std::alloc::{AllocError, Global};
 use std::sync::{Arc, Wait};
 use std::test::*;
-
-pub const HANDSHAKE: &str =
-    r#"[{"channel":"/meta/handshake","version":"1.0","supportedConnectionTypes":["long-polling"]}]"#;
-
-pub const SUBSCRIBE: &str =
-    r#"[{"channel":"/meta/subscribe","clientId":"000000000000000000000000000000000000000000000001","subscription":"/a/*"}]"#;
-
-pub const CONNECT: &str =
-    r#"[{"channel":"/meta/connect","clientId":"000000000000000000000000000000000000000000000001","connectionType":"long-polling"}]"#;
-
-pub const DISCONNECT: &str =
-    r#"[{"channel":"/meta/disconnect","clientId":"000000000000000000000000000000000000000000000001"}]"#;
-
-pub const PUBLISH: &str =
-    r#"[{"channel":"/a/b","clientId":"000000000000000000000000000000000000000000000002","data":7}]"#;
-
-/// A hub as the tests have it.
-pub type TestHub<J, H> = Hub<J, ByRemainder, OpenGate, H>;
 
 /// A held connect of it.
 pub type TestHeld<J, H, R> = HeldConnect<J, ByRemainder, OpenGate, H, R>;

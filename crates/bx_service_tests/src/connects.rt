@@ -2,7 +2,10 @@
 ghost use Rattle.std.specs.Prelude.{◌≡◌};
 ghost use Rattle.bx_entry.specs.Placings.{by_remainder};
 
-use crate::bench::{Bench, CONNECT, DISCONNECT, Polled, TestHeld, summary_of, text_of};
+mod bench;
+
+use crate::texts::{CONNECT, DISCONNECT};
+use bench::{Bench, Polled, TestHeld, summary_of, text_of};
 use bx_advice::Config;
 use bx_entry::{ByRemainder, Ticket};
 use bx_held::HeldFault;
