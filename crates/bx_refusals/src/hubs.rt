@@ -2,7 +2,7 @@
 ghost use Rattle.std.specs.Prelude.{◌≡◌};
 ghost use Rattle.bx_entry.specs.Placings.{by_remainder};
 
-use crate::requests::{CONNECT, HANDSHAKE, PUBLISH, SUBSCRIBE, arrival, text_of};
+use crate::requests::{CONNECT, HANDSHAKE, PUBLISH, SUBSCRIBE, arrival, config, text_of};
 use crate::unlike::Unlike;
 use bx_advice::Config;
 use bx_entry::{ByRemainder, Slot, Ticket};
@@ -14,12 +14,13 @@ use std::marker::Brand;
 use std::sync::{Arc, Wait};
 use std::thread::Threads;
 
-type Served<J, R> = Hub<J, ByRemainder, OpenGate, R>;
+/// A hub as the runs have it.
+pub type Served<J, R> = Hub<J, ByRemainder, OpenGate, R>;
 
 /// Two sessions, of which one subscribes and connects and the other publishes, with a pass each; the one learns what the other
 /// has seen, and a tick comes. Says how the connect is answered.
 pub fn run<R: Threads + Wait + Sync>(rt: &R, alloc: Global) -> Result<String, Unlike> {
-    let config = Config::new(2, 30_000, 0, 10_000).ok_or(Unlike::Wrong("no configuration"))?;
+    let config = config(2)?;
     let placing = Arc::new(alloc, ByRemainder)?;
     serves::<Brand, R>(rt, alloc, Opened::new(), config, placing)
 }

@@ -1,7 +1,6 @@
 //! Two shards that one worker brings up.
-use crate::requests::{CONNECT, HANDSHAKE, PUBLISH, SUBSCRIBE, arrival, text_of};
+use crate::requests::{CONNECT, HANDSHAKE, PUBLISH, SUBSCRIBE, arrival, config, text_of};
 use crate::unlike::Unlike;
-use bx_advice::Config;
 use bx_entry::{ByRemainder, Slot, Ticket};
 use bx_workers::OpenGate;
 use bx_world::{AdmissionFault, Admitted, Applied, World};
@@ -14,9 +13,8 @@ const SHARDS: usize = 2;
 /// Two sessions, of which one subscribes and connects and the other publishes: once all is admitted, one worker brings the
 /// shards up. Says how the connect is answered.
 pub fn run<R: Threads + Sync>(rt: &R, alloc: Global) -> Result<String, Unlike> {
-    let config = Config::new(SHARDS, 30_000, 0, 10_000).ok_or(Unlike::Wrong("no configuration"))?;
     let placing = Arc::new(alloc, ByRemainder)?;
-    let mut world = World::new(alloc, config, placing)?;
+    let mut world = World::new(alloc, config(SHARDS)?, placing)?;
     let mut connect = None;
     for body in [HANDSHAKE, HANDSHAKE, SUBSCRIBE, CONNECT, PUBLISH] {
         let admitted = admit(alloc, &mut world, body)?;

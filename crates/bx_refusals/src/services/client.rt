@@ -2,8 +2,9 @@
 ghost use Rattle.std.specs.Prelude.{IfOk};
 ghost use Rattle.futures.specs.Poll.{OnPending};
 
-use crate::list::{Adds, Count, List};
-use crate::requests::{Asked, request};
+use crate::requests::string;
+use crate::services::asked::{Asked, request};
+use crate::services::list::{Adds, Count, List};
 use crate::unlike::Unlike;
 use bx_body::Collect;
 use bx_message::Item;
@@ -97,7 +98,7 @@ fn line_of(alloc: Global, task: &MockTask, given: Given) -> Result<Option<String
 
 // A status, and the body if there is one.
 fn line(alloc: Global, status: u16, body: Vec<u8>) -> Result<String, Unlike> {
-    let body = String::from_utf8(body).map_err(|_| Unlike::Wrong("not a text"))?;
+    let body = string(body)?;
     if body.is_empty() {
         return Ok(format!(in alloc; "{status}")?);
     }

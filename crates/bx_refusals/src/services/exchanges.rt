@@ -1,17 +1,17 @@
 //! The exchanges.
-use crate::client::{Client, Given, ended};
-use crate::list::{Adds, Count};
-use crate::requests::{
-    ACK_HANDSHAKE, Asked, BROKEN, CONNECT, HANDSHAKE, PUBLISH, QUERY_CONNECT, SUBSCRIBE, replaced,
-    request,
+use crate::requests::{ACK_HANDSHAKE, HANDSHAKE, add_line};
+use crate::services::asked::{
+    Asked, BROKEN, CONNECT, PUBLISH, QUERY_CONNECT, SUBSCRIBE, replaced, request,
 };
+use crate::services::client::{Client, Given, ended};
+use crate::services::list::{Adds, Count};
 use crate::unlike::Unlike;
 use bx_message::Item;
 use bx_service::{Backend, Unanswered};
 use futures::Future;
 use futures::task::Poll;
 use hyper::service::Service;
-use std::alloc::{AllocError, Global};
+use std::alloc::Global;
 
 // A session, and how it is called where answers are printed.
 #[derive(Drop)]
@@ -183,13 +183,5 @@ fn add_named(
     session: &Session,
 ) -> Result<(), Unlike> {
     let line = replaced(alloc, line, session.id.as_str(), session.name)?;
-    add_line(text, line.as_str())?;
-    Ok(())
-}
-
-fn add_line(text: &mut String, line: &str) -> Result<(), AllocError> {
-    if !text.is_empty() {
-        text.push_str("\n")?;
-    }
-    text.push_str(line)
+    add_line(text, line.as_str())
 }

@@ -2,16 +2,23 @@
 ghost use Rattle.std.specs.Prelude.{◌≡◌};
 ghost use Rattle.bx_entry.specs.Placings.{by_remainder};
 
-use crate::client::Client;
-use crate::exchanges::made;
-use crate::list::{HubList, List, Served};
+mod asked;
+mod client;
+mod exchanges;
+mod list;
+
+use crate::hubs::Served;
+use crate::requests::config;
 use crate::unlike::Unlike;
 use bx_advice::Config;
 use bx_entry::ByRemainder;
 use bx_hub::OpenGate;
 use bx_service::{BayeuxService, Clock, HubBackend, Nonces};
 use bx_window::{Naming, Opened};
+use client::Client;
+use exchanges::made;
 use futures::test::MockTask;
+use list::{HubList, List};
 use std::alloc::{AllocGlobal, Global};
 use std::marker::Brand;
 use std::random::RandomSource;
@@ -43,7 +50,7 @@ where
     R: Wait + RandomSource + AllocGlobal + Copy + Drop,
 {
     let alloc = rt.alloc();
-    let config = Config::new(2, 30_000, 0, 10_000).ok_or(Unlike::Wrong("no configuration"))?;
+    let config = config(2)?;
     let placing = Arc::new(alloc, ByRemainder)?;
     let task = MockTask::new(&rt).map_err(|_| Unlike::Memory)?;
     serves::<Brand, R>(rt, alloc, Opened::new(), config, placing, task)

@@ -1,18 +1,10 @@
-//! Requests. In their texts `ID` stands for the id of the session that sends them.
+//! Requests by HTTP. In their texts `ID` stands for the id of the session that sends them.
 use crate::unlike::Unlike;
 use bytes::Bytes;
 use http::Request;
 use http::header::CONTENT_TYPE;
 use http_body_util::Full;
 use std::alloc::{AllocError, Global};
-
-/// A handshake.
-pub const HANDSHAKE: &str =
-    r#"[{"channel":"/meta/handshake","version":"1.0","supportedConnectionTypes":["long-polling"]}]"#;
-
-/// A handshake of a session that acknowledges.
-pub const ACK_HANDSHAKE: &str =
-    r#"[{"channel":"/meta/handshake","version":"1.0","supportedConnectionTypes":["long-polling"],"ext":{"ack":true}}]"#;
 
 /// A body that is no document.
 pub const BROKEN: &str = "[";

@@ -1,5 +1,5 @@
 use Rattle.bx_window.specs.Steps.{unnamed}
-use Rattle.bx_window_refusals.proofs.windows.run.Given as goal
+use Rattle.bx_refusals.proofs.windows.run.Given as goal
 
 -- the window that was just opened
 abbrev pub ghosts-worked : goal.ghosts-worked

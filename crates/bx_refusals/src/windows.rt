@@ -1,10 +1,13 @@
 //! A window of ticks.
 ghost use Rattle.std.specs.Prelude.{◌≡◌};
 
-use crate::shows::shown;
+mod shows;
+
+use crate::requests::add_line;
 use crate::unlike::Unlike;
 use bx_ticks::Ticker;
 use bx_window::{LogReader, Naming, Opened, Refusal, log_pair};
+use shows::shown;
 use std::alloc::Global;
 use std::marker::Brand;
 use std::sync::Wait;
@@ -45,7 +48,7 @@ fn worked<J: Naming, R: Wait>(rt: &R, alloc: Global, opened: Opened) -> Result<S
     let mut text = String::new(alloc);
     work(alloc, &mut writer, &mut reader, &mut text)?;
     let line = shown(alloc, &mut other, writer.end)?;
-    text.push_str(line.as_str())?;
+    add_line(&mut text, line.as_str())?;
     Ok(text)
 }
 
@@ -63,8 +66,7 @@ fn work<J: Naming, R: Wait + Drop>(
             Deed::Trim(place) => trim(alloc, writer, reader, place, before.as_str())?,
         }
         let after = shown(alloc, reader, writer.end)?;
-        text.push_str(after.as_str())?;
-        text.push_str("\n")?;
+        add_line(text, after.as_str())?;
     }
     Ok(())
 }

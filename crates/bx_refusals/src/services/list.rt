@@ -1,14 +1,10 @@
 //! The list of a hub.
+use crate::hubs::Served;
+use crate::requests::arrival;
 use crate::unlike::Unlike;
-use bx_cut::Bodies;
-use bx_entry::{Arrival, ByRemainder};
-use bx_hub::{Hub, OpenGate};
 use bx_window::Naming;
 use std::alloc::Global;
 use std::sync::{Arc, Wait};
-
-/// A hub as the run has it.
-pub type Served<J, R> = Hub<J, ByRemainder, OpenGate, R>;
 
 /// Tells how many entries a list has.
 pub trait Count {
@@ -25,11 +21,7 @@ pub struct HubList<J: Naming, R: Wait + Drop> {
 
 impl<J: Naming, R: Wait + Drop> Count for HubList<J, R> {
     fn entries(&self, alloc: Global) -> Result<u64, Unlike> {
-        let nothing = Arrival {
-            moment: 0,
-            nonce: 0,
-            bodies: Bodies::Whole(b"[]".to_vec(alloc)?),
-        };
+        let nothing = arrival(alloc, "[]")?;
         match self
             .hub
             .post(&self.rt, alloc, &mut self.hub.pass(), &nothing)
