@@ -1,7 +1,10 @@
-//! Workloads to be timed. With no argument it lists them.
+//! Workloads of the core and of the hub, to be timed. With no argument it lists them.
 #![tactic(auto)]
 
+mod bodies;
+mod hubs;
 mod inputs;
+mod load;
 mod registry;
 mod rounds;
 mod scripts;
@@ -12,8 +15,10 @@ mod workloads;
 mod worlds;
 
 use anyhow::Result;
+use load::Load;
 use std::alloc::Global;
 use std::env;
+use std::sync::Wait;
 use std::thread::Threads;
 
 const LIST: &str = "\
@@ -53,6 +58,18 @@ round-4           the same with four workers
 waiting-1         the opening, and then 10,000 publishes that reach a thousand sessions each, by one worker; their events wait
 waiting-2         the same with two workers
 waiting-4         the same with four workers
+hub-1-4-0     a hub of 4 shards; one thread makes 100,000 publishes, a request each, that reach no session
+hub-1-4-10    the same, and each publish reaches ten sessions, which connect after each 200
+hub-1-4-1000  10,000 publishes that reach a thousand sessions each
+hub-1-64-10   the same as hub-1-4-10 with 64 shards
+hub-2-4-10    two threads do what one does in hub-1-4-10, each with sessions of its own
+hub-4-4-10    four threads
+world-4-0     what hub-1-4-0 does, by admission and application in a world, in one thread
+world-4-10    what hub-1-4-10 does
+world-4-1000  what hub-1-4-1000 does
+world-64-10   what hub-1-64-10 does
+tick-open     a hub of 64 shards, and 65,536 sessions
+tick          the same, and then 100,000 ticks that close none
 script-check      serde_json checks the body of each line of a script on standard input";
 
 fn main(rt: HostRuntime) -> Result<()> {
@@ -70,7 +87,7 @@ fn main(rt: HostRuntime) -> Result<()> {
 }
 
 // Runs the workload of this name; none of another name.
-fn run<R: Threads + Sync>(rt: &R, alloc: Global, name: &str) -> Result<usize> {
+fn run<R: Threads + Wait + Sync>(rt: &R, alloc: Global, name: &str) -> Result<usize> {
     match name.split_once('-').map_or(name, |parts| parts.0) {
         "check" | "cut" => cuts(alloc, name),
         "value" | "item" | "take" => texts(alloc, name),
@@ -79,6 +96,7 @@ fn run<R: Threads + Sync>(rt: &R, alloc: Global, name: &str) -> Result<usize> {
         "registry" => plans(alloc, name),
         "world" => serves(alloc, name),
         "round" | "waiting" => runs(rt, alloc, name),
+        "hub" | "tick" => asks(rt, alloc, name),
         _ => Ok(0),
     }
 }
@@ -144,6 +162,10 @@ fn serves(alloc: Global, name: &str) -> Result<usize> {
         "world-4" => worlds::run(alloc, 4),
         "world-64-open" => worlds::opened(alloc, 64),
         "world-64" => worlds::run(alloc, 64),
+        "world-4-0" => worlds::posts(alloc, 4, Load::NONE),
+        "world-4-10" => worlds::posts(alloc, 4, Load::TEN),
+        "world-4-1000" => worlds::posts(alloc, 4, Load::THOUSAND),
+        "world-64-10" => worlds::posts(alloc, 64, Load::TEN),
         _ => Ok(0),
     }
 }
@@ -157,6 +179,20 @@ fn runs<R: Threads + Sync>(rt: &R, alloc: Global, name: &str) -> Result<usize> {
         "waiting-1" => rounds::waiting(rt, alloc, 1),
         "waiting-2" => rounds::waiting(rt, alloc, 2),
         "waiting-4" => rounds::waiting(rt, alloc, 4),
+        _ => Ok(0),
+    }
+}
+
+fn asks<R: Threads + Wait + Sync>(rt: &R, alloc: Global, name: &str) -> Result<usize> {
+    match name {
+        "hub-1-4-0" => hubs::posts(rt, alloc, 1, 4, Load::NONE),
+        "hub-1-4-10" => hubs::posts(rt, alloc, 1, 4, Load::TEN),
+        "hub-1-4-1000" => hubs::posts(rt, alloc, 1, 4, Load::THOUSAND),
+        "hub-1-64-10" => hubs::posts(rt, alloc, 1, 64, Load::TEN),
+        "hub-2-4-10" => hubs::posts(rt, alloc, 2, 4, Load::TEN),
+        "hub-4-4-10" => hubs::posts(rt, alloc, 4, 4, Load::TEN),
+        "tick-open" => hubs::ticks(rt, alloc, 0),
+        "tick" => hubs::ticks(rt, alloc, 100_000),
         _ => Ok(0),
     }
 }

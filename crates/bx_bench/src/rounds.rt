@@ -1,9 +1,9 @@
 //! Rounds of workers, from JSON to outs. Each answers a number that rests on all of its work. A round is left as it is at
 //! the end: a server goes on, and one thread would take what waits apart.
+use crate::bodies::{HANDSHAKE, arrival, connect};
 use anyhow::{Result, anyhow};
 use bx_advice::Config;
-use bx_cut::Bodies;
-use bx_entry::{Arrival, ByRemainder, Input};
+use bx_entry::{ByRemainder, Input};
 use bx_fanout::{Out, Round};
 use bx_workers::OpenGate;
 use std::alloc::Global;
@@ -29,18 +29,9 @@ const TURNS_OF_WAITING: u64 = 20;
 // More than any workload has.
 const MOST_INPUTS: usize = 1_000_000_000;
 
-fn request(body: String) -> Input {
-    Input::Post(Arrival {
-        moment: 0,
-        nonce: 0,
-        bodies: Bodies::Whole(body.into_bytes()),
-    })
-}
-
 // A handshake of the session of this number, and its subscription.
 fn open(alloc: Global, number: u64) -> Result<String> {
-    let hello =
-        "{\"channel\":\"/meta/handshake\",\"version\":\"1.0\",\"supportedConnectionTypes\":[\"long-polling\"]}";
+    let hello = HANDSHAKE;
     let room = number % ROOMS;
     Ok(format!(in alloc;
         "[{hello},{{\"channel\":\"/meta/subscribe\",\"clientId\":\"{number:048x}\",\"subscription\":[\"/room/{room}/*\",\"/room/{room}/**\"]}}]"
@@ -54,18 +45,11 @@ fn publish(alloc: Global, room: u64) -> Result<String> {
     )?)
 }
 
-// A connect of a session, which is answered at once.
-fn connect(alloc: Global, number: u64) -> Result<String> {
-    Ok(format!(in alloc;
-        "[{{\"channel\":\"/meta/connect\",\"clientId\":\"{number:048x}\",\"connectionType\":\"long-polling\",\"advice\":{{\"timeout\":0}}}}]"
-    )?)
-}
-
 // The requests that open the sessions.
 fn openings(alloc: Global) -> Result<Vec<Input>> {
     let mut inputs = Vec::new(alloc);
     for number in 1..=SESSIONS {
-        inputs.push(request(open(alloc, number)?))?;
+        inputs.push(Input::Post(arrival(open(alloc, number)?)))?;
     }
     Ok(inputs)
 }
@@ -75,7 +59,7 @@ fn publishes(alloc: Global) -> Result<Vec<Input>> {
     let mut inputs = Vec::new(alloc);
     for _ in 0..PUBLISHES {
         for room in 0..ROOMS {
-            inputs.push(request(publish(alloc, room)?))?;
+            inputs.push(Input::Post(arrival(publish(alloc, room)?)))?;
         }
     }
     Ok(inputs)
@@ -85,7 +69,7 @@ fn publishes(alloc: Global) -> Result<Vec<Input>> {
 fn connects(alloc: Global) -> Result<Vec<Input>> {
     let mut inputs = Vec::new(alloc);
     for number in 1..=SESSIONS {
-        inputs.push(request(connect(alloc, number)?))?;
+        inputs.push(Input::Post(arrival(connect(alloc, number)?)))?;
     }
     Ok(inputs)
 }

@@ -1,8 +1,9 @@
 //! A whole server for one thread, from JSON to answers. Each answers a number that rests on all of its work.
+use crate::bodies::{HANDSHAKE, arrival, connect, handshake, publish, subscription};
+use crate::load::Load;
 use anyhow::{Result, anyhow};
 use bx_advice::{Config, MAX_LENGTH};
-use bx_cut::Bodies;
-use bx_entry::{Arrival, ByRemainder, Slot, Ticket};
+use bx_entry::{ByRemainder, Slot, Ticket};
 use bx_world::{Applied, World};
 use std::alloc::Global;
 use std::sync::Arc;
@@ -38,12 +39,7 @@ impl Server {
 
     // Admits a body, lets every shard apply it, and takes the answers. Says how many events these have.
     fn serve(&mut self, alloc: Global, body: String) -> Result<u64> {
-        let arrival = Arrival {
-            moment: 0,
-            nonce: 0,
-            bodies: Bodies::Whole(body.into_bytes()),
-        };
-        let admitted = self.world.admit(alloc, &arrival);
+        let admitted = self.world.admit(alloc, &arrival(body));
         let admitted = admitted.map_err(|_| anyhow!("not admitted"))?;
         let count = admitted.slots.len() as u64;
         self.entries = self.entries.wrapping_add(count);
@@ -87,8 +83,7 @@ fn open(alloc: Global, server: &mut Server) -> Result<usize> {
 
 // A handshake of the session of this number, and its subscription.
 fn opening(alloc: Global, number: u64) -> Result<String> {
-    let hello =
-        "{\"channel\":\"/meta/handshake\",\"version\":\"1.0\",\"supportedConnectionTypes\":[\"long-polling\"]}";
+    let hello = HANDSHAKE;
     let channel = number % CHANNELS;
     Ok(format!(in alloc;
         "[{hello},{{\"channel\":\"/meta/subscribe\",\"clientId\":\"{number:048x}\",\"subscription\":\"/stock/{channel}\"}}]"
@@ -109,13 +104,6 @@ fn publishes(alloc: Global, first: u64) -> Result<String> {
     }
     body.push(']')?;
     Ok(body)
-}
-
-// A request with a connect of a session, which is answered at once.
-fn connect(alloc: Global, number: u64) -> Result<String> {
-    Ok(format!(in alloc;
-        "[{{\"channel\":\"/meta/connect\",\"clientId\":\"{number:048x}\",\"connectionType\":\"long-polling\",\"advice\":{{\"timeout\":0}}}}]"
-    )?)
 }
 
 /// 10,000 sessions are opened, in so many shards.
@@ -158,4 +146,29 @@ fn connect_all(alloc: Global, server: &mut Server) -> Result<u64> {
         events = events.wrapping_add(server.serve(alloc, connect(alloc, number)?)?);
     }
     Ok(events)
+}
+
+/// One thread's load of a hub, in so many shards. Says how many events were given.
+pub fn posts(alloc: Global, shards: usize, load: Load) -> Result<usize> {
+    let mut server = Server::new(alloc, shards)?;
+    posts_in(alloc, &mut server, load)
+}
+
+fn posts_in(alloc: Global, server: &mut Server, load: Load) -> Result<usize> {
+    for number in 1..=load.sessions.saturating_add(1) {
+        server.serve(alloc, handshake(alloc)?)?;
+        if number > 1 {
+            server.serve(alloc, subscription(alloc, number, 0)?)?;
+        }
+    }
+    let mut events = 0u64;
+    for _ in 0..load.rounds {
+        for _ in 0..load.publishes {
+            server.serve(alloc, publish(alloc, 1, 0)?)?;
+        }
+        for number in 2..=load.sessions.saturating_add(1) {
+            events = events.saturating_add(server.serve(alloc, connect(alloc, number)?)?);
+        }
+    }
+    Ok(events as usize)
 }

@@ -26,10 +26,11 @@ pub fn posts<R: Threads + Wait + Sync>(
     threads: u64,
     shards: usize,
     load: Load,
-) -> Result<u64> {
+) -> Result<usize> {
     let config = Config::new(shards, 30_000, 0, 10_000).ok_or(anyhow!("no configuration"))?;
     let placing = Arc::new(alloc, ByRemainder)?;
-    serves::<Brand, R>(rt, alloc, Opened::new(), config, placing, threads, load)
+    let events = serves::<Brand, R>(rt, alloc, Opened::new(), config, placing, threads, load)?;
+    Ok(events as usize)
 }
 
 fn serves<J: Naming + Send + Sync, R: Threads + Wait + Sync>(
@@ -171,10 +172,11 @@ fn four<J: Naming + Send + Sync, H: Wait + Drop + Send, R: Threads + Wait + Sync
 }
 
 /// 65,536 sessions in 64 shards, and so many ticks that close none. Says how many shards stayed behind.
-pub fn ticks<R: Threads + Wait + Sync>(rt: &R, alloc: Global, count: u64) -> Result<u64> {
+pub fn ticks<R: Threads + Wait + Sync>(rt: &R, alloc: Global, count: u64) -> Result<usize> {
     let config = Config::new(64, 30_000, 0, 10_000).ok_or(anyhow!("no configuration"))?;
     let placing = Arc::new(alloc, ByRemainder)?;
-    idles::<Brand, R>(rt, alloc, Opened::new(), config, placing, count)
+    let behind = idles::<Brand, R>(rt, alloc, Opened::new(), config, placing, count)?;
+    Ok(behind as usize)
 }
 
 fn idles<J: Naming + Send + Sync, R: Threads + Wait + Sync>(

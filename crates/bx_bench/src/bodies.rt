@@ -4,6 +4,10 @@ use bx_cut::Bodies;
 use bx_entry::Arrival;
 use std::alloc::Global;
 
+/// A handshake.
+pub const HANDSHAKE: &str =
+    r#"{"channel":"/meta/handshake","version":"1.0","supportedConnectionTypes":["long-polling"]}"#;
+
 /// A request of this body, at moment 0.
 pub fn arrival(body: String) -> Arrival {
     Arrival {
@@ -13,11 +17,10 @@ pub fn arrival(body: String) -> Arrival {
     }
 }
 
-/// A handshake, which opens the session of the next number.
+/// A request with a handshake, which opens the session of the next number.
 pub fn handshake(alloc: Global) -> Result<String> {
-    Ok(format!(in alloc;
-        "[{{\"channel\":\"/meta/handshake\",\"version\":\"1.0\",\"supportedConnectionTypes\":[\"long-polling\"]}}]"
-    )?)
+    let hello = HANDSHAKE;
+    Ok(format!(in alloc; "[{hello}]")?)
 }
 
 /// The session of this number subscribes to the channel of a thread.
