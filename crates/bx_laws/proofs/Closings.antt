@@ -245,8 +245,8 @@ served_holding config place moment c p q hold number s rs same live h = by c
         let x : Pending = record { place = place; client = q.client; id = p.message.id; moment = moment; hold = hold } in
         connected_holds config x (acked_by p.message.ack) number s rs (extended q.number (moment + hold + config.max_interval) rs) (q.number == s.number) live here (rises Column.Connect) h
     by Column.Subscribe = keep Column.Subscribe (subscribed config (patterns_of p.message) s)
-            (subscribed_by config (patterns_of p.message) s (λ (u : Session). u.held ≡ s.held) refl refl refl)
-            (subscribed_by config (patterns_of p.message) s (λ (u : Session). u.stage ≡ s.stage) refl refl refl)
+        (subscribed_by config (patterns_of p.message) s (λ (u : Session). u.held ≡ s.held) refl refl refl)
+        (subscribed_by config (patterns_of p.message) s (λ (u : Session). u.stage ≡ s.stage) refl refl refl)
     by Column.Unsubscribe = keep Column.Unsubscribe (unsubscribed (patterns_of p.message) s) refl refl
     by Column.Disconnect =
         let x : Session = disconnected config place s in
