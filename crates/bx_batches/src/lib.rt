@@ -1,8 +1,10 @@
 //! The events that wait for one session, and the batches that they are given in.
 #![tactic(auto)]
 
+mod publication;
 #[cfg(test)]
 mod tests;
 mod window;
 
+pub use publication::Publication;
 pub use window::{Given, PushError, Window};

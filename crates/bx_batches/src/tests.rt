@@ -19,7 +19,7 @@ fn event(alloc: Global, number: u64) -> Result<SharedEvent, Fail> {
 // Adds the events with the numbers from `first` on.
 fn push_all(alloc: Global, window: &mut Window, first: u64, count: u64) -> Result<(), Fail> {
     for i in 0..count {
-        let pushed = window.push(event(alloc, first.saturating_add(i))?);
+        let pushed = window.push(i, event(alloc, first.saturating_add(i))?, 1024);
         pushed.map_err(|_| "the window is full")?;
     }
     Ok(())
@@ -28,7 +28,7 @@ fn push_all(alloc: Global, window: &mut Window, first: u64, count: u64) -> Resul
 // The number that a connect is given, and the data of its events, each followed by a space.
 fn given(alloc: Global, window: &mut Window) -> Result<(u64, String), AllocError> {
     if window.given().number < 1_000_000 {
-        window.give();
+        window.give(256);
     }
     let given = window.given();
     let mut data = String::new(alloc);
@@ -42,7 +42,7 @@ fn given(alloc: Global, window: &mut Window) -> Result<(u64, String), AllocError
 #[test]
 fn a_batch_is_given_until_it_is_acknowledged(rt: HostRuntime) -> Result<(), Fail> {
     let alloc = rt.alloc();
-    let mut window = Window::new(alloc, 1024, 256);
+    let mut window = Window::new(alloc);
     let (number, data) = given(alloc, &mut window)?;
     assert_eq!(rt; number, 0);
     assert_eq!(rt; data.as_str(), "");
@@ -70,10 +70,10 @@ fn a_batch_is_given_until_it_is_acknowledged(rt: HostRuntime) -> Result<(), Fail
 #[test]
 fn a_full_window_refuses(rt: HostRuntime) -> Result<(), Fail> {
     let alloc = rt.alloc();
-    let mut window = Window::new(alloc, 1024, 256);
+    let mut window = Window::new(alloc);
     push_all(alloc, &mut window, 0, 1024)?;
-    assert!(rt; window.is_full());
-    let refused = window.push(event(alloc, 1024)?);
+    assert!(rt; window.is_full(1024));
+    let refused = window.push(1024, event(alloc, 1024)?, 1024);
     assert_eq!(rt; refused, Err(PushError::Overflow));
     assert_eq!(rt; window.len(), 1024);
     let (number, data) = given(alloc, &mut window)?;
@@ -88,11 +88,11 @@ fn a_full_window_refuses(rt: HostRuntime) -> Result<(), Fail> {
 #[test]
 fn events_without_batches_are_forgotten(rt: HostRuntime) -> Result<(), Fail> {
     let alloc = rt.alloc();
-    let mut window = Window::new(alloc, 4, 2);
+    let mut window = Window::new(alloc);
     window.reserve(2)?;
-    window.push_reserved(event(alloc, 1)?);
-    window.push_reserved(event(alloc, 2)?);
-    assert_eq!(rt; window.first(3).count(), 2);
+    window.push_reserved(0, event(alloc, 1)?);
+    window.push_reserved(1, event(alloc, 2)?);
+    assert_eq!(rt; window.events().count(), 2);
     window.forget(1);
     assert_eq!(rt; window.len(), 1);
     Ok(())

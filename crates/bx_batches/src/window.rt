@@ -1,7 +1,10 @@
-ghost use Rattle.std.specs.Prelude.{◌≡◌, ◌<◌, ◌≤◌, ◌-◌, ◌+◌, ◌↔◌, IsTrue, OnOk, OnErr, IsErrOf, length, take, false, ℕ, ◌^◌};
+ghost use Rattle.std.specs.Prelude.{◌≡◌, ◌<◌, ◌≤◌, ◌+◌, ◌⊎◌, ◌↔◌, not, IsTrue, OnOk, OnErr, IsErrOf, length, take, drop, if◌then◌else◌, ◌^◌};
 ghost use Rattle.std.specs.VecDeque.Iter.{deque_iter_rest};
-ghost use Rattle.bx_batches.specs.Windows.{acknowledged, empty, forgotten, formed, full, outstanding, with_event};
+ghost use Rattle.bx_entry.specs.Answers.{events_of};
+ghost use Rattle.bx_entry.specs.Windows.{acknowledged, acknowledges, emptied, empty, forgotten, formed, has_room, outstanding, portion, with_event};
 
+use crate::publication::{Publication, Published};
+use bx_history::History;
 use bx_message::SharedEvent;
 use std::alloc::{AllocError, Global};
 use std::collections::VecDeque;
@@ -9,31 +12,32 @@ use std::collections::vec_deque::Iter;
 use std::marker::Model;
 
 /// The events that wait for one session or are outstanding, oldest first, with the batch that is
-/// outstanding. (The acknowledgement extension of CometD.)
+/// outstanding. Contracts see the place of each event's publish too, which the program does not keep.
+/// (The acknowledgement extension of CometD.)
 #[derive(Drop)]
 pub struct Window {
     events: VecDeque<SharedEvent>,
+    queue: History<Publication>,
     // The first so many events are the outstanding batch.
     out: usize,
     // That of the last batch formed.
     number: u64,
-    limit: usize,
-    batch: usize,
 }
 
 impl Model for Window {
-    ghost use Rattle.std.specs.Prelude.{◌≤◌, ◌-◌, length};
+    ghost use Rattle.std.specs.Prelude.{◌≡◌, ◌≤◌, ◌-◌, length};
     ghost use Rattle.std.specs.VecDeque.{deque_capacity, deque_len};
+    ghost use Rattle.bx_entry.specs.Answers.{events_of};
     ghost use Rattle.bx_batches.specs.Windows.{Windowed};
 
     ghost Value = { Windowed };
 
     ghost view = { λ w. record {
-      contents = record { events = w.events.items; out = w.out; number = w.number; limit = w.limit; batch = w.batch };
+      contents = record { queue = w.queue; out = w.out; number = w.number };
       spare = deque_capacity w.events - deque_len w.events;
     } };
 
-    ghost invariant = { λ w. (w.out ≤ length w.events.items) × (length w.events.items ≤ w.limit) };
+    ghost invariant = { λ w. (events_of w.queue ≡ w.events.items) × (w.out ≤ length w.events.items) };
 }
 
 /// Why an event was not taken.
@@ -55,46 +59,48 @@ pub struct Given<'a> {
 }
 
 impl Window {
-    /// A window that takes at most `limit` events, at most `batch` of them in a batch.
-    pub fn new(alloc: Global, limit: usize, batch: usize) -> Window
-        ensures { result.contents ≡ empty limit batch }
+    /// A window in which nothing waits.
+    pub fn new(alloc: Global) -> Window
+        ensures { result.contents ≡ empty }
     {
         Window {
             events: VecDeque::new(alloc),
+            queue: History::new(),
             out: 0,
             number: 0,
-            limit,
-            batch,
         }
     }
 
-    /// Whether no further event is taken.
-    pub fn is_full(&self) -> bool
-        ensures { result ≡ full self.now.contents }
+    /// Whether no further event is taken, where at most `limit` are.
+    pub fn is_full(&self, limit: usize) -> bool
+        ensures { result ≡ not (has_room limit self.now.contents) }
     {
-        self.len() >= self.limit
+        self.len() >= limit
     }
 
     /// How many events wait or are outstanding.
     pub fn len(&self) -> usize
-        ensures { result ≡ length self.now.contents.events }
+        ensures { result ≡ length self.now.contents.queue }
     {
         self.events.len()
     }
 
-    /// Adds an event. It is refused where the window is full; the window is as before then, and where
-    /// memory is refused.
-    pub fn push(&mut self, event: SharedEvent) -> Result<(), PushError>
-        ensures ok { OnOk result (self.new.contents ≡ with_event event self.old.contents) }
-        ensures overflow { IsErrOf result PushError.Overflow ↔ IsTrue (full self.old.contents) }
+    /// Adds the event of the publish at this place. It is refused where `limit` events are there; the window is
+    /// as before then, and where memory is refused.
+    pub fn push(&mut self, place: u64, event: SharedEvent, limit: usize) -> Result<(), PushError>
+        ensures ok { OnOk result (self.new.contents ≡ with_event (record { place = place; event = event }) self.old.contents) }
+        ensures overflow { IsErrOf result PushError.Overflow ↔ IsTrue (not (has_room limit self.old.contents)) }
         ensures memory { IsErrOf result PushError.Memory → self.old.spare ≡ 0 }
         ensures err { OnErr result (self.new.contents ≡ self.old.contents) }
     {
-        if self.is_full() {
+        if self.is_full(limit) {
             return Err(PushError::Overflow);
         }
-        match self.events.push_back(event) {
-            Ok(()) => Ok(()),
+        match self.reserve(1) {
+            Ok(()) => {
+                self.push_reserved(place, event);
+                Ok(())
+            }
             Err(_) => Err(PushError::Memory),
         }
     }
@@ -109,14 +115,37 @@ impl Window {
         self.events.reserve(count)
     }
 
-    /// Adds an event for which there is room.
-    pub fn push_reserved(&mut self, event: SharedEvent)
+    /// Adds the event of the publish at this place, for which there is room.
+    pub fn push_reserved(&mut self, place: u64, event: SharedEvent)
         requires room { 0 < self.old.spare }
-        requires not_full { full self.old.contents ≡ false }
-        ensures added { self.new.contents ≡ with_event event self.old.contents }
+        ensures added { self.new.contents ≡ with_event (record { place = place; event = event }) self.old.contents }
         ensures spare { self.new.spare + 1 ≡ self.old.spare }
     {
+        let published = History::of::<(u64, &SharedEvent), Published>(&(place, &event));
+        self.queue.join(&published);
         self.events.push_back_reserved(event);
+    }
+
+    /// How many events a connect gives for good that acknowledges this number: all that are outstanding, where it
+    /// is at or above that of the last batch.
+    pub fn acknowledged(&self, number: u64) -> usize
+        ensures { result ≡ (if acknowledges number self.now.contents then self.now.contents.out else 0) }
+    {
+        if self.number <= number { self.out } else { 0 }
+    }
+
+    /// How many events a connect is given once the first `done` are given for good, which are none or all that are
+    /// outstanding: the outstanding ones again, or at most `most` of those that wait.
+    pub fn portion(&self, done: usize, most: usize) -> usize
+        requires { (done ≡ 0) ⊎ (done ≡ self.now.contents.out) }
+        ensures again { done < self.now.contents.out → result ≡ self.now.contents.out }
+        ensures next { self.now.contents.out ≤ done → result ≡ portion most (forgotten done self.now.contents) }
+    {
+        if done < self.out {
+            self.out
+        } else {
+            most.min(self.len() - done)
+        }
     }
 
     /// Takes an acknowledgement: a number at or above that of the last batch gives for good what is
@@ -125,21 +154,20 @@ impl Window {
         ensures contents { self.new.contents ≡ acknowledged number self.old.contents }
         ensures spare { self.old.spare ≤ self.new.spare }
     {
-        if self.number <= number {
-            self.events.drain(..self.out);
-            self.out = 0;
-        }
+        let done = self.acknowledged(number);
+        self.events.drain(..done);
+        self.queue.forget(done);
+        self.out -= done;
     }
 
-    /// Forms the next batch, where none is outstanding: of the events that wait, at most as many as a batch
-    /// may have.
-    pub fn give(&mut self)
+    /// Forms the next batch, where none is outstanding: of the events that wait, at most `most`.
+    pub fn give(&mut self, most: usize)
         requires { self.old.contents.out ≡ 0 → self.old.contents.number + 1 < 2 ^ 64 }
-        ensures contents { self.new.contents ≡ formed self.old.contents }
+        ensures contents { self.new.contents ≡ formed most self.old.contents }
         ensures spare { self.new.spare ≡ self.old.spare }
     {
         if self.out == 0 {
-            self.out = self.batch.min(self.events.len());
+            self.out = self.portion(0, most);
             if self.out > 0 {
                 self.number += 1;
             }
@@ -149,7 +177,7 @@ impl Window {
     /// The outstanding batch and its number, again and again until it is acknowledged.
     pub fn given(&self) -> Given<'_>
         ensures number { result.number ≡ self.now.contents.number }
-        ensures events { deque_iter_rest result.events ≡ outstanding self.now.contents }
+        ensures events { deque_iter_rest result.events ≡ events_of (outstanding self.now.contents) }
     {
         Given {
             number: self.number,
@@ -157,11 +185,11 @@ impl Window {
         }
     }
 
-    /// The first events, in order, at most so many: what is given without a batch.
-    pub fn first(&self, count: usize) -> Iter<'_, SharedEvent>
-        ensures { deque_iter_rest result ≡ take count self.now.contents.events }
+    /// All that wait or are outstanding, in order.
+    pub fn events(&self) -> Iter<'_, SharedEvent>
+        ensures { deque_iter_rest result ≡ events_of self.now.contents.queue }
     {
-        self.events.range(..count.min(self.events.len()))
+        self.events.iter()
     }
 
     /// Forgets so many events, which were given without a batch.
@@ -170,6 +198,17 @@ impl Window {
         ensures forgotten { self.new.contents ≡ forgotten count self.old.contents }
         ensures spare { self.old.spare ≤ self.new.spare }
     {
+        self.queue.forget(count);
         self.events.drain(..count.min(self.events.len()));
+    }
+
+    /// Gives what waits or is outstanding to nobody. The number of the last batch stays.
+    pub fn clear(&mut self)
+        ensures contents { self.new.contents ≡ emptied self.old.contents }
+        ensures spare { self.old.spare ≤ self.new.spare }
+    {
+        self.events.clear();
+        self.queue = History::new();
+        self.out = 0;
     }
 }

@@ -50,13 +50,21 @@ resumed k = record {
   answers = [];
 }
 
+-- what is kept after a change of the session
+abbrev pub after : (Session → Session) → Kept → Kept
+after change k = kept (change (resumed k))
+
+-- the answers that the change gives
+abbrev pub answers_of : (Session → Session) → Kept → List Filed
+answers_of change k = (change (resumed k)).answers
+
 -- what is kept after an entry
 abbrev pub kept_step : Config → Kept → Entry → Kept
-kept_step config k e = kept (step config (resumed k) e)
+kept_step config k e = after (λ s. step config s e) k
 
 -- the answers that an entry gives
 abbrev pub kept_answers : Config → Kept → Entry → List Filed
-kept_answers config k e = (step config (resumed k) e).answers
+kept_answers config k e = answers_of (λ s. step config s e) k
 
 -- ---- the laws
 

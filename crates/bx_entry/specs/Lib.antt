@@ -1,6 +1,7 @@
 pub mod Placings
 pub mod Listing
 pub mod Registry
+pub mod Windows
 pub mod Sessions
 pub mod Answers
 pub mod Inputs

@@ -1,5 +1,5 @@
 -- One session, over the whole list of entries: its patterns, its events, what of them was given and acknowledged, its held connect and its answers.
-use Rattle.std.specs.Prelude.{ℕ, ◌+◌, ◌==◌, ◌&&◌, not, min, Bool, true, false, List, [], ◌∷◌, ◌++◌, length, take, drop, fold, nat_lt, nat_le, if◌then◌else◌, Option, Some, None}
+use Rattle.std.specs.Prelude.{ℕ, ◌+◌, ◌==◌, ◌&&◌, not, Bool, true, false, List, [], ◌∷◌, ◌++◌, length, take, fold, nat_lt, nat_le, if◌then◌else◌, Option, Some, None}
 use Rattle.std.specs.List.{list_any}
 use Rattle.bx_names.specs.Globs.{Glob, any_matches}
 use Rattle.bx_names.specs.InForce.{with_pattern, without_pattern}
@@ -18,13 +18,11 @@ use Rattle.bx_entry.specs.declared.entry.Entry.{Entry}
 use Rattle.bx_entry.specs.declared.entry.Kind.{Kind}
 use Rattle.bx_entry.specs.declared.entry.Kind.TheVariants.{Connect, Subscribe, Unsubscribe, Publish, Disconnect, Refused, Tick}
 use Rattle.bx_entry.specs.declared.entry.Kind.TheVariants as entries
+use Rattle.bx_entry.specs.Windows as windows
+use Rattle.bx_entry.specs.Windows.{Window, acknowledges, emptied, forms, outstanding}
+pub use Rattle.bx_entry.specs.Windows.{Publication}
 
 -- ---- the state
-
--- an event with the place of its publish, so that two publishes of equal data are two
-pub record Publication : Type 0 where
-  pub place : ℕ
-  pub event : Event
 
 -- a connect that is to be answered
 pub record Pending : Type 0 where
@@ -92,9 +90,17 @@ is_live Closed = false
 abbrev pub pending_count : Session → ℕ
 pending_count s = length s.queue
 
+-- the window of the session
+abbrev pub window_in : Session → Window
+window_in s = record { queue = s.queue; out = s.out; number = s.num }
+
+-- the session with this window
+abbrev pub with_window : Window → Session → Session
+with_window w s = record s { queue = w.queue; out = w.out; num = w.number }
+
 -- the outstanding batch
 abbrev pub batch : Session → List Publication
-batch s = take s.out s.queue
+batch s = outstanding (window_in s)
 
 -- ---- answers
 
@@ -131,28 +137,28 @@ released config place case s = released_from config place case s s.held
 
 -- the outstanding batch is given for good
 abbrev pub cleared : Session → Session
-cleared s = record s { queue = drop s.out s.queue; out = 0; done = s.done + s.out }
+cleared s = record (with_window (windows.cleared (window_in s)) s) { done = s.done + s.out }
 
--- a number at or above that of the last batch acknowledges all that was given
+-- an acknowledging session takes the number of a batch, a plain one takes none
 abbrev pub acknowledged : Option ℕ → Session → Session
 acknowledged None s = s
-acknowledged (Some n) s = if s.ack && nat_le s.num n then cleared s else s
+acknowledged (Some n) s = if s.ack && acknowledges n (window_in s) then cleared s else s
 
--- how many events a connect is given where none are outstanding: as many as wait, up to the limit of a batch
+-- how many events a connect is given where none are outstanding
 abbrev pub portion : Config → Session → ℕ
-portion config s = min config.limits.batch (pending_count s)
+portion config s = windows.portion config.limits.batch (window_in s)
 
 -- so many events become the next batch
 abbrev pub with_batch : ℕ → Session → Session
-with_batch count s = record s { out = count; num = s.num + 1 }
+with_batch count s = with_window (windows.with_batch count (window_in s)) s
 
 -- an acknowledging session with no outstanding batch forms the next one, where events wait
 abbrev pub formed : Config → Session → Session
-formed config s = if (s.out == 0) && nat_lt 0 (portion config s) then with_batch (portion config s) s else s
+formed config s = if forms config.limits.batch (window_in s) then with_batch (portion config s) s else s
 
 -- so many events are given for good at once
 abbrev pub forgotten : ℕ → Session → Session
-forgotten count s = record s { queue = drop count s.queue; done = s.done + count }
+forgotten count s = record (with_window (windows.forgotten count (window_in s)) s) { done = s.done + count }
 
 -- a plain session's events are forgotten once they are given
 abbrev pub gives : Config → Session → Session
@@ -176,17 +182,21 @@ answered_or_held config p s =
     if length (given config s) == 0 then idle config p s
     else answered config p p.place (given config s) Connected (gives config s)
 
--- A connect ends the one that was held. After an overflow it is refused; else it acknowledges first and is given events afterwards.
+-- A connect where none is held. After an overflow it is refused; else it acknowledges first and is given events afterwards.
+abbrev pub admitted : Config → Pending → Option ℕ → Bool → Session → Session
+admitted config p acked overflow s =
+    if overflow then answered config p p.place [] (Failed QueueOverflow) s
+    else answered_or_held config p (acknowledged acked s)
+
+-- a connect ends the one that was held
 abbrev pub connected : Config → Pending → Option ℕ → Session → Session
-connected config p acked s =
-    if s.overflow then answered config p p.place [] (Failed QueueOverflow) (released config p.place (Failed SupersededConnect) s)
-    else answered_or_held config p (acknowledged acked (released config p.place (Failed SupersededConnect) s))
+connected config p acked s = admitted config p acked s.overflow (released config p.place (Failed SupersededConnect) s)
 
 -- ---- overflow and patterns
 
 -- the session overflows: no pattern is in force any longer, and the events that wait or are outstanding are given to nobody
 abbrev pub overflowed : Session → Session
-overflowed s = record s { overflow = true; patterns = []; queue = []; out = 0 }
+overflowed s = record (with_window (emptied (window_in s)) s) { overflow = true; patterns = [] }
 
 -- with these patterns in force, unless they are more than the limit
 abbrev pub with_patterns : Config → List Glob → Session → Session
@@ -208,7 +218,7 @@ is_hit s e = is_live s.stage && not s.overflow && is_broadcast e.channel && any_
 
 -- a hit is an event of the session where the queue has room
 abbrev pub has_room : Config → Session → Bool
-has_room config s = nat_lt (pending_count s) config.limits.events
+has_room config s = windows.has_room config.limits.events (window_in s)
 
 -- one event is given to a held connect: as a batch, or for good
 abbrev pub gives_one : Session → Session
@@ -221,23 +231,30 @@ delivered_to config e s (Some p) = answered config p e.place (e ∷ []) Connecte
 
 -- the event is the session's last
 abbrev pub with_event : Publication → Session → Session
-with_event e s = record s { queue = s.queue ++ e ∷ []; events = s.events ++ e ∷ [] }
+with_event e s = record (with_window (windows.with_event e (window_in s)) s) { events = s.events ++ e ∷ [] }
 
 -- one more event of the session
 abbrev pub delivered : Config → Publication → Session → Session
 delivered config e s = delivered_to config e (with_event e s) s.held
 
--- a hit that finds the queue full makes the session overflow
+-- an event that finds the queue full makes the session overflow
+abbrev pub received : Config → Publication → Session → Session
+received config e s = if has_room config s then delivered config e s else overflowed s
+
+-- each hit is received
 abbrev pub published : Config → Publication → Session → Session
-published config e s =
-    if is_hit s e.event then (if has_room config s then delivered config e s else overflowed s) else s
+published config e s = if is_hit s e.event then received config e s else s
 
 -- ---- the ends
 
--- a tick at or past the deadline of this hold, if there is one, ends it
+-- whether the hold of a connect ends at this moment or ended before
+abbrev pub ends_by : ℕ → Pending → Bool
+ends_by moment p = nat_le (p.moment + p.hold) moment
+
+-- a tick at or past the end of this hold, if there is one, ends it
 abbrev pub expired_from : Config → ℕ → ℕ → Session → Option Pending → Session
 expired_from config place moment s None = s
-expired_from config place moment s (Some p) = if nat_le (p.moment + p.hold) moment then released config place Connected s else s
+expired_from config place moment s (Some p) = if ends_by moment p then released config place Connected s else s
 
 -- so with the hold of the session
 abbrev pub expired : Config → ℕ → ℕ → Session → Session

@@ -15,7 +15,7 @@ use Rattle.bx_entry.specs.declared.entry.Kind.TheVariants as entries
 use Rattle.bx_entry.specs.Answers.{PlacedAnswer, events_of}
 use Rattle.bx_entry.specs.Sessions.{Session, Publication, Pending, Filed, Stage, Unopened, Live, Closed, filing, answered, unheld, released_from, released, acknowledged, portion, given, gives, gives_one, idle, answered_or_held, connected, overflowed, subscribed, is_hit, has_room, with_event, delivered_to, delivered, published, expired_from, closed_by, begun, step_by}
 use Rattle.bx_entry.specs.Keeping.{Kept, resumed, kept_answers}
-use Rattle.bx_session.specs.Agreement.{answered_of}
+use Rattle.bx_session.specs.Views.{answered_of}
 use Rattle.bx_session.specs.Filing.{filed_as, filed_at}
 
 -- the answers are given at this place

@@ -1,4 +1,3 @@
-pub mod WindowLemmas
-pub mod SeatLemmas
 pub mod NumberLemmas
 pub mod FilingLemmas
+pub mod ConnectLemmas

@@ -8,15 +8,11 @@ use Rattle.bx_advice.specs.declared.config.Config.{Config}
 use Rattle.bx_advice.specs.declared.advice.Case.{Case}
 use Rattle.bx_advice.specs.declared.advice.Case.TheVariants.{Disconnected, Connected, Failed}
 use Rattle.bx_advice.specs.declared.error.Error.TheVariants.{SupersededConnect}
-use Rattle.bx_advice.specs.Limits.{greatest_length}
 use Rattle.bx_entry.specs.declared.entry.Entry.{Entry}
 use Rattle.bx_entry.specs.declared.entry.Kind.{Kind}
 use Rattle.bx_entry.specs.declared.entry.Kind.TheVariants as entries
 use Rattle.bx_entry.specs.Sessions.{Session, Publication, Pending, Stage, Unopened, Live, Closed, unopened, released_from, released, acknowledged, portion, gives, idle, answered_or_held, connected, overflowed, with_patterns, subscribed, is_hit, has_room, with_event, delivered_to, delivered, published, expired_from, closed_by, begun, step_by, step, session}
 use Rattle.bx_entry.specs.Keeping.{Kept, resumed, kept_step}
-use Rattle.bx_session.specs.Reaching.{Reached}
-use Rattle.bx_session.specs.Seats.{seat_of}
-use Rattle.bx_session.specs.Steps.{Countable}
 
 -- one batch more at most was formed
 abbrev Raised : ℕ → Session → Type 0
@@ -89,6 +85,3 @@ run_n config s (e ∷ es) = omega (arith, step_n config e.place e.moment s e.kin
 
 pub numbers_count : (config : Config) (number : ℕ) (es : List Entry) → (session config number es).num ≤ length es
 numbers_count config number es = omega (arith, run_n config (unopened number) es)
-
-pub reached_counts : (config : Config) (k : Kept) (place : ℕ) → place ≤ greatest_length → Reached config place k → Countable (seat_of config k)
-reached_counts config k place h r = omega (arith, r.numbers)

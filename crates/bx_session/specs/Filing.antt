@@ -6,7 +6,7 @@ use Rattle.bx_entry.specs.Answers.{PlacedAnswer, answer_of}
 use Rattle.bx_entry.specs.Sessions.{Filed}
 use Rattle.bx_entry.specs.Keeping.{Kept, kept_answers}
 use Rattle.bx_session.specs.declared.answered.Answered.{Answered}
-use Rattle.bx_session.specs.Agreement.{answered_of}
+use Rattle.bx_session.specs.Views.{answered_of}
 
 -- the place of the connect, and what its client gets
 abbrev pub filed_as : Filed → ℕ × PlacedAnswer

@@ -1,5 +1,3 @@
-pub mod Seats
-pub mod Steps
-pub mod Agreement
-pub mod Reaching
+pub mod Views
+pub mod Numbers
 pub mod Filing

@@ -3,8 +3,8 @@ ghost use Rattle.std.specs.Prelude.{◌≡◌, ◌==◌, IfOk, [], ◌∷◌, no
 ghost use Rattle.std.specs.Option.{option_copied};
 ghost use Rattle.bx_advice.specs.declared.advice.Case.TheVariants.{Connected};
 ghost use Rattle.bx_message.specs.Replies.{connect_reply};
-ghost use Rattle.bx_session.specs.Seats.{pending};
-ghost use Rattle.bx_session.specs.Steps.{answer_to, answered, deadline_of, is_due_at};
+ghost use Rattle.bx_entry.specs.Sessions.{ends_by};
+ghost use Rattle.bx_session.specs.Views.{answer_to, answered, deadline_of, pending};
 
 use crate::answered::Answered;
 use bx_advice::{Case, Config, advice_for};
@@ -30,7 +30,7 @@ impl Model for PendingConnect {
     ghost use Rattle.std.specs.Prelude.{◌≡◌, ◌<◌, codes, []};
     ghost use Rattle.std.specs.Vec.{vec_capacity, vec_len};
     ghost use Rattle.bx_entry.specs.Sessions.{Pending};
-    ghost use Rattle.bx_session.specs.Seats.{pending};
+    ghost use Rattle.bx_session.specs.Views.{pending};
 
     ghost Value = { Pending };
 
@@ -92,7 +92,7 @@ impl PendingConnect {
 
     /// Whether its hold ends at or before this moment.
     pub(crate) fn is_due(&self, moment: u64) -> bool
-        ensures { result ≡ is_due_at moment self.now }
+        ensures { result ≡ ends_by moment self.now }
     {
         match self.deadline() {
             Some(deadline) => deadline <= moment,

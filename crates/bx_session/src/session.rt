@@ -1,22 +1,28 @@
 //! One session, entry by entry.
-ghost use Rattle.std.specs.Prelude.{◌≡◌, ◌<◌, ◌≤◌, ◌+◌, ◌==◌, [], IfOk, IsOk, OnOk, OnErr, true, false, length, take, drop, nat_lt, is_some, Option, Some, None};
+ghost use Rattle.std.specs.Prelude.{◌≡◌, ◌<◌, ◌≤◌, ◌+◌, ◌&&◌, not, ℕ, [], IfOk, IsOk, OnOk, OnErr, true, false, length, map, take, drop, fold, nat_lt, is_some, Option, None, option_map};
+ghost use Rattle.std.specs.Option.{option_to_list};
 ghost use Rattle.std.specs.VecDeque.Iter.{deque_iter_rest};
-ghost use Rattle.bx_entry.specs.Sessions.{ack_given};
+ghost use Rattle.bx_names.specs.InForce.{with_pattern, without_pattern};
 ghost use Rattle.bx_advice.specs.declared.advice.Case.TheVariants.{Connected, Disconnected};
-ghost use Rattle.bx_session.specs.Seats.{opened};
-ghost use Rattle.bx_session.specs.Steps.{Countable, acknowledging, connect_answer, connected, connection, delivered, delivery, given_from, giving, is_due, overflowed, released, settled, settled_answer, subscribed, tick_answer, ticked, too_many, unheld, unsubscribed, window_acknowledged};
+ghost use Rattle.bx_entry.specs.Answers.{events_of};
+ghost use Rattle.bx_entry.specs.Keeping.{after, answers_of, kept, resumed};
+ghost use Rattle.bx_entry.specs.Sessions.{ack_given, acknowledged, admitted, answered_or_held, begun, connected, ends_by, expired, given, gives, overflowed, received, released, subscribed, unheld, unopened, unsubscribed};
+ghost use Rattle.bx_session.specs.Views.{Countable, answered_of, connection_answers, delivery_answers, is_overflow};
 
 use crate::answered::{Answered, Connection, Delivery};
+use crate::patterns::{with_all, without_all};
 use crate::pending::PendingConnect;
 use bx_advice::{Case, Config, Error};
 use bx_batches::Window;
+use bx_history::History;
 use bx_message::{AckReply, SharedEvent};
+use bx_names::Pattern;
 use std::alloc::{AllocError, Global};
 use std::collections::vec_deque::Iter;
 use std::marker::Model;
 
 /// One session: the events that wait for its client or are outstanding, the connect that is held, and
-/// how many patterns are in force. Which ones these are is not known here: whoever keeps them says how
+/// how many patterns are in force. Which ones these are contracts alone see: whoever keeps them says how
 /// many come and go, and takes them all out where a call says that the session overflowed.
 #[derive(Drop)]
 pub struct Session {
@@ -24,90 +30,107 @@ pub struct Session {
     ack: bool,
     has_overflowed: bool,
     held: Option<PendingConnect>,
-    // How many patterns are in force.
+    // How many patterns are in force, and which.
     patterns: usize,
-    // The window's limit of a batch.
-    batch: usize,
+    in_force: History<Pattern>,
     window: Window,
 }
 
 impl Model for Session {
     ghost use Rattle.std.specs.Prelude.{◌≡◌, ◌≤◌, length, true, false, [], is_some};
-    ghost use Rattle.bx_session.specs.Seats.{Seated};
+    ghost use Rattle.bx_entry.specs.Sessions.{Live};
+    ghost use Rattle.bx_session.specs.Views.{WithRoom};
 
-    ghost Value = { Seated };
+    ghost Value = { WithRoom };
 
     ghost view = { λ s. record {
-      seat = record { number = s.number; ack = s.ack; overflow = s.has_overflowed; held = s.held; patterns = s.patterns; window = s.window.contents };
+      kept = record {
+        number = s.number;
+        stage = Live;
+        ack = s.ack;
+        overflow = s.has_overflowed;
+        held = s.held;
+        patterns = s.in_force;
+        queue = s.window.contents.queue;
+        out = s.window.contents.out;
+        num = s.window.contents.number;
+      };
       spare = s.window.spare;
     } };
 
     ghost invariant = { λ s.
-        (s.batch ≡ s.window.contents.batch) × (1 ≤ s.batch) × (s.window.contents.out ≤ length s.window.contents.events)
-        × (s.has_overflowed ≡ true → s.window.contents.events ≡ []) × (s.ack ≡ false → s.window.contents.out ≡ 0)
-        × (is_some s.held ≡ true → s.window.contents.events ≡ []) };
+        (s.patterns ≡ length s.in_force) × (s.window.contents.out ≤ length s.window.contents.queue)
+        × (s.has_overflowed ≡ true → s.window.contents.queue ≡ []) × (s.ack ≡ false → s.window.contents.out ≡ 0)
+        × (is_some s.held ≡ true → s.window.contents.queue ≡ []) };
 }
 
 impl Session {
     /// A session that was just opened, with this number; `ack` says whether its connects acknowledge batches
     /// (the acknowledgement extension of CometD). Takes no memory.
-    pub fn open(alloc: Global, config: &Config, number: u64, ack: bool) -> Session
-        ensures { result.seat ≡ opened config.now number ack }
+    pub fn open(alloc: Global, number: u64, ack: bool) -> Session
+        ensures { result.kept ≡ after (λ s. begun ack s s.stage) (kept (unopened number)) }
     {
-        let batch = config.limits.batch;
         Session {
             number,
             ack,
             has_overflowed: false,
             held: None,
             patterns: 0,
-            batch,
-            window: Window::new(alloc, config.limits.events, batch),
+            in_force: History::new(),
+            window: Window::new(alloc),
         }
     }
 
     /// Its number.
     pub fn number(&self) -> u64
-        ensures { result ≡ self.now.seat.number }
+        ensures { result ≡ self.now.kept.number }
     {
         self.number
     }
 
     /// How many of its patterns are in force.
     pub fn patterns(&self) -> usize
-        ensures { result ≡ self.now.seat.patterns }
+        ensures { result ≡ length self.now.kept.patterns }
     {
         self.patterns
     }
 
     /// The number of the last batch formed; 0 where there was none.
     pub fn last_batch(&self) -> u64
-        ensures { result ≡ self.now.seat.window.number }
+        ensures { result ≡ self.now.kept.num }
     {
         self.window.given().number
     }
 
     /// Whether it has overflowed, so that each connect is refused from then on.
     pub fn is_overflowed(&self) -> bool
-        ensures { result ≡ self.now.seat.overflow }
+        ensures { result ≡ self.now.kept.overflow }
     {
         self.has_overflowed
     }
 
     /// Whether a connect is held.
     pub fn is_held(&self) -> bool
-        ensures { result ≡ is_some self.now.seat.held }
+        ensures { result ≡ is_some self.now.kept.held }
     {
         self.held.is_some()
     }
 
-    /// So many patterns are in force that were not. Where they are more than the limit then, the session
-    /// overflows, and the answer is true: its events are dropped, and all of its patterns are to be
+    /// The place of the connect that is held, if one is.
+    pub fn held_place(&self) -> Option<u64>
+        ensures { result ≡ option_map (λ p. p.place) self.now.kept.held }
+    {
+        self.held.as_ref().map(|held| held.place())
+    }
+
+    /// These patterns are in force too, of which so many were not. Where they are more than the limit then, the
+    /// session overflows, and the answer is true: its events are dropped, and all of its patterns are to be
     /// taken out. A held connect stays held. Nothing happens after an overflow. (That a session
     /// overflows is this server's choice.)
-    pub fn subscribe(&mut self, config: &Config, fresh: usize) -> bool
-        ensures overflows { result ≡ too_many config.now fresh self.old.seat }
-        ensures seat { self.new.seat ≡ subscribed config.now fresh self.old.seat }
+    pub fn subscribe(&mut self, config: &Config, patterns: &[Pattern], fresh: usize) -> bool
+        requires fresh { length self.old.kept.patterns + fresh ≡ length (fold with_pattern self.old.kept.patterns patterns.now) }
+        ensures overflows { result ≡ (not self.old.kept.overflow && self.new.kept.overflow) }
+        ensures kept { self.new.kept ≡ after (subscribed config.now patterns.now) self.old.kept }
     {
         if self.has_overflowed {
             return false;
@@ -117,15 +140,17 @@ impl Session {
             return true;
         }
         self.patterns += fresh;
+        self.in_force = with_all(&self.in_force, patterns);
         false
     }
 
-    /// So many patterns are in force no longer; there were as many.
-    pub fn unsubscribe(&mut self, gone: usize)
-        requires { gone ≤ self.old.seat.patterns }
-        ensures { self.new.seat ≡ unsubscribed gone self.old.seat }
+    /// These patterns are in force no longer, of which so many were.
+    pub fn unsubscribe(&mut self, patterns: &[Pattern], gone: usize)
+        requires gone { length (fold without_pattern self.old.kept.patterns patterns.now) + gone ≡ length self.old.kept.patterns }
+        ensures kept { self.new.kept ≡ after (unsubscribed patterns.now) self.old.kept }
     {
         self.patterns -= gone;
+        self.in_force = without_all(&self.in_force, patterns);
     }
 
     /// Makes room for one event, so that it can be delivered. The session is as before, also where memory
@@ -133,26 +158,24 @@ impl Session {
     pub fn reserve(&mut self) -> Result<(), AllocError>
         ensures ok { OnOk result (0 < self.new.spare) }
         ensures refused { OnErr result (self.old.spare ≡ 0) }
-        ensures seat { self.new.seat ≡ self.old.seat }
+        ensures kept { self.new.kept ≡ self.old.kept }
     {
         self.window.reserve(1)
     }
 
     // Drops the events, and takes none from here on.
     fn overflow(&mut self)
-        ensures { self.new.seat ≡ overflowed self.old.seat }
+        ensures { self.new.kept ≡ after overflowed self.old.kept }
     {
-        let last = self.last_batch();
-        self.window.acknowledge(last);
-        let len = self.window.len();
-        self.window.forget(len);
+        self.window.clear();
         self.patterns = 0;
+        self.in_force = History::new();
         self.has_overflowed = true;
     }
 
     // What the reply to a connect acknowledges in this case.
     fn ack_for(&self, case: Case) -> AckReply
-        ensures { result ≡ ack_given self.now.seat.ack self.now.seat.window.number case }
+        ensures { result ≡ ack_given self.now.kept.ack self.now.kept.num case }
     {
         match case {
             Case::Connected | Case::Disconnected if self.ack => AckReply::AckNumber(
@@ -164,8 +187,8 @@ impl Session {
 
     // Answers the held connect, if there is one, without events.
     fn release(&mut self, config: &Config, case: Case) -> Option<Answered>
-        ensures answer { result ≡ released config.now case self.old.seat }
-        ensures seat { self.new.seat ≡ unheld self.old.seat }
+        ensures answer { (place : ℕ) → option_to_list result ≡ map answered_of (answers_of (released config.now place case) self.old.kept) }
+        ensures kept { self.new.kept ≡ after unheld self.old.kept }
     {
         let ack = self.ack_for(case);
         match self.held.take() {
@@ -174,43 +197,38 @@ impl Session {
         }
     }
 
-    // How many events at the front of the window the connect acknowledges, and how many it is to be
-    // given of those behind them.
-    fn portion_for(&self, acked: Option<u64>) -> (usize, usize)
-        ensures part { take result.1 (drop result.0 self.now.seat.window.events)
-            ≡ given_from self.now.seat.ack (window_acknowledged self.now.seat.ack acked self.now.seat.window) }
-        ensures none { given_from self.now.seat.ack (window_acknowledged self.now.seat.ack acked self.now.seat.window) ≡ [] → result.1 ≡ 0 }
+    // How many events at the front the connect acknowledges, and how many it is to be given of those behind them.
+    fn look_ahead(&self, config: &Config, acked: Option<u64>) -> (usize, usize)
+        ensures part { take result.1 (drop result.0 self.now.kept.queue) ≡ given config.now (acknowledged acked (resumed self.now.kept)) }
+        ensures none { given config.now (acknowledged acked (resumed self.now.kept)) ≡ [] → result.1 ≡ 0 }
     {
-        let given = self.window.given();
-        let out = given.events.len();
         let done = match acked {
-            Some(number) if self.ack && given.number <= number => out,
+            Some(number) if self.ack => self.window.acknowledged(number),
             _ => 0,
         };
-        let count = if done < out {
-            out
-        } else {
-            self.batch.min(self.window.len() - done)
-        };
-        (done, count)
+        (done, self.window.portion(done, config.limits.batch))
     }
 
     // The events that the connect is to be given.
-    fn events_for(&self, alloc: Global, acked: Option<u64>) -> Result<Vec<SharedEvent>, AllocError>
-        ensures events { IfOk result (λ events. events.items
-            ≡ given_from self.now.seat.ack (window_acknowledged self.now.seat.ack acked self.now.seat.window)) }
-        ensures none { given_from self.now.seat.ack (window_acknowledged self.now.seat.ack acked self.now.seat.window) ≡ [] → IsOk result }
+    fn events_for(
+        &self,
+        alloc: Global,
+        config: &Config,
+        acked: Option<u64>,
+    ) -> Result<Vec<SharedEvent>, AllocError>
+        ensures events { IfOk result (λ events. events.items ≡ events_of (given config.now (acknowledged acked (resumed self.now.kept)))) }
+        ensures none { given config.now (acknowledged acked (resumed self.now.kept)) ≡ [] → IsOk result }
     {
-        let (done, count) = self.portion_for(acked);
+        let (done, count) = self.look_ahead(config, acked);
         if count == 0 {
             return Ok(Vec::new(alloc));
         }
-        clone_part(alloc, self.window.first(self.window.len()), done, count)
+        clone_part(alloc, self.window.events(), done, count)
     }
 
     // Takes the acknowledgement of a connect.
     fn acknowledge(&mut self, acked: Option<u64>)
-        ensures { self.new.seat ≡ acknowledging acked self.old.seat }
+        ensures { self.new.kept ≡ after (acknowledged acked) self.old.kept }
     {
         match acked {
             Some(number) if self.ack => self.window.acknowledge(number),
@@ -225,15 +243,15 @@ impl Session {
         connect: PendingConnect,
         events: Vec<SharedEvent>,
     ) -> Option<Answered>
-        requires live { self.old.seat.overflow ≡ false }
-        requires free { self.old.seat.held ≡ None }
-        requires given { events.items ≡ given_from self.old.seat.ack self.old.seat.window }
-        requires countable { Countable self.old.seat }
-        ensures answer { result ≡ settled_answer config.now connect self.old.seat }
-        ensures seat { self.new.seat ≡ settled connect self.old.seat }
+        requires live { self.old.kept.overflow ≡ false }
+        requires free { self.old.kept.held ≡ None }
+        requires given { events.items ≡ events_of (given config.now (resumed self.old.kept)) }
+        requires countable { Countable self.old.kept }
+        ensures answer { option_to_list result ≡ map answered_of (answers_of (answered_or_held config.now connect) self.old.kept) }
+        ensures kept { self.new.kept ≡ after (answered_or_held config.now connect) self.old.kept }
     {
         if !events.is_empty() {
-            self.give(events.len());
+            self.give(config, events.len());
             let ack = self.ack_for(Case::Connected);
             return Some(connect.answer_all(config, events, ack));
         }
@@ -246,13 +264,13 @@ impl Session {
     }
 
     // The events that a connect is given are outstanding, or a plain session forgets them.
-    fn give(&mut self, count: usize)
-        requires given { count ≡ length (given_from self.old.seat.ack self.old.seat.window) }
-        requires countable { Countable self.old.seat }
-        ensures { self.new.seat ≡ giving self.old.seat }
+    fn give(&mut self, config: &Config, count: usize)
+        requires given { count ≡ length (given config.now (resumed self.old.kept)) }
+        requires countable { Countable self.old.kept }
+        ensures { self.new.kept ≡ after (gives config.now) self.old.kept }
     {
         if self.ack {
-            self.window.give();
+            self.window.give(config.limits.batch);
         } else {
             self.window.forget(count);
         }
@@ -272,15 +290,15 @@ impl Session {
         connect: PendingConnect,
         acked: Option<u64>,
     ) -> Result<Connection, AllocError>
-        requires countable { Countable self.old.seat }
-        ensures ok { IfOk result (λ c. c ≡ connection config.now connect acked self.old.seat) }
-        ensures seat { OnOk result (self.new.seat ≡ connected connect acked self.old.seat) }
+        requires countable { Countable self.old.kept }
+        ensures ok { IfOk result (λ c. connection_answers c ≡ map answered_of (answers_of (connected config.now connect acked) self.old.kept)) }
+        ensures kept { OnOk result (self.new.kept ≡ after (connected config.now connect acked) self.old.kept) }
         ensures err { OnErr result (self.new ≡ self.old) }
-        ensures none { given_from self.old.seat.ack (window_acknowledged self.old.seat.ack acked self.old.seat.window) ≡ [] → IsOk result }
+        ensures none { given config.now (acknowledged acked (resumed self.old.kept)) ≡ [] → IsOk result }
     {
-        let events = self.events_for(alloc, acked)?;
+        let events = self.events_for(alloc, config, acked)?;
         let superseded = self.release(config, Case::Failed(Error::SupersededConnect));
-        let answered = self.answer(config, connect, acked, events);
+        let answered = self.admit(config, connect, acked, events);
         Ok(Connection {
             superseded,
             answered,
@@ -288,19 +306,18 @@ impl Session {
     }
 
     // Answers the connect, or holds it, where none is held.
-    fn answer(
+    fn admit(
         &mut self,
         config: &Config,
         connect: PendingConnect,
         acked: Option<u64>,
         events: Vec<SharedEvent>,
     ) -> Option<Answered>
-        requires free { self.old.seat.held ≡ None }
-        requires given { events.items
-            ≡ given_from self.old.seat.ack (window_acknowledged self.old.seat.ack acked self.old.seat.window) }
-        requires countable { Countable self.old.seat }
-        ensures answer { result ≡ connect_answer config.now connect acked self.old.seat }
-        ensures seat { self.new.seat ≡ connected connect acked self.old.seat }
+        requires free { self.old.kept.held ≡ None }
+        requires given { events.items ≡ events_of (given config.now (acknowledged acked (resumed self.old.kept))) }
+        requires countable { Countable self.old.kept }
+        ensures answer { option_to_list result ≡ map answered_of (answers_of (admitted config.now connect acked self.old.kept.overflow) self.old.kept) }
+        ensures kept { self.new.kept ≡ after (admitted config.now connect acked self.old.kept.overflow) self.old.kept }
     {
         if self.is_overflowed() {
             let overflow = Case::Failed(Error::QueueOverflow);
@@ -310,34 +327,41 @@ impl Session {
         self.settle(config, connect, events)
     }
 
-    /// An event of the session, with two handles of it: one to keep and one to give. It goes to the
-    /// connect that is held: an acknowledging session keeps it as the next batch, a plain one forgets
-    /// it. Where none is held it waits. Where as many events wait or are outstanding as may, the session
-    /// overflows instead: its events are dropped, and all of its patterns are to be taken out. Takes
+    /// An event of the session, of the publish at this place of the list, with two handles of it: one to keep and
+    /// one to give. It goes to the connect that is held: an acknowledging session keeps it as the next batch, a
+    /// plain one forgets it. Where none is held it waits. Where as many events wait or are outstanding as may, the
+    /// session overflows instead: its events are dropped, and all of its patterns are to be taken out. Takes
     /// no memory. (Bayeux 1.0, delivery of events; that a session overflows is this server's choice.)
-    pub fn deliver(&mut self, config: &Config, keep: SharedEvent, give: SharedEvent) -> Delivery
+    pub fn deliver(
+        &mut self,
+        config: &Config,
+        place: u64,
+        keep: SharedEvent,
+        give: SharedEvent,
+    ) -> Delivery
         requires room { 0 < self.old.spare }
-        requires live { self.old.seat.overflow ≡ false }
+        requires live { self.old.kept.overflow ≡ false }
         requires same { give ≡ keep }
-        requires countable { Countable self.old.seat }
-        ensures delivery { result ≡ delivery config.now keep self.old.seat }
-        ensures seat { self.new.seat ≡ delivered keep self.old.seat }
+        requires countable { Countable self.old.kept }
+        ensures answer { delivery_answers result ≡ map answered_of (answers_of (received config.now (record { place = place; event = keep })) self.old.kept) }
+        ensures overflow { is_overflow result ≡ self.new.kept.overflow }
+        ensures kept { self.new.kept ≡ after (received config.now (record { place = place; event = keep })) self.old.kept }
     {
-        if self.window.is_full() {
+        if self.window.is_full(config.limits.events) {
             self.overflow();
             return Delivery::Overflowed;
         }
         match self.held.take() {
             Some(held) => {
                 if self.ack {
-                    self.window.push_reserved(keep);
-                    self.window.give();
+                    self.window.push_reserved(place, keep);
+                    self.window.give(config.limits.batch);
                 }
                 let ack = self.ack_for(Case::Connected);
                 Delivery::Given(held.answer_one(config, give, ack))
             }
             None => {
-                self.window.push_reserved(keep);
+                self.window.push_reserved(place, keep);
                 Delivery::Waits
             }
         }
@@ -346,31 +370,20 @@ impl Session {
     /// A tick at this moment, in milliseconds: a connect whose hold ends then, or did before, is answered
     /// with success and without events. Takes no memory.
     pub fn tick(&mut self, config: &Config, moment: u64) -> Option<Answered>
-        ensures answer { result ≡ tick_answer config.now moment self.old.seat }
-        ensures seat { self.new.seat ≡ ticked moment self.old.seat }
-    {
-        if self.is_due(moment) {
-            self.release(config, Case::Connected)
-        } else {
-            None
-        }
-    }
-
-    // Whether a connect is held whose hold ends at or before this moment.
-    fn is_due(&self, moment: u64) -> bool
-        ensures { result ≡ is_due moment self.now.seat.held }
+        ensures answer { (place : ℕ) → option_to_list result ≡ map answered_of (answers_of (expired config.now place moment) self.old.kept) }
+        ensures kept { (place : ℕ) → self.new.kept ≡ after (expired config.now place moment) self.old.kept }
     {
         match &self.held {
-            Some(held) => held.is_due(moment),
-            None => false,
+            Some(held) if held.is_due(moment) => self.release(config, Case::Connected),
+            _ => None,
         }
     }
 
     /// The session's disconnect: a connect that is held is answered with success, with the advice of a
     /// session that left, and without events. Takes no memory. (Bayeux 1.0, disconnect.)
     pub fn close(&mut self, config: &Config) -> Option<Answered>
-        ensures answer { result ≡ released config.now Disconnected self.old.seat }
-        ensures seat { self.new.seat ≡ unheld self.old.seat }
+        ensures answer { (place : ℕ) → option_to_list result ≡ map answered_of (answers_of (released config.now place Disconnected) self.old.kept) }
+        ensures kept { (place : ℕ) → self.new.kept ≡ after (released config.now place Disconnected) self.old.kept }
     {
         self.release(config, Case::Disconnected)
     }

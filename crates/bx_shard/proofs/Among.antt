@@ -2,8 +2,7 @@
 use Rattle.std.proofs.Common.{◌≡◌, ℕ, nat_eq, ◌&&◌, Bool, true, false, cond, is_some, Option, Some, None, List, [], ◌∷◌, option_map, refl, sym, ap, ◌∙◌, eqb-true}
 use Rattle.std.specs.Option.{option_or}
 use Rattle.bx_laws.proofs.Moves.{either}
-use Rattle.bx_names.specs.Globs.{Glob}
-use Rattle.bx_session.specs.Seats.{Seat}
+use Rattle.bx_entry.specs.Keeping.{Kept}
 use Rattle.bx_connects.specs.declared.connects.ConnectState.{ConnectState}
 use Rattle.bx_connects.specs.declared.connects.ConnectState.TheVariants.{Held, Filed}
 use Rattle.bx_connects.specs.declared.connects.FiledAnswer.{FiledAnswer}
@@ -11,27 +10,18 @@ use Rattle.bx_connects.specs.declared.held.HeldConnect.{HeldConnect}
 use Rattle.bx_connects.specs.Connects.{connect_at, filed_as, filing_at, hold_at, is_both, known_as, state_by}
 use Rattle.bx_shard.specs.declared.sessions.Sessions.{Sessions}
 use Rattle.bx_shard.specs.Dealing.{dealt_connect}
-use Rattle.bx_shard.specs.Heirs.{answered_all, answered_with, lent_among, lent_as, overlaid, patterns_among, seat_among, settled_all}
-use Rattle.bx_shard.specs.Sessions.{held_until, holds_until, has_formed_at_most, is_counted, patterns_in, seat_in}
-use Rattle.bx_shard.specs.Subscribers.{Subscriber}
+use Rattle.bx_shard.specs.Heirs.{answered_all, answered_with, lent_among, lent_as, overlaid, patterns_among, kept_among, settled_all}
+use Rattle.bx_shard.specs.Sessions.{IsCounted, held_until, holds_until, has_formed_at_most, patterns_in, kept_in}
 
 -- what became of a connect, as the first of them knows that knows it
 abbrev pub known_among : List Sessions → ℕ → Option ConnectState
 known_among [] p = None
 known_among (s ∷ ss) p = option_or (connect_at s.connects p) (known_among ss p)
 
--- the session with this seat and these patterns
-abbrev pub with_patterns : List Glob → Seat → Subscriber
-with_patterns patterns seat = record { seat = seat; patterns = patterns }
-
--- the session in the first of them that has it, with its patterns there
-abbrev pub subscriber_among : List Sessions → ℕ → Option Subscriber
-subscriber_among ss n = option_map (with_patterns (patterns_among ss n)) (seat_among ss n)
-
 -- none that stands behind has the session too
 abbrev pub HaveOnce : ℕ → List Sessions → Type 0
 HaveOnce n [] = Unit {0}
-HaveOnce n (s ∷ ss) = (is_some (seat_in s n) ≡ true → seat_among ss n ≡ None) × HaveOnce n ss
+HaveOnce n (s ∷ ss) = (is_some (kept_in s n) ≡ true → kept_among ss n ≡ None) × HaveOnce n ss
 
 -- nor knows the connect
 abbrev pub KnowOnce : ℕ → List Sessions → Type 0
@@ -50,57 +40,47 @@ or_none : {X : Type 0} (o : Option X) → option_or o None ≡ o
 or_none None = refl
 or_none (Some x) = refl
 
--- ---- seats
+-- ---- sessions
 
-over_none : (o lent : Option Seat) → (is_some o ≡ true → ⊥) → overlaid o lent ≡ lent
-over_none None lent h = refl
-over_none (Some x) lent h = absurd (h refl)
-
-settled_placed : (placing : ℕ → ℕ → ℕ) (count k n : ℕ) (ss : List Sessions) (lent : Option Seat) → nat_eq (placing n count) k ≡ true → HaveOnce n ss →
-    settled_all placing count k n ss lent ≡ overlaid (seat_among ss n) lent
+settled_placed : (placing : ℕ → ℕ → ℕ) (count k n : ℕ) (ss : List Sessions) (lent : Option Kept) → nat_eq (placing n count) k ≡ true → HaveOnce n ss →
+    settled_all placing count k n ss lent ≡ overlaid (kept_among ss n) lent
 settled_placed placing count k n [] lent here once = refl
 settled_placed placing count k n (s ∷ ss) lent here once =
-    ap (λ b. settled_all placing count k n ss (cond b (overlaid (seat_in s n) lent) lent)) here
-    ∙ settled_placed placing count k n ss (overlaid (seat_in s n) lent) here once.1
-    ∙ by (seat_in s n) once.0
+    ap (λ b. settled_all placing count k n ss (cond b (overlaid (kept_in s n) lent) lent)) here
+    ∙ settled_placed placing count k n ss (overlaid (kept_in s n) lent) here once.1
+    ∙ by (kept_in s n) once.0
   where
-    by : (o : Option Seat) → (is_some o ≡ true → seat_among ss n ≡ None) → overlaid (seat_among ss n) (overlaid o lent) ≡ overlaid (option_or o (seat_among ss n)) lent
+    by : (o : Option Kept) → (is_some o ≡ true → kept_among ss n ≡ None) → overlaid (kept_among ss n) (overlaid o lent) ≡ overlaid (option_or o (kept_among ss n)) lent
     by None h = refl
-    by (Some x) h = ap (λ o. overlaid o (option_map (λ (y : Seat). x) lent)) (h refl)
+    by (Some x) h = ap (λ o. overlaid o (option_map (λ (y : Kept). x) lent)) (h refl)
 
-settled_elsewhere : (placing : ℕ → ℕ → ℕ) (count k n : ℕ) (ss : List Sessions) (lent : Option Seat) → nat_eq (placing n count) k ≡ false → settled_all placing count k n ss lent ≡ lent
+settled_elsewhere : (placing : ℕ → ℕ → ℕ) (count k n : ℕ) (ss : List Sessions) (lent : Option Kept) → nat_eq (placing n count) k ≡ false → settled_all placing count k n ss lent ≡ lent
 settled_elsewhere placing count k n [] lent here = refl
 settled_elsewhere placing count k n (s ∷ ss) lent here =
-    ap (λ b. settled_all placing count k n ss (cond b (overlaid (seat_in s n) lent) lent)) here ∙ settled_elsewhere placing count k n ss lent here
+    ap (λ b. settled_all placing count k n ss (cond b (overlaid (kept_in s n) lent) lent)) here ∙ settled_elsewhere placing count k n ss lent here
 
-over_lent : (o lent : Option Seat) → is_some lent ≡ is_some o → overlaid o lent ≡ o
+over_lent : (o lent : Option Kept) → is_some lent ≡ is_some o → overlaid o lent ≡ o
 over_lent None None h = refl
 over_lent None (Some x) h = absurd (let no : true ≡ false = h in cc)
 over_lent (Some y) None h = absurd (let no : false ≡ true = h in cc)
 over_lent (Some y) (Some x) h = refl
 
-nothing_lent : (lent : Option Seat) → is_some lent ≡ false → lent ≡ None
+nothing_lent : (lent : Option Kept) → is_some lent ≡ false → lent ≡ None
 nothing_lent None h = refl
 nothing_lent (Some x) h = absurd (let no : true ≡ false = h in cc)
 
--- the session stands where it is placed, with the seat that it had
-pub seat_dealt : (placing : ℕ → ℕ → ℕ) (count k n : ℕ) (ss : List Sessions) (lent : Option Seat) → HaveOnce n ss → is_some lent ≡ (nat_eq (placing n count) k && is_some (seat_among ss n)) →
-    settled_all placing count k n ss lent ≡ cond (nat_eq (placing n count) k) (seat_among ss n) None
-seat_dealt placing count k n ss lent once room = either (nat_eq (placing n count) k) (settled_all placing count k n ss lent ≡ cond (nat_eq (placing n count) k) (seat_among ss n) None)
+-- the session stands where it is placed, as it was
+pub session_dealt : (placing : ℕ → ℕ → ℕ) (count k n : ℕ) (ss : List Sessions) (lent : Option Kept) → HaveOnce n ss → is_some lent ≡ (nat_eq (placing n count) k && is_some (kept_among ss n)) →
+    settled_all placing count k n ss lent ≡ cond (nat_eq (placing n count) k) (kept_among ss n) None
+session_dealt placing count k n ss lent once room = either (nat_eq (placing n count) k) (settled_all placing count k n ss lent ≡ cond (nat_eq (placing n count) k) (kept_among ss n) None)
     (λ t.
     settled_placed placing count k n ss lent t once
-    ∙ over_lent (seat_among ss n) lent (room ∙ ap (λ b. b && is_some (seat_among ss n)) t)
-    ∙ sym (ap (λ b. cond b (seat_among ss n) None) t))
+    ∙ over_lent (kept_among ss n) lent (room ∙ ap (λ b. b && is_some (kept_among ss n)) t)
+    ∙ sym (ap (λ b. cond b (kept_among ss n) None) t))
     (λ f.
     settled_elsewhere placing count k n ss lent f
-    ∙ nothing_lent lent (room ∙ ap (λ b. b && is_some (seat_among ss n)) f)
-    ∙ sym (ap (λ b. cond b (seat_among ss n) None) f))
-
--- with its patterns
-pub subscriber_dealt : (b : Bool) (ss : List Sessions) (n : ℕ) (seat : Option Seat) (patterns : List Glob) → seat ≡ cond b (seat_among ss n) None → patterns ≡ cond b (patterns_among ss n) [] →
-    option_map (with_patterns patterns) seat ≡ cond {A = Option Subscriber} b (subscriber_among ss n) None
-subscriber_dealt true ss n seat patterns e f = ap (λ ps. option_map (with_patterns ps) seat) f ∙ ap (option_map (with_patterns (patterns_among ss n))) e
-subscriber_dealt false ss n seat patterns e f = ap (option_map (with_patterns patterns)) e
+    ∙ nothing_lent lent (room ∙ ap (λ b. b && is_some (kept_among ss n)) f)
+    ∙ sym (ap (λ b. cond b (kept_among ss n) None) f))
 
 -- ---- connects
 
@@ -159,20 +139,20 @@ connect_dealt placing count k p ss lent apart once room =
 
 -- ---- what each said of its sessions
 
-pub counted_among : (ss : List Sessions) (n : ℕ) → Each (λ s. is_counted (seat_in s n) (patterns_in s n) ≡ true) ss → is_counted (seat_among ss n) (patterns_among ss n) ≡ true
+pub counted_among : (ss : List Sessions) (n : ℕ) → Each (λ s. IsCounted n (kept_in s n) (patterns_in s n)) ss → IsCounted n (kept_among ss n) (patterns_among ss n)
 counted_among [] n each = refl
-counted_among (s ∷ ss) n each = by (seat_in s n) each.0 (counted_among ss n each.1)
+counted_among (s ∷ ss) n each = by (kept_in s n) each.0 (counted_among ss n each.1)
   where
-    by : (o : Option Seat) → is_counted o (patterns_in s n) ≡ true → is_counted (seat_among ss n) (patterns_among ss n) ≡ true
-        → is_counted (option_or o (seat_among ss n)) (cond (is_some o) (patterns_in s n) (patterns_among ss n)) ≡ true
+    by : (o : Option Kept) → IsCounted n o (patterns_in s n) → IsCounted n (kept_among ss n) (patterns_among ss n)
+        → IsCounted n (option_or o (kept_among ss n)) (cond (is_some o) (patterns_in s n) (patterns_among ss n))
     by None h rest = rest
     by (Some x) h rest = h
 
-pub formed_among : (ss : List Sessions) (n place : ℕ) → Each (λ s. has_formed_at_most place (seat_in s n) ≡ true) ss → has_formed_at_most place (seat_among ss n) ≡ true
+pub formed_among : (ss : List Sessions) (n place : ℕ) → Each (λ s. has_formed_at_most place (kept_in s n) ≡ true) ss → has_formed_at_most place (kept_among ss n) ≡ true
 formed_among [] n place each = refl
-formed_among (s ∷ ss) n place each = by (seat_in s n) each.0 (formed_among ss n place each.1)
+formed_among (s ∷ ss) n place each = by (kept_in s n) each.0 (formed_among ss n place each.1)
   where
-    by : (o : Option Seat) → has_formed_at_most place o ≡ true → has_formed_at_most place (seat_among ss n) ≡ true → has_formed_at_most place (option_or o (seat_among ss n)) ≡ true
+    by : (o : Option Kept) → has_formed_at_most place o ≡ true → has_formed_at_most place (kept_among ss n) ≡ true → has_formed_at_most place (option_or o (kept_among ss n)) ≡ true
     by None h rest = rest
     by (Some x) h rest = h
 
@@ -181,14 +161,14 @@ unknown_among [] p each = refl
 unknown_among (s ∷ ss) p each = ap (λ o. option_or o (known_among ss p)) each.0 ∙ unknown_among ss p each.1
 
 -- a connect is held exactly where its session holds it
-pub held_among : (ss : List Sessions) (n p : ℕ) → HaveOnce n ss → KnowOnce p ss → Each (λ s. held_until (connect_at s.connects p) n ≡ holds_until (seat_in s n) p) ss →
-    held_until (known_among ss p) n ≡ holds_until (seat_among ss n) p
+pub held_among : (ss : List Sessions) (n p : ℕ) → HaveOnce n ss → KnowOnce p ss → Each (λ s. held_until (connect_at s.connects p) n ≡ holds_until (kept_in s n) p) ss →
+    held_until (known_among ss p) n ≡ holds_until (kept_among ss n) p
 held_among [] n p have know each = refl
-held_among (s ∷ ss) n p have know each = by (connect_at s.connects p) (seat_in s n) know.0 have.0 each.0 (held_among ss n p have.1 know.1 each.1)
+held_among (s ∷ ss) n p have know each = by (connect_at s.connects p) (kept_in s n) know.0 have.0 each.0 (held_among ss n p have.1 know.1 each.1)
   where
-    by : (c : Option ConnectState) (o : Option Seat) → (is_some c ≡ true → known_among ss p ≡ None) → (is_some o ≡ true → seat_among ss n ≡ None) →
-        held_until c n ≡ holds_until o p → held_until (known_among ss p) n ≡ holds_until (seat_among ss n) p →
-        held_until (option_or c (known_among ss p)) n ≡ holds_until (option_or o (seat_among ss n)) p
+    by : (c : Option ConnectState) (o : Option Kept) → (is_some c ≡ true → known_among ss p ≡ None) → (is_some o ≡ true → kept_among ss n ≡ None) →
+        held_until c n ≡ holds_until o p → held_until (known_among ss p) n ≡ holds_until (kept_among ss n) p →
+        held_until (option_or c (known_among ss p)) n ≡ holds_until (option_or o (kept_among ss n)) p
     by None None k h own rest = rest
     by None (Some x) k h own rest = rest ∙ ap (λ o. holds_until o p) (h refl) ∙ own
     by (Some c) None k h own rest = own ∙ sym (ap (λ o. held_until o n) (k refl)) ∙ rest
@@ -221,6 +201,6 @@ held_dealt placing count k n (Some (Held session deadline waker)) = either (nat_
     other true f = ap (λ c. cond c (Some deadline) None) f
     other false f = refl
 
-pub holds_dealt_seat : (b : Bool) (o : Option Seat) (p : ℕ) → holds_until (cond b o None) p ≡ cond b (holds_until o p) None
-holds_dealt_seat true o p = refl
-holds_dealt_seat false o p = refl
+pub holds_dealt : (b : Bool) (o : Option Kept) (p : ℕ) → holds_until (cond b o None) p ≡ cond b (holds_until o p) None
+holds_dealt true o p = refl
+holds_dealt false o p = refl

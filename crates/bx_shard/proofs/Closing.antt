@@ -1,20 +1,17 @@
 -- Sessions that close one after another take the connects along that they hold, and no others.
-use Rattle.std.proofs.Common.{◌≡◌, inl, inr, ℕ, nat_eq, ◌==◌, ◌||◌, ◌+◌, ◌<◌, Bool, true, false, cond, Option, Some, None, option_map, is_none, List, [], length, take, get_or, refl, sym, ap, ◌∙◌, true≢false}
+use Rattle.std.proofs.Common.{◌≡◌, ℕ, nat_eq, ◌==◌, ◌||◌, ◌+◌, ◌<◌, Bool, true, false, cond, Option, Some, None, option_map, is_none, List, [], length, take, get_or, refl, sym, ap, ◌∙◌, true≢false}
 use Rattle.std.specs.List.{list_any}
 use Rattle.std.proofs.lemmas.Bool.{eqb-true, eq-eqb}
 use Rattle.std.proofs.lemmas.List.Folds.{list_any_more}
-use Rattle.bx_names.specs.Globs.{Glob}
-use Rattle.bx_advice.specs.declared.config.Config.{Config}
-use Rattle.bx_session.specs.Seats.{Seat}
-use Rattle.bx_session.specs.Steps.{deadline_of}
+use Rattle.bx_entry.specs.Keeping.{Kept}
+use Rattle.bx_entry.specs.Sessions.{Pending}
+use Rattle.bx_session.specs.Views.{deadline_of}
 use Rattle.bx_connects.specs.declared.connects.ConnectState.{ConnectState}
 use Rattle.bx_connects.specs.declared.connects.ConnectState.TheVariants.{Held, Filed}
-use Rattle.bx_shard.specs.Effects.{released_by}
-use Rattle.bx_shard.specs.Sessions.{forgetting, held_until, holds_until}
+use Rattle.bx_shard.specs.Effects.{forgetting, held_in}
+use Rattle.bx_shard.specs.Sessions.{ends_for, held_until, holds_until}
 use Rattle.bx_shard.specs.States.{let_go}
-use Rattle.bx_shard.specs.Subscribers.{Subscriber}
 use Rattle.bx_shard.proofs.Ties.{Agree, holds_one, holds_own}
-use Rattle.bx_shard.proofs.Ends.{Settles, release_settles}
 
 -- nothing is known any longer of the connect where this session holds it
 abbrev pub parted_from : ℕ → Option ConnectState → Option ConnectState
@@ -43,20 +40,26 @@ parted_other m (Some (Held k d w)) h = by (nat_eq m k) refl
 parted_other m (Some (Filed j p a)) h = refl
 
 -- what the end of a session forgets is the connect that it holds
-pub closing_parts : (config : Config) (C : ℕ → Option ConnectState) (S : ℕ → Option Seat) (m : ℕ) → Agree C S
-    → (p : ℕ) → forgetting (released_by config (S m)) C p ≡ parted_from m (C p)
-closing_parts config C S m agree p = settled (release_settles config (S m))
+pub closing_parts : (C : ℕ → Option ConnectState) (S : ℕ → Option Kept) (m : ℕ) → Agree C S
+    → (p : ℕ) → forgetting (held_in (S m)) C p ≡ parted_from m (C p)
+closing_parts C S m agree p = by (S m) refl
   where
-    settled : Settles (S m) None (released_by config (S m)) → forgetting (released_by config (S m)) C p ≡ parted_from m (C p)
-    settled (inl end) =
-        ap (λ o. forgetting o C p) end.given ∙ ap (λ q. cond (nat_eq q p) None (C p)) end.own ∙ by (nat_eq end.hold.place p) refl
+    held : (k : Kept) → S m ≡ Some k → (h : Option Pending) → k.held ≡ h → forgetting (held_in (S m)) C p ≡ parted_from m (C p)
+    held k here None e =
+        ap (λ o. forgetting (held_in o) C p) here ∙ ap (λ (h : Option Pending). forgetting (option_map (λ (x : Pending). x.place) h) C p) e
+        ∙ parted_other m (C p) (agree p m ∙ ap (λ o. holds_until o p) here ∙ ap (λ h. ends_for h p) e)
+    held k here (Some q) e =
+        ap (λ o. forgetting (held_in o) C p) here ∙ ap (λ (h : Option Pending). forgetting (option_map (λ (x : Pending). x.place) h) C p) e ∙ by_place (nat_eq q.place p) refl
       where
-        by : (b : Bool) → nat_eq end.hold.place p ≡ b → cond b None (C p) ≡ parted_from m (C p)
-        by true e =
-            parted_own m (C p) (deadline_of end.hold)
-            (agree p m ∙ ap (λ o. holds_until o p) end.here ∙ ap (holds_until (Some end.seat)) (sym (eqb-true end.hold.place p e)) ∙ holds_own end.seat end.hold end.held)
-        by false e = parted_other m (C p) (agree p m ∙ ap (λ o. holds_until o p) end.here ∙ holds_one end.seat end.hold p end.held e)
-    settled (inr kept) = ap (λ o. forgetting o C p) kept.none ∙ parted_other m (C p) (agree p m ∙ sym (kept.same p))
+        by_place : (b : Bool) → nat_eq q.place p ≡ b → cond b None (C p) ≡ parted_from m (C p)
+        by_place true f =
+            parted_own m (C p) (deadline_of q)
+            (agree p m ∙ ap (λ o. holds_until o p) here ∙ ap (holds_until (Some k)) (sym (eqb-true q.place p f)) ∙ holds_own k q e)
+        by_place false f = parted_other m (C p) (agree p m ∙ ap (λ o. holds_until o p) here ∙ holds_one k q p e f)
+
+    by : (o : Option Kept) → S m ≡ o → forgetting (held_in (S m)) C p ≡ parted_from m (C p)
+    by None here = ap (λ o. forgetting (held_in o) C p) here ∙ parted_other m (C p) (agree p m ∙ ap (λ o. holds_until o p) here)
+    by (Some k) here = held k here k.held refl
 
 -- with no session closed nothing is let go
 pub let_go_none : (o : Option ConnectState) → o ≡ let_go [] o
@@ -84,14 +87,5 @@ module _ (numbers : List ℕ) (i : ℕ) (more : i < length numbers) where
   let_go_more (Some (Filed j p a)) = refl
 
   -- and is gone
-  pub gone_more : (n : ℕ) (o : Option Subscriber) → cond (nat_eq (get_or numbers i 0) n) None (cond (list_any (λ m. m == n) (take i numbers)) None o) ≡ cond (list_any (λ m. m == n) (take (i + 1) numbers)) None o
+  pub gone_more : (n : ℕ) (o : Option Kept) → cond (nat_eq (get_or numbers i 0) n) None (cond (list_any (λ m. m == n) (take i numbers)) None o) ≡ cond (list_any (λ m. m == n) (take (i + 1) numbers)) None o
   gone_more n o = either (list_any (λ m. m == n) (take i numbers)) (nat_eq (get_or numbers i 0) n) o ∙ ap (λ b. cond b None o) (sym (one_more n))
-
--- a seat with its patterns
-abbrev pub with_patterns : List Glob → Option Seat → Option Subscriber
-with_patterns patterns o = option_map (λ (seat : Seat). record { seat = seat; patterns = patterns }) o
-
--- without its seat and its patterns a session is gone
-pub gone : (b : Bool) (seat after : Option Seat) (patterns rest : List Glob) → after ≡ cond b None seat → rest ≡ cond b [] patterns → with_patterns rest after ≡ cond b None (with_patterns patterns seat)
-gone true seat after patterns rest e f = ap (with_patterns rest) e
-gone false seat after patterns rest e f = ap (with_patterns rest) e ∙ ap (λ ps. with_patterns ps seat) f

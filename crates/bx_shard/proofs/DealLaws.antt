@@ -19,7 +19,6 @@ use Rattle.bx_shard.specs.Dealing.{AreAlike, AreApart, HoldersAreApart, RefinesD
 use Rattle.bx_shard.specs.Refining.{Refines, IsConnectOf, IsOwn, filed_with_place}
 use Rattle.bx_shard.specs.Shards.{Setup, is_taken, live_among, sessions_in, shard_at, stands_in}
 use Rattle.bx_shard.specs.States.{State, connect_in, session_in}
-use Rattle.bx_shard.specs.Subscribers.{Subscriber, subscriber_of}
 use Rattle.bx_shard.proofs.Finding.{find_kept}
 use Rattle.bx_shard.proofs.Stepping.{run_number}
 use Rattle.bx_shard.proofs.Taking.{connect_of_filed, find_of, none_taken, untaken, waits_later, waits_over}
@@ -203,13 +202,13 @@ module _ (setup : Setup) (list : List Listed) (taken : List ℕ) (n : ℕ) (old 
   stands : (k : ℕ) (s : State) (m : ℕ) → slice_get old k ≡ Some s → is_some (session_in s m) ≡ true → setup.placing m setup.shards ≡ k
   stands k s m at here = by (stands_in setup k m) refl
     where
-      found : session_in s m ≡ option_map (subscriber_of setup.config) (cond (stands_in setup k m) (kept_of m (everyone setup.config list n)) None)
-      found = (each k s at).sessions m ∙ ap (option_map (subscriber_of setup.config)) (session_found setup list taken k n m)
+      found : session_in s m ≡ cond (stands_in setup k m) (kept_of m (everyone setup.config list n)) None
+      found = (each k s at).sessions m ∙ session_found setup list taken k n m
 
       by : (b : Bool) → stands_in setup k m ≡ b → setup.placing m setup.shards ≡ k
       by true e = eqb-true (setup.placing m setup.shards) k e
       by false e = absurd (let no : false ≡ true =
-          sym (ap is_some (found ∙ ap (λ (b : Bool). option_map (subscriber_of setup.config) (cond b (kept_of m (everyone setup.config list n)) None)) e)) ∙ here in cc)
+          sym (ap is_some (found ∙ ap (λ (b : Bool). cond b (kept_of m (everyone setup.config list n)) None) e)) ∙ here in cc)
 
   -- a connect that a shard knows is one of a session that stands in it
   knows : (k : ℕ) (s : State) (p : ℕ) → slice_get old k ≡ Some s → is_some (connect_in s p) ≡ true → (m : ℕ) × IsOwn setup list k p m
@@ -290,20 +289,18 @@ module _ (setup : Setup) (list : List Listed) (taken : List ℕ) (n count : ℕ)
   at_home p m waits = among_one (λ s. connect_in s p) old (setup.placing m setup.shards) (home m).shard (home m).at
       (λ i s other at. none_of setup list taken n old each (connect_in s p) (λ h. other (sym (known_once setup list taken n old each i s p m at waits h))))
 
-  sessions_dealt : (m : ℕ) → session_in t m ≡ option_map (subscriber_of setup.config) (find_kept m (shard_at (dealt_setup setup count placing) list taken k n).sessions)
+  sessions_dealt : (m : ℕ) → session_in t m ≡ find_kept m (shard_at (dealt_setup setup count placing) list taken k n).sessions
   sessions_dealt m =
       let j : ℕ = setup.placing m setup.shards in
       let g : Option Kept = kept_of m (everyone setup.config list n) in
-      let sub : Kept → Subscriber = subscriber_of setup.config in
-      let own : session_in (home m).shard m ≡ option_map sub g =
+      let own : session_in (home m).shard m ≡ g =
       (each (setup.placing m setup.shards) (home m).shard (home m).at).sessions m
-      ∙ ap (option_map (subscriber_of setup.config)) (session_found setup list taken (setup.placing m setup.shards) n m ∙ cond-true (stands_in setup (setup.placing m setup.shards) m) g None (eq-eqb j j refl)) in
+      ∙ session_found setup list taken (setup.placing m setup.shards) n m ∙ cond-true (stands_in setup (setup.placing m setup.shards) m) g None (eq-eqb j j refl) in
       let whole : session_among old m ≡ session_in (home m).shard m = among_one (λ s. session_in s m) old (setup.placing m setup.shards) (home m).shard (home m).at
       (λ i s other at. none_of setup list taken n old each (session_in s m) (λ h. other (sym (stands setup list taken n old each i s m at h)))) in
       d.sessions m
       ∙ ap (λ o. cond (placing m count == k) o None) (whole ∙ own)
-      ∙ (elim (placing m count == k) as (λ b. cond b (option_map sub g) None ≡ option_map sub (cond b g None)) [ true ↦ refl | false ↦ refl ])
-      ∙ ap (option_map (subscriber_of setup.config)) (sym (session_found (dealt_setup setup count placing) list taken k n m))
+      ∙ sym (session_found (dealt_setup setup count placing) list taken k n m)
 
   -- ---- answers
 

@@ -1,5 +1,5 @@
 -- Shards whose sessions were dealt anew.
-use Rattle.std.proofs.Common.{◌≡◌, ℕ, suc, ◌<◌, nat_eq, Bool, true, false, cond, is_some, Option, Some, None, List, [], ◌∷◌, length, get_or, map, slice_get, option_map, refl, sym, ap, ◌∙◌, subst, arith}
+use Rattle.std.proofs.Common.{◌≡◌, ℕ, suc, ◌<◌, nat_eq, Bool, true, false, cond, Option, Some, None, List, [], ◌∷◌, length, get_or, map, slice_get, option_map, refl, sym, ap, ◌∙◌, subst, arith}
 use Rattle.std.proofs.lemmas.List.{length-map}
 use Rattle.std.proofs.lemmas.Option.{slice_get-get_or, slice_get-map, slice_get_within}
 use Rattle.std.specs.Arc.{arc_value}
@@ -7,37 +7,27 @@ use Rattle.std.specs.List.{All}
 use Rattle.std.specs.Option.{option_or}
 use Rattle.bx_names.specs.Globs.{Glob}
 use Rattle.bx_advice.specs.declared.config.Config.{Config}
-use Rattle.bx_session.specs.Seats.{Seat}
+use Rattle.bx_entry.specs.Keeping.{Kept}
 use Rattle.bx_connects.specs.Connects.{connect_at}
 use Rattle.bx_shard.specs.declared.sessions.Sessions.{Sessions}
 use Rattle.bx_shard.specs.declared.shard.Shard.{Shard}
 use Rattle.bx_shard.specs.Dealing.{AreAlike, AreApart, Dealt, IsDealt, connect_among, dealt_connect, session_among}
-use Rattle.bx_shard.specs.Heirs.{AreLent, AreMoved, connect_there, patterns_among, patterns_there, seat_among, seat_there}
+use Rattle.bx_shard.specs.Heirs.{AreLent, AreMoved, connect_there, patterns_among, patterns_there, kept_among, kept_there}
 use Rattle.bx_shard.specs.Making.{AreMade, Fits}
 use Rattle.bx_shard.specs.Seen.{state}
-use Rattle.bx_shard.specs.Sessions.{has_formed_at_most, held_until, holds_until, is_counted, patterns_in, seat_in}
+use Rattle.bx_shard.specs.Sessions.{IsCounted, has_formed_at_most, held_until, holds_until, patterns_in, kept_in}
 use Rattle.bx_shard.specs.States.{State, connect_in, session_in}
-use Rattle.bx_shard.specs.Subscribers.{Subscriber}
-use Rattle.bx_shard.proofs.Among.{Each, HaveOnce, IsApart, KnowOnce, connect_dealt, counted_among, formed_among, held_among, held_dealt, holds_dealt_seat, known_among, seat_dealt, subscriber_among, subscriber_dealt, unknown_among, with_patterns}
-use Rattle.bx_shard.proofs.Applying.{counted_by_test}
+use Rattle.bx_shard.proofs.Among.{Each, HaveOnce, IsApart, KnowOnce, connect_dealt, counted_among, formed_among, held_among, held_dealt, holds_dealt, known_among, session_dealt, unknown_among}
 
 each_of_all : (Q : Sessions → Type 0) (ss : List Sessions) → All Q ss → Each Q ss
 each_of_all Q [] all = tt
 each_of_all Q (s ∷ ss) all = (all 0 s (omega arith), each_of_all Q ss (λ i d l. all (suc i) d (omega arith)))
 
-unmapped : {X Y : Type 0} (f : X → Y) (o : Option X) → option_map f o ≡ None → o ≡ None
-unmapped f None h = refl
-unmapped f (Some x) h = absurd (let no : Some (f x) ≡ None = h in cc)
+counted_dealt : (b : Bool) (n : ℕ) (o : Option Kept) (ps : List Glob) → IsCounted n o ps → IsCounted n (cond b o None) (cond b ps [])
+counted_dealt true n o ps h = h
+counted_dealt false n o ps h = refl
 
-mapped_some : {X Y : Type 0} (f : X → Y) (o : Option X) → is_some o ≡ true → is_some (option_map f o) ≡ true
-mapped_some f None h = h
-mapped_some f (Some x) h = refl
-
-counted_dealt : (b : Bool) (o : Option Seat) (ps : List Glob) → is_counted o ps ≡ true → is_counted (cond b o None) (cond b ps []) ≡ true
-counted_dealt true o ps h = h
-counted_dealt false o ps h = refl
-
-formed_dealt : (b : Bool) (o : Option Seat) (place : ℕ) → has_formed_at_most place o ≡ true → has_formed_at_most place (cond b o None) ≡ true
+formed_dealt : (b : Bool) (o : Option Kept) (place : ℕ) → has_formed_at_most place o ≡ true → has_formed_at_most place (cond b o None) ≡ true
 formed_dealt true o place h = h
 formed_dealt false o place h = refl
 
@@ -52,18 +42,9 @@ module _ {P : Type 0} (place_of : P → ℕ → ℕ → ℕ) where
   at_state : (xs : List (Shard P)) (j : ℕ) (s : Shard P) → slice_get xs j ≡ Some s → slice_get (states_of xs) j ≡ Some (state place_of s)
   at_state xs j s at = slice_get-map (state place_of) xs j ∙ ap (option_map (state place_of)) at
 
-  subscribers : (xs : List (Shard P)) (n : ℕ) → session_among (states_of xs) n ≡ subscriber_among (sessions_of xs) n
-  subscribers [] n = refl
-  subscribers (s ∷ xs) n = by (seat_in s.sessions n) (subscribers xs n)
-    where
-      rest : List Sessions
-      rest = sessions_of xs
-
-      by : (o : Option Seat) → session_among (states_of xs) n ≡ subscriber_among rest n
-          → option_or (option_map (with_patterns (patterns_in s.sessions n)) o) (session_among (states_of xs) n)
-          ≡ option_map (with_patterns (cond (is_some o) (patterns_in s.sessions n) (patterns_among rest n))) (option_or o (seat_among rest n))
-      by None h = h
-      by (Some x) h = refl
+  sessions : (xs : List (Shard P)) (n : ℕ) → session_among (states_of xs) n ≡ kept_among (sessions_of xs) n
+  sessions [] n = refl
+  sessions (s ∷ xs) n = ap (option_or (kept_in s.sessions n)) (sessions xs n)
 
   connects : (xs : List (Shard P)) (p : ℕ) → connect_among (states_of xs) p ≡ known_among (sessions_of xs) p
   connects [] p = refl
@@ -74,11 +55,11 @@ module _ {P : Type 0} (place_of : P → ℕ → ℕ → ℕ) where
   apart_rest : (s : State) (ss : List State) → AreApart (s ∷ ss) → AreApart ss
   apart_rest s ss h = λ i j t u other a b. h (suc i) (suc j) t u (λ e. other (omega (arith, e))) a b
 
-  no_seat : (xs : List (Shard P)) (n : ℕ) → ((i : ℕ) (t : State) → slice_get (states_of xs) i ≡ Some t → session_in t n ≡ None) → seat_among (sessions_of xs) n ≡ None
-  no_seat [] n none = refl
-  no_seat (s ∷ xs) n none =
-      ap (λ o. option_or o (seat_among (sessions_of xs) n)) (unmapped _ (seat_in s.sessions n) (none 0 (state place_of s) refl))
-      ∙ no_seat xs n (λ i t at. none (suc i) t at)
+  no_session : (xs : List (Shard P)) (n : ℕ) → ((i : ℕ) (t : State) → slice_get (states_of xs) i ≡ Some t → session_in t n ≡ None) → kept_among (sessions_of xs) n ≡ None
+  no_session [] n none = refl
+  no_session (s ∷ xs) n none =
+      ap (λ o. option_or o (kept_among (sessions_of xs) n)) (none 0 (state place_of s) refl)
+      ∙ no_session xs n (λ i t at. none (suc i) t at)
 
   no_connect : (xs : List (Shard P)) (p : ℕ) → ((i : ℕ) (t : State) → slice_get (states_of xs) i ≡ Some t → connect_in t p ≡ None) → known_among (sessions_of xs) p ≡ None
   no_connect [] p none = refl
@@ -89,7 +70,7 @@ module _ {P : Type 0} (place_of : P → ℕ → ℕ → ℕ) where
   have_once : (xs : List (Shard P)) (n : ℕ) → AreApart (states_of xs) → HaveOnce n (sessions_of xs)
   have_once [] n apart = tt
   have_once (s ∷ xs) n apart = (
-    λ here. no_seat xs n (λ i t at. (apart 0 (suc i) (state place_of s) t (λ e. omega (arith, e)) refl at).0 n (mapped_some _ (seat_in s.sessions n) here)),
+    λ here. no_session xs n (λ i t at. (apart 0 (suc i) (state place_of s) t (λ e. omega (arith, e)) refl at).0 n here),
     have_once xs n (apart_rest (state place_of s) (states_of xs) apart),
   )
 
@@ -109,10 +90,10 @@ module _ {P : Type 0} (place_of : P → ℕ → ℕ → ℕ) where
       (heirs last : List Sessions) (lent : AreLent (place_of placing) count (sessions_of olds) first.sessions.config heirs) (moved : AreMoved (place_of placing) count (sessions_of olds) heirs last) where
     -- ---- each of those that took over
 
-    seat_here : (k n : ℕ) (t : Sessions) → slice_get last k ≡ Some t → seat_in t n ≡ cond (nat_eq (place_of placing n count) k) (seat_among (sessions_of olds) n) None
-    seat_here k n t at =
-        sym (ap (λ o. seat_there o n) at) ∙ moved.seats k n
-        ∙ seat_dealt (place_of placing) count k n (sessions_of olds) (seat_there (slice_get heirs k) n) (have_once olds n apart) (lent.seats k n)
+    session_here : (k n : ℕ) (t : Sessions) → slice_get last k ≡ Some t → kept_in t n ≡ cond (nat_eq (place_of placing n count) k) (kept_among (sessions_of olds) n) None
+    session_here k n t at =
+        sym (ap (λ o. kept_there o n) at) ∙ moved.sessions k n
+        ∙ session_dealt (place_of placing) count k n (sessions_of olds) (kept_there (slice_get heirs k) n) (have_once olds n apart) (lent.sessions k n)
 
     patterns_here : (k n : ℕ) (t : Sessions) → slice_get last k ≡ Some t → patterns_in t n ≡ cond (nat_eq (place_of placing n count) k) (patterns_among (sessions_of olds) n) []
     patterns_here k n t at = sym (ap (λ o. patterns_there o n) at) ∙ moved.patterns k n ∙ lent.patterns k n
@@ -137,23 +118,23 @@ module _ {P : Type 0} (place_of : P → ℕ → ℕ → ℕ) where
     fits : (k : ℕ) (t : Sessions) → slice_get last k ≡ Some t → Fits first.place t
     fits k t at = record {
       counted = λ n.
-          ap (λ o. is_counted o (patterns_in t n)) (seat_here k n t at)
-          ∙ ap (is_counted (cond (nat_eq (place_of placing n count) k) (seat_among (sessions_of olds) n) None)) (patterns_here k n t at)
-          ∙ counted_dealt (nat_eq (place_of placing n count) k) (seat_among (sessions_of olds) n) (patterns_among (sessions_of olds) n)
-          (counted_among (sessions_of olds) n (each_at (λ s. is_counted (seat_in s n) (patterns_in s n) ≡ true) olds (λ j s here. s.counted n)));
+          subst (λ o. IsCounted n o (patterns_in t n)) (sym (session_here k n t at))
+          (subst (IsCounted n (cond (nat_eq (place_of placing n count) k) (kept_among (sessions_of olds) n) None)) (sym (patterns_here k n t at))
+          (counted_dealt (nat_eq (place_of placing n count) k) n (kept_among (sessions_of olds) n) (patterns_among (sessions_of olds) n)
+          (counted_among (sessions_of olds) n (each_at (λ s. IsCounted n (kept_in s n) (patterns_in s n)) olds (λ j s here. s.counted n)))));
       held = λ p n.
           ap (λ o. held_until o n) (connect_here k p t at)
           ∙ held_dealt (place_of placing) count k n (known_among (sessions_of olds) p)
           ∙ ap (λ o. cond (nat_eq (place_of placing n count) k) o None)
           (held_among (sessions_of olds) n p (have_once olds n apart) (know_once olds p apart)
-          (each_at (λ s. held_until (connect_at s.connects p) n ≡ holds_until (seat_in s n) p) olds (λ j s here. s.held p n)))
-          ∙ sym (holds_dealt_seat (nat_eq (place_of placing n count) k) (seat_among (sessions_of olds) n) p)
-          ∙ sym (ap (λ o. holds_until o p) (seat_here k n t at));
+          (each_at (λ s. held_until (connect_at s.connects p) n ≡ holds_until (kept_in s n) p) olds (λ j s here. s.held p n)))
+          ∙ sym (holds_dealt (nat_eq (place_of placing n count) k) (kept_among (sessions_of olds) n) p)
+          ∙ sym (ap (λ o. holds_until o p) (session_here k n t at));
       batches = λ n.
-          ap (has_formed_at_most first.place) (seat_here k n t at)
-          ∙ formed_dealt (nat_eq (place_of placing n count) k) (seat_among (sessions_of olds) n) first.place
+          ap (has_formed_at_most first.place) (session_here k n t at)
+          ∙ formed_dealt (nat_eq (place_of placing n count) k) (kept_among (sessions_of olds) n) first.place
           (formed_among (sessions_of olds) n first.place
-          (each_at (λ s. has_formed_at_most first.place (seat_in s n) ≡ true) olds (λ j s here. ap (λ place. has_formed_at_most place (seat_in s.sessions n)) ((as_first j s here).1) ∙ s.batches n)));
+          (each_at (λ s. has_formed_at_most first.place (kept_in s n) ≡ true) olds (λ j s here. ap (λ place. has_formed_at_most place (kept_in s.sessions n)) ((as_first j s here).1) ∙ s.batches n)));
       fresh = λ p later.
           connect_here k p t at
           ∙ ap (dealt_connect (place_of placing) count k)
@@ -183,11 +164,11 @@ module _ {P : Type 0} (place_of : P → ℕ → ℕ → ℕ) where
                 let one : state place_of first ≡ s = cc in
                 m.shut_is ∙ shut_is ∙ ap (λ (x : State). x.shut) one;
             sessions = λ n.
-                subscriber_dealt (nat_eq (place_of placing n count) k) (sessions_of olds) n (seat_in t.sessions n) (patterns_in t.sessions n) (seat_here k n t.sessions here) (patterns_here k n t.sessions here)
-                ∙ ap (λ o. cond {A = Option Subscriber} (nat_eq (place_of placing n count) k) o None) (sym (subscribers olds n));
+                session_here k n t.sessions here
+                ∙ ap (λ o. cond {A = Option Kept} (nat_eq (place_of placing n count) k) o None) (sym (sessions olds n));
             connects = λ p. connect_here k p t.sessions here ∙ ap (dealt_connect (place_of placing) count k) (sym (connects olds p));
             sound = record {
-              tied = record { patterns = λ n. counted_by_test (seat_in t.sessions n) (patterns_in t.sessions n) (t.counted n); holds = t.held };
+              tied = record { patterns = t.counted; holds = t.held };
               fresh = t.fresh;
             };
           }

@@ -14,7 +14,7 @@ use Rattle.bx_entry.specs.Keeping.{Kept, kept_step}
 use Rattle.bx_entry.specs.Sessions.{Filed, is_live}
 use Rattle.bx_laws.proofs.Moves.{either}
 use Rattle.bx_session.specs.declared.answered.Answered.{Answered}
-use Rattle.bx_session.specs.Agreement.{answered_of}
+use Rattle.bx_session.specs.Views.{answered_of}
 use Rattle.bx_session.specs.Filing.{filed_as, filed_at}
 use Rattle.bx_shard.specs.Refining.{placed}
 use Rattle.bx_shard.proofs.Taking.{find_of}

@@ -1,6 +1,5 @@
 -- An answer that a shard has filed is the one that the list gives.
-use Rattle.std.proofs.Common.{◌≡◌, ℕ, ◌<◌, ◌≤◌, Bool, Option, Some, None, List, [], ◌∷◌, ◌++◌, length, take, drop, map, filter, find, flat_map, option_map, slice_get, nat_eq, ◌==◌, refl, sym, ap, ◌∙◌, subst, eqb-true, take-append-drop}
-use Rattle.std.specs.Prelude.{if◌then◌else◌}
+use Rattle.std.proofs.Common.{◌≡◌, ℕ, ◌<◌, Bool, Option, Some, None, List, [], ◌∷◌, take, map, filter, find, flat_map, option_map, slice_get, nat_eq, ◌==◌, refl, sym, ap, ◌∙◌, subst, eqb-true}
 use Rattle.std.specs.Option.{option_or}
 use Rattle.std.proofs.lemmas.Bool.{cond-true, cond-false}
 use Rattle.std.proofs.lemmas.List.Folds.{find-append}
@@ -14,7 +13,7 @@ use Rattle.bx_entry.specs.Answers.{PlacedAnswer, answer_of, filed_for, answer_by
 use Rattle.bx_connects.specs.Connects.{filed_answer, taken_from}
 use Rattle.bx_connects.specs.declared.connects.ConnectState.{ConnectState}
 use Rattle.bx_connects.specs.declared.connects.ConnectState.TheVariants as states
-use Rattle.bx_shard.specs.Refining.{FiledIsGiven, Refines, Took, filed_with_place, given_of}
+use Rattle.bx_shard.specs.Refining.{FiledIsGiven, Took, filed_with_place, given_of}
 use Rattle.bx_shard.specs.Shards.{Setup, shard_at, sessions_in, stands_in}
 use Rattle.bx_shard.specs.States.{State, IsAsBefore, connect_in}
 use Rattle.bx_laws.proofs.Moves.{either}

@@ -11,55 +11,38 @@ use Rattle.bx_message.specs.declared.reply.Answer.{Answer}
 use Rattle.std.proofs.lemmas.Bool.{eqb-true, eq-eqb, ne_eqb}
 use Rattle.bx_names.specs.Globs.{Glob, any_matches}
 use Rattle.bx_names.specs.Segments.{segments}
-use Rattle.bx_tree.specs.Patterns.{patterns_of}
 use Rattle.std.proofs.Math.ListN.{length-map}
 use Rattle.bx_advice.specs.declared.config.Config.{Config}
 use Rattle.bx_message.specs.declared.event.Event.{Event}
+use Rattle.bx_entry.specs.Keeping.{Kept, after, kept, resumed}
+use Rattle.bx_entry.specs.Sessions.{Session, Stage, is_hit, is_live, published, received}
 use Rattle.bx_session.specs.declared.answered.Answered.{Answered}
-use Rattle.bx_session.specs.Seats.{Seat}
-use Rattle.bx_session.specs.Steps.{Countable, deadline_of, delivered, delivery}
+use Rattle.bx_session.specs.Views.{Countable, answered_of, deadline_of}
 use Rattle.bx_connects.specs.declared.connects.ConnectState.{ConnectState}
 use Rattle.bx_connects.specs.declared.connects.ConnectState.TheVariants.{Filed}
-use Rattle.bx_connects.specs.Connects.{connect_at, filed_as, filing, session_at}
+use Rattle.bx_connects.specs.Connects.{connect_at, filed_as, session_at}
 use Rattle.bx_shard.specs.declared.publish.Parcel.{Parcel}
 use Rattle.bx_shard.specs.declared.sessions.Sessions.{Sessions}
-use Rattle.bx_shard.specs.Effects.{delivery_filing, given_by}
-use Rattle.bx_shard.specs.Publishing.{hearing, reaches, AllReady, IsReady, NoneFor, Turn, Turns, parcel}
-use Rattle.bx_shard.specs.Sessions.{AreCountable, AreCounted, AreHeld, IsCounted, HasRoom, held_until, holds_until, patterns_in, seat_in, subscriber_in}
-use Rattle.bx_shard.specs.Subscribers.{Subscriber, hears, receiving}
-use Rattle.bx_shard.proofs.Ends.{Settles, delivery_settles}
-use Rattle.bx_shard.proofs.Keeps.{delivery_session, filed_known, held_session}
+use Rattle.bx_shard.specs.Effects.{answers_by, filing_each}
+use Rattle.bx_shard.specs.Publishing.{reaches, AllReady, IsReady, NoneFor, Turn, Turns, parcel, published_at}
+use Rattle.bx_shard.specs.Sessions.{AreCountable, AreCounted, AreHeld, IsCounted, IsOwn, HasRoom, held_until, holds_until, kept_in, patterns_in}
+use Rattle.bx_shard.proofs.Ends.{From, received_e}
+use Rattle.bx_shard.proofs.Keeps.{filing_each_session, filed_known, held_session, unfiled}
+use Rattle.bx_shard.proofs.Singles.{nowhere, only_one}
 use Rattle.bx_shard.proofs.Ties.{holds_own}
 
--- ---- seats
-
-abbrev pub with_patterns : List Glob → Seat → Subscriber
-with_patterns patterns seat = record { seat = seat; patterns = patterns }
-
--- the seat of a session with its patterns
-pub seat_of_subscriber : (s : Sessions) (n : ℕ) → option_map (λ (x : Subscriber). x.seat) (subscriber_in s n) ≡ seat_in s n
-seat_of_subscriber s n = by (seat_in s n)
-  where
-    by : (o : Option Seat) → option_map (λ (x : Subscriber). x.seat) (option_map (with_patterns (patterns_in s n)) o) ≡ o
-    by None = refl
-    by (Some seat) = refl
-
--- sessions that are the same have the same seats
-pub same_seat : (s t : Sessions) (n : ℕ) → subscriber_in t n ≡ subscriber_in s n → seat_in t n ≡ seat_in s n
-same_seat s t n same = sym (seat_of_subscriber t n) ∙ ap (λ o. option_map (λ (x : Subscriber). x.seat) o) same ∙ seat_of_subscriber s n
-
 -- the other sessions can get their parcels as before
-pub ready_along : (s t : Sessions) (m : ℕ) (xs : List Parcel) → NoneFor m xs → ((n : ℕ) → nat_eq m n ≡ false → seat_in t n ≡ seat_in s n)
+pub ready_along : (s t : Sessions) (m : ℕ) (xs : List Parcel) → NoneFor m xs → ((n : ℕ) → nat_eq m n ≡ false → kept_in t n ≡ kept_in s n)
     → ((n : ℕ) → nat_eq m n ≡ false → HasRoom s n → HasRoom t n) → AllReady s xs → AllReady t xs
-ready_along s t m [] none seats room ready = ready
-ready_along s t m (x ∷ xs) none seats room ready = (
+ready_along s t m [] none sessions room ready = ready
+ready_along s t m (x ∷ xs) none sessions room ready = (
   record {
     same = ready.0.same;
-    here = subst (λ o. IfSome o (λ (seat : Seat). (seat.overflow ≡ false) × Countable seat)) (sym (seats x.number none.0)) ready.0.here;
+    here = subst (λ o. IfSome o (λ (k : Kept). (k.overflow ≡ false) × Countable k)) (sym (sessions x.number none.0)) ready.0.here;
     room = room x.number none.0 ready.0.room;
   },
   ready.1,
-  ready_along s t m xs none.1 seats room ready.2,
+  ready_along s t m xs none.1 sessions room ready.2,
 )
 
 -- ---- who gets a parcel
@@ -85,50 +68,49 @@ AreOf e [] = Unit {0}
 AreOf e (x ∷ xs) = (x.keep ≡ e) × AreOf e xs
 
 module _ (config : Config) (place : ℕ) (e : Event) where
-  -- a session that gets the event answers its held connect with it
-  pub record Gives (old : Sessions) (xs : List Parcel) (n : ℕ) (s : Subscriber) (a : Answered) : Type 0 where
-    pub gets : is_for xs n ≡ true
-    pub here : subscriber_in old n ≡ Some s
-    pub given : given_by (delivery config e s.seat) ≡ Some a
+  -- what the event does to a session that gets it
+  abbrev pub gets : Session → Session
+  gets = received config (published_at place e)
 
   pub sessions_turned : (xs : List Parcel) (old new : Sessions) → AreOf e xs → AreApart xs → Turns config place xs old new
-      → (n : ℕ) → subscriber_in new n ≡ cond (is_for xs n) (option_map (receiving config e) (subscriber_in old n)) (subscriber_in old n)
-  sessions_turned [] old new of apart turns n = ap (λ s. subscriber_in s n) (sym turns)
+      → (n : ℕ) → kept_in new n ≡ cond (is_for xs n) (option_map (after gets) (kept_in old n)) (kept_in old n)
+  sessions_turned [] old new of apart turns n = ap (λ s. kept_in s n) (sym turns)
   sessions_turned (x ∷ xs) old new of apart turns n =
-      let between = turns.0 in
-      let rest = sessions_turned xs between new of.1 apart.1 turns.2 n in
+      let rest = sessions_turned xs turns.0 new of.1 apart.1 turns.2 n in
       let one = turns.1.sessions n in
       rest ∙ by (nat_eq x.number n) refl one
     where
       between : Sessions
       between = turns.0
 
-      by : (b : Bool) → b ≡ nat_eq x.number n → subscriber_in between n ≡ cond b (option_map (receiving config x.keep) (subscriber_in old x.number)) (subscriber_in old n)
-          → cond (is_for xs n) (option_map (receiving config e) (subscriber_in between n)) (subscriber_in between n)
-          ≡ cond (b || is_for xs n) (option_map (receiving config e) (subscriber_in old n)) (subscriber_in old n)
+      by : (b : Bool) → b ≡ nat_eq x.number n → kept_in between n ≡ cond b (option_map (after (received config (published_at place x.keep))) (kept_in old x.number)) (kept_in old n)
+          → cond (is_for xs n) (option_map (after gets) (kept_in between n)) (kept_in between n)
+          ≡ cond (b || is_for xs n) (option_map (after gets) (kept_in old n)) (kept_in old n)
       by true h one =
           let same = eqb-true x.number n (sym h) in
-          ap (λ b. cond b (option_map (receiving config e) (subscriber_in between n)) (subscriber_in between n)) (subst (λ k. is_for xs k ≡ false) same (none_for xs x.number apart.0))
-          ∙ one ∙ ap (λ v. option_map (receiving config v) (subscriber_in old x.number)) of.0 ∙ ap (λ k. option_map (receiving config e) (subscriber_in old k)) same
-      by false h one = ap (λ o. cond (is_for xs n) (option_map (receiving config e) o) o) one
+          ap (λ b. cond b (option_map (after gets) (kept_in between n)) (kept_in between n)) (subst (λ k. is_for xs k ≡ false) same (none_for xs x.number apart.0))
+          ∙ one ∙ ap (λ v. option_map (after (received config (published_at place v))) (kept_in old x.number)) of.0 ∙ ap (λ k. option_map (after gets) (kept_in old k)) same
+      by false h one = ap (λ o. cond (is_for xs n) (option_map (after gets) o) o) one
 
   -- what a session answers, it answers to the connect that it holds
-  holds_it : (s : Sessions) (n : ℕ) (x : Subscriber) (a : Answered) → AreHeld s → subscriber_in s n ≡ Some x → given_by (delivery config e x.seat) ≡ Some a
+  holds_it : (s : Sessions) (n : ℕ) (a : Answered) → AreHeld s → Contains (answers_by gets (kept_in s n)) a
       → (deadline : Option ℕ) × (held_until (connect_at s.connects a.place) n ≡ Some deadline)
-  holds_it s n x a held here given = by (delivery_settles config e x.seat)
+  holds_it s n a held given = of (kept_in s n) refl given
     where
-      seat : seat_in s n ≡ Some x.seat
-      seat = sym (seat_of_subscriber s n) ∙ ap (λ o. option_map (λ (y : Subscriber). y.seat) o) here
-
-      by : Settles (Some x.seat) (Some (delivered e x.seat)) (given_by (delivery config e x.seat)) → (deadline : Option ℕ) × (held_until (connect_at s.connects a.place) n ≡ Some deadline)
-      by (inl end) =
-          let own : a.place ≡ end.hold.place = ap (λ o. option_map_or (λ (y : Answered). y.place) o a.place) (sym given ∙ end.given) ∙ end.own in
-          let is : x.seat ≡ end.seat = ap (λ o. option_map_or (λ (y : Seat). y) o x.seat) end.here in (
+      by : (k : Kept) → kept_in s n ≡ Some k → From k (gets (resumed k)) → Contains (answers_by gets (Some k)) a → (deadline : Option ℕ) × (held_until (connect_at s.connects a.place) n ≡ Some deadline)
+      by k here (inl end) there =
+          let same : end.answer ≡ a = only_one end.answer a (subst (λ given. Contains given a) end.given there) in
+          let own : a.place ≡ end.hold.place = ap (λ (x : Answered). x.place) (sym same) ∙ end.own in
+          let is : k ≡ end.session = ap (λ o. option_map_or (λ (y : Kept). y) o k) end.here in (
             deadline_of end.hold,
-            held a.place n ∙ ap (λ o. holds_until o a.place) seat ∙ ap (λ p. holds_until (Some x.seat) p) own ∙ ap (λ y. holds_until (Some y) end.hold.place) is
-                ∙ holds_own end.seat end.hold end.held,
+            held a.place n ∙ ap (λ o. holds_until o a.place) here ∙ ap (λ p. holds_until (Some k) p) own ∙ ap (λ y. holds_until (Some y) end.hold.place) is
+                ∙ holds_own end.session end.hold end.held,
           )
-      by (inr kept) = absurd (true≢false (ap is_none (sym kept.none ∙ given)))
+      by k here (inr stays) there = absurd (nowhere a (subst (λ given. Contains given a) stays.none there))
+
+      of : (o : Option Kept) → kept_in s n ≡ o → Contains (answers_by gets o) a → (deadline : Option ℕ) × (held_until (connect_at s.connects a.place) n ≡ Some deadline)
+      of None here there = absurd (nowhere a there)
+      of (Some k) here there = by k here (received_e config (published_at place e) k) there
 
   -- one that is filed is held by nobody
   not_held : (state : Option ConnectState) (j p n : ℕ) (b : Answer) (deadline : Option ℕ) → state ≡ Some (Filed j p b) → held_until state n ≡ Some deadline → ⊥
@@ -136,77 +118,83 @@ module _ (config : Config) (place : ℕ) (e : Event) where
 
   -- the first parcel is for none of those that get one later
   later_other : (x : Parcel) (xs : List Parcel) (n : ℕ) → NoneFor x.number xs → is_for xs n ≡ true → nat_eq x.number n ≡ false
-  later_other x xs n apart gets = by (nat_eq x.number n) refl
+  later_other x xs n apart gets_one = by (nat_eq x.number n) refl
     where
       by : (b : Bool) → nat_eq x.number n ≡ b → nat_eq x.number n ≡ false
-      by true same = absurd (true≢false (sym gets ∙ subst (λ k. is_for xs k ≡ false) (eqb-true x.number n same) (none_for xs x.number apart)))
+      by true same = absurd (true≢false (sym gets_one ∙ subst (λ k. is_for xs k ≡ false) (eqb-true x.number n same) (none_for xs x.number apart)))
       by false same = same
 
-  later_same : (x : Parcel) (xs : List Parcel) (old between : Sessions) → NoneFor x.number xs → Turn config place x old between → (n : ℕ) → is_for xs n ≡ true → subscriber_in between n ≡ subscriber_in old n
-  later_same x xs old between apart turn n gets =
-      turn.sessions n ∙ ap (λ b. cond b (option_map (receiving config x.keep) (subscriber_in old x.number)) (subscriber_in old n)) (later_other x xs n apart gets)
+  later_same : (x : Parcel) (xs : List Parcel) (old between : Sessions) → NoneFor x.number xs → Turn config place x old between → (n : ℕ) → is_for xs n ≡ true → kept_in between n ≡ kept_in old n
+  later_same x xs old between apart turn n gets_one =
+      turn.sessions n ∙ ap (λ b. cond b (option_map (after (received config (published_at place x.keep))) (kept_in old x.number)) (kept_in old n)) (later_other x xs n apart gets_one)
+
+  -- a session that gets the event answers its held connect with it
+  pub record Gives (old : Sessions) (xs : List Parcel) (n : ℕ) (a : Answered) : Type 0 where
+    pub gets_one : is_for xs n ≡ true
+    pub given : Contains (answers_by gets (kept_in old n)) a
 
   -- what is given later is given
   gives_before : (x : Parcel) (xs : List Parcel) (old between : Sessions) → NoneFor x.number xs → Turn config place x old between
-      → (n : ℕ) (s : Subscriber) (a : Answered) → Gives between xs n s a → Gives old (x ∷ xs) n s a
-  gives_before x xs old between apart turn n s a g = record {
-    gets = ap (λ b. nat_eq x.number n || b) g.gets ∙ or-true (nat_eq x.number n);
-    here = sym (later_same x xs old between apart turn n g.gets) ∙ g.here;
-    given = g.given;
+      → (n : ℕ) (a : Answered) → Gives between xs n a → Gives old (x ∷ xs) n a
+  gives_before x xs old between apart turn n a g = record {
+    gets_one = ap (λ b. nat_eq x.number n || b) g.gets_one ∙ or-true (nat_eq x.number n);
+    given = subst (λ o. Contains (answers_by gets o) a) (later_same x xs old between apart turn n g.gets_one) g.given;
   }
 
   -- a connect that nobody is answered at is as it was
   pub connects_kept : (xs : List Parcel) (old new : Sessions) → AreOf e xs → AreApart xs → Turns config place xs old new
-      → (p : ℕ) → ((n : ℕ) (s : Subscriber) (a : Answered) → Gives old xs n s a → a.place ≢ p) → connect_at new.connects p ≡ connect_at old.connects p
+      → (p : ℕ) → ((n : ℕ) (a : Answered) → Gives old xs n a → a.place ≢ p) → connect_at new.connects p ≡ connect_at old.connects p
   connects_kept [] old new of apart turns p never = ap (λ s. connect_at s.connects p) (sym turns)
   connects_kept (x ∷ xs) old new of apart turns p never =
-      connects_kept xs turns.0 new of.1 apart.1 turns.2 p (λ n s a g. never n s a (gives_before x xs old turns.0 apart.0 turns.1 n s a g))
-      ∙ turns.1.connects p ∙ by (seat_in old x.number) refl
-    where
-      by : (o : Option Seat) → seat_in old x.number ≡ o → delivery_filing config place x.keep (seat_in old x.number) (connect_at old.connects) p ≡ connect_at old.connects p
-      by None h = ap (λ o. delivery_filing config place x.keep o (connect_at old.connects) p) h
-      by (Some seat) h = ap (λ o. delivery_filing config place x.keep o (connect_at old.connects) p) h ∙ filed (given_by (delivery config x.keep seat)) refl
-        where
-          here : subscriber_in old x.number ≡ Some (with_patterns (patterns_in old x.number) seat)
-          here = ap (λ o. option_map (with_patterns (patterns_in old x.number)) o) h
+      connects_kept xs turns.0 new of.1 apart.1 turns.2 p (λ n a g. never n a (gives_before x xs old turns.0 apart.0 turns.1 n a g))
+      ∙ turns.1.connects p
+      ∙ ap (λ v. filing_each place (answers_by (received config (published_at place v)) (kept_in old x.number)) (connect_at old.connects) p) of.0
+      ∙ unfiled place (answers_by gets (kept_in old x.number)) (connect_at old.connects) p (λ a there. never x.number a (record {
+        gets_one = ap (λ b. b || is_for xs x.number) (eq-eqb x.number x.number refl);
+        given = there;
+      }))
 
-          filed : (g : Option Answered) → given_by (delivery config x.keep seat) ≡ g → filing place (given_by (delivery config x.keep seat)) (connect_at old.connects) p ≡ connect_at old.connects p
-          filed None k = ap (λ g. filing place g (connect_at old.connects) p) k
-          filed (Some a) k =
-              let elsewhere = never x.number (with_patterns (patterns_in old x.number) seat) a (record {
-                gets = ap (λ b. b || is_for xs x.number) (eq-eqb x.number x.number refl);
-                here = here;
-                given = ap (λ v. given_by (delivery config v seat)) (sym of.0) ∙ k;
-              }) in
-              ap (λ g. filing place g (connect_at old.connects) p) k ∙ ap (λ b. cond b (filed_as place a.answer (connect_at old.connects a.place)) (connect_at old.connects p)) (ne_eqb a.place p elsewhere)
+  -- the one answer is filed
+  filed_one : (s : Sessions) (n : ℕ) (a : Answered) → AreHeld s → Contains (answers_by gets (kept_in s n)) a
+      → filing_each place (answers_by gets (kept_in s n)) (connect_at s.connects) a.place ≡ Some (Filed n place a.answer)
+  filed_one s n a held given = of (kept_in s n) given
+    where
+      known : session_at (connect_at s.connects a.place) ≡ Some n
+      known = let holds = holds_it s n a held given in held_session (connect_at s.connects a.place) n holds.0 holds.1
+
+      by : (k : Kept) → From k (gets (resumed k)) → Contains (answers_by gets (Some k)) a → filing_each place (answers_by gets (Some k)) (connect_at s.connects) a.place ≡ Some (Filed n place a.answer)
+      by k (inl end) there =
+          let same : end.answer ≡ a = only_one end.answer a (subst (λ given. Contains given a) end.given there) in
+          ap (λ given. filing_each place given (connect_at s.connects) a.place) (end.given ∙ ap (λ x. x ∷ []) same)
+          ∙ ap (λ b. cond b (filed_as place a.answer (connect_at s.connects a.place)) (connect_at s.connects a.place)) (eq-eqb a.place a.place refl)
+          ∙ filed_known place n a.answer (connect_at s.connects a.place) known
+      by k (inr stays) there = absurd (nowhere a (subst (λ given. Contains given a) stays.none there))
+
+      of : (o : Option Kept) → Contains (answers_by gets o) a → filing_each place (answers_by gets o) (connect_at s.connects) a.place ≡ Some (Filed n place a.answer)
+      of None there = absurd (nowhere a there)
+      of (Some k) there = by k (received_e config (published_at place e) k) there
 
   -- each answer is filed
   pub answers_filed : (xs : List Parcel) (old new : Sessions) → AreHeld old → AreOf e xs → AreApart xs → Turns config place xs old new
-      → (n : ℕ) (s : Subscriber) (a : Answered) → Gives old xs n s a → connect_at new.connects a.place ≡ Some (Filed n place a.answer)
-  answers_filed [] old new held of apart turns n s a g = absurd (true≢false (sym g.gets))
-  answers_filed (x ∷ xs) old new held of apart turns n s a g =
+      → (n : ℕ) (a : Answered) → Gives old xs n a → connect_at new.connects a.place ≡ Some (Filed n place a.answer)
+  answers_filed [] old new held of apart turns n a g = absurd (true≢false (sym g.gets_one))
+  answers_filed (x ∷ xs) old new held of apart turns n a g =
       by (nat_eq x.number n) refl
-      (λ gets. answers_filed xs turns.0 new turns.1.held of.1 apart.1 turns.2 n s a (record { gets = gets; here = later_same x xs old turns.0 apart.0 turns.1 n gets ∙ g.here; given = g.given }))
-      (λ filed. connects_kept xs turns.0 new of.1 apart.1 turns.2 a.place (λ m t b h same.
-      let other = holds_it turns.0 m t b turns.1.held h.here h.given in
+      (λ gets_one. answers_filed xs turns.0 new turns.1.held of.1 apart.1 turns.2 n a (record { gets_one = gets_one; given = subst (λ o. Contains (answers_by gets o) a) (sym (later_same x xs old turns.0 apart.0 turns.1 n gets_one)) g.given }))
+      (λ filed. connects_kept xs turns.0 new of.1 apart.1 turns.2 a.place (λ m b h same.
+      let other = holds_it turns.0 m b turns.1.held h.given in
       not_held (connect_at turns.0.connects a.place) n place m a.answer other.0 filed (subst (λ q. held_until (connect_at turns.0.connects q) m ≡ Some other.0) same other.1)) ∙ filed)
     where
       by : (b : Bool) → nat_eq x.number n ≡ b → (is_for xs n ≡ true → connect_at new.connects a.place ≡ Some (Filed n place a.answer))
           → (connect_at turns.0.connects a.place ≡ Some (Filed n place a.answer) → connect_at new.connects a.place ≡ Some (Filed n place a.answer))
           → connect_at new.connects a.place ≡ Some (Filed n place a.answer)
-      by false other later now = later (sym (ap (λ b. b || is_for xs n) other) ∙ g.gets)
-      by true same later now = now (turns.1.connects a.place ∙ at)
-        where
-          seat : seat_in old x.number ≡ Some s.seat
-          seat = ap (seat_in old) (eqb-true x.number n same) ∙ sym (seat_of_subscriber old n) ∙ ap (λ o. option_map (λ (y : Subscriber). y.seat) o) g.here
-
-          at : delivery_filing config place x.keep (seat_in old x.number) (connect_at old.connects) a.place ≡ Some (Filed n place a.answer)
-          at =
-              let holds = holds_it old n s a held g.here g.given in
-              ap (λ o. delivery_filing config place x.keep o (connect_at old.connects) a.place) seat
-              ∙ ap (λ o. filing place o (connect_at old.connects) a.place) (ap (λ v. given_by (delivery config v s.seat)) of.0 ∙ g.given)
-              ∙ ap (λ b. cond b (filed_as place a.answer (connect_at old.connects a.place)) (connect_at old.connects a.place)) (eq-eqb a.place a.place refl)
-              ∙ filed_known place n a.answer (connect_at old.connects a.place) (held_session (connect_at old.connects a.place) n holds.0 holds.1)
+      by false other later now = later (sym (ap (λ b. b || is_for xs n) other) ∙ g.gets_one)
+      by true same later now =
+          let m : x.number ≡ n = eqb-true x.number n same in
+          now (turns.1.connects a.place
+          ∙ ap (λ v. filing_each place (answers_by (received config (published_at place v)) (kept_in old x.number)) (connect_at old.connects) a.place) of.0
+          ∙ ap (λ k. filing_each place (answers_by gets (kept_in old k)) (connect_at old.connects) a.place) m
+          ∙ filed_one old n a held g.given)
 
   -- ---- what stays
 
@@ -215,7 +203,7 @@ module _ (config : Config) (place : ℕ) (e : Event) where
   sessions_kept [] old new turns p = ap (λ s. session_at (connect_at s.connects p)) (sym turns)
   sessions_kept (x ∷ xs) old new turns p =
       sessions_kept xs turns.0 new turns.2 p ∙ ap session_at (turns.1.connects p)
-      ∙ delivery_session config place x.keep (seat_in old x.number) (connect_at old.connects) p
+      ∙ filing_each_session place (answers_by (received config (published_at place x.keep)) (kept_in old x.number)) (connect_at old.connects) p
 
   pub held_after : (xs : List Parcel) (old new : Sessions) → AreHeld old → Turns config place xs old new → AreHeld new
   held_after [] old new held turns = subst AreHeld turns held
@@ -312,59 +300,82 @@ silent e patterns empty = ap (reaches e) empty ∙ not_reached (is_broadcast e.c
     not_reached true = refl
     not_reached false = refl
 
--- a session with its patterns counted hears what reaches them
-pub hears_is : (e : Event) (seat : Seat) (patterns : List Glob) → IsCounted (Some seat) patterns → hears e (with_patterns patterns seat) ≡ reaches e patterns
-hears_is e seat patterns counted = told seat.overflow (is_broadcast e.channel) (any_matches patterns (segments e.channel)) ∙ by seat.overflow refl (reaches e patterns) refl
+-- a session hears what reaches its patterns
+pub hears_is : (e : Event) (n : ℕ) (k : Kept) (patterns : List Glob) → IsOwn n k patterns → is_hit (resumed k) e ≡ reaches e patterns
+hears_is e n k patterns own =
+    ap (λ (stage : Stage). ((is_live stage && not k.overflow) && is_broadcast e.channel) && any_matches k.patterns (segments e.channel)) own.live
+    ∙ ap (λ (ps : List Glob). (not k.overflow && is_broadcast e.channel) && any_matches ps (segments e.channel)) own.patterns_are
+    ∙ told k.overflow (is_broadcast e.channel) (any_matches patterns (segments e.channel)) ∙ by k.overflow refl (reaches e patterns) refl
   where
     told : (o a b : Bool) → ((not o && a) && b) ≡ (not o && (a && b))
     told true a b = refl
     told false a b = refl
 
-    by : (o : Bool) → seat.overflow ≡ o → (r : Bool) → reaches e patterns ≡ r → (not o && reaches e patterns) ≡ reaches e patterns
-    by false h r k = refl
-    by true h false k = sym k
-    by true h true k = absurd (true≢false (sym k ∙ silent e patterns (counted.1 h)))
+    by : (o : Bool) → k.overflow ≡ o → (r : Bool) → reaches e patterns ≡ r → (not o && reaches e patterns) ≡ reaches e patterns
+    by false h r g = refl
+    by true h false g = sym g
+    by true h true g = absurd (true≢false (sym g ∙ silent e patterns (own.emptied h)))
 
 -- ---- the whole publish
 
-module _ (config : Config) (place : ℕ) (e : Event) (s t new : Sessions) (ns : List ℕ) (counted : AreCounted s) (seats : (n : ℕ) → seat_in t n ≡ seat_in s n) (tree : t.tree ≡ s.tree)
+module _ (config : Config) (place : ℕ) (e : Event) (s t new : Sessions) (ns : List ℕ) (counted : AreCounted s) (sessions : (n : ℕ) → kept_in t n ≡ kept_in s n)
     (reached : (n : ℕ) → (Contains ns n ↔ IsTrue (reaches e (patterns_in s n)))) where
-  -- making room changes no session
-  pub same_subscriber : (n : ℕ) → subscriber_in t n ≡ subscriber_in s n
-  same_subscriber n = ap (λ o. option_map (with_patterns (patterns_in t n)) o) (seats n) ∙ ap (λ tr. option_map (with_patterns (patterns_of tr n)) (seat_in s n)) tree
+  -- what the publish does to a session
+  abbrev hears : Session → Session
+  hears = published config (published_at place e)
 
   gets_if : (n : ℕ) → is_for (map (parcel e) ns) n ≡ reaches e (patterns_in s n)
   gets_if n = is_for_numbers e ns n ∙ one_of_is ns n (reaches e (patterns_in s n)) (reached n)
 
-  pub hears_if : (n : ℕ) (x : Subscriber) → subscriber_in s n ≡ Some x → hears e x ≡ is_for (map (parcel e) ns) n
-  hears_if n x here = by (seat_in s n) refl here (counted n)
-    where
-      by : (o : Option Seat) → seat_in s n ≡ o → option_map (with_patterns (patterns_in s n)) o ≡ Some x → IsCounted o (patterns_in s n) → hears e x ≡ is_for (map (parcel e) ns) n
-      by None h k c = absurd (true≢false (ap is_none k))
-      by (Some seat) h k c =
-          let is : with_patterns (patterns_in s n) seat ≡ x = ap (λ o. option_map_or (λ (y : Subscriber). y) o x) k in
-          ap (hears e) (sym is) ∙ hears_is e seat (patterns_in s n) c ∙ sym (gets_if n)
+  hears_if : (n : ℕ) (k : Kept) → kept_in s n ≡ Some k → is_hit (resumed k) e ≡ is_for (map (parcel e) ns) n
+  hears_if n k here = hears_is e n k (patterns_in s n) (subst (λ o. IsCounted n o (patterns_in s n)) here (counted n)) ∙ sym (gets_if n)
 
   -- each session that hears the event gets it
-  pub all_hear : AreApart (map (parcel e) ns) → Turns config place (map (parcel e) ns) t new → (n : ℕ) → subscriber_in new n ≡ option_map (hearing config e) (subscriber_in s n)
+  pub all_hear : AreApart (map (parcel e) ns) → Turns config place (map (parcel e) ns) t new → (n : ℕ) → kept_in new n ≡ option_map (after hears) (kept_in s n)
   all_hear apart turns n =
       sessions_turned config place e (map (parcel e) ns) t new (are_of e ns) apart turns n
-      ∙ ap (λ o. cond (is_for (map (parcel e) ns) n) (option_map (receiving config e) o) o) (same_subscriber n)
-      ∙ by (subscriber_in s n) refl
+      ∙ ap (λ o. cond (is_for (map (parcel e) ns) n) (option_map (after (gets config place e)) o) o) (sessions n)
+      ∙ by (kept_in s n) refl
     where
-      by : (o : Option Subscriber) → subscriber_in s n ≡ o → cond (is_for (map (parcel e) ns) n) (option_map (receiving config e) o) o ≡ option_map (hearing config e) o
+      none : (b : Bool) → cond {A = Option Kept} b None None ≡ None
+      none true = refl
+      none false = refl
+
+      some : (k : Kept) (b c : Bool) → c ≡ b → cond b (Some (after (gets config place e) k)) (Some k) ≡ Some (kept (cond c (gets config place e (resumed k)) (resumed k)))
+      some k true true h = refl
+      some k false false h = refl
+      some k true false h = absurd (true≢false (sym h))
+      some k false true h = absurd (true≢false h)
+
+      by : (o : Option Kept) → kept_in s n ≡ o → cond (is_for (map (parcel e) ns) n) (option_map (after (gets config place e)) o) o ≡ option_map (after hears) o
       by None h = none (is_for (map (parcel e) ns) n)
-        where
-          none : (b : Bool) → cond {A = Option Subscriber} b None None ≡ None
-          none true = refl
-          none false = refl
-      by (Some x) h = some (is_for (map (parcel e) ns) n) (hears e x) (hears_if n x h)
-        where
-          some : (b c : Bool) → c ≡ b → cond b (Some (receiving config e x)) (Some x) ≡ Some (cond c (receiving config e x) x)
-          some true true k = refl
-          some false false k = refl
-          some true false k = absurd (true≢false (sym k))
-          some false true k = absurd (true≢false k)
+      by (Some k) h = some k (is_for (map (parcel e) ns) n) (is_hit (resumed k) e) (hears_if n k h)
+
+  -- what a session answers to the publish, it answers as one that gets the event
+  pub gives_if : (n : ℕ) (a : Answered) → Contains (answers_by hears (kept_in s n)) a → Gives config place e t (map (parcel e) ns) n a
+  gives_if n a there = by (kept_in s n) refl there
+    where
+      some : (k : Kept) (b c : Bool) → is_for (map (parcel e) ns) n ≡ b → c ≡ b → kept_in s n ≡ Some k → Contains (map answered_of (cond c (gets config place e (resumed k)) (resumed k)).answers) a → Gives config place e t (map (parcel e) ns) n a
+      some k true true f h here in_it = record { gets_one = f; given = subst (λ o. Contains (answers_by (gets config place e) o) a) (sym (sessions n ∙ here)) in_it }
+      some k true false f h here in_it = absurd (true≢false (sym h))
+      some k false true f h here in_it = absurd (true≢false h)
+      some k false false f h here in_it = absurd (nowhere a in_it)
+
+      by : (o : Option Kept) → kept_in s n ≡ o → Contains (answers_by hears o) a → Gives config place e t (map (parcel e) ns) n a
+      by None here in_it = absurd (nowhere a in_it)
+      by (Some k) here in_it = some k (is_for (map (parcel e) ns) n) (is_hit (resumed k) e) refl (hears_if n k here) here in_it
+
+  -- and the other way round
+  pub if_gives : (n : ℕ) (a : Answered) → Gives config place e t (map (parcel e) ns) n a → Contains (answers_by hears (kept_in s n)) a
+  if_gives n a g = by (kept_in s n) refl (subst (λ o. Contains (answers_by (gets config place e) o) a) (sessions n) g.given)
+    where
+      some : (k : Kept) (c : Bool) → c ≡ true → Contains (answers_by (gets config place e) (Some k)) a → Contains (map answered_of (cond c (gets config place e (resumed k)) (resumed k)).answers) a
+      some k true h in_it = in_it
+      some k false h in_it = absurd (true≢false (sym h))
+
+      by : (o : Option Kept) → kept_in s n ≡ o → Contains (answers_by (gets config place e) o) a → Contains (answers_by hears o) a
+      by None here in_it = absurd (nowhere a in_it)
+      by (Some k) here in_it = some k (is_hit (resumed k) e) (hears_if n k here ∙ g.gets_one) in_it
 
   -- who is ready for a parcel
   pub are_ready : AreCountable s → AreApart (map (parcel e) ns) → ((k : ℕ) (d : Parcel) → k < length (map (parcel e) ns) → HasRoom t (slice_index_or (map (parcel e) ns) k d).number) → AllReady t (map (parcel e) ns)
@@ -373,14 +384,14 @@ module _ (config : Config) (place : ℕ) (e : Event) (s t new : Sessions) (ns : 
       ready : (n : ℕ) → Contains ns n → IsReady t (parcel e n)
       ready n there = record {
         same = refl;
-        here = subst (λ o. IfSome o (λ (seat : Seat). (seat.overflow ≡ false) × Countable seat)) (sym (seats n)) (by (seat_in s n) refl (counted n) (countable n));
+        here = subst (λ o. IfSome o (λ (k : Kept). (k.overflow ≡ false) × Countable k)) (sym (sessions n)) (by (kept_in s n) refl (counted n) (countable n));
         room = subst (λ m. HasRoom t m) (number_at e ns there.0 n there.1 ∙ there.2) (room there.0 (parcel e n) (omega (arith, there.1, length-map ns (parcel e))));
       }
         where
-          by : (o : Option Seat) → seat_in s n ≡ o → IsCounted o (patterns_in s n) → IfSome o Countable → IfSome o (λ (seat : Seat). (seat.overflow ≡ false) × Countable seat)
-          by None h c k = tt
-          by (Some seat) h c k = (live seat.overflow refl, k)
+          by : (o : Option Kept) → kept_in s n ≡ o → IsCounted n o (patterns_in s n) → IfSome o Countable → IfSome o (λ (k : Kept). (k.overflow ≡ false) × Countable k)
+          by None h c few = tt
+          by (Some k) h c few = (live k.overflow refl, few)
             where
-              live : (o : Bool) → seat.overflow ≡ o → seat.overflow ≡ false
+              live : (o : Bool) → k.overflow ≡ o → k.overflow ≡ false
               live false g = g
-              live true g = absurd (true≢false (sym ((reached n).0 there) ∙ silent e (patterns_in s n) (c.1 g)))
+              live true g = absurd (true≢false (sym ((reached n).0 there) ∙ silent e (patterns_in s n) (c.emptied g)))

@@ -11,7 +11,6 @@ use Rattle.bx_laws.proofs.Lists.{judged_length, judged_more}
 use Rattle.bx_connects.specs.Connects.{session_at}
 use Rattle.bx_shard.specs.Shards.{Setup, filed_among, live_among, stands_in}
 use Rattle.bx_shard.specs.Refining.{RefinesAtFirst, RefinesLonger, RefinesStill, IsConnectOf, filed_with_place}
-use Rattle.bx_shard.specs.Subscribers.{subscriber_of}
 use Rattle.bx_shard.proofs.Taking.{waits_later}
 
 -- ---- at first, and after a call that changed nothing
@@ -90,7 +89,7 @@ refines_longer setup list more taken shard n s h =
       place_is = h.place_is;
       within = omega (arith, h.within, length-append list more);
       sound = h.sound;
-      sessions = λ m. h.sessions m ∙ ap (λ (xs : List Listed). option_map (subscriber_of setup.config) (found_session setup m (sessions_over setup shard xs))) front;
+      sessions = λ m. h.sessions m ∙ ap (λ (xs : List Listed). found_session setup m (sessions_over setup shard xs)) front;
       filed = λ p. h.filed p ∙ ap (λ (xs : List Listed). option_map answer_of (found_answer taken p (sessions_over setup shard xs))) front;
       known = λ p t. omega (arith, h.known p t, length-append list more);
       gone = λ p t c. h.gone p t (connect_before setup list more shard p (h.known p t) c);

@@ -1,6 +1,6 @@
 -- What a shard holds: each session is reached and live, and their numbers ascend.
 use Rattle.std.proofs.Common.{◌≡◌, ℕ, zero, suc, ◌+◌, ◌<◌, ◌≤◌, Bool, true, false, cond, List, [], ◌∷◌, length, take, map, filter, slice_index, refl, sym, ap, ◌∙◌, subst, arith, length-take}
-use Rattle.std.proofs.lemmas.Bool.{cond_both, cond-true}
+use Rattle.std.proofs.lemmas.Bool.{cond_both}
 use Rattle.std.proofs.lemmas.List.{length-map}
 use Rattle.std.proofs.lemmas.List.Elements.{All-nil, All-cons}
 use Rattle.std.proofs.lemmas.List.Kept.{IsStrictlyIncreasing-filter}
@@ -15,13 +15,9 @@ use Rattle.bx_entry.specs.Keeping.{Kept, kept}
 use Rattle.bx_laws.proofs.Dues.{NumberedFrom}
 use Rattle.bx_laws.proofs.Lives.{numbered}
 use Rattle.bx_laws.proofs.Lists.{judged_length}
-use Rattle.bx_laws.specs.Laws.{InStep}
-use Rattle.bx_laws.proofs.Counts.{counts_agree}
-use Rattle.bx_laws.proofs.Kept.{kept_in_bounds}
-use Rattle.bx_session.specs.Reaching.{was_opened}
 use Rattle.bx_session.proofs.NumberLemmas.{numbers_count}
 use Rattle.bx_shard.specs.Shards.{Setup, shard_at, stands_in}
-use Rattle.bx_shard.specs.Holdings.{ReachedLive, SessionsReached, NumbersAscend, OpenedIsFresh}
+use Rattle.bx_shard.specs.Holdings.{IsReached, SessionsReached, NumbersAscend, OpenedIsFresh}
 use Rattle.bx_shard.proofs.Elements.{numbers, opens_above, Met, met}
 use Rattle.bx_shard.proofs.Stepping.{held_by, held_cons, numbers_in, held_at, EachNumber, numbers_below, run_number}
 
@@ -45,30 +41,17 @@ live_stage Live h = refl
 live_stage Closed h = cc
 
 -- a live session after these entries is reached wherever so many entries may stand
-session_reached : (config : Config) (number place : ℕ) (es : List Entry) → 0 < config.limits.batch → length es ≤ place → is_live (session config number es).stage ≡ true → ReachedLive config place (kept (session config number es))
-session_reached config number place es room many live =
-    let s : Session = session config number es in
-    let stage : (session config number es).stage ≡ Live = live_stage (session config number es).stage live in
-    let i : InStep config (session config number es) = counts_agree config number es room in
-    record {
-      reached = record {
-        bounds = kept_in_bounds config number es room;
-        opened = ap was_opened stage;
-        emptied = i.emptied;
-        numbers = omega (arith, numbers_count config number es);
-      };
-      live = stage;
-    }
+session_reached : (config : Config) (number place : ℕ) (es : List Entry) → length es ≤ place → is_live (session config number es).stage ≡ true → IsReached place (kept (session config number es))
+session_reached config number place es many live = record { live = live_stage (session config number es).stage live; numbers = omega (arith, numbers_count config number es) }
 
 pub holds_reached : SessionsReached
-holds_reached setup list taken shard n room =
-    let config : Config = setup.config in
+holds_reached setup list taken shard n =
     let es : List Entry = entries_of (registry setup.config (take n list)) in
     let many : length (entries_of (registry setup.config (take n list))) ≤ n =
     omega (arith, length-map (registry setup.config (take n list)).judged (λ (j : Judged). j.entry), judged_length setup.config (take n list), length-take n list) in
-    subst (All (ReachedLive setup.config n)) (sym (held_at setup list taken shard n))
-    (each_held (ReachedLive setup.config n) (λ m. m < 1 + length (registry setup.config (take n list)).sessions) setup.config es (numbers_in setup shard (take n list))
-    (λ m q l. session_reached setup.config m n (entries_of (registry setup.config (take n list))) room many l) (numbers_below setup shard (take n list)))
+    subst (All (IsReached n)) (sym (held_at setup list taken shard n))
+    (each_held (IsReached n) (λ m. m < 1 + length (registry setup.config (take n list)).sessions) setup.config es (numbers_in setup shard (take n list))
+    (λ m q l. session_reached setup.config m n es many l) (numbers_below setup shard (take n list)))
 
 -- ---- standing
 

@@ -1,20 +1,18 @@
 -- Whatever is filed or let go, a connect has the session that it had.
-use Rattle.std.proofs.Common.{◌≡◌, ℕ, nat_eq, ◌==◌, Bool, true, false, cond, Option, Some, None, is_none, not, nat_lt, option_map, List, refl, ap, ◌∙◌, true≢false}
-use Rattle.std.proofs.lemmas.Bool.{eqb-true}
+use Rattle.std.proofs.Common.{Contains, ◌≡◌, ◌≢◌, ℕ, nat_eq, ◌==◌, Bool, true, false, cond, Option, Some, None, is_none, not, nat_lt, option_map, List, [], ◌∷◌, refl, ap, ◌∙◌, true≢false}
+use Rattle.std.proofs.lemmas.Bool.{eqb-true, ne_eqb}
+use Rattle.std.proofs.lemmas.List.Elements.{Contains-append_left, Contains-append_right}
 use Rattle.std.specs.List.{list_any}
-use Rattle.bx_advice.specs.declared.config.Config.{Config}
-use Rattle.bx_message.specs.declared.event.Event.{Event}
 use Rattle.bx_message.specs.declared.reply.Answer.{Answer}
 use Rattle.futures.specs.declared.task.waker.Waker.{Waker}
 use Rattle.bx_session.specs.declared.answered.Answered.{Answered}
-use Rattle.bx_session.specs.Seats.{Seat}
-use Rattle.bx_session.specs.Steps.{delivery}
 use Rattle.bx_connects.specs.declared.connects.ConnectState.{ConnectState}
 use Rattle.bx_connects.specs.declared.connects.ConnectState.TheVariants.{Held, Filed}
 use Rattle.bx_connects.specs.Connects.{filed_as, filing, session_at, unswept, unwatched, with_waker}
-use Rattle.bx_shard.specs.Effects.{delivery_filing, given_by}
+use Rattle.bx_shard.specs.Effects.{filing_each}
 use Rattle.bx_shard.specs.Sessions.{held_until}
 use Rattle.bx_shard.specs.States.{let_go}
+use Rattle.bx_shard.proofs.Singles.{the_one}
 
 filed_session : (place : ℕ) (answer : Answer) (o : Option ConnectState) → session_at (filed_as place answer o) ≡ session_at o
 filed_session place answer None = refl
@@ -30,9 +28,17 @@ filing_session place (Some a) C p = by (nat_eq a.place p) refl
     by true e = filed_session place a.answer (C a.place) ∙ ap (λ q. session_at (C q)) (eqb-true a.place p e)
     by false e = refl
 
-pub delivery_session : (config : Config) (place : ℕ) (e : Event) (seat : Option Seat) (C : ℕ → Option ConnectState) (p : ℕ) → session_at (delivery_filing config place e seat C p) ≡ session_at (C p)
-delivery_session config place e None C p = refl
-delivery_session config place e (Some seat) C p = filing_session place (given_by (delivery config e seat)) C p
+-- so where several are filed
+pub filing_each_session : (place : ℕ) (answers : List Answered) (C : ℕ → Option ConnectState) (p : ℕ) → session_at (filing_each place answers C p) ≡ session_at (C p)
+filing_each_session place [] C p = refl
+filing_each_session place (a ∷ rest) C p = filing_each_session place rest (filing place (Some a) C) p ∙ filing_session place (Some a) C p
+
+-- a connect that none of them answers is as it was
+pub unfiled : (place : ℕ) (answers : List Answered) (C : ℕ → Option ConnectState) (p : ℕ) → ((a : Answered) → Contains answers a → a.place ≢ p) → filing_each place answers C p ≡ C p
+unfiled place [] C p never = refl
+unfiled place (a ∷ rest) C p never =
+    unfiled place rest (filing place (Some a) C) p (λ b there. never b (Contains-append_right (a ∷ []) rest b there))
+    ∙ ap (λ b. cond b (filed_as place a.answer (C a.place)) (C p)) (ne_eqb a.place p (never a (Contains-append_left (a ∷ []) rest a (the_one a))))
 
 -- what isn't let go has the session that it had
 pub let_go_session : (numbers : List ℕ) (o : Option ConnectState) (m : ℕ) → session_at (let_go numbers o) ≡ Some m → session_at o ≡ Some m

@@ -1,5 +1,6 @@
 pub mod Among
 pub mod Applying
+pub mod Beginnings
 pub mod Closing
 pub mod Counting
 pub mod DealLaws
@@ -8,8 +9,7 @@ pub mod Elements
 pub mod Ends
 pub mod Filings
 pub mod Finding
-pub mod FollowedConnects
-pub mod FollowedEvents
+pub mod Followed
 pub mod Gives
 pub mod Given
 pub mod Handing
@@ -20,9 +20,10 @@ pub mod Keeps
 pub mod Made
 pub mod MoveLemmas
 pub mod Placed
-pub mod Onward
+pub mod Counts
 pub mod Onwards
 pub mod Ready
+pub mod Singles
 pub mod Stepping
 pub mod Sweeping
 pub mod Taking

@@ -8,14 +8,15 @@ use Rattle.std.specs.Option.{option_or}
 use Rattle.bx_laws.proofs.Moves.{either}
 use Rattle.bx_names.specs.Globs.{Glob}
 use Rattle.bx_advice.specs.declared.config.Config.{Config}
-use Rattle.bx_session.specs.Seats.{Seat, Seated}
+use Rattle.bx_entry.specs.Keeping.{Kept}
+use Rattle.bx_session.specs.Views.{WithRoom}
 use Rattle.bx_connects.specs.declared.connects.ConnectState.{ConnectState}
 use Rattle.bx_connects.specs.declared.connects.FiledAnswer.{FiledAnswer}
 use Rattle.bx_connects.specs.declared.held.HeldConnect.{HeldConnect}
 use Rattle.bx_connects.specs.Connects.{AreApart, connect_at, filed_as, filing_at, known_as, state_by}
 use Rattle.bx_shard.specs.declared.sessions.Sessions.{Sessions}
-use Rattle.bx_shard.specs.Heirs.{AreAllClean, AreLent, AreMoved, IsEmptyOf, SameConnects, SameSessions, answered_all, answered_with, config_of, connect_of, connect_there, lent_among, lent_as, overlaid, patterns_among, patterns_at, patterns_there, seat_among, seat_by, seat_of, seat_there, settled, settled_all}
-use Rattle.bx_shard.specs.Sessions.{patterns_in, seat_in}
+use Rattle.bx_shard.specs.Heirs.{AreAllClean, AreLent, AreMoved, IsEmptyOf, SameConnects, SameSessions, answered_all, answered_with, config_of, connect_of, connect_there, lent_among, lent_as, overlaid, patterns_among, patterns_at, patterns_there, kept_among, kept_by, kept_of, kept_there, settled, settled_all}
+use Rattle.bx_shard.specs.Sessions.{patterns_in, kept_in}
 
 -- ---- entries
 
@@ -35,31 +36,31 @@ turned a b = either (nat_eq a b) (nat_eq a b ≡ nat_eq b a)
 
 -- ---- sessions
 
-seat_moved : (q p r s : Bool) (e : Option Seated) (x : Seated) (lent : Option Seat) → r ≡ s → (s ≡ true → p ≡ q) →
-    cond q (overlaid (option_map (λ (y : Seated). y.seat) e) (cond (p && s) (option_map (λ (y : Seat). x.seat) lent) lent)) (cond (p && s) (option_map (λ (y : Seat). x.seat) lent) lent)
-    ≡ cond q (overlaid (option_map (λ (y : Seated). y.seat) (option_or e (cond r (Some x) None))) lent) lent
-seat_moved true true true true None x lent h k = refl
-seat_moved true true true true (Some y) x None h k = refl
-seat_moved true true true true (Some y) x (Some z) h k = refl
-seat_moved true false true true e x lent h k = absurd (let no : false ≡ true = k refl in cc)
-seat_moved false true true true e x lent h k = absurd (let no : true ≡ false = k refl in cc)
-seat_moved false false true true e x lent h k = refl
-seat_moved q p true false e x lent h k = absurd (let no : true ≡ false = h in cc)
-seat_moved q p false true e x lent h k = absurd (let no : false ≡ true = h in cc)
-seat_moved q true false false None x lent h k = refl
-seat_moved q true false false (Some y) x lent h k = refl
-seat_moved q false false false None x lent h k = refl
-seat_moved q false false false (Some y) x lent h k = refl
+kept_moved : (q p r s : Bool) (e : Option WithRoom) (x : WithRoom) (lent : Option Kept) → r ≡ s → (s ≡ true → p ≡ q) →
+    cond q (overlaid (option_map (λ (y : WithRoom). y.kept) e) (cond (p && s) (option_map (λ (y : Kept). x.kept) lent) lent)) (cond (p && s) (option_map (λ (y : Kept). x.kept) lent) lent)
+    ≡ cond q (overlaid (option_map (λ (y : WithRoom). y.kept) (option_or e (cond r (Some x) None))) lent) lent
+kept_moved true true true true None x lent h k = refl
+kept_moved true true true true (Some y) x None h k = refl
+kept_moved true true true true (Some y) x (Some z) h k = refl
+kept_moved true false true true e x lent h k = absurd (let no : false ≡ true = k refl in cc)
+kept_moved false true true true e x lent h k = absurd (let no : true ≡ false = k refl in cc)
+kept_moved false false true true e x lent h k = refl
+kept_moved q p true false e x lent h k = absurd (let no : true ≡ false = h in cc)
+kept_moved q p false true e x lent h k = absurd (let no : false ≡ true = h in cc)
+kept_moved q true false false None x lent h k = refl
+kept_moved q true false false (Some y) x lent h k = refl
+kept_moved q false false false None x lent h k = refl
+kept_moved q false false false (Some y) x lent h k = refl
 
 -- one session more has moved
-pub session_moved : (placing : ℕ → ℕ → ℕ) (count k n : ℕ) (es : List (ℕ × Seated)) (number slot : ℕ) (x : Seated) (lent after : Option Seat) → slot ≡ placing number count →
-    after ≡ cond (nat_eq slot k && nat_eq number n) (option_map (λ (y : Seat). x.seat) lent) lent →
-    settled placing count k n (seat_by es n) after ≡ settled placing count k n (seat_by (es ++ (number, x) ∷ []) n) lent
+pub session_moved : (placing : ℕ → ℕ → ℕ) (count k n : ℕ) (es : List (ℕ × WithRoom)) (number slot : ℕ) (x : WithRoom) (lent after : Option Kept) → slot ≡ placing number count →
+    after ≡ cond (nat_eq slot k && nat_eq number n) (option_map (λ (y : Kept). x.kept) lent) lent →
+    settled placing count k n (kept_by es n) after ≡ settled placing count k n (kept_by (es ++ (number, x) ∷ []) n) lent
 session_moved placing count k n es number slot x lent after at moved =
-    ap (settled placing count k n (seat_by es n)) moved
-    ∙ seat_moved (nat_eq (placing n count) k) (nat_eq slot k) (nat_eq n number) (nat_eq number n) (lookup (nat_eq n) es) x lent (turned n number)
+    ap (settled placing count k n (kept_by es n)) moved
+    ∙ kept_moved (nat_eq (placing n count) k) (nat_eq slot k) (nat_eq n number) (nat_eq number n) (lookup (nat_eq n) es) x lent (turned n number)
     (λ same. ap (λ (s : ℕ). nat_eq s k) (at ∙ ap (λ (m : ℕ). placing m count) (eqb-true number n same)))
-    ∙ ap (λ o. settled placing count k n (option_map (λ (y : Seated). y.seat) o) lent) (sym (lookup_more n number x es))
+    ∙ ap (λ o. settled placing count k n (option_map (λ (y : WithRoom). y.kept) o) lent) (sym (lookup_more n number x es))
 
 -- ---- answers
 
@@ -90,7 +91,7 @@ filing_moved placing count k p es connect slot f lent after at once moved =
 
 -- ---- room
 
-pub some_mapped : (o : Option Seated) → is_some o ≡ is_some (option_map (λ (x : Seated). x.seat) o)
+pub some_mapped : (o : Option WithRoom) → is_some o ≡ is_some (option_map (λ (x : WithRoom). x.kept) o)
 some_mapped None = refl
 some_mapped (Some x) = refl
 
@@ -121,58 +122,58 @@ pub moved_none : (placing : ℕ → ℕ → ℕ) (count : ℕ) (heirs : List Ses
 moved_none placing count heirs = record {
   many = refl;
   configs = λ k. refl;
-  seats = λ k n. refl;
+  sessions = λ k n. refl;
   patterns = λ k n. refl;
   connects = λ k p. refl;
 }
 
 -- what one shard has moves first, then what the others have
 pub moved_more : (placing : ℕ → ℕ → ℕ) (count : ℕ) (s : Sessions) (ss old middle between last : List Sessions) →
-    ((k n : ℕ) → seat_of middle k n ≡ settled placing count k n (seat_by s.by_number.entries n) (seat_of old k n)) →
+    ((k n : ℕ) → kept_of middle k n ≡ settled placing count k n (kept_by s.by_number.entries n) (kept_of old k n)) →
     ((k n : ℕ) → patterns_at middle k n ≡ patterns_at old k n) → SameConnects old middle →
     ((k p : ℕ) → connect_of between k p ≡ answered_with placing count k (filing_at s.connects.filed p) (connect_of middle k p)) → SameSessions middle between →
     AreMoved placing count ss between last → AreMoved placing count (s ∷ ss) old last
-moved_more placing count s ss old middle between last seats patterns connects answers sessions rest = record {
-  many = rest.many ∙ sessions.many ∙ connects.many;
-  configs = λ k. rest.configs k ∙ sessions.configs k ∙ connects.configs k;
-  seats = λ k n. rest.seats k n ∙ ap (settled_all placing count k n ss) (sessions.seats k n ∙ seats k n);
-  patterns = λ k n. rest.patterns k n ∙ sessions.patterns k n ∙ patterns k n;
+moved_more placing count s ss old middle between last sessions patterns connects answers same rest = record {
+  many = rest.many ∙ same.many ∙ connects.many;
+  configs = λ k. rest.configs k ∙ same.configs k ∙ connects.configs k;
+  sessions = λ k n. rest.sessions k n ∙ ap (settled_all placing count k n ss) (same.sessions k n ∙ sessions k n);
+  patterns = λ k n. rest.patterns k n ∙ same.patterns k n ∙ patterns k n;
   connects = λ k p. rest.connects k p
       ∙ ap (answered_all placing count k p ss) (answers k p ∙ ap (answered_with placing count k (filing_at s.connects.filed p)) (connects.connects k p));
 }
 
 -- ---- room for shard after shard
 
-seat_more : (ss : List Sessions) (s : Sessions) (n : ℕ) → seat_among (ss ++ s ∷ []) n ≡ option_or (seat_among ss n) (seat_in s n)
-seat_more [] s n = by (seat_in s n)
+kept_more : (ss : List Sessions) (s : Sessions) (n : ℕ) → kept_among (ss ++ s ∷ []) n ≡ option_or (kept_among ss n) (kept_in s n)
+kept_more [] s n = by (kept_in s n)
   where
-    by : (o : Option Seat) → option_or o None ≡ o
+    by : (o : Option Kept) → option_or o None ≡ o
     by None = refl
     by (Some x) = refl
-seat_more (t ∷ ss) s n = by (seat_in t n) (seat_more ss s n)
+kept_more (t ∷ ss) s n = by (kept_in t n) (kept_more ss s n)
   where
-    by : (o : Option Seat) → seat_among (ss ++ s ∷ []) n ≡ option_or (seat_among ss n) (seat_in s n) → option_or o (seat_among (ss ++ s ∷ []) n) ≡ option_or (option_or o (seat_among ss n)) (seat_in s n)
+    by : (o : Option Kept) → kept_among (ss ++ s ∷ []) n ≡ option_or (kept_among ss n) (kept_in s n) → option_or o (kept_among (ss ++ s ∷ []) n) ≡ option_or (option_or o (kept_among ss n)) (kept_in s n)
     by None h = h
     by (Some x) h = refl
 
 patterns_more : (ss : List Sessions) (s : Sessions) (n : ℕ) →
-    patterns_among (ss ++ s ∷ []) n ≡ cond (is_some (seat_among ss n)) (patterns_among ss n) (cond (is_some (seat_in s n)) (patterns_in s n) [])
+    patterns_among (ss ++ s ∷ []) n ≡ cond (is_some (kept_among ss n)) (patterns_among ss n) (cond (is_some (kept_in s n)) (patterns_in s n) [])
 patterns_more [] s n = refl
-patterns_more (t ∷ ss) s n = by (seat_in t n) (patterns_more ss s n)
+patterns_more (t ∷ ss) s n = by (kept_in t n) (patterns_more ss s n)
   where
     last : List Glob
-    last = cond (is_some (seat_in s n)) (patterns_in s n) []
+    last = cond (is_some (kept_in s n)) (patterns_in s n) []
 
-    by : (o : Option Seat) → patterns_among (ss ++ s ∷ []) n ≡ cond (is_some (seat_among ss n)) (patterns_among ss n) last
-        → cond (is_some o) (patterns_in t n) (patterns_among (ss ++ s ∷ []) n) ≡ cond (is_some (option_or o (seat_among ss n))) (cond (is_some o) (patterns_in t n) (patterns_among ss n)) last
+    by : (o : Option Kept) → patterns_among (ss ++ s ∷ []) n ≡ cond (is_some (kept_among ss n)) (patterns_among ss n) last
+        → cond (is_some o) (patterns_in t n) (patterns_among (ss ++ s ∷ []) n) ≡ cond (is_some (option_or o (kept_among ss n))) (cond (is_some o) (patterns_in t n) (patterns_among ss n)) last
     by None h = h
     by (Some x) h = refl
 
-patterns_none : (ss : List Sessions) (n : ℕ) → is_some (seat_among ss n) ≡ false → patterns_among ss n ≡ []
+patterns_none : (ss : List Sessions) (n : ℕ) → is_some (kept_among ss n) ≡ false → patterns_among ss n ≡ []
 patterns_none [] n h = refl
-patterns_none (t ∷ ss) n h = by (seat_in t n) h (patterns_none ss n)
+patterns_none (t ∷ ss) n h = by (kept_in t n) h (patterns_none ss n)
   where
-    by : (o : Option Seat) → is_some (option_or o (seat_among ss n)) ≡ false → (is_some (seat_among ss n) ≡ false → patterns_among ss n ≡ []) → cond (is_some o) (patterns_in t n) (patterns_among ss n) ≡ []
+    by : (o : Option Kept) → is_some (option_or o (kept_among ss n)) ≡ false → (is_some (kept_among ss n) ≡ false → patterns_among ss n ≡ []) → cond (is_some o) (patterns_in t n) (patterns_among ss n) ≡ []
     by None g rest = rest g
     by (Some x) g rest = absurd (let no : true ≡ false = g in cc)
 
@@ -189,7 +190,7 @@ connect_more placing count k (t ∷ ss) s p = by (lent_as placing count k (known
     by None h = h
     by (Some x) h = refl
 
-some_more : (q : Bool) (x y : Option Seat) → ((q && is_some y) || (q && is_some x)) ≡ (q && is_some (option_or x y))
+some_more : (q : Bool) (x y : Option Kept) → ((q && is_some y) || (q && is_some x)) ≡ (q && is_some (option_or x y))
 some_more false x y = refl
 some_more true None None = refl
 some_more true None (Some y) = refl
@@ -204,22 +205,22 @@ patterns_lent true false true ps before h = refl
 patterns_lent true false false ps before h = h refl
 
 pub lent_more : (placing : ℕ → ℕ → ℕ) (count : ℕ) (config : Config) (ss : List Sessions) (s : Sessions) (old new : List Sessions) → AreLent placing count ss config old →
-    ((k n : ℕ) → is_some (seat_of new k n) ≡ ((nat_eq (placing n count) k && is_some (seat_in s n)) || is_some (seat_of old k n))) →
-    ((k n : ℕ) → patterns_at new k n ≡ cond ((nat_eq (placing n count) k && is_some (seat_in s n)) && not (is_some (seat_of old k n))) (patterns_in s n) (patterns_at old k n)) →
+    ((k n : ℕ) → is_some (kept_of new k n) ≡ ((nat_eq (placing n count) k && is_some (kept_in s n)) || is_some (kept_of old k n))) →
+    ((k n : ℕ) → patterns_at new k n ≡ cond ((nat_eq (placing n count) k && is_some (kept_in s n)) && not (is_some (kept_of old k n))) (patterns_in s n) (patterns_at old k n)) →
     ((k p : ℕ) → connect_of new k p ≡ option_or (connect_of old k p) (lent_as placing count k (known_as (connect_at s.connects p)))) →
     length new ≡ count → ((k : ℕ) → config_of new k ≡ config_of old k) → AreApart s.connects.held s.connects.filed → AreLent placing count (ss ++ s ∷ []) config new
-lent_more placing count config ss s old new h seats patterns connects many configs apart = record {
+lent_more placing count config ss s old new h sessions patterns connects many configs apart = record {
   many = many;
   configs = λ k l. configs k ∙ h.configs k l;
-  seats = λ k n.
-      seats k n ∙ ap (λ b. (nat_eq (placing n count) k && is_some (seat_in s n)) || b) (h.seats k n)
-      ∙ some_more (nat_eq (placing n count) k) (seat_among ss n) (seat_in s n)
-      ∙ ap (λ o. nat_eq (placing n count) k && is_some o) (sym (seat_more ss s n));
+  sessions = λ k n.
+      sessions k n ∙ ap (λ b. (nat_eq (placing n count) k && is_some (kept_in s n)) || b) (h.sessions k n)
+      ∙ some_more (nat_eq (placing n count) k) (kept_among ss n) (kept_in s n)
+      ∙ ap (λ o. nat_eq (placing n count) k && is_some o) (sym (kept_more ss s n));
   patterns = λ k n.
       patterns k n
-      ∙ ap (λ b. cond ((nat_eq (placing n count) k && is_some (seat_in s n)) && not b) (patterns_in s n) (patterns_at old k n)) (h.seats k n)
-      ∙ ap (cond ((nat_eq (placing n count) k && is_some (seat_in s n)) && not (nat_eq (placing n count) k && is_some (seat_among ss n))) (patterns_in s n)) (h.patterns k n)
-      ∙ patterns_lent (nat_eq (placing n count) k) (is_some (seat_among ss n)) (is_some (seat_in s n)) (patterns_in s n) (patterns_among ss n) (patterns_none ss n)
+      ∙ ap (λ b. cond ((nat_eq (placing n count) k && is_some (kept_in s n)) && not b) (patterns_in s n) (patterns_at old k n)) (h.sessions k n)
+      ∙ ap (cond ((nat_eq (placing n count) k && is_some (kept_in s n)) && not (nat_eq (placing n count) k && is_some (kept_among ss n))) (patterns_in s n)) (h.patterns k n)
+      ∙ patterns_lent (nat_eq (placing n count) k) (is_some (kept_among ss n)) (is_some (kept_in s n)) (patterns_in s n) (patterns_among ss n) (patterns_none ss n)
       ∙ ap (λ ps. cond (nat_eq (placing n count) k) ps []) (sym (patterns_more ss s n));
   connects = λ k p.
       connects k p ∙ ap (λ o. option_or o (lent_as placing count k (known_as (connect_at s.connects p)))) (h.connects k p)
@@ -252,7 +253,7 @@ pub lent_none : (placing : ℕ → ℕ → ℕ) (count : ℕ) (config : Config) 
 lent_none placing count config heirs many all = record {
   many = many;
   configs = λ k l. first_config config heirs all k (omega (arith, l, many));
-  seats = λ k n. at_empty (λ o. is_some (seat_there o n) ≡ false) config heirs refl (λ s e. ap is_some (e.seats n)) all k ∙ nobody (nat_eq (placing n count) k);
+  sessions = λ k n. at_empty (λ o. is_some (kept_there o n) ≡ false) config heirs refl (λ s e. ap is_some (e.sessions n)) all k ∙ nobody (nat_eq (placing n count) k);
   patterns = λ k n. at_empty (λ o. patterns_there o n ≡ []) config heirs refl (λ s e. e.patterns n) all k ∙ nothing (nat_eq (placing n count) k);
   connects = λ k p. at_empty (λ o. connect_there o p ≡ None) config heirs refl (λ s e. e.connects p) all k;
   apart = All-nil (λ (t : Sessions). AreApart t.connects.held t.connects.filed);

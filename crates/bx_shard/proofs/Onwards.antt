@@ -1,11 +1,11 @@
 -- A shard that has applied an entry holds what the definition's shard holds after it.
-use Rattle.std.proofs.Common.{◌≡◌, ◌≢◌, ⊎_elim, ℕ, ◌+◌, ◌<◌, ◌≤◌, Bool, true, false, cond, ◌&&◌, is_some, Option, Some, None, List, [], ◌∷◌, ◌++◌, length, take, map, filter, flat_map, option_map, slice_get, nat_eq, ◌==◌, refl, sym, ap, ◌∙◌, subst, arith, eqb-true, eq-eqb, length-take}
-use Rattle.std.proofs.lemmas.Bool.{and_right, both_ways, cond_both, cond-true, cond-false}
+use Rattle.std.proofs.Common.{◌≡◌, ◌≢◌, ⊎_elim, get_or, ℕ, ◌+◌, ◌<◌, ◌≤◌, Bool, true, false, cond, ◌&&◌, is_some, Option, Some, None, List, [], ◌∷◌, ◌++◌, length, take, map, filter, flat_map, option_map, slice_get, nat_eq, ◌==◌, refl, sym, ap, ◌∙◌, subst, arith, eqb-true, eq-eqb, length-take}
+use Rattle.std.proofs.lemmas.Bool.{and_right, both_ways, cond_both, cond-true}
 use Rattle.std.proofs.lemmas.List.{length_push, map-append}
 use Rattle.std.proofs.lemmas.List.Elements.{All-map, filter-append}
 use Rattle.std.proofs.lemmas.List.Folds.{find-append}
 use Rattle.std.specs.List.{All, Contains, list_any}
-use Rattle.std.specs.Option.{option_or}
+use Rattle.std.specs.Option.{option_and_then, option_or}
 use Rattle.bx_advice.specs.declared.config.Config.{Config}
 use Rattle.bx_entry.specs.declared.entry.Entry.{Entry}
 use Rattle.bx_entry.specs.declared.entry.Kind.{Kind}
@@ -14,185 +14,184 @@ use Rattle.bx_entry.specs.Answers.{answer_of}
 use Rattle.bx_entry.specs.Listing.{Listed}
 use Rattle.bx_entry.specs.Keeping.{Kept, kept, kept_answers, kept_step, resumed}
 use Rattle.bx_entry.specs.Registry.{entries, registry}
-use Rattle.bx_entry.specs.Sessions.{Filed, Live, Session, is_live, step, unopened}
+use Rattle.bx_entry.specs.Sessions.{Filed, Live, Session, Stage, is_live, step, unopened}
+use Rattle.bx_entry.specs.Sessions as sessions
 use Rattle.bx_laws.proofs.Moves.{either}
+use Rattle.bx_laws.proofs.Stages.{step_number}
 use Rattle.bx_session.specs.declared.answered.Answered.{Answered}
-use Rattle.bx_session.specs.Agreement.{answered_of, entry}
-use Rattle.bx_session.specs.Seats.{pending}
-use Rattle.bx_session.specs.Steps.{deadline_of}
+use Rattle.bx_session.specs.Views.{answered_of, deadline_of, pending}
 use Rattle.bx_session.proofs.FilingLemmas.{files_alike}
 use Rattle.bx_connects.specs.declared.connects.ConnectState.{ConnectState}
 use Rattle.bx_connects.specs.declared.connects.ConnectState.TheVariants as states
 use Rattle.bx_connects.specs.Connects.{held_by, session_at}
+use Rattle.bx_shard.specs.Effects as effects
 use Rattle.bx_shard.specs.Effects.{holding}
 use Rattle.bx_shard.specs.Refining.{Refines, RefinesOnwards, IsConnectOf, IsOwn, filed_with_place, placed}
-use Rattle.bx_shard.specs.Holdings.{ReachedLive}
+use Rattle.bx_shard.specs.Holdings.{IsReached}
 use Rattle.bx_shard.specs.Shards.{Setup, is_taken, sessions_in, shard_at, stands_in}
-use Rattle.bx_shard.specs.States.{Applied, IsGiven, IsSound, State, begun, connect_in, let_go, opened_by, session_after, session_in}
+use Rattle.bx_shard.specs.States.{Applied, IsGiven, IsSound, State, begun, connect_in, if_live, let_go, opening, opens_in, session_after, session_in}
 use Rattle.bx_shard.specs.Steps.{answers_by, opening_by, stepped}
-use Rattle.bx_shard.specs.Subscribers.{Subscriber, answers, closes, newcomer, onward, subscriber_of}
 use Rattle.bx_shard.proofs.Elements.{Met, met}
 use Rattle.bx_shard.proofs.Filings.{shards_file}
 use Rattle.bx_shard.proofs.Finding.{Apart, GivenBy, apart, contains_found, each_none, find_kept, found_each, given_by, next, none_there, numbers_of, placed_found, steps, steps_found}
 use Rattle.bx_shard.proofs.Gives.{Unanswered, all_contains, given_unanswered}
 use Rattle.bx_shard.proofs.Holdings.{holds_reached, holds_stand, sessions_ascend}
 use Rattle.bx_shard.proofs.Placed.{entry_placed}
-use Rattle.bx_shard.proofs.Onward.{Goes, goes}
+use Rattle.bx_shard.proofs.Singles.{nowhere}
 use Rattle.bx_shard.proofs.Stepping.{shards_step}
 use Rattle.bx_shard.proofs.Taking.{connect_of_filed, find_of, none_taken}
 use Rattle.bx_shard.proofs.Waits.{WaitsAt, connect_waits}
 
+-- an entry by its parts
+abbrev entry : ℕ → ℕ → Kind → Entry
+entry place moment kind = record { place = place; moment = moment; kind = kind }
+
+-- nothing else is taken
+or_nothing : (o : Option Kept) → option_or o None ≡ o
+or_nothing None = refl
+or_nothing (Some k) = refl
+
 -- ---- the sessions
 
 -- a session that is opened
-abbrev opening : ℕ → Bool → Kept
-opening n ack = record (kept (unopened n)) { stage = Live; ack = ack }
+abbrev opened : ℕ → Bool → Kept
+opened n ack = record (kept (unopened n)) { stage = Live; ack = ack }
 
-abbrev found_as : Config → ℕ → List Kept → Option Subscriber
-found_as config m ks = option_map (subscriber_of config) (find_kept m ks)
+module _ (config : Config) (e : Entry) where
+  -- what becomes of the session that was found
+  abbrev onward : Kept → Option Kept
+  onward k = if_live (kept_step config k e)
 
-opened_one : (config : Config) (place moment n : ℕ) (ack : Bool) (m : ℕ) →
-    found_as config m (steps config (entry place moment (Opened n ack)) (kept (unopened n) ∷ [])) ≡ cond ((n == m) && true) (Some (newcomer config n ack)) None
+  next_onward : (o : Option Kept) → next config e o ≡ option_and_then onward o
+  next_onward None = refl
+  next_onward (Some k) = refl
+
+-- the session that a handshake opens, found by its number
+opened_one : (config : Config) (place moment n : ℕ) (ack : Bool) (m : ℕ) → find_kept m (steps config (entry place moment (Opened n ack)) (kept (unopened n) ∷ []))
+    ≡ option_and_then (onward config (entry place moment (Opened n ack))) (cond (n == m) (Some (kept (unopened n))) None)
 opened_one config place moment n ack m =
     let s : Session = resumed (kept (unopened n)) in
-    let same : step config s (entry place moment (Opened n ack)) ≡ record s { stage = Live; ack = ack } = cond-true (n == n) (record s { stage = Live; ack = ack }) s (eq-eqb n n refl) in
-    ap (λ (x : Session). found_as config m (filter (λ (k : Kept). is_live k.stage) (kept x ∷ []))) same
-    ∙ (elim (n == m) as (λ b. option_map (subscriber_of config) (cond b (Some (opening n ack)) None) ≡ cond (b && true) (Some (newcomer config n ack)) None) [ true ↦ refl | false ↦ refl ])
+    let t : Session = record s { stage = Live; ack = ack } in
+    let same : step config s (entry place moment (Opened n ack)) ≡ t = cond-true (n == n) t s (eq-eqb n n refl) in
+    let later : step config s (entry place moment (Opened n ack)) ≡ t = same in
+    ap (λ (x : Session). find_kept m (filter (λ (k : Kept). is_live k.stage) (kept x ∷ []))) same
+    ∙ (elim (n == m) as (λ b. cond b (Some (opened n ack)) None ≡ option_and_then (λ (k : Kept). if_live (opened n ack)) (cond b (Some (kept (unopened n))) None)) [ true ↦ refl | false ↦ refl ])
+    ∙ (elim (n == m) as (λ b. option_and_then (λ (k : Kept). if_live (opened n ack)) (cond b (Some (kept (unopened n))) None)
+    ≡ option_and_then (onward config (entry place moment (Opened n ack))) (cond b (Some (kept (unopened n))) None)) [
+      | true ↦ ap (λ (x : Session). if_live (kept x)) (sym later)
+      | false ↦ refl
+    ])
 
 -- the session that the entry opens in the shard
-opened_found : (s : State) (place moment m : ℕ) (kind : Kind) → found_as s.setup.config m (steps s.setup.config (entry place moment kind) (opening_by s.setup s.index kind)) ≡ opened_by s kind m
-opened_found s place moment m (Opened n ack) =
-    (elim (stands_in s.setup s.index n) as (λ b. found_as s.setup.config m (steps s.setup.config (entry place moment (Opened n ack)) (cond b (kept (unopened n) ∷ []) [])) ≡ cond ((n == m) && b) (Some (newcomer s.setup.config n ack)) None) [
-      | true ↦ opened_one s.setup.config place moment n ack m
-      | false ↦ sym (cond-false ((n == m) && false) (Some (newcomer s.setup.config n ack)) None (and_right (n == m) false refl))
+opened_found : (setup : Setup) (index place moment m : ℕ) (kind : Kind) → find_kept m (steps setup.config (entry place moment kind) (opening_by setup index kind))
+    ≡ option_and_then (onward setup.config (entry place moment kind)) (opening (opens_in setup index kind) kind m)
+opened_found setup index place moment m (Opened n ack) =
+    let e : Entry = entry place moment (Opened n ack) in
+    (elim (stands_in setup index n) as (λ b. find_kept m (steps setup.config (entry place moment (Opened n ack)) (cond b (kept (unopened n) ∷ []) []))
+    ≡ option_and_then (onward setup.config (entry place moment (Opened n ack))) (cond ((n == m) && b) (Some (kept (unopened n))) None)) [
+      | true ↦ opened_one setup.config place moment n ack m
+          ∙ ap (λ b. option_and_then (onward setup.config e) (cond b (Some (kept (unopened n))) None)) (sym (and_true (n == m)))
+      | false ↦ sym (ap (λ b. option_and_then (onward setup.config e) (cond b (Some (kept (unopened n))) None)) (and_right (n == m) false refl))
     ])
-opened_found s place moment m (Connect n client id acked hold) = refl
-opened_found s place moment m (Subscribe n patterns) = refl
-opened_found s place moment m (Unsubscribe n patterns) = refl
-opened_found s place moment m (Publish e) = refl
-opened_found s place moment m (Disconnect n) = refl
-opened_found s place moment m Refused = refl
-opened_found s place moment m (Tick numbers) = refl
+  where
+    and_true : (b : Bool) → (b && true) ≡ b
+    and_true true = refl
+    and_true false = refl
+opened_found setup index place moment m (Connect n client id acked hold) = refl
+opened_found setup index place moment m (Subscribe n patterns) = refl
+opened_found setup index place moment m (Unsubscribe n patterns) = refl
+opened_found setup index place moment m (Publish e) = refl
+opened_found setup index place moment m (Disconnect n) = refl
+opened_found setup index place moment m Refused = refl
+opened_found setup index place moment m (Tick numbers) = refl
 
--- an entry that closes a session opens none
-closed_opens : (s : State) (kind : Kind) (m : ℕ) → closes kind m ≡ true → opened_by s kind m ≡ None
-closed_opens s (Opened n ack) m h = absurd (let no : false ≡ true = h in cc)
-closed_opens s (Connect n client id acked hold) m h = refl
-closed_opens s (Subscribe n patterns) m h = refl
-closed_opens s (Unsubscribe n patterns) m h = refl
-closed_opens s (Publish e) m h = refl
-closed_opens s (Disconnect n) m h = refl
-closed_opens s Refused m h = refl
-closed_opens s (Tick numbers) m h = refl
+-- a session that is there is as the entry leaves it, whatever the entry opens
+onward_first : (config : Config) (stands : Bool) (place moment m : ℕ) (k : Kept) (kind : Kind) → k.stage ≡ Live →
+    option_or (onward config (entry place moment kind) k) (option_and_then (onward config (entry place moment kind)) (opening stands kind m)) ≡ onward config (entry place moment kind) k
+onward_first config stands place moment m k (Opened n ack) live =
+    let t : Session = step config (resumed k) (entry place moment (Opened n ack)) in
+    let begun_same : sessions.begun ack (resumed k) k.stage ≡ resumed k = ap (λ (stage : Stage). sessions.begun ack (resumed k) stage) live in
+    let same : step config (resumed k) (entry place moment (Opened n ack)) ≡ resumed k =
+    cond_both (n == k.number) (sessions.begun ack (resumed k) k.stage) (resumed k) (λ (u : Session). u ≡ resumed k) (λ h. begun_same) (λ h. refl) in
+    let stays : onward config (entry place moment (Opened n ack)) k ≡ Some (kept t) =
+    cond-true (is_live t.stage) (Some (kept t)) None (ap (λ (u : Session). is_live u.stage) same ∙ ap is_live live) in
+    let other : Option Kept = option_and_then (onward config (entry place moment (Opened n ack))) (opening stands (Opened n ack) m) in
+    ap (λ o. option_or o other) stays ∙ sym stays
+onward_first config stands place moment m k (Connect n client id acked hold) live = or_nothing (onward config (entry place moment (Connect n client id acked hold)) k)
+onward_first config stands place moment m k (Subscribe n patterns) live = or_nothing (onward config (entry place moment (Subscribe n patterns)) k)
+onward_first config stands place moment m k (Unsubscribe n patterns) live = or_nothing (onward config (entry place moment (Unsubscribe n patterns)) k)
+onward_first config stands place moment m k (Publish e) live = or_nothing (onward config (entry place moment (Publish e)) k)
+onward_first config stands place moment m k (Disconnect n) live = or_nothing (onward config (entry place moment (Disconnect n)) k)
+onward_first config stands place moment m k Refused live = or_nothing (onward config (entry place moment Refused) k)
+onward_first config stands place moment m k (Tick numbers) live = or_nothing (onward config (entry place moment (Tick numbers)) k)
 
-map_or : (f : Kept → Subscriber) (a b : Option Kept) → option_map f (option_or a b) ≡ option_or (option_map f a) (option_map f b)
-map_or f None b = refl
-map_or f (Some k) b = refl
-
-map_choice : (f : Kept → Subscriber) (b : Bool) (k : Kept) → option_map f (cond b (Some k) None) ≡ cond b (Some (f k)) None
-map_choice f true k = refl
-map_choice f false k = refl
-
-found_stepped : (s : State) (e : Entry) (ks : List Kept) (m : ℕ) → Apart (numbers_of ks) → All (λ k. (kept_step s.setup.config k e).number ≡ k.number) ks →
-    found_as s.setup.config m (stepped s.setup s.index e ks) ≡ option_or (option_map (subscriber_of s.setup.config) (next s.setup.config e (find_kept m ks))) (opened_by s e.kind m)
-found_stepped s e ks m d same =
-    let config : Config = s.setup.config in
-    let os : List Kept = opening_by s.setup s.index e.kind in
+found_stepped : (setup : Setup) (index : ℕ) (e : Entry) (ks : List Kept) (m : ℕ) → Apart (numbers_of ks) → find_kept m (stepped setup index e ks)
+    ≡ option_or (option_and_then (onward setup.config e) (find_kept m ks)) (option_and_then (onward setup.config e) (opening (opens_in setup index e.kind) e.kind m))
+found_stepped setup index e ks m d =
+    let config : Config = setup.config in
+    let os : List Kept = opening_by setup index e.kind in
     let F : Kept → Kept = λ k. kept_step config k e in
     let live : Kept → Bool = λ k. is_live k.stage in
-    let sub : Kept → Subscriber = subscriber_of config in
-    ap (λ (xs : List Kept). option_map sub (find_kept m (filter live xs))) (map-append F ks os)
-    ∙ ap (λ (xs : List Kept). option_map sub (find_kept m xs)) (filter-append live (map F ks) (map F os))
-    ∙ ap (option_map sub) (find-append (λ (k : Kept). k.number == m) (steps config e ks) (steps config e os))
-    ∙ map_or sub (find_kept m (steps config e ks)) (find_kept m (steps config e os))
-    ∙ ap (λ (o : Option Kept). option_or (option_map sub o) (option_map sub (find_kept m (steps config e os)))) (steps_found config e m ks d same)
-    ∙ ap (option_or (option_map sub (next config e (find_kept m ks)))) (opened_found s e.place e.moment m e.kind)
+    ap (λ (xs : List Kept). find_kept m (filter live xs)) (map-append F ks os)
+    ∙ ap (λ (xs : List Kept). find_kept m xs) (filter-append live (map F ks) (map F os))
+    ∙ find-append (λ (k : Kept). k.number == m) (steps config e ks) (steps config e os)
+    ∙ ap (λ (o : Option Kept). option_or o (find_kept m (steps config e os))) (steps_found config e m ks d (λ i b l. step_number config (resumed (get_or ks i b)) e) ∙ next_onward config e (find_kept m ks))
+    ∙ ap (option_or (option_and_then (onward config e) (find_kept m ks))) (opened_found setup index e.place e.moment m e.kind)
 
 abbrev Knows : State → List Kept → Type 0
-Knows s ks = (m : ℕ) → session_in s m ≡ found_as s.setup.config m ks
+Knows s ks = (m : ℕ) → session_in s m ≡ find_kept m ks
 
-abbrev AllReached : State → Entry → List Kept → Type 0
-AllReached s e ks = All (ReachedLive s.setup.config e.place) ks
+abbrev AllReached : Entry → List Kept → Type 0
+AllReached e ks = All (IsReached e.place) ks
 
--- what becomes of a session that the shard holds
-kept_next : (s : State) (e : Entry) (k : Kept) (m : ℕ) → Goes s.setup.config k e.place e.moment e.kind → k.number ≡ m →
-    session_after s e m (Some (subscriber_of s.setup.config k)) ≡ option_or (option_map (subscriber_of s.setup.config) (next s.setup.config e (Some k))) (opened_by s e.kind m)
-kept_next s e k m g number =
-    let config : Config = s.setup.config in
-    let sub : Kept → Subscriber = subscriber_of config in
-    let l : Kept = kept_step config k e in
-    let after : ℕ → Option Subscriber = λ n. cond (closes e.kind n) None (Some (onward config e.place e.moment e.kind n (sub k))) in
-    let mapped : option_map sub (next config e (Some k)) ≡ after m = map_choice sub (is_live l.stage) l ∙ g.session ∙ ap after number in
-    let whole : option_or (after m) (opened_by s e.kind m) ≡ after m =
-    either (closes e.kind m) (option_or (after m) (opened_by s e.kind m) ≡ after m)
-    (λ h.
-    let none : after m ≡ None = cond-true (closes e.kind m) None (Some (onward config e.place e.moment e.kind m (sub k))) h in
-    ap (λ (o : Option Subscriber). option_or o (opened_by s e.kind m)) none ∙ closed_opens s e.kind m h ∙ sym none)
-    (λ h.
-    let some : after m ≡ Some (onward config e.place e.moment e.kind m (sub k)) = cond-false (closes e.kind m) None (Some (onward config e.place e.moment e.kind m (sub k))) h in
-    ap (λ (o : Option Subscriber). option_or o (opened_by s e.kind m)) some ∙ sym some) in
-    sym whole ∙ ap (λ (o : Option Subscriber). option_or o (opened_by s e.kind m)) (sym mapped)
-
-all_go : (s : State) (e : Entry) (ks : List Kept) → AllReached s e ks → All (λ k. Goes s.setup.config k e.place e.moment e.kind) ks
-all_go s e ks reached i d l = goes s.setup.config _ e.place e.moment e.kind (reached i d l)
-
-sessions_next : (s : State) (e : Entry) (ks : List Kept) (m : ℕ) → AllReached s e ks → Apart (numbers_of ks) → Knows s ks →
-    session_after s e m (session_in s m) ≡ found_as s.setup.config m (stepped s.setup s.index e ks)
+sessions_next : (s : State) (e : Entry) (ks : List Kept) (m : ℕ) → AllReached e ks → Apart (numbers_of ks) → Knows s ks →
+    session_after s.setup.config (opens_in s.setup s.index e.kind) e m (session_in s m) ≡ find_kept m (stepped s.setup s.index e ks)
 sessions_next s e ks m reached d known =
     let config : Config = s.setup.config in
-    let sub : Kept → Subscriber = subscriber_of config in
-    let each : All (λ k. Goes config k e.place e.moment e.kind) ks = all_go s e ks reached in
-    let P : Option Kept → Type 0 = λ o. find_kept m ks ≡ o → session_after s e m (option_map sub o) ≡ option_or (option_map sub (next config e o)) (opened_by s e.kind m) in
-    let at_some : (k : Kept) → P (Some k) = λ k f. let w = found_each (λ j. Goes config j e.place e.moment e.kind) m ks k f each in kept_next s e k m w.0 w.1 in
-    ap (session_after s e m) (known m)
+    let stands : Bool = opens_in s.setup s.index e.kind in
+    let P : Option Kept → Type 0 = λ o. find_kept m ks ≡ o → session_after s.setup.config (opens_in s.setup s.index e.kind) e m o
+    ≡ option_or (option_and_then (onward s.setup.config e) o) (option_and_then (onward s.setup.config e) (opening (opens_in s.setup s.index e.kind) e.kind m)) in
+    let at_some : (k : Kept) → P (Some k) = λ k f. let w = found_each (IsReached e.place) m ks k f reached in sym (onward_first config stands e.place e.moment m k e.kind w.0.live) in
+    ap (session_after config stands e m) (known m)
     ∙ (elim (find_kept m ks) as P [ None ↦ λ f. refl | Some k ↦ at_some k ]) refl
-    ∙ sym (found_stepped s e ks m d (λ i b l. (each i b l).number))
+    ∙ sym (found_stepped s.setup s.index e ks m d)
 
 -- ---- the answers that the entry gives
 
+-- what a session that is here answers to an entry
+abbrev given_by_one : State → Entry → Option Kept → List Answered
+given_by_one s e o = effects.answers_by (λ t. step s.setup.config t e) o
+
 -- a connect for which none is found is given none
-none_given : (s : State) (e : Entry) (ks : List Kept) (p : ℕ) → AllReached s e ks → Knows s ks → find_of p (answers_by s.setup.config e ks) ≡ None → (n : ℕ) (a : Answered) → IsGiven s e n a → a.place ≢ p
-none_given s e ks p reached known none number a g =
+none_given : (s : State) (e : Entry) (ks : List Kept) (p : ℕ) → Knows s ks → find_of p (answers_by s.setup.config e ks) ≡ None → (n : ℕ) (a : Answered) → IsGiven s.setup.config (session_in s) e n a → a.place ≢ p
+none_given s e ks p known none number a g =
     let config : Config = s.setup.config in
-    let sub : Kept → Subscriber = subscriber_of config in
     let Not : Answered → Type 0 = λ x. (x.place == p) ≡ false in
-    let each : All (λ k. (Goes config k e.place e.moment e.kind) × (find_of p (kept_answers config k e) ≡ None)) ks =
-    λ i d l. (all_go s e ks reached i d l, each_none (λ k. kept_answers config k e) p ks none i d l) in
-    let P : Option Kept → Type 0 = λ o. find_kept number ks ≡ o → option_map sub o ≡ Some g.subscriber → Not a in
-    let at_some : (k : Kept) → P (Some k) = λ k f same.
-    let w = found_each (λ j. (Goes config j e.place e.moment e.kind) × (find_of p (kept_answers config j e) ≡ None)) number ks k f each in
-    let one : sub k ≡ g.subscriber = cc in
-    let theirs : All Not (map answered_of (kept_answers config k e)) = All-map Not answered_of (kept_answers config k e) (none_there p (kept_answers config k e) w.0.1) in
-    let ours : All Not (answers config e.place e.moment e.kind k.number (sub k)) = subst (All Not) w.0.0.answers theirs in
-    let here : All Not (answers config e.place e.moment e.kind number g.subscriber) =
-    subst (λ (u : Subscriber). All Not (answers config e.place e.moment e.kind number u)) one (subst (λ (n : ℕ). All Not (answers config e.place e.moment e.kind n (sub k))) w.1 ours) in
-    all_contains Not (answers config e.place e.moment e.kind number g.subscriber) a here g.given in
-    let at_none : P None = λ f same. absurd (let no : None ≡ Some g.subscriber = same in cc) in
-    let other : (a.place == p) ≡ false = (elim (find_kept number ks) as P [ None ↦ at_none | Some k ↦ at_some k ]) refl (sym (known number) ∙ g.here) in
+    let each : All (λ k. find_of p (kept_answers config k e) ≡ None) ks = each_none (λ k. kept_answers config k e) p ks none in
+    let P : Option Kept → Type 0 = λ o. find_kept number ks ≡ o → Contains (given_by_one s e o) a → Not a in
+    let at_some : (k : Kept) → P (Some k) = λ k f there.
+    let w = found_each (λ j. find_of p (kept_answers config j e) ≡ None) number ks k f each in
+    all_contains Not (map answered_of (kept_answers config k e)) a (All-map Not answered_of (kept_answers config k e) (none_there p (kept_answers config k e) w.0)) there in
+    let at_none : P None = λ f there. absurd (nowhere a there) in
+    let other : (a.place == p) ≡ false = (elim (find_kept number ks) as P [ None ↦ at_none | Some k ↦ at_some k ]) refl (subst (λ o. Contains (given_by_one s e o) a) (known number) g) in
     λ h. both_ways (a.place == p) other (eq-eqb a.place p h)
 
 -- the answer that is found is given
 record Gave (s : State) (e : Entry) (p : ℕ) (f : Filed) : Type 0 where
   number : ℕ
-  given : IsGiven s e number (answered_of f)
+  given : IsGiven s.setup.config (session_in s) e number (answered_of f)
   answer : answer_of f ≡ placed e.place (answered_of f).answer
   connect : f.connect ≡ p
 
-gave : (s : State) (e : Entry) (ks : List Kept) (p : ℕ) (f : Filed) → AllReached s e ks → Apart (numbers_of ks) → Knows s ks → find_of p (answers_by s.setup.config e ks) ≡ Some f → Gave s e p f
-gave s e ks p f reached d known found =
+gave : (s : State) (e : Entry) (ks : List Kept) (p : ℕ) (f : Filed) → Apart (numbers_of ks) → Knows s ks → find_of p (answers_by s.setup.config e ks) ≡ Some f → Gave s e p f
+gave s e ks p f d known found =
     let config : Config = s.setup.config in
-    let sub : Kept → Subscriber = subscriber_of config in
     let b : GivenBy (λ k. kept_answers config k e) ks p f = given_by (λ k. kept_answers config k e) ks p f d found in
     let k : Kept = b.one in
-    let w = found_each (λ j. Goes config j e.place e.moment e.kind) k.number ks k b.found (all_go s e ks reached) in
     let at = placed_found p e.place (kept_answers config k e) f (files_alike config k e) b.gives in
     record {
       number = k.number;
-      given = record {
-        subscriber = sub k;
-        here = known k.number ∙ ap (option_map sub) b.found;
-        given = subst (λ (xs : List Answered). Contains xs (answered_of f)) w.0.answers (contains_found p (kept_answers config k e) f b.gives);
-      };
+      given = subst (λ o. Contains (given_by_one s e o) (answered_of f)) (sym (known k.number ∙ b.found)) (contains_found p (kept_answers config k e) f b.gives);
       answer = at.0;
       connect = at.1;
     }
@@ -211,7 +210,7 @@ let_go_none numbers (Some (states.Held session deadline waker)) h = absurd (let 
 let_go_none numbers (Some (states.Filed session place answer)) h = absurd (let no : Some (states.Filed session place answer) ≡ None = h in cc)
 
 -- no answer is filed or lost by it
-begun_filed : (s : State) (e : Entry) (kind : Kind) (p : ℕ) → connect_in s e.place ≡ None → filed_with_place (begun s e kind p) ≡ filed_with_place (connect_in s p)
+begun_filed : (s : State) (e : Entry) (kind : Kind) (p : ℕ) → connect_in s e.place ≡ None → filed_with_place (begun (session_in s) (connect_in s) e kind p) ≡ filed_with_place (connect_in s p)
 begun_filed s e (Opened m ack) p fresh = refl
 begun_filed s e (Connect m client id acked hold) p fresh =
     let P : Option ConnectState → Type 0 = λ o. filed_with_place o ≡ filed_with_place (connect_in s p) in
@@ -227,7 +226,7 @@ begun_filed s e Refused p fresh = refl
 begun_filed s e (Tick numbers) p fresh = let_go_filed numbers (connect_in s p)
 
 -- and nothing is known of any but the entry's own, where nothing was
-pub begun_none : (s : State) (e : Entry) (kind : Kind) (p : ℕ) → connect_in s p ≡ None → p ≢ e.place → begun s e kind p ≡ None
+pub begun_none : (s : State) (e : Entry) (kind : Kind) (p : ℕ) → connect_in s p ≡ None → p ≢ e.place → begun (session_in s) (connect_in s) e kind p ≡ None
 begun_none s e (Opened m ack) p none other = none
 begun_none s e (Connect m client id acked hold) p none other =
     let P : Option ConnectState → Type 0 = λ o. o ≡ None in
@@ -250,7 +249,7 @@ record Before (list : List Listed) (taken : List ℕ) (n : ℕ) (e : Entry) (s :
   there : slice_get (entries s.setup.config list) n ≡ Some e
   holds : Refines s.setup list taken s.index n s
   place : e.place ≡ n
-  reached : AllReached s e (shard_at s.setup list taken s.index n).sessions
+  reached : AllReached e (shard_at s.setup list taken s.index n).sessions
   apart : Apart (numbers_of (shard_at s.setup list taken s.index n).sessions)
   fresh : connect_in s e.place ≡ None
 
@@ -263,7 +262,7 @@ before list taken n e s room there h =
       there = there;
       holds = h;
       place = place;
-      reached = subst (λ (q : ℕ). All (ReachedLive s.setup.config q) ks) (sym place) (holds_reached s.setup list taken s.index n room);
+      reached = subst (λ (q : ℕ). All (IsReached q) ks) (sym place) (holds_reached s.setup list taken s.index n);
       apart = apart (numbers_of ks) (sessions_ascend s.setup list taken s.index n);
       fresh = h.sound.fresh e.place (omega (arith, place, h.place_is));
     }
@@ -309,7 +308,7 @@ none_answer (Some f) h = absurd (let no : Some (answer_of f) ≡ None = h in cc)
 answered : (list : List Listed) (taken : List ℕ) (n : ℕ) (e : Entry) (s : State) (p : ℕ) (f : Filed) → Before list taken n e s → given_at list taken n e s p ≡ Some f → Answers list taken n e s p f
 answered list taken n e s p f b some =
     let h : Refines s.setup list taken s.index n s = b.holds in
-    let g : Gave s e p f = gave s e (shard_at s.setup list taken s.index n).sessions p f b.reached b.apart h.sessions some in
+    let g : Gave s e p f = gave s e (shard_at s.setup list taken s.index n).sessions p f b.apart h.sessions some in
     let u : Unanswered e.place p (connect_in s p) =
     subst (λ (q : ℕ). Unanswered e.place q (connect_in s q)) g.connect (given_unanswered s e g.number (answered_of f) h.sound (h.place_is ∙ sym b.place) g.given) in
     record {
@@ -325,9 +324,9 @@ untaken_then : (taken : List ℕ) (p : ℕ) → (is_taken taken p ≡ true → �
 untaken_then taken p h = either (is_taken taken p) (is_taken taken p ≡ false) (λ t. absurd (h t)) (λ u. u)
 
 -- a connect that isn't answered is as it was begun
-unanswered_as : (list : List Listed) (taken : List ℕ) (n : ℕ) (e : Entry) (s new : State) (p : ℕ) → Before list taken n e s → Applied s e new → given_at list taken n e s p ≡ None → connect_in new p ≡ begun s e e.kind p
+unanswered_as : (list : List Listed) (taken : List ℕ) (n : ℕ) (e : Entry) (s new : State) (p : ℕ) → Before list taken n e s → Applied s e new → given_at list taken n e s p ≡ None → connect_in new p ≡ begun (session_in s) (connect_in s) e e.kind p
 unanswered_as list taken n e s new p b a none =
-    a.connects.kept p (none_given s e (shard_at s.setup list taken s.index n).sessions p b.reached b.holds.sessions none)
+    a.connects.kept p (none_given s e (shard_at s.setup list taken s.index n).sessions p b.holds.sessions none)
 
 filed_next : (list : List Listed) (taken : List ℕ) (n : ℕ) (e : Entry) (s new : State) (p : ℕ) → Before list taken n e s → Applied s e new → filed_with_place (connect_in new p) ≡ option_map answer_of (filed_then list taken s (n + 1) p)
 filed_next list taken n e s new p b a =
@@ -357,7 +356,7 @@ gone_next list taken n e s new p b a t c =
 stands_here : (list : List Listed) (taken : List ℕ) (n : ℕ) (e : Entry) (s : State) (m : ℕ) → Before list taken n e s → is_some (session_in s m) ≡ true → stands_in s.setup s.index m ≡ true
 stands_here list taken n e s m b here =
     let ks : List Kept = (shard_at s.setup list taken s.index n).sessions in
-    let P : Option Kept → Type 0 = λ o. find_kept m ks ≡ o → session_in s m ≡ option_map (subscriber_of s.setup.config) o → stands_in s.setup s.index m ≡ true in
+    let P : Option Kept → Type 0 = λ o. find_kept m ks ≡ o → session_in s m ≡ o → stands_in s.setup s.index m ≡ true in
     let at_none : P None = λ f h. absurd (let no : false ≡ true = sym (ap is_some h) ∙ here in cc) in
     let at_some : (k : Kept) → P (Some k) = λ k f h.
     let w = found_each (λ j. stands_in s.setup s.index j.number ≡ true) m ks k f (holds_stand s.setup list taken s.index n) in
@@ -390,7 +389,7 @@ onwards list taken n e s new b a sound =
       within = shorter_by_one list n m.element m.next;
       sound = sound;
       sessions = λ q. a.sessions q ∙ sessions_next s e ks q b.reached b.apart b.holds.sessions
-          ∙ ap (found_as s.setup.config q) (sym (shards_step s.setup list taken s.index n e b.room b.there));
+          ∙ ap (find_kept q) (sym (shards_step s.setup list taken s.index n e b.room b.there));
       filed = λ p. filed_next list taken n e s new p b a;
       known = b.holds.known;
       gone = λ p t c. gone_next list taken n e s new p b a t c;

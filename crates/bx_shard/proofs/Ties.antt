@@ -2,25 +2,25 @@
 use Rattle.std.proofs.Common.{◌≡◌, ℕ, nat_eq, Bool, true, false, cond, Option, Some, None, is_none, refl, sym, ap, ◌∙◌, true≢false}
 use Rattle.std.proofs.lemmas.Bool.{eqb-true, eq-eqb}
 use Rattle.bx_entry.specs.Sessions.{Pending}
-use Rattle.bx_session.specs.Seats.{Seat}
-use Rattle.bx_session.specs.Steps.{deadline_of}
+use Rattle.bx_entry.specs.Keeping.{Kept}
+use Rattle.bx_session.specs.Views.{deadline_of}
 use Rattle.bx_connects.specs.declared.connects.ConnectState.{ConnectState}
 use Rattle.bx_connects.specs.declared.connects.ConnectState.TheVariants.{Held, Filed}
 use Rattle.bx_shard.specs.Sessions.{held_until, ends_for, holds_until}
 
 -- ---- look-ups alone
 
--- connects by their places and seats by their numbers agree on who holds which
-abbrev pub Agree : (ℕ → Option ConnectState) → (ℕ → Option Seat) → Type 0
-Agree connects seats = (place n : ℕ) → held_until (connects place) n ≡ holds_until (seats n) place
+-- connects by their places and sessions by their numbers agree on who holds which
+abbrev pub Agree : (ℕ → Option ConnectState) → (ℕ → Option Kept) → Type 0
+Agree connects sessions = (place n : ℕ) → held_until (connects place) n ≡ holds_until (sessions n) place
 
 -- nobody holds a connect in this state
 abbrev pub IsNobody : Option ConnectState → Type 0
 IsNobody state = (n : ℕ) → held_until state n ≡ None
 
--- a seat that holds nothing
-abbrev pub IsFree : Option Seat → Type 0
-IsFree seat = (place : ℕ) → holds_until seat place ≡ None
+-- a session that holds nothing
+abbrev pub IsFree : Option Kept → Type 0
+IsFree session = (place : ℕ) → holds_until session place ≡ None
 
 nothing : (b : Bool) (x y : Option (Option ℕ)) → b ≡ false → y ≡ None → cond b x None ≡ y
 nothing b x y e h = ap (λ c. cond c x None) e ∙ sym h
@@ -35,24 +35,24 @@ held_by_one (Some (Held k d w)) m n deadline h other = by (nat_eq k m) refl h
     by false e g = absurd (true≢false (ap is_none g))
 held_by_one (Some (Filed j p a)) m n deadline h other = refl
 
--- a seat that holds a connect says so
-pub holds_own : (seat : Seat) (q : Pending) → seat.held ≡ Some q → holds_until (Some seat) q.place ≡ Some (deadline_of q)
-holds_own seat q h = ap (λ o. ends_for o q.place) h ∙ ap (λ c. cond c (Some (deadline_of q)) None) (eq-eqb q.place q.place refl)
+-- a session that holds a connect says so
+pub holds_own : (session : Kept) (q : Pending) → session.held ≡ Some q → holds_until (Some session) q.place ≡ Some (deadline_of q)
+holds_own session q h = ap (λ o. ends_for o q.place) h ∙ ap (λ c. cond c (Some (deadline_of q)) None) (eq-eqb q.place q.place refl)
 
 -- and holds no other
-pub holds_one : (seat : Seat) (q : Pending) (place : ℕ) → seat.held ≡ Some q → nat_eq q.place place ≡ false → holds_until (Some seat) place ≡ None
-holds_one seat q place h other = ap (λ o. ends_for o place) h ∙ ap (λ c. cond c (Some (deadline_of q)) None) other
+pub holds_one : (session : Kept) (q : Pending) (place : ℕ) → session.held ≡ Some q → nat_eq q.place place ≡ false → holds_until (Some session) place ≡ None
+holds_one session q place h other = ap (λ o. ends_for o place) h ∙ ap (λ c. cond c (Some (deadline_of q)) None) other
 
 -- ---- a hold ends
 
-module _ (C D : ℕ → Option ConnectState) (S T : ℕ → Option Seat) (m : ℕ) (seat : Seat) (q : Pending) (state : Option ConnectState) (after : Option Seat) where
-  pub ended : Agree C S → S m ≡ Some seat → seat.held ≡ Some q → ((p : ℕ) → D p ≡ cond (nat_eq q.place p) state (C p)) → IsNobody state
+module _ (C D : ℕ → Option ConnectState) (S T : ℕ → Option Kept) (m : ℕ) (session : Kept) (q : Pending) (state : Option ConnectState) (after : Option Kept) where
+  pub ended : Agree C S → S m ≡ Some session → session.held ≡ Some q → ((p : ℕ) → D p ≡ cond (nat_eq q.place p) state (C p)) → IsNobody state
       → ((n : ℕ) → T n ≡ cond (nat_eq m n) after (S n)) → IsFree after → Agree D T
   ended agree here held at gone on free p n =
       ap (λ o. held_until o n) (at p) ∙ by (nat_eq q.place p) (nat_eq m n) refl refl ∙ sym (ap (λ o. holds_until o p) (on n))
     where
       own : held_until (C q.place) m ≡ Some (deadline_of q)
-      own = agree q.place m ∙ ap (λ o. holds_until o q.place) here ∙ holds_own seat q held
+      own = agree q.place m ∙ ap (λ o. holds_until o q.place) here ∙ holds_own session q held
 
       by : (b c : Bool) → b ≡ nat_eq q.place p → c ≡ nat_eq m n → held_until (cond b state (C p)) n ≡ holds_until (cond c after (S n)) p
       by true true e f = gone n ∙ sym (free p)
@@ -60,19 +60,19 @@ module _ (C D : ℕ → Option ConnectState) (S T : ℕ → Option Seat) (m : �
           gone n ∙ sym (ap (λ o. held_until o n) (ap C (sym (eqb-true q.place p (sym e)))) ∙ held_by_one (C q.place) m n (deadline_of q) own (sym f)) ∙ agree p n
       by false true e f =
           let same = eqb-true m n (sym f) in
-          agree p n ∙ ap (λ k. holds_until (S k) p) (sym same) ∙ ap (λ o. holds_until o p) here ∙ holds_one seat q p held (sym e) ∙ sym (free p)
+          agree p n ∙ ap (λ k. holds_until (S k) p) (sym same) ∙ ap (λ o. holds_until o p) here ∙ holds_one session q p held (sym e) ∙ sym (free p)
       by false false e f = agree p n
 
 -- ---- a hold begins
 
-module _ (C D : ℕ → Option ConnectState) (S T : ℕ → Option Seat) (m : ℕ) (q : Pending) (seat : Seat) where
+module _ (C D : ℕ → Option ConnectState) (S T : ℕ → Option Kept) (m : ℕ) (q : Pending) (session : Kept) where
   pub begun : Agree C S → C q.place ≡ None → IsFree (S m) → ((p : ℕ) → D p ≡ cond (nat_eq q.place p) (Some (Held m (deadline_of q) None)) (C p))
-      → ((n : ℕ) → T n ≡ cond (nat_eq m n) (Some seat) (S n)) → seat.held ≡ Some q → Agree D T
+      → ((n : ℕ) → T n ≡ cond (nat_eq m n) (Some session) (S n)) → session.held ≡ Some q → Agree D T
   begun agree fresh free at on held p n =
       ap (λ o. held_until o n) (at p) ∙ by (nat_eq q.place p) (nat_eq m n) refl refl ∙ sym (ap (λ o. holds_until o p) (on n))
     where
       by : (b c : Bool) → b ≡ nat_eq q.place p → c ≡ nat_eq m n
-          → held_until (cond b (Some (Held m (deadline_of q) None)) (C p)) n ≡ holds_until (cond c (Some seat) (S n)) p
+          → held_until (cond b (Some (Held m (deadline_of q) None)) (C p)) n ≡ holds_until (cond c (Some session) (S n)) p
       by true true e f =
           ap (λ x. cond x (Some (deadline_of q)) None) (sym f) ∙ sym (ap (λ o. ends_for o p) held ∙ ap (λ x. cond x (Some (deadline_of q)) None) (sym e))
       by true false e f =
@@ -84,5 +84,5 @@ module _ (C D : ℕ → Option ConnectState) (S T : ℕ → Option Seat) (m : �
 
 -- ---- no hold ends or begins
 
-pub still : (C D : ℕ → Option ConnectState) (S T : ℕ → Option Seat) → Agree C S → ((p n : ℕ) → held_until (D p) n ≡ held_until (C p) n) → ((n p : ℕ) → holds_until (T n) p ≡ holds_until (S n) p) → Agree D T
+pub still : (C D : ℕ → Option ConnectState) (S T : ℕ → Option Kept) → Agree C S → ((p n : ℕ) → held_until (D p) n ≡ held_until (C p) n) → ((n p : ℕ) → holds_until (T n) p ≡ holds_until (S n) p) → Agree D T
 still C D S T agree at on p n = at p n ∙ agree p n ∙ sym (on n p)

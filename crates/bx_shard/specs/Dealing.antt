@@ -2,12 +2,12 @@
 use Rattle.std.specs.Prelude.{ℕ, ◌==◌, ◌≡◌, ◌≢◌, ◌<◌, length, true, List, [], ◌∷◌, slice_get, if◌then◌else◌, is_some, Option, Some, None}
 use Rattle.std.specs.Option.{option_or}
 use Rattle.bx_entry.specs.Listing.{Listed}
+use Rattle.bx_entry.specs.Keeping.{Kept}
 use Rattle.bx_connects.specs.declared.connects.ConnectState.{ConnectState}
 use Rattle.bx_connects.specs.declared.connects.ConnectState.TheVariants.{Held, Filed}
 use Rattle.bx_shard.specs.Refining.{Refines}
 use Rattle.bx_shard.specs.Shards.{Setup}
 use Rattle.bx_shard.specs.States.{IsSound, State, connect_in, session_in}
-use Rattle.bx_shard.specs.Subscribers.{Subscriber}
 
 -- ---- what the shards have
 
@@ -17,7 +17,7 @@ among f [] = None
 among f (s ∷ ss) = option_or (f s) (among f ss)
 
 -- the session of this number, in whichever shard it stands
-abbrev pub session_among : List State → ℕ → Option Subscriber
+abbrev pub session_among : List State → ℕ → Option Kept
 session_among shards n = among (λ s. session_in s n) shards
 
 -- what became of the connect at a place of the list, in whichever shard it is known

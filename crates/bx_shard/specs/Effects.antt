@@ -1,14 +1,9 @@
 -- What the calls on one session do to the connects of its shard.
-use Rattle.std.specs.Prelude.{ℕ, nat_eq, Option, Some, None, if◌then◌else◌}
-use Rattle.bx_advice.specs.declared.config.Config.{Config}
-use Rattle.bx_advice.specs.declared.advice.Case.TheVariants.{Disconnected}
-use Rattle.bx_message.specs.declared.event.Event.{Event}
-use Rattle.bx_entry.specs.Sessions.{Pending}
+use Rattle.std.specs.Prelude.{ℕ, nat_eq, List, [], ◌∷◌, map, Option, Some, None, option_map, if◌then◌else◌}
+use Rattle.bx_entry.specs.Keeping.{Kept, answers_of}
+use Rattle.bx_entry.specs.Sessions.{Pending, Session}
 use Rattle.bx_session.specs.declared.answered.Answered.{Answered}
-use Rattle.bx_session.specs.declared.answered.Delivery.{Delivery}
-use Rattle.bx_session.specs.declared.answered.Delivery.TheVariants.{Waits, Given, Overflowed}
-use Rattle.bx_session.specs.Seats.{Seat}
-use Rattle.bx_session.specs.Steps.{connection, deadline_of, delivery, released, tick_answer}
+use Rattle.bx_session.specs.Views.{answered_of, deadline_of}
 use Rattle.bx_connects.specs.declared.connects.ConnectState.{ConnectState}
 use Rattle.bx_connects.specs.Connects.{filing, held_by}
 
@@ -16,29 +11,27 @@ use Rattle.bx_connects.specs.Connects.{filing, held_by}
 abbrev pub holding : ℕ → Pending → (ℕ → Option ConnectState) → ℕ → Option ConnectState
 holding number connect connects p = if nat_eq connect.place p then held_by number (deadline_of connect) else connects p
 
--- A connect is held at first; then the answer to the one that it superseded is filed, and its own, where they are given.
-abbrev pub connect_filing : Config → ℕ → Pending → Option ℕ → Option Seat → (ℕ → Option ConnectState) → ℕ → Option ConnectState
-connect_filing config number connect acked None connects p = connects p
-connect_filing config number connect acked (Some seat) connects p =
-    filing connect.place (connection config connect acked seat).answered (filing connect.place (connection config connect acked seat).superseded (holding number connect connects)) p
+-- the connects once the entry at this place has given these answers, one after another
+abbrev pub filing_each : ℕ → List Answered → (ℕ → Option ConnectState) → ℕ → Option ConnectState
+filing_each place [] connects p = connects p
+filing_each place (a ∷ rest) connects p = filing_each place rest (filing place (Some a) connects) p
 
--- the answer that an event gives
-abbrev pub given_by : Delivery → Option Answered
-given_by Waits = None
-given_by (Given a) = Some a
-given_by Overflowed = None
+-- the answers that a change of the session gives, as the program gives them, if the session is here
+abbrev pub answers_by : (Session → Session) → Option Kept → List Answered
+answers_by change None = []
+answers_by change (Some k) = map answered_of (answers_of change k)
 
--- it is filed
-abbrev pub delivery_filing : Config → ℕ → Event → Option Seat → (ℕ → Option ConnectState) → ℕ → Option ConnectState
-delivery_filing config place e None connects p = connects p
-delivery_filing config place e (Some seat) connects p = filing place (given_by (delivery config e seat)) connects p
+-- A connect of a session that is here is held at first; then the answer to the one that it superseded is filed, and its own, where they are given.
+abbrev pub connect_filing : ℕ → Pending → (Session → Session) → Option Kept → (ℕ → Option ConnectState) → ℕ → Option ConnectState
+connect_filing number connect change None connects p = connects p
+connect_filing number connect change (Some k) connects p = filing_each connect.place (answers_by change (Some k)) (holding number connect connects) p
 
--- the answer that a tick gives
-abbrev pub ticked_answer : Config → ℕ → Option Seat → Option Answered
-ticked_answer config moment None = None
-ticked_answer config moment (Some seat) = tick_answer config moment seat
+-- nothing is known any longer of the connect at this place, if there is one
+abbrev pub forgetting : Option ℕ → (ℕ → Option ConnectState) → ℕ → Option ConnectState
+forgetting None connects p = connects p
+forgetting (Some place) connects p = if nat_eq place p then None else connects p
 
--- the answer that a disconnect gives
-abbrev pub released_by : Config → Option Seat → Option Answered
-released_by config None = None
-released_by config (Some seat) = released config Disconnected seat
+-- the place of the connect that a session holds, if it is here and holds one
+abbrev pub held_in : Option Kept → Option ℕ
+held_in None = None
+held_in (Some k) = option_map (λ (q : Pending). q.place) k.held

@@ -5,12 +5,13 @@ use Rattle.std.specs.Map.{lookup}
 use Rattle.std.specs.Option.{option_or}
 use Rattle.bx_names.specs.Globs.{Glob}
 use Rattle.bx_advice.specs.declared.config.Config.{Config}
-use Rattle.bx_session.specs.Seats.{Seat, Seated}
+use Rattle.bx_entry.specs.Keeping.{Kept}
+use Rattle.bx_session.specs.Views.{WithRoom}
 use Rattle.bx_connects.specs.declared.connects.ConnectState.{ConnectState}
 use Rattle.bx_connects.specs.declared.connects.FiledAnswer.{FiledAnswer}
 use Rattle.bx_connects.specs.Connects.{AreApart, connect_at, filed_as, filing_at, held_by, known_as}
 use Rattle.bx_shard.specs.declared.sessions.Sessions.{Sessions}
-use Rattle.bx_shard.specs.Sessions.{patterns_in, seat_in}
+use Rattle.bx_shard.specs.Sessions.{patterns_in, kept_in}
 
 -- what is lent for it to the shard where the session is placed, among so many
 abbrev pub lent_as : (ℕ → ℕ → ℕ) → ℕ → ℕ → Option (ℕ × Option ℕ) → Option ConnectState
@@ -19,11 +20,11 @@ lent_as placing count k (Some known) = if nat_eq (placing known.0 count) k then 
 
 -- a session that isn't here has no pattern
 abbrev pub AreClean : Sessions → Type 0
-AreClean s = (n : ℕ) → seat_in s n ≡ None → patterns_in s n ≡ []
+AreClean s = (n : ℕ) → kept_in s n ≡ None → patterns_in s n ≡ []
 
-abbrev pub seat_there : Option Sessions → ℕ → Option Seat
-seat_there None n = None
-seat_there (Some s) n = seat_in s n
+abbrev pub kept_there : Option Sessions → ℕ → Option Kept
+kept_there None n = None
+kept_there (Some s) n = kept_in s n
 
 abbrev pub patterns_there : Option Sessions → ℕ → List Glob
 patterns_there None n = []
@@ -33,9 +34,9 @@ abbrev pub connect_there : Option Sessions → ℕ → Option ConnectState
 connect_there None p = None
 connect_there (Some s) p = connect_at s.connects p
 
--- the seat of a session in one of the shards
-abbrev pub seat_of : List Sessions → ℕ → ℕ → Option Seat
-seat_of heirs k n = seat_there (slice_get heirs k) n
+-- what is kept of a session in one of the shards
+abbrev pub kept_of : List Sessions → ℕ → ℕ → Option Kept
+kept_of heirs k n = kept_there (slice_get heirs k) n
 
 -- the patterns of a session in one of the shards
 abbrev pub patterns_at : List Sessions → ℕ → ℕ → List Glob
@@ -52,13 +53,13 @@ config_of heirs k = option_map (λ (s : Sessions). s.config) (slice_get heirs k)
 -- nothing is here yet
 pub record IsEmptyOf (config : Config) (s : Sessions) : Type 0 where
   pub config_is : s.config ≡ config
-  pub seats : (n : ℕ) → seat_in s n ≡ None
+  pub sessions : (n : ℕ) → kept_in s n ≡ None
   pub patterns : (n : ℕ) → patterns_in s n ≡ []
   pub connects : (p : ℕ) → connect_at s.connects p ≡ None
 
 -- so it is in each of the shards
 abbrev pub AreAllClean : List Sessions → Type 0
-AreAllClean heirs = (k n : ℕ) → seat_of heirs k n ≡ None → patterns_at heirs k n ≡ []
+AreAllClean heirs = (k n : ℕ) → kept_of heirs k n ≡ None → patterns_at heirs k n ≡ []
 
 -- the connects of the shards are as they were, and their configurations
 pub record SameConnects (old new : List Sessions) : Type 0 where
@@ -70,20 +71,20 @@ pub record SameConnects (old new : List Sessions) : Type 0 where
 pub record SameSessions (old new : List Sessions) : Type 0 where
   pub many : length new ≡ length old
   pub configs : (k : ℕ) → config_of new k ≡ config_of old k
-  pub seats : (k n : ℕ) → seat_of new k n ≡ seat_of old k n
+  pub sessions : (k n : ℕ) → kept_of new k n ≡ kept_of old k n
   pub patterns : (k n : ℕ) → patterns_at new k n ≡ patterns_at old k n
 
 -- ---- all shards that are dealt
 
--- the seat of the session in the first of them that has it
-abbrev pub seat_among : List Sessions → ℕ → Option Seat
-seat_among [] n = None
-seat_among (s ∷ ss) n = option_or (seat_in s n) (seat_among ss n)
+-- what is kept of the session in the first of them that has it
+abbrev pub kept_among : List Sessions → ℕ → Option Kept
+kept_among [] n = None
+kept_among (s ∷ ss) n = option_or (kept_in s n) (kept_among ss n)
 
 -- its patterns there
 abbrev pub patterns_among : List Sessions → ℕ → List Glob
 patterns_among [] n = []
-patterns_among (s ∷ ss) n = if is_some (seat_in s n) then patterns_in s n else patterns_among ss n
+patterns_among (s ∷ ss) n = if is_some (kept_in s n) then patterns_in s n else patterns_among ss n
 
 -- what is lent for a connect to the shard of this index
 abbrev pub lent_among : (ℕ → ℕ → ℕ) → ℕ → ℕ → List Sessions → ℕ → Option ConnectState
@@ -99,20 +100,20 @@ pub record AreEmpty (config : Config) (count : ℕ) (heirs : List Sessions) : Ty
 pub record AreLent (placing : ℕ → ℕ → ℕ) (count : ℕ) (olds : List Sessions) (config : Config) (heirs : List Sessions) : Type 0 where
   pub many : length heirs ≡ count
   pub configs : (k : ℕ) → k < count → config_of heirs k ≡ Some config
-  pub seats : (k n : ℕ) → is_some (seat_of heirs k n) ≡ (nat_eq (placing n count) k && is_some (seat_among olds n))
+  pub sessions : (k n : ℕ) → is_some (kept_of heirs k n) ≡ (nat_eq (placing n count) k && is_some (kept_among olds n))
   pub patterns : (k n : ℕ) → patterns_at heirs k n ≡ (if nat_eq (placing n count) k then patterns_among olds n else [])
   pub connects : (k p : ℕ) → connect_of heirs k p ≡ lent_among placing count k olds p
   pub apart : All (λ (s : Sessions). AreApart s.connects.held s.connects.filed) olds
 
 -- ---- what moves
 
--- a seat in the place that was made for it
-abbrev pub overlaid : Option Seat → Option Seat → Option Seat
+-- a session in the place that was made for it
+abbrev pub overlaid : Option Kept → Option Kept → Option Kept
 overlaid None lent = lent
-overlaid (Some seat) lent = option_map (λ (x : Seat). seat) lent
+overlaid (Some k) lent = option_map (λ (x : Kept). k) lent
 
 -- the session of this number, once these entries have moved to where they are placed
-abbrev pub settled : (ℕ → ℕ → ℕ) → ℕ → ℕ → ℕ → Option Seat → Option Seat → Option Seat
+abbrev pub settled : (ℕ → ℕ → ℕ) → ℕ → ℕ → ℕ → Option Kept → Option Kept → Option Kept
 settled placing count k n moved lent = if nat_eq (placing n count) k then overlaid moved lent else lent
 
 -- the connect, once the answer that is filed for it has moved to where its session is placed
@@ -120,14 +121,14 @@ abbrev pub answered_with : (ℕ → ℕ → ℕ) → ℕ → ℕ → Option File
 answered_with placing count k None lent = lent
 answered_with placing count k (Some f) lent = if nat_eq (placing f.session count) k then filed_as f.place f.answer lent else lent
 
--- the seats of a list of entries
-abbrev pub seat_by : List (ℕ × Seated) → ℕ → Option Seat
-seat_by entries n = option_map (λ (x : Seated). x.seat) (lookup (nat_eq n) entries)
+-- what is kept of the sessions of a list of entries
+abbrev pub kept_by : List (ℕ × WithRoom) → ℕ → Option Kept
+kept_by entries n = option_map (λ (x : WithRoom). x.kept) (lookup (nat_eq n) entries)
 
--- the seat, once what each of these shards has was moved
-abbrev pub settled_all : (ℕ → ℕ → ℕ) → ℕ → ℕ → ℕ → List Sessions → Option Seat → Option Seat
+-- what is kept, once what each of these shards has was moved
+abbrev pub settled_all : (ℕ → ℕ → ℕ) → ℕ → ℕ → ℕ → List Sessions → Option Kept → Option Kept
 settled_all placing count k n [] lent = lent
-settled_all placing count k n (s ∷ ss) lent = settled_all placing count k n ss (settled placing count k n (seat_in s n) lent)
+settled_all placing count k n (s ∷ ss) lent = settled_all placing count k n ss (settled placing count k n (kept_in s n) lent)
 
 -- the connect, once the answers that each of these shards has filed were moved
 abbrev pub answered_all : (ℕ → ℕ → ℕ) → ℕ → ℕ → ℕ → List Sessions → Option ConnectState → Option ConnectState
@@ -138,6 +139,6 @@ answered_all placing count k p (s ∷ ss) lent = answered_all placing count k p 
 pub record AreMoved (placing : ℕ → ℕ → ℕ) (count : ℕ) (olds old new : List Sessions) : Type 0 where
   pub many : length new ≡ length old
   pub configs : (k : ℕ) → config_of new k ≡ config_of old k
-  pub seats : (k n : ℕ) → seat_of new k n ≡ settled_all placing count k n olds (seat_of old k n)
+  pub sessions : (k n : ℕ) → kept_of new k n ≡ settled_all placing count k n olds (kept_of old k n)
   pub patterns : (k n : ℕ) → patterns_at new k n ≡ patterns_at old k n
   pub connects : (k p : ℕ) → connect_of new k p ≡ answered_all placing count k p olds (connect_of old k p)

@@ -1,25 +1,23 @@
 -- What holds of the sessions that a shard holds.
-use Rattle.std.specs.Prelude.{ℕ, ◌<◌, ◌≡◌, Bool, List, map, slice_get, Some}
+use Rattle.std.specs.Prelude.{ℕ, ◌<◌, ◌≤◌, ◌≡◌, Bool, List, map, slice_get, Some}
 use Rattle.std.specs.List.{All}
 use Rattle.std.specs.List.Sorted.{IsStrictlyIncreasing}
-use Rattle.bx_advice.specs.declared.config.Config.{Config}
 use Rattle.bx_entry.specs.Listing.{Listed}
 use Rattle.bx_entry.specs.declared.entry.Entry.{Entry}
 use Rattle.bx_entry.specs.declared.entry.Kind.TheVariants.{Opened}
 use Rattle.bx_entry.specs.Registry.{entries}
 use Rattle.bx_entry.specs.Sessions.{Live}
 use Rattle.bx_entry.specs.Keeping.{Kept}
-use Rattle.bx_session.specs.Reaching.{Reached}
 use Rattle.bx_shard.specs.Shards.{Setup, shard_at}
 
--- the session is live, and its calls can be made at this place
-pub record ReachedLive (config : Config) (place : ℕ) (k : Kept) : Type 0 where
-  pub reached : Reached config place k
+-- the session is live, and no more batches were formed than entries stand before this place
+pub record IsReached (place : ℕ) (k : Kept) : Type 0 where
   pub live : k.stage ≡ Live
+  pub numbers : k.num ≤ place
 
 -- so it is of every session that a shard holds, whatever number of entries it has applied
 abbrev pub SessionsReached : Type 0
-SessionsReached = (setup : Setup) (list : List Listed) (taken : List ℕ) (shard n : ℕ) → 0 < setup.config.limits.batch → All (ReachedLive setup.config n) (shard_at setup list taken shard n).sessions
+SessionsReached = (setup : Setup) (list : List Listed) (taken : List ℕ) (shard n : ℕ) → All (IsReached n) (shard_at setup list taken shard n).sessions
 
 -- each number is below the next, so no two sessions have the same
 abbrev pub NumbersAscend : Type 0

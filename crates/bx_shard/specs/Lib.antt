@@ -12,4 +12,3 @@ pub mod Sessions
 pub mod Shards
 pub mod States
 pub mod Steps
-pub mod Subscribers

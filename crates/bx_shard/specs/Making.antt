@@ -8,13 +8,13 @@ use Rattle.bx_shard.specs.declared.sessions.Sessions.{Sessions}
 use Rattle.bx_shard.specs.declared.shard.Shard.{Shard}
 use Rattle.bx_shard.specs.declared.making.Room.{Room}
 use Rattle.bx_shard.specs.Heirs.{AreLent}
-use Rattle.bx_shard.specs.Sessions.{AreHeld, has_formed_at_most, is_counted, patterns_in, seat_in}
+use Rattle.bx_shard.specs.Sessions.{AreCounted, AreHeld, has_formed_at_most, kept_in}
 
 -- what a shard that has applied so many entries says of its sessions
 pub record Fits (place : ℕ) (s : Sessions) : Type 0 where
-  pub counted : (n : ℕ) → is_counted (seat_in s n) (patterns_in s n) ≡ true
+  pub counted : AreCounted s
   pub held : AreHeld s
-  pub batches : (n : ℕ) → has_formed_at_most place (seat_in s n) ≡ true
+  pub batches : (n : ℕ) → has_formed_at_most place (kept_in s n) ≡ true
   pub fresh : (p : ℕ) → place ≤ p → connect_at s.connects p ≡ None
 
 -- all are handles to this placing

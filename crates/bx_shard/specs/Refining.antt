@@ -14,7 +14,6 @@ use Rattle.bx_connects.specs.declared.connects.ConnectState.TheVariants as state
 use Rattle.bx_connects.specs.Connects.{filed_answer, is_filed_below, session_at, taken_from}
 use Rattle.bx_shard.specs.Shards.{Setup, is_taken, shard_at, stands_in}
 use Rattle.bx_shard.specs.States.{Applied, IsAsBefore, IsSound, State, Swept, Watched, WasShut, connect_in, session_in}
-use Rattle.bx_shard.specs.Subscribers.{subscriber_of}
 
 -- an answer with the place of the entry that gave it
 abbrev pub placed : ℕ → Answer → PlacedAnswer
@@ -50,7 +49,7 @@ pub record Refines (setup : Setup) (list : List Listed) (taken : List ℕ) (shar
   pub place_is : s.place ≡ n
   pub within : n ≤ length list
   pub sound : IsSound s
-  pub sessions : (m : ℕ) → session_in s m ≡ option_map (subscriber_of setup.config) (find (λ (k : Kept). k.number == m) (shard_at setup list taken shard n).sessions)
+  pub sessions : (m : ℕ) → session_in s m ≡ find (λ (k : Kept). k.number == m) (shard_at setup list taken shard n).sessions
   pub filed : (p : ℕ) → filed_with_place (connect_in s p) ≡ option_map answer_of (find (λ (f : Filed). f.connect == p) (shard_at setup list taken shard n).filed)
   pub known : (p : ℕ) → is_taken taken p ≡ true → p < length list
   pub gone : (p : ℕ) → is_taken taken p ≡ true → IsConnectOf setup list shard p → (p < n) × (connect_in s p ≡ None)

@@ -1,20 +1,23 @@
 -- A shard as the program holds it, and what one entry does to it.
 use Rattle.std.specs.Prelude.{ℕ, ◌⊎◌, ◌+◌, ◌==◌, ◌&&◌, ◌≡◌, ◌≢◌, ◌≤◌, Bool, true, false, List, if◌then◌else◌, nat_eq, option_map, Option, Some, None, is_some, Contains}
 use Rattle.std.specs.List.{list_any}
+use Rattle.std.specs.Option.{option_and_then, option_or}
+use Rattle.bx_advice.specs.declared.config.Config.{Config}
 use Rattle.bx_entry.specs.declared.entry.Entry.{Entry}
 use Rattle.bx_entry.specs.declared.entry.Kind.{Kind}
 use Rattle.bx_entry.specs.declared.entry.Kind.TheVariants.{Opened, Connect, Subscribe, Unsubscribe, Publish, Disconnect, Refused, Tick}
+use Rattle.bx_entry.specs.Keeping.{Kept, kept, kept_step}
+use Rattle.bx_entry.specs.Sessions.{is_live, step, unopened}
 use Rattle.bx_session.specs.declared.answered.Answered.{Answered}
-use Rattle.bx_session.specs.Seats.{pending}
+use Rattle.bx_session.specs.Views.{pending}
 use Rattle.bx_connects.specs.declared.connects.ConnectState.{ConnectState}
 use Rattle.bx_connects.specs.declared.connects.ConnectState.TheVariants.{Held, Filed}
 use Rattle.bx_connects.specs.Connects.{connect_at, session_at, unswept, unwatched, with_waker}
 use Rattle.bx_shard.specs.declared.sessions.Sessions.{Sessions}
 use Rattle.futures.specs.declared.task.waker.Waker.{Waker}
-use Rattle.bx_shard.specs.Effects.{holding}
-use Rattle.bx_shard.specs.Sessions.{AreTied, subscriber_in}
+use Rattle.bx_shard.specs.Effects.{answers_by, holding}
+use Rattle.bx_shard.specs.Sessions.{AreTied, kept_in}
 use Rattle.bx_shard.specs.Shards.{Setup, stands_in}
-use Rattle.bx_shard.specs.Subscribers.{Subscriber, answers, closes, newcomer, onward}
 
 -- The configuration with the placing, which shard it is, how many entries it has applied, whether it was shut, and its sessions.
 pub record State : Type 0 where
@@ -28,27 +31,30 @@ pub record State : Type 0 where
 abbrev pub connect_in : State → ℕ → Option ConnectState
 connect_in s place = connect_at s.sessions.connects place
 
--- a session of the shard with its patterns, by its number
-abbrev pub session_in : State → ℕ → Option Subscriber
-session_in s number = subscriber_in s.sessions number
+-- what is kept of a session of the shard, by its number
+abbrev pub session_in : State → ℕ → Option Kept
+session_in s number = kept_in s.sessions number
 
 -- ---- what an entry does to a session
 
--- the session that an entry opens in the shard
-abbrev pub opened_by : State → Kind → ℕ → Option Subscriber
-opened_by s (Opened m ack) n = if (m == n) && stands_in s.setup s.index m then Some (newcomer s.setup.config m ack) else None
-opened_by s (Connect m client id acked hold) n = None
-opened_by s (Subscribe m patterns) n = None
-opened_by s (Unsubscribe m patterns) n = None
-opened_by s (Publish e) n = None
-opened_by s (Disconnect m) n = None
-opened_by s Refused n = None
-opened_by s (Tick numbers) n = None
+-- the session that an entry of this kind opens, if it stands here, before it is opened
+abbrev pub opening : Bool → Kind → ℕ → Option Kept
+opening stands (Opened m ack) n = if (m == n) && stands then Some (kept (unopened m)) else None
+opening stands (Connect m client id acked hold) n = None
+opening stands (Subscribe m patterns) n = None
+opening stands (Unsubscribe m patterns) n = None
+opening stands (Publish e) n = None
+opening stands (Disconnect m) n = None
+opening stands Refused n = None
+opening stands (Tick numbers) n = None
 
--- what the entry makes of the session of this number
-abbrev pub session_after : State → Entry → ℕ → Option Subscriber → Option Subscriber
-session_after s e n None = opened_by s e.kind n
-session_after s e n (Some subscriber) = if closes e.kind n then None else Some (onward s.setup.config e.place e.moment e.kind n subscriber)
+-- a session that is live
+abbrev pub if_live : Kept → Option Kept
+if_live k = if is_live k.stage then Some k else None
+
+-- what an entry makes of the session of this number, or of the one that it opens; what is closed stays no longer
+abbrev pub session_after : Config → Bool → Entry → ℕ → Option Kept → Option Kept
+session_after config stands e n o = option_and_then (λ k. if_live (kept_step config k e)) (option_or o (opening stands e.kind n))
 
 -- ---- what an entry does to the connects
 
@@ -60,22 +66,19 @@ let_go numbers (Some (Filed session place answer)) = Some (Filed session place a
 
 -- The connects with the one that the entry is, where its session is here; it is held at first. A session that a tick closes holds none (in a list
 -- it never does, since a session is due no sooner than its hold ends).
-abbrev pub begun : State → Entry → Kind → ℕ → Option ConnectState
-begun s e (Opened m ack) p = connect_in s p
-begun s e (Connect m client id acked hold) p =
-    if is_some (session_in s m) then holding m (pending e.place client id e.moment hold) (connect_in s) p else connect_in s p
-begun s e (Subscribe m patterns) p = connect_in s p
-begun s e (Unsubscribe m patterns) p = connect_in s p
-begun s e (Publish event) p = connect_in s p
-begun s e (Disconnect m) p = connect_in s p
-begun s e Refused p = connect_in s p
-begun s e (Tick numbers) p = let_go numbers (connect_in s p)
+abbrev pub begun : (ℕ → Option Kept) → (ℕ → Option ConnectState) → Entry → Kind → ℕ → Option ConnectState
+begun sessions connects e (Opened m ack) p = connects p
+begun sessions connects e (Connect m client id acked hold) p = if is_some (sessions m) then holding m (pending e.place client id e.moment hold) connects p else connects p
+begun sessions connects e (Subscribe m patterns) p = connects p
+begun sessions connects e (Unsubscribe m patterns) p = connects p
+begun sessions connects e (Publish event) p = connects p
+begun sessions connects e (Disconnect m) p = connects p
+begun sessions connects e Refused p = connects p
+begun sessions connects e (Tick numbers) p = let_go numbers (connects p)
 
--- the entry gives this answer to a connect of this session of the shard
-pub record IsGiven (s : State) (e : Entry) (number : ℕ) (a : Answered) : Type 0 where
-  pub subscriber : Subscriber
-  pub here : session_in s number ≡ Some subscriber
-  pub given : Contains (answers s.setup.config e.place e.moment e.kind number subscriber) a
+-- the entry gives this answer to a connect of this session
+abbrev pub IsGiven : Config → (ℕ → Option Kept) → Entry → ℕ → Answered → Type 0
+IsGiven config sessions e number a = Contains (answers_by (λ s. step config s e) (sessions number)) a
 
 -- the answers that each session gives are filed at this place, and all other connects are as they were
 pub record Files (place : ℕ) (Given : ℕ → Answered → Type 0) (old new : ℕ → Option ConnectState) : Type 0 where
@@ -94,14 +97,25 @@ connecting Refused = None
 connecting (Tick numbers) = None
 
 -- the entry is the connect at this place, of this one of the sessions
-pub record Connects (sessions : ℕ → Option Subscriber) (e : Entry) (p m : ℕ) : Type 0 where
+pub record Connects (sessions : ℕ → Option Kept) (e : Entry) (p m : ℕ) : Type 0 where
   pub place : e.place ≡ p
   pub session : connecting e.kind ≡ Some m
   pub here : is_some (sessions m) ≡ true
 
 -- a connect that is known has the session that it had, or is the entry itself
-abbrev pub KeepsSessions : (ℕ → Option Subscriber) → Entry → (ℕ → Option ConnectState) → (ℕ → Option ConnectState) → Type 0
+abbrev pub KeepsSessions : (ℕ → Option Kept) → Entry → (ℕ → Option ConnectState) → (ℕ → Option ConnectState) → Type 0
 KeepsSessions sessions e old new = (p m : ℕ) → session_at (new p) ≡ Some m → (session_at (old p) ≡ Some m) ⊎ Connects sessions e p m
+
+-- whether an entry of this kind opens a session that stands in the shard
+abbrev pub opens_in : Setup → ℕ → Kind → Bool
+opens_in setup index (Opened m ack) = stands_in setup index m
+opens_in setup index (Connect m client id acked hold) = false
+opens_in setup index (Subscribe m patterns) = false
+opens_in setup index (Unsubscribe m patterns) = false
+opens_in setup index (Publish event) = false
+opens_in setup index (Disconnect m) = false
+opens_in setup index Refused = false
+opens_in setup index (Tick numbers) = false
 
 -- ---- one entry
 
@@ -111,8 +125,8 @@ pub record Applied (old : State) (e : Entry) (new : State) : Type 0 where
   pub setup : new.setup ≡ old.setup
   pub index : new.index ≡ old.index
   pub shut : new.shut ≡ old.shut
-  pub sessions : (n : ℕ) → session_in new n ≡ session_after old e n (session_in old n)
-  pub connects : Files e.place (IsGiven old e) (begun old e e.kind) (connect_in new)
+  pub sessions : (n : ℕ) → session_in new n ≡ session_after old.setup.config (opens_in old.setup old.index e.kind) e n (session_in old n)
+  pub connects : Files e.place (IsGiven old.setup.config (session_in old) e) (begun (session_in old) (connect_in old) e e.kind) (connect_in new)
   pub known : KeepsSessions (session_in old) e (connect_in old) (connect_in new)
 
 -- nothing changed that can be seen
@@ -170,14 +184,3 @@ takes_no_memory (Publish event) = false
 takes_no_memory (Disconnect m) = true
 takes_no_memory Refused = true
 takes_no_memory (Tick numbers) = true
-
--- whether an entry of this kind opens a session that stands in the shard
-abbrev pub opens_in : Setup → ℕ → Kind → Bool
-opens_in setup index (Opened m ack) = stands_in setup index m
-opens_in setup index (Connect m client id acked hold) = false
-opens_in setup index (Subscribe m patterns) = false
-opens_in setup index (Unsubscribe m patterns) = false
-opens_in setup index (Publish event) = false
-opens_in setup index (Disconnect m) = false
-opens_in setup index Refused = false
-opens_in setup index (Tick numbers) = false

@@ -2,7 +2,7 @@
 ghost use Rattle.std.specs.Prelude.{◌≡◌, ◌≤◌, ◌<◌, ℕ, true, None, OnOk, OnErr, IsOk};
 ghost use Rattle.bx_connects.specs.Connects.{connect_at};
 ghost use Rattle.bx_shard.specs.Following.{Followed};
-ghost use Rattle.bx_shard.specs.Sessions.{AreCountable, AreCounted, AreHeld, subscriber_in};
+ghost use Rattle.bx_shard.specs.Sessions.{AreCountable, AreCounted, AreHeld, kept_in};
 ghost use Rattle.bx_shard.specs.States.{takes_no_memory};
 
 use crate::sessions::Sessions;
@@ -24,7 +24,7 @@ impl Sessions {
         requires held { AreHeld self.old }
         requires countable { AreCountable self.old }
         ensures done { OnOk result (Followed stands entry.now self.old self.new) }
-        ensures refused { OnErr result (((n : ℕ) → subscriber_in self.new n ≡ subscriber_in self.old n)
+        ensures refused { OnErr result (((n : ℕ) → kept_in self.new n ≡ kept_in self.old n)
             × ((p : ℕ) → connect_at self.new.connects p ≡ connect_at self.old.connects p)) }
         ensures free { takes_no_memory entry.now.kind ≡ true → IsOk result }
         ensures counted { AreCounted self.new }

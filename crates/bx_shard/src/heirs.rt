@@ -3,7 +3,7 @@ ghost use Rattle.std.specs.Prelude.{◌≡◌, ◌<◌, ◌≤◌, ℕ, nat_eq, 
 ghost use Rattle.std.specs.List.{All};
 ghost use Rattle.std.specs.Option.{option_or};
 ghost use Rattle.bx_connects.specs.Connects.{filed_as, held_by};
-ghost use Rattle.bx_shard.specs.Heirs.{AreAllClean, IsEmptyOf, SameConnects, SameSessions, connect_of, patterns_at, seat_of};
+ghost use Rattle.bx_shard.specs.Heirs.{AreAllClean, IsEmptyOf, SameConnects, SameSessions, connect_of, patterns_at, kept_of};
 
 use crate::sessions::Sessions;
 use bx_advice::Config;
@@ -41,10 +41,10 @@ impl Heirs {
     ) -> Result<(), AllocError>
         requires within { slot < length self.old.shards.items }
         requires clean { AreAllClean self.old.shards.items }
-        ensures seats { OnOk result ((k n : ℕ) → is_some (seat_of self.new.shards.items k n)
-            ≡ ((nat_eq slot k && nat_eq number n) || is_some (seat_of self.old.shards.items k n))) }
+        ensures sessions { OnOk result ((k n : ℕ) → is_some (kept_of self.new.shards.items k n)
+            ≡ ((nat_eq slot k && nat_eq number n) || is_some (kept_of self.old.shards.items k n))) }
         ensures patterns { OnOk result ((k n : ℕ) → patterns_at self.new.shards.items k n
-            ≡ (if (nat_eq slot k && nat_eq number n) && not (is_some (seat_of self.old.shards.items k n)) then patterns.now
+            ≡ (if (nat_eq slot k && nat_eq number n) && not (is_some (kept_of self.old.shards.items k n)) then patterns.now
             else patterns_at self.old.shards.items k n)) }
         ensures clean { OnOk result (AreAllClean self.new.shards.items) }
         ensures connects { SameConnects self.old.shards.items self.new.shards.items }
@@ -78,9 +78,9 @@ impl Heirs {
     /// Puts a session in the place that was made for it.
     pub(crate) fn settle(&mut self, slot: usize, number: u64, session: Session)
         requires within { slot < length self.old.shards.items }
-        ensures seats { (k n : ℕ) → seat_of self.new.shards.items k n
-            ≡ (if nat_eq slot k && nat_eq number n then option_map (λ _. session.seat) (seat_of self.old.shards.items k n)
-            else seat_of self.old.shards.items k n) }
+        ensures sessions { (k n : ℕ) → kept_of self.new.shards.items k n
+            ≡ (if nat_eq slot k && nat_eq number n then option_map (λ _. session.kept) (kept_of self.old.shards.items k n)
+            else kept_of self.old.shards.items k n) }
         ensures patterns { (k n : ℕ) → patterns_at self.new.shards.items k n ≡ patterns_at self.old.shards.items k n }
         ensures connects { SameConnects self.old.shards.items self.new.shards.items }
     {

@@ -3,8 +3,8 @@ ghost use Rattle.std.specs.Prelude.{◌≡◌, ◌≤◌, ℕ, nat_eq, not, ◌&
 ghost use Rattle.std.specs.List.{list_any};
 ghost use Rattle.std.specs.Option.{option_or};
 ghost use Rattle.bx_connects.specs.Connects.{AreApart, connect_at, known_as};
-ghost use Rattle.bx_shard.specs.Heirs.{AreAllClean, SameConnects, SameSessions, config_of, connect_of, lent_as, patterns_at, seat_of};
-ghost use Rattle.bx_shard.specs.Sessions.{patterns_in, seat_in};
+ghost use Rattle.bx_shard.specs.Heirs.{AreAllClean, SameConnects, SameSessions, config_of, connect_of, lent_as, patterns_at, kept_of};
+ghost use Rattle.bx_shard.specs.Sessions.{patterns_in, kept_in};
 
 use crate::heirs::Heirs;
 use crate::sessions::Sessions;
@@ -25,11 +25,11 @@ pub(crate) fn lend_sessions<P: Placing>(
     requires shards_in_range { count ≤ 64 }
     requires many { length heirs.old.shards.items ≡ count }
     requires clean { AreAllClean heirs.old.shards.items }
-    ensures seats { OnOk result ((k n : ℕ) → is_some (seat_of heirs.new.shards.items k n)
-        ≡ ((nat_eq (P.place_of placing.now n count) k && list_any (nat_eq n) numbers.now) || is_some (seat_of heirs.old.shards.items k n))) }
+    ensures sessions { OnOk result ((k n : ℕ) → is_some (kept_of heirs.new.shards.items k n)
+        ≡ ((nat_eq (P.place_of placing.now n count) k && list_any (nat_eq n) numbers.now) || is_some (kept_of heirs.old.shards.items k n))) }
     ensures patterns { OnOk result ((k n : ℕ) → patterns_at heirs.new.shards.items k n
         ≡ (if (nat_eq (P.place_of placing.now n count) k && list_any (nat_eq n) numbers.now)
-        && not (is_some (seat_of heirs.old.shards.items k n)) then patterns_in old.now n
+        && not (is_some (kept_of heirs.old.shards.items k n)) then patterns_in old.now n
         else patterns_at heirs.old.shards.items k n)) }
     ensures clean { OnOk result (AreAllClean heirs.new.shards.items) }
     ensures connects { OnOk result (SameConnects heirs.old.shards.items heirs.new.shards.items) }
@@ -79,11 +79,11 @@ pub(crate) fn lend_from<P: Placing>(
     requires shards_in_range { count ≤ 64 }
     requires many { length heirs.old.shards.items ≡ count }
     requires clean { AreAllClean heirs.old.shards.items }
-    ensures seats { OnOk result ((k n : ℕ) → is_some (seat_of heirs.new.shards.items k n)
-        ≡ ((nat_eq (P.place_of placing.now n count) k && is_some (seat_in old.now n)) || is_some (seat_of heirs.old.shards.items k n))) }
+    ensures sessions { OnOk result ((k n : ℕ) → is_some (kept_of heirs.new.shards.items k n)
+        ≡ ((nat_eq (P.place_of placing.now n count) k && is_some (kept_in old.now n)) || is_some (kept_of heirs.old.shards.items k n))) }
     ensures patterns { OnOk result ((k n : ℕ) → patterns_at heirs.new.shards.items k n
-        ≡ (if (nat_eq (P.place_of placing.now n count) k && is_some (seat_in old.now n))
-        && not (is_some (seat_of heirs.old.shards.items k n)) then patterns_in old.now n
+        ≡ (if (nat_eq (P.place_of placing.now n count) k && is_some (kept_in old.now n))
+        && not (is_some (kept_of heirs.old.shards.items k n)) then patterns_in old.now n
         else patterns_at heirs.old.shards.items k n)) }
     ensures connects { OnOk result ((k p : ℕ) → connect_of heirs.new.shards.items k p
         ≡ option_or (connect_of heirs.old.shards.items k p) (lent_as (P.place_of placing.now) count k (known_as (connect_at old.now.connects p)))) }

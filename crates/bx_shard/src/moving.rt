@@ -1,7 +1,7 @@
 //! What shards have moves to where room was made for it. None of this takes memory.
 ghost use Rattle.std.specs.Prelude.{◌≡◌, ◌≤◌, ℕ, length};
 ghost use Rattle.bx_connects.specs.Connects.{filing_at};
-ghost use Rattle.bx_shard.specs.Heirs.{SameConnects, SameSessions, answered_with, connect_of, patterns_at, seat_by, seat_of, settled};
+ghost use Rattle.bx_shard.specs.Heirs.{SameConnects, SameSessions, answered_with, connect_of, patterns_at, kept_by, kept_of, settled};
 
 use crate::heirs::Heirs;
 use bx_connects::{Connects, FiledAnswer};
@@ -19,8 +19,8 @@ pub(crate) fn move_sessions<P: Placing>(
     requires some_shard { 1 ≤ count }
     requires shards_in_range { count ≤ 64 }
     requires many { length heirs.old.shards.items ≡ count }
-    ensures seats { (k n : ℕ) → seat_of heirs.new.shards.items k n
-        ≡ settled (P.place_of placing.now) count k n (seat_by by_number.entries n) (seat_of heirs.old.shards.items k n) }
+    ensures sessions { (k n : ℕ) → kept_of heirs.new.shards.items k n
+        ≡ settled (P.place_of placing.now) count k n (kept_by by_number.entries n) (kept_of heirs.old.shards.items k n) }
     ensures patterns { (k n : ℕ) → patterns_at heirs.new.shards.items k n ≡ patterns_at heirs.old.shards.items k n }
     ensures connects { SameConnects heirs.old.shards.items heirs.new.shards.items }
 {

@@ -1,11 +1,12 @@
 //! Subscriptions and unsubscriptions of the sessions of a shard, and events of theirs.
-ghost use Rattle.std.specs.Prelude.{◌≡◌, ◌≢◌, ℕ, nat_eq, Some, None, option_map, if◌then◌else◌, OnOk, OnErr, IfSome, false};
-ghost use Rattle.bx_session.specs.Seats.{Seat};
-ghost use Rattle.bx_session.specs.Steps.{Countable};
+ghost use Rattle.std.specs.Prelude.{◌≡◌, ℕ, nat_eq, option_map, if◌then◌else◌, OnOk, OnErr, IfSome, false};
+ghost use Rattle.bx_entry.specs.Keeping.{Kept, after};
+ghost use Rattle.bx_entry.specs.Sessions.{received, subscribed, unsubscribed};
+ghost use Rattle.bx_session.specs.Views.{Countable};
 ghost use Rattle.bx_connects.specs.Connects.{connect_at};
-ghost use Rattle.bx_shard.specs.Effects.{delivery_filing};
-ghost use Rattle.bx_shard.specs.Sessions.{AreCounted, AreHeld, HasRoom, IsCounted, patterns_in, seat_in, subscriber_in};
-ghost use Rattle.bx_shard.specs.Subscribers.{receiving, subscribing, unsubscribing};
+ghost use Rattle.bx_shard.specs.Effects.{answers_by, filing_each};
+ghost use Rattle.bx_shard.specs.Publishing.{published_at};
+ghost use Rattle.bx_shard.specs.Sessions.{AreCounted, AreHeld, HasRoom, kept_in};
 
 use crate::sessions::Sessions;
 use bx_message::SharedEvent;
@@ -22,10 +23,10 @@ impl Sessions {
         patterns: &[Pattern],
     ) -> Result<(), AllocError>
         requires counted { AreCounted self.old }
-        ensures ok { OnOk result ((n : ℕ) → subscriber_in self.new n
-            ≡ (if nat_eq number n then option_map (subscribing self.old.config patterns.now) (subscriber_in self.old number)
-            else subscriber_in self.old n)) }
-        ensures err { OnErr result ((n : ℕ) → subscriber_in self.new n ≡ subscriber_in self.old n) }
+        ensures ok { OnOk result ((n : ℕ) → kept_in self.new n
+            ≡ (if nat_eq number n then option_map (after (subscribed self.old.config patterns.now)) (kept_in self.old number)
+            else kept_in self.old n)) }
+        ensures err { OnErr result ((n : ℕ) → kept_in self.new n ≡ kept_in self.old n) }
         ensures others { (self.new.config ≡ self.old.config) × (self.new.connects ≡ self.old.connects) }
         ensures counted { AreCounted self.new }
         ensures held { AreHeld self.old → AreHeld self.new }
@@ -37,7 +38,7 @@ impl Sessions {
             return Ok(());
         }
         let fresh = self.tree.add_all(alloc, patterns, number)?;
-        if session.subscribe(&self.config, fresh) {
+        if session.subscribe(&self.config, patterns, fresh) {
             self.tree.remove_all(number);
         }
         Ok(())
@@ -46,9 +47,9 @@ impl Sessions {
     /// An unsubscription of a session from these patterns.
     pub(crate) fn unsubscribe(&mut self, number: u64, patterns: &[Pattern])
         requires counted { AreCounted self.old }
-        ensures sessions { (n : ℕ) → subscriber_in self.new n
-            ≡ (if nat_eq number n then option_map (unsubscribing patterns.now) (subscriber_in self.old number)
-            else subscriber_in self.old n) }
+        ensures sessions { (n : ℕ) → kept_in self.new n
+            ≡ (if nat_eq number n then option_map (after (unsubscribed patterns.now)) (kept_in self.old number)
+            else kept_in self.old n) }
         ensures others { (self.new.config ≡ self.old.config) × (self.new.connects ≡ self.old.connects) }
         ensures counted { AreCounted self.old → AreCounted self.new }
         ensures held { AreHeld self.old → AreHeld self.new }
@@ -57,20 +58,20 @@ impl Sessions {
             return;
         };
         let gone = self.tree.remove_each(patterns, number);
-        session.unsubscribe(gone);
+        session.unsubscribe(patterns, gone);
     }
 
     /// An event of a session that is here and that has not overflowed, with two handles of it. Where the session overflows,
     /// its patterns are in force no longer.
     pub(crate) fn receive(&mut self, place: u64, number: u64, keep: SharedEvent, give: SharedEvent)
-        requires here { IfSome (seat_in self.old number) (λ (seat : Seat). (seat.overflow ≡ false) × Countable seat) }
+        requires here { IfSome (kept_in self.old number) (λ (k : Kept). (k.overflow ≡ false) × Countable k) }
         requires room { HasRoom self.old number }
         requires same { give ≡ keep }
-        ensures sessions { (n : ℕ) → subscriber_in self.new n
-            ≡ (if nat_eq number n then option_map (receiving self.old.config keep) (subscriber_in self.old number)
-            else subscriber_in self.old n) }
+        ensures sessions { (n : ℕ) → kept_in self.new n
+            ≡ (if nat_eq number n then option_map (after (received self.old.config (published_at place keep))) (kept_in self.old number)
+            else kept_in self.old n) }
         ensures connects { (p : ℕ) → connect_at self.new.connects p
-            ≡ delivery_filing self.old.config place keep (seat_in self.old number) (connect_at self.old.connects) p }
+            ≡ filing_each place (answers_by (received self.old.config (published_at place keep)) (kept_in self.old number)) (connect_at self.old.connects) p }
         ensures room { (n : ℕ) → nat_eq number n ≡ false → HasRoom self.old n → HasRoom self.new n }
         ensures config { self.new.config ≡ self.old.config }
         ensures counted { AreCounted self.old → AreCounted self.new }
@@ -79,7 +80,7 @@ impl Sessions {
         let Some(session) = self.by_number.get_mut(&number) else {
             return;
         };
-        match session.deliver(&self.config, keep, give) {
+        match session.deliver(&self.config, place, keep, give) {
             Delivery::Waits => {}
             Delivery::Given(answered) => self.connects.file(place, answered),
             Delivery::Overflowed => {

@@ -6,9 +6,11 @@ ghost use Rattle.bx_names.specs.Kinds.{is_broadcast};
 ghost use Rattle.bx_session.specs.declared.answered.Answered.{Answered};
 ghost use Rattle.bx_connects.specs.declared.connects.ConnectState.TheVariants.{Filed};
 ghost use Rattle.bx_connects.specs.Connects.{connect_at, session_at};
-ghost use Rattle.bx_shard.specs.Publishing.{AllReady, Hears, Turns, hearing, parcel, reaches};
-ghost use Rattle.bx_shard.specs.Subscribers.{Subscriber};
-ghost use Rattle.bx_shard.specs.Sessions.{AreCounted, AreCountable, AreHeld, HasRoom, patterns_in, seat_in, subscriber_in};
+ghost use Rattle.bx_entry.specs.Keeping.{after};
+ghost use Rattle.bx_entry.specs.Sessions.{published};
+ghost use Rattle.bx_shard.specs.Effects.{answers_by};
+ghost use Rattle.bx_shard.specs.Publishing.{AllReady, Turns, parcel, published_at, reaches};
+ghost use Rattle.bx_shard.specs.Sessions.{AreCounted, AreCountable, AreHeld, HasRoom, kept_in, patterns_in};
 
 use crate::sessions::Sessions;
 use bx_message::SharedEvent;
@@ -71,7 +73,7 @@ impl Sessions {
 
     // Makes room for one event of each of these sessions.
     fn reserve_all(&mut self, parcels: &[Parcel]) -> Result<(), AllocError>
-        ensures seats { (n : ℕ) → seat_in self.new n ≡ seat_in self.old n }
+        ensures sessions { (n : ℕ) → kept_in self.new n ≡ kept_in self.old n }
         ensures room { OnOk result (All (λ x. HasRoom self.new x.number) parcels.now) }
         ensures others { (self.new.config ≡ self.old.config) × (self.new.tree ≡ self.old.tree) × (self.new.connects ≡ self.old.connects) }
     {
@@ -106,14 +108,15 @@ impl Sessions {
         requires counted { AreCounted self.old }
         requires held { AreHeld self.old }
         requires countable { AreCountable self.old }
-        ensures sessions { OnOk result ((n : ℕ) → subscriber_in self.new n
-            ≡ option_map (hearing self.old.config event.now) (subscriber_in self.old n)) }
-        ensures given { OnOk result ((n : ℕ) → (s : Subscriber) → (a : Answered)
-            → Hears self.old event.now n s a → connect_at self.new.connects a.place ≡ Some (Filed n place a.answer)) }
+        ensures sessions { OnOk result ((n : ℕ) → kept_in self.new n
+            ≡ option_map (after (published self.old.config (published_at place event.now))) (kept_in self.old n)) }
+        ensures given { OnOk result ((n : ℕ) → (a : Answered)
+            → Contains (answers_by (published self.old.config (published_at place event.now)) (kept_in self.old n)) a → connect_at self.new.connects a.place ≡ Some (Filed n place a.answer)) }
         ensures known { OnOk result ((p : ℕ) → session_at (connect_at self.new.connects p) ≡ session_at (connect_at self.old.connects p)) }
-        ensures kept { OnOk result ((p : ℕ) → ((n : ℕ) → (s : Subscriber) → (a : Answered) → Hears self.old event.now n s a → a.place ≢ p)
+        ensures kept { OnOk result ((p : ℕ) → ((n : ℕ) → (a : Answered)
+            → Contains (answers_by (published self.old.config (published_at place event.now)) (kept_in self.old n)) a → a.place ≢ p)
             → connect_at self.new.connects p ≡ connect_at self.old.connects p) }
-        ensures refused { OnErr result (((n : ℕ) → subscriber_in self.new n ≡ subscriber_in self.old n) × (self.new.connects ≡ self.old.connects)) }
+        ensures refused { OnErr result (((n : ℕ) → kept_in self.new n ≡ kept_in self.old n) × (self.new.connects ≡ self.old.connects)) }
         ensures counted { AreCounted self.new }
         ensures held { AreHeld self.new }
         ensures config { self.new.config ≡ self.old.config }

@@ -1,17 +1,18 @@
 //! The sessions that stand in a shard.
-ghost use Rattle.std.specs.Prelude.{◌≡◌, ◌<◌, ◌≤◌, ◌-◌, ℕ, nat_eq, Some, None, [], length, option_map, is_some, if◌then◌else◌, OnOk, OnErr, IfSome, false, Option, not, ◌&&◌, ◌||◌};
+ghost use Rattle.std.specs.Prelude.{◌≡◌, ◌<◌, ◌-◌, ℕ, nat_eq, Some, None, [], ◌∷◌, length, option_map, is_some, if◌then◌else◌, OnOk, OnErr, IfSome, false, Option, not, ◌&&◌, ◌||◌};
 ghost use Rattle.std.specs.Map.{keys_of};
 ghost use Rattle.bx_tree.specs.Patterns.{patterns_of};
 ghost use Rattle.bx_advice.specs.declared.advice.Case.TheVariants.{Disconnected};
-ghost use Rattle.bx_session.specs.Seats.{Seat, opened};
-ghost use Rattle.bx_session.specs.Steps.{Countable, connected, deadline_of, released, tick_answer, ticked};
+ghost use Rattle.bx_entry.specs.Keeping.{Kept, after, kept};
+ghost use Rattle.bx_entry.specs.Sessions.{begun, connected, expired, released, unopened};
+ghost use Rattle.bx_session.specs.Views.{Countable};
 ghost use Rattle.bx_session.specs.declared.answered.Answered.{Answered};
 ghost use Rattle.futures.specs.declared.task.waker.Waker.{Waker};
 ghost use Rattle.bx_connects.specs.declared.connects.ConnectState.TheVariants.{Held};
-ghost use Rattle.bx_connects.specs.Connects.{connect_at, count_held, filing};
-ghost use Rattle.bx_shard.specs.Sessions.{AreCounted, AreHeld, HasRoom, forgetting, patterns_in, seat_in};
+ghost use Rattle.bx_connects.specs.Connects.{connect_at, count_held};
+ghost use Rattle.bx_shard.specs.Sessions.{AreCounted, AreHeld, HasRoom, kept_in, patterns_in};
 ghost use Rattle.bx_shard.specs.Heirs.{AreClean};
-ghost use Rattle.bx_shard.specs.Effects.{connect_filing, released_by, ticked_answer};
+ghost use Rattle.bx_shard.specs.Effects.{answers_by, connect_filing, filing_each, forgetting, held_in};
 
 use bx_advice::Config;
 use bx_connects::Connects;
@@ -34,7 +35,7 @@ impl Sessions {
     /// No session.
     pub(crate) fn new(alloc: Global, config: Config) -> Sessions
         ensures config { result.config ≡ config }
-        ensures seats { (n : ℕ) → seat_in result n ≡ None }
+        ensures sessions { (n : ℕ) → kept_in result n ≡ None }
         ensures patterns { result.tree ≡ [] }
         ensures connects { (p : ℕ) → connect_at result.connects p ≡ None }
     {
@@ -48,21 +49,21 @@ impl Sessions {
 
     /// Whether the session is here.
     pub(crate) fn has(&self, number: u64) -> bool
-        ensures { result ≡ is_some (seat_in self.now number) }
+        ensures { result ≡ is_some (kept_in self.now number) }
     {
         self.by_number.contains_key(&number)
     }
 
     /// Opens a session that is not here.
     pub(crate) fn open(&mut self, alloc: Global, number: u64, ack: bool) -> Result<(), AllocError>
-        ensures seats { OnOk result ((n : ℕ) → seat_in self.new n
-            ≡ (if nat_eq number n then Some (opened self.old.config number ack) else seat_in self.old n)) }
-        ensures err { OnErr result ((n : ℕ) → seat_in self.new n ≡ seat_in self.old n) }
+        ensures sessions { OnOk result ((n : ℕ) → kept_in self.new n
+            ≡ (if nat_eq number n then Some (after (λ s. begun ack s s.stage) (kept (unopened number))) else kept_in self.old n)) }
+        ensures err { OnErr result ((n : ℕ) → kept_in self.new n ≡ kept_in self.old n) }
         ensures others { (self.new.config ≡ self.old.config) × (self.new.tree ≡ self.old.tree) × (self.new.connects ≡ self.old.connects) }
-        ensures counted { seat_in self.old number ≡ None → AreCounted self.old → AreCounted self.new }
-        ensures held { seat_in self.old number ≡ None → AreHeld self.old → AreHeld self.new }
+        ensures counted { kept_in self.old number ≡ None → AreCounted self.old → AreCounted self.new }
+        ensures held { kept_in self.old number ≡ None → AreHeld self.old → AreHeld self.new }
     {
-        let session = Session::open(alloc, &self.config, number, ack);
+        let session = Session::open(alloc, number, ack);
         self.by_number.insert(number, session)?;
         Ok(())
     }
@@ -76,12 +77,12 @@ impl Sessions {
         acked: Option<u64>,
     ) -> Result<(), AllocError>
         requires fresh { connect_at self.old.connects connect.place ≡ None }
-        requires countable { IfSome (seat_in self.old number) Countable }
-        ensures seats { OnOk result ((n : ℕ) → seat_in self.new n
-            ≡ (if nat_eq number n then option_map (connected connect acked) (seat_in self.old number) else seat_in self.old n)) }
+        requires countable { IfSome (kept_in self.old number) Countable }
+        ensures sessions { OnOk result ((n : ℕ) → kept_in self.new n
+            ≡ (if nat_eq number n then option_map (after (connected self.old.config connect acked)) (kept_in self.old number) else kept_in self.old n)) }
         ensures connects { OnOk result ((p : ℕ) → connect_at self.new.connects p
-            ≡ connect_filing self.old.config number connect acked (seat_in self.old number) (connect_at self.old.connects) p) }
-        ensures err { OnErr result (((n : ℕ) → seat_in self.new n ≡ seat_in self.old n)
+            ≡ connect_filing number connect (connected self.old.config connect acked) (kept_in self.old number) (connect_at self.old.connects) p) }
+        ensures err { OnErr result (((n : ℕ) → kept_in self.new n ≡ kept_in self.old n)
             × ((p : ℕ) → connect_at self.new.connects p ≡ connect_at self.old.connects p)) }
         ensures others { (self.new.config ≡ self.old.config) × (self.new.tree ≡ self.old.tree) }
         ensures counted { AreCounted self.old → AreCounted self.new }
@@ -112,7 +113,7 @@ impl Sessions {
 
     /// Makes room for one event of a session.
     pub(crate) fn reserve(&mut self, number: u64) -> Result<(), AllocError>
-        ensures seats { (n : ℕ) → seat_in self.new n ≡ seat_in self.old n }
+        ensures sessions { (n : ℕ) → kept_in self.new n ≡ kept_in self.old n }
         ensures room { OnOk result (HasRoom self.new number) }
         ensures kept { (n : ℕ) → HasRoom self.old n → HasRoom self.new n }
         ensures others { (self.new.config ≡ self.old.config) × (self.new.tree ≡ self.old.tree) × (self.new.connects ≡ self.old.connects) }
@@ -125,12 +126,12 @@ impl Sessions {
 
     /// Ends the hold of a session where it ends at this moment or ended before.
     pub(crate) fn tick(&mut self, place: u64, moment: u64, number: u64)
-        ensures seats { (n : ℕ) → seat_in self.new n
-            ≡ (if nat_eq number n then option_map (ticked moment) (seat_in self.old number) else seat_in self.old n) }
+        ensures sessions { (n : ℕ) → kept_in self.new n
+            ≡ (if nat_eq number n then option_map (after (expired self.old.config place moment)) (kept_in self.old number) else kept_in self.old n) }
         ensures connects { (p : ℕ) → connect_at self.new.connects p
-            ≡ filing place (ticked_answer self.old.config moment (seat_in self.old number)) (connect_at self.old.connects) p }
+            ≡ filing_each place (answers_by (expired self.old.config place moment) (kept_in self.old number)) (connect_at self.old.connects) p }
         ensures fewer { (a : Answered) → (session : ℕ) → (deadline : Option ℕ) → (waker : Option Waker)
-            → ticked_answer self.old.config moment (seat_in self.old number) ≡ Some a
+            → answers_by (expired self.old.config place moment) (kept_in self.old number) ≡ a ∷ []
             → connect_at self.old.connects a.place ≡ Some (Held session deadline waker)
             → count_held self.new.connects < count_held self.old.connects }
         ensures others { (self.new.config ≡ self.old.config) × (self.new.tree ≡ self.old.tree) }
@@ -147,29 +148,29 @@ impl Sessions {
 
     /// Closes a session that a tick ends. A connect that it still held is known no longer.
     pub(crate) fn close(&mut self, number: u64)
-        ensures seats { (n : ℕ) → seat_in self.new n ≡ (if nat_eq number n then None else seat_in self.old n) }
+        ensures sessions { (n : ℕ) → kept_in self.new n ≡ (if nat_eq number n then None else kept_in self.old n) }
         ensures patterns { (n : ℕ) → patterns_in self.new n ≡ (if nat_eq number n then [] else patterns_in self.old n) }
         ensures connects { (p : ℕ) → connect_at self.new.connects p
-            ≡ forgetting (released_by self.old.config (seat_in self.old number)) (connect_at self.old.connects) p }
+            ≡ forgetting (held_in (kept_in self.old number)) (connect_at self.old.connects) p }
         ensures config { self.new.config ≡ self.old.config }
         ensures counted { AreCounted self.old → AreCounted self.new }
         ensures held { AreHeld self.old → AreHeld self.new }
     {
         self.tree.remove_all(number);
-        let Some(mut session) = self.by_number.swap_remove(&number) else {
+        let Some(session) = self.by_number.swap_remove(&number) else {
             return;
         };
-        if let Some(answered) = session.close(&self.config) {
-            self.connects.forget(answered.place);
+        if let Some(place) = session.held_place() {
+            self.connects.forget(place);
         }
     }
 
     /// Closes a session, whose held connect is answered as one that left.
     pub(crate) fn disconnect(&mut self, place: u64, number: u64)
-        ensures seats { (n : ℕ) → seat_in self.new n ≡ (if nat_eq number n then None else seat_in self.old n) }
+        ensures sessions { (n : ℕ) → kept_in self.new n ≡ (if nat_eq number n then None else kept_in self.old n) }
         ensures patterns { (n : ℕ) → patterns_in self.new n ≡ (if nat_eq number n then [] else patterns_in self.old n) }
         ensures connects { (p : ℕ) → connect_at self.new.connects p
-            ≡ filing place (released_by self.old.config (seat_in self.old number)) (connect_at self.old.connects) p }
+            ≡ filing_each place (answers_by (released self.old.config place Disconnected) (kept_in self.old number)) (connect_at self.old.connects) p }
         ensures config { self.new.config ≡ self.old.config }
         ensures counted { AreCounted self.old → AreCounted self.new }
         ensures held { AreHeld self.old → AreHeld self.new }
@@ -197,9 +198,9 @@ impl Sessions {
         patterns: &[Pattern],
     ) -> Result<(), AllocError>
         requires clean { AreClean self.old }
-        ensures seats { OnOk result ((n : ℕ) → is_some (seat_in self.new n) ≡ (nat_eq number n || is_some (seat_in self.old n))) }
+        ensures sessions { OnOk result ((n : ℕ) → is_some (kept_in self.new n) ≡ (nat_eq number n || is_some (kept_in self.old n))) }
         ensures patterns { OnOk result ((n : ℕ) → patterns_in self.new n
-            ≡ (if nat_eq number n && not (is_some (seat_in self.old n)) then patterns.now else patterns_in self.old n)) }
+            ≡ (if nat_eq number n && not (is_some (kept_in self.old n)) then patterns.now else patterns_in self.old n)) }
         ensures clean { OnOk result (AreClean self.new) }
         ensures others { (self.new.config ≡ self.old.config) × (self.new.connects ≡ self.old.connects) }
     {
@@ -212,8 +213,8 @@ impl Sessions {
 
     /// Puts a session in the place that was made for one of this number.
     pub(crate) fn settle(&mut self, number: u64, session: Session)
-        ensures seats { (n : ℕ) → seat_in self.new n
-            ≡ (if nat_eq number n then option_map (λ _. session.seat) (seat_in self.old number) else seat_in self.old n) }
+        ensures sessions { (n : ℕ) → kept_in self.new n
+            ≡ (if nat_eq number n then option_map (λ _. session.kept) (kept_in self.old number) else kept_in self.old n) }
         ensures others { (self.new.config ≡ self.old.config) × (self.new.tree ≡ self.old.tree) × (self.new.connects ≡ self.old.connects) }
     {
         if let Some(lent) = self.by_number.get_mut(&number) {

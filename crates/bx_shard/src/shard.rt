@@ -1,7 +1,8 @@
 //! One shard: the sessions that are placed in it, entry by entry.
 ghost use Rattle.std.specs.Prelude.{◌≡◌, ◌≤◌, ℕ, true, None};
 ghost use Rattle.bx_connects.specs.Connects.{connect_at};
-ghost use Rattle.bx_shard.specs.Sessions.{AreHeld, has_formed_at_most, is_counted, patterns_in, seat_in};
+ghost use Rattle.bx_shard.specs.Props.{holds_props};
+ghost use Rattle.bx_shard.specs.Sessions.{AreCounted, AreHeld, has_formed_at_most, kept_in};
 
 use crate::sessions::Sessions;
 use bx_advice::Config;
@@ -29,9 +30,9 @@ pub struct Shard<P> {
     pub(crate) sessions: Sessions,
     ghost some_shard: { 1 ≤ shards },
     ghost shards_in_range: { shards ≤ 64 },
-    ghost counted: { (n : ℕ) → is_counted (seat_in sessions n) (patterns_in sessions n) ≡ true },
+    ghost counted: { AreCounted sessions } by { Prim.hlevel holds_props },
     ghost held: { AreHeld sessions },
-    ghost batches: { (n : ℕ) → has_formed_at_most place (seat_in sessions n) ≡ true },
+    ghost batches: { (n : ℕ) → has_formed_at_most place (kept_in sessions n) ≡ true },
     ghost fresh: { (p : ℕ) → place ≤ p → connect_at sessions.connects p ≡ None },
 }
 

@@ -1,13 +1,14 @@
 //! A tick, as the sessions of a shard get it.
-ghost use Rattle.std.specs.Prelude.{◌≡◌, ◌≢◌, ◌==◌, ℕ, Some, None, option_map, if◌then◌else◌};
+ghost use Rattle.std.specs.Prelude.{◌≡◌, ◌≢◌, ◌==◌, ℕ, Some, None, option_map, if◌then◌else◌, Contains};
 ghost use Rattle.std.specs.List.{list_any};
+ghost use Rattle.bx_entry.specs.Keeping.{after};
+ghost use Rattle.bx_entry.specs.Sessions.{expired};
 ghost use Rattle.bx_session.specs.declared.answered.Answered.{Answered};
-ghost use Rattle.bx_session.specs.Steps.{tick_answer, ticked};
 ghost use Rattle.bx_connects.specs.declared.connects.ConnectState.TheVariants.{Filed};
 ghost use Rattle.bx_connects.specs.Connects.{connect_at, session_at};
-ghost use Rattle.bx_shard.specs.Sessions.{AreCounted, AreHeld, subscriber_in};
+ghost use Rattle.bx_shard.specs.Effects.{answers_by};
+ghost use Rattle.bx_shard.specs.Sessions.{AreCounted, AreHeld, kept_in};
 ghost use Rattle.bx_shard.specs.States.{let_go};
-ghost use Rattle.bx_shard.specs.Subscribers.{Subscriber, reseated};
 
 use crate::sessions::Sessions;
 
@@ -16,13 +17,11 @@ impl Sessions {
     /// holds that end, not the sessions that are here.
     pub(crate) fn end_holds(&mut self, place: u64, moment: u64)
         requires held { AreHeld self.old }
-        ensures sessions { (n : ℕ) → subscriber_in self.new n
-            ≡ option_map (λ (s : Subscriber). reseated (ticked moment s.seat) s) (subscriber_in self.old n) }
-        ensures given { (n : ℕ) → (s : Subscriber) → (a : Answered) → subscriber_in self.old n ≡ Some s
-            → tick_answer self.old.config moment s.seat ≡ Some a → connect_at self.new.connects a.place ≡ Some (Filed n place a.answer) }
+        ensures sessions { (n : ℕ) → kept_in self.new n ≡ option_map (after (expired self.old.config place moment)) (kept_in self.old n) }
+        ensures given { (n : ℕ) → (a : Answered) → Contains (answers_by (expired self.old.config place moment) (kept_in self.old n)) a
+            → connect_at self.new.connects a.place ≡ Some (Filed n place a.answer) }
         ensures known { (p : ℕ) → session_at (connect_at self.new.connects p) ≡ session_at (connect_at self.old.connects p) }
-        ensures kept { (p : ℕ) → ((n : ℕ) → (s : Subscriber) → (a : Answered) → subscriber_in self.old n ≡ Some s
-            → tick_answer self.old.config moment s.seat ≡ Some a → a.place ≢ p)
+        ensures kept { (p : ℕ) → ((n : ℕ) → (a : Answered) → Contains (answers_by (expired self.old.config place moment) (kept_in self.old n)) a → a.place ≢ p)
             → connect_at self.new.connects p ≡ connect_at self.old.connects p }
         ensures counted { AreCounted self.old → AreCounted self.new }
         ensures held { AreHeld self.new }
@@ -36,8 +35,8 @@ impl Sessions {
     /// Closes these sessions.
     pub(crate) fn close_all(&mut self, numbers: &[u64])
         requires held { AreHeld self.old }
-        ensures sessions { (n : ℕ) → subscriber_in self.new n
-            ≡ (if list_any (λ m. m == n) numbers.now then None else subscriber_in self.old n) }
+        ensures sessions { (n : ℕ) → kept_in self.new n
+            ≡ (if list_any (λ m. m == n) numbers.now then None else kept_in self.old n) }
         ensures connects { (p : ℕ) → connect_at self.new.connects p ≡ let_go numbers.now (connect_at self.old.connects p) }
         ensures counted { AreCounted self.old → AreCounted self.new }
         ensures held { AreHeld self.new }

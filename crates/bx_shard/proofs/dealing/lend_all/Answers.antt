@@ -21,6 +21,6 @@ loop-shard-preserved g c =
     record {
       lent = subst (λ ss. AreLent place_of c.args.count ss c.args.config c.lend_from.new.heirs.shards.items) (sym (ap (map (λ s. s.sessions)) more ∙ map-append (λ s. s.sessions) (take i xs) (item ∷ [])))
           (lent_more place_of c.args.count c.args.config (map (λ s. s.sessions) (take i xs)) item.sessions c.loop-shard.heirs.shards.items c.lend_from.new.heirs.shards.items
-          c.loop-shard.invariant.lent one.seats one.patterns one.connects one.many one.configs one.apart);
+          c.loop-shard.invariant.lent one.sessions one.patterns one.connects one.many one.configs one.apart);
       clean = one.clean;
     }

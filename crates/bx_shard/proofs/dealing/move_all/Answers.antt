@@ -19,7 +19,7 @@ loop-shard-preserved g c =
       along = λ last after. c.loop-shard.invariant.along last
           (subst (λ (xs : List (Shard g.row.P.Denot)). AreMoved place_of c.args.count (map (λ s. s.sessions) xs) heirs last) (sym c.in-Some.ensures.steps.0)
           (moved_more place_of c.args.count x.sessions (map (λ s. s.sessions) rest) heirs c.move_sessions.new.heirs.shards.items c.move_answers.new.heirs.shards.items last
-          c.move_sessions.ensures.seats c.move_sessions.ensures.patterns c.move_sessions.ensures.connects c.move_answers.ensures.connects c.move_answers.ensures.sessions after));
+          c.move_sessions.ensures.sessions c.move_sessions.ensures.patterns c.move_sessions.ensures.connects c.move_answers.ensures.connects c.move_answers.ensures.sessions after));
     }
 
 pub returns : goal.returns

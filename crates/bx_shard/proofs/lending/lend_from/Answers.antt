@@ -5,19 +5,19 @@ use Rattle.std.specs.Option.{option_or}
 use Rattle.bx_connects.specs.declared.connects.ConnectState.{ConnectState}
 use Rattle.bx_connects.specs.Connects.{connect_at, filing_at, hold_at, known_as}
 use Rattle.std.specs.Map.{lookup}
-use Rattle.bx_shard.specs.Heirs.{connect_of, lent_as, patterns_at, seat_of}
+use Rattle.bx_shard.specs.Heirs.{connect_of, lent_as, patterns_at, kept_of}
 use Rattle.bx_shard.specs.Sessions.{patterns_in}
 use Rattle.bx_shard.proofs.HeirLemmas.{on_ok}
 use Rattle.bx_shard.proofs.MoveLemmas.{lent_at_both, some_mapped, unknown}
 use Rattle.bx_shard.proofs.lending.lend_from.Goals as goal
 
-pub returns-clause-seats : goal.returns-clause-seats
-returns-clause-seats g c =
+pub returns-clause-sessions : goal.returns-clause-sessions
+returns-clause-sessions g c =
     let old = c.args.old.now in
     on_ok c.lend_connects-2.result
     (λ same k n.
-    ap is_some (same.seats k n ∙ c.in_ok-lend_connects.ensures.sessions.seats k n) ∙ c.in_ok-lend_sessions.ensures.seats k n
-    ∙ ap (λ b. (nat_eq (g.P.Placing.place_of c.args.placing.now n c.args.count) k && b) || is_some (seat_of c.args.heirs.now.shards.items k n))
+    ap is_some (same.sessions k n ∙ c.in_ok-lend_connects.ensures.sessions.sessions k n) ∙ c.in_ok-lend_sessions.ensures.sessions k n
+    ∙ ap (λ b. (nat_eq (g.P.Placing.place_of c.args.placing.now n c.args.count) k && b) || is_some (kept_of c.args.heirs.now.shards.items k n))
     (ap (list_any (nat_eq n)) c.numbers.ensures ∙ sym (is_some-lookup (nat_eq n) old.by_number.entries) ∙ some_mapped (lookup (nat_eq n) old.by_number.entries)))
     c.lend_connects-2.ensures.sessions
 
@@ -27,7 +27,7 @@ returns-clause-patterns g c =
     on_ok c.lend_connects-2.result
     (λ same k n.
     same.patterns k n ∙ c.in_ok-lend_connects.ensures.sessions.patterns k n ∙ c.in_ok-lend_sessions.ensures.patterns k n
-    ∙ ap (λ b. cond ((nat_eq (g.P.Placing.place_of c.args.placing.now n c.args.count) k && b) && not (is_some (seat_of c.args.heirs.now.shards.items k n))) (patterns_in old n) (patterns_at c.args.heirs.now.shards.items k n))
+    ∙ ap (λ b. cond ((nat_eq (g.P.Placing.place_of c.args.placing.now n c.args.count) k && b) && not (is_some (kept_of c.args.heirs.now.shards.items k n))) (patterns_in old n) (patterns_at c.args.heirs.now.shards.items k n))
     (ap (list_any (nat_eq n)) c.numbers.ensures ∙ sym (is_some-lookup (nat_eq n) old.by_number.entries) ∙ some_mapped (lookup (nat_eq n) old.by_number.entries)))
     c.lend_connects-2.ensures.sessions
 

@@ -19,7 +19,7 @@ loop-connect-preserved g c =
       sessions = record {
         many = one.sessions.many ∙ loop.invariant.sessions.many;
         configs = λ k. one.sessions.configs k ∙ loop.invariant.sessions.configs k;
-        seats = λ k n. one.sessions.seats k n ∙ loop.invariant.sessions.seats k n;
+        sessions = λ k n. one.sessions.sessions k n ∙ loop.invariant.sessions.sessions k n;
         patterns = λ k n. one.sessions.patterns k n ∙ loop.invariant.sessions.patterns k n;
       };
     }

@@ -1,5 +1,5 @@
 use Rattle.std.proofs.Common.{sym, ap, ◌∙◌}
-use Rattle.bx_shard.specs.Heirs.{seat_by, seat_of, settled}
+use Rattle.bx_shard.specs.Heirs.{kept_by, kept_of, settled}
 use Rattle.bx_shard.proofs.MoveLemmas.{session_moved}
 use Rattle.bx_shard.proofs.moving.move_sessions.Goals as goal
 
@@ -10,11 +10,11 @@ loop-number-preserved g c =
     let es = c.pop.new.self.entries in
     let one = c.settle.ensures in
     record {
-      seats = λ k n.
-          session_moved place_of c.args.count k n es c.in-Some.number c.place.result c.in-Some.session (seat_of loop.heirs.shards.items k n) (seat_of c.settle.new.self.shards.items k n)
-          c.place.ensures.same (one.seats k n)
-          ∙ ap (λ xs. settled place_of c.args.count k n (seat_by xs n) (seat_of loop.heirs.shards.items k n)) (sym c.in-Some.ensures.entries)
-          ∙ loop.invariant.seats k n;
+      sessions = λ k n.
+          session_moved place_of c.args.count k n es c.in-Some.number c.place.result c.in-Some.session (kept_of loop.heirs.shards.items k n) (kept_of c.settle.new.self.shards.items k n)
+          c.place.ensures.same (one.sessions k n)
+          ∙ ap (λ xs. settled place_of c.args.count k n (kept_by xs n) (kept_of loop.heirs.shards.items k n)) (sym c.in-Some.ensures.entries)
+          ∙ loop.invariant.sessions k n;
       patterns = λ k n. one.patterns k n ∙ loop.invariant.patterns k n;
       connects = record {
         many = one.connects.many ∙ loop.invariant.connects.many;

@@ -1,11 +1,11 @@
 use Rattle.std.proofs.Common.{◌≡◌, ℕ, length}
-use Rattle.bx_shard.specs.Heirs.{SameConnects, patterns_at, seat_by, seat_of, settled}
+use Rattle.bx_shard.specs.Heirs.{SameConnects, patterns_at, kept_by, kept_of, settled}
 use Rattle.bx_shard.proofs.moving.move_sessions.Given as goal
 
 abbrev pub invariant-loop-number : goal.invariant-loop-number
 invariant-loop-number g l = record {
-  seats : (k n : ℕ) → settled (g.P.Placing.place_of l.placing) l.count k n (seat_by l.by_number.entries n) (seat_of l.heirs.shards.items k n)
-      ≡ settled (g.P.Placing.place_of l.placing) l.count k n (seat_by l.initial.by_number.entries n) (seat_of l.initial.heirs.shards.items k n);
+  sessions : (k n : ℕ) → settled (g.P.Placing.place_of l.placing) l.count k n (kept_by l.by_number.entries n) (kept_of l.heirs.shards.items k n)
+      ≡ settled (g.P.Placing.place_of l.placing) l.count k n (kept_by l.initial.by_number.entries n) (kept_of l.initial.heirs.shards.items k n);
   patterns : (k n : ℕ) → patterns_at l.heirs.shards.items k n ≡ patterns_at l.initial.heirs.shards.items k n;
   connects : SameConnects l.initial.heirs.shards.items l.heirs.shards.items;
 }

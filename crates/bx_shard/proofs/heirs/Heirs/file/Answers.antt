@@ -4,7 +4,7 @@ use Rattle.std.proofs.lemmas.Option.{slice_get_read}
 use Rattle.bx_connects.specs.declared.connects.ConnectState.{ConnectState}
 use Rattle.bx_connects.specs.Connects.{connect_at, filed_as}
 use Rattle.bx_shard.specs.declared.sessions.Sessions.{Sessions}
-use Rattle.bx_shard.specs.Heirs.{connect_there, patterns_there, seat_there}
+use Rattle.bx_shard.specs.Heirs.{connect_there, patterns_there, kept_there}
 use Rattle.bx_shard.proofs.HeirLemmas.{at_each, at_own}
 use Rattle.bx_shard.proofs.heirs.Heirs.file.Goals as goal
 
@@ -31,6 +31,6 @@ returns-in-Some-clause-sessions c =
     record {
       many = length-set xs i new;
       configs = at_each (λ o u b. option_map (λ (s : Sessions). s.config) u ≡ option_map (λ (s : Sessions). s.config) o) xs i old new within here refl (λ o. refl);
-      seats = λ k n. at_each (λ o u b. seat_there u n ≡ seat_there o n) xs i old new within here refl (λ o. refl) k;
+      sessions = λ k n. at_each (λ o u b. kept_there u n ≡ kept_there o n) xs i old new within here refl (λ o. refl) k;
       patterns = λ k n. at_each (λ o u b. patterns_there u n ≡ patterns_there o n) xs i old new within here refl (λ o. refl) k;
     }

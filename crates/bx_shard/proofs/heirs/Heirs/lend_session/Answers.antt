@@ -3,7 +3,7 @@ use Rattle.std.proofs.lemmas.List.{length-set}
 use Rattle.std.proofs.lemmas.Option.{slice_get_read}
 use Rattle.bx_connects.specs.Connects.{connect_at}
 use Rattle.bx_shard.specs.declared.sessions.Sessions.{Sessions}
-use Rattle.bx_shard.specs.Heirs.{connect_there, patterns_there, seat_there}
+use Rattle.bx_shard.specs.Heirs.{connect_there, patterns_there, kept_there}
 use Rattle.bx_shard.proofs.HeirLemmas.{at_each, on_ok}
 use Rattle.bx_shard.proofs.heirs.Heirs.lend_session.Goals as goal
 
@@ -15,10 +15,10 @@ lend-requires c =
     let new = c.in-Some.heir.now in
     let within : i < length xs = c.requires.within in
     let here : slice_get xs i ≡ Some old = slice_get_read xs c.args.self.now.shards.len i old (omega (arith, c.args.self.now.shards.ok.0)) (omega (arith, c.args.self.now.shards.ok.0, c.requires.within)) c.in-Some.ensures.value in
-    record { clean = λ n none. sym (ap (λ o. patterns_there o n) here) ∙ c.requires.clean i n (ap (λ o. seat_there o n) here ∙ none) }
+    record { clean = λ n none. sym (ap (λ o. patterns_there o n) here) ∙ c.requires.clean i n (ap (λ o. kept_there o n) here ∙ none) }
 
-pub returns-clause-seats : goal.returns-clause-seats
-returns-clause-seats c =
+pub returns-clause-sessions : goal.returns-clause-sessions
+returns-clause-sessions c =
     let xs = c.args.self.now.shards.items in
     let i = c.args.slot in
     let old = c.in-Some.heir.now in
@@ -26,8 +26,8 @@ returns-clause-seats c =
     let within : i < length xs = c.requires.within in
     let here : slice_get xs i ≡ Some old = slice_get_read xs c.args.self.now.shards.len i old (omega (arith, c.args.self.now.shards.ok.0)) (omega (arith, c.args.self.now.shards.ok.0, c.requires.within)) c.in-Some.ensures.value in
     on_ok c.lend.result
-    (λ lent k n. at_each (λ o u b. is_some (seat_there u n) ≡ ((b && nat_eq c.args.number n) || is_some (seat_there o n))) xs i old new within here (lent n) (λ o. refl) k)
-    c.lend.ensures.seats
+    (λ lent k n. at_each (λ o u b. is_some (kept_there u n) ≡ ((b && nat_eq c.args.number n) || is_some (kept_there o n))) xs i old new within here (lent n) (λ o. refl) k)
+    c.lend.ensures.sessions
 
 pub returns-clause-patterns : goal.returns-clause-patterns
 returns-clause-patterns c =
@@ -38,7 +38,7 @@ returns-clause-patterns c =
     let within : i < length xs = c.requires.within in
     let here : slice_get xs i ≡ Some old = slice_get_read xs c.args.self.now.shards.len i old (omega (arith, c.args.self.now.shards.ok.0)) (omega (arith, c.args.self.now.shards.ok.0, c.requires.within)) c.in-Some.ensures.value in
     on_ok c.lend.result
-    (λ lent k n. at_each (λ o u b. patterns_there u n ≡ cond ((b && nat_eq c.args.number n) && not (is_some (seat_there o n))) c.args.patterns.now (patterns_there o n)) xs i old new within here (lent n) (λ o. refl) k)
+    (λ lent k n. at_each (λ o u b. patterns_there u n ≡ cond ((b && nat_eq c.args.number n) && not (is_some (kept_there o n))) c.args.patterns.now (patterns_there o n)) xs i old new within here (lent n) (λ o. refl) k)
     c.lend.ensures.patterns
 
 pub returns-clause-clean : goal.returns-clause-clean
@@ -50,7 +50,7 @@ returns-clause-clean c =
     let within : i < length xs = c.requires.within in
     let here : slice_get xs i ≡ Some old = slice_get_read xs c.args.self.now.shards.len i old (omega (arith, c.args.self.now.shards.ok.0)) (omega (arith, c.args.self.now.shards.ok.0, c.requires.within)) c.in-Some.ensures.value in
     on_ok c.lend.result
-    (λ clean k n. at_each (λ o u b. (seat_there o n ≡ None → patterns_there o n ≡ []) → seat_there u n ≡ None → patterns_there u n ≡ []) xs i old new within here (λ before. clean n) (λ o before. before) k (c.requires.clean k n))
+    (λ clean k n. at_each (λ o u b. (kept_there o n ≡ None → patterns_there o n ≡ []) → kept_there u n ≡ None → patterns_there u n ≡ []) xs i old new within here (λ before. clean n) (λ o before. before) k (c.requires.clean k n))
     c.lend.ensures.clean
 
 pub returns-clause-connects : goal.returns-clause-connects

@@ -13,7 +13,7 @@ loop-index-preserved c =
     let made = c.new.ensures in
     let one : IsEmptyOf c.args.config c.new.result = record {
       config_is = made.config;
-      seats = made.seats;
+      sessions = made.sessions;
       patterns = λ n. ap (λ t. patterns_of t n) made.patterns;
       connects = made.connects;
     } in

@@ -2,9 +2,9 @@ use Rattle.std.proofs.Common.{◌==◌, nat_eq, None, cond, get_or, ap, ◌∙�
 use Rattle.std.specs.List.{list_any}
 use Rattle.std.proofs.lemmas.List.{take_all}
 use Rattle.bx_connects.specs.Connects.{connect_at}
-use Rattle.bx_shard.specs.Sessions.{patterns_in, seat_in, subscriber_in}
+use Rattle.bx_shard.specs.Sessions.{kept_in}
 use Rattle.bx_shard.specs.States.{let_go}
-use Rattle.bx_shard.proofs.Closing.{closing_parts, gone, gone_more, let_go_more, let_go_none, parted_from}
+use Rattle.bx_shard.proofs.Closing.{closing_parts, gone_more, let_go_more, let_go_none, parted_from}
 use Rattle.bx_shard.proofs.sessions.Sessions.close_all.Goals as goal
 
 pub loop-number-init : goal.loop-number-init
@@ -25,10 +25,9 @@ loop-number-preserved c =
     let loop = c.loop-number.invariant in
     record {
       sessions = λ n.
-          gone (nat_eq number n) (seat_in before n) (seat_in c.close.new.self n) (patterns_in before n) (patterns_in c.close.new.self n) (c.close.ensures.seats n) (c.close.ensures.patterns n)
-          ∙ ap (cond (nat_eq number n) None) (loop.sessions n) ∙ gone_more numbers i c.loop-number-test.true n (subscriber_in c.args.self.now n);
+          c.close.ensures.sessions n ∙ ap (cond (nat_eq number n) None) (loop.sessions n) ∙ gone_more numbers i c.loop-number-test.true n (kept_in c.args.self.now n);
       connects = λ p.
-          c.close.ensures.connects p ∙ closing_parts before.config (connect_at before.connects) (seat_in before) number loop.held p
+          c.close.ensures.connects p ∙ closing_parts (connect_at before.connects) (kept_in before) number loop.held p
           ∙ ap (parted_from number) (loop.connects p) ∙ let_go_more numbers i c.loop-number-test.true (connect_at c.args.self.now.connects p);
       counted = λ counted. c.close.ensures.counted (loop.counted counted);
       held = c.close.ensures.held loop.held;
@@ -38,7 +37,7 @@ loop-number-preserved c =
 pub returns-clause-sessions : goal.returns-clause-sessions
 returns-clause-sessions c = λ n.
     c.loop-number.invariant.sessions n
-    ∙ ap (λ numbers. cond (list_any (λ m. m == n) numbers) None (subscriber_in c.args.self.now n)) (take_all c.loop-number.number-index c.args.numbers.now c.loop-number-test.false)
+    ∙ ap (λ numbers. cond (list_any (λ m. m == n) numbers) None (kept_in c.args.self.now n)) (take_all c.loop-number.number-index c.args.numbers.now c.loop-number-test.false)
 
 pub returns-clause-connects : goal.returns-clause-connects
 returns-clause-connects c = λ p.

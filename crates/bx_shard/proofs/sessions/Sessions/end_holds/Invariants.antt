@@ -1,16 +1,15 @@
 use Rattle.std.proofs.Common.{◌≡◌}
 use Rattle.bx_connects.specs.Connects.{connect_at, count_held}
-use Rattle.bx_shard.specs.Sessions.{AreCounted, AreHeld, seat_in}
+use Rattle.bx_shard.specs.Sessions.{AreCounted, AreHeld, kept_in}
 use Rattle.bx_shard.proofs.Ticking.{AreTicked}
 use Rattle.bx_shard.proofs.sessions.Sessions.end_holds.Given as goal
 
 abbrev pub invariant-loop-number : goal.invariant-loop-number
 invariant-loop-number l = record {
-  ticked : AreTicked l.initial.self.config l.moment l.place (seat_in l.initial.self) (seat_in l.self) (connect_at l.initial.self.connects) (connect_at l.self.connects);
+  ticked : AreTicked l.initial.self.config l.place l.moment (kept_in l.initial.self) (kept_in l.self) (connect_at l.initial.self.connects) (connect_at l.self.connects);
   counted : AreCounted l.initial.self → AreCounted l.self;
   held : AreHeld l.self;
   config : l.self.config ≡ l.initial.self.config;
-  tree : l.self.tree ≡ l.initial.self.tree;
 }
 
 abbrev pub decreases-loop-number : goal.decreases-loop-number

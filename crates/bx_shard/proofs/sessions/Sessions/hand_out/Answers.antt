@@ -1,10 +1,11 @@
 use Rattle.std.proofs.Common.{◌≡◌, ℕ, nat_eq, false, cond, option_map, subst, sym, ap, ◌∙◌}
+use Rattle.bx_entry.specs.Keeping.{after}
+use Rattle.bx_entry.specs.Sessions.{received}
 use Rattle.bx_connects.specs.Connects.{connect_at}
-use Rattle.bx_shard.specs.Effects.{delivery_filing}
-use Rattle.bx_shard.specs.Publishing.{AllReady, Turn, Turns}
-use Rattle.bx_shard.specs.Sessions.{seat_in, subscriber_in}
-use Rattle.bx_shard.specs.Subscribers.{receiving}
-use Rattle.bx_shard.proofs.Handing.{ready_along, same_seat}
+use Rattle.bx_shard.specs.Effects.{answers_by, filing_each}
+use Rattle.bx_shard.specs.Publishing.{AllReady, Turn, Turns, published_at}
+use Rattle.bx_shard.specs.Sessions.{kept_in}
+use Rattle.bx_shard.proofs.Handing.{ready_along}
 use Rattle.bx_shard.proofs.sessions.Sessions.hand_out.Goals as goal
 
 pub loop-parcel-preserved : goal.loop-parcel-preserved
@@ -17,17 +18,17 @@ loop-parcel-preserved c =
     let steps = c.in-Some.ensures.steps.0 in
     let ready = subst (AllReady old) steps kept.0 in
     let one = c.receive.ensures in
-    let others : (n : ℕ) → nat_eq x.number n ≡ false → subscriber_in new n ≡ subscriber_in old n =
-    (λ n other. one.sessions n ∙ ap (λ b. cond b (option_map (receiving old.config x.keep) (subscriber_in old x.number)) (subscriber_in old n)) other) in
+    let others : (n : ℕ) → nat_eq x.number n ≡ false → kept_in new n ≡ kept_in old n =
+    (λ n other. one.sessions n ∙ ap (λ b. cond b (option_map (after (received old.config (published_at c.args.place x.keep))) (kept_in old x.number)) (kept_in old n)) other) in
     let turn : Turn c.args.self.now.config c.args.place x old new = record {
-      sessions = one.sessions;
-      connects = λ p. one.connects p ∙ ap (λ g. delivery_filing g c.args.place x.keep (seat_in old x.number) (connect_at old.connects) p) kept.3;
+      sessions = λ n. one.sessions n ∙ ap (λ g. cond (nat_eq x.number n) (option_map (after (received g (published_at c.args.place x.keep))) (kept_in old x.number)) (kept_in old n)) kept.3;
+      connects = λ p. one.connects p ∙ ap (λ g. filing_each c.args.place (answers_by (received g (published_at c.args.place x.keep)) (kept_in old x.number)) (connect_at old.connects) p) kept.3;
       held = one.held kept.1;
       config_is = one.config;
     } in (
-      ready_along old new x.number rest ready.1 (λ n other. same_seat old new n (others n other)) one.room ready.2,
+      ready_along old new x.number rest ready.1 others one.room ready.2,
       one.held kept.1,
       one.counted kept.2,
       one.config ∙ kept.3,
-      (λ last after. kept.4 last (subst (λ l. Turns c.args.self.now.config c.args.place l old last) (sym steps) (new, turn, after))),
+      (λ last rest_turns. kept.4 last (subst (λ l. Turns c.args.self.now.config c.args.place l old last) (sym steps) (new, turn, rest_turns))),
     )

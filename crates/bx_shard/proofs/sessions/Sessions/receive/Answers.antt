@@ -1,14 +1,17 @@
 use Rattle.std.proofs.Common.{rules, ◌≡◌, Some, sym, subst}
-use Rattle.bx_session.specs.Steps.{delivered, delivery}
-use Rattle.bx_shard.specs.Effects.{given_by}
-use Rattle.bx_shard.specs.Sessions.{seat_in}
-use Rattle.bx_shard.proofs.Ends.{Settles, delivery_settles, filing_agrees}
+use Rattle.bx_entry.specs.Keeping.{after}
+use Rattle.bx_entry.specs.Sessions.{received}
+use Rattle.bx_shard.specs.Effects.{answers_by}
+use Rattle.bx_shard.specs.Publishing.{published_at}
+use Rattle.bx_shard.specs.Sessions.{kept_in}
+use Rattle.bx_shard.proofs.Ends.{Settles, filing_agrees, received_e}
 use Rattle.bx_shard.proofs.sessions.Sessions.receive.Goals as goal
 
 pub returns-in-Given-clause-held : goal.returns-in-Given-clause-held
 returns-in-Given-clause-held c = λ held.
     let old = c.args.self.now in
-    let seat = c.in-Some.session.now.seat in
-    let here : seat_in old c.args.number ≡ Some seat = search rules in
-    filing_agrees _ _ (seat_in old) _ c.args.number (Some (delivered c.args.keep seat)) (given_by (delivery old.config c.args.keep seat)) c.args.place
-    held (search rules) (search rules) (subst (λ o. Settles o (Some (delivered c.args.keep seat)) (given_by (delivery old.config c.args.keep seat))) (sym here) (delivery_settles old.config c.args.keep seat))
+    let k = c.in-Some.session.now.kept in
+    let change = received old.config (published_at c.args.place c.args.keep) in
+    let here : kept_in old c.args.number ≡ Some k = search rules in
+    filing_agrees _ _ (kept_in old) _ c.args.number (Some (after change k)) (answers_by change (Some k)) c.args.place
+    held (search rules) (search rules) (subst (λ o. Settles o (Some (after change k)) (answers_by change (Some k))) (sym here) (received_e old.config (published_at c.args.place c.args.keep) k))

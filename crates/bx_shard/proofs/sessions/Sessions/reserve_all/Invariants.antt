@@ -1,10 +1,10 @@
 use Rattle.std.proofs.Common.{◌≡◌, ◌<◌, ℕ, slice_index_or}
 use Rattle.bx_shard.specs.declared.publish.Parcel.{Parcel}
-use Rattle.bx_shard.specs.Sessions.{HasRoom, seat_in}
+use Rattle.bx_shard.specs.Sessions.{HasRoom, kept_in}
 use Rattle.bx_shard.proofs.sessions.Sessions.reserve_all.Given as goal
 
 abbrev pub invariant-loop-parcel : goal.invariant-loop-parcel
 invariant-loop-parcel l =
-    ((n : ℕ) → seat_in l.self n ≡ seat_in l.fn.self n)
+    ((n : ℕ) → kept_in l.self n ≡ kept_in l.fn.self n)
     × ((k : ℕ) → (d : Parcel) → k < l.parcel-index → HasRoom l.self (slice_index_or l.parcels k d).number)
     × (l.self.config ≡ l.fn.self.config) × (l.self.tree ≡ l.fn.self.tree) × (l.self.connects ≡ l.fn.self.connects)

@@ -1,9 +1,8 @@
 use Rattle.std.proofs.Common.{rules}
 use Rattle.bx_shard.specs.Following.{Followed}
-use Rattle.bx_shard.specs.Sessions.{patterns_in, seat_in}
 use Rattle.bx_shard.specs.States.{IsSound, opens_in}
 use Rattle.bx_shard.specs.Seen.{setup_in, state}
-use Rattle.bx_shard.proofs.Applying.{applied, counted_by_test, counted_test, still_fresh}
+use Rattle.bx_shard.proofs.Applying.{applied, still_fresh}
 use Rattle.bx_shard.proofs.Counting.{formed_few}
 use Rattle.bx_shard.proofs.shard.Shard.apply.Goals as goal
 
@@ -14,13 +13,13 @@ invariant_of-self-2 g c =
     let new = c.follow.new.self in
     let followed : Followed (opens_in (setup_in g.P.Placing.place_of old) old.index e.kind) e old.sessions new = search rules in
     let sound : IsSound (state g.P.Placing.place_of old) = record {
-      tied = record { patterns = λ n. counted_by_test (seat_in old.sessions n) (patterns_in old.sessions n) (old.counted n); holds = old.held };
+      tied = record { patterns = old.counted; holds = old.held };
       fresh = old.fresh;
     } in
     record {
       some_shard = old.some_shard;
       shards_in_range = old.shards_in_range;
-      counted = λ n. counted_test (seat_in new n) (patterns_in new n) (c.follow.ensures.counted n);
+      counted = c.follow.ensures.counted;
       held = c.follow.ensures.held;
       batches = formed_few _ e old.place old.sessions new followed.sessions old.batches;
       fresh = still_fresh old.shards _ old.index old.is_shut old.place e old.sessions new c.requires.next sound followed;

@@ -1,0 +1,52 @@
+-- A connect in its parts: the hold that it ends, and what becomes of it once none is held.
+use Rattle.std.proofs.Common.{◌≡◌, ℕ, Bool, Option, Some, None, List, ◌++◌, length, map, take, drop, refl, sym, ap, ◌∙◌, subst}
+use Rattle.std.proofs.lemmas.List.{drop-map, take-map, map-append}
+use Rattle.std.specs.Option.{option_to_list}
+use Rattle.bx_advice.specs.declared.config.Config.{Config}
+use Rattle.bx_advice.specs.declared.advice.Case.{Case}
+use Rattle.bx_advice.specs.declared.advice.Case.TheVariants.{Failed}
+use Rattle.bx_advice.specs.declared.error.Error.TheVariants.{SupersededConnect}
+use Rattle.bx_message.specs.declared.event.Event.{Event}
+use Rattle.bx_entry.specs.Answers.{events_of}
+use Rattle.bx_entry.specs.Keeping.{Kept, after, answers_of, kept, resumed}
+use Rattle.bx_entry.specs.Sessions.{Filed, Pending, Publication, Session, admitted, connected, released, released_from, unheld}
+use Rattle.bx_entry.proofs.Settled.{admitted_s}
+use Rattle.bx_session.specs.declared.answered.Answered.{Answered}
+use Rattle.bx_session.specs.Views.{answered_of}
+
+abbrev event_in : Publication → Event
+event_in p = p.event
+
+-- the events of a part of the queue
+pub part_events : (done count : ℕ) (queue given : List Publication) (rest : List Event) → rest ≡ events_of queue → take count (drop done queue) ≡ given → take count (drop done rest) ≡ events_of given
+part_events done count queue given rest all part =
+    ap (λ (es : List Event). take count (drop done es)) all ∙ ap (take count) (drop-map event_in done queue) ∙ take-map event_in count (drop done queue) ∙ ap events_of part
+
+-- where no connect is held any longer, what is kept is what a release leaves
+from_held : (config : Config) (place : ℕ) (case : Case) (k : Kept) (held : Option Pending) → k.held ≡ held → kept (released_from config place case (resumed k) held) ≡ after unheld k
+from_held config place case k None e = ap (λ (h : Option Pending). record k { held = h }) e
+from_held config place case k (Some p) e = refl
+
+pub released_unheld : (config : Config) (place : ℕ) (case : Case) (k : Kept) → after (released config place case) k ≡ after unheld k
+released_unheld config place case k = from_held config place case k k.held refl
+
+module _ (config : Config) (p : Pending) (acked : Option ℕ) (k : Kept) where
+  abbrev freed : Session
+  freed = released config p.place (Failed SupersededConnect) (resumed k)
+
+  -- what is kept once the hold is ended and the connect admitted
+  pub connected_kept : after (admitted config p acked k.overflow) (after unheld k) ≡ after (connected config p acked) k
+  connected_kept =
+      ap (after (admitted config p acked k.overflow)) (sym (released_unheld config p.place (Failed SupersededConnect) k))
+      ∙ sym ((admitted_s config p acked k.overflow).state freed)
+
+  -- and the answers to both
+  pub connected_answers : (superseded own : List Answered) → superseded ≡ map answered_of (answers_of (released config p.place (Failed SupersededConnect)) k)
+      → own ≡ map answered_of (answers_of (admitted config p acked k.overflow) (after unheld k))
+      → superseded ++ own ≡ map answered_of (answers_of (connected config p acked) k)
+  connected_answers superseded own first second =
+      let rest : Kept → List Filed = answers_of (admitted config p acked k.overflow) in
+      ap (λ (xs : List Answered). xs ++ own) first
+      ∙ ap (λ (xs : List Answered). map answered_of freed.answers ++ xs) (second ∙ ap (λ (l : Kept). map answered_of (rest l)) (sym (released_unheld config p.place (Failed SupersededConnect) k)))
+      ∙ sym (map-append answered_of freed.answers (rest (kept freed)))
+      ∙ ap (map answered_of) (sym ((admitted_s config p acked k.overflow).answers freed))

@@ -1,0 +1,14 @@
+-- How many batches a session forms.
+use Rattle.std.specs.Prelude.{ℕ, ◌+◌, ◌≤◌, List, length}
+use Rattle.bx_advice.specs.declared.config.Config.{Config}
+use Rattle.bx_entry.specs.Keeping.{Kept, kept_step}
+use Rattle.bx_entry.specs.Sessions.{session}
+use Rattle.bx_entry.specs.declared.entry.Entry.{Entry}
+
+-- an entry forms one batch at most
+abbrev pub NumbersStep : Type 0
+NumbersStep = (config : Config) (k : Kept) (e : Entry) → (kept_step config k e).num ≤ k.num + 1
+
+-- so no more batches are formed than there are entries
+abbrev pub NumbersCount : Type 0
+NumbersCount = (config : Config) (number : ℕ) (es : List Entry) → (session config number es).num ≤ length es

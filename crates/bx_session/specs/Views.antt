@@ -1,0 +1,66 @@
+-- A session as the program holds it, and what its calls answer, in the words of the definition.
+use Rattle.std.specs.Prelude.{ℕ, ◌+◌, ◌≤◌, ◌^◌, Bool, true, false, List, [], ◌∷◌, ◌++◌, nat_lt, if◌then◌else◌, Option, Some, None}
+use Rattle.std.specs.Option.{option_to_list}
+use Rattle.bx_advice.specs.declared.config.Config.{Config}
+use Rattle.bx_advice.specs.declared.advice.Case.{Case}
+use Rattle.bx_advice.specs.Limits.{greatest_length}
+use Rattle.bx_entry.specs.Answers.{events_of}
+use Rattle.bx_entry.specs.Keeping.{Kept}
+use Rattle.bx_entry.specs.Sessions.{Filed, Pending}
+use Rattle.bx_message.specs.Replies.{connect_reply}
+use Rattle.bx_message.specs.declared.event.Event.{Event}
+use Rattle.bx_message.specs.declared.reply.AckReply.{AckReply}
+use Rattle.bx_message.specs.declared.reply.Reply.{Reply}
+use Rattle.bx_session.specs.declared.answered.Answered.{Answered}
+use Rattle.bx_session.specs.declared.answered.Connection.{Connection}
+use Rattle.bx_session.specs.declared.answered.Delivery.{Delivery}
+use Rattle.bx_session.specs.declared.answered.Delivery.TheVariants.{Waits, Given, Overflowed}
+
+-- what is kept of a session, and for how many more events it has room without taking memory
+pub record WithRoom : Type 0 where
+  pub kept : Kept
+  pub spare : ℕ
+
+-- no more batches were formed than the list may have entries
+abbrev pub Countable : Kept → Type 0
+Countable k = k.num ≤ greatest_length
+
+-- ---- a connect
+
+-- a connect that is to be answered
+abbrev pub pending : ℕ → List ℕ → Option (List ℕ) → ℕ → ℕ → Pending
+pending place client id moment hold = record { place = place; client = client; id = id; moment = moment; hold = hold }
+
+-- the moment at which a hold ends, if it is a number of 64 bits
+abbrev pub deadline_of : Pending → Option ℕ
+deadline_of p = if nat_lt (p.moment + p.hold) (2 ^ 64) then Some (p.moment + p.hold) else None
+
+-- ---- answers
+
+-- an answer of these parts
+abbrev pub answered : ℕ → List Event → Reply → Answered
+answered place given reply = record { place = place; answer = record { events = given; reply = reply } }
+
+-- the answer to a connect, with these events
+abbrev pub answer_to : Config → Pending → List Event → Case → AckReply → Answered
+answer_to config p given case ack = answered p.place given (connect_reply config p.client p.id case ack)
+
+-- an answer as the program gives it: its events without their places
+abbrev pub answered_of : Filed → Answered
+answered_of f = answered f.connect (events_of f.publications) f.reply
+
+-- what a connect answers: first the one that it superseded
+abbrev pub connection_answers : Connection → List Answered
+connection_answers c = option_to_list c.superseded ++ option_to_list c.answered
+
+-- what a delivery answers
+abbrev pub delivery_answers : Delivery → List Answered
+delivery_answers Waits = []
+delivery_answers (Given a) = a ∷ []
+delivery_answers Overflowed = []
+
+-- whether it says that the session overflows
+abbrev pub is_overflow : Delivery → Bool
+is_overflow Waits = false
+is_overflow (Given a) = false
+is_overflow Overflowed = true

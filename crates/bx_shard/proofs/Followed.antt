@@ -1,0 +1,643 @@
+-- What each kind of entry does to the sessions of a shard, from what the calls promise.
+use Rattle.std.proofs.Common.{Contains, arith, ◌≡◌, ◌≢◌, ◌&&◌, ◌⊎◌, inl, inr, ℕ, nat_eq, ◌==◌, Bool, true, false, cond, Option, Some, None, option_map, is_none, is_some, List, [], ◌∷◌, ◌++◌, map, refl, sym, ap, ◌∙◌, true≢false, subst}
+use Rattle.std.specs.List.{list_any}
+use Rattle.std.specs.Option.{option_and_then, option_map_or}
+use Rattle.std.proofs.lemmas.Bool.{eqb-true, eq-eqb, cond_both}
+use Rattle.std.proofs.lemmas.List.Elements.{Contains-append_cases, Contains-append_left, Contains-append_right}
+use Rattle.bx_names.specs.Globs.{Glob}
+use Rattle.bx_advice.specs.declared.advice.Case.TheVariants.{Disconnected, Failed}
+use Rattle.bx_advice.specs.declared.error.Error.TheVariants.{SupersededConnect}
+use Rattle.bx_message.specs.declared.event.Event.{Event}
+use Rattle.bx_entry.specs.declared.entry.Entry.{Entry}
+use Rattle.bx_entry.specs.declared.entry.Kind.{Kind}
+use Rattle.bx_entry.specs.declared.entry.Kind.TheVariants as kinds
+use Rattle.bx_entry.specs.Keeping.{Kept, after, kept, resumed}
+use Rattle.bx_entry.specs.Sessions.{Closed, Live, Pending, Session, Stage, Unopened, admitted, begun, closed_by, connected, disconnected, ended, expired, is_live, published, released, stage_after, step, subscribed, unheld, unopened, unsubscribed}
+use Rattle.bx_session.specs.declared.answered.Answered.{Answered}
+use Rattle.bx_session.specs.Views.{answered_of, deadline_of, pending}
+use Rattle.bx_connects.specs.declared.connects.ConnectState.{ConnectState}
+use Rattle.bx_connects.specs.declared.connects.ConnectState.TheVariants.{Filed}
+use Rattle.bx_connects.specs.Connects.{connect_at, filed_as, filing, held_by, session_at}
+use Rattle.bx_shard.specs.declared.sessions.Sessions.{Sessions}
+use Rattle.bx_shard.specs.Effects.{answers_by, connect_filing, filing_each, holding}
+use Rattle.bx_shard.specs.Following.{Followed}
+use Rattle.bx_shard.specs.Publishing.{published_at}
+use Rattle.bx_shard.specs.Sessions.{AreCounted, AreHeld, IsCounted, IsOwn, holds_until, kept_in, patterns_in}
+use Rattle.bx_shard.specs.States.{Connects, IsGiven, if_live, let_go, session_after}
+use Rattle.bx_shard.specs.States as states
+use Rattle.bx_shard.proofs.Beginnings.{both_answers, own_answers, superseded}
+use Rattle.bx_laws.proofs.Keeps.{Keeps, connected_k, expired_from_k, released_from_k}
+use Rattle.bx_shard.proofs.Counts.{published_stage, subscribed_l, subscribed_quiet}
+use Rattle.bx_shard.proofs.Ends.{From, admitted_e, released_e, with_hold}
+use Rattle.bx_shard.proofs.Keeps.{filed_known, filing_each_session, filing_session, held_session, let_go_session, unfiled}
+use Rattle.bx_shard.proofs.Singles.{nowhere, only_one}
+use Rattle.bx_shard.proofs.Ties.{holds_own}
+
+-- an entry does what one of its kind does
+of_kind : (stands : Bool) (e : Entry) (kind : Kind) (old new : Sessions) → e.kind ≡ kind → Followed stands (record e { kind = kind }) old new → Followed stands e old new
+of_kind stands e kind old new is follows = subst (λ (k : Kind). Followed stands (record e { kind = k }) old new) (sym is) follows
+
+-- ---- one session
+
+-- a live session is there
+live_there : (t : Session) → t.stage ≡ Live → Some (kept t) ≡ if_live (kept t)
+live_there t live = sym (ap (λ (stage : Stage). cond (is_live stage) (Some (kept t)) None) live)
+
+module _ (n : ℕ) (k : Kept) (patterns : List Glob) (own : IsOwn n k patterns) where
+  -- an entry of the session of this number leaves it live
+  own_or_as_it_was : (m : ℕ) (t : Session) → t.stage ≡ k.stage → cond (nat_eq m n) (Some (kept t)) (Some k) ≡ if_live (kept (cond (m == k.number) t (resumed k)))
+  own_or_as_it_was m t stage =
+      by (nat_eq m n) ∙ ap (λ (j : ℕ). if_live (kept (cond (m == j) t (resumed k)))) (sym own.number)
+    where
+      by : (b : Bool) → cond b (Some (kept t)) (Some k) ≡ if_live (kept (cond b t (resumed k)))
+      by true = live_there t (stage ∙ own.live)
+      by false = live_there (resumed k) own.live
+
+  -- an end of it doesn't
+  own_ended : (m : ℕ) (t : Session) → t.stage ≡ k.stage → cond (nat_eq m n) None (Some k) ≡ if_live (kept (cond (m == k.number) (ended t) (resumed k)))
+  own_ended m t stage =
+      by (nat_eq m n) ∙ ap (λ (j : ℕ). if_live (kept (cond (m == j) (ended t) (resumed k)))) (sym own.number)
+    where
+      by : (b : Bool) → cond b None (Some k) ≡ if_live (kept (cond b (ended t) (resumed k)))
+      by true = ap (λ (stage : Stage). cond (is_live (stage_after stage)) (Some (kept (ended t))) None) (sym (stage ∙ own.live))
+      by false = live_there (resumed k) own.live
+
+  -- nor does a tick that names it
+  closed_or_live : (numbers : List ℕ) (t : Session) → t.stage ≡ k.stage → t.number ≡ k.number
+      → cond (list_any (λ m. m == n) numbers) None (Some (kept t)) ≡ if_live (kept (closed_by numbers t))
+  closed_or_live numbers t stage number =
+      by (list_any (λ m. m == n) numbers) ∙ ap (λ (j : ℕ). if_live (kept (cond (list_any (λ m. m == j) numbers) (ended t) t))) (sym (number ∙ own.number))
+    where
+      by : (b : Bool) → cond b None (Some (kept t)) ≡ if_live (kept (cond b (ended t) t))
+      by true = ap (λ (stage : Stage). cond (is_live (stage_after stage)) (Some (kept (ended t))) None) (sym (stage ∙ own.live))
+      by false = live_there t (stage ∙ own.live)
+
+  -- only an entry of its number has answers from it
+  own_answers_only : (m : ℕ) (t : Session) → map answered_of (cond (m == k.number) t (resumed k)).answers ≡ cond (nat_eq m n) (map answered_of t.answers) []
+  own_answers_only m t = ap (λ (j : ℕ). map answered_of (cond (m == j) t (resumed k)).answers) own.number ∙ by (nat_eq m n)
+    where
+      by : (b : Bool) → map answered_of (cond b t (resumed k)).answers ≡ cond b (map answered_of t.answers) []
+      by true = refl
+      by false = refl
+
+-- ---- all sessions
+
+-- the sessions with another one of this number, where it is here
+abbrev with_one : ℕ → (Session → Session) → (ℕ → Option Kept) → ℕ → Option Kept
+with_one m change sessions n = cond (nat_eq m n) (option_map (after change) (sessions m)) (sessions n)
+
+at_number : (m n : ℕ) (f : Option Kept → Option Kept) (sessions : ℕ → Option Kept) → cond (nat_eq m n) (f (sessions m)) (sessions n) ≡ cond (nat_eq m n) (f (sessions n)) (sessions n)
+at_number m n f sessions = by (nat_eq m n) refl
+  where
+    by : (b : Bool) → nat_eq m n ≡ b → cond b (f (sessions m)) (sessions n) ≡ cond b (f (sessions n)) (sessions n)
+    by true same = ap (λ k. f (sessions k)) (eqb-true m n same)
+    by false other = refl
+
+-- where none is here none comes of it
+none_here : (b : Bool) → cond {A = Option Kept} b None None ≡ None
+none_here true = refl
+none_here false = refl
+
+-- an answer of the session of one number
+given_of_one : (b : Bool) (answers : List Answered) (a : Answered) → Contains (cond b answers []) a → (b ≡ true) × Contains answers a
+given_of_one true answers a there = (refl, there)
+given_of_one false answers a there = absurd (nowhere a there)
+
+of_one_given : (b : Bool) (answers : List Answered) (a : Answered) → b ≡ true → Contains answers a → Contains (cond b answers []) a
+of_one_given true answers a is there = there
+of_one_given false answers a is there = absurd (true≢false (sym is))
+
+-- a change of one session that leaves it live and changes no connect
+module _ (stands : Bool) (e : Entry) (m : ℕ) (old : Sessions) (counted : AreCounted old) where
+  -- what an entry that is one of this session makes of all
+  one_stepped : (kind : Kind) (change : Session → Session) → ((s : Session) → step old.config s (record e { kind = kind }) ≡ cond (m == s.number) (change s) s)
+      → ((n : ℕ) → states.opening stands kind n ≡ None) → ((n : ℕ) (k : Kept) → kept_in old n ≡ Some k → (change (resumed k)).stage ≡ k.stage)
+      → (n : ℕ) → with_one m change (kept_in old) n ≡ session_after old.config stands (record e { kind = kind }) n (kept_in old n)
+  one_stepped kind change is opens stage n = at_number m n (option_map (after change)) (kept_in old) ∙ by (kept_in old n) refl (counted n)
+    where
+      F : Kept → Option Kept
+      F k = if_live (kept (step old.config (resumed k) (record e { kind = kind })))
+
+      by : (o : Option Kept) → kept_in old n ≡ o → IsCounted n o (patterns_in old n) → cond (nat_eq m n) (option_map (after change) o) o ≡ session_after old.config stands (record e { kind = kind }) n o
+      by None here c = none_here (nat_eq m n) ∙ sym (ap (option_and_then F) (opens n))
+      by (Some k) here c = own_or_as_it_was n k (patterns_in old n) c m (change (resumed k)) (stage n k here) ∙ sym (ap (λ (t : Session). if_live (kept t)) (is (resumed k)))
+
+  -- and what it answers
+  one_answered : (kind : Kind) (change : Session → Session) → ((s : Session) → step old.config s (record e { kind = kind }) ≡ cond (m == s.number) (change s) s)
+      → (n : ℕ) → answers_by (λ s. step old.config s (record e { kind = kind })) (kept_in old n) ≡ cond (nat_eq m n) (answers_by change (kept_in old n)) []
+  one_answered kind change is n = by (kept_in old n) (counted n)
+    where
+      none : (b : Bool) → [] ≡ cond {A = List Answered} b [] []
+      none true = refl
+      none false = refl
+
+      by : (o : Option Kept) → IsCounted n o (patterns_in old n) → answers_by (λ s. step old.config s (record e { kind = kind })) o ≡ cond (nat_eq m n) (answers_by change o) []
+      by None c = none (nat_eq m n)
+      by (Some k) c = ap (λ (t : Session). map answered_of t.answers) (is (resumed k)) ∙ own_answers_only n k (patterns_in old n) c m (change (resumed k))
+
+-- ---- a handshake
+
+-- a session that stands here is opened
+pub followed_opened_here : (stands : Bool) (e : Entry) (m : ℕ) (ack : Bool) (old new : Sessions) → e.kind ≡ kinds.Opened m ack → stands ≡ true → kept_in old m ≡ None
+    → ((n : ℕ) → kept_in new n ≡ cond (nat_eq m n) (Some (after (λ s. begun ack s s.stage) (kept (unopened m)))) (kept_in old n))
+    → (new.config ≡ old.config) × (new.tree ≡ old.tree) × (new.connects ≡ old.connects)
+    → (kept_in old m ≡ None → AreCounted old → AreCounted new) → (kept_in old m ≡ None → AreHeld old → AreHeld new)
+    → AreCounted old → AreHeld old → Followed stands e old new
+followed_opened_here stands e m ack old new kind here gone sessions others counts holds counted held = of_kind stands e (kinds.Opened m ack) old new kind (record {
+  config = others.0;
+  sessions = λ n. sessions n ∙ by n (kept_in old n) refl (counted n);
+  connects = record {
+    given = λ n a g. absurd (nothing n a (kept_in old n) (counted n) g);
+    kept = λ p never. ap (λ c. connect_at c p) others.2;
+  };
+  known = λ p n k. inl (sym (ap (λ c. session_at (connect_at c p)) others.2) ∙ k);
+  counted = counts gone counted;
+  held = holds gone held;
+})
+  where
+    follows : Entry
+    follows = record e { kind = kinds.Opened m ack }
+
+    opened : Kept
+    opened = after (λ s. begun ack s s.stage) (kept (unopened m))
+
+    first : (n : ℕ) (b : Bool) → nat_eq m n ≡ b → cond b (Some opened) None ≡ option_and_then (λ k. if_live (kept (step old.config (resumed k) follows))) (cond (b && stands) (Some (kept (unopened m))) None)
+    first n true same =
+        ap (λ b. if_live (kept (cond b (begun ack (unopened m) Unopened) (unopened m)))) (sym (eq-eqb m m refl))
+        ∙ ap (λ b. option_and_then (λ k. if_live (kept (step old.config (resumed k) follows))) (cond b (Some (kept (unopened m))) None)) (sym here)
+    first n false other = refl
+
+    already : (n : ℕ) (k : Kept) (b : Bool) → nat_eq m n ≡ b → kept_in old n ≡ Some k → IsOwn n k (patterns_in old n) → cond b (Some opened) (Some k) ≡ if_live (kept (cond b (begun ack (resumed k) k.stage) (resumed k)))
+    already n k true same is own = absurd (true≢false (ap is_none (sym gone ∙ ap (kept_in old) (eqb-true m n same) ∙ is)))
+    already n k false other is own = live_there (resumed k) own.live
+
+    by : (n : ℕ) (o : Option Kept) → kept_in old n ≡ o → IsCounted n o (patterns_in old n) → cond (nat_eq m n) (Some opened) o ≡ session_after old.config stands follows n o
+    by n None is c = first n (nat_eq m n) refl
+    by n (Some k) is c = already n k (nat_eq m n) refl is c ∙ ap (λ (j : ℕ). if_live (kept (cond (m == j) (begun ack (resumed k) k.stage) (resumed k)))) (sym c.number)
+
+    begun_answers : (k : Kept) (stage : Stage) → (begun ack (resumed k) stage).answers ≡ []
+    begun_answers k Unopened = refl
+    begun_answers k Live = refl
+    begun_answers k Closed = refl
+
+    nothing : (n : ℕ) (a : Answered) (o : Option Kept) → IsCounted n o (patterns_in old n) → Contains (answers_by (λ s. step old.config s follows) o) a → ⊥
+    nothing n a None c there = nowhere a there
+    nothing n a (Some k) c there =
+        nowhere a (subst (λ given. Contains (map answered_of given) a)
+        (cond_both (m == k.number) (begun ack (resumed k) k.stage) (resumed k) (λ (t : Session). t.answers ≡ []) (λ h. begun_answers k k.stage) (λ h. refl)) there)
+
+-- an entry that changes nothing: no session takes a step, and none is opened
+unchanged : (stands : Bool) (e : Entry) (s : Sessions) (kind : Kind) → e.kind ≡ kind → ((n : ℕ) → kept_in s n ≡ session_after s.config stands (record e { kind = kind }) n (kept_in s n))
+    → ((n : ℕ) (a : Answered) → IsGiven s.config (kept_in s) (record e { kind = kind }) n a → ⊥)
+    → ((p : ℕ) → connect_at s.connects p ≡ states.begun (kept_in s) (connect_at s.connects) (record e { kind = kind }) kind p) → AreCounted s → AreHeld s → Followed stands e s s
+unchanged stands e s kind is sessions nothing connects counted held = of_kind stands e kind s s is (record {
+  config = refl;
+  sessions = sessions;
+  connects = record { given = λ n a g. absurd (nothing n a g); kept = λ p never. connects p };
+  known = λ p m k. inl k;
+  counted = counted;
+  held = held;
+})
+
+-- a session that stands elsewhere, or is here, isn't opened
+pub followed_opened_elsewhere : (stands : Bool) (e : Entry) (m : ℕ) (ack : Bool) (old new : Sessions) → e.kind ≡ kinds.Opened m ack → (stands ≡ false) ⊎ (is_some (kept_in old m) ≡ true) → new ≡ old
+    → AreCounted old → AreHeld old → Followed stands e old new
+followed_opened_elsewhere stands e m ack old new kind elsewhere same counted held =
+    subst (Followed stands e old) (sym same) (unchanged stands e old (kinds.Opened m ack) kind (λ n. by n (kept_in old n) refl (counted n)) (λ n a g. nothing n a (kept_in old n) (counted n) g) (λ p. refl) counted held)
+  where
+    follows : Entry
+    follows = record e { kind = kinds.Opened m ack }
+
+    begun_live : (k : Kept) (b : Bool) → k.stage ≡ Live → cond b (begun ack (resumed k) k.stage) (resumed k) ≡ resumed k
+    begun_live k true live = ap (λ (stage : Stage). begun ack (resumed k) stage) live
+    begun_live k false live = refl
+
+    none : (n : ℕ) (b : Bool) → nat_eq m n ≡ b → kept_in old n ≡ None → (stands ≡ false) ⊎ (is_some (kept_in old m) ≡ true)
+        → None ≡ option_and_then (λ k. if_live (kept (step old.config (resumed k) follows))) (cond (b && stands) (Some (kept (unopened m))) None)
+    none n true is gone (inl away) = ap (λ b. option_and_then (λ k. if_live (kept (step old.config (resumed k) follows))) (cond b (Some (kept (unopened m))) None)) (sym away)
+    none n true is gone (inr here) = absurd (true≢false (sym here ∙ ap (λ k. is_some (kept_in old k)) (eqb-true m n is) ∙ ap is_some gone))
+    none n false is gone why = refl
+
+    by : (n : ℕ) (o : Option Kept) → kept_in old n ≡ o → IsCounted n o (patterns_in old n) → o ≡ session_after old.config stands follows n o
+    by n None gone c = none n (nat_eq m n) refl gone elsewhere
+    by n (Some k) here c = live_there (resumed k) c.live ∙ ap (λ (t : Session). if_live (kept t)) (sym (begun_live k (m == k.number) c.live))
+
+    nothing : (n : ℕ) (a : Answered) (o : Option Kept) → IsCounted n o (patterns_in old n) → Contains (answers_by (λ s. step old.config s follows) o) a → ⊥
+    nothing n a None c there = nowhere a there
+    nothing n a (Some k) c there = nowhere a (subst (λ (t : Session). Contains (map answered_of t.answers) a) (begun_live k (m == k.number) c.live) there)
+
+-- ---- a connect
+
+-- no two of these answers are to one connect
+abbrev AreDistinct : List Answered → Type 0
+AreDistinct [] = Unit {0}
+AreDistinct (a ∷ rest) = ((b : Answered) → Contains rest b → b.place ≢ a.place) × AreDistinct rest
+
+-- each of these answers is filed, where it is to a connect of this session
+filed_each : (place m : ℕ) (answers : List Answered) (C : ℕ → Option ConnectState) → AreDistinct answers → ((a : Answered) → Contains answers a → session_at (C a.place) ≡ Some m)
+    → (a : Answered) → Contains answers a → filing_each place answers C a.place ≡ Some (Filed m place a.answer)
+filed_each place m [] C apart known a there = absurd (nowhere a there)
+filed_each place m (b ∷ rest) C apart known a there =
+    by (Contains-append_cases (b ∷ []) rest a there)
+    (filed_each place m rest (filing place (Some b) C) apart.1 (λ x in_it. filing_session place (Some b) C x.place ∙ known x (Contains-append_right (b ∷ []) rest x in_it)) a)
+  where
+    by : Contains (b ∷ []) a ⊎ Contains rest a → (Contains rest a → filing_each place rest (filing place (Some b) C) a.place ≡ Some (Filed m place a.answer)) → filing_each place (b ∷ rest) C a.place ≡ Some (Filed m place a.answer)
+    by (inl first) further =
+        subst (λ (x : Answered). filing_each place (b ∷ rest) C x.place ≡ Some (Filed m place x.answer)) (only_one b a first)
+        (unfiled place rest (filing place (Some b) C) b.place (λ x later. apart.0 x later)
+        ∙ ap (λ t. cond t (filed_as place b.answer (C b.place)) (C b.place)) (eq-eqb b.place b.place refl)
+        ∙ filed_known place m b.answer (C b.place) (known b (Contains-append_left (b ∷ []) rest b (0, omega arith, refl))))
+    by (inr later) further = further later
+
+-- what becomes of the connects with a fresh one of a session that is here
+module _ (s : Sessions) (m : ℕ) (connect : Pending) (acked : Option ℕ) (k : Kept) (held : AreHeld s) (here : kept_in s m ≡ Some k) (fresh : connect_at s.connects connect.place ≡ None) where
+  -- it is held at first
+  abbrev first_held : ℕ → Option ConnectState
+  first_held p = holding m connect (connect_at s.connects) p
+
+  -- what it answers
+  abbrev its_answers : List Answered
+  its_answers = answers_by (connected s.config connect acked) (Some k)
+
+  -- what was known is known
+  held_known : (p : ℕ) → session_at (connect_at s.connects p) ≡ Some m → session_at (first_held p) ≡ Some m
+  held_known p known = by (nat_eq connect.place p)
+    where
+      by : (b : Bool) → session_at (cond b (held_by m (deadline_of connect)) (connect_at s.connects p)) ≡ Some m
+      by true = refl
+      by false = known
+
+  -- the fresh one is known
+  fresh_known : (p : ℕ) → p ≡ connect.place → session_at (first_held p) ≡ Some m
+  fresh_known p same = ap (λ b. session_at (cond b (held_by m (deadline_of connect)) (connect_at s.connects p))) (eq-eqb connect.place p (sym same))
+
+  -- the superseded connect is known, and another
+  record Earlier (a : Answered) : Type 0 where
+    known : session_at (connect_at s.connects a.place) ≡ Some m
+    other : a.place ≢ connect.place
+
+  earlier : (a : Answered) → Contains (superseded s.config (connect_at s.connects) (connect_at s.connects) (kept_in s) (kept_in s) m connect acked k) a → Earlier a
+  earlier a there = by (released_e s.config connect.place (Failed SupersededConnect) k)
+    where
+      by : From k (released s.config connect.place (Failed SupersededConnect) (resumed k)) → Earlier a
+      by (inl end) =
+          let same : end.answer ≡ a = only_one end.answer a (subst (λ given. Contains given a) end.given there) in
+          let own : a.place ≡ end.hold.place = ap (λ (x : Answered). x.place) (sym same) ∙ end.own in
+          let is : k ≡ end.session = ap (λ o. option_map_or (λ (y : Kept). y) o k) end.here in
+          let known : session_at (connect_at s.connects a.place) ≡ Some m =
+          held_session (connect_at s.connects a.place) m (deadline_of end.hold)
+          (held a.place m ∙ ap (λ o. holds_until o a.place) here ∙ ap (λ p. holds_until (Some k) p) own ∙ ap (λ y. holds_until (Some y) end.hold.place) is ∙ holds_own end.session end.hold end.held) in
+          record { known = known; other = λ e. true≢false (sym (ap is_none (sym known ∙ ap (λ p. session_at (connect_at s.connects p)) e ∙ ap session_at fresh))) }
+      by (inr stays) = absurd (nowhere a (subst (λ given. Contains given a) stays.none there))
+
+  -- its own answer is to itself
+  to_itself : (a : Answered) → Contains (own_answers s.config (connect_at s.connects) (connect_at s.connects) (kept_in s) (kept_in s) m connect acked k) a → a.place ≡ connect.place
+  to_itself a there = by (admitted_e s.config connect (after unheld k) refl acked k.overflow)
+    where
+      by : From (with_hold connect (after unheld k)) (admitted s.config connect acked k.overflow (resumed (after unheld k))) → a.place ≡ connect.place
+      by (inl end) =
+          let same : end.answer ≡ a = only_one end.answer a (subst (λ given. Contains given a) end.given there) in
+          let is : with_hold connect (after unheld k) ≡ end.session = ap (λ o. option_map_or (λ (y : Kept). y) o (with_hold connect (after unheld k))) end.here in
+          ap (λ (x : Answered). x.place) (sym same) ∙ end.own ∙ ap (λ o. option_map_or (λ (y : Pending). y.place) o connect.place) (sym end.held ∙ sym (ap (λ (y : Kept). y.held) is))
+      by (inr stays) = absurd (nowhere a (subst (λ given. Contains given a) stays.none there))
+
+  -- each of them is one of the two
+  each_of : (a : Answered) → Contains its_answers a → Earlier a ⊎ (a.place ≡ connect.place)
+  each_of a there = by (Contains-append_cases _ _ a (subst (λ given. Contains given a) (sym (both_answers s.config (connect_at s.connects) (connect_at s.connects) (kept_in s) (kept_in s) m connect acked k)) there))
+    where
+      by : Contains (superseded s.config (connect_at s.connects) (connect_at s.connects) (kept_in s) (kept_in s) m connect acked k) a
+          ⊎ Contains (own_answers s.config (connect_at s.connects) (connect_at s.connects) (kept_in s) (kept_in s) m connect acked k) a → Earlier a ⊎ (a.place ≡ connect.place)
+      by (inl first) = inl (earlier a first)
+      by (inr own) = inr (to_itself a own)
+
+  their_sessions : (a : Answered) → Contains its_answers a → session_at (first_held a.place) ≡ Some m
+  their_sessions a there = by (each_of a there)
+    where
+      by : Earlier a ⊎ (a.place ≡ connect.place) → session_at (first_held a.place) ≡ Some m
+      by (inl e) = held_known a.place e.known
+      by (inr own) = fresh_known a.place own
+
+  distinct : AreDistinct its_answers
+  distinct =
+      subst AreDistinct (both_answers s.config (connect_at s.connects) (connect_at s.connects) (kept_in s) (kept_in s) m connect acked k)
+      (by (released_e s.config connect.place (Failed SupersededConnect) k) (admitted_e s.config connect (after unheld k) refl acked k.overflow))
+    where
+      S : List Answered
+      S = superseded s.config (connect_at s.connects) (connect_at s.connects) (kept_in s) (kept_in s) m connect acked k
+
+      O : List Answered
+      O = own_answers s.config (connect_at s.connects) (connect_at s.connects) (kept_in s) (kept_in s) m connect acked k
+
+      one : (a : Answered) → AreDistinct (a ∷ [])
+      one a = (λ b there. absurd (nowhere b there), tt)
+
+      by : From k (released s.config connect.place (Failed SupersededConnect) (resumed k)) → From (with_hold connect (after unheld k)) (admitted s.config connect acked k.overflow (resumed (after unheld k))) → AreDistinct (S ++ O)
+      by (inl first) (inl own) =
+          subst AreDistinct (ap (λ xs. xs ++ own.answer ∷ []) (sym first.given) ∙ ap (λ xs. S ++ xs) (sym own.given)) (
+            λ b there e.
+                let e0 : Earlier first.answer = earlier first.answer (subst (λ given. Contains given first.answer) (sym first.given) (0, omega arith, refl)) in
+                e0.other (sym e ∙ ap (λ (x : Answered). x.place) (sym (only_one own.answer b there)) ∙ to_itself own.answer (subst (λ given. Contains given own.answer) (sym own.given) (0, omega arith, refl))),
+            one own.answer,
+          )
+      by (inl first) (inr stays) = subst AreDistinct (ap (λ xs. xs ++ []) (sym first.given) ∙ ap (λ xs. S ++ xs) (sym stays.none)) (one first.answer)
+      by (inr stays) (inl own) = subst AreDistinct (ap (λ xs. xs ++ own.answer ∷ []) (sym stays.none) ∙ ap (λ xs. S ++ xs) (sym own.given)) (one own.answer)
+      by (inr stays) (inr none) = subst AreDistinct (ap (λ xs. xs ++ []) (sym stays.none) ∙ ap (λ xs. S ++ xs) (sym none.none)) tt
+
+-- a connect of a session, by its parts
+followed_pending : (stands : Bool) (e : Entry) (m : ℕ) (client : List ℕ) (id : Option (List ℕ)) (acked : Option ℕ) (hold : ℕ) (old new : Sessions)
+    → e.kind ≡ kinds.Connect m client id acked hold → connect_at old.connects e.place ≡ None
+    → ((n : ℕ) → kept_in new n ≡ with_one m (connected old.config (pending e.place client id e.moment hold) acked) (kept_in old) n)
+    → ((p : ℕ) → connect_at new.connects p ≡ connect_filing m (pending e.place client id e.moment hold) (connected old.config (pending e.place client id e.moment hold) acked) (kept_in old m) (connect_at old.connects) p)
+    → new.config ≡ old.config → (AreCounted old → AreCounted new) → (AreHeld old → AreHeld new)
+    → AreCounted old → AreHeld old → Followed stands e old new
+followed_pending stands e m client id acked hold old new kind fresh sessions connects config counts holds counted held =
+    of_kind stands e (kinds.Connect m client id acked hold) old new kind (record {
+      config = config;
+      sessions = λ n. sessions n ∙ one_stepped stands e m old counted (kinds.Connect m client id acked hold) change (λ s. refl) (λ n. refl) (λ n k here. (connected_k old.config connect acked (resumed k)).stage) n;
+      connects = record { given = given; kept = kept_at };
+      known = λ p n k. known p n (kept_in old m) refl (sym (ap session_at (connects p)) ∙ k);
+      counted = counts counted;
+      held = holds held;
+    })
+  where
+    connect : Pending
+    connect = pending e.place client id e.moment hold
+
+    change : Session → Session
+    change = connected old.config connect acked
+
+    follows : Entry
+    follows = record e { kind = kinds.Connect m client id acked hold }
+
+    answered : (n : ℕ) → answers_by (λ s. step old.config s follows) (kept_in old n) ≡ cond (nat_eq m n) (answers_by change (kept_in old n)) []
+    answered n = one_answered stands e m old counted (kinds.Connect m client id acked hold) change (λ s. refl) n
+
+    filed : (o : Option Kept) → kept_in old m ≡ o → (a : Answered) → Contains (answers_by change o) a → connect_filing m connect change o (connect_at old.connects) a.place ≡ Some (Filed m e.place a.answer)
+    filed None gone a there = absurd (nowhere a there)
+    filed (Some k) here a there =
+        filed_each e.place m (answers_by change (Some k)) (holding m connect (connect_at old.connects)) (distinct old m connect acked k held here fresh) (their_sessions old m connect acked k held here fresh) a there
+
+    given : (n : ℕ) (a : Answered) → IsGiven old.config (kept_in old) follows n a → connect_at new.connects a.place ≡ Some (Filed n e.place a.answer)
+    given n a g =
+        let w = given_of_one (nat_eq m n) (answers_by change (kept_in old n)) a (subst (λ answers. Contains answers a) (answered n) g) in
+        let same : m ≡ n = eqb-true m n w.0 in
+        connects a.place ∙ filed (kept_in old m) refl a (subst (λ j. Contains (answers_by change (kept_in old j)) a) (sym same) w.1) ∙ ap (λ j. Some (Filed j e.place a.answer)) same
+
+    known : (p n : ℕ) (o : Option Kept) → kept_in old m ≡ o → session_at (connect_filing m connect change (kept_in old m) (connect_at old.connects) p) ≡ Some n
+        → (session_at (connect_at old.connects p) ≡ Some n) ⊎ Connects (kept_in old) follows p n
+    known p n None gone k = inl (sym (ap (λ o. session_at (connect_filing m connect change o (connect_at old.connects) p)) gone) ∙ k)
+    known p n (Some x) here k =
+        by (nat_eq e.place p) refl
+        (sym (ap (λ o. session_at (connect_filing m connect change o (connect_at old.connects) p)) here
+        ∙ filing_each_session e.place (answers_by change (Some x)) (holding m connect (connect_at old.connects)) p) ∙ k)
+      where
+        by : (b : Bool) → nat_eq e.place p ≡ b → session_at (cond b (held_by m (deadline_of connect)) (connect_at old.connects p)) ≡ Some n
+            → (session_at (connect_at old.connects p) ≡ Some n) ⊎ Connects (kept_in old) follows p n
+        by true same h = inr (record {
+          place = eqb-true e.place p same;
+          session = h;
+          here = subst (λ j. is_some (kept_in old j) ≡ true) (ap (λ o. option_map_or (λ (j : ℕ). j) o m) h) (ap is_some here);
+        })
+        by false other h = inl h
+
+    kept_at : (p : ℕ) → ((n : ℕ) (a : Answered) → IsGiven old.config (kept_in old) follows n a → a.place ≢ p) → connect_at new.connects p ≡ states.begun (kept_in old) (connect_at old.connects) follows (kinds.Connect m client id acked hold) p
+    kept_at p never = connects p ∙ by (kept_in old m) refl
+      where
+        by : (o : Option Kept) → kept_in old m ≡ o → connect_filing m connect change (kept_in old m) (connect_at old.connects) p ≡ states.begun (kept_in old) (connect_at old.connects) follows (kinds.Connect m client id acked hold) p
+        by None gone =
+            ap (λ o. connect_filing m connect change o (connect_at old.connects) p) gone
+            ∙ ap (λ o. cond (is_some o) (holding m connect (connect_at old.connects) p) (connect_at old.connects p)) (sym gone)
+        by (Some k) here =
+            ap (λ o. connect_filing m connect change o (connect_at old.connects) p) here
+            ∙ unfiled e.place (answers_by change (Some k)) (holding m connect (connect_at old.connects)) p
+            (λ a there. never m a (subst (λ answers. Contains answers a) (sym (answered m)) (of_one_given (nat_eq m m) (answers_by change (kept_in old m)) a (eq-eqb m m refl) (subst (λ o. Contains (answers_by change o) a) (sym here) there))))
+            ∙ ap (λ o. cond (is_some o) (holding m connect (connect_at old.connects) p) (connect_at old.connects p)) (sym here)
+
+-- a connect of a session that is here, or is not
+pub followed_connect : (stands : Bool) (e : Entry) (m : ℕ) (client : List ℕ) (id : Option (List ℕ)) (acked : Option ℕ) (hold : ℕ) (connect : Pending) (old new : Sessions)
+    → e.kind ≡ kinds.Connect m client id acked hold → connect ≡ pending e.place client id e.moment hold
+    → connect_at old.connects connect.place ≡ None
+    → ((n : ℕ) → kept_in new n ≡ with_one m (connected old.config connect acked) (kept_in old) n)
+    → ((p : ℕ) → connect_at new.connects p ≡ connect_filing m connect (connected old.config connect acked) (kept_in old m) (connect_at old.connects) p)
+    → (new.config ≡ old.config) × (new.tree ≡ old.tree)
+    → (AreCounted old → AreCounted new) → (AreHeld old → AreHeld new)
+    → AreCounted old → AreHeld old → Followed stands e old new
+followed_connect stands e m client id acked hold connect old new kind is fresh sessions connects others counts holds counted held =
+    followed_pending stands e m client id acked hold old new kind
+    (ap (λ (c : Pending). connect_at old.connects c.place) (sym is) ∙ fresh)
+    (λ n. sessions n ∙ ap (λ (c : Pending). with_one m (connected old.config c acked) (kept_in old) n) is)
+    (λ p. connects p ∙ ap (λ (c : Pending). connect_filing m c (connected old.config c acked) (kept_in old m) (connect_at old.connects) p) is)
+    others.0 counts holds counted held
+
+-- a connect of a session that is not here
+pub followed_connect_elsewhere : (stands : Bool) (e : Entry) (m : ℕ) (client : List ℕ) (id : Option (List ℕ)) (acked : Option ℕ) (hold : ℕ) (old new : Sessions)
+    → e.kind ≡ kinds.Connect m client id acked hold → kept_in old m ≡ None → new ≡ old → AreCounted old → AreHeld old → Followed stands e old new
+followed_connect_elsewhere stands e m client id acked hold old new kind gone same counted held =
+    subst (Followed stands e old) (sym same)
+    (unchanged stands e old (kinds.Connect m client id acked hold) kind
+    (λ n. away n (nat_eq m n) refl ∙ one_stepped stands e m old counted (kinds.Connect m client id acked hold) change (λ s. refl) (λ n. refl) (λ n k here. (connected_k old.config connect acked (resumed k)).stage) n)
+    nothing (λ p. ap (λ o. cond (is_some o) (holding m connect (connect_at old.connects) p) (connect_at old.connects p)) (sym gone)) counted held)
+  where
+    connect : Pending
+    connect = pending e.place client id e.moment hold
+
+    change : Session → Session
+    change = connected old.config connect acked
+
+    away : (n : ℕ) (b : Bool) → nat_eq m n ≡ b → kept_in old n ≡ cond b (option_map (after change) (kept_in old m)) (kept_in old n)
+    away n true is = ap (kept_in old) (sym (eqb-true m n is)) ∙ gone ∙ ap (option_map (after change)) (sym gone)
+    away n false is = refl
+
+    nothing : (n : ℕ) (a : Answered) → IsGiven old.config (kept_in old) (record e { kind = kinds.Connect m client id acked hold }) n a → ⊥
+    nothing n a g =
+        let w = given_of_one (nat_eq m n) (answers_by change (kept_in old n)) a (subst (λ answers. Contains answers a) (one_answered stands e m old counted (kinds.Connect m client id acked hold) change (λ s. refl) n) g) in
+        nowhere a (subst (λ o. Contains (answers_by change o) a) (ap (kept_in old) (sym (eqb-true m n w.0)) ∙ gone) w.1)
+
+-- ---- a disconnect
+
+-- a session is closed, and its held connect is answered
+pub followed_disconnect : (stands : Bool) (e : Entry) (m : ℕ) (old new : Sessions) → e.kind ≡ kinds.Disconnect m
+    → ((n : ℕ) → kept_in new n ≡ cond (nat_eq m n) None (kept_in old n))
+    → ((p : ℕ) → connect_at new.connects p ≡ filing_each e.place (answers_by (released old.config e.place Disconnected) (kept_in old m)) (connect_at old.connects) p)
+    → new.config ≡ old.config
+    → (AreCounted old → AreCounted new) → (AreHeld old → AreHeld new)
+    → AreCounted old → AreHeld old → Followed stands e old new
+followed_disconnect stands e m old new kind sessions connects config counts holds counted held = of_kind stands e (kinds.Disconnect m) old new kind (record {
+  config = config;
+  sessions = λ n. sessions n ∙ by n (kept_in old n) (counted n);
+  connects = record {
+    given = given;
+    kept = λ p never. connects p ∙ unfiled e.place (answers_by change (kept_in old m)) (connect_at old.connects) p
+        (λ a there. never m a (subst (λ answers. Contains answers a) (sym (answered m)) (of_one_given (nat_eq m m) (answers_by change (kept_in old m)) a (eq-eqb m m refl) there)));
+  };
+  known = λ p n k. inl (sym (ap session_at (connects p) ∙ filing_each_session e.place (answers_by change (kept_in old m)) (connect_at old.connects) p) ∙ k);
+  counted = counts counted;
+  held = holds held;
+})
+  where
+    follows : Entry
+    follows = record e { kind = kinds.Disconnect m }
+
+    change : Session → Session
+    change = released old.config e.place Disconnected
+
+    by : (n : ℕ) (o : Option Kept) → IsCounted n o (patterns_in old n) → cond (nat_eq m n) None o ≡ session_after old.config stands follows n o
+    by n None c = none_here (nat_eq m n)
+    by n (Some k) c = own_ended n k (patterns_in old n) c m (change (resumed k)) (released_from_k old.config e.place Disconnected (resumed k) k.held).stage
+
+    answered : (n : ℕ) → answers_by (λ s. step old.config s follows) (kept_in old n) ≡ cond (nat_eq m n) (answers_by change (kept_in old n)) []
+    answered n = one_answered stands e m old counted (kinds.Disconnect m) (disconnected old.config e.place) (λ s. refl) n ∙ ap (λ given. cond (nat_eq m n) given []) (same (kept_in old n))
+      where
+        same : (o : Option Kept) → answers_by (disconnected old.config e.place) o ≡ answers_by change o
+        same None = refl
+        same (Some k) = refl
+
+    given : (n : ℕ) (a : Answered) → IsGiven old.config (kept_in old) follows n a → connect_at new.connects a.place ≡ Some (Filed n e.place a.answer)
+    given n a g =
+        let w = given_of_one (nat_eq m n) (answers_by change (kept_in old n)) a (subst (λ answers. Contains answers a) (answered n) g) in
+        let there : Contains (answers_by change (kept_in old m)) a = subst (λ j. Contains (answers_by change (kept_in old j)) a) (sym (eqb-true m n w.0)) w.1 in
+        connects a.place ∙ filed (kept_in old m) refl there ∙ ap (λ j. Some (Filed j e.place a.answer)) (eqb-true m n w.0)
+      where
+        one : (k : Kept) → kept_in old m ≡ Some k → From k (change (resumed k)) → Contains (answers_by change (Some k)) a → filing_each e.place (answers_by change (Some k)) (connect_at old.connects) a.place ≡ Some (Filed m e.place a.answer)
+        one k here (inl end) there =
+            let same : end.answer ≡ a = only_one end.answer a (subst (λ answers. Contains answers a) end.given there) in
+            let own : a.place ≡ end.hold.place = ap (λ (x : Answered). x.place) (sym same) ∙ end.own in
+            let is : k ≡ end.session = ap (λ o. option_map_or (λ (y : Kept). y) o k) end.here in
+            ap (λ answers. filing_each e.place answers (connect_at old.connects) a.place) (end.given ∙ ap (λ x. x ∷ []) same)
+            ∙ ap (λ b. cond b (filed_as e.place a.answer (connect_at old.connects a.place)) (connect_at old.connects a.place)) (eq-eqb a.place a.place refl)
+            ∙ filed_known e.place m a.answer (connect_at old.connects a.place) (held_session (connect_at old.connects a.place) m (deadline_of end.hold)
+            (held a.place m ∙ ap (λ o. holds_until o a.place) here ∙ ap (λ p. holds_until (Some k) p) own ∙ ap (λ y. holds_until (Some y) end.hold.place) is ∙ holds_own end.session end.hold end.held))
+        one k here (inr stays) there = absurd (nowhere a (subst (λ answers. Contains answers a) stays.none there))
+
+        filed : (o : Option Kept) → kept_in old m ≡ o → Contains (answers_by change o) a → filing_each e.place (answers_by change o) (connect_at old.connects) a.place ≡ Some (Filed m e.place a.answer)
+        filed None here there = absurd (nowhere a there)
+        filed (Some k) here there = one k here (released_e old.config e.place Disconnected k) there
+
+-- ---- a refused message
+
+-- a refused message changes nothing
+pub followed_refused : (stands : Bool) (e : Entry) (s : Sessions) → e.kind ≡ kinds.Refused → AreCounted s → AreHeld s → Followed stands e s s
+followed_refused stands e s is counted held = unchanged stands e s kinds.Refused is (λ n. by n (kept_in s n) (counted n)) (λ n a g. nothing a (kept_in s n) g) (λ p. refl) counted held
+  where
+    by : (n : ℕ) (o : Option Kept) → IsCounted n o (patterns_in s n) → o ≡ session_after s.config stands (record e { kind = kinds.Refused }) n o
+    by n None c = refl
+    by n (Some k) c = live_there (resumed k) c.live
+
+    nothing : (a : Answered) (o : Option Kept) → Contains (answers_by (λ t. step s.config t (record e { kind = kinds.Refused })) o) a → ⊥
+    nothing a None there = nowhere a there
+    nothing a (Some k) there = nowhere a there
+
+-- ---- patterns
+
+-- a change of one session that answers nothing
+followed_quiet : (stands : Bool) (e : Entry) (m : ℕ) (kind : Kind) (change : Session → Session) (old new : Sessions) → e.kind ≡ kind
+    → ((s : Session) → step old.config s (record e { kind = kind }) ≡ cond (m == s.number) (change s) s) → ((n : ℕ) → states.opening stands kind n ≡ None)
+    → ((n : ℕ) (k : Kept) → kept_in old n ≡ Some k → (change (resumed k)).stage ≡ k.stage) → ((k : Kept) → (change (resumed k)).answers ≡ [])
+    → ((p : ℕ) → connect_at old.connects p ≡ states.begun (kept_in old) (connect_at old.connects) (record e { kind = kind }) kind p)
+    → ((n : ℕ) → kept_in new n ≡ with_one m change (kept_in old) n)
+    → new.config ≡ old.config → new.connects ≡ old.connects → AreCounted old → AreCounted new → AreHeld new → Followed stands e old new
+followed_quiet stands e m kind change old new is steps opens stage quiet begins sessions config connects before counted held = of_kind stands e kind old new is (record {
+  config = config;
+  sessions = λ n. sessions n ∙ one_stepped stands e m old before kind change steps opens stage n;
+  connects = record { given = λ n a g. absurd (nothing n a g); kept = λ p never. ap (λ c. connect_at c p) connects ∙ begins p };
+  known = λ p n k. inl (sym (ap (λ c. session_at (connect_at c p)) connects) ∙ k);
+  counted = counted;
+  held = held;
+})
+  where
+    none : (o : Option Kept) → answers_by change o ≡ []
+    none None = refl
+    none (Some k) = ap (map answered_of) (quiet k)
+
+    nothing : (n : ℕ) (a : Answered) → IsGiven old.config (kept_in old) (record e { kind = kind }) n a → ⊥
+    nothing n a g =
+        let w = given_of_one (nat_eq m n) (answers_by change (kept_in old n)) a (subst (λ answers. Contains answers a) (one_answered stands e m old before kind change steps n) g) in
+        nowhere a (subst (λ answers. Contains answers a) (none (kept_in old n)) w.1)
+
+-- a subscription changes the patterns of its session, and no connect
+pub followed_subscribe : (stands : Bool) (e : Entry) (m : ℕ) (patterns : List Glob) (old new : Sessions) → e.kind ≡ kinds.Subscribe m patterns
+    → ((n : ℕ) → kept_in new n ≡ with_one m (subscribed old.config patterns) (kept_in old) n)
+    → new.config ≡ old.config → new.connects ≡ old.connects → AreCounted old → AreCounted new → AreHeld new → Followed stands e old new
+followed_subscribe stands e m patterns old new is sessions config connects before counted held =
+    followed_quiet stands e m (kinds.Subscribe m patterns) (subscribed old.config patterns) old new is (λ s. refl) (λ n. refl) stage (λ k. subscribed_quiet k old.config patterns) (λ p. refl) sessions config connects before counted held
+  where
+    stage : (n : ℕ) (k : Kept) → kept_in old n ≡ Some k → (subscribed old.config patterns (resumed k)).stage ≡ k.stage
+    stage n k here = let own : IsOwn n k (patterns_in old n) = subst (λ o. IsCounted n o (patterns_in old n)) here (before n) in (subscribed_l old.config patterns k (λ h. own.patterns_are ∙ own.emptied h)).stage
+
+-- so does an unsubscription
+pub followed_unsubscribe : (stands : Bool) (e : Entry) (m : ℕ) (patterns : List Glob) (old new : Sessions) → e.kind ≡ kinds.Unsubscribe m patterns
+    → ((n : ℕ) → kept_in new n ≡ with_one m (unsubscribed patterns) (kept_in old) n)
+    → new.config ≡ old.config → new.connects ≡ old.connects → AreCounted old → AreCounted new → AreHeld new → Followed stands e old new
+followed_unsubscribe stands e m patterns old new is sessions config connects before counted held =
+    followed_quiet stands e m (kinds.Unsubscribe m patterns) (unsubscribed patterns) old new is (λ s. refl) (λ n. refl) (λ n k here. refl) (λ k. refl) (λ p. refl) sessions config connects before counted held
+
+-- ---- a publish
+
+-- each session that hears a published event gets it, and its held connect is answered with it
+pub followed_publish : (stands : Bool) (e : Entry) (event : Event) (old new : Sessions) → e.kind ≡ kinds.Publish event
+    → ((n : ℕ) → kept_in new n ≡ option_map (after (published old.config (published_at e.place event))) (kept_in old n))
+    → ((n : ℕ) (a : Answered) → Contains (answers_by (published old.config (published_at e.place event)) (kept_in old n)) a → connect_at new.connects a.place ≡ Some (Filed n e.place a.answer))
+    → ((p : ℕ) → ((n : ℕ) (a : Answered) → Contains (answers_by (published old.config (published_at e.place event)) (kept_in old n)) a → a.place ≢ p) → connect_at new.connects p ≡ connect_at old.connects p)
+    → ((p : ℕ) → session_at (connect_at new.connects p) ≡ session_at (connect_at old.connects p))
+    → new.config ≡ old.config → AreCounted old → AreCounted new → AreHeld new → Followed stands e old new
+followed_publish stands e event old new is sessions given kept_at known config before counted held = of_kind stands e (kinds.Publish event) old new is (record {
+  config = config;
+  sessions = λ n. sessions n ∙ by n (kept_in old n) (before n);
+  connects = record { given = λ n a g. given n a (same n a (kept_in old n) g); kept = λ p never. kept_at p (λ n a g. never n a (back n a (kept_in old n) g)) };
+  known = λ p m k. inl (sym (known p) ∙ k);
+  counted = counted;
+  held = held;
+})
+  where
+    change : Session → Session
+    change = published old.config (published_at e.place event)
+
+    by : (n : ℕ) (o : Option Kept) → IsCounted n o (patterns_in old n) → option_map (after change) o ≡ session_after old.config stands (record e { kind = kinds.Publish event }) n o
+    by n None c = refl
+    by n (Some k) c = live_there (change (resumed k)) (published_stage k old.config (published_at e.place event) ∙ c.live)
+
+    same : (n : ℕ) (a : Answered) (o : Option Kept) → Contains (answers_by (λ s. step old.config s (record e { kind = kinds.Publish event })) o) a → Contains (answers_by change o) a
+    same n a None g = g
+    same n a (Some k) g = g
+
+    back : (n : ℕ) (a : Answered) (o : Option Kept) → Contains (answers_by change o) a → Contains (answers_by (λ s. step old.config s (record e { kind = kinds.Publish event })) o) a
+    back n a None g = g
+    back n a (Some k) g = g
+
+-- ---- a tick
+
+-- A tick ends the holds that are due, whose connects are answered, and then closes sessions, whose held connects are let go.
+pub followed_tick : (stands : Bool) (e : Entry) (numbers : List ℕ) (old between new : Sessions) → e.kind ≡ kinds.Tick numbers
+    → ((n : ℕ) → kept_in between n ≡ option_map (after (expired old.config e.place e.moment)) (kept_in old n))
+    → ((n : ℕ) (a : Answered) → Contains (answers_by (expired old.config e.place e.moment) (kept_in old n)) a → connect_at between.connects a.place ≡ Some (Filed n e.place a.answer))
+    → ((p : ℕ) → ((n : ℕ) (a : Answered) → Contains (answers_by (expired old.config e.place e.moment) (kept_in old n)) a → a.place ≢ p) → connect_at between.connects p ≡ connect_at old.connects p)
+    → ((p : ℕ) → session_at (connect_at between.connects p) ≡ session_at (connect_at old.connects p))
+    → between.config ≡ old.config
+    → ((n : ℕ) → kept_in new n ≡ cond (list_any (λ m. m == n) numbers) None (kept_in between n))
+    → ((p : ℕ) → connect_at new.connects p ≡ let_go numbers (connect_at between.connects p))
+    → new.config ≡ between.config → AreCounted old → AreCounted new → AreHeld new → Followed stands e old new
+followed_tick stands e numbers old between new is ends given kept_at known config closed gone config_closed before counted held = of_kind stands e (kinds.Tick numbers) old new is (record {
+  config = config_closed ∙ config;
+  sessions = λ n. closed n ∙ ap (λ o. cond (list_any (λ m. m == n) numbers) None o) (ends n) ∙ by n (kept_in old n) (before n);
+  connects = record {
+    given = λ n a g. gone a.place ∙ ap (let_go numbers) (given n a (subst (λ answers. Contains answers a) (answered (kept_in old n)) g));
+    kept = λ p never. gone p ∙ ap (let_go numbers) (kept_at p (λ n a g. never n a (subst (λ answers. Contains answers a) (sym (answered (kept_in old n))) g)));
+  };
+  known = λ p m k. inl (sym (known p) ∙ let_go_session numbers (connect_at between.connects p) m (sym (ap session_at (gone p)) ∙ k));
+  counted = counted;
+  held = held;
+})
+  where
+    change : Session → Session
+    change = expired old.config e.place e.moment
+
+    follows : Entry
+    follows = record e { kind = kinds.Tick numbers }
+
+    by : (n : ℕ) (o : Option Kept) → IsCounted n o (patterns_in old n) → cond (list_any (λ m. m == n) numbers) None (option_map (after change) o) ≡ session_after old.config stands follows n o
+    by n None c = none_here (list_any (λ m. m == n) numbers)
+    by n (Some k) c = let s : Keeps (resumed k) (change (resumed k)) = expired_from_k old.config e.place e.moment (resumed k) k.held in closed_or_live n k (patterns_in old n) c numbers (change (resumed k)) s.stage s.number
+
+    answered : (o : Option Kept) → answers_by (λ s. step old.config s follows) o ≡ answers_by change o
+    answered None = refl
+    answered (Some k) = cond_both (list_any (λ n. n == (change (resumed k)).number) numbers) (ended (change (resumed k))) (change (resumed k)) (λ (t : Session). map answered_of t.answers ≡ answers_by change (Some k)) (λ h. refl) (λ h. refl)
