@@ -1,0 +1,159 @@
+"""Rows that are made by code, since they are too long to be written out, and arguments that are refused."""
+from texts import spelled
+
+# The limits: the bytes of a body, the messages of a request, and the patterns of a message.
+BODY, MESSAGES, PATTERNS = 1_048_576, 256, 64
+
+# Arguments that are refused, with one space between each two.
+REFUSED = (
+    "",
+    "2 2 30000 0",
+    "2 2 30000 0 10000 1",
+    " 2 30000 0 10000",
+    "2 2 30000 0 ",
+    "+5 2 30000 0 10000",
+    "2 2 +5 0 10000",
+    "2 two 30000 0 10000",
+    "2 2 30000 0 10000s",
+    "0 2 30000 0 10000",
+    "65 2 30000 0 10000",
+    "2 0 30000 0 10000",
+    "2 17 30000 0 10000",
+    "18446744073709551616 2 30000 0 10000",
+    "2 18446744073709551617 30000 0 10000",
+    "2 2 4294967296 0 10000",
+    "2 2 30000 4294967296 10000",
+    "2 2 30000 0 18446744073709551616",
+)
+
+
+def listed(text, count):
+    """Returns the text so many times, with commas between."""
+    return ",".join([text] * count)
+
+
+def ends():
+    """Yields the script that has no line, and one whose last line does not end."""
+    yield "a script without lines", "", ""
+    yield "a last line without its end counts", "0 P []\n0 P []", "1 200 []\n2 200 []\n"
+
+
+def long_lines():
+    """Yields bodies of as many bytes as may be, and more, and a long line of another form."""
+    for front, count, printed in (
+        ("0 P []", BODY - 2, "200 []"),
+        ("0 P []", BODY - 1, "413"),
+        ("0 P ", BODY + 1, "413"),
+        ("0 P []", BODY * 3, "413"),
+    ):
+        yield f"{front} and {count} spaces", f"{front}{' ' * count}\n0 P []\n", f"1 {printed}\n2 200 []\n"
+    yield "a long line of another form is bad", f"{'0' * (BODY * 3)}\n0 P []\n", "1 bad\n2 200 []\n"
+
+
+def thousands_of_lines():
+    """Yields a script of 5,000 lines."""
+    yield "thousands of lines", "x\n" * 5_000, "".join(f"{line} bad\n" for line in range(1, 5_001))
+
+
+def fronts():
+    """Yields each front of a body: it is refused whole."""
+    body = spelled('[{"channel":"/a/b","clientId":"<client 1>","data":1,"data":{"a" : 1.50},"id":"q"}]')
+    tried = "".join(f"0 P {body[:length]}\n" for length in range(len(body)))
+    refused = "".join(f"{length + 2} 400\n" for length in range(len(body)))
+    handshake = "0 P [<handshake>]\n"
+    yield "each front of a body", f"{handshake}{tried}{handshake}", f"1 200 [<opened 1>]\n{refused}{len(body) + 2} 200 [<opened 2>]\n"
+
+
+def nested():
+    """Yields data that is nested as deep as may be, and deeper."""
+    data = "[" * 125 + "]" * 125
+    yield (
+        "data of nested arrays",
+        f"0 P [<handshake>]\n0 P [<subscribe 1 /a/b>,<publish 1 /a/b {data}>]\n0 P [<publish 1 /a/b [{data}]>]\n0 P [<poll 1>]\n",
+        f"1 200 [<opened 1>]\n2 200 [<subscribed 1 /a/b>,<published /a/b>]\n3 400\n4 200 [<event /a/b {data}>,<connected 1>]\n",
+    )
+
+
+def messages():
+    """Yields requests of as many messages as may be, and one more, in one document and over several."""
+    ping, reply = '{"channel":"/meta/ping"}', "<refused /meta/ping 404::Unknown meta channel>"
+    most, replies = listed(ping, MESSAGES), listed(reply, MESSAGES)
+    yield "as many messages as may be, and one more", f"0 P [{most}]\n0 P [{most},{ping}]\n", f"1 200 [{replies}]\n2 400\n"
+    for first, second, printed in (
+        (57, 199, f"200 f([{replies}])"),
+        (255, 1, f"200 f([{replies}])"),
+        (0, 256, f"200 f([{replies}])"),
+        (57, 200, "400"),
+        (256, 1, "400"),
+        (257, 0, "400"),
+    ):
+        query = f"message=[{listed(ping, first)}]&jsonp=f&message=[{listed(ping, second)}]"
+        yield f"{first} and {second} messages in a query", f"0 G {query}\n", f"1 {printed}\n"
+
+
+def patterns():
+    """Yields subscriptions of as many patterns as a message may have, and of more."""
+    most = listed('"/a"', PATTERNS)
+    many, wrong = f'{most},"/meta/*"', f'{most},"a"'
+    script, expected = "0 P [<handshake>]\n", "1 200 [<opened 1>]\n"
+    for line, asked, outcome in (
+        (2, most, '"subscription":[{}],"successful":true'),
+        (3, many, '"error":"400::Too many patterns","subscription":[{}],"successful":false'),
+        (4, wrong, '"error":"400::Invalid pattern","subscription":[{}],"successful":false'),
+    ):
+        script += f'1 P [{{<meta subscribe 1>,"subscription":[{asked}]}}]\n'
+        expected += f"{line} 200 [{{<meta subscribe 1>,{outcome.format(asked)}}}]\n"
+    yield "subscriptions of many patterns", script, expected
+
+
+def overflows():
+    """Yields sessions with as many events as may wait, one event more, and one pattern too many, which ends no hold."""
+    script, expected = "0 P [<handshake>]\n0 P [<subscribe 1 /a/b>]\n", "1 200 [<opened 1>]\n2 200 [<subscribed 1 /a/b>]\n"
+    for line in range(3, 7):
+        script += f"0 P [{listed('<publish 1 /a/b 1>', 256)}]\n"
+        expected += f"{line} 200 [{listed('<published /a/b>', 256)}]\n"
+    yield (
+        "one event too many",
+        f"{script}0 P [<publish 1 /a/b 1>]\n0 P [<poll 1>]\n0 P [<publish 1 /a/b 1>]\n",
+        f"{expected}7 200 [<published /a/b>]\n8 200 [<overflowed 1>]\n9 200 [<published /a/b>]\n",
+    )
+    events = listed("<event /a/b 1>", 256)
+    answers = "".join(f"{line} 200 [{events},<connected 1>]\n" for line in range(7, 11))
+    yield "as many events as may be", script + "0 P [<poll 1>]\n" * 4, expected + answers
+    script, expected = "0 P [<handshake>]\n0 P [<connect 1>]\n", "1 200 [<opened 1>]\n"
+    for line in range(3, 19):
+        members = '<meta subscribe 1>,"subscription":[%s]' % ",".join(f'"/{line}/{index}"' for index in range(64))
+        script += f"0 P [{{{members}}}]\n"
+        expected += f'{line} 200 [{{{members},"successful":true}}]\n'
+    yield (
+        "one pattern too many",
+        f"{script}0 P [<subscribe 1 /a>]\n29999 T\n30000 T\n30000 P [<poll 1>]\n",
+        f"{expected}19 200 [<subscribed 1 /a>]\n2 200 [<connected 1>]\n22 200 [<overflowed 1>]\n",
+    )
+
+
+def crowds():
+    """Yields a connect behind so many sessions that several workers find something to do: it is held until its event."""
+    script = "0 P [<handshake>]\n" * 1_024
+    expected = "".join(f"{line} 200 [<opened {line:x}>]\n" for line in range(1, 1_025))
+    lines = (
+        ("0 P [<handshake>]\n", "1025 200 [<opened 401>]\n"),
+        ("0 P [<handshake>]\n", "1026 200 [<opened 402>]\n"),
+        ("0 P [<subscribe 401 /a/*>]\n", "1027 200 [<subscribed 401 /a/*>]\n"),
+    )
+    script += "".join(asked for asked, _ in lines)
+    expected += "".join(printed for _, printed in lines)
+    yield "no connect is held behind a crowd", script, expected
+    script += "10 P [<connect 401>]\n"
+    yield "a connect is held behind a crowd", script, f"{expected}1028 held\n"
+    yield (
+        "a held connect gets its event behind a crowd",
+        f"{script}20 P [<publish 402 /a/b 7>]\n",
+        f"{expected}1028 200 [<event /a/b 7>,<connected 401>]\n1029 200 [<published /a/b>]\n",
+    )
+
+
+def made():
+    """Yields the name of each row, its script and what it must print, in words."""
+    for part in (ends, long_lines, thousands_of_lines, fronts, nested, messages, patterns, overflows, crowds):
+        yield from part()

@@ -1,0 +1,74 @@
+"""The rows of a text file, and the words in which they are written."""
+import os
+import re
+from collections import namedtuple
+
+# What a run is about, its arguments where it names some, the script that is given, and what must be printed.
+Row = namedtuple("Row", "name arguments script expected")
+
+WORD = re.compile("<([^<>]*)>")
+# How many digits a client id has.
+CLIENT = 48
+# What stands for characters that are not to be seen in a text file.
+CHARACTERS = {"space": " ", "return": "\r", "zero": "\0"}
+
+
+def read_words():
+    """Returns how many arguments each word has, and what stands for it."""
+    found = {it: (0, character) for it, character in CHARACTERS.items()}
+    with open(f"{os.path.dirname(os.path.realpath(__file__))}/words.txt", encoding="utf-8") as file:
+        for line in file.read().splitlines():
+            if line and not line.startswith("#"):
+                head, _, text = line.partition(" = ")
+                found[head.split()[0]] = (len(head.split()) - 1, text)
+    return found
+
+
+WORDS = read_words()
+
+
+def expanded(match):
+    """Returns what stands for a word and its arguments, of which the last one reaches to the end."""
+    name, *rest = match[1].split(" ", 1)
+    if name == "client":
+        return rest[0].zfill(CLIENT)
+    count, text = WORDS[name]
+    arguments = rest[0].split(" ", count - 1) if rest else []
+    if len(arguments) != count:
+        raise ValueError(f"<{match[1]}> has not {count} arguments")
+    for place, argument in enumerate(arguments, 1):
+        text = text.replace(f"${place}", argument)
+    return text
+
+
+def spelled(text):
+    """Returns the text with what stands for each of its words."""
+    while WORD.search(text):
+        text = WORD.sub(expanded, text)
+    return text
+
+
+def row_of(name, lines):
+    """Returns the row of this name and these lines, each of which begins with its mark."""
+    parts = {"$": [], ">": [], "<": []}
+    for line in lines:
+        if line[1:2] not in ("", " "):
+            raise ValueError(f"{name}: no space behind the mark: {line}")
+        parts[line[0]].append(line[2:])
+    if not parts[">"] or not parts["<"] or lines != sorted(lines, key=lambda it: "$><".index(it[0])):
+        raise ValueError(f"{name}: not arguments, a script and what is printed, in this order")
+    script, expected = ("".join(f"{spelled(it)}\n" for it in parts[mark]).encode() for mark in "><")
+    return Row(name, parts["$"][0] if parts["$"] else None, script, expected)
+
+
+def rows_of(file):
+    """Yields the rows of a text file: a line with the name of each, and then its lines."""
+    name, lines = None, []
+    with open(file, encoding="utf-8", newline="\n") as text:
+        for line in [*text.read().split("\n"), "the end"]:
+            if line[:1] in ("$", ">", "<") and line:
+                lines.append(line)
+            elif line and not line.startswith("#"):
+                if name or lines:
+                    yield row_of(f"{os.path.basename(file)}: {name}", lines)
+                name, lines = line, []
