@@ -1,149 +1,308 @@
-//! Whole runs, from a script to what is printed.
-ghost use Rattle.std.specs.Prelude.{◌≤◌};
-
-mod acknowledged;
-mod arguments;
-mod events;
-mod faults;
-mod held;
-mod limits;
-mod lines;
-mod queries;
-mod refusals;
-mod resharded;
-mod words;
-
-use bx_advice::{BODY_LIMIT, Config};
+//! Replays of scripts where sessions are placed otherwise than by the program, and such as end with a fault of a reader or a writer: what is
+//! written then is a front of the right output. Other scripts are rows of the program.
+use bx_advice::Config;
 use bx_entry::{AllFirst, ByRemainder, ByTable, Placing};
 use bx_replay::replay;
 use bx_script::{Lines, Output, ScriptFault};
 use std::alloc::Global;
-use std::io::BufReader;
+use std::io;
+use std::io::{BufRead, BufReader, ErrorKind, Read, Write};
 use std::process::Abort;
 use std::sync::Arc;
 use std::test::Fail;
 use std::thread::Threads;
-use words::spelled;
 
-// What a run is about, its script, and what it prints.
-type Run = (&'static str, &'static str, &'static str);
+// Scripts, and what each prints: lines of all kinds, and an event that answers a connect.
+const RUNS: [(&str, &str); 2] = [
+    (
+        r#"0 P [{"channel":"/meta/handshake","version":"1.0","supportedConnectionTypes":["long-polling"]}]
+0 P [{"channel":"/meta/connect","clientId":"000000000000000000000000000000000000000000000001","connectionType":"long-polling"}]
+x
+0 P {
+1 P [{"channel":"/meta/connect","clientId":"000000000000000000000000000000000000000000000001","connectionType":"long-polling"}]
+"#,
+        r#"1 200 [{"advice":{"interval":0,"reconnect":"retry","timeout":30000},"channel":"/meta/handshake","clientId":"000000000000000000000000000000000000000000000001","successful":true,"supportedConnectionTypes":["long-polling","callback-polling"],"version":"1.0"}]
+3 bad
+4 400
+2 200 [{"channel":"/meta/connect","clientId":"000000000000000000000000000000000000000000000001","error":"408::Superseded connect","successful":false}]
+5 held
+"#,
+    ),
+    (
+        r#"0 P [{"channel":"/meta/handshake","version":"1.0","supportedConnectionTypes":["long-polling"]}]
+0 P [{"channel":"/meta/handshake","version":"1.0","supportedConnectionTypes":["long-polling"]}]
+0 P [{"channel":"/meta/subscribe","clientId":"000000000000000000000000000000000000000000000001","subscription":"/a/*"}]
+10 P [{"channel":"/meta/connect","clientId":"000000000000000000000000000000000000000000000001","connectionType":"long-polling"}]
+20 P [{"channel":"/a/b","clientId":"000000000000000000000000000000000000000000000002","data":7}]
+"#,
+        r#"1 200 [{"advice":{"interval":0,"reconnect":"retry","timeout":30000},"channel":"/meta/handshake","clientId":"000000000000000000000000000000000000000000000001","successful":true,"supportedConnectionTypes":["long-polling","callback-polling"],"version":"1.0"}]
+2 200 [{"advice":{"interval":0,"reconnect":"retry","timeout":30000},"channel":"/meta/handshake","clientId":"000000000000000000000000000000000000000000000002","successful":true,"supportedConnectionTypes":["long-polling","callback-polling"],"version":"1.0"}]
+3 200 [{"channel":"/meta/subscribe","clientId":"000000000000000000000000000000000000000000000001","subscription":"/a/*","successful":true}]
+4 200 [{"channel":"/a/b","data":7},{"advice":{"interval":0,"reconnect":"retry","timeout":30000},"channel":"/meta/connect","clientId":"000000000000000000000000000000000000000000000001","successful":true}]
+5 200 [{"channel":"/a/b","successful":true}]
+"#,
+    ),
+];
 
-fn config(shards: usize) -> Result<Config, Fail> {
-    Ok(Config::new(shards, 30_000, 0, 10_000).ok_or("no configuration")?)
-}
+// An event that answers two of three connects, and a batch that comes again among another number of shards.
+const PLACED: [(&str, &str); 2] = [
+    (
+        r#"0 P [{"channel":"/meta/handshake","version":"1.0","supportedConnectionTypes":["long-polling"]}]
+0 P [{"channel":"/meta/handshake","version":"1.0","supportedConnectionTypes":["long-polling"]}]
+0 P [{"channel":"/meta/handshake","version":"1.0","supportedConnectionTypes":["long-polling"]}]
+0 P [{"channel":"/meta/subscribe","clientId":"000000000000000000000000000000000000000000000001","subscription":"/a/*"},{"channel":"/meta/subscribe","clientId":"000000000000000000000000000000000000000000000002","subscription":"/a/b"}]
+1 P [{"channel":"/meta/connect","clientId":"000000000000000000000000000000000000000000000002","connectionType":"long-polling"}]
+1 P [{"channel":"/meta/connect","clientId":"000000000000000000000000000000000000000000000003","connectionType":"long-polling"}]
+1 P [{"channel":"/meta/connect","clientId":"000000000000000000000000000000000000000000000001","connectionType":"long-polling"}]
+2 P [{"channel":"/a/b","clientId":"000000000000000000000000000000000000000000000003","data":7}]
+3 P [{"channel":"/meta/connect","clientId":"000000000000000000000000000000000000000000000001","connectionType":"long-polling"}]
+"#,
+        r#"1 200 [{"advice":{"interval":0,"reconnect":"retry","timeout":30000},"channel":"/meta/handshake","clientId":"000000000000000000000000000000000000000000000001","successful":true,"supportedConnectionTypes":["long-polling","callback-polling"],"version":"1.0"}]
+2 200 [{"advice":{"interval":0,"reconnect":"retry","timeout":30000},"channel":"/meta/handshake","clientId":"000000000000000000000000000000000000000000000002","successful":true,"supportedConnectionTypes":["long-polling","callback-polling"],"version":"1.0"}]
+3 200 [{"advice":{"interval":0,"reconnect":"retry","timeout":30000},"channel":"/meta/handshake","clientId":"000000000000000000000000000000000000000000000003","successful":true,"supportedConnectionTypes":["long-polling","callback-polling"],"version":"1.0"}]
+4 200 [{"channel":"/meta/subscribe","clientId":"000000000000000000000000000000000000000000000001","subscription":"/a/*","successful":true},{"channel":"/meta/subscribe","clientId":"000000000000000000000000000000000000000000000002","subscription":"/a/b","successful":true}]
+5 200 [{"channel":"/a/b","data":7},{"advice":{"interval":0,"reconnect":"retry","timeout":30000},"channel":"/meta/connect","clientId":"000000000000000000000000000000000000000000000002","successful":true}]
+7 200 [{"channel":"/a/b","data":7},{"advice":{"interval":0,"reconnect":"retry","timeout":30000},"channel":"/meta/connect","clientId":"000000000000000000000000000000000000000000000001","successful":true}]
+8 200 [{"channel":"/a/b","successful":true}]
+6 held
+9 held
+"#,
+    ),
+    (
+        r#"0 P [{"channel":"/meta/handshake","version":"1.0","supportedConnectionTypes":["long-polling"],"ext":{"ack":true}}]
+0 P [{"channel":"/meta/subscribe","clientId":"000000000000000000000000000000000000000000000001","subscription":"/a/*"},{"channel":"/a/x","clientId":"000000000000000000000000000000000000000000000001","data":1}]
+1 P [{"channel":"/meta/connect","clientId":"000000000000000000000000000000000000000000000001","connectionType":"long-polling","ext":{"ack":0},"advice":{"timeout":0}}]
+1 S 1
+2 P [{"channel":"/meta/connect","clientId":"000000000000000000000000000000000000000000000001","connectionType":"long-polling","ext":{"ack":0},"advice":{"timeout":0}}]
+"#,
+        r#"1 200 [{"advice":{"interval":0,"reconnect":"retry","timeout":30000},"channel":"/meta/handshake","clientId":"000000000000000000000000000000000000000000000001","ext":{"ack":true},"successful":true,"supportedConnectionTypes":["long-polling","callback-polling"],"version":"1.0"}]
+2 200 [{"channel":"/meta/subscribe","clientId":"000000000000000000000000000000000000000000000001","subscription":"/a/*","successful":true},{"channel":"/a/x","successful":true}]
+3 200 [{"channel":"/a/x","data":1},{"advice":{"interval":0,"reconnect":"retry","timeout":30000},"channel":"/meta/connect","clientId":"000000000000000000000000000000000000000000000001","ext":{"ack":1},"successful":true}]
+5 200 [{"channel":"/a/x","data":1},{"advice":{"interval":0,"reconnect":"retry","timeout":30000},"channel":"/meta/connect","clientId":"000000000000000000000000000000000000000000000001","ext":{"ack":1},"successful":true}]
+"#,
+    ),
+];
 
-// What the program prints for a script, of which it is given a few thousand bytes a read. Sessions are placed in turn.
-fn printed<T: Threads + Sync>(
+// Replays a script with two workers, among three shards, and returns how that ends.
+fn replayed<T, P, R, W>(
     rt: &T,
     alloc: Global,
-    shards: usize,
-    workers: usize,
-    script: &[u8],
-) -> Result<Vec<u8>, Fail>
-    requires some_worker { 1 ≤ workers }
-    requires workers_in_range { workers ≤ 16 }
-{
-    placed(rt, alloc, shards, ByRemainder, workers, script)
-}
-
-// The same by this placing.
-fn placed<T: Threads + Sync, P: Placing + Drop + Send + Sync>(
-    rt: &T,
-    alloc: Global,
-    shards: usize,
     placing: P,
-    workers: usize,
-    script: &[u8],
-) -> Result<Vec<u8>, Fail>
-    requires some_worker { 1 ≤ workers }
-    requires workers_in_range { workers ≤ 16 }
+    lines: &mut Lines<R>,
+    output: &mut Output<W>,
+) -> Result<Result<(), ScriptFault>, Fail>
+where
+    T: Threads + Sync,
+    P: Placing + Drop + Send + Sync,
+    R: BufRead,
+    W: Write,
 {
-    let mut written = Vec::new(alloc);
-    let mut lines = Lines::new(alloc, BufReader::new(alloc, script)?);
-    let mut output = Output::new(&mut written);
-    let config = config(shards)?;
+    let config = Config::new(3, 30_000, 0, 10_000).ok_or("no configuration")?;
     let placing = Arc::new(alloc, placing)?;
-    replay(rt, alloc, config, placing, workers, &mut lines, &mut output).map_err(failed)?;
-    Ok(written)
+    Ok(replay(rt, alloc, config, placing, 2, lines, output))
 }
 
-fn failed(_fault: ScriptFault) -> Fail {
-    Fail::from("the run failed")
-}
-
-// A script prints the same with any number of shards and workers, and wherever sessions are placed. Both texts are written in words.
-fn check<R: Abort + Threads + Sync>(
+// A script prints this by this placing.
+fn check_placed<R: Abort + Threads + Sync, P: Placing + Drop + Send + Sync>(
     rt: &R,
     alloc: Global,
-    about: &str,
-    script: &str,
-    expected: &str,
+    placing: P,
+    (script, expected): (&str, &str),
 ) -> Result<(), Fail> {
-    let script = spelled(alloc, script)?;
-    let script = script.as_bytes();
-    let expected = spelled(alloc, expected)?;
-    let expected = expected.as_bytes();
-    for (shards, workers) in [(1, 1), (2, 2), (64, 16)] {
-        let written = printed(rt, alloc, shards, workers, script)?;
-        assert_eq!(rt; written.as_slice(), expected, "{about}, {shards} shards");
-    }
-    let together = placed(rt, alloc, 3, AllFirst, 2, script)?;
-    assert_eq!(rt;
-        together.as_slice(),
-        expected,
-        "{about}, all in the first shard"
-    );
-    let table = ByTable::new(alloc, &[1, 0, 0])?;
-    let by_table = placed(rt, alloc, 3, table, 2, script)?;
-    assert_eq!(rt; by_table.as_slice(), expected, "{about}, by a table");
+    let mut written = Vec::new(alloc);
+    let mut lines = Lines::new(alloc, script.as_bytes());
+    let ended = replayed(
+        rt,
+        alloc,
+        placing,
+        &mut lines,
+        &mut Output::new(&mut written),
+    )?;
+    assert_eq!(rt; ended, Ok(()));
+    assert_eq!(rt; written.as_slice(), expected.as_bytes());
     Ok(())
 }
 
-fn check_all<R: Abort + Threads + Sync>(rt: &R, alloc: Global, runs: &[Run]) -> Result<(), Fail> {
-    for (about, script, expected) in runs {
-        check(rt, alloc, about, script, expected)?;
+fn check_placings<R: Abort + Threads + Sync>(
+    rt: &R,
+    alloc: Global,
+    run: (&str, &str),
+) -> Result<(), Fail> {
+    check_placed(rt, alloc, AllFirst, run)?;
+    check_placed(rt, alloc, ByTable::new(alloc, &[1, 0, 0])?, run)
+}
+
+#[test]
+fn wherever_sessions_are_placed_the_same_is_printed(rt: HostRuntime) -> Result<(), Fail> {
+    for run in RUNS {
+        check_placings(&rt, rt.alloc(), run)?;
+    }
+    for run in PLACED {
+        check_placings(&rt, rt.alloc(), run)?;
+    }
+    Ok(())
+}
+
+// Gives a few bytes a read, and fails behind so many reads.
+#[derive(Drop)]
+struct Reader<'a> {
+    bytes: &'a [u8],
+    reads: usize,
+}
+
+impl Read for Reader<'_> {
+    fn read(&mut self, buf: &mut [u8]) -> io::Result<usize> {
+        if self.reads == 0 {
+            return Err(io::Error::from(ErrorKind::BrokenPipe));
+        }
+        self.reads -= 1;
+        let count = self.bytes.len().min(buf.len()).min(40);
+        buf[..count].copy_from_slice(&self.bytes[..count]);
+        self.bytes = &self.bytes[count..];
+        Ok(count)
+    }
+}
+
+// Takes a few bytes a write, and fails behind so many writes, or when it is flushed.
+#[derive(Drop)]
+struct Writer {
+    written: Vec<u8>,
+    writes: usize,
+    flushes: bool,
+}
+
+impl Write for Writer {
+    fn write(&mut self, buf: &[u8]) -> io::Result<usize> {
+        if self.writes == 0 {
+            return Err(io::Error::from(ErrorKind::BrokenPipe));
+        }
+        self.writes -= 1;
+        let count = buf.len().min(40);
+        self.written.extend_from_slice(&buf[..count])?;
+        Ok(count)
+    }
+
+    fn flush(&mut self) -> io::Result<()> {
+        if self.flushes {
+            Ok(())
+        } else {
+            Err(io::Error::from(ErrorKind::BrokenPipe))
+        }
+    }
+}
+
+// Whether a run came to its end, and wrote all that is right; where not, it ended with this fault, and wrote a front of that.
+fn is_whole<R: Abort>(
+    rt: &R,
+    ended: Result<(), ScriptFault>,
+    fault: ScriptFault,
+    written: &[u8],
+    right: &str,
+) -> bool {
+    if ended.is_ok() {
+        assert_eq!(rt; written, right.as_bytes());
+        return true;
+    }
+    assert_eq!(rt; ended, Err(fault));
+    assert!(rt; right.as_bytes().starts_with(written));
+    false
+}
+
+// Runs a script by a reader that fails behind so many reads.
+fn check_read<R: Abort + Threads + Sync>(
+    rt: &R,
+    alloc: Global,
+    (script, right): (&str, &str),
+    reads: usize,
+) -> Result<bool, Fail> {
+    let bytes = script.as_bytes();
+    let mut lines = Lines::new(alloc, BufReader::new(alloc, Reader { bytes, reads })?);
+    let mut written = Vec::new(alloc);
+    let ended = replayed(
+        rt,
+        alloc,
+        ByRemainder,
+        &mut lines,
+        &mut Output::new(&mut written),
+    )?;
+    Ok(is_whole(rt, ended, ScriptFault::Read, written.as_slice(), right))
+}
+
+// The same with a reader that fails behind no read, behind one, and so on, until it does not fail.
+fn check_reads<R: Abort + Threads + Sync>(
+    rt: &R,
+    alloc: Global,
+    run: (&str, &str),
+) -> Result<(), Fail> {
+    for reads in 0..100 {
+        if check_read(rt, alloc, run, reads)? {
+            return Ok(());
+        }
+    }
+    Err(Fail::from("more reads than there may be"))
+}
+
+#[test]
+fn a_failed_read_leaves_a_front(rt: HostRuntime) -> Result<(), Fail> {
+    for run in RUNS {
+        check_reads(&rt, rt.alloc(), run)?;
+    }
+    Ok(())
+}
+
+// Runs a script with this writer, which fails where it is written to or flushed.
+fn check_writer<R: Abort + Threads + Sync>(
+    rt: &R,
+    alloc: Global,
+    (script, right): (&str, &str),
+    writer: &mut Writer,
+) -> Result<bool, Fail> {
+    let mut lines = Lines::new(alloc, script.as_bytes());
+    let mut output = Output::new(&mut *writer);
+    let ended = replayed(rt, alloc, ByRemainder, &mut lines, &mut output)?;
+    Ok(is_whole(
+        rt,
+        ended,
+        ScriptFault::Write,
+        writer.written.as_slice(),
+        right,
+    ))
+}
+
+fn new_writer(alloc: Global, writes: usize, flushes: bool) -> Writer {
+    Writer {
+        written: Vec::new(alloc),
+        writes,
+        flushes,
+    }
+}
+
+// Runs a script with a writer that fails behind no write, behind one, and so on, until it does not fail.
+fn check_writes<R: Abort + Threads + Sync>(
+    rt: &R,
+    alloc: Global,
+    run: (&str, &str),
+) -> Result<(), Fail> {
+    for writes in 0..100 {
+        if check_writer(rt, alloc, run, &mut new_writer(alloc, writes, true))? {
+            return Ok(());
+        }
+    }
+    Err(Fail::from("more writes than there may be"))
+}
+
+#[test]
+fn a_failed_write_leaves_a_front(rt: HostRuntime) -> Result<(), Fail> {
+    for run in RUNS {
+        check_writes(&rt, rt.alloc(), run)?;
     }
     Ok(())
 }
 
 #[test]
-fn a_last_line_without_its_end_counts(rt: HostRuntime) -> Result<(), Fail> {
-    let written = printed(&rt, rt.alloc(), 2, 2, b"0 P []\n0 P []")?;
-    assert_eq!(rt; written.as_slice(), b"1 200 []\n2 200 []\n".as_slice());
-    let written = printed(&rt, rt.alloc(), 2, 2, b"")?;
-    assert_eq!(rt; written.as_slice(), b"".as_slice());
-    Ok(())
-}
-
-// `head`, so many bytes, and the lines behind.
-fn long_script(alloc: Global, head: &[u8], byte: u8, count: usize) -> Result<Vec<u8>, Fail> {
-    let mut script = Vec::from_slice(alloc, head)?;
-    for _ in 0..count {
-        script.push(byte)?;
-    }
-    script.extend_from_slice(b"\n0 P []\n")?;
-    Ok(script)
-}
-
-#[test]
-fn a_body_has_at_most_so_many_bytes(rt: HostRuntime) -> Result<(), Fail> {
-    for (head, count, expected) in [
-        ("0 P []", BODY_LIMIT - 2, "1 200 []\n2 200 []\n"),
-        ("0 P []", BODY_LIMIT - 1, "1 413\n2 200 []\n"),
-        ("0 P ", BODY_LIMIT + 1, "1 413\n2 200 []\n"),
-        ("0 P []", BODY_LIMIT * 3, "1 413\n2 200 []\n"),
-    ] {
-        let script = long_script(rt.alloc(), head.as_bytes(), b' ', count)?;
-        let written = printed(&rt, rt.alloc(), 2, 2, script.as_slice())?;
-        assert_eq!(rt; written.as_slice(), expected.as_bytes(), "{count} spaces");
-    }
-    Ok(())
-}
-
-#[test]
-fn a_long_line_of_another_form_is_bad(rt: HostRuntime) -> Result<(), Fail> {
-    let script = long_script(rt.alloc(), b"", b'0', BODY_LIMIT * 3)?;
-    let written = printed(&rt, rt.alloc(), 2, 2, script.as_slice())?;
-    assert_eq!(rt; written.as_slice(), b"1 bad\n2 200 []\n".as_slice());
+fn a_failed_flush_is_a_write_fault(rt: HostRuntime) -> Result<(), Fail> {
+    let mut writer = new_writer(rt.alloc(), 100, false);
+    assert!(rt; !check_writer(&rt, rt.alloc(), RUNS[0], &mut writer)?);
+    assert_eq!(rt; writer.written.as_slice(), RUNS[0].1.as_bytes());
     Ok(())
 }
