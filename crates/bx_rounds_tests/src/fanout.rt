@@ -100,21 +100,18 @@ fn crowd(alloc: Global) -> Result<Vec<Input>, AllocError> {
     Ok(inputs)
 }
 
-// A round of so many shards, in which sessions stand by this table.
+// A round of so many shards and workers, in which sessions stand by this table.
 fn round(
     alloc: Global,
-    shards: usize,
+    (shards, workers): (usize, usize),
     table: &[u8],
-    workers: usize,
-) -> Result<Option<Round<ByTable>>, Fail> {
+) -> Result<Round<ByTable>, Fail> {
     let config = Config::new(shards, 30_000, 0, 10_000).ok_or("no configuration")?;
     let placing = Arc::new(alloc, ByTable::new(alloc, table)?)?;
-    Ok(Round::new(alloc, config, placing, workers)?)
-}
-
-// The same with two shards.
-fn some_round(alloc: Global, table: &[u8], workers: usize) -> Result<Round<ByTable>, Fail> {
-    Ok(round(alloc, 2, table, workers)?.ok_or("no round")?)
+    match Round::new(alloc, config, placing, workers)? {
+        Some(round) => Ok(round),
+        None => Err(Fail::from("no round")),
+    }
 }
 
 // Deals with these inputs, as one run.
@@ -145,7 +142,21 @@ fn open_crowd<R: Threads + Sync>(
     run(rt, alloc, &OpenGate, round, &crowd(alloc)?, &mut outs)
 }
 
-// Behind the crowd, the inputs give the right outs, so many of them in a run.
+// Behind the crowd, a round of so many shards and workers gives the right outs of the inputs, so many of them in a run.
+fn check_round<R: Abort + Threads + Sync, G: Gate + Sync>(
+    rt: &R,
+    alloc: Global,
+    gate: &G,
+    sizes: (usize, usize),
+    table: &[u8],
+    at_once: usize,
+) -> Result<(), Fail>
+    requires { 1 ≤ at_once }
+{
+    let mut round = round(alloc, sizes, table)?;
+    check_given(rt, alloc, gate, &mut round, at_once)
+}
+
 fn check_given<R: Abort + Threads + Sync, G: Gate + Sync>(
     rt: &R,
     alloc: Global,
@@ -168,13 +179,21 @@ fn check<R: Abort>(rt: &R, alloc: Global, outs: &[Out]) -> Result<(), Fail> {
     assert_eq!(rt; outs.len(), OUTS.len());
     for (out, (number, body)) in outs.iter().zip(OUTS) {
         assert_eq!(rt; out.input, number);
-        let Ok(items) = &out.result else {
-            return Err(Fail::from("an input was refused"));
-        };
-        let written = body_text(alloc, items.as_slice())?;
-        assert_eq!(rt; written.as_slice(), body.as_bytes(), "input {number}");
+        assert_eq!(rt;
+            written(alloc, out)?.as_slice(),
+            body.as_bytes(),
+            "input {number}"
+        );
     }
     Ok(())
+}
+
+// The body of an out's response.
+fn written(alloc: Global, out: &Out) -> Result<Vec<u8>, Fail> {
+    match &out.result {
+        Ok(items) => Ok(body_text(alloc, items.as_slice())?),
+        Err(_) => Err(Fail::from("an input was refused")),
+    }
 }
 
 #[test]
@@ -182,8 +201,7 @@ fn one_run_gives_what_several_give(rt: HostRuntime) -> Result<(), Fail> {
     let alloc = rt.alloc();
     for table in TABLES {
         for (workers, at_once) in [(1, 5), (1, 1), (16, 5), (16, 1)] {
-            let mut round = some_round(alloc, table, workers)?;
-            check_given(&rt, alloc, &OpenGate, &mut round, at_once)?;
+            check_round(&rt, alloc, &OpenGate, (2, workers), table, at_once)?;
         }
     }
     Ok(())
@@ -233,8 +251,7 @@ fn workers_run_beside_one_another(rt: HostRuntime) -> Result<(), Fail> {
     let alloc = rt.alloc();
     for held in [0, 1] {
         let gate = gate_for(held);
-        let mut round = some_round(alloc, &[0, 1, 2], 2)?;
-        check_given(&rt, alloc, &gate, &mut round, 5)?;
+        check_round(&rt, alloc, &gate, (2, 2), &[0, 1, 2], 5)?;
         assert!(rt;
             gate.is_free.load(Ordering::SeqCst),
             "worker {held} was alone"
@@ -244,41 +261,32 @@ fn workers_run_beside_one_another(rt: HostRuntime) -> Result<(), Fail> {
     Ok(())
 }
 
-// Behind the crowd and so many of the inputs, these connects are held.
-fn check_held<R: Abort + Threads + Sync>(
+// Among four shards, deals with the crowd and all inputs but the last one, so that a connect is held, and then goes on with 64.
+fn dealt_anew<R: Threads + Sync, G: Gate + Sync>(
     rt: &R,
     alloc: Global,
-    round: &mut Round<ByTable>,
-    count: usize,
-    expected: &[usize],
-) -> Result<(), Fail> {
-    open_crowd(rt, alloc, round)?;
-    let mut outs = Vec::new(alloc);
-    run(
-        rt,
-        alloc,
-        &OpenGate,
-        round,
-        &inputs(alloc, count)?,
-        &mut outs,
-    )?;
-    assert_eq!(rt; round.held(alloc)?.as_slice(), expected, "{count} inputs");
-    assert_eq!(rt; round.dealt(), count.saturating_add(CROWD));
-    Ok(())
-}
-
-#[test]
-fn a_connect_is_held_until_its_event(rt: HostRuntime) -> Result<(), Fail> {
-    let alloc = rt.alloc();
-    let held: [(usize, &[usize]); 3] = [(3, &[]), (4, &[1_027]), (5, &[])];
-    for (count, expected) in held {
-        let mut round = some_round(alloc, &[0, 1, 2], 2)?;
-        check_held(&rt, alloc, &mut round, count, expected)?;
+    gate: &G,
+    outs: &mut Vec<Out>,
+) -> Result<Round<ByTable>, Fail> {
+    let placing = Arc::new(alloc, ByTable::new(alloc, &[3, 62, 17, 40, 9])?)?;
+    let round = with_a_held_connect(rt, alloc, gate, outs)?;
+    match round.reshard(alloc, 64, placing) {
+        Ok(round) => Ok(round),
+        Err(_) => Err(Fail::from("no memory")),
     }
-    Ok(())
 }
 
-// Deals with the crowd and all inputs but the last one, so that a connect is held.
+fn with_a_held_connect<R: Threads + Sync, G: Gate + Sync>(
+    rt: &R,
+    alloc: Global,
+    gate: &G,
+    outs: &mut Vec<Out>,
+) -> Result<Round<ByTable>, Fail> {
+    let mut round = round(alloc, (4, 16), &[0, 1, 2, 3])?;
+    hold(rt, alloc, gate, &mut round, outs)?;
+    Ok(round)
+}
+
 fn hold<R: Threads + Sync, G: Gate + Sync>(
     rt: &R,
     alloc: Global,
@@ -292,8 +300,8 @@ fn hold<R: Threads + Sync, G: Gate + Sync>(
     run(rt, alloc, gate, round, held, outs)
 }
 
-// Deals with the last input, and checks all outs.
-fn answer_held<R: Abort + Threads + Sync, G: Gate + Sync>(
+// Deals with the last input.
+fn answer_held<R: Threads + Sync, G: Gate + Sync>(
     rt: &R,
     alloc: Global,
     gate: &G,
@@ -302,39 +310,20 @@ fn answer_held<R: Abort + Threads + Sync, G: Gate + Sync>(
 ) -> Result<(), Fail> {
     let inputs = inputs(alloc, INPUTS.len())?;
     let event = inputs.get(4..).ok_or("too few inputs")?;
-    run(rt, alloc, gate, round, event, outs)?;
-    check(rt, alloc, outs)
+    run(rt, alloc, gate, round, event, outs)
 }
 
-// The round with so many shards and another table.
-fn moved(
+// The held connect goes with its session: behind the move the last input gives the right outs.
+fn check_dealt_anew<R: Abort + Threads + Sync, G: Gate + Sync>(
+    rt: &R,
     alloc: Global,
-    round: Round<ByTable>,
-    shards: usize,
-    table: &[u8],
-) -> Result<Round<ByTable>, Fail>
-    requires { (1 ≤ shards) × (shards ≤ 64) }
-{
-    let placing = Arc::new(alloc, ByTable::new(alloc, table)?)?;
-    Ok(
-        round
-            .reshard(alloc, shards, placing)
-            .map_err(|_| "no memory")?,
-    )
-}
-
-// The workers are there after the move as well.
-#[test]
-fn a_held_connect_goes_with_its_session(rt: HostRuntime) -> Result<(), Fail> {
-    let alloc = rt.alloc();
-    let gate = gate_for(0);
+    before: &G,
+    behind: &G,
+) -> Result<(), Fail> {
     let mut outs = Vec::new(alloc);
-    let mut round = some_round(alloc, &[0, 1, 2], 2)?;
-    hold(&rt, alloc, &OpenGate, &mut round, &mut outs)?;
-    let mut round = moved(alloc, round, 5, &[4, 3])?;
-    answer_held(&rt, alloc, &gate, &mut round, &mut outs)?;
-    assert!(rt; !gate.gave_up.load(Ordering::SeqCst));
-    Ok(())
+    let mut round = dealt_anew(rt, alloc, before, &mut outs)?;
+    answer_held(rt, alloc, behind, &mut round, &mut outs)?;
+    check(rt, alloc, &outs)
 }
 
 // At which workers wait until all of a team are there.
@@ -392,8 +381,7 @@ fn as_many_threads_run_as_workers(rt: HostRuntime) -> Result<(), Fail> {
     let table = [3, 62, 17, 40, 9];
     for (shards, workers, team) in [(64, 16, 0xffff), (4, 4, 0b1111)] {
         let meeting = meeting_of(team);
-        let mut round = round(alloc, shards, &table, workers)?.ok_or("no round")?;
-        check_given(&rt, alloc, &meeting, &mut round, 5)?;
+        check_round(&rt, alloc, &meeting, (shards, workers), &table, 5)?;
         check_met(&rt, &meeting);
     }
     Ok(())
@@ -404,62 +392,8 @@ fn as_many_threads_run_as_workers(rt: HostRuntime) -> Result<(), Fail> {
 fn more_shards_have_more_workers(rt: HostRuntime) -> Result<(), Fail> {
     let alloc = rt.alloc();
     let (four, all) = (meeting_of(0b1111), meeting_of(0xffff));
-    let mut outs = Vec::new(alloc);
-    let mut round = round(alloc, 4, &[0, 1, 2, 3], 16)?.ok_or("no round")?;
-    hold(&rt, alloc, &four, &mut round, &mut outs)?;
+    check_dealt_anew(&rt, alloc, &four, &all)?;
     check_met(&rt, &four);
-    let mut round = moved(alloc, round, 64, &[3, 62, 17, 40, 9])?;
-    answer_held(&rt, alloc, &all, &mut round, &mut outs)?;
     check_met(&rt, &all);
-    Ok(())
-}
-
-// A handshake and two connects of its session, of which the second ends the first.
-const CONNECTS: [(u64, &str); 3] = [
-    (0, HANDSHAKE),
-    (
-        1,
-        r#"{"channel":"/meta/connect","clientId":"000000000000000000000000000000000000000000000001","connectionType":"long-polling"}"#,
-    ),
-    (
-        2,
-        r#"{"channel":"/meta/connect","clientId":"000000000000000000000000000000000000000000000001","connectionType":"long-polling"}"#,
-    ),
-];
-
-fn check_newer_held<R: Abort + Threads + Sync>(
-    rt: &R,
-    alloc: Global,
-    round: &mut Round<ByTable>,
-) -> Result<(), Fail> {
-    let mut outs = Vec::new(alloc);
-    run(
-        rt,
-        alloc,
-        &OpenGate,
-        round,
-        &requests(alloc, &CONNECTS)?,
-        &mut outs,
-    )?;
-    assert_eq!(rt; round.held(alloc)?.as_slice(), [2].as_slice());
-    assert_eq!(rt; round.dealt(), 3);
-    Ok(())
-}
-
-#[test]
-fn a_newer_connect_is_held(rt: HostRuntime) -> Result<(), Fail> {
-    let alloc = rt.alloc();
-    let mut round = some_round(alloc, &[0, 1, 2], 2)?;
-    check_newer_held(&rt, alloc, &mut round)
-}
-
-#[test]
-fn a_round_has_1_to_16_workers(rt: HostRuntime) -> Result<(), Fail> {
-    for workers in [0, 17] {
-        assert!(rt;
-            round(rt.alloc(), 2, &[0, 1, 2], workers)?.is_none(),
-            "{workers} workers"
-        );
-    }
     Ok(())
 }

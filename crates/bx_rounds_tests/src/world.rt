@@ -248,8 +248,26 @@ fn check<R: Abort, P: Placing + Drop>(
     placing: &Arc<P>,
     lines: &[Line],
 ) -> Result<(), Fail> {
-    check_run(rt, alloc, &mut world(alloc, placing)?, lines)?;
-    check_steps(rt, alloc, &mut world(alloc, placing)?, lines)
+    for at_once in [true, false] {
+        check_in(rt, alloc, placing, lines, at_once)?;
+    }
+    Ok(())
+}
+
+// The same in a world of its own, by one run of the whole schedule or step by step.
+fn check_in<R: Abort, P: Placing + Drop>(
+    rt: &R,
+    alloc: Global,
+    placing: &Arc<P>,
+    lines: &[Line],
+    at_once: bool,
+) -> Result<(), Fail> {
+    let mut world = world(alloc, placing)?;
+    if at_once {
+        check_run(rt, alloc, &mut world, lines)
+    } else {
+        check_steps(rt, alloc, &mut world, lines)
+    }
 }
 
 // The five admissions, where the connect's session stands in this shard, and other lines behind them.
@@ -315,18 +333,31 @@ fn no_order_of_the_shards_matters(rt: HostRuntime) -> Result<(), Fail> {
     Ok(())
 }
 
+// Where a tick stands in the list, or why it is refused.
+fn ticked<P: Placing>(
+    alloc: Global,
+    world: &mut World<P>,
+    moment: u64,
+) -> Result<u64, AdmissionFault> {
+    match world.admit_tick(alloc, moment) {
+        Ok(admitted) => Ok(admitted.first),
+        Err(fault) => Err(fault),
+    }
+}
+
 // A tick past the greatest moment is refused and changes nothing; one at that moment is the first entry of the list.
 fn check_calls<R: Abort, P: Placing>(
     rt: &R,
     alloc: Global,
     world: &mut World<P>,
 ) -> Result<(), Fail> {
-    let late = world.admit_tick(alloc, 4_611_686_018_427_387_905).err();
     let refused = AdmissionFault::Refused(Refusal::BadMoment);
-    assert_eq!(rt; late, Some(refused));
+    assert_eq!(rt;
+        ticked(alloc, world, 4_611_686_018_427_387_905),
+        Err(refused)
+    );
     assert_eq!(rt; world.apply(alloc, 0), Applied::Level);
-    let last = world.admit_tick(alloc, 4_611_686_018_427_387_904).ok();
-    assert_eq!(rt; last.ok_or("no admission")?.first, 0);
+    assert_eq!(rt; ticked(alloc, world, 4_611_686_018_427_387_904), Ok(0));
     for (shard, applied) in [(0, Applied::Done), (0, Applied::Level), (9, Applied::Level)] {
         assert_eq!(rt; world.apply(alloc, shard), applied, "shard {shard}");
     }
