@@ -47,21 +47,50 @@ fn exchange<J: Naming, H: Wait + Drop, R: Wait>(
     hub: &Served<J, H>,
 ) -> Result<Answer, Unlike> {
     let mut reader = hub.pass();
-    let mut connect = None;
-    for (place, body) in [(0, HANDSHAKE), (1, SUBSCRIBE), (2, CONNECT)] {
-        connect = post(rt, alloc, hub, &mut reader, place, body)?;
-    }
-    let ticket = connect.ok_or(Unlike::Wrong("no connect"))?;
-    if poll(rt, alloc, hub, &mut reader, ticket)?.is_some() {
+    answer(rt, alloc, hub, &mut reader)
+}
+
+// The one session connects with this pass, and the other publishes with its own: how the connect is answered.
+fn answer<J: Naming, H: Wait + Drop, R: Wait>(
+    rt: &R,
+    alloc: Global,
+    hub: &Served<J, H>,
+    reader: &mut Pass<J>,
+) -> Result<Answer, Unlike> {
+    let ticket = connect(rt, alloc, hub, reader)?;
+    if poll(rt, alloc, hub, reader, ticket)?.is_some() {
         return Err(Unlike::Wrong("an answer too soon"));
     }
     let mut writer = hub.pass();
-    for (place, body) in [(3, HANDSHAKE), (4, PUBLISH)] {
-        post(rt, alloc, hub, &mut writer, place, body)?;
-    }
-    tick(rt, alloc, hub, &mut writer)?;
+    publish(rt, alloc, hub, &mut writer)?;
     reader.learn(&writer.note());
-    poll(rt, alloc, hub, &mut reader, ticket)?.ok_or(Unlike::Wrong("no answer"))
+    poll(rt, alloc, hub, reader, ticket)?.ok_or(Unlike::Wrong("no answer"))
+}
+
+fn connect<J: Naming, H: Wait + Drop, R: Wait>(
+    rt: &R,
+    alloc: Global,
+    hub: &Served<J, H>,
+    pass: &mut Pass<J>,
+) -> Result<Ticket, Unlike> {
+    let mut connect = None;
+    for (place, body) in [(0, HANDSHAKE), (1, SUBSCRIBE), (2, CONNECT)] {
+        connect = post(rt, alloc, hub, pass, place, body)?;
+    }
+    connect.ok_or(Unlike::Wrong("no connect"))
+}
+
+// Publishes, and has a tick come behind that.
+fn publish<J: Naming, H: Wait + Drop, R: Wait>(
+    rt: &R,
+    alloc: Global,
+    hub: &Served<J, H>,
+    pass: &mut Pass<J>,
+) -> Result<(), Unlike> {
+    for (place, body) in [(3, HANDSHAKE), (4, PUBLISH)] {
+        post(rt, alloc, hub, pass, place, body)?;
+    }
+    tick(rt, alloc, hub, pass)
 }
 
 // Posts a body, once more where memory was refused, and gives the ticket of its connect. Its first message is to stand at this place.

@@ -154,7 +154,8 @@ fn worked_text<R: Threads + Sync>(
     worked: Worked,
     outs: &mut Vec<Out>,
 ) -> Result<String, Unlike> {
-    let mut round = first(rt, alloc, worked, outs)?;
+    let placings = (placing(alloc)?, placing(alloc)?);
+    let mut round = first(rt, alloc, worked, placings, outs)?;
     ended(rt, alloc, &mut round, worked.then, outs)
 }
 
@@ -163,40 +164,63 @@ fn first<R: Threads + Sync>(
     rt: &R,
     alloc: Global,
     worked: Worked,
+    (once, again): (Arc<ByRemainder>, Arc<ByRemainder>),
     outs: &mut Vec<Out>,
 ) -> Result<Round<ByRemainder>, Unlike> {
-    let placings = (placing(alloc)?, placing(alloc)?);
+    let round = dealt(rt, alloc, worked.first, outs)?;
+    match worked.shards {
+        None => Ok(round),
+        Some(shards) if shards >= 1 && shards <= 64 => dealt_anew(
+            alloc, round, shards, once, again,
+        ),
+        Some(_) => Err(Unlike::Wrong("too many shards")),
+    }
+}
+
+// A round of two shards that has dealt with these requests.
+fn dealt<R: Threads + Sync>(
+    rt: &R,
+    alloc: Global,
+    requests: Requests,
+    outs: &mut Vec<Out>,
+) -> Result<Round<ByRemainder>, Unlike> {
     let round = Round::new(alloc, config(2)?, placing(alloc)?, 1)?;
     let mut round = round.ok_or(Unlike::Wrong("no round"))?;
-    let dealt = deal(rt, alloc, &mut round, worked.first, outs);
-    match (dealt, worked.shards) {
-        (Err(unlike), _) => Err(unlike),
-        (Ok(()), None) => Ok(round),
-        (Ok(()), Some(shards)) => dealt_anew(alloc, round, shards, placings),
-    }
+    deal(rt, alloc, &mut round, requests, outs)?;
+    Ok(round)
 }
 
 fn placing(alloc: Global) -> Result<Arc<ByRemainder>, Unlike> {
     Ok(Arc::new(alloc, ByRemainder)?)
 }
 
-// The round with its sessions among so many shards, 1 to 64. Where memory was refused, the round that came back is dealt anew.
+// The round with its sessions among so many shards. Where memory was refused, the round that came back is dealt anew.
 fn dealt_anew(
     alloc: Global,
     round: Round<ByRemainder>,
     shards: usize,
-    placings: (Arc<ByRemainder>, Arc<ByRemainder>),
-) -> Result<Round<ByRemainder>, Unlike> {
-    if shards < 1 || shards > 64 {
-        return Err(Unlike::Wrong("too many shards"));
-    }
-    let (once, again) = placings;
+    once: Arc<ByRemainder>,
+    again: Arc<ByRemainder>,
+) -> Result<Round<ByRemainder>, Unlike>
+    requires { (1 ≤ shards) × (shards ≤ 64) }
+{
     match round.reshard(alloc, shards, once) {
         Ok(round) => Ok(round),
-        Err((round, _)) => match round.reshard(alloc, shards, again) {
-            Ok(round) => Ok(round),
-            Err(_) => Err(Unlike::Wrong("not dealt anew")),
-        },
+        Err((round, _)) => dealt_again(alloc, round, shards, again),
+    }
+}
+
+fn dealt_again(
+    alloc: Global,
+    round: Round<ByRemainder>,
+    shards: usize,
+    placing: Arc<ByRemainder>,
+) -> Result<Round<ByRemainder>, Unlike>
+    requires { (1 ≤ shards) × (shards ≤ 64) }
+{
+    match round.reshard(alloc, shards, placing) {
+        Ok(round) => Ok(round),
+        Err(_) => Err(Unlike::Wrong("not dealt anew")),
     }
 }
 

@@ -43,11 +43,21 @@ fn worked<J: Naming, R: Wait>(rt: &R, alloc: Global, opened: Opened) -> Result<S
 {
     let (writer, mut readers) = log_pair::<J, &R>(alloc, rt, opened, 2)?;
     let mut writer = Ticker::new(writer);
-    let mut other = readers.pop().ok_or(Unlike::Wrong("no reader"))?;
-    let mut reader = readers.pop().ok_or(Unlike::Wrong("no reader"))?;
+    match (readers.pop(), readers.pop()) {
+        (Some(mut other), Some(mut reader)) => told(alloc, &mut writer, &mut reader, &mut other),
+        _ => Err(Unlike::Wrong("no reader")),
+    }
+}
+
+fn told<J: Naming, R: Wait + Drop>(
+    alloc: Global,
+    writer: &mut Ticker<J, R>,
+    reader: &mut LogReader<J>,
+    other: &mut LogReader<J>,
+) -> Result<String, Unlike> {
     let mut text = String::new(alloc);
-    work(alloc, &mut writer, &mut reader, &mut text)?;
-    let line = shown(alloc, &mut other, writer.end)?;
+    work(alloc, writer, reader, &mut text)?;
+    let line = shown(alloc, other, writer.end)?;
     add_line(&mut text, line.as_str())?;
     Ok(text)
 }

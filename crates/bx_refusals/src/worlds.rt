@@ -2,6 +2,7 @@
 use crate::requests::{CONNECT, HANDSHAKE, PUBLISH, SUBSCRIBE, arrival, config, text_of};
 use crate::unlike::Unlike;
 use bx_entry::{ByRemainder, Slot, Ticket};
+use bx_message::Answer;
 use bx_workers::OpenGate;
 use bx_world::{AdmissionFault, Admitted, Applied, World};
 use std::alloc::Global;
@@ -15,15 +16,23 @@ const SHARDS: usize = 2;
 pub fn run<R: Threads + Sync>(rt: &R, alloc: Global) -> Result<String, Unlike> {
     let placing = Arc::new(alloc, ByRemainder)?;
     let mut world = World::new(alloc, config(SHARDS)?, placing)?;
+    let answer = answer(rt, alloc, &mut world)?;
+    text_of(alloc, answer)
+}
+
+fn answer<R: Threads + Sync>(
+    rt: &R,
+    alloc: Global,
+    world: &mut World<ByRemainder>,
+) -> Result<Answer, Unlike> {
     let mut connect = None;
     for body in [HANDSHAKE, HANDSHAKE, SUBSCRIBE, CONNECT, PUBLISH] {
-        let admitted = admit(alloc, &mut world, body)?;
+        let admitted = admit(alloc, world, body)?;
         connect = connect.or(ticket_of(admitted));
     }
-    bring_up(rt, alloc, &mut world)?;
+    bring_up(rt, alloc, world)?;
     let ticket = connect.ok_or(Unlike::Wrong("no connect"))?;
-    let answer = world.take(ticket).ok_or(Unlike::Wrong("no answer"))?;
-    text_of(alloc, answer)
+    world.take(ticket).ok_or(Unlike::Wrong("no answer"))
 }
 
 fn ticket_of(admitted: Admitted) -> Option<Ticket> {
