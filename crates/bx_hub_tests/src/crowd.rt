@@ -185,6 +185,34 @@ fn eight<
     a?.checked_add(b?)
 }
 
+// Opens two sessions, and subscribes them.
+fn opens<J: Naming, P: Placing, G: Gate + Drop, H: Wait + Drop, R: Wait>(
+    rt: &R,
+    alloc: Global,
+    hub: &Hub<J, P, G, H>,
+) -> Option<()> {
+    let mut pass = hub.pass();
+    for body in [HANDSHAKE, HANDSHAKE, SUBSCRIPTIONS[0], SUBSCRIPTIONS[1]] {
+        post(rt, alloc, hub, &mut pass, body).ok()?;
+    }
+    Some(())
+}
+
+// How many events two sessions are given in all: what still waits behind the eight threads is fetched by more connects.
+fn given<
+    J: Naming + Send + Sync,
+    P: Placing + Send + Sync,
+    G: Gate + Drop + Send + Sync,
+    H: Wait + Drop + Send,
+    R: Threads + Wait + Sync,
+>(rt: &R, alloc: Global, hub: &Hub<J, P, G, H>) -> Option<usize> {
+    opens(rt, alloc, hub)?;
+    let given = eight(rt, alloc, hub)?;
+    let first = receives(rt, alloc, hub, 0)?;
+    let second = receives(rt, alloc, hub, 1)?;
+    given.checked_add(first)?.checked_add(second)
+}
+
 fn crowd<J: Naming + Send + Sync, R: Threads + Wait + Abort + Sync>(
     rt: &R,
     alloc: Global,
@@ -199,19 +227,8 @@ fn crowd<J: Naming + Send + Sync, R: Threads + Wait + Abort + Sync>(
     let hub = Hub::<J, ByRemainder, OpenGate, &R>::new(
         alloc, rt, opened, config, placing, OpenGate,
     )?;
-    let mut pass = hub.pass();
-    for body in [HANDSHAKE, HANDSHAKE, SUBSCRIPTIONS[0], SUBSCRIPTIONS[1]] {
-        post(rt, alloc, &hub, &mut pass, body).map_err(|_| "refused")?;
-    }
-    // What still waits behind them is fetched by more connects.
-    let given = eight(rt, alloc, &hub).ok_or("no memory, or no answer")?;
-    let first = receives(rt, alloc, &hub, 0).ok_or("the first session")?;
-    let second = receives(rt, alloc, &hub, 1).ok_or("the second session")?;
-    let all = given
-        .checked_add(first)
-        .and_then(|sum| sum.checked_add(second));
     // Three threads published events, each of which both sessions got once.
-    assert_eq!(rt; all, Some(2 * 3 * EVENTS));
+    assert_eq!(rt; given(rt, alloc, &hub), Some(2 * 3 * EVENTS));
     Ok(())
 }
 

@@ -2,7 +2,7 @@
 ghost use Rattle.std.specs.Prelude.{◌≡◌};
 ghost use Rattle.bx_entry.specs.Placings.{by_remainder};
 
-use crate::calls::{HANDSHAKE, PUBLISH, hold, poll, post};
+use crate::calls::{HANDSHAKE, PUBLISH, Refused, hold, poll, post};
 use bx_advice::Config;
 use bx_entry::{ByRemainder, Placing, Ticket};
 use bx_hub::{Gate, Hub, Pass, PostFault};
@@ -133,6 +133,18 @@ fn beside<
     Ok(())
 }
 
+// Opens two sessions, and gives the ticket of the first one's connect, which is held.
+fn opens<J: Naming, P: Placing, G: Gate + Drop, H: Wait + Drop, R: Wait>(
+    rt: &R,
+    alloc: Global,
+    hub: &Hub<J, P, G, H>,
+    pass: &mut Pass<J>,
+) -> Result<Ticket, Refused> {
+    let ticket = hold(rt, alloc, hub, pass)?;
+    post(rt, alloc, hub, pass, HANDSHAKE)?;
+    Ok(ticket)
+}
+
 fn held<J: Naming + Send + Sync, R: Threads + Wait + Abort + Sync>(
     rt: &R,
     alloc: Global,
@@ -148,8 +160,7 @@ fn held<J: Naming + Send + Sync, R: Threads + Wait + Abort + Sync>(
 {
     let hub = Hub::<J, ByRemainder, Holding, &R>::new(alloc, rt, opened, config, placing, gate)?;
     let mut pass = hub.pass();
-    let ticket = hold(rt, alloc, &hub, &mut pass).map_err(|_| "refused")?;
-    post(rt, alloc, &hub, &mut pass, HANDSHAKE).map_err(|_| "refused")?;
+    let ticket = opens(rt, alloc, &hub, &mut pass)?;
     beside(rt, alloc, &hub, pass, ticket, flags)
 }
 

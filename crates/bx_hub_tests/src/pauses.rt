@@ -2,7 +2,7 @@
 ghost use Rattle.std.specs.Prelude.{◌≡◌};
 ghost use Rattle.bx_entry.specs.Placings.{by_remainder};
 
-use crate::calls::{arrival, hold, poll, publish, refusal};
+use crate::calls::{Refused, arrival, hold, poll, publish, refusal};
 use bx_advice::Config;
 use bx_entry::{ByRemainder, Placing};
 use bx_hub::{Gate, Hub, HubFault, Lagging, OpenGate, Pass, PostFault};
@@ -81,6 +81,19 @@ fn fills<J: Naming, P: Placing, G: Gate + Drop, H: Wait + Drop, R: Wait + Abort>
     Ok(())
 }
 
+// Another caller publishes, and tells what was seen then.
+fn publish_apart<J: Naming, P: Placing, G: Gate + Drop, H: Wait + Drop, R: Wait>(
+    rt: &R,
+    alloc: Global,
+    hub: &Hub<J, P, G, H>,
+    pass: &mut Pass<J>,
+) -> Result<(), Refused> {
+    let mut other = hub.pass();
+    publish(rt, alloc, hub, &mut other)?;
+    pass.learn(&other.note());
+    Ok(())
+}
+
 // A connect that is held by a paused shard is not answered by what another caller publishes, until the shard goes on: that it
 // may go on files nothing yet, the next call does.
 fn waits<J: Naming, P: Placing, G: Gate + Drop, H: Wait + Drop, R: Wait + Abort>(
@@ -89,16 +102,14 @@ fn waits<J: Naming, P: Placing, G: Gate + Drop, H: Wait + Drop, R: Wait + Abort>
     hub: &Hub<J, P, G, H>,
     pass: &mut Pass<J>,
 ) -> Result<(), Fail> {
-    let mut other = hub.pass();
-    let ticket = hold(rt, alloc, hub, pass).map_err(|_| "refused")?;
+    let ticket = hold(rt, alloc, hub, pass)?;
     assert!(rt; hub.pause(rt, 1));
-    publish(rt, alloc, hub, &mut other).map_err(|_| "refused")?;
-    pass.learn(&other.note());
+    publish_apart(rt, alloc, hub, pass)?;
     let paused = hub.poll_answer(rt, alloc, pass, ticket).err();
     assert_eq!(rt; paused, Some(HubFault::Paused));
     assert!(rt; hub.resume(rt, 1));
     assert_eq!(rt; hub.sweep(rt, 5), 0);
-    let found = poll(rt, alloc, hub, pass, ticket).map_err(|_| "refused")?;
+    let found = poll(rt, alloc, hub, pass, ticket)?;
     assert_eq!(rt; found, 2);
     Ok(())
 }
@@ -110,10 +121,10 @@ fn gives<J: Naming, P: Placing, G: Gate + Drop, H: Wait + Drop, R: Wait + Abort>
     hub: &Hub<J, P, G, H>,
     pass: &mut Pass<J>,
 ) -> Result<(), Fail> {
-    let ticket = hold(rt, alloc, hub, pass).map_err(|_| "refused")?;
-    publish(rt, alloc, hub, pass).map_err(|_| "refused")?;
+    let ticket = hold(rt, alloc, hub, pass)?;
+    publish(rt, alloc, hub, pass)?;
     assert!(rt; hub.pause(rt, 1));
-    let found = poll(rt, alloc, hub, pass, ticket).map_err(|_| "refused")?;
+    let found = poll(rt, alloc, hub, pass, ticket)?;
     assert_eq!(rt; found, 2);
     let paused = hub.poll_answer(rt, alloc, pass, ticket).err();
     assert_eq!(rt; paused, Some(HubFault::Paused));

@@ -25,20 +25,9 @@ fn requests<J: Naming, P: Placing, G: Gate + Drop, H: Wait + Drop, R: Wait + Abo
         Some(PostFault::Body(BodyFault::NotJson))
     );
     assert_eq!(rt; pass.seen(), 0);
-    assert_eq!(rt;
-        post(rt, alloc, hub, pass, "[]").map_err(|_| "refused")?.0,
-        0
-    );
-    assert_eq!(rt;
-        post(rt, alloc, hub, pass, HANDSHAKE)
-            .map_err(|_| "refused")?
-            .0,
-        0
-    );
-    assert_eq!(rt;
-        post(rt, alloc, hub, pass, "[]").map_err(|_| "refused")?.0,
-        1
-    );
+    assert_eq!(rt; post(rt, alloc, hub, pass, "[]")?.0, 0);
+    assert_eq!(rt; post(rt, alloc, hub, pass, HANDSHAKE)?.0, 0);
+    assert_eq!(rt; post(rt, alloc, hub, pass, "[]")?.0, 1);
     assert_eq!(rt; pass.seen(), 1);
     let late = (1 << 62) + 1;
     assert_eq!(rt;
@@ -55,26 +44,14 @@ fn answers<J: Naming, P: Placing, G: Gate + Drop, H: Wait + Drop, R: Wait + Abor
     hub: &Hub<J, P, G, H>,
     pass: &mut Pass<J>,
 ) -> Result<(), Fail> {
-    let ticket = hold(rt, alloc, hub, pass).map_err(|_| "refused")?;
-    assert_eq!(rt;
-        poll(rt, alloc, hub, pass, ticket).map_err(|_| "refused")?,
-        0
-    );
-    publish(rt, alloc, hub, pass).map_err(|_| "refused")?;
-    assert_eq!(rt;
-        poll(rt, alloc, hub, pass, ticket).map_err(|_| "refused")?,
-        2
-    );
-    assert_eq!(rt;
-        poll(rt, alloc, hub, pass, ticket).map_err(|_| "refused")?,
-        0
-    );
+    let ticket = hold(rt, alloc, hub, pass)?;
+    assert_eq!(rt; poll(rt, alloc, hub, pass, ticket)?, 0);
+    publish(rt, alloc, hub, pass)?;
+    assert_eq!(rt; poll(rt, alloc, hub, pass, ticket)?, 2);
+    assert_eq!(rt; poll(rt, alloc, hub, pass, ticket)?, 0);
     assert_eq!(rt; hub.sweep(rt, 5), 0);
     let nowhere = Ticket { shard: 2, ..ticket };
-    assert_eq!(rt;
-        poll(rt, alloc, hub, pass, nowhere).map_err(|_| "refused")?,
-        0
-    );
+    assert_eq!(rt; poll(rt, alloc, hub, pass, nowhere)?, 0);
     Ok(())
 }
 
@@ -85,15 +62,12 @@ fn sweeps<J: Naming, P: Placing, G: Gate + Drop, H: Wait + Drop, R: Wait + Abort
     hub: &Hub<J, P, G, H>,
     pass: &mut Pass<J>,
 ) -> Result<(), Fail> {
-    let ticket = hold(rt, alloc, hub, pass).map_err(|_| "refused")?;
-    publish(rt, alloc, hub, pass).map_err(|_| "refused")?;
+    let ticket = hold(rt, alloc, hub, pass)?;
+    publish(rt, alloc, hub, pass)?;
     assert_eq!(rt; hub.sweep(rt, 4), 0);
     assert_eq!(rt; hub.sweep(rt, 5), 1);
     assert_eq!(rt; hub.sweep(rt, 5), 0);
-    assert_eq!(rt;
-        poll(rt, alloc, hub, pass, ticket).map_err(|_| "refused")?,
-        0
-    );
+    assert_eq!(rt; poll(rt, alloc, hub, pass, ticket)?, 0);
     Ok(())
 }
 
@@ -104,10 +78,10 @@ fn sweeps_all<J: Naming, P: Placing, G: Gate + Drop, H: Wait + Drop, R: Wait + A
     hub: &Hub<J, P, G, H>,
     pass: &mut Pass<J>,
 ) -> Result<(), Fail> {
-    hold(rt, alloc, hub, pass).map_err(|_| "refused")?;
-    post(rt, alloc, hub, pass, HANDSHAKE).map_err(|_| "refused")?;
-    post(rt, alloc, hub, pass, CONNECT_OTHER).map_err(|_| "refused")?;
-    let ticked = hub.tick(rt, alloc, pass, 30_000).map_err(|_| "no tick")?;
+    hold(rt, alloc, hub, pass)?;
+    post(rt, alloc, hub, pass, HANDSHAKE)?;
+    post(rt, alloc, hub, pass, CONNECT_OTHER)?;
+    let ticked = hub.tick(rt, alloc, pass, 30_000)?;
     assert_eq!(rt; ticked.place, 5);
     assert_eq!(rt; hub.sweep(rt, 5), 0);
     assert_eq!(rt; hub.sweep(rt, 6), 2);
@@ -122,7 +96,7 @@ fn began<J: Naming, P: Placing, G: Gate + Drop, H: Wait + Drop, R: Wait>(
     hub: &Hub<J, P, G, H>,
     pass: &mut Pass<J>,
 ) -> Result<u64, Fail> {
-    hub.tick(rt, alloc, pass, 0).map_err(|_| "no tick")?;
+    hub.tick(rt, alloc, pass, 0)?;
     Ok(pass.note().begin())
 }
 
@@ -134,7 +108,7 @@ fn lets_go<J: Naming, P: Placing, G: Gate + Drop, H: Wait + Drop, R: Wait + Abor
     pass: &mut Pass<J>,
 ) -> Result<(), Fail> {
     for _ in 0..3 {
-        post(rt, alloc, hub, pass, HANDSHAKE).map_err(|_| "refused")?;
+        post(rt, alloc, hub, pass, HANDSHAKE)?;
     }
     assert_eq!(rt; began(rt, alloc, hub, pass)?, 0);
     assert_eq!(rt; began(rt, alloc, hub, pass)?, 4);
@@ -154,8 +128,8 @@ fn closed<J: Naming, P: Placing, G: Gate + Drop, H: Wait + Drop, R: Wait + Abort
     hub: &Hub<J, P, G, H>,
     pass: &mut Pass<J>,
 ) -> Result<(), Fail> {
-    let ticket = hold(rt, alloc, hub, pass).map_err(|_| "refused")?;
-    publish(rt, alloc, hub, pass).map_err(|_| "refused")?;
+    let ticket = hold(rt, alloc, hub, pass)?;
+    publish(rt, alloc, hub, pass)?;
     hub.close(rt);
     assert_eq!(rt;
         refusal(rt, alloc, hub, pass, PUBLISH)?,
@@ -174,17 +148,11 @@ fn closed<J: Naming, P: Placing, G: Gate + Drop, H: Wait + Drop, R: Wait + Abort
         let refused = hub.tick(rt, alloc, pass, moment).err();
         assert_eq!(rt; refused, Some(PostFault::Closed));
     }
-    assert_eq!(rt;
-        poll(rt, alloc, hub, pass, ticket).map_err(|_| "refused")?,
-        2
-    );
+    assert_eq!(rt; poll(rt, alloc, hub, pass, ticket)?, 2);
     let fault = hub.poll_answer(rt, alloc, pass, ticket).err();
     assert_eq!(rt; fault, Some(HubFault::Closed));
     let nowhere = Ticket { shard: 2, ..ticket };
-    assert_eq!(rt;
-        poll(rt, alloc, hub, pass, nowhere).map_err(|_| "refused")?,
-        0
-    );
+    assert_eq!(rt; poll(rt, alloc, hub, pass, nowhere)?, 0);
     Ok(())
 }
 

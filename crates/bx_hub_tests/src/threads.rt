@@ -56,17 +56,39 @@ fn meet<
         || ticks(rt, alloc, hub, pass),
         || tells(rt, alloc, hub, other),
     );
-    let mut pass = a.ok_or("a")?;
-    pass.learn(&b.ok_or("b")?.note());
-    assert_eq!(rt;
-        poll(rt, alloc, hub, &mut pass, ticket).map_err(|_| "refused")?,
-        2
-    );
-    assert_eq!(rt;
-        poll(rt, alloc, hub, &mut pass, ticket).map_err(|_| "refused")?,
-        0
-    );
+    match (a, b) {
+        (Some(mut pass), Some(other)) => {
+            pass.learn(&other.note());
+            answered(rt, alloc, hub, &mut pass, ticket)
+        }
+        _ => Err(Fail::from("refused")),
+    }
+}
+
+// The connect is answered once, with an event.
+fn answered<J: Naming, P: Placing, G: Gate + Drop, H: Wait + Drop, R: Wait + Abort>(
+    rt: &R,
+    alloc: Global,
+    hub: &Hub<J, P, G, H>,
+    pass: &mut Pass<J>,
+    ticket: Ticket,
+) -> Result<(), Fail> {
+    assert_eq!(rt; poll(rt, alloc, hub, pass, ticket)?, 2);
+    assert_eq!(rt; poll(rt, alloc, hub, pass, ticket)?, 0);
     Ok(())
+}
+
+// The ticket of a connect that is held, and has no answer.
+fn waits<J: Naming, P: Placing, G: Gate + Drop, H: Wait + Drop, R: Wait + Abort>(
+    rt: &R,
+    alloc: Global,
+    hub: &Hub<J, P, G, H>,
+    pass: &mut Pass<J>,
+) -> Result<Ticket, Fail> {
+    let ticket = hold(rt, alloc, hub, pass)?;
+    let found = poll(rt, alloc, hub, pass, ticket)?;
+    assert_eq!(rt; found, 0);
+    Ok(ticket)
 }
 
 fn two<J: Naming + Send + Sync, R: Threads + Wait + Abort + Sync>(
@@ -84,11 +106,7 @@ fn two<J: Naming + Send + Sync, R: Threads + Wait + Abort + Sync>(
         alloc, rt, opened, config, placing, OpenGate,
     )?;
     let mut pass = hub.pass();
-    let ticket = hold(rt, alloc, &hub, &mut pass).map_err(|_| "refused")?;
-    assert_eq!(rt;
-        poll(rt, alloc, &hub, &mut pass, ticket).map_err(|_| "refused")?,
-        0
-    );
+    let ticket = waits(rt, alloc, &hub, &mut pass)?;
     meet(rt, alloc, &hub, pass, ticket)
 }
 

@@ -2,7 +2,7 @@
 ghost use Rattle.std.specs.Prelude.{◌≡◌};
 ghost use Rattle.bx_entry.specs.Placings.{by_remainder};
 
-use crate::calls::{hold, poll, publish};
+use crate::calls::{Refused, hold, poll, publish};
 use bx_advice::Config;
 use bx_entry::{ByRemainder, Placing, Ticket};
 use bx_hub::{Gate, Hub, Pass, Watch};
@@ -56,6 +56,45 @@ fn check_woken<R: Abort>(rt: &R, waiting: &Waiting) {
     assert!(rt; !waiting.woken_under_lock.load(Ordering::SeqCst));
 }
 
+// What became of a waker.
+#[derive(Clone, Copy, Debug, PartialEq, Eq)]
+enum Watched {
+    Unknown,
+    // Whether an older one was given back for it.
+    Stored(bool),
+    Ready,
+    Shut,
+}
+
+// Hands the hub a waker of the task.
+fn watch_of<J: Naming, P: Placing, G: Gate + Drop, H: Wait + Drop, R: Wait>(
+    rt: &R,
+    hub: &Hub<J, P, G, H>,
+    ticket: Ticket,
+    task: &MockTask,
+) -> Result<Watched, Fail> {
+    Ok(match hub.watch(rt, ticket, waker(task)?) {
+        Watch::Unknown(_) => Watched::Unknown,
+        Watch::Stored(older) => Watched::Stored(older.is_some()),
+        Watch::Ready(_) => Watched::Ready,
+        Watch::Shut(_) => Watched::Shut,
+    })
+}
+
+// A publish wakes the task.
+fn publish_woken<J: Naming, P: Placing, G: Gate + Drop, H: Wait + Drop, R: Wait + Abort>(
+    rt: &R,
+    alloc: Global,
+    hub: &Hub<J, P, G, H>,
+    pass: &mut Pass<J>,
+    waiting: &Waiting,
+) -> Result<(), Refused> {
+    assert!(rt; !waiting.task.is_woken());
+    publish(rt, alloc, hub, pass)?;
+    check_woken(rt, waiting);
+    Ok(())
+}
+
 // The task waits for a held connect: its waker is stored, and the publish that answers the connect wakes it. Then the answer
 // is there until it is taken. A ticket that names no shard is unknown. A newer waker gives the older one back.
 fn answered<J: Naming, P: Placing, G: Gate + Drop, H: Wait + Drop, R: Wait + Abort>(
@@ -66,20 +105,18 @@ fn answered<J: Naming, P: Placing, G: Gate + Drop, H: Wait + Drop, R: Wait + Abo
     waiting: &Waiting,
 ) -> Result<(), Fail> {
     let task = &waiting.task;
-    let ticket = hold(rt, alloc, hub, pass).map_err(|_| "refused")?;
+    let ticket = hold(rt, alloc, hub, pass)?;
     let nowhere = Ticket { shard: 2, ..ticket };
-    assert!(rt; matches!(hub.watch(rt, nowhere, waker(task)?), Watch::Unknown(_)));
-    assert!(rt; matches!(hub.watch(rt, ticket, waker(task)?), Watch::Stored(None)));
+    assert_eq!(rt; watch_of(rt, hub, nowhere, task)?, Watched::Unknown);
+    assert_eq!(rt; watch_of(rt, hub, ticket, task)?, Watched::Stored(false));
     let older = hub.watch(rt, ticket, waker(task)?);
     assert!(rt; matches!(&older, Watch::Stored(Some(_))));
-    assert!(rt; !task.is_woken());
-    publish(rt, alloc, hub, pass).map_err(|_| "refused")?;
-    check_woken(rt, waiting);
+    let published = publish_woken(rt, alloc, hub, pass, waiting);
     drop(older);
-    assert!(rt; matches!(hub.watch(rt, ticket, waker(task)?), Watch::Ready(_)));
-    let found = poll(rt, alloc, hub, pass, ticket).map_err(|_| "refused")?;
-    assert_eq!(rt; found, 2);
-    assert!(rt; matches!(hub.watch(rt, ticket, waker(task)?), Watch::Unknown(_)));
+    published?;
+    assert_eq!(rt; watch_of(rt, hub, ticket, task)?, Watched::Ready);
+    assert_eq!(rt; poll(rt, alloc, hub, pass, ticket)?, 2);
+    assert_eq!(rt; watch_of(rt, hub, ticket, task)?, Watched::Unknown);
     Ok(())
 }
 
@@ -92,12 +129,12 @@ fn shut<J: Naming, P: Placing, G: Gate + Drop, H: Wait + Drop, R: Wait + Abort>(
     waiting: &Waiting,
 ) -> Result<(), Fail> {
     let task = &waiting.task;
-    let ticket = hold(rt, alloc, hub, pass).map_err(|_| "refused")?;
-    assert!(rt; matches!(hub.watch(rt, ticket, waker(task)?), Watch::Stored(None)));
+    let ticket = hold(rt, alloc, hub, pass)?;
+    assert_eq!(rt; watch_of(rt, hub, ticket, task)?, Watched::Stored(false));
     assert!(rt; !task.is_woken());
     hub.close(rt);
     assert!(rt; task.is_woken());
-    assert!(rt; matches!(hub.watch(rt, ticket, waker(task)?), Watch::Shut(_)));
+    assert_eq!(rt; watch_of(rt, hub, ticket, task)?, Watched::Shut);
     Ok(())
 }
 
@@ -110,17 +147,14 @@ fn ticked<J: Naming, P: Placing, G: Gate + Drop, H: Wait + Drop, R: Wait + Abort
     waiting: &Waiting,
 ) -> Result<(), Fail> {
     let task = &waiting.task;
-    let ticket = hold(rt, alloc, hub, pass).map_err(|_| "refused")?;
-    assert!(rt; matches!(hub.watch(rt, ticket, waker(task)?), Watch::Stored(None)));
-    hub.tick(rt, alloc, pass, 29_999).map_err(|_| "no tick")?;
+    let ticket = hold(rt, alloc, hub, pass)?;
+    assert_eq!(rt; watch_of(rt, hub, ticket, task)?, Watched::Stored(false));
+    hub.tick(rt, alloc, pass, 29_999)?;
     assert!(rt; !task.is_woken());
-    let place = hub
-        .tick(rt, alloc, pass, 30_000)
-        .map_err(|_| "no tick")?
-        .place;
+    let place = hub.tick(rt, alloc, pass, 30_000)?.place;
     assert_eq!(rt; place, 4);
     check_woken(rt, waiting);
-    let found = poll(rt, alloc, hub, pass, ticket).map_err(|_| "refused")?;
+    let found = poll(rt, alloc, hub, pass, ticket)?;
     assert_eq!(rt; found, 1);
     Ok(())
 }
