@@ -97,3 +97,51 @@ fn events_without_batches_are_forgotten(rt: HostRuntime) -> Result<(), Fail> {
     assert_eq!(rt; window.len(), 1);
     Ok(())
 }
+
+#[test]
+fn a_look_ahead_says_what_a_connect_is_given(rt: HostRuntime) -> Result<(), Fail> {
+    let alloc = rt.alloc();
+    let mut window = Window::new(alloc);
+    assert_eq!(rt; window.acknowledged(0), 0);
+    assert_eq!(rt; window.portion(0, 2), 0);
+    push_all(alloc, &mut window, 1, 5)?;
+    // Nothing is outstanding: three of the five are the next batch.
+    assert_eq!(rt; window.acknowledged(0), 0);
+    assert_eq!(rt; window.portion(0, 3), 3);
+    assert_eq!(rt; window.portion(0, 9), 5);
+    if window.given().number < 1_000_000 {
+        window.give(3);
+    }
+    // They are given again until their number comes, and the other two afterwards.
+    assert_eq!(rt; window.acknowledged(0), 0);
+    assert_eq!(rt; window.portion(0, 9), 3);
+    for number in [1, 2, u64::MAX] {
+        let done = window.acknowledged(number);
+        assert_eq!(rt; done, 3, "by {number}");
+        assert_eq!(rt; window.portion(done, 9), 2);
+        assert_eq!(rt; window.portion(done, 1), 1);
+    }
+    assert_eq!(rt; window.len(), 5);
+    Ok(())
+}
+
+#[test]
+fn a_cleared_window_keeps_its_number(rt: HostRuntime) -> Result<(), Fail> {
+    let alloc = rt.alloc();
+    let mut window = Window::new(alloc);
+    push_all(alloc, &mut window, 1, 3)?;
+    let (number, data) = given(alloc, &mut window)?;
+    assert_eq!(rt; number, 1);
+    assert_eq!(rt; data.as_str(), "1 2 3 ");
+    window.clear();
+    assert_eq!(rt; window.len(), 0);
+    assert!(rt; !window.is_full(1));
+    let (number, data) = given(alloc, &mut window)?;
+    assert_eq!(rt; number, 1);
+    assert_eq!(rt; data.as_str(), "");
+    push_all(alloc, &mut window, 4, 1)?;
+    let (number, data) = given(alloc, &mut window)?;
+    assert_eq!(rt; number, 2);
+    assert_eq!(rt; data.as_str(), "4 ");
+    Ok(())
+}

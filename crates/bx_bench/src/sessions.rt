@@ -46,20 +46,20 @@ impl Setting {
     fn open(&self, alloc: Global) -> Result<Vec<Session>> {
         let mut sessions = Vec::new(alloc);
         for number in 0..SESSIONS {
-            sessions.push(Session::open(alloc, &self.config, number, true))?;
+            sessions.push(Session::open(alloc, number, true))?;
         }
         Ok(sessions)
     }
 
     // How many events the held connect is given.
-    fn deliver(&self, session: &mut Session) -> Result<u64> {
+    fn deliver(&self, session: &mut Session, place: u64) -> Result<u64> {
         session.reserve()?;
         let keep = self.event.clone()?;
         let give = self.event.clone()?;
         if session.is_overflowed() || session.last_batch() > MANY {
             return Err(anyhow!("overflow"));
         }
-        match session.deliver(&self.config, keep, give) {
+        match session.deliver(&self.config, place, keep, give) {
             Delivery::Given(answered) => Ok(answered.answer.events.len() as u64),
             Delivery::Waits | Delivery::Overflowed => Ok(0),
         }
@@ -91,9 +91,9 @@ pub fn open(alloc: Global) -> Result<usize> {
 pub fn wait(alloc: Global) -> Result<usize> {
     let setting = Setting::new(alloc)?;
     let mut sessions = setting.open(alloc)?;
-    for _ in 0..ROUND * ROUNDS {
+    for place in 0..ROUND * ROUNDS {
         for session in sessions.iter_mut() {
-            setting.deliver(session)?;
+            setting.deliver(session, place)?;
         }
     }
     Ok(sessions.len())
@@ -105,9 +105,9 @@ pub fn batches(alloc: Global) -> Result<usize> {
     let mut sessions = setting.open(alloc)?;
     let mut total = 0u64;
     for _ in 0..ROUNDS {
-        for _ in 0..ROUND {
+        for place in 0..ROUND {
             for session in sessions.iter_mut() {
-                setting.deliver(session)?;
+                setting.deliver(session, place)?;
             }
         }
         for session in sessions.iter_mut() {
@@ -122,10 +122,10 @@ pub fn holds(alloc: Global) -> Result<usize> {
     let setting = Setting::new(alloc)?;
     let mut sessions = setting.open(alloc)?;
     let mut total = 0u64;
-    for _ in 0..ROUND * ROUNDS {
+    for place in 0..ROUND * ROUNDS {
         for session in sessions.iter_mut() {
             setting.connect(alloc, session, HOLD)?;
-            total = total.saturating_add(setting.deliver(session)?);
+            total = total.saturating_add(setting.deliver(session, place)?);
         }
     }
     Ok(total as usize)

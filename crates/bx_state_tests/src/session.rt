@@ -1,8 +1,12 @@
 //! One session by what its client sees.
+ghost use Rattle.std.specs.Prelude.{◌≡◌, IfOk, false};
+ghost use Rattle.bx_tree.specs.Patterns.{patterns_of};
+
 use bx_advice::{Case, Config, Reconnect};
 use bx_message::{AckReply, Event, RawJson, Reply, SharedEvent, Text};
-use bx_names::ChannelName;
+use bx_names::{ChannelName, Pattern};
 use bx_session::{Answered, Connection, Delivery, PendingConnect, Session};
+use bx_tree::Tree;
 use std::alloc::{AllocError, Global};
 use std::process::Abort;
 use std::test::Fail;
@@ -16,9 +20,6 @@ enum Step {
     Publish(u64, u64),
     // The number that a connect acknowledges, its moment and its hold.
     Connect(Option<u64>, u64, u64),
-    // Patterns that were not in force.
-    Subscribe(usize),
-    Unsubscribe(usize),
     Tick(u64),
     Close,
 }
@@ -131,6 +132,7 @@ fn publish(
     alloc: Global,
     config: &Config,
     session: &mut Session,
+    place: u64,
     number: u64,
     answers: &mut Vec<Answered>,
 ) -> Result<(), Fail> {
@@ -140,7 +142,7 @@ fn publish(
     if session.is_overflowed() || session.last_batch() >= MANY {
         return Ok(());
     }
-    match session.deliver(config, keep, give) {
+    match session.deliver(config, place, keep, give) {
         Delivery::Given(answered) => push_answer(answers, Some(answered)),
         Delivery::Waits | Delivery::Overflowed => Ok(()),
     }
@@ -157,23 +159,13 @@ fn apply(
     match step {
         Step::Publish(first, count) => {
             for i in 0..count {
-                publish(alloc, config, session, first.saturating_add(i), answers)?;
+                let number = first.saturating_add(i);
+                publish(alloc, config, session, place, number, answers)?;
             }
         }
         Step::Connect(acked, moment, hold) => {
             let pending = pending(alloc, place, moment, hold)?;
             connect(alloc, config, session, pending, acked, answers)?;
-        }
-        Step::Subscribe(fresh) => {
-            let overflows = session.subscribe(config, fresh);
-            if overflows != session.is_overflowed() {
-                return Err(Fail::from("the overflow is told wrongly"));
-            }
-        }
-        Step::Unsubscribe(gone) => {
-            if gone <= session.patterns() {
-                session.unsubscribe(gone);
-            }
         }
         Step::Tick(moment) => push_answer(answers, session.tick(config, moment))?,
         Step::Close => push_answer(answers, session.close(config))?,
@@ -217,7 +209,7 @@ fn run(
 
 #[test]
 fn batches_are_given_until_they_are_acknowledged(rt: HostRuntime) -> Result<(), Fail> {
-    let mut session = Session::open(rt.alloc(), &config()?, 7, true);
+    let mut session = Session::open(rt.alloc(), 7, true);
     run(
         &rt,
         rt.alloc(),
@@ -249,7 +241,7 @@ fn batches_are_given_until_they_are_acknowledged(rt: HostRuntime) -> Result<(), 
 
 #[test]
 fn plain_sessions_forget_what_they_give(rt: HostRuntime) -> Result<(), Fail> {
-    let mut session = Session::open(rt.alloc(), &config()?, 7, false);
+    let mut session = Session::open(rt.alloc(), 7, false);
     run(
         &rt,
         rt.alloc(),
@@ -268,7 +260,7 @@ fn plain_sessions_forget_what_they_give(rt: HostRuntime) -> Result<(), Fail> {
 
 #[test]
 fn holds_end(rt: HostRuntime) -> Result<(), Fail> {
-    let mut session = Session::open(rt.alloc(), &config()?, 7, true);
+    let mut session = Session::open(rt.alloc(), 7, true);
     run(
         &rt,
         rt.alloc(),
@@ -294,7 +286,7 @@ fn holds_end(rt: HostRuntime) -> Result<(), Fail> {
 
 #[test]
 fn overflows_drop_the_events(rt: HostRuntime) -> Result<(), Fail> {
-    let mut session = Session::open(rt.alloc(), &config()?, 7, true);
+    let mut session = Session::open(rt.alloc(), 7, true);
     run(
         &rt,
         rt.alloc(),
@@ -321,26 +313,88 @@ fn overflows_drop_the_events(rt: HostRuntime) -> Result<(), Fail> {
     Ok(())
 }
 
+// Patterns with consecutive numbers in their texts.
+fn patterns(alloc: Global, first: u64, count: u64) -> Result<Vec<Pattern>, Fail> {
+    let mut patterns = Vec::new(alloc);
+    for i in 0..count {
+        let number = first.saturating_add(i);
+        let text = format!(in alloc; "/p/{number}/*")?;
+        patterns.push(Pattern::read(alloc, text.as_str())?)?;
+    }
+    Ok(patterns)
+}
+
+// A subscription, and whether the session overflows by it. The tree has what is in force.
+fn subscribe(
+    alloc: Global,
+    config: &Config,
+    session: &mut Session,
+    tree: &mut Tree,
+    patterns: &[Pattern],
+) -> Result<bool, Fail>
+    requires tied { patterns_of tree.old 7 ≡ session.old.kept.patterns }
+    ensures tied { IfOk result (λ overflows. overflows ≡ false → patterns_of tree.new 7 ≡ session.new.kept.patterns) }
+{
+    if session.is_overflowed() {
+        return Ok(true);
+    }
+    let fresh = tree.add_all(alloc, patterns, 7)?;
+    Ok(session.subscribe(config, patterns, fresh))
+}
+
+// An unsubscription.
+fn unsubscribe(session: &mut Session, tree: &mut Tree, patterns: &[Pattern])
+    requires tied { patterns_of tree.old 7 ≡ session.old.kept.patterns }
+    ensures tied { patterns_of tree.new 7 ≡ session.new.kept.patterns }
+{
+    let gone = tree.remove_each(patterns, 7);
+    session.unsubscribe(patterns, gone);
+}
+
+// As many patterns are in force as may be, one goes and another comes, and then there is one too many.
+fn pass_the_limit(
+    rt: &impl Abort,
+    alloc: Global,
+    config: &Config,
+    session: &mut Session,
+) -> Result<(), Fail> {
+    let mut tree = Tree::new(alloc);
+    if session.patterns() != 0 {
+        return Err(Fail::from("a pattern is in force"));
+    }
+    let all = patterns(alloc, 0, 1_026)?;
+    if subscribe(alloc, config, session, &mut tree, &all[..1_024])? {
+        return Err(Fail::from("1,024 patterns are too many"));
+    }
+    assert_eq!(rt; session.patterns(), 1_024);
+    unsubscribe(session, &mut tree, &all[..1]);
+    assert_eq!(rt; session.patterns(), 1_023);
+    if subscribe(alloc, config, session, &mut tree, &all[1_024..1_025])? {
+        return Err(Fail::from("1,024 other patterns are too many"));
+    }
+    assert_eq!(rt; session.patterns(), 1_024);
+    assert!(rt; !session.is_overflowed());
+    assert!(rt; subscribe(alloc, config, session, &mut tree, &all[1_025..])?);
+    assert!(rt; session.is_overflowed());
+    assert_eq!(rt; session.patterns(), 0);
+    Ok(())
+}
+
 #[test]
 fn patterns_past_their_limit_leave_a_connect_held(rt: HostRuntime) -> Result<(), Fail> {
-    let mut session = Session::open(rt.alloc(), &config()?, 7, true);
-    run(
-        &rt,
-        rt.alloc(),
-        &mut session,
-        &[
-            (Step::Subscribe(1_024), ""),
-            (Step::Unsubscribe(1), ""),
-            (Step::Subscribe(1), ""),
-            (Step::Connect(None, 0, 9), ""),
-            (Step::Subscribe(1), ""),
-            (Step::Tick(9), "3 ok ack 0 0: none;"),
-            (
-                Step::Connect(None, 9, 9),
-                "6 413::Queue overflow plain 0: none;",
-            ),
-        ],
-    )
+    let alloc = rt.alloc();
+    let config = config()?;
+    let mut session = Session::open(alloc, 7, true);
+    let connect = Step::Connect(None, 0, 9);
+    let held = told(alloc, &config, &mut session, 3, connect)?;
+    assert_eq!(rt; held.as_str(), "");
+    pass_the_limit(&rt, alloc, &config, &mut session)?;
+    let ended = told(alloc, &config, &mut session, 5, Step::Tick(9))?;
+    assert_eq!(rt; ended.as_str(), "3 ok ack 0 0: none;");
+    let connect = Step::Connect(None, 9, 9);
+    let refused = told(alloc, &config, &mut session, 6, connect)?;
+    assert_eq!(rt; refused.as_str(), "6 413::Queue overflow plain 0: none;");
+    Ok(())
 }
 
 // The reply to a connect that a disconnect ended.
@@ -360,7 +414,7 @@ fn replies_repeat_what_the_connect_had(rt: HostRuntime) -> Result<(), Fail> {
     let alloc = rt.alloc();
     let config = config()?;
     let pending = pending(alloc, 3, 0, 9)?;
-    let mut session = Session::open(alloc, &config, 7, true);
+    let mut session = Session::open(alloc, 7, true);
     let mut answers = Vec::new(alloc);
     connect(alloc, &config, &mut session, pending, None, &mut answers)?;
     assert!(rt; answers.is_empty());
@@ -462,7 +516,7 @@ fn see(
 fn each_event_comes_once_and_in_order(rt: HostRuntime) -> Result<(), Fail> {
     let alloc = rt.alloc();
     let config = config()?;
-    let mut session = Session::open(alloc, &config, 7, true);
+    let mut session = Session::open(alloc, 7, true);
     let mut seen = Seen {
         published: 0,
         done: 0,
