@@ -358,23 +358,26 @@ fn pass_the_limit(
     config: &Config,
     session: &mut Session,
 ) -> Result<(), Fail> {
+    let most = patterns(alloc, 0, 1_024)?;
+    let first = patterns(alloc, 0, 1)?;
+    let other = patterns(alloc, 1_024, 1)?;
+    let last = patterns(alloc, 1_025, 1)?;
     let mut tree = Tree::new(alloc);
     if session.patterns() != 0 {
         return Err(Fail::from("a pattern is in force"));
     }
-    let all = patterns(alloc, 0, 1_026)?;
-    if subscribe(alloc, config, session, &mut tree, &all[..1_024])? {
+    if subscribe(alloc, config, session, &mut tree, most.as_slice())? {
         return Err(Fail::from("1,024 patterns are too many"));
     }
     assert_eq!(rt; session.patterns(), 1_024);
-    unsubscribe(session, &mut tree, &all[..1]);
+    unsubscribe(session, &mut tree, first.as_slice());
     assert_eq!(rt; session.patterns(), 1_023);
-    if subscribe(alloc, config, session, &mut tree, &all[1_024..1_025])? {
+    if subscribe(alloc, config, session, &mut tree, other.as_slice())? {
         return Err(Fail::from("1,024 other patterns are too many"));
     }
     assert_eq!(rt; session.patterns(), 1_024);
     assert!(rt; !session.is_overflowed());
-    assert!(rt; subscribe(alloc, config, session, &mut tree, &all[1_025..])?);
+    assert!(rt; subscribe(alloc, config, session, &mut tree, last.as_slice())?);
     assert!(rt; session.is_overflowed());
     assert_eq!(rt; session.patterns(), 0);
     Ok(())
