@@ -1,7 +1,7 @@
 //! What the tests ask of a hub.
 use bx_cut::Bodies;
 use bx_entry::{Arrival, Placing, Slot, Ticket};
-use bx_hub::{Gate, Hub, Pass, PostFault};
+use bx_hub::{Gate, Hub, HubFault, Pass, PostFault};
 use bx_window::Naming;
 use std::alloc::{AllocError, Global};
 use std::sync::Wait;
@@ -40,6 +40,16 @@ pub fn arrival(alloc: Global, body: &str) -> Result<Arrival, AllocError> {
     })
 }
 
+// The ticket of the first connect that waits.
+fn ticket_of(slots: &[Slot]) -> Option<Ticket> {
+    for slot in slots {
+        if let Slot::Waiting(ticket) = slot {
+            return Some(*ticket);
+        }
+    }
+    None
+}
+
 /// Posts a body; says where its first message stands, and gives the ticket of its first connect.
 pub fn post<J: Naming, P: Placing, G: Gate + Drop, H: Wait + Drop, R: Wait>(
     rt: &R,
@@ -48,16 +58,11 @@ pub fn post<J: Naming, P: Placing, G: Gate + Drop, H: Wait + Drop, R: Wait>(
     pass: &mut Pass<J>,
     body: &str,
 ) -> Result<(u64, Option<Ticket>), Refused> {
-    let posted = hub
-        .post(rt, alloc, pass, &arrival(alloc, body)?)
-        .map_err(|_| Refused)?;
-    let first = posted.first;
-    for slot in posted.slots.into_vec() {
-        if let Slot::Waiting(ticket) = slot {
-            return Ok((first, Some(ticket)));
-        }
+    let arrival = arrival(alloc, body)?;
+    match hub.post(rt, alloc, pass, &arrival) {
+        Ok(posted) => Ok((posted.first, ticket_of(posted.slots.as_slice()))),
+        Err(_) => Err(Refused),
     }
-    Ok((first, None))
 }
 
 /// Why a post of this body is refused, if it is.
@@ -85,6 +90,17 @@ pub fn poll<J: Naming, P: Placing, G: Gate + Drop, H: Wait + Drop, R: Wait>(
         Ok(None) => Ok(0),
         Err(_) => Err(Refused),
     }
+}
+
+/// Why a connect is given no answer, if there is a fault.
+pub fn fault_of<J: Naming, P: Placing, G: Gate + Drop, H: Wait + Drop, R: Wait>(
+    rt: &R,
+    alloc: Global,
+    hub: &Hub<J, P, G, H>,
+    pass: &mut Pass<J>,
+    ticket: Ticket,
+) -> Option<HubFault> {
+    hub.poll_answer(rt, alloc, pass, ticket).err()
 }
 
 /// Opens the first session, subscribes it, and gives the ticket of its connect, which is held.

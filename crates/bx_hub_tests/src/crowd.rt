@@ -3,6 +3,7 @@ ghost use Rattle.std.specs.Prelude.{◌≡◌};
 ghost use Rattle.bx_entry.specs.Placings.{by_remainder};
 
 use crate::calls::{HANDSHAKE, PUBLISH, poll, post};
+use crate::same::same;
 use bx_advice::Config;
 use bx_entry::{ByRemainder, Placing};
 use bx_hub::{Gate, Hub, OpenGate, Pass};
@@ -228,7 +229,7 @@ fn crowd<J: Naming + Send + Sync, R: Threads + Wait + Abort + Sync>(
         alloc, rt, opened, config, placing, OpenGate,
     )?;
     // Three threads published events, each of which both sessions got once.
-    assert_eq!(rt; given(rt, alloc, &hub), Some(2 * 3 * EVENTS));
+    same(rt, given(rt, alloc, &hub), Some(2 * 3 * EVENTS), "given");
     Ok(())
 }
 

@@ -3,6 +3,7 @@ ghost use Rattle.std.specs.Prelude.{◌≡◌};
 ghost use Rattle.bx_entry.specs.Placings.{by_remainder};
 
 use crate::calls::{HANDSHAKE, PUBLISH, Refused, hold, poll, post};
+use crate::same::same;
 use bx_advice::Config;
 use bx_entry::{ByRemainder, Placing, Ticket};
 use bx_hub::{Gate, Hub, Pass, PostFault};
@@ -121,15 +122,25 @@ fn beside<
         || posts(rt, alloc, hub, pass),
         || takes(rt, alloc, hub, other, ticket, flags),
     );
-    assert!(rt; posted);
-    assert!(rt; flags.stands.load(Ordering::SeqCst));
+    same(rt, posted, true, "posted");
+    same(
+        rt,
+        flags.stands.load(Ordering::SeqCst),
+        true,
+        "somebody stands there",
+    );
     let want = Told {
         is_bad_moment: true,
         seen: 5,
         found: 2,
     };
-    assert_eq!(rt; told, want);
-    assert!(rt; !flags.gave_up.load(Ordering::SeqCst));
+    same(rt, told, want, "told");
+    same(
+        rt,
+        flags.gave_up.load(Ordering::SeqCst),
+        false,
+        "waited in vain",
+    );
     Ok(())
 }
 
@@ -143,6 +154,17 @@ fn opens<J: Naming, P: Placing, G: Gate + Drop, H: Wait + Drop, R: Wait>(
     let ticket = hold(rt, alloc, hub, pass)?;
     post(rt, alloc, hub, pass, HANDSHAKE)?;
     Ok(ticket)
+}
+
+fn stands<
+    J: Naming + Send + Sync,
+    P: Placing + Send + Sync,
+    H: Wait + Drop + Send,
+    R: Threads + Wait + Abort + Sync,
+>(rt: &R, alloc: Global, hub: &Hub<J, P, Holding, H>, flags: &Flags) -> Result<(), Fail> {
+    let mut pass = hub.pass();
+    let ticket = opens(rt, alloc, hub, &mut pass)?;
+    beside(rt, alloc, hub, pass, ticket, flags)
 }
 
 fn held<J: Naming + Send + Sync, R: Threads + Wait + Abort + Sync>(
@@ -159,9 +181,7 @@ fn held<J: Naming + Send + Sync, R: Threads + Wait + Abort + Sync>(
     requires placing { by_remainder ≡ J.placing }
 {
     let hub = Hub::<J, ByRemainder, Holding, &R>::new(alloc, rt, opened, config, placing, gate)?;
-    let mut pass = hub.pass();
-    let ticket = opens(rt, alloc, &hub, &mut pass)?;
-    beside(rt, alloc, &hub, pass, ticket, flags)
+    stands(rt, alloc, &hub, flags)
 }
 
 #[test]

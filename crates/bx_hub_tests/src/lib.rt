@@ -12,6 +12,8 @@ mod moves;
 #[cfg(test)]
 mod pauses;
 #[cfg(test)]
+mod same;
+#[cfg(test)]
 mod tests;
 #[cfg(test)]
 mod threads;

@@ -2,7 +2,8 @@
 ghost use Rattle.std.specs.Prelude.{◌≡◌};
 ghost use Rattle.bx_entry.specs.Placings.{by_remainder};
 
-use crate::calls::{Refused, arrival, hold, poll, publish, refusal};
+use crate::calls::{Refused, arrival, fault_of, hold, poll, publish, refusal};
+use crate::same::same;
 use bx_advice::Config;
 use bx_entry::{ByRemainder, Placing};
 use bx_hub::{Gate, Hub, HubFault, Lagging, OpenGate, Pass, PostFault};
@@ -64,20 +65,40 @@ fn fills<J: Naming, P: Placing, G: Gate + Drop, H: Wait + Drop, R: Wait + Abort>
     hub: &Hub<J, P, G, H>,
     pass: &mut Pass<J>,
 ) -> Result<(), Fail> {
-    assert!(rt; !hub.pause(rt, 2));
-    assert!(rt; hub.pause(rt, 0));
-    assert_eq!(rt; empty(rt, alloc, hub, pass), Some(Lagging::none()));
+    same(rt, hub.pause(rt, 2), false, "pause 2");
+    same(rt, hub.pause(rt, 0), true, "pause 0");
+    same(
+        rt,
+        empty(rt, alloc, hub, pass),
+        Some(Lagging::none()),
+        "an empty post",
+    );
     let behind = Lagging {
         paused: 1,
         ..Lagging::none()
     };
-    assert_eq!(rt; pings(rt, alloc, hub, pass, behind, 4_096), 4_096);
+    same(
+        rt,
+        pings(rt, alloc, hub, pass, behind, 4_096),
+        4_096,
+        "pings",
+    );
     let full = Some(PostFault::Behind { first: 0 });
-    assert_eq!(rt; refusal(rt, alloc, hub, pass, PING)?, full);
-    assert_eq!(rt; refusal(rt, alloc, hub, pass, PING)?, full);
-    assert!(rt; !hub.resume(rt, 2));
-    assert!(rt; hub.resume(rt, 0));
-    assert_eq!(rt; ping(rt, alloc, hub, pass), Some((4_096, Lagging::none())));
+    same(rt, refusal(rt, alloc, hub, pass, PING)?, full, "a ping");
+    same(
+        rt,
+        refusal(rt, alloc, hub, pass, PING)?,
+        full,
+        "another ping",
+    );
+    same(rt, hub.resume(rt, 2), false, "resume 2");
+    same(rt, hub.resume(rt, 0), true, "resume 0");
+    same(
+        rt,
+        ping(rt, alloc, hub, pass),
+        Some((4_096, Lagging::none())),
+        "a ping that is resumed",
+    );
     Ok(())
 }
 
@@ -103,14 +124,14 @@ fn waits<J: Naming, P: Placing, G: Gate + Drop, H: Wait + Drop, R: Wait + Abort>
     pass: &mut Pass<J>,
 ) -> Result<(), Fail> {
     let ticket = hold(rt, alloc, hub, pass)?;
-    assert!(rt; hub.pause(rt, 1));
+    same(rt, hub.pause(rt, 1), true, "pause 1");
     publish_apart(rt, alloc, hub, pass)?;
-    let paused = hub.poll_answer(rt, alloc, pass, ticket).err();
-    assert_eq!(rt; paused, Some(HubFault::Paused));
-    assert!(rt; hub.resume(rt, 1));
-    assert_eq!(rt; hub.sweep(rt, 5), 0);
+    let fault = fault_of(rt, alloc, hub, pass, ticket);
+    same(rt, fault, Some(HubFault::Paused), "paused");
+    same(rt, hub.resume(rt, 1), true, "resume 1");
+    same(rt, hub.sweep(rt, 5), 0, "sweep 5");
     let found = poll(rt, alloc, hub, pass, ticket)?;
-    assert_eq!(rt; found, 2);
+    same(rt, found, 2, "found");
     Ok(())
 }
 
@@ -123,14 +144,14 @@ fn gives<J: Naming, P: Placing, G: Gate + Drop, H: Wait + Drop, R: Wait + Abort>
 ) -> Result<(), Fail> {
     let ticket = hold(rt, alloc, hub, pass)?;
     publish(rt, alloc, hub, pass)?;
-    assert!(rt; hub.pause(rt, 1));
+    same(rt, hub.pause(rt, 1), true, "pause 1");
     let found = poll(rt, alloc, hub, pass, ticket)?;
-    assert_eq!(rt; found, 2);
-    let paused = hub.poll_answer(rt, alloc, pass, ticket).err();
-    assert_eq!(rt; paused, Some(HubFault::Paused));
+    same(rt, found, 2, "found");
+    let fault = fault_of(rt, alloc, hub, pass, ticket);
+    same(rt, fault, Some(HubFault::Paused), "paused");
     hub.close(rt);
-    let closed = hub.poll_answer(rt, alloc, pass, ticket).err();
-    assert_eq!(rt; closed, Some(HubFault::Closed));
+    let fault = fault_of(rt, alloc, hub, pass, ticket);
+    same(rt, fault, Some(HubFault::Closed), "closed");
     Ok(())
 }
 
@@ -140,6 +161,20 @@ enum Case {
     Fills,
     Waits,
     Gives,
+}
+
+fn check<J: Naming, P: Placing, G: Gate + Drop, H: Wait + Drop, R: Wait + Abort>(
+    rt: &R,
+    alloc: Global,
+    hub: &Hub<J, P, G, H>,
+    pass: &mut Pass<J>,
+    case: Case,
+) -> Result<(), Fail> {
+    match case {
+        Case::Fills => fills(rt, alloc, hub, pass),
+        Case::Waits => waits(rt, alloc, hub, pass),
+        Case::Gives => gives(rt, alloc, hub, pass),
+    }
 }
 
 fn stands<J: Naming, R: Wait + Abort>(
@@ -157,12 +192,7 @@ fn stands<J: Naming, R: Wait + Abort>(
     let hub = Hub::<J, ByRemainder, OpenGate, &R>::new(
         alloc, rt, opened, config, placing, OpenGate,
     )?;
-    let mut pass = hub.pass();
-    match case {
-        Case::Fills => fills(rt, alloc, &hub, &mut pass),
-        Case::Waits => waits(rt, alloc, &hub, &mut pass),
-        Case::Gives => gives(rt, alloc, &hub, &mut pass),
-    }
+    check(rt, alloc, &hub, &mut hub.pass(), case)
 }
 
 #[test]

@@ -2,7 +2,10 @@
 ghost use Rattle.std.specs.Prelude.{◌≡◌};
 ghost use Rattle.bx_entry.specs.Placings.{by_remainder};
 
-use crate::calls::{CONNECT_OTHER, HANDSHAKE, PUBLISH, hold, poll, post, publish, refusal};
+use crate::calls::{
+    CONNECT_OTHER, HANDSHAKE, PUBLISH, fault_of, hold, poll, post, publish, refusal,
+};
+use crate::same::same;
 use bx_advice::Config;
 use bx_entry::{BodyFault, ByRemainder, Placing, Ticket};
 use bx_hub::{Gate, Hub, HubFault, OpenGate, Pass, PostFault};
@@ -20,19 +23,33 @@ fn requests<J: Naming, P: Placing, G: Gate + Drop, H: Wait + Drop, R: Wait + Abo
     hub: &Hub<J, P, G, H>,
     pass: &mut Pass<J>,
 ) -> Result<(), Fail> {
-    assert_eq!(rt;
+    same(
+        rt,
         refusal(rt, alloc, hub, pass, "[")?,
-        Some(PostFault::Body(BodyFault::NotJson))
+        Some(PostFault::Body(BodyFault::NotJson)),
+        "a body that is cut off",
     );
-    assert_eq!(rt; pass.seen(), 0);
-    assert_eq!(rt; post(rt, alloc, hub, pass, "[]")?.0, 0);
-    assert_eq!(rt; post(rt, alloc, hub, pass, HANDSHAKE)?.0, 0);
-    assert_eq!(rt; post(rt, alloc, hub, pass, "[]")?.0, 1);
-    assert_eq!(rt; pass.seen(), 1);
+    same(rt, pass.seen(), 0, "seen at first");
+    same(rt, post(rt, alloc, hub, pass, "[]")?.0, 0, "an empty post");
+    same(
+        rt,
+        post(rt, alloc, hub, pass, HANDSHAKE)?.0,
+        0,
+        "the first handshake",
+    );
+    same(
+        rt,
+        post(rt, alloc, hub, pass, "[]")?.0,
+        1,
+        "an empty post behind it",
+    );
+    same(rt, pass.seen(), 1, "seen behind it");
     let late = (1 << 62) + 1;
-    assert_eq!(rt;
+    same(
+        rt,
         hub.tick(rt, alloc, pass, late).err(),
-        Some(PostFault::BadMoment)
+        Some(PostFault::BadMoment),
+        "a late tick",
     );
     Ok(())
 }
@@ -45,13 +62,23 @@ fn answers<J: Naming, P: Placing, G: Gate + Drop, H: Wait + Drop, R: Wait + Abor
     pass: &mut Pass<J>,
 ) -> Result<(), Fail> {
     let ticket = hold(rt, alloc, hub, pass)?;
-    assert_eq!(rt; poll(rt, alloc, hub, pass, ticket)?, 0);
+    same(rt, poll(rt, alloc, hub, pass, ticket)?, 0, "the first poll");
     publish(rt, alloc, hub, pass)?;
-    assert_eq!(rt; poll(rt, alloc, hub, pass, ticket)?, 2);
-    assert_eq!(rt; poll(rt, alloc, hub, pass, ticket)?, 0);
-    assert_eq!(rt; hub.sweep(rt, 5), 0);
+    same(
+        rt,
+        poll(rt, alloc, hub, pass, ticket)?,
+        2,
+        "the second poll",
+    );
+    same(rt, poll(rt, alloc, hub, pass, ticket)?, 0, "the third poll");
+    same(rt, hub.sweep(rt, 5), 0, "sweep 5");
     let nowhere = Ticket { shard: 2, ..ticket };
-    assert_eq!(rt; poll(rt, alloc, hub, pass, nowhere)?, 0);
+    same(
+        rt,
+        poll(rt, alloc, hub, pass, nowhere)?,
+        0,
+        "a poll of no shard",
+    );
     Ok(())
 }
 
@@ -64,10 +91,10 @@ fn sweeps<J: Naming, P: Placing, G: Gate + Drop, H: Wait + Drop, R: Wait + Abort
 ) -> Result<(), Fail> {
     let ticket = hold(rt, alloc, hub, pass)?;
     publish(rt, alloc, hub, pass)?;
-    assert_eq!(rt; hub.sweep(rt, 4), 0);
-    assert_eq!(rt; hub.sweep(rt, 5), 1);
-    assert_eq!(rt; hub.sweep(rt, 5), 0);
-    assert_eq!(rt; poll(rt, alloc, hub, pass, ticket)?, 0);
+    same(rt, hub.sweep(rt, 4), 0, "sweep 4");
+    same(rt, hub.sweep(rt, 5), 1, "sweep 5");
+    same(rt, hub.sweep(rt, 5), 0, "sweep 5 again");
+    same(rt, poll(rt, alloc, hub, pass, ticket)?, 0, "the first poll");
     Ok(())
 }
 
@@ -82,10 +109,10 @@ fn sweeps_all<J: Naming, P: Placing, G: Gate + Drop, H: Wait + Drop, R: Wait + A
     post(rt, alloc, hub, pass, HANDSHAKE)?;
     post(rt, alloc, hub, pass, CONNECT_OTHER)?;
     let ticked = hub.tick(rt, alloc, pass, 30_000)?;
-    assert_eq!(rt; ticked.place, 5);
-    assert_eq!(rt; hub.sweep(rt, 5), 0);
-    assert_eq!(rt; hub.sweep(rt, 6), 2);
-    assert_eq!(rt; hub.sweep(rt, 6), 0);
+    same(rt, ticked.place, 5, "the place of the tick");
+    same(rt, hub.sweep(rt, 5), 0, "sweep 5");
+    same(rt, hub.sweep(rt, 6), 2, "sweep 6");
+    same(rt, hub.sweep(rt, 6), 0, "sweep 6 again");
     Ok(())
 }
 
@@ -110,14 +137,29 @@ fn lets_go<J: Naming, P: Placing, G: Gate + Drop, H: Wait + Drop, R: Wait + Abor
     for _ in 0..3 {
         post(rt, alloc, hub, pass, HANDSHAKE)?;
     }
-    assert_eq!(rt; began(rt, alloc, hub, pass)?, 0);
-    assert_eq!(rt; began(rt, alloc, hub, pass)?, 4);
-    assert!(rt; hub.pause(rt, 0));
-    assert_eq!(rt; began(rt, alloc, hub, pass)?, 5);
-    assert_eq!(rt; began(rt, alloc, hub, pass)?, 5);
-    assert!(rt; hub.resume(rt, 0));
-    assert_eq!(rt; began(rt, alloc, hub, pass)?, 5);
-    assert_eq!(rt; began(rt, alloc, hub, pass)?, 8);
+    same(rt, began(rt, alloc, hub, pass)?, 0, "the first tick");
+    same(rt, began(rt, alloc, hub, pass)?, 4, "the second tick");
+    same(rt, hub.pause(rt, 0), true, "pause 0");
+    same(rt, began(rt, alloc, hub, pass)?, 5, "the first tick paused");
+    same(
+        rt,
+        began(rt, alloc, hub, pass)?,
+        5,
+        "the second tick paused",
+    );
+    same(rt, hub.resume(rt, 0), true, "resume 0");
+    same(
+        rt,
+        began(rt, alloc, hub, pass)?,
+        5,
+        "the first tick resumed",
+    );
+    same(
+        rt,
+        began(rt, alloc, hub, pass)?,
+        8,
+        "the second tick resumed",
+    );
     Ok(())
 }
 
@@ -131,28 +173,44 @@ fn closed<J: Naming, P: Placing, G: Gate + Drop, H: Wait + Drop, R: Wait + Abort
     let ticket = hold(rt, alloc, hub, pass)?;
     publish(rt, alloc, hub, pass)?;
     hub.close(rt);
-    assert_eq!(rt;
+    same(
+        rt,
         refusal(rt, alloc, hub, pass, PUBLISH)?,
-        Some(PostFault::Closed)
+        Some(PostFault::Closed),
+        "a publish",
     );
-    assert_eq!(rt;
+    same(
+        rt,
         refusal(rt, alloc, hub, pass, "[")?,
-        Some(PostFault::Body(BodyFault::NotJson))
+        Some(PostFault::Body(BodyFault::NotJson)),
+        "a body that is cut off",
     );
-    assert_eq!(rt;
+    same(
+        rt,
         refusal(rt, alloc, hub, pass, "[]")?,
-        Some(PostFault::Closed)
+        Some(PostFault::Closed),
+        "an empty post",
     );
     let late = (1 << 62) + 1;
     for moment in [0, late] {
         let refused = hub.tick(rt, alloc, pass, moment).err();
-        assert_eq!(rt; refused, Some(PostFault::Closed));
+        same(rt, refused, Some(PostFault::Closed), moment);
     }
-    assert_eq!(rt; poll(rt, alloc, hub, pass, ticket)?, 2);
-    let fault = hub.poll_answer(rt, alloc, pass, ticket).err();
-    assert_eq!(rt; fault, Some(HubFault::Closed));
+    same(rt, poll(rt, alloc, hub, pass, ticket)?, 2, "the first poll");
+    let fault = fault_of(rt, alloc, hub, pass, ticket);
+    same(
+        rt,
+        fault,
+        Some(HubFault::Closed),
+        "the answer that was taken",
+    );
     let nowhere = Ticket { shard: 2, ..ticket };
-    assert_eq!(rt; poll(rt, alloc, hub, pass, nowhere)?, 0);
+    same(
+        rt,
+        poll(rt, alloc, hub, pass, nowhere)?,
+        0,
+        "a poll of no shard",
+    );
     Ok(())
 }
 
@@ -165,6 +223,24 @@ enum Case {
     SweepsAll,
     LetsGo,
     Closed,
+}
+
+fn check<J: Naming, P: Placing, G: Gate + Drop, H: Wait + Drop, R: Wait + Abort>(
+    rt: &R,
+    alloc: Global,
+    hub: &Hub<J, P, G, H>,
+    pass: &mut Pass<J>,
+    case: Case,
+) -> Result<(), Fail> {
+    same(rt, pass.seen(), 0, "seen at first");
+    match case {
+        Case::Requests => requests(rt, alloc, hub, pass),
+        Case::Answers => answers(rt, alloc, hub, pass),
+        Case::Sweeps => sweeps(rt, alloc, hub, pass),
+        Case::SweepsAll => sweeps_all(rt, alloc, hub, pass),
+        Case::LetsGo => lets_go(rt, alloc, hub, pass),
+        Case::Closed => closed(rt, alloc, hub, pass),
+    }
 }
 
 fn ask<J: Naming, R: Wait + Abort>(
@@ -182,16 +258,7 @@ fn ask<J: Naming, R: Wait + Abort>(
     let hub = Hub::<J, ByRemainder, OpenGate, &R>::new(
         alloc, rt, opened, config, placing, OpenGate,
     )?;
-    let mut pass = hub.pass();
-    assert_eq!(rt; pass.seen(), 0);
-    match case {
-        Case::Requests => requests(rt, alloc, &hub, &mut pass),
-        Case::Answers => answers(rt, alloc, &hub, &mut pass),
-        Case::Sweeps => sweeps(rt, alloc, &hub, &mut pass),
-        Case::SweepsAll => sweeps_all(rt, alloc, &hub, &mut pass),
-        Case::LetsGo => lets_go(rt, alloc, &hub, &mut pass),
-        Case::Closed => closed(rt, alloc, &hub, &mut pass),
-    }
+    check(rt, alloc, &hub, &mut hub.pass(), case)
 }
 
 #[test]

@@ -3,6 +3,7 @@ ghost use Rattle.std.specs.Prelude.{◌≡◌};
 ghost use Rattle.bx_entry.specs.Placings.{by_remainder};
 
 use crate::calls::{hold, poll, publish};
+use crate::same::same;
 use bx_advice::Config;
 use bx_entry::{ByRemainder, Placing, Ticket};
 use bx_hub::{Gate, Hub, OpenGate, Pass};
@@ -73,8 +74,13 @@ fn answered<J: Naming, P: Placing, G: Gate + Drop, H: Wait + Drop, R: Wait + Abo
     pass: &mut Pass<J>,
     ticket: Ticket,
 ) -> Result<(), Fail> {
-    assert_eq!(rt; poll(rt, alloc, hub, pass, ticket)?, 2);
-    assert_eq!(rt; poll(rt, alloc, hub, pass, ticket)?, 0);
+    same(rt, poll(rt, alloc, hub, pass, ticket)?, 2, "the first poll");
+    same(
+        rt,
+        poll(rt, alloc, hub, pass, ticket)?,
+        0,
+        "the second poll",
+    );
     Ok(())
 }
 
@@ -87,8 +93,20 @@ fn waits<J: Naming, P: Placing, G: Gate + Drop, H: Wait + Drop, R: Wait + Abort>
 ) -> Result<Ticket, Fail> {
     let ticket = hold(rt, alloc, hub, pass)?;
     let found = poll(rt, alloc, hub, pass, ticket)?;
-    assert_eq!(rt; found, 0);
+    same(rt, found, 0, "found");
     Ok(ticket)
+}
+
+fn meet_once<
+    J: Naming + Send + Sync,
+    P: Placing + Send + Sync,
+    G: Gate + Drop + Send + Sync,
+    H: Wait + Drop + Send,
+    R: Threads + Wait + Abort + Sync,
+>(rt: &R, alloc: Global, hub: &Hub<J, P, G, H>) -> Result<(), Fail> {
+    let mut pass = hub.pass();
+    let ticket = waits(rt, alloc, hub, &mut pass)?;
+    meet(rt, alloc, hub, pass, ticket)
 }
 
 fn two<J: Naming + Send + Sync, R: Threads + Wait + Abort + Sync>(
@@ -105,9 +123,7 @@ fn two<J: Naming + Send + Sync, R: Threads + Wait + Abort + Sync>(
     let hub = Hub::<J, ByRemainder, OpenGate, &R>::new(
         alloc, rt, opened, config, placing, OpenGate,
     )?;
-    let mut pass = hub.pass();
-    let ticket = waits(rt, alloc, &hub, &mut pass)?;
-    meet(rt, alloc, &hub, pass, ticket)
+    meet_once(rt, alloc, &hub)
 }
 
 #[test]

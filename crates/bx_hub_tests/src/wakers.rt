@@ -3,6 +3,7 @@ ghost use Rattle.std.specs.Prelude.{◌≡◌};
 ghost use Rattle.bx_entry.specs.Placings.{by_remainder};
 
 use crate::calls::{Refused, hold, poll, publish};
+use crate::same::same;
 use bx_advice::Config;
 use bx_entry::{ByRemainder, Placing, Ticket};
 use bx_hub::{Gate, Hub, Pass, Watch};
@@ -52,8 +53,13 @@ fn waker(task: &MockTask) -> Result<Waker, Fail> {
 
 // The task was woken since its last poll, and not while a shard's lock was held.
 fn check_woken<R: Abort>(rt: &R, waiting: &Waiting) {
-    assert!(rt; waiting.task.is_woken());
-    assert!(rt; !waiting.woken_under_lock.load(Ordering::SeqCst));
+    same(rt, waiting.task.is_woken(), true, "woken");
+    same(
+        rt,
+        waiting.woken_under_lock.load(Ordering::SeqCst),
+        false,
+        "woken under a lock",
+    );
 }
 
 // What became of a waker.
@@ -89,10 +95,25 @@ fn publish_woken<J: Naming, P: Placing, G: Gate + Drop, H: Wait + Drop, R: Wait 
     pass: &mut Pass<J>,
     waiting: &Waiting,
 ) -> Result<(), Refused> {
-    assert!(rt; !waiting.task.is_woken());
+    same(rt, waiting.task.is_woken(), false, "woken");
     publish(rt, alloc, hub, pass)?;
     check_woken(rt, waiting);
     Ok(())
+}
+
+// A newer waker gives the older one back. That one is kept until the publish has woken the task.
+fn replaced<J: Naming, P: Placing, G: Gate + Drop, H: Wait + Drop, R: Wait + Abort>(
+    rt: &R,
+    alloc: Global,
+    hub: &Hub<J, P, G, H>,
+    pass: &mut Pass<J>,
+    waiting: &Waiting,
+    ticket: Ticket,
+) -> Result<(), Fail> {
+    let older = hub.watch(rt, ticket, waker(&waiting.task)?);
+    let is_older = matches!(&older, Watch::Stored(Some(_)));
+    same(rt, is_older, true, "the older waker");
+    Ok(publish_woken(rt, alloc, hub, pass, waiting)?)
 }
 
 // The task waits for a held connect: its waker is stored, and the publish that answers the connect wakes it. Then the answer
@@ -107,16 +128,32 @@ fn answered<J: Naming, P: Placing, G: Gate + Drop, H: Wait + Drop, R: Wait + Abo
     let task = &waiting.task;
     let ticket = hold(rt, alloc, hub, pass)?;
     let nowhere = Ticket { shard: 2, ..ticket };
-    assert_eq!(rt; watch_of(rt, hub, nowhere, task)?, Watched::Unknown);
-    assert_eq!(rt; watch_of(rt, hub, ticket, task)?, Watched::Stored(false));
-    let older = hub.watch(rt, ticket, waker(task)?);
-    assert!(rt; matches!(&older, Watch::Stored(Some(_))));
-    let published = publish_woken(rt, alloc, hub, pass, waiting);
-    drop(older);
-    published?;
-    assert_eq!(rt; watch_of(rt, hub, ticket, task)?, Watched::Ready);
-    assert_eq!(rt; poll(rt, alloc, hub, pass, ticket)?, 2);
-    assert_eq!(rt; watch_of(rt, hub, ticket, task)?, Watched::Unknown);
+    same(
+        rt,
+        watch_of(rt, hub, nowhere, task)?,
+        Watched::Unknown,
+        "a ticket of no shard",
+    );
+    same(
+        rt,
+        watch_of(rt, hub, ticket, task)?,
+        Watched::Stored(false),
+        "the first waker",
+    );
+    replaced(rt, alloc, hub, pass, waiting, ticket)?;
+    same(
+        rt,
+        watch_of(rt, hub, ticket, task)?,
+        Watched::Ready,
+        "a waker behind it",
+    );
+    same(rt, poll(rt, alloc, hub, pass, ticket)?, 2, "poll ticket");
+    same(
+        rt,
+        watch_of(rt, hub, ticket, task)?,
+        Watched::Unknown,
+        "a waker at last",
+    );
     Ok(())
 }
 
@@ -130,11 +167,21 @@ fn shut<J: Naming, P: Placing, G: Gate + Drop, H: Wait + Drop, R: Wait + Abort>(
 ) -> Result<(), Fail> {
     let task = &waiting.task;
     let ticket = hold(rt, alloc, hub, pass)?;
-    assert_eq!(rt; watch_of(rt, hub, ticket, task)?, Watched::Stored(false));
-    assert!(rt; !task.is_woken());
+    same(
+        rt,
+        watch_of(rt, hub, ticket, task)?,
+        Watched::Stored(false),
+        "the first waker",
+    );
+    same(rt, task.is_woken(), false, "before");
     hub.close(rt);
-    assert!(rt; task.is_woken());
-    assert_eq!(rt; watch_of(rt, hub, ticket, task)?, Watched::Shut);
+    same(rt, task.is_woken(), true, "behind it");
+    same(
+        rt,
+        watch_of(rt, hub, ticket, task)?,
+        Watched::Shut,
+        "a waker behind it",
+    );
     Ok(())
 }
 
@@ -148,14 +195,19 @@ fn ticked<J: Naming, P: Placing, G: Gate + Drop, H: Wait + Drop, R: Wait + Abort
 ) -> Result<(), Fail> {
     let task = &waiting.task;
     let ticket = hold(rt, alloc, hub, pass)?;
-    assert_eq!(rt; watch_of(rt, hub, ticket, task)?, Watched::Stored(false));
+    same(
+        rt,
+        watch_of(rt, hub, ticket, task)?,
+        Watched::Stored(false),
+        "the first waker",
+    );
     hub.tick(rt, alloc, pass, 29_999)?;
-    assert!(rt; !task.is_woken());
+    same(rt, task.is_woken(), false, "before");
     let place = hub.tick(rt, alloc, pass, 30_000)?.place;
-    assert_eq!(rt; place, 4);
+    same(rt, place, 4, "the place of the tick");
     check_woken(rt, waiting);
     let found = poll(rt, alloc, hub, pass, ticket)?;
-    assert_eq!(rt; found, 1);
+    same(rt, found, 1, "found");
     Ok(())
 }
 
@@ -165,6 +217,21 @@ enum End {
     Publish,
     Tick,
     Close,
+}
+
+fn check<J: Naming, P: Placing, G: Gate + Drop, H: Wait + Drop, R: Wait + Abort>(
+    rt: &R,
+    alloc: Global,
+    hub: &Hub<J, P, G, H>,
+    pass: &mut Pass<J>,
+    waiting: &Waiting,
+    end: End,
+) -> Result<(), Fail> {
+    match end {
+        End::Publish => answered(rt, alloc, hub, pass, waiting),
+        End::Tick => ticked(rt, alloc, hub, pass, waiting),
+        End::Close => shut(rt, alloc, hub, pass, waiting),
+    }
 }
 
 fn wakes<J: Naming, R: Wait + Abort>(
@@ -182,12 +249,7 @@ fn wakes<J: Naming, R: Wait + Abort>(
     requires placing { by_remainder ≡ J.placing }
 {
     let hub = Hub::<J, ByRemainder, Looking, &R>::new(alloc, rt, opened, config, placing, gate)?;
-    let mut pass = hub.pass();
-    match end {
-        End::Publish => answered(rt, alloc, &hub, &mut pass, waiting),
-        End::Tick => ticked(rt, alloc, &hub, &mut pass, waiting),
-        End::Close => shut(rt, alloc, &hub, &mut pass, waiting),
-    }
+    check(rt, alloc, &hub, &mut hub.pass(), waiting, end)
 }
 
 #[test]

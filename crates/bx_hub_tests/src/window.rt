@@ -1,8 +1,9 @@
 //! What readers find of batches of ticks, by the window's table of cases.
 ghost use Rattle.std.specs.Prelude.{◌≡◌, [], IfOk};
 
+use crate::same::same;
 use bx_ticks::{Taken, Ticker};
-use bx_window::{LogReader, MAX_BATCHES, Naming, Next, Opened, Refusal, entry_of, log_pair};
+use bx_window::{LogReader, MAX_BATCHES, Naming, Next, Note, Opened, Refusal, entry_of, log_pair};
 use std::alloc::{AllocError, Global};
 use std::marker::Brand;
 use std::process::Abort;
@@ -59,77 +60,91 @@ fn batch(first: u64, entries: usize, place: u64) -> Found {
     }
 }
 
-// A batch of three ticks stands at its three places, and at no other.
-fn published<J: Naming, R: Wait + Abort>(rt: &R, alloc: Global, opened: Opened) -> Result<(), Fail>
-    requires { opened.seen.book ≡ J.book }
-{
-    let (mut writer, mut reader, _) = pair::<J, &R>(alloc, rt, opened)?;
-    assert_eq!(rt; find(&mut reader, 0), Found::Level);
-    assert_eq!(rt; writer.publish(alloc, 3)?, Taken::Published);
-    for place in 0..3 {
-        assert_eq!(rt; find(&mut reader, place), batch(0, 3, place));
-    }
-    assert_eq!(rt; find(&mut reader, 3), Found::Level);
+// Publishes a batch of so many ticks.
+fn publish<J: Naming, H: Wait + Drop, R: Abort>(
+    rt: &R,
+    alloc: Global,
+    writer: &mut Ticker<J, H>,
+    ticks: u64,
+) -> Result<(), AllocError> {
+    let taken = writer.publish(alloc, ticks)?;
+    same(rt, taken, Taken::Published, ticks);
     Ok(())
 }
 
-#[test]
-fn a_batch_stands_at_its_places(rt: HostRuntime) -> Result<(), Fail> {
-    published::<Brand, _>(&rt, rt.alloc(), Opened::new())
+fn check_found<J: Naming, R: Abort>(rt: &R, reader: &mut LogReader<J>, place: u64, wanted: Found) {
+    same(rt, find(reader, place), wanted, place);
+}
+
+fn trim<J: Naming, H: Wait + Drop, R: Abort>(
+    rt: &R,
+    alloc: Global,
+    writer: &mut Ticker<J, H>,
+    place: u64,
+) {
+    same(rt, writer.trim(alloc, place), true, place);
+}
+
+// A batch of three ticks stands at its three places, and at no other.
+fn published<J: Naming, H: Wait + Drop, R: Abort>(
+    rt: &R,
+    alloc: Global,
+    writer: &mut Ticker<J, H>,
+    reader: &mut LogReader<J>,
+) -> Result<(), AllocError> {
+    check_found(rt, reader, 0, Found::Level);
+    publish(rt, alloc, writer, 3)?;
+    for place in 0..3 {
+        check_found(rt, reader, place, batch(0, 3, place));
+    }
+    check_found(rt, reader, 3, Found::Level);
+    Ok(())
 }
 
 // Two batches, the second from place 3 on.
-fn two_batches<J: Naming, R: Wait + Abort>(
+fn publish_two<J: Naming, H: Wait + Drop, R: Abort>(
     rt: &R,
     alloc: Global,
-    opened: Opened,
-) -> Result<(Ticker<J, &R>, LogReader<J>), Fail>
-    requires { opened.seen.book ≡ J.book }
-{
-    let (mut writer, reader, _) = pair::<J, &R>(alloc, rt, opened)?;
-    assert_eq!(rt; writer.publish(alloc, 3)?, Taken::Published);
-    assert_eq!(rt; writer.publish(alloc, 2)?, Taken::Published);
-    Ok((writer, reader))
+    writer: &mut Ticker<J, H>,
+) -> Result<(), AllocError> {
+    publish(rt, alloc, writer, 3)?;
+    publish(rt, alloc, writer, 2)
 }
 
 // A trim drops the batches that lie wholly below its place.
-fn trimmed<J: Naming, R: Wait + Abort>(rt: &R, alloc: Global, opened: Opened) -> Result<(), Fail>
-    requires { opened.seen.book ≡ J.book }
-{
-    let (mut writer, mut reader) = two_batches::<J, R>(rt, alloc, opened)?;
-    assert!(rt; writer.trim(alloc, 2));
-    assert_eq!(rt; find(&mut reader, 0), batch(0, 3, 0));
-    assert_eq!(rt; reader.note().begin(), 0);
-    assert!(rt; writer.trim(alloc, 3));
-    assert_eq!(rt; find(&mut reader, 0), Found::Overrun);
-    assert_eq!(rt; find(&mut reader, 2), Found::Overrun);
-    assert_eq!(rt; find(&mut reader, 3), batch(3, 2, 3));
-    assert_eq!(rt; reader.note().begin(), 3);
+fn trimmed<J: Naming, H: Wait + Drop, R: Abort>(
+    rt: &R,
+    alloc: Global,
+    writer: &mut Ticker<J, H>,
+    reader: &mut LogReader<J>,
+) -> Result<(), AllocError> {
+    publish_two(rt, alloc, writer)?;
+    trim(rt, alloc, writer, 2);
+    check_found(rt, reader, 0, batch(0, 3, 0));
+    same(rt, reader.note().begin(), 0, "the first trim");
+    trim(rt, alloc, writer, 3);
+    check_found(rt, reader, 0, Found::Overrun);
+    check_found(rt, reader, 2, Found::Overrun);
+    check_found(rt, reader, 3, batch(3, 2, 3));
+    same(rt, reader.note().begin(), 3, "the second trim");
     Ok(())
-}
-
-#[test]
-fn a_trim_drops_whole_batches(rt: HostRuntime) -> Result<(), Fail> {
-    trimmed::<Brand, _>(&rt, rt.alloc(), Opened::new())
 }
 
 // A trim past the end leaves a window without batches, which begins at the end.
-fn emptied<J: Naming, R: Wait + Abort>(rt: &R, alloc: Global, opened: Opened) -> Result<(), Fail>
-    requires { opened.seen.book ≡ J.book }
-{
-    let (mut writer, mut reader) = two_batches::<J, R>(rt, alloc, opened)?;
-    assert!(rt; writer.trim(alloc, 100));
-    assert_eq!(rt; writer.tell().begin(), 5);
-    assert_eq!(rt; find(&mut reader, 4), Found::Overrun);
-    assert_eq!(rt; find(&mut reader, 5), Found::Level);
-    assert_eq!(rt; writer.publish(alloc, 1)?, Taken::Published);
-    assert_eq!(rt; find(&mut reader, 5), batch(5, 1, 5));
+fn emptied<J: Naming, H: Wait + Drop, R: Abort>(
+    rt: &R,
+    alloc: Global,
+    writer: &mut Ticker<J, H>,
+    reader: &mut LogReader<J>,
+) -> Result<(), AllocError> {
+    publish_two(rt, alloc, writer)?;
+    trim(rt, alloc, writer, 100);
+    same(rt, writer.tell().begin(), 5, "the end");
+    check_found(rt, reader, 4, Found::Overrun);
+    check_found(rt, reader, 5, Found::Level);
+    publish(rt, alloc, writer, 1)?;
+    check_found(rt, reader, 5, batch(5, 1, 5));
     Ok(())
-}
-
-#[test]
-fn a_trim_past_the_end_drops_all(rt: HostRuntime) -> Result<(), Fail> {
-    emptied::<Brand, _>(&rt, rt.alloc(), Opened::new())
 }
 
 // Publishes as many batches of one tick as the window takes.
@@ -146,79 +161,137 @@ fn fill<J: Naming, R: Wait + Drop>(
 }
 
 // With 4,096 batches the next one comes back, until one is dropped.
-fn filled<J: Naming, R: Wait + Abort>(rt: &R, alloc: Global, opened: Opened) -> Result<(), Fail>
-    requires { opened.seen.book ≡ J.book }
-{
-    let (mut writer, mut reader, _) = pair::<J, &R>(alloc, rt, opened)?;
-    assert_eq!(rt; fill(alloc, &mut writer)?, 4_096);
+fn filled<J: Naming, H: Wait + Drop, R: Abort>(
+    rt: &R,
+    alloc: Global,
+    writer: &mut Ticker<J, H>,
+    reader: &mut LogReader<J>,
+) -> Result<(), AllocError> {
+    same(rt, fill(alloc, writer)?, 4_096, "batches");
     let refused = Taken::Refused {
         why: Refusal::Full,
         first: 4_096,
         entries: 2,
     };
-    assert_eq!(rt; writer.publish(alloc, 2)?, refused);
-    assert_eq!(rt; find(&mut reader, 4_096), Found::Level);
-    assert!(rt; writer.trim(alloc, 1));
-    assert_eq!(rt; writer.publish(alloc, 2)?, Taken::Published);
-    ends(rt, &mut reader)
+    let taken = writer.publish(alloc, 2)?;
+    same(rt, taken, refused, "one too many");
+    check_found(rt, reader, 4_096, Found::Level);
+    trim(rt, alloc, writer, 1);
+    publish(rt, alloc, writer, 2)?;
+    check_ends(rt, reader);
+    Ok(())
 }
 
 // The window has places 1 to 4,097.
-fn ends<J: Naming, R: Wait + Abort>(rt: &R, reader: &mut LogReader<J>) -> Result<(), Fail> {
-    assert_eq!(rt; find(reader, 4_097), batch(4_096, 2, 4_097));
-    assert_eq!(rt; find(reader, 0), Found::Overrun);
+fn check_ends<J: Naming, R: Abort>(rt: &R, reader: &mut LogReader<J>) {
+    check_found(rt, reader, 4_097, batch(4_096, 2, 4_097));
+    check_found(rt, reader, 0, Found::Overrun);
     for place in 1..4_096 {
-        assert_eq!(rt; find(reader, place), batch(place, 1, place));
+        check_found(rt, reader, place, batch(place, 1, place));
     }
-    assert_eq!(rt; find(reader, 4_098), Found::Level);
-    Ok(())
-}
-
-#[test]
-fn a_full_window_gives_the_batch_back(rt: HostRuntime) -> Result<(), Fail> {
-    filled::<Brand, _>(&rt, rt.alloc(), Opened::new())
+    check_found(rt, reader, 4_098, Found::Level);
 }
 
 // A reader that is told has seen as much, without looking; an older note changes nothing.
-fn learnt<J: Naming, R: Wait + Abort>(rt: &R, alloc: Global, opened: Opened) -> Result<(), Fail>
-    requires { opened.seen.book ≡ J.book }
-{
-    let (mut writer, mut one, mut other) = pair::<J, &R>(alloc, rt, opened)?;
-    assert_eq!(rt; writer.publish(alloc, 3)?, Taken::Published);
-    assert_eq!(rt; find(&mut one, 3), Found::Level);
-    let old = other.note();
-    assert_eq!(rt; old.len(), 0);
-    other.learn(&one.note());
-    assert_eq!(rt; other.note().len(), 3);
-    other.learn(&old);
-    assert_eq!(rt; other.note().len(), 3);
+fn learnt<J: Naming, H: Wait + Drop, R: Abort>(
+    rt: &R,
+    alloc: Global,
+    writer: &mut Ticker<J, H>,
+    one: &mut LogReader<J>,
+    other: &mut LogReader<J>,
+) -> Result<(), AllocError> {
+    publish(rt, alloc, writer, 3)?;
+    check_found(rt, one, 3, Found::Level);
+    check_told(rt, other, &one.note());
     other.learn(&writer.tell());
-    assert_eq!(rt; other.note().steps(), 1);
-    assert_eq!(rt; find(&mut other, 2), batch(0, 3, 2));
+    same(rt, other.note().steps(), 1, "told by the writer");
+    check_found(rt, other, 2, batch(0, 3, 2));
     Ok(())
 }
 
-#[test]
-fn a_reader_learns_of_another(rt: HostRuntime) -> Result<(), Fail> {
-    learnt::<Brand, _>(&rt, rt.alloc(), Opened::new())
+fn check_told<J: Naming, R: Abort>(rt: &R, reader: &mut LogReader<J>, note: &Note<J>) {
+    let old = reader.note();
+    same(rt, old.len(), 0, "before");
+    reader.learn(note);
+    same(rt, reader.note().len(), 3, "told");
+    reader.learn(&old);
+    same(rt, reader.note().len(), 3, "told what is old");
 }
 
 // Of two fronts the longer covers the other.
-fn compared<J: Naming, R: Wait + Abort>(rt: &R, alloc: Global, opened: Opened) -> Result<(), Fail>
-    requires { opened.seen.book ≡ J.book }
-{
-    let (mut writer, reader) = two_batches::<J, R>(rt, alloc, opened)?;
-    let long = writer.tell_beyond(&reader.note());
+fn compared<J: Naming, H: Wait + Drop, R: Abort>(
+    rt: &R,
+    alloc: Global,
+    writer: &mut Ticker<J, H>,
+    reader: &mut LogReader<J>,
+) -> Result<(), AllocError> {
+    publish_two(rt, alloc, writer)?;
     let short = reader.note();
-    assert!(rt; long.covers(&short));
-    assert!(rt; long.covers(&long.again()));
-    assert!(rt; !short.covers(&long));
-    assert_eq!(rt; short.longer(&long).len(), 5);
-    assert_eq!(rt; long.longer(&short).steps(), 2);
+    let long = writer.tell_beyond(&short);
+    check_covers(rt, &long, &short);
     Ok(())
 }
 
+fn check_covers<J: Naming, R: Abort>(rt: &R, long: &Note<J>, short: &Note<J>) {
+    same(rt, long.covers(short), true, "the shorter");
+    same(rt, long.covers(&long.again()), true, "itself");
+    same(rt, short.covers(long), false, "the longer");
+    same(rt, short.longer(long).len(), 5, "the longer's length");
+    same(rt, long.longer(short).steps(), 2, "the longer's steps");
+}
+
+// What is asked of a window.
+#[derive(Clone, Copy, Debug)]
+enum Case {
+    Published,
+    Trimmed,
+    Emptied,
+    Filled,
+    Learnt,
+    Compared,
+}
+
+fn check<J: Naming, H: Wait + Drop, R: Abort>(
+    rt: &R,
+    alloc: Global,
+    writer: &mut Ticker<J, H>,
+    first: &mut LogReader<J>,
+    second: &mut LogReader<J>,
+    case: Case,
+) -> Result<(), AllocError> {
+    match case {
+        Case::Published => published(rt, alloc, writer, first),
+        Case::Trimmed => trimmed(rt, alloc, writer, first),
+        Case::Emptied => emptied(rt, alloc, writer, first),
+        Case::Filled => filled(rt, alloc, writer, first),
+        Case::Learnt => learnt(rt, alloc, writer, first, second),
+        Case::Compared => compared(rt, alloc, writer, first),
+    }
+}
+
+fn ask<J: Naming, R: Wait + Abort>(
+    rt: &R,
+    alloc: Global,
+    opened: Opened,
+    case: Case,
+) -> Result<(), AllocError>
+    requires { opened.seen.book ≡ J.book }
+{
+    let (mut writer, mut first, mut second) = pair::<J, &R>(alloc, rt, opened)?;
+    check(rt, alloc, &mut writer, &mut first, &mut second, case)
+}
+
 #[test]
-fn the_longer_front_covers_the_other(rt: HostRuntime) -> Result<(), Fail> {
-    compared::<Brand, _>(&rt, rt.alloc(), Opened::new())
+fn one_writer(rt: HostRuntime) -> Result<(), Fail> {
+    for case in [
+        Case::Published,
+        Case::Trimmed,
+        Case::Emptied,
+        Case::Filled,
+        Case::Learnt,
+        Case::Compared,
+    ] {
+        ask::<Brand, _>(&rt, rt.alloc(), Opened::new(), case)?;
+    }
+    Ok(())
 }
