@@ -8,7 +8,7 @@ use Rattle.bx_advice.specs.Limits.{greatest_length}
 use Rattle.bx_entry.specs.declared.entry.Entry.{Entry}
 use Rattle.bx_entry.specs.Listing.{Listed}
 use Rattle.bx_entry.specs.Registry.{Judged, Registry, empty_registry, judge, registry, entries}
-use Rattle.bx_laws.proofs.Lists.{judged_length}
+use Rattle.bx_theory.proofs.Lists.{judged_length}
 use Rattle.bx_registry.specs.Changes.{Amendment, IsPlannedAt, changed}
 use Rattle.bx_registry.specs.Laws.{GoesOn}
 use Rattle.bx_registry.specs.Plans.{entries_in}

@@ -7,7 +7,7 @@ use Rattle.bx_advice.specs.declared.config.Config.{Config}
 use Rattle.bx_entry.specs.declared.entry.Slot.{Slot}
 use Rattle.bx_entry.specs.Listing.{Listed, Post, Tick}
 use Rattle.bx_entry.specs.Registry.{Judged, PlaceSlot, Ready, Waiting, NoSlot, registry}
-use Rattle.bx_laws.proofs.Lists.{judged_length}
+use Rattle.bx_theory.proofs.Lists.{judged_length}
 use Rattle.bx_registry.specs.Plans.{planned_at, slots_in}
 use Rattle.bx_registry.specs.Rolls.{Roll, found, next, step}
 use Rattle.bx_registry.specs.declared.plan.Planned.{Planned}

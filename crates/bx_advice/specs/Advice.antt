@@ -6,8 +6,8 @@ use Rattle.bx_advice.specs.declared.config.Config.{Config}
 use Rattle.bx_advice.specs.declared.advice.Advice.{Advice}
 use Rattle.bx_advice.specs.declared.advice.Reconnect.{Reconnect}
 use Rattle.bx_advice.specs.declared.advice.Reconnect.TheVariants.{Retry, Handshake, Never}
-use Rattle.bx_advice.specs.declared.advice.Case.{Case}
-use Rattle.bx_advice.specs.declared.advice.Case.TheVariants.{Opened, Connected, Disconnected, Done, Failed}
+use Rattle.bx_advice.specs.declared.advice.Outcome.{Outcome}
+use Rattle.bx_advice.specs.declared.advice.Outcome.TheVariants.{Opened, Connected, Disconnected, Done, Failed}
 
 -- connect again
 abbrev pub retry : Config → Advice
@@ -37,7 +37,7 @@ reconnect_of SupersededConnect = None
 reconnect_of QueueOverflow = Some Handshake
 
 -- the advice that goes with each case
-abbrev pub advice_of : Config → Case → Option Advice
+abbrev pub advice_of : Config → Outcome → Option Advice
 advice_of c Opened = Some (retry c)
 advice_of c Connected = Some (retry c)
 advice_of c Disconnected = Some (instead c Never)

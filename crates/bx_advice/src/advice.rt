@@ -6,7 +6,7 @@ use crate::error::Error;
 
 /// What a reply says of its message.
 #[derive(Clone, Copy, Debug, PartialEq, Eq)]
-pub enum Case {
+pub enum Outcome {
     /// A handshake's success.
     Opened,
     /// A connect's success: given at once, by an event, or by a tick.
@@ -42,14 +42,14 @@ pub struct Advice {
 /// The advice that goes with a case: to connect again after a success of a handshake or a connect,
 /// to handshake again where the session is gone, cannot go on or found no room, not to come again
 /// where this client cannot be served or has left, and else none.
-pub fn advice_for(case: Case, config: &Config) -> Option<Advice>
-    ensures { result ≡ advice_of config.now case }
+pub fn advice_for(outcome: Outcome, config: &Config) -> Option<Advice>
+    ensures { result ≡ advice_of config.now outcome }
 {
-    let (reconnect, timeout) = match case {
-        Case::Opened | Case::Connected => (Reconnect::Retry, Some(config.timeout)),
-        Case::Disconnected => (Reconnect::Never, None),
-        Case::Done => return None,
-        Case::Failed(error) => (reconnect_after(error)?, None),
+    let (reconnect, timeout) = match outcome {
+        Outcome::Opened | Outcome::Connected => (Reconnect::Retry, Some(config.timeout)),
+        Outcome::Disconnected => (Reconnect::Never, None),
+        Outcome::Done => return None,
+        Outcome::Failed(error) => (reconnect_after(error)?, None),
     };
     Some(Advice {
         interval: config.interval,

@@ -6,6 +6,6 @@ mod advice;
 mod config;
 mod error;
 
-pub use advice::{Advice, Case, Reconnect, advice_for};
+pub use advice::{Advice, Outcome, Reconnect, advice_for};
 pub use config::{BODY_LIMIT, Config, Limits, MAX_LENGTH, MAX_MOMENT, MAX_SHARDS, STANDARD_LIMITS};
 pub use error::Error;

@@ -3,7 +3,7 @@ ghost use Rattle.std.specs.Prelude.{◌≤◌};
 
 use anyhow::{Result, anyhow};
 use bx_advice::Config;
-use bx_entry::Kind;
+use bx_entry::EntryKind;
 use bx_message::{AckMember, Message, RawJson, Sequence, Text, TextMember};
 use bx_registry::{Plan, Registry, TickPlan};
 use std::alloc::Global;
@@ -153,7 +153,7 @@ fn admit_tick(alloc: Global, registry: &mut Registry) -> Result<u64> {
     let TickPlan { entry, change } = planned.map_err(|_| anyhow!("not planned"))?;
     registry.commit(change);
     match &entry.kind {
-        Kind::Tick(numbers) => Ok(numbers.len() as u64),
+        EntryKind::Tick(numbers) => Ok(numbers.len() as u64),
         _ => Ok(0),
     }
 }

@@ -1,6 +1,6 @@
 //! What is timed. Each answers a number that rests on all of its work.
 use anyhow::{Result, anyhow};
-use bx_advice::{Case, Config};
+use bx_advice::{Config, Outcome};
 use bx_cut::Document;
 use bx_message::{AckReply, Event, Item, RawJson, Reply, SharedEvent, Text, body_text};
 use bx_names::ChannelName;
@@ -89,7 +89,7 @@ fn items(alloc: Global) -> Result<Vec<Item>> {
     for _ in 0..1_000 {
         items.push(Item::EventItem(event.clone()?))?;
         let ack = AckReply::AckNumber(7);
-        let reply = Reply::to_connect(alloc, &config, &client, None, Case::Connected, ack)?;
+        let reply = Reply::to_connect(alloc, &config, &client, None, Outcome::Connected, ack)?;
         items.push(Item::ReplyItem(reply))?;
     }
     Ok(items)

@@ -2,7 +2,7 @@
 use Rattle.std.proofs.Common.{◌≡◌, ◌<◌, ◌≤◌, ◌⊎◌, inl, inr, ℕ, nat_eq, Bool, true, false, cond, ◌&&◌, Option, Some, None, option_map, List, [], ◌∷◌, ◌++◌, refl, sym, ap, ◌∙◌, true≢false}
 use Rattle.std.proofs.Math.Dec.{leb}
 use Rattle.std.proofs.lemmas.Bool.Decides.{leb_tells}
-use Rattle.std.proofs.lemmas.Bool.{eqb-true, eq-eqb}
+use Rattle.std.proofs.lemmas.Bool.{eqb-true, eq-eqb, and_parts}
 use Rattle.std.specs.Cmp.Derive.{both_true}
 use Rattle.std.specs.Map.{lookup}
 use Rattle.bx_connects.specs.declared.connects.FiledAnswer.{FiledAnswer}
@@ -23,14 +23,6 @@ is_itself connects place session deadline h = by (hold_at connects.held place) (
     by None (Some f) said = absurd cc
     by None None said = absurd cc
 
-both_first : (a b : Bool) → (a && b) ≡ true → a ≡ true
-both_first true b h = refl
-both_first false b h = h
-
-both_second : (a b : Bool) → (a && b) ≡ true → b ≡ true
-both_second true b h = h
-both_second false b h = absurd (true≢false (sym h))
-
 -- what ends at a moment ends at that one
 ends_then : (o : Option ℕ) (moment : ℕ) → ends_at o moment ≡ true → o ≡ Some moment
 ends_then None moment h = absurd (true≢false (sym h))
@@ -43,8 +35,8 @@ is_such connects place session deadline h = by (hold_at connects.held place) ref
     by : (o : Option HeldConnect) → hold_at connects.held place ≡ o → is_held_until o session deadline ≡ true → IsHeldUntil connects place session (Some deadline)
     by None e said = absurd (true≢false (sym said))
     by (Some held) e said =
-        let ends = ends_then held.deadline deadline (both_first (ends_at held.deadline deadline) (nat_eq held.session session) said) in
-        let of = eqb-true held.session session (both_second (ends_at held.deadline deadline) (nat_eq held.session session) said) in
+        let ends = ends_then held.deadline deadline (and_parts (ends_at held.deadline deadline) (nat_eq held.session session) said).0 in
+        let of = eqb-true held.session session (and_parts (ends_at held.deadline deadline) (nat_eq held.session session) said).1 in
         record { waker = held.waker; held = ap (λ o. state_by o (filing_at connects.filed place)) e ∙ cc }
 
 -- a waker more or less changes no hold

@@ -1,6 +1,6 @@
 -- The pieces of a document read as its elements.
 use Rattle.std.proofs.Common.{◌≡◌, ℕ, suc, ◌-◌, ◌≤◌, Bool, true, false, cond, ◌&&◌, nat_lt, inl, inr, List, [], ◌∷◌, ◌++◌, length, take, Option, Some, None, is_some, IfSome, option_map, option_and_then, refl, sym, ap, ◌∙◌, subst, arith}
-use Rattle.std.proofs.lemmas.Bool.{false≢true}
+use Rattle.std.proofs.lemmas.Bool.{false≢true, and_parts}
 use Rattle.std.proofs.lemmas.List.{append-nil, append_assoc, take_at, length-append}
 use Rattle.std.proofs.lemmas.Slice.Eq.{bytes_eq-Decides}
 use Rattle.std.specs.Bool.{Decides}
@@ -130,11 +130,6 @@ pub record ObjectsAfter (t : List ℕ) (ds : Items) : Type 0 where
   pub list : (then_more split_object (listed split_object) t (past_byte 44 t)).0 ≡ objects
   pub lie : GoesOnIn objects t
 
-and_both : (a b : Bool) → (a && b) ≡ true → (a ≡ true) × (b ≡ true)
-and_both true true e = (refl, refl)
-and_both true false e = absurd (false≢true e)
-and_both false b e = absurd (false≢true e)
-
 not_object : {P : Type 0} (d e : Data) → Some d ≡ Some e → is_some (as_object e) ≡ false → is_some (as_object d) ≡ true → P
 not_object d e s n t = absurd (false≢true (sym n ∙ ap (λ (x : Data). is_some (as_object x)) (sym (some_same d e s)) ∙ t))
 
@@ -182,7 +177,7 @@ objects_after json.no_items ds t rest z n h e o s =
     record { objects = []; each = no_items_left ds e; list = ap (λ (q : Option (List ℕ)). (then_more split_object (listed split_object) t q).0) (other_first 44 93 t m.0 m.1 refl); lie = shut_at t m.0 m.1 (m.2 ∙ z) }
 objects_after (json.item j js) ds t rest z n h e o s =
     let p = items_parts j js ds e in
-    let passes = and_both (is_some (as_object p.0)) (all_objects p.1) (sym (ap all_objects p.4) ∙ o) in
+    let passes = and_parts (is_some (as_object p.0)) (all_objects p.1) (sym (ap all_objects p.4) ∙ o) in
     let m = next_comma j t (items_tokens js ++ rest) (subst (Next t) (s ∙ append_assoc (json_tokens j) (items_tokens js) rest) (next t)) in
     let inner = step_object false m.0 j js p.0 p.1 rest n.0 (omega arith) p.2 passes.0 m.2 (λ u g. objects_after js p.1 u rest z n.1 (omega arith) p.3 passes.1 g) in
     record {
@@ -199,7 +194,7 @@ objects_at json.no_items ds t rest z n h e o s =
     record { objects = []; each = no_items_left ds e; list = ap (λ (q : List Object × List ℕ). q.0) (turn split_object Shortens-split_object t ∙ ap (first_and_more split_object (listed split_object) t) (sym (object-none t none))); lie = shut_at t m.1.0 m.1.1 (m.1.2 ∙ z) }
 objects_at (json.item j js) ds t rest z n h e o s =
     let p = items_parts j js ds e in
-    let passes = and_both (is_some (as_object p.0)) (all_objects p.1) (sym (ap all_objects p.4) ∙ o) in
+    let passes = and_parts (is_some (as_object p.0)) (all_objects p.1) (sym (ap all_objects p.4) ∙ o) in
     let inner = step_object true t j js p.0 p.1 rest n.0 (omega arith) p.2 passes.0 (s ∙ append_assoc (json_tokens j) (items_tokens js) rest) (λ u g. objects_after js p.1 u rest z n.1 (omega arith) p.3 passes.1 g) in
     record { objects = inner.objects; each = subst (AreObjectsOf inner.objects) (sym p.4) inner.each; list = inner.list; lie = inner.lie }
 

@@ -17,10 +17,10 @@ mode (after_high h) = in_string
 abbrev pub Local : Within → List ℕ → List ℕ → Type 0
 Local w xs s = (b : List ℕ) → (content w (take (span (mode w) xs) xs ++ b) ≡ Some s) × (span (mode w) (take (span (mode w) xs) xs ++ b) ≡ span (mode w) xs)
 
-no_some : {P : Type 0} (s : List ℕ) → None ≡ Some s → P
+pub no_some : {P : Type 0} (s : List ℕ) → None ≡ Some s → P
 no_some s e = cc
 
-from_prepend : (p : List ℕ) (o : Option (List ℕ)) (s : List ℕ) → prepend p o ≡ Some s → (r : List ℕ) × (o ≡ Some r) × (Some (p ++ r) ≡ Some s)
+pub from_prepend : (p : List ℕ) (o : Option (List ℕ)) (s : List ℕ) → prepend p o ≡ Some s → (r : List ℕ) × (o ≡ Some r) × (Some (p ++ r) ≡ Some s)
 from_prepend p None s e = no_some s e
 from_prepend p (Some r) s e = (r, refl, e)
 

@@ -4,13 +4,13 @@ use Rattle.std.specs.List.{list_any}
 use Rattle.bx_names.specs.Globs.{Glob}
 use Rattle.bx_names.specs.InForce.{with_pattern}
 use Rattle.bx_advice.specs.declared.config.Config.{Config}
-use Rattle.bx_advice.specs.declared.advice.Case.{Case}
-use Rattle.bx_advice.specs.declared.advice.Case.TheVariants.{Connected, Disconnected, Failed}
+use Rattle.bx_advice.specs.declared.advice.Outcome.{Outcome}
+use Rattle.bx_advice.specs.declared.advice.Outcome.TheVariants.{Connected, Disconnected, Failed}
 use Rattle.bx_advice.specs.declared.error.Error.TheVariants.{SupersededConnect, QueueOverflow}
 use Rattle.bx_message.specs.Replies.{connect_reply}
-use Rattle.bx_entry.specs.declared.entry.Kind.{Kind}
-use Rattle.bx_entry.specs.declared.entry.Kind.TheVariants.{Connect, Subscribe, Unsubscribe, Publish, Disconnect, Refused, Tick}
-use Rattle.bx_entry.specs.declared.entry.Kind.TheVariants as entries
+use Rattle.bx_entry.specs.declared.entry.EntryKind.{EntryKind}
+use Rattle.bx_entry.specs.declared.entry.EntryKind.TheVariants.{Connect, Subscribe, Unsubscribe, Publish, Disconnect, Refused, Tick}
+use Rattle.bx_entry.specs.declared.entry.EntryKind.TheVariants as entries
 use Rattle.bx_entry.specs.Sessions.{Session, Publication, Pending, Filed, Stage, Unopened, Live, Closed, ack_given, answered, unheld, released_from, released, cleared, acknowledged, portion, with_batch, formed, forgotten, gives, given, holding, idle, answered_or_held, admitted, connected, overflowed, with_patterns, subscribed, unsubscribed, gives_one, with_event, delivered_to, delivered, is_hit, has_room, received, published, expired_from, expired, ended, closed_by, disconnected, begun, step_by}
 use Rattle.bx_entry.specs.Keeping.{Kept, kept, resumed}
 
@@ -58,10 +58,10 @@ pub by_stage : (f : Session → Stage → Session) → ((stage : Stage) → Sett
 by_stage f all = record { state = λ s. (all s.stage).state s; answers = λ s. (all s.stage).answers s }
 
 -- a change, and an answer behind it
-pub answering : (config : Config) (p : Pending) (place : ℕ) (case : Case) (events : Session → List Publication) (f : Session → Session) → ((s : Session) → events (resumed (kept s)) ≡ events s) → Settled f →
-    Settled (λ s. answered config p place (events s) case (f s))
-answering config p place case events f same a =
-    let F : List Publication → Kept → Filed = λ ps k. record { connect = p.place; place = place; publications = ps; reply = connect_reply config p.client p.id case (ack_given k.ack k.num case) } in
+pub answering : (config : Config) (p : Pending) (place : ℕ) (outcome : Outcome) (events : Session → List Publication) (f : Session → Session) → ((s : Session) → events (resumed (kept s)) ≡ events s) → Settled f →
+    Settled (λ s. answered config p place (events s) outcome (f s))
+answering config p place outcome events f same a =
+    let F : List Publication → Kept → Filed = λ ps k. record { connect = p.place; place = place; publications = ps; reply = connect_reply config p.client p.id outcome (ack_given k.ack k.num outcome) } in
     record {
       state = a.state;
       answers = λ s. let r : Session = f (resumed (kept s)) in
@@ -76,15 +76,15 @@ answering config p place case events f same a =
 pub unheld_s : Settled unheld
 unheld_s = quiet unheld (λ s. refl) (λ s. refl)
 
-pub empty_s : (config : Config) (p : Pending) (place : ℕ) (case : Case) → Settled (answered config p place [] case)
-empty_s config p place case = answering config p place case (λ s. []) (λ s. s) (λ s. refl) nothing
+pub empty_s : (config : Config) (p : Pending) (place : ℕ) (outcome : Outcome) → Settled (answered config p place [] outcome)
+empty_s config p place outcome = answering config p place outcome (λ s. []) (λ s. s) (λ s. refl) nothing
 
-pub released_s : (config : Config) (place : ℕ) (case : Case) → Settled (released config place case)
-released_s config place case = by_held (released_from config place case) by
+pub released_s : (config : Config) (place : ℕ) (outcome : Outcome) → Settled (released config place outcome)
+released_s config place outcome = by_held (released_from config place outcome) by
   where
-    by : (held : Option Pending) → Settled (λ s. released_from config place case s held)
+    by : (held : Option Pending) → Settled (λ s. released_from config place outcome s held)
     by None = nothing
-    by (Some p) = in_turn unheld (answered config p place [] case) unheld_s (empty_s config p place case)
+    by (Some p) = in_turn unheld (answered config p place [] outcome) unheld_s (empty_s config p place outcome)
 
 pub acknowledged_s : (acked : Option ℕ) → Settled (acknowledged acked)
 acknowledged_s None = nothing
@@ -173,7 +173,7 @@ begun_s ack = by_stage (begun ack) by
 pub own : (n : ℕ) (f : Session → Session) → Settled f → Settled (λ s. cond (n == s.number) (f s) s)
 own n f a = chosen (λ s. n == s.number) f (λ s. s) (λ s. refl) a nothing
 
-pub step_by_s : (config : Config) (place moment : ℕ) (k : Kind) → Settled (λ s. step_by config place moment s k)
+pub step_by_s : (config : Config) (place moment : ℕ) (k : EntryKind) → Settled (λ s. step_by config place moment s k)
 step_by_s config place moment (entries.Opened n ack) = own n (λ s. begun ack s s.stage) (begun_s ack)
 step_by_s config place moment (Connect n client id acked hold) =
     let p : Pending = record { place = place; client = client; id = id; moment = moment; hold = hold } in own n (connected config p acked) (connected_s config p acked)

@@ -1,7 +1,7 @@
 -- The list that requests and ticks are taken into.
 use Rattle.std.specs.Prelude.{ℕ, ◌==◌, ◌&&◌, ◌||◌, Bool, false, List, [], ◌∷◌, length}
 use Rattle.bx_message.specs.declared.message.Message.{Message}
-use Rattle.bx_message.specs.Columns.{is_handshake}
+use Rattle.bx_message.specs.MessageKinds.{is_handshake}
 
 -- a message as it stands in the list: with what was handed in with its request, whether it is its request's sole message,
 -- and whether it is a handshake that another handshake of its request stands before

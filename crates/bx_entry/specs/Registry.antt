@@ -12,22 +12,22 @@ use Rattle.bx_message.specs.declared.message.TextMember.{TextMember}
 use Rattle.bx_message.specs.declared.message.TextMember.TheVariants.{Absent, NotText, Text}
 use Rattle.bx_message.specs.declared.message.AckMember.{AckMember}
 use Rattle.bx_message.specs.declared.message.AckMember.TheVariants.{NoAck, AckTrue, AckNumber}
-use Rattle.bx_message.specs.declared.column.Column.{Column}
-use Rattle.bx_message.specs.Columns.{column_of, is_connect}
+use Rattle.bx_message.specs.declared.message_kind.MessageKind.{MessageKind}
+use Rattle.bx_message.specs.MessageKinds.{message_kind_of, is_connect}
 use Rattle.bx_entry.specs.Listing.{Posted, Listed, Post}
 use Rattle.bx_entry.specs.Listing as messages
 use Rattle.bx_advice.specs.declared.error.Error.{Error}
 use Rattle.bx_advice.specs.declared.error.Error.TheVariants.{UnknownMetaChannel, SecondHandshake, UnsupportedVersion, NoSupportedConnectionType, TooManySessions, NoClientId, UnknownClient, UnknownConnectionType, InvalidChannel, InvalidPattern, TooManyPatterns, SubscriptionDenied, MissingSubscription, MissingData}
 use Rattle.bx_advice.specs.declared.config.Config.{Config}
-use Rattle.bx_advice.specs.declared.advice.Case.TheVariants.{Done, Failed}
-use Rattle.bx_advice.specs.declared.advice.Case.TheVariants as advice
+use Rattle.bx_advice.specs.declared.advice.Outcome.TheVariants.{Done, Failed}
+use Rattle.bx_advice.specs.declared.advice.Outcome.TheVariants as advice
 use Rattle.bx_message.specs.declared.event.Event.{Event}
 use Rattle.bx_message.specs.declared.reply.Reply.{Reply}
 use Rattle.bx_message.specs.Replies.{reply_to}
 use Rattle.bx_message.specs.declared.reply.AckReply.TheVariants as replies
 use Rattle.bx_entry.specs.declared.entry.Entry.{Entry}
-use Rattle.bx_entry.specs.declared.entry.Kind.{Kind}
-use Rattle.bx_entry.specs.declared.entry.Kind.TheVariants.{Opened, Connect, Subscribe, Unsubscribe, Publish, Disconnect, Refused, Tick}
+use Rattle.bx_entry.specs.declared.entry.EntryKind.{EntryKind}
+use Rattle.bx_entry.specs.declared.entry.EntryKind.TheVariants.{Opened, Connect, Subscribe, Unsubscribe, Publish, Disconnect, Refused, Tick}
 
 -- ---- the state
 
@@ -148,19 +148,19 @@ publish_cases m =
     ∷ (is_none m.payload, MissingData)
     ∷ []
 
--- the cases that can hold for a message of this column, in the order of the errors
-abbrev pub cases_of : Config → List Registered → Posted → Column → List (Bool × Error)
-cases_of config sessions p Column.Handshake = handshake_cases config sessions p
-cases_of config sessions p Column.Connect = client_cases sessions p.message ++ connect_cases p.message
-cases_of config sessions p Column.Subscribe = client_cases sessions p.message ++ subscription_cases config p.message
-cases_of config sessions p Column.Unsubscribe = client_cases sessions p.message ++ subscription_cases config p.message
-cases_of config sessions p Column.Disconnect = client_cases sessions p.message
-cases_of config sessions p Column.Publish = client_cases sessions p.message ++ publish_cases p.message
-cases_of config sessions p Column.UnknownMeta = (true, UnknownMetaChannel) ∷ []
+-- the cases that can hold for a message of this kind, in the order of the errors
+abbrev pub cases_of : Config → List Registered → Posted → MessageKind → List (Bool × Error)
+cases_of config sessions p MessageKind.Handshake = handshake_cases config sessions p
+cases_of config sessions p MessageKind.Connect = client_cases sessions p.message ++ connect_cases p.message
+cases_of config sessions p MessageKind.Subscribe = client_cases sessions p.message ++ subscription_cases config p.message
+cases_of config sessions p MessageKind.Unsubscribe = client_cases sessions p.message ++ subscription_cases config p.message
+cases_of config sessions p MessageKind.Disconnect = client_cases sessions p.message
+cases_of config sessions p MessageKind.Publish = client_cases sessions p.message ++ publish_cases p.message
+cases_of config sessions p MessageKind.UnknownMeta = (true, UnknownMetaChannel) ∷ []
 
 -- the first case that holds refuses the message
 abbrev pub refusal : Config → List Registered → Posted → Option Error
-refusal config sessions p = first_case (cases_of config sessions p (column_of p.message.channel))
+refusal config sessions p = first_case (cases_of config sessions p (message_kind_of p.message.channel))
 
 -- ---- accepted messages
 
@@ -211,18 +211,18 @@ event_of m = record { channel = m.channel; payload = unwrap_or m.payload []; id 
 -- ---- one element after another
 
 -- this found at the next place
-abbrev pub found_at : Registry → ℕ → Kind → Option ℕ → ℕ → PlaceSlot → Judged
+abbrev pub found_at : Registry → ℕ → EntryKind → Option ℕ → ℕ → PlaceSlot → Judged
 found_at r moment kind sender hold slot = record { entry = record { place = length r.judged; moment = moment; kind = kind }; sender = sender; hold = hold; slot = slot }
 
 -- the registry with one more place
-abbrev pub noted : Registry → ℕ → List Registered → Kind → Option ℕ → ℕ → PlaceSlot → Registry
+abbrev pub noted : Registry → ℕ → List Registered → EntryKind → Option ℕ → ℕ → PlaceSlot → Registry
 noted r moment sessions kind sender hold slot = record { clock = moment; sessions = sessions; judged = r.judged ++ found_at r moment kind sender hold slot ∷ [] }
 
 -- a refused message changes nothing but the list
 abbrev pub refused : Config → Registry → ℕ → Posted → Error → Option Registered → Registry
 refused config r moment p error sender =
     noted r moment r.sessions Refused None 0
-    (Ready (reply_to config (column_of p.message.channel) p.message (option_map (λ (s : Registered). s.client) sender) (Failed error) replies.NoAck))
+    (Ready (reply_to config (message_kind_of p.message.channel) p.message (option_map (λ (s : Registered). s.client) sender) (Failed error) replies.NoAck))
 
 -- a new session, under the next number
 abbrev pub opened : Config → Registry → ℕ → Posted → ℕ → Bool → Registry
@@ -230,50 +230,50 @@ opened config r moment p number ack =
     noted r moment
     (r.sessions ++ record { number = number; client = client_id p.nonce number; ack = ack; due = moment + config.max_interval; live = true } ∷ [])
     (Opened number ack) (Some number) 0
-    (Ready (reply_to config Column.Handshake p.message (Some (client_id p.nonce number)) advice.Opened (if ack then replies.AckTrue else replies.NoAck)))
+    (Ready (reply_to config MessageKind.Handshake p.message (Some (client_id p.nonce number)) advice.Opened (if ack then replies.AckTrue else replies.NoAck)))
 
 -- the entry's kind for an accepted message of a live session (no such message is a handshake or to an unknown meta channel)
-abbrev pub kind_for : Column → Posted → Registered → ℕ → Kind
-kind_for Column.Handshake p s hold = Refused
-kind_for Column.Connect p s hold = Connect s.number s.client p.message.id (acked_by p.message.ack) hold
-kind_for Column.Subscribe p s hold = Subscribe s.number (patterns_of p.message)
-kind_for Column.Unsubscribe p s hold = Unsubscribe s.number (patterns_of p.message)
-kind_for Column.Disconnect p s hold = Disconnect s.number
-kind_for Column.Publish p s hold = Publish (event_of p.message)
-kind_for Column.UnknownMeta p s hold = Refused
+abbrev pub kind_for : MessageKind → Posted → Registered → ℕ → EntryKind
+kind_for MessageKind.Handshake p s hold = Refused
+kind_for MessageKind.Connect p s hold = Connect s.number s.client p.message.id (acked_by p.message.ack) hold
+kind_for MessageKind.Subscribe p s hold = Subscribe s.number (patterns_of p.message)
+kind_for MessageKind.Unsubscribe p s hold = Unsubscribe s.number (patterns_of p.message)
+kind_for MessageKind.Disconnect p s hold = Disconnect s.number
+kind_for MessageKind.Publish p s hold = Publish (event_of p.message)
+kind_for MessageKind.UnknownMeta p s hold = Refused
 
 -- connects wait for their answer, every other message has its success at once
-abbrev pub slot_for : Config → Column → Posted → Registered → PlaceSlot
-slot_for config Column.Connect p s = Waiting s.number
-slot_for config Column.Handshake p s = Ready (reply_to config Column.Handshake p.message (Some s.client) Done replies.NoAck)
-slot_for config Column.Subscribe p s = Ready (reply_to config Column.Subscribe p.message (Some s.client) Done replies.NoAck)
-slot_for config Column.Unsubscribe p s = Ready (reply_to config Column.Unsubscribe p.message (Some s.client) Done replies.NoAck)
-slot_for config Column.Disconnect p s = Ready (reply_to config Column.Disconnect p.message (Some s.client) Done replies.NoAck)
-slot_for config Column.Publish p s = Ready (reply_to config Column.Publish p.message (Some s.client) Done replies.NoAck)
-slot_for config Column.UnknownMeta p s = Ready (reply_to config Column.UnknownMeta p.message (Some s.client) Done replies.NoAck)
+abbrev pub slot_for : Config → MessageKind → Posted → Registered → PlaceSlot
+slot_for config MessageKind.Connect p s = Waiting s.number
+slot_for config MessageKind.Handshake p s = Ready (reply_to config MessageKind.Handshake p.message (Some s.client) Done replies.NoAck)
+slot_for config MessageKind.Subscribe p s = Ready (reply_to config MessageKind.Subscribe p.message (Some s.client) Done replies.NoAck)
+slot_for config MessageKind.Unsubscribe p s = Ready (reply_to config MessageKind.Unsubscribe p.message (Some s.client) Done replies.NoAck)
+slot_for config MessageKind.Disconnect p s = Ready (reply_to config MessageKind.Disconnect p.message (Some s.client) Done replies.NoAck)
+slot_for config MessageKind.Publish p s = Ready (reply_to config MessageKind.Publish p.message (Some s.client) Done replies.NoAck)
+slot_for config MessageKind.UnknownMeta p s = Ready (reply_to config MessageKind.UnknownMeta p.message (Some s.client) Done replies.NoAck)
 
 -- a disconnect ends its session
-abbrev pub left_by : Column → ℕ → List Registered → List Registered
-left_by Column.Handshake number sessions = sessions
-left_by Column.Connect number sessions = sessions
-left_by Column.Subscribe number sessions = sessions
-left_by Column.Unsubscribe number sessions = sessions
-left_by Column.Disconnect number sessions = closed number sessions
-left_by Column.Publish number sessions = sessions
-left_by Column.UnknownMeta number sessions = sessions
+abbrev pub left_by : MessageKind → ℕ → List Registered → List Registered
+left_by MessageKind.Handshake number sessions = sessions
+left_by MessageKind.Connect number sessions = sessions
+left_by MessageKind.Subscribe number sessions = sessions
+left_by MessageKind.Unsubscribe number sessions = sessions
+left_by MessageKind.Disconnect number sessions = closed number sessions
+left_by MessageKind.Publish number sessions = sessions
+left_by MessageKind.UnknownMeta number sessions = sessions
 
 -- an accepted message of a live session
-abbrev pub served : Config → Registry → ℕ → Posted → Column → Registered → ℕ → Registry
-served config r moment p column s hold =
+abbrev pub served : Config → Registry → ℕ → Posted → MessageKind → Registered → ℕ → Registry
+served config r moment p message_kind s hold =
     noted r moment
-    (left_by column s.number (extended s.number (moment + hold + config.max_interval) r.sessions))
-    (kind_for column p s hold) (Some s.number) hold
-    (slot_for config column p s)
+    (left_by message_kind s.number (extended s.number (moment + hold + config.max_interval) r.sessions))
+    (kind_for message_kind p s hold) (Some s.number) hold
+    (slot_for config message_kind p s)
 
 -- an accepted message: a handshake has no session yet, every other has one
 abbrev pub accepted : Config → Registry → ℕ → Posted → Option Registered → Registry
 accepted config r moment p None = opened config r moment p (length r.sessions + 1) (is_ack p.message.ack)
-accepted config r moment p (Some s) = served config r moment p (column_of p.message.channel) s (hold_of config p)
+accepted config r moment p (Some s) = served config r moment p (message_kind_of p.message.channel) s (hold_of config p)
 
 -- a message is refused or accepted
 abbrev pub judged_by : Config → Registry → ℕ → Posted → Option Registered → Option Error → Registry
@@ -281,19 +281,19 @@ judged_by config r moment p sender (Some error) = refused config r moment p erro
 judged_by config r moment p sender None = accepted config r moment p sender
 
 -- the session that a message names; a handshake names none
-abbrev pub named_by : List Registered → Column → Message → Option Registered
-named_by sessions Column.Handshake m = None
-named_by sessions Column.Connect m = sender_of sessions m.client
-named_by sessions Column.Subscribe m = sender_of sessions m.client
-named_by sessions Column.Unsubscribe m = sender_of sessions m.client
-named_by sessions Column.Disconnect m = sender_of sessions m.client
-named_by sessions Column.Publish m = sender_of sessions m.client
-named_by sessions Column.UnknownMeta m = None
+abbrev pub named_by : List Registered → MessageKind → Message → Option Registered
+named_by sessions MessageKind.Handshake m = None
+named_by sessions MessageKind.Connect m = sender_of sessions m.client
+named_by sessions MessageKind.Subscribe m = sender_of sessions m.client
+named_by sessions MessageKind.Unsubscribe m = sender_of sessions m.client
+named_by sessions MessageKind.Disconnect m = sender_of sessions m.client
+named_by sessions MessageKind.Publish m = sender_of sessions m.client
+named_by sessions MessageKind.UnknownMeta m = None
 
 -- what is found of the next element: it has the greatest moment so far, and is judged by the sessions before it
 abbrev pub judge : Config → Registry → Listed → Registry
 judge config r (Post p) =
-    judged_by config r (max r.clock p.moment) p (named_by r.sessions (column_of p.message.channel) p.message) (refusal config r.sessions p)
+    judged_by config r (max r.clock p.moment) p (named_by r.sessions (message_kind_of p.message.channel) p.message) (refusal config r.sessions p)
 judge config r (messages.Tick moment) =
     let now = max r.clock moment in
     noted r now (swept now r.sessions) (Tick (overdue now r.sessions)) None 0 NoSlot

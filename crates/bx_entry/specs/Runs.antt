@@ -10,7 +10,7 @@ use Rattle.bx_entry.specs.Inputs.{ReadInput, Request, Unread, Tick, refusal_of, 
 use Rattle.bx_entry.specs.declared.input.Refusal.{Refusal}
 
 -- what became of an input: where its messages stand in the list and how many they are, or its refusal
-pub record Dealt : Type 0 where
+pub record Intake : Type 0 where
   pub input : ReadInput
   pub first : ℕ
   pub count : ℕ
@@ -19,23 +19,23 @@ pub record Dealt : Type 0 where
 -- the list, and what became of each input so far
 pub record Taking : Type 0 where
   pub list : List Listed
-  pub dealt : List Dealt
+  pub intake : List Intake
 
 -- an input with its refusal, or without one
 abbrev pub taken_as : Taking → ReadInput → Option Refusal → Taking
-taken_as t input (Some refusal) = record t { dealt = t.dealt ++ record { input = input; first = length t.list; count = 0; refusal = Some refusal } ∷ [] }
+taken_as t input (Some refusal) = record t { intake = t.intake ++ record { input = input; first = length t.list; count = 0; refusal = Some refusal } ∷ [] }
 taken_as t input None = record {
   list = t.list ++ added_by input;
-  dealt = t.dealt ++ record { input = input; first = length t.list; count = length (added_by input); refusal = None } ∷ [];
+  intake = t.intake ++ record { input = input; first = length t.list; count = length (added_by input); refusal = None } ∷ [];
 }
 
 -- one more input
-abbrev pub takes_in : Taking → ReadInput → Taking
-takes_in t input = taken_as t input (refusal_of (length t.list) input)
+abbrev pub take_in : Taking → ReadInput → Taking
+take_in t input = taken_as t input (refusal_of (length t.list) input)
 
 -- all inputs, one after another
 abbrev pub taken_in : List ReadInput → Taking
-taken_in inputs = fold takes_in (record { list = []; dealt = [] }) inputs
+taken_in inputs = fold take_in (record { list = []; intake = [] }) inputs
 
 -- a response, or its refusal
 pub record Out : Type 0 where
@@ -50,7 +50,7 @@ numbers_from first zero = []
 numbers_from first (suc count) = first ∷ numbers_from (first + 1) count
 
 -- a request has answers to its messages; a tick has a message that nothing answers, and waits for nothing
-abbrev pub places_of : Dealt → ReadInput → List ℕ
+abbrev pub places_of : Intake → ReadInput → List ℕ
 places_of d (Request moment nonce ms) = numbers_from d.first d.count
 places_of d (Unread fault) = []
 places_of d (Tick moment) = []
@@ -62,13 +62,13 @@ latest place (None ∷ answers) = None
 latest place (Some a ∷ answers) = latest (max place a.place) answers
 
 -- the input whose messages the place has
-abbrev pub has_place : ℕ → Dealt → Bool
+abbrev pub has_place : ℕ → Intake → Bool
 has_place place d = nat_le d.first place && nat_lt place (d.first + d.count)
 
 -- an input is whole where the last of its answers was given: at that place's input, or at itself where it has none to wait for
-abbrev pub whole_by : List Dealt → ℕ → List (Option PlacedAnswer) → Option ℕ
-whole_by dealt i [] = Some i
-whole_by dealt i (a ∷ answers) = elim (latest 0 (a ∷ answers)) [ None ↦ None | Some place ↦ position (has_place place) dealt ]
+abbrev pub whole_by : List Intake → ℕ → List (Option PlacedAnswer) → Option ℕ
+whole_by intake i [] = Some i
+whole_by intake i (a ∷ answers) = elim (latest 0 (a ∷ answers)) [ None ↦ None | Some place ↦ position (has_place place) intake ]
 
 -- a message's part of a response: its events, and then its reply
 abbrev pub items_of : PlacedAnswer → List Item
@@ -91,19 +91,19 @@ pub record Whole : Type 0 where
   pub out : Out
 
 -- what comes of an input
-abbrev pub whole_of : Config → Registry → List Dealt → ℕ → Dealt → Whole
-whole_of config r dealt i d =
+abbrev pub whole_of : Config → Registry → List Intake → ℕ → Intake → Whole
+whole_of config r intake i d =
     let answers = map (answer_in config r) (places_of d d.input) in
-    record { at = whole_by dealt i answers; out = record { input = i; result = result_by answers d.refusal } }
+    record { at = whole_by intake i answers; out = record { input = i; result = result_by answers d.refusal } }
 
 -- what comes of these inputs, counted from i
-abbrev pub wholes_from : Config → Registry → List Dealt → ℕ → List Dealt → List Whole
-wholes_from config r dealt i [] = []
-wholes_from config r dealt i (d ∷ ds) = whole_of config r dealt i d ∷ wholes_from config r dealt (i + 1) ds
+abbrev pub wholes_from : Config → Registry → List Intake → ℕ → List Intake → List Whole
+wholes_from config r intake i [] = []
+wholes_from config r intake i (d ∷ ds) = whole_of config r intake i d ∷ wholes_from config r intake (i + 1) ds
 
 -- what comes of all inputs that were taken in
 abbrev pub wholes_in : Config → Taking → List Whole
-wholes_in config t = wholes_from config (registry config t.list) t.dealt 0 t.dealt
+wholes_in config t = wholes_from config (registry config t.list) t.intake 0 t.intake
 
 -- what comes of all inputs of a run
 abbrev pub wholes : Config → List ReadInput → List Whole

@@ -7,17 +7,17 @@ use Rattle.bx_names.specs.Segments.{segments}
 use Rattle.bx_names.specs.Kinds.{is_broadcast}
 use Rattle.bx_advice.specs.declared.error.Error.TheVariants.{SupersededConnect, QueueOverflow}
 use Rattle.bx_advice.specs.declared.config.Config.{Config}
-use Rattle.bx_advice.specs.declared.advice.Case.{Case}
-use Rattle.bx_advice.specs.declared.advice.Case.TheVariants.{Opened, Connected, Disconnected, Done, Failed}
+use Rattle.bx_advice.specs.declared.advice.Outcome.{Outcome}
+use Rattle.bx_advice.specs.declared.advice.Outcome.TheVariants.{Opened, Connected, Disconnected, Done, Failed}
 use Rattle.bx_message.specs.declared.event.Event.{Event}
 use Rattle.bx_message.specs.declared.reply.Reply.{Reply}
 use Rattle.bx_message.specs.declared.reply.AckReply.{AckReply}
 use Rattle.bx_message.specs.declared.reply.AckReply.TheVariants.{NoAck, AckNumber}
 use Rattle.bx_message.specs.Replies.{connect_reply}
 use Rattle.bx_entry.specs.declared.entry.Entry.{Entry}
-use Rattle.bx_entry.specs.declared.entry.Kind.{Kind}
-use Rattle.bx_entry.specs.declared.entry.Kind.TheVariants.{Connect, Subscribe, Unsubscribe, Publish, Disconnect, Refused, Tick}
-use Rattle.bx_entry.specs.declared.entry.Kind.TheVariants as entries
+use Rattle.bx_entry.specs.declared.entry.EntryKind.{EntryKind}
+use Rattle.bx_entry.specs.declared.entry.EntryKind.TheVariants.{Connect, Subscribe, Unsubscribe, Publish, Disconnect, Refused, Tick}
+use Rattle.bx_entry.specs.declared.entry.EntryKind.TheVariants as entries
 use Rattle.bx_entry.specs.Windows as windows
 use Rattle.bx_entry.specs.Windows.{Window, acknowledges, emptied, forms, outstanding}
 pub use Rattle.bx_entry.specs.Windows.{Publication}
@@ -105,7 +105,7 @@ batch s = outstanding (window_in s)
 -- ---- answers
 
 -- a connect's success in an acknowledging session carries the number of the last batch formed
-abbrev pub ack_given : Bool → ℕ → Case → AckReply
+abbrev pub ack_given : Bool → ℕ → Outcome → AckReply
 ack_given ack num Opened = NoAck
 ack_given ack num Connected = if ack then AckNumber num else NoAck
 ack_given ack num Disconnected = if ack then AckNumber num else NoAck
@@ -113,25 +113,25 @@ ack_given ack num Done = NoAck
 ack_given ack num (Failed error) = NoAck
 
 -- the answer to a connect at this place
-abbrev pub filing : Config → Pending → ℕ → List Publication → Case → Session → Filed
-filing config p place given case s = record { connect = p.place; place = place; publications = given; reply = connect_reply config p.client p.id case (ack_given s.ack s.num case) }
+abbrev pub filing : Config → Pending → ℕ → List Publication → Outcome → Session → Filed
+filing config p place given outcome s = record { connect = p.place; place = place; publications = given; reply = connect_reply config p.client p.id outcome (ack_given s.ack s.num outcome) }
 
 -- the connect is answered at this place, with these events
-abbrev pub answered : Config → Pending → ℕ → List Publication → Case → Session → Session
-answered config p place given case s = record s { answers = s.answers ++ filing config p place given case s ∷ [] }
+abbrev pub answered : Config → Pending → ℕ → List Publication → Outcome → Session → Session
+answered config p place given outcome s = record s { answers = s.answers ++ filing config p place given outcome s ∷ [] }
 
 -- no connect is held any longer
 abbrev pub unheld : Session → Session
 unheld s = record s { held = None }
 
 -- this held connect, if there is one, is answered without events
-abbrev pub released_from : Config → ℕ → Case → Session → Option Pending → Session
-released_from config place case s None = s
-released_from config place case s (Some p) = answered config p place [] case (unheld s)
+abbrev pub released_from : Config → ℕ → Outcome → Session → Option Pending → Session
+released_from config place outcome s None = s
+released_from config place outcome s (Some p) = answered config p place [] outcome (unheld s)
 
 -- so is the connect that the session holds
-abbrev pub released : Config → ℕ → Case → Session → Session
-released config place case s = released_from config place case s s.held
+abbrev pub released : Config → ℕ → Outcome → Session → Session
+released config place outcome s = released_from config place outcome s s.held
 
 -- ---- a connect
 
@@ -287,7 +287,7 @@ begun ack s Closed = s
 -- ---- one entry after another
 
 -- what an entry of this kind does to the session
-abbrev pub step_by : Config → ℕ → ℕ → Session → Kind → Session
+abbrev pub step_by : Config → ℕ → ℕ → Session → EntryKind → Session
 step_by config place moment s (entries.Opened n ack) = if n == s.number then begun ack s s.stage else s
 step_by config place moment s (Connect n client id acked hold) =
     if n == s.number then connected config (record { place = place; client = client; id = id; moment = moment; hold = hold }) acked s else s

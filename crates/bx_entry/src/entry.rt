@@ -3,7 +3,7 @@ use bx_names::Pattern;
 
 /// What the message or the tick at a place of the list came to.
 #[derive(Drop)]
-pub enum Kind {
+pub enum EntryKind {
     /// An accepted handshake; `ack` says whether it turned acknowledgement on.
     Opened {
         session: u64,
@@ -47,7 +47,7 @@ pub struct Entry {
     pub place: u64,
     /// The greatest moment that was handed in so far, in milliseconds.
     pub moment: u64,
-    pub kind: Kind,
+    pub kind: EntryKind,
 }
 
 /// The entries of one admission.
@@ -58,8 +58,8 @@ pub struct Batch {
     pub entries: Sequence<Entry>,
 }
 
-/// Where the answer to a connect is filed: under its place, in this shard. It is good for as long as the sessions are dealt
-/// among the shards as they are: once they are dealt anew, the answer may stand in another shard.
+/// Where the answer to a connect is filed: under its place, in this shard. It is good for as long as the sessions are intake
+/// among the shards as they are: once they are redistributed, the answer may stand in another shard.
 #[derive(Clone, Copy, Debug, PartialEq, Eq)]
 pub struct Ticket {
     /// The connect's place in the list.

@@ -6,7 +6,7 @@ mod input;
 mod placing;
 mod read;
 
-pub use entry::{Batch, Entry, Kind, Slot, Ticket};
+pub use entry::{Batch, Entry, EntryKind, Slot, Ticket};
 pub use input::{Arrival, BodyFault, Input, Refusal};
 pub use placing::{AllFirst, ByRemainder, ByTable, Placing};
 pub use read::{ReadFault, read_messages};

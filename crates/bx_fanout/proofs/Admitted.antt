@@ -1,4 +1,4 @@
--- An input that was dealt with.
+-- An input that was taken in.
 use Rattle.std.proofs.Common.{◌≡◌, ℕ, ◌+◌, ◌<◌, Bool, false, List, [], ◌∷◌, ◌++◌, length, map, filter, refl, sym, ap, subst, ◌∙◌, inl, inr, Option, Some, None, append-nil, suc, add-zero, zero-add}
 use Rattle.std.specs.Prelude.{◌==◌, ◌||◌}
 use Rattle.bx_entry.specs.Inputs.{ReadInput, Request, Tick, Unread, added_by, refusal_of}
@@ -9,7 +9,7 @@ use Rattle.bx_entry.specs.Runs.{Taking, numbers_from, outs, places_of, taken_as,
 use Rattle.bx_entry.specs.declared.entry.Slot.{Slot}
 use Rattle.bx_entry.specs.declared.input.Input.{Input}
 use Rattle.bx_entry.specs.declared.input.Refusal.{Refusal}
-use Rattle.bx_message.specs.Columns.{is_handshake}
+use Rattle.bx_message.specs.MessageKinds.{is_handshake}
 use Rattle.bx_message.specs.declared.message.Message.{Message}
 use Rattle.bx_message.specs.declared.reply.Answer.{Answer}
 use Rattle.bx_shard.specs.Shards.{Setup}
@@ -20,10 +20,10 @@ use Rattle.bx_world.specs.declared.step.StepOut.TheVariants.{Admitted, NotAdmitt
 use Rattle.bx_world.proofs.Replies.{replies_are_answers}
 use Rattle.bx_fanout.specs.Desks.{Row, outs_of, waits}
 use Rattle.bx_fanout.specs.Newests.{AreAnswers, NoneTakenFrom, next_place}
-use Rattle.bx_fanout.specs.Opens.{dealt_as, open_after}
-use Rattle.bx_fanout.specs.Stages.{AllUntaken, IsCollecting, IsDealt, IsGiving, seen_out}
+use Rattle.bx_fanout.specs.Opens.{intake_as, open_after}
+use Rattle.bx_fanout.specs.Stages.{AllUntaken, IsCollecting, IsTakenIn, IsGiving, seen_out}
 use Rattle.bx_fanout.specs.declared.newest.Newest.{Newest}
-use Rattle.bx_fanout.proofs.Dealing.{none-left, taken-one}
+use Rattle.bx_fanout.proofs.TakingIn.{none-left, taken-one}
 use Rattle.bx_fanout.proofs.Stages.{length-numbers}
 
 -- ---- how many messages are answered
@@ -32,12 +32,12 @@ pub length-listed : (moment nonce : ℕ) (sole : Bool) (ms : List Message) (seen
 length-listed moment nonce sole [] seen = refl
 length-listed moment nonce sole (m ∷ ms) seen = ap (λ (n : ℕ). suc n) (length-listed moment nonce sole ms (seen || is_handshake m))
 
-asked : (len : ℕ) (input : ReadInput) → length (places_of (dealt_as len input None) input) ≡ asked_by input
+asked : (len : ℕ) (input : ReadInput) → length (places_of (intake_as len input None) input) ≡ asked_by input
 asked len (Request moment nonce ms) = length-numbers len (length (request moment nonce ms)) ∙ length-listed moment nonce (length ms == 1) ms false
 asked len (Unread fault) = refl
 asked len (Tick moment) = refl
 
-refused-asked : (len : ℕ) (input : ReadInput) (refusal : Refusal) → length (places_of (dealt_as len input (Some refusal)) input) ≡ 0
+refused-asked : (len : ℕ) (input : ReadInput) (refusal : Refusal) → length (places_of (intake_as len input (Some refusal)) input) ≡ 0
 refused-asked len (Request moment nonce ms) refusal = refl
 refused-asked len (Unread fault) refusal = refl
 refused-asked len (Tick moment) refusal = refl
@@ -64,7 +64,7 @@ refused : (setup : Setup) (w : WorldState) (i : Input) (refusal : Refusal) → I
 refused setup w i refusal (inl e) = refused-by setup w (read_input i) refusal (refusal_of (length w.list) (read_input i)) e
 refused setup w i refusal (inr (may, e)) = let no : NotAdmitted refusal ≡ OutOfMemory = e in cc
 
--- ---- the input is dealt with
+-- ---- the input is taken in
 
 -- nothing is left to be added
 pub all-added : (setup : Setup) (inputs : List ReadInput) (w : WorldState) (rows : List Row) (added : List runs.Out) → IsGiving setup inputs w rows None added → rows ≡ filter waits rows → added ≡ outs setup.config inputs
@@ -74,10 +74,10 @@ all-added setup inputs w rows added g settled =
 list-after : (inputs : List ReadInput) (input : ReadInput) (o : Option Refusal) → refusal_of (length (taken_in inputs).list) input ≡ o → (taken_in (inputs ++ input ∷ [])).list ≡ (taken_as (taken_in inputs) input o).list
 list-after inputs input o e = ap (λ (t : Taking). t.list) (taken-one inputs input) ∙ ap (λ (p : Option Refusal). (taken_as (taken_in inputs) input p).list) e
 
-pub dealt-admitted : (setup : Setup) (inputs : List ReadInput) (i : Input) (old new : WorldState) (rows : List Row) (n : Newest) (added : List runs.Out) (first : ℕ) (slots : List Slot) → 0 < setup.config.limits.batch →
+pub intake-admitted : (setup : Setup) (inputs : List ReadInput) (i : Input) (old new : WorldState) (rows : List Row) (n : Newest) (added : List runs.Out) (first : ℕ) (slots : List Slot) → 0 < setup.config.limits.batch →
     IsGiving setup inputs old rows None added → rows ≡ filter waits rows → IsOutput setup old (Admit i) (Admitted first slots) → new ≡ after old (Admit i) (Admitted first slots) →
     n.number ≡ length inputs → n.first ≡ first → n.refusal ≡ None → n.items.items ≡ [] → n.answers.items ≡ [] → n.slots.items ≡ slots → IsCollecting setup inputs (read_input i) new rows n added
-dealt-admitted setup inputs i old new rows n added first slots batch g settled output step number at none items answers are =
+intake-admitted setup inputs i old new rows n added first slots batch g settled output step number at none items answers are =
     let input : ReadInput = read_input i in
     let t = took setup old i first slots output in
     let len : length old.list ≡ length (taken_in inputs).list = ap (λ (ls : List Listed). length ls) g.list in
@@ -90,11 +90,11 @@ dealt-admitted setup inputs i old new rows n added first slots batch g settled o
       list = list ∙ ap (λ (ls : List Listed). ls ++ added_by input) g.list ∙ sym (list-after inputs input None no);
       number = number;
       first = at ∙ t.at ∙ len;
-      refusal = none ∙ sym (ap (λ (o : Option Refusal). (dealt_as (length (taken_in inputs).list) input o).refusal) no);
+      refusal = none ∙ sym (ap (λ (o : Option Refusal). (intake_as (length (taken_in inputs).list) input o).refusal) no);
       items = items;
       many =
           ap (λ (os : List Answer). length os + length n.slots.items) answers ∙ zero-add (length n.slots.items) ∙ ap (λ (ss : List Slot). length ss) are ∙ reply.many ∙ sym (asked (length (taken_in inputs).list) input)
-          ∙ sym (ap (λ (o : Option Refusal). length (places_of (dealt_as (length (taken_in inputs).list) input o) input)) no);
+          ∙ sym (ap (λ (o : Option Refusal). length (places_of (intake_as (length (taken_in inputs).list) input o) input)) no);
       collected = record {
         answers = subst (AreAnswers setup.config new.list n.first) (sym answers) tt;
         slots =
@@ -109,10 +109,10 @@ dealt-admitted setup inputs i old new rows n added first slots batch g settled o
       outs_before = all-added setup inputs old rows added g settled;
     }
 
-pub dealt-refused : (setup : Setup) (inputs : List ReadInput) (i : Input) (old new : WorldState) (rows : List Row) (n : Newest) (added : List runs.Out) (refusal : Refusal) →
+pub intake-refused : (setup : Setup) (inputs : List ReadInput) (i : Input) (old new : WorldState) (rows : List Row) (n : Newest) (added : List runs.Out) (refusal : Refusal) →
     IsGiving setup inputs old rows None added → rows ≡ filter waits rows → IsOutput setup old (Admit i) (NotAdmitted refusal) → new ≡ old →
     n.number ≡ length inputs → n.first ≡ length old.list → n.refusal ≡ Some refusal → n.items.items ≡ [] → n.answers.items ≡ [] → n.slots.items ≡ [] → IsCollecting setup inputs (read_input i) new rows n added
-dealt-refused setup inputs i old new rows n added refusal g settled output step number at none items answers are =
+intake-refused setup inputs i old new rows n added refusal g settled output step number at none items answers are =
     let input : ReadInput = read_input i in
     let len : length old.list ≡ length (taken_in inputs).list = ap (λ (ls : List Listed). length ls) g.list in
     let no : refusal_of (length (taken_in inputs).list) input ≡ Some refusal = ap (λ (k : ℕ). refusal_of k input) (sym len) ∙ refused setup old i refusal output in
@@ -122,11 +122,11 @@ dealt-refused setup inputs i old new rows n added refusal g settled output step 
       list = ap (λ (w : WorldState). w.list) step ∙ g.list ∙ sym (list-after inputs input (Some refusal) no);
       number = number;
       first = at ∙ len;
-      refusal = none ∙ sym (ap (λ (o : Option Refusal). (dealt_as (length (taken_in inputs).list) input o).refusal) no);
+      refusal = none ∙ sym (ap (λ (o : Option Refusal). (intake_as (length (taken_in inputs).list) input o).refusal) no);
       items = items;
       many =
           ap (λ (os : List Answer). length os + length n.slots.items) answers ∙ zero-add (length n.slots.items) ∙ ap (λ (ss : List Slot). length ss) are ∙ sym (refused-asked (length (taken_in inputs).list) input refusal)
-          ∙ sym (ap (λ (o : Option Refusal). length (places_of (dealt_as (length (taken_in inputs).list) input o) input)) no);
+          ∙ sym (ap (λ (o : Option Refusal). length (places_of (intake_as (length (taken_in inputs).list) input o) input)) no);
       collected = record {
         answers = subst (AreAnswers setup.config new.list n.first) (sym answers) tt;
         slots = subst (EachSlot setup new.list (next_place n)) (sym are) tt;
@@ -139,7 +139,7 @@ dealt-refused setup inputs i old new rows n added refusal g settled output step 
       outs_before = all-added setup inputs old rows added g settled;
     }
 
-pub dealt-of : (s setup : Setup) (inputs earlier : List ReadInput) (last : ReadInput) (w : WorldState) (rows : List Row) (n : Newest) (added : List runs.Out) → s ≡ setup → inputs ≡ earlier ++ last ∷ [] → IsCollecting setup earlier last w rows n added →
-    IsDealt s inputs w rows n added
-dealt-of s setup inputs earlier last w rows n added same are c =
-    subst (λ (t : Setup). IsDealt t inputs w rows n added) (sym same) (record { earlier = earlier; last = last; are = are; collecting = c })
+pub intake-of : (s setup : Setup) (inputs earlier : List ReadInput) (last : ReadInput) (w : WorldState) (rows : List Row) (n : Newest) (added : List runs.Out) → s ≡ setup → inputs ≡ earlier ++ last ∷ [] → IsCollecting setup earlier last w rows n added →
+    IsTakenIn s inputs w rows n added
+intake-of s setup inputs earlier last w rows n added same are c =
+    subst (λ (t : Setup). IsTakenIn t inputs w rows n added) (sym same) (record { earlier = earlier; last = last; are = are; collecting = c })

@@ -3,24 +3,24 @@ use Rattle.std.proofs.Common.{◌≡◌, ℕ, ◌<◌, max, Bool, true, false, c
 use Rattle.std.proofs.lemmas.Bool.{cond_both, cond-true, cond-false, both_ways}
 use Rattle.std.proofs.lemmas.List.{map-append, length_push}
 use Rattle.std.proofs.lemmas.List.Sums.{fold-append}
+use Rattle.bx_lists.proofs.Tests.{either}
 use Rattle.bx_advice.specs.declared.config.Config.{Config}
-use Rattle.bx_advice.specs.declared.advice.Case.{Case}
-use Rattle.bx_advice.specs.declared.advice.Case.TheVariants.{Connected, Failed}
+use Rattle.bx_advice.specs.declared.advice.Outcome.{Outcome}
+use Rattle.bx_advice.specs.declared.advice.Outcome.TheVariants.{Connected, Failed}
 use Rattle.bx_advice.specs.declared.error.Error.{Error}
 use Rattle.bx_advice.specs.declared.error.Error.TheVariants.{SupersededConnect, QueueOverflow}
 use Rattle.bx_message.specs.declared.message.Message.{Message}
-use Rattle.bx_message.specs.declared.column.Column.{Column}
-use Rattle.bx_message.specs.Columns.{column_of, is_connect, is_handshake}
+use Rattle.bx_message.specs.declared.message_kind.MessageKind.{MessageKind}
+use Rattle.bx_message.specs.MessageKinds.{message_kind_of, is_connect, is_handshake}
 use Rattle.bx_entry.specs.Listing.{Listed, Post, Posted, listed_from}
 use Rattle.bx_entry.specs.declared.entry.Entry.{Entry}
-use Rattle.bx_entry.specs.declared.entry.Kind.TheVariants.{Connect}
+use Rattle.bx_entry.specs.declared.entry.EntryKind.TheVariants.{Connect}
 use Rattle.bx_entry.specs.Registry.{Registry, Registered, Judged, judge, judged_by, served, slot_for, named_by, refusal, hold_of, acked_by, registry, empty_registry, entries_of}
 use Rattle.bx_entry.specs.Sessions.{Session, Publication, Pending, Filed, filing, answered, released, acknowledged, given, gives, holding, idle, answered_or_held, connected, step, session, unopened}
 use Rattle.bx_entry.specs.Answers.{PlacedAnswer, answer_of, filed_for, answer_by, answer_at, answer_in, answer}
 use Rattle.bx_entry.specs.Runs.{latest, numbers_from}
-use Rattle.bx_laws.proofs.Moves.{either}
-use Rattle.bx_laws.proofs.Lists.{answer_more, judged_length}
-use Rattle.bx_shard.proofs.Stepping.{run_number}
+use Rattle.bx_theory.proofs.Lists.{answer_more, judged_length}
+use Rattle.bx_theory.proofs.Closings.{run_number}
 
 -- an answer that is there
 pub record There (o : Option PlacedAnswer) : Type 0 where
@@ -38,8 +38,8 @@ filed_last place (g ∷ fs) f h =
     (λ e. record { answer = answer_of g; is = ap (option_map answer_of) (cond-true (g.connect == place) (Some g) (find test (fs ++ f ∷ [])) e) })
     (λ e. record { answer = rest.answer; is = ap (option_map answer_of) (cond-false (g.connect == place) (Some g) (find test (fs ++ f ∷ [])) e) ∙ rest.is })
 
-answered_there : (config : Config) (p : Pending) (place : ℕ) (publications : List Publication) (case : Case) (s : Session) → There (filed_for p.place (answered config p place publications case s).answers)
-answered_there config p place publications case s = filed_last p.place s.answers (filing config p place publications case s) refl
+answered_there : (config : Config) (p : Pending) (place : ℕ) (publications : List Publication) (outcome : Outcome) (s : Session) → There (filed_for p.place (answered config p place publications outcome s).answers)
+answered_there config p place publications outcome s = filed_last p.place s.answers (filing config p place publications outcome s) refl
 
 idle_there : (config : Config) (p : Pending) (s : Session) → p.hold ≡ 0 → There (filed_for p.place (idle config p s).answers)
 idle_there config p s h =
@@ -86,24 +86,24 @@ last_there config r t j e a = record {
   is = ap (answer_at config (entries_of t) (length r.judged)) (ap (λ (js : List Judged). slice_get js (length r.judged)) e ∙ got_last r.judged j) ∙ a.is;
 }
 
-served_there : (config : Config) (r : Registry) (moment : ℕ) (p : Posted) (c : Column) (s : Registered) →
+served_there : (config : Config) (r : Registry) (moment : ℕ) (p : Posted) (c : MessageKind) (s : Registered) →
     There (answer_by config (entries_of (served config r moment p c s 0)) (length r.judged) (slot_for config c p s))
-served_there config r moment p Column.Connect s =
+served_there config r moment p MessageKind.Connect s =
     let e : Entry = record { place = length r.judged; moment = moment; kind = Connect s.number s.client p.message.id (acked_by p.message.ack) 0 } in
-    let es : entries_of (served config r moment p Column.Connect s 0) ≡ entries_of r ++ e ∷ [] = map-append (λ (j : Judged). j.entry) r.judged _ in
+    let es : entries_of (served config r moment p MessageKind.Connect s 0) ≡ entries_of r ++ e ∷ [] = map-append (λ (j : Judged). j.entry) r.judged _ in
     subst (λ (xs : List Entry). There (filed_for (length r.judged) (session config s.number xs).answers)) (sym es)
     (session_there config (entries_of r) e s.number s.client p.message.id (acked_by p.message.ack) refl)
-served_there config r moment p Column.Handshake s = record { answer = _; is = refl }
-served_there config r moment p Column.Subscribe s = record { answer = _; is = refl }
-served_there config r moment p Column.Unsubscribe s = record { answer = _; is = refl }
-served_there config r moment p Column.Disconnect s = record { answer = _; is = refl }
-served_there config r moment p Column.Publish s = record { answer = _; is = refl }
-served_there config r moment p Column.UnknownMeta s = record { answer = _; is = refl }
+served_there config r moment p MessageKind.Handshake s = record { answer = _; is = refl }
+served_there config r moment p MessageKind.Subscribe s = record { answer = _; is = refl }
+served_there config r moment p MessageKind.Unsubscribe s = record { answer = _; is = refl }
+served_there config r moment p MessageKind.Disconnect s = record { answer = _; is = refl }
+served_there config r moment p MessageKind.Publish s = record { answer = _; is = refl }
+served_there config r moment p MessageKind.UnknownMeta s = record { answer = _; is = refl }
 
-accepted_there : (config : Config) (r : Registry) (moment : ℕ) (p : Posted) (s : Registered) (hold : ℕ) → hold ≡ 0 → There (answer_in config (served config r moment p (column_of p.message.channel) s hold) (length r.judged))
+accepted_there : (config : Config) (r : Registry) (moment : ℕ) (p : Posted) (s : Registered) (hold : ℕ) → hold ≡ 0 → There (answer_in config (served config r moment p (message_kind_of p.message.channel) s hold) (length r.judged))
 accepted_there config r moment p s hold h =
-    let c : Column = column_of p.message.channel in
-    subst (λ (n : ℕ). There (answer_in config (served config r moment p (column_of p.message.channel) s n) (length r.judged))) (sym h)
+    let c : MessageKind = message_kind_of p.message.channel in
+    subst (λ (n : ℕ). There (answer_in config (served config r moment p (message_kind_of p.message.channel) s n) (length r.judged))) (sym h)
     (last_there config r (served config r moment p c s 0) _ refl (served_there config r moment p c s))
 
 judged_by_there : (config : Config) (r : Registry) (moment : ℕ) (p : Posted) (sender : Option Registered) (error : Option Error) → p.sole ≡ false → There (answer_in config (judged_by config r moment p sender error) (length r.judged))
@@ -118,7 +118,7 @@ message_there config xs p h =
     let next : registry config (xs ++ Post p ∷ []) ≡ judge config (registry config xs) (Post p) = fold-append (judge config) empty_registry xs (Post p ∷ []) in
     subst (λ (t : Registry). There (answer_in config t (length xs))) (sym next)
     (subst (λ (n : ℕ). There (answer_in config (judge config (registry config xs) (Post p)) n)) (judged_length config xs)
-    (judged_by_there config r (max r.clock p.moment) p (named_by r.sessions (column_of p.message.channel) p.message) (refusal config r.sessions p) h))
+    (judged_by_there config r (max r.clock p.moment) p (named_by r.sessions (message_kind_of p.message.channel) p.message) (refusal config r.sessions p) h))
 
 -- and over a longer list too
 message_stays : (config : Config) (list xs ys : List Listed) (p : Posted) → 0 < config.limits.batch → p.sole ≡ false → xs ++ (Post p ∷ ys) ≡ list → There (answer_in config (registry config list) (length xs))

@@ -8,12 +8,12 @@ use Rattle.bx_entry.specs.Registry.{Judged, PlaceSlot, Ready, Waiting, NoSlot, r
 use Rattle.bx_entry.specs.Sessions.{Session, Filed, step, session, unopened}
 use Rattle.bx_entry.specs.Answers.{PlacedAnswer, answer_of, filed_for, answer_by, answer_at, answer}
 use Rattle.bx_entry.specs.Runs.{latest}
-use Rattle.bx_laws.specs.Laws.{Each, InStep, PlacesFrom}
-use Rattle.bx_laws.proofs.Counts.{stays_in_step, unopened_in_step}
-use Rattle.bx_laws.proofs.Moves.{Moved, each_map, each_append, step_moved}
-use Rattle.bx_laws.proofs.Runs.{EachEntry}
-use Rattle.bx_laws.proofs.Lists.{entries_in_order, entries_length, find_each}
-use Rattle.bx_laws.proofs.Wholes.{beyond}
+use Rattle.bx_theory.specs.Laws.{Each, InStep, PlacesFrom}
+use Rattle.bx_theory.proofs.Counts.{stays_in_step, unopened_in_step}
+use Rattle.bx_theory.proofs.Moves.{Moved, each_map, each_append, step_moved}
+use Rattle.bx_theory.proofs.Runs.{EachEntry}
+use Rattle.bx_theory.proofs.Lists.{entries_in_order, entries_length, find_each}
+use Rattle.bx_theory.proofs.Wholes.{beyond}
 
 -- ---- what a session files
 

@@ -1,7 +1,7 @@
 -- The answers that takings give where every shard has applied the whole list.
-use Rattle.std.proofs.Common.{◌≡◌, ◌≢◌, ℕ, ◌+◌, ◌<◌, ◌≤◌, Bool, true, false, List, [], ◌∷◌, ◌++◌, length, refl, sym, ap, subst, ◌∙◌, arith, Option, Some, None, option_map, slice_get, slice_index, add-one, get_or, drop, ltb, add-zero, add_assoc}
+use Rattle.std.proofs.Common.{◌≡◌, ◌≢◌, ℕ, ◌+◌, ◌<◌, ◌≤◌, Bool, true, false, List, [], ◌∷◌, ◌++◌, length, refl, sym, ap, subst, ◌∙◌, arith, Option, Some, None, option_map, slice_get, slice_index, add-one, get_or, drop, ltb, add-zero, add_assoc, ne_eqb}
 use Rattle.std.specs.Prelude.{◌||◌, ◌==◌}
-use Rattle.std.proofs.Math.Bool.{or-false, or-true}
+use Rattle.std.proofs.Math.Bool.{or-false}
 use Rattle.std.proofs.lemmas.List.Folds.{list_any-append}
 use Rattle.std.proofs.lemmas.Option.{slice_get-get_or}
 use Rattle.bx_entry.specs.Answers.{PlacedAnswer, answer}
@@ -23,7 +23,6 @@ use Rattle.bx_fanout.specs.Newests.{AreAnswers, IsCollected, IsLevel, Keeps, Nex
 use Rattle.bx_fanout.specs.declared.newest.Newest.{Newest}
 use Rattle.std.proofs.lemmas.List.{length_push}
 use Rattle.bx_fanout.proofs.Below.{answer_below}
-use Rattle.bx_fanout.proofs.Desks.{eq-false, eq-true}
 
 -- each session stands in a shard of the world
 abbrev pub AllPlaced : Setup → WorldState → Type 0
@@ -57,10 +56,7 @@ take-gives setup w t place o batch placed ticket level fresh output =
 -- ---- one more place that was taken
 
 pub taken-more : (taken : List ℕ) (place p : ℕ) → place ≢ p → is_taken (taken ++ place ∷ []) p ≡ is_taken taken p
-taken-more taken place p other = list_any-append (λ (t : ℕ). t == p) taken (place ∷ []) ∙ ap (λ (b : Bool). is_taken taken p || (b || false)) (eq-false place p other) ∙ or-false (is_taken taken p)
-
-pub taken-itself : (taken : List ℕ) (place : ℕ) → is_taken (taken ++ place ∷ []) place ≡ true
-taken-itself taken place = list_any-append (λ (t : ℕ). t == place) taken (place ∷ []) ∙ ap (λ (b : Bool). is_taken taken place || (b || false)) (eq-true place place refl) ∙ or-true (is_taken taken place)
+taken-more taken place p other = list_any-append (λ (t : ℕ). t == p) taken (place ∷ []) ∙ ap (λ (b : Bool). is_taken taken p || (b || false)) (ne_eqb place p other) ∙ or-false (is_taken taken p)
 
 -- ---- the next slot is a ticket
 

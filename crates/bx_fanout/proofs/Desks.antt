@@ -1,5 +1,5 @@
 -- What becomes of the held connects, and of the marks of those that are answered.
-use Rattle.std.proofs.Common.{◌≡◌, ◌≢◌, ℕ, ◌+◌, ◌<◌, ◌≤◌, Bool, true, false, List, [], ◌∷◌, ◌++◌, length, map, filter, refl, sym, ap, ◌∙◌, cond, arith, Option, Some, None, count_by, length-append, append-nil, zero-add}
+use Rattle.std.proofs.Common.{◌≡◌, ◌≢◌, ℕ, ◌+◌, ◌<◌, ◌≤◌, Bool, true, false, List, [], ◌∷◌, ◌++◌, length, map, filter, refl, sym, ap, ◌∙◌, cond, arith, Option, Some, None, count_by, length-append, append-nil, zero-add, ne_eqb, eqb-true}
 use Rattle.std.specs.Prelude.{◌&&◌, ◌||◌, ◌==◌, is_none, is_some, if◌then◌else◌}
 use Rattle.std.specs.List.{AllByRecursion, list_any}
 use Rattle.std.specs.List.Sorted.{IsStrictlySortedBy}
@@ -12,32 +12,19 @@ use Rattle.std.proofs.lemmas.Bool.Decides.{nat_tests}
 use Rattle.std.proofs.lemmas.List.Elements.{filter-append}
 use Rattle.std.proofs.lemmas.List.Folds.{list_any-append}
 use Rattle.std.proofs.lemmas.List.Sums.{count_by-le-length, sum_by-append}
+use Rattle.bx_lists.proofs.Tests.{less-from-cmp}
 use Rattle.bx_message.specs.declared.reply.Answer.{Answer}
 use Rattle.bx_fanout.specs.declared.desk.Held.{Held}
-use Rattle.bx_fanout.specs.Desks.{AllBelow, Row, answered_at, answered_places, has, is_answered, waits, waits_there, with_answer}
+use Rattle.bx_lists.specs.Members.{has}
+use Rattle.bx_fanout.specs.Desks.{AllBelow, Row, answered_at, answered_places, is_answered, waits, waits_there, with_answer}
 
 -- ---- tests on numbers
-
-pub eq-true : (a b : ℕ) → a ≡ b → (a == b) ≡ true
-eq-true a b e = grind (arith, nat_tests)
-
-pub eq-false : (a b : ℕ) → a ≢ b → (a == b) ≡ false
-eq-false a b e = grind (arith, nat_tests)
-
-pub eq-from-test : (a b : ℕ) → (a == b) ≡ true → a ≡ b
-eq-from-test a b e = grind (arith, nat_tests)
-
-pub eq-from-false : (a b : ℕ) → (a == b) ≡ false → a ≢ b
-eq-from-false a b e = grind (arith, nat_tests)
 
 pub at-is : (a b : ℕ) → is_at (nat_cmp a) b ≡ (b == a)
 at-is a b = grind (arith, nat_tests)
 
 greater : (a b : ℕ) → b < a → nat_cmp a b ≡ Greater
 greater a b l = grind (arith, nat_tests)
-
-pub less-from-cmp : (a b : ℕ) → nat_cmp a b ≡ Less → a < b
-less-from-cmp a b e = grind (arith, nat_tests)
 
 -- ---- one more behind the others
 
@@ -73,12 +60,12 @@ none-there x place [] above same = refl
 none-there x place (row ∷ rows) above same =
     let less : x < row.0 = less-from-cmp x row.0 above.0 in
     let other : row.0 ≢ place = omega arith in
-    rw (eq-false row.0 place other) (none-there x place rows above.1 same)
+    rw (ne_eqb row.0 place other) (none-there x place rows above.1 same)
 
 any-by : (place : ℕ) (row : Row) (rows : List Row) → (row.0 ≡ place → list_any (waits_there place) rows ≡ false) →
     list_any (waits_there place) rows ≡ waits_by (lookup (is_at (nat_cmp place)) rows) → (b : Bool) → (row.0 == place) ≡ b →
     ((b && waits row) || list_any (waits_there place) rows) ≡ waits_by (cond b (Some row.1) (lookup (is_at (nat_cmp place)) rows))
-any-by place row rows none ih true e = ap (λ (b : Bool). waits row || b) (none (eq-from-test row.0 place e)) ∙ or-false (waits row)
+any-by place row rows none ih true e = ap (λ (b : Bool). waits row || b) (none (eqb-true row.0 place e)) ∙ or-false (waits row)
 any-by place row rows none ih false e = ih
 
 -- a connect at the place waits, if one is found there that does
@@ -119,7 +106,7 @@ put-by place a row rows h w number answer none ih true e found =
     let number' : w.number ≡ row.1.number = number ∙ ap (λ (v : Held). v.number) (sym same) in
     let answer' : w.answer ≡ (if is_none row.1.answer then Some a else row.1.answer) = answer ∙ ap (λ (v : Held). if is_none v.answer then Some a else v.answer) (sym same) in
     ap (λ (r : Row). r ∷ rows) (written row.0 row.1 w a row.1.answer refl number' answer')
-    ∙ ap (λ (rs : List Row). (if waits row then with_answer a row else row) ∷ rs) (sym (unchanged place a rows (none (eq-from-test row.0 place e))))
+    ∙ ap (λ (rs : List Row). (if waits row then with_answer a row else row) ∷ rs) (sym (unchanged place a rows (none (eqb-true row.0 place e))))
 put-by place a row rows h w number answer none ih false e found = ap (λ (rs : List Row). row ∷ rs) (ih found)
 
 -- what is written to the connect that is found at the place
@@ -150,7 +137,7 @@ marks-by : (place : ℕ) (a : Answer) (n : ℕ) (row : Row) (rows : List Row) �
     has n (answered_places ((if b && is_none o then with_answer a row else row) ∷ answered_at place a rows))
     ≡ (((place == n) && ((b && is_none o) || list_any (waits_there place) rows)) || has n (map (λ (r : Row). r.0) (cond (is_some o) (row ∷ filter is_answered rows) (filter is_answered rows))))
 marks-by place a n row rows ih None is true e =
-    let same : row.0 ≡ place = eq-from-test row.0 place e in
+    let same : row.0 ≡ place = eqb-true row.0 place e in
     ap (λ (m : ℕ). (m == n) || has n (answered_places (answered_at place a rows))) same
     ∙ mark-true (place == n) (list_any (waits_there place) rows) (has n (answered_places rows)) (has n (answered_places (answered_at place a rows))) ih
     ∙ ap (λ (b : Bool). b || has n (answered_places rows)) (sym (and-true (place == n)))

@@ -1,8 +1,8 @@
 -- Answers that are taken shard after shard, and put to their connects.
-use Rattle.std.proofs.Common.{◌≡◌, ◌≢◌, ℕ, ◌+◌, ◌<◌, ◌≤◌, Bool, true, false, not, List, [], ◌∷◌, ◌++◌, length, map, filter, find, refl, sym, ap, subst, ◌∙◌, cond, arith, inl, inr, Option, Some, None, option_map, slice_index, add-one, flat_map, nat_lt}
+use Rattle.std.proofs.Common.{◌≡◌, ◌≢◌, ℕ, ◌+◌, ◌<◌, ◌≤◌, Bool, true, false, not, List, [], ◌∷◌, ◌++◌, length, map, find, refl, sym, ap, subst, ◌∙◌, cond, arith, inl, inr, Option, Some, None, option_map, slice_index, add-one, flat_map, nat_lt, eqb-true}
 use Rattle.std.specs.Prelude.{◌&&◌, ◌||◌, ◌==◌, ◌⊎◌, is_none, if◌then◌else◌, IfNone}
 use Rattle.std.specs.List.{AllByRecursion}
-use Rattle.std.proofs.lemmas.Bool.{cases_lt, false≢true}
+use Rattle.std.proofs.lemmas.Bool.{cases_lt, false≢true, eqb-false}
 use Rattle.std.proofs.lemmas.List.Folds.{list_any-append}
 use Rattle.bx_advice.specs.declared.config.Config.{Config}
 use Rattle.bx_entry.specs.Answers.{PlacedAnswer, answer_of}
@@ -10,7 +10,7 @@ use Rattle.bx_entry.specs.Listing.{Listed}
 use Rattle.bx_entry.specs.Registry.{Waiting}
 use Rattle.bx_entry.specs.Sessions.{Filed, Session}
 use Rattle.bx_entry.specs.declared.entry.Ticket.{Ticket}
-use Rattle.bx_laws.proofs.Wholes.{beyond}
+use Rattle.bx_theory.proofs.Wholes.{beyond}
 use Rattle.bx_message.specs.declared.reply.Answer.{Answer}
 use Rattle.bx_shard.specs.Shards.{Setup, is_taken, sessions_in, shard_at}
 use Rattle.bx_world.specs.Headline.{IsTicket, slot_at}
@@ -21,8 +21,8 @@ use Rattle.bx_world.specs.declared.step.StepOut.TheVariants.{Taken}
 use Rattle.bx_fanout.specs.Desks.{Row, answered_at, waits_there, with_answer}
 use Rattle.bx_fanout.specs.Draining.{CanDrain, Drained, Draining, IsEmptied, Waits, count_filed, filled, put_if}
 use Rattle.bx_fanout.specs.Newests.{IsLevel, NoneTakenFrom, given_at}
-use Rattle.bx_fanout.proofs.Collecting.{AllPlaced, take-gives, take-is-answer, taken-itself, taken-more}
-use Rattle.bx_fanout.proofs.Desks.{eq-from-false, eq-from-test}
+use Rattle.bx_fanout.proofs.Collecting.{AllPlaced, take-gives, take-is-answer, taken-more}
+use Rattle.bx_shard.proofs.Taking.{untaken, taken_own}
 
 -- ---- one answer
 
@@ -49,9 +49,9 @@ put-row : (config : Config) (list : List Listed) (taken : List ℕ) (c : ℕ) (a
     (if waits_there c (put_if config list taken row) then with_answer a (put_if config list taken row) else put_if config list taken row) ≡ put_if config list (taken ++ c ∷ []) row
 put-row config list taken c a row given =
     put-by row.0 row.1.number a (given_at config list row.0) (row.0 == c) (is_taken taken row.0) (is_taken (taken ++ c ∷ []) row.0)
-    (λ e. ap (given_at config list) (eq-from-test row.0 c e) ∙ given)
-    (λ e. ap (is_taken (taken ++ c ∷ [])) (eq-from-test row.0 c e) ∙ taken-itself taken c)
-    (λ e. let other : row.0 ≢ c = eq-from-false row.0 c e in let turned : c ≢ row.0 = omega arith in taken-more taken c row.0 turned)
+    (λ e. ap (given_at config list) (eqb-true row.0 c e) ∙ given)
+    (λ e. ap (is_taken (taken ++ c ∷ [])) (eqb-true row.0 c e) ∙ taken_own taken c)
+    (λ e. let other : row.0 ≢ c = eqb-false row.0 c e in let turned : c ≢ row.0 = omega arith in taken-more taken c row.0 turned)
 
 put-rows : (config : Config) (list : List Listed) (taken : List ℕ) (c : ℕ) (a : Answer) (rows : List Row) → given_at config list c ≡ Some a →
     answered_at c a (map (put_if config list taken) rows) ≡ map (put_if config list (taken ++ c ∷ [])) rows
@@ -75,10 +75,10 @@ untaken-more config list taken c a (row ∷ rows) given all =
 -- what is not taken now was not taken before
 before-by : (taken : List ℕ) (c p : ℕ) → is_taken (taken ++ c ∷ []) p ≡ false → (b : Bool) → (c == p) ≡ b → is_taken taken p ≡ false
 before-by taken c p e true same =
-    let yes : is_taken (taken ++ c ∷ []) p ≡ true = ap (is_taken (taken ++ c ∷ [])) (sym (eq-from-test c p same)) ∙ taken-itself taken c in
+    let yes : is_taken (taken ++ c ∷ []) p ≡ true = ap (is_taken (taken ++ c ∷ [])) (sym (eqb-true c p same)) ∙ taken_own taken c in
     let both : true ≡ false = sym yes ∙ e in
     cc
-before-by taken c p e false other = sym (taken-more taken c p (eq-from-false c p other)) ∙ e
+before-by taken c p e false other = sym (taken-more taken c p (eqb-false c p other)) ∙ e
 
 draining-on : (setup : Setup) (before : List Row) (list : List Listed) (applied taken : List ℕ) (rows : List Row) (shard c : ℕ) (a : Answer) → given_at setup.config list c ≡ Some a →
     Draining setup before (record { list = list; applied = applied; taken = taken }) rows shard → Draining setup before (record { list = list; applied = applied; taken = taken ++ c ∷ [] }) (answered_at c a rows) shard
@@ -122,9 +122,6 @@ draining-next setup before w rows shard batch placed none d = record {
 
 -- ---- one fewer is filed
 
-abbrev unless : List ℕ → List Filed → List Filed
-unless taken fs = filter (λ (f : Filed). not (is_taken taken f.connect)) fs
-
 stays-taken : (taken : List ℕ) (c p : ℕ) → is_taken taken p ≡ true → is_taken (taken ++ c ∷ []) p ≡ true
 stays-taken taken c p e = list_any-append (λ (t : ℕ). t == p) taken (c ∷ []) ∙ ap (λ (b : Bool). b || ((c == p) || false)) e
 
@@ -134,9 +131,9 @@ fewer-by f now before le true false stays = absurd (false≢true (stays refl))
 fewer-by f now before le false true stays = omega (arith, add-one (length before))
 fewer-by f now before le false false stays = omega (arith, add-one (length before), add-one (length now))
 
-fewer-or-same : (taken : List ℕ) (c : ℕ) (fs : List Filed) → length (unless (taken ++ c ∷ []) fs) ≤ length (unless taken fs)
+fewer-or-same : (taken : List ℕ) (c : ℕ) (fs : List Filed) → length (untaken (taken ++ c ∷ []) fs) ≤ length (untaken taken fs)
 fewer-or-same taken c [] = omega arith
-fewer-or-same taken c (f ∷ fs) = fewer-by f (unless (taken ++ c ∷ []) fs) (unless taken fs) (fewer-or-same taken c fs) (is_taken taken f.connect) (is_taken (taken ++ c ∷ []) f.connect) (stays-taken taken c f.connect)
+fewer-or-same taken c (f ∷ fs) = fewer-by f (untaken (taken ++ c ∷ []) fs) (untaken taken fs) (fewer-or-same taken c fs) (is_taken taken f.connect) (is_taken (taken ++ c ∷ []) f.connect) (stays-taken taken c f.connect)
 
 filed-by : (c : ℕ) (f g : Filed) (now before : List Filed) → length now ≤ length before → (find (λ (h : Filed). h.connect == c) before ≡ Some g → length now < length before) → (t u e : Bool) → (t ≡ true → u ≡ true) → (e ≡ true → u ≡ true) → (f.connect == c) ≡ e →
     find (λ (h : Filed). h.connect == c) (cond (not t) (f ∷ before) before) ≡ Some g → length (cond (not u) (f ∷ now) now) < length (cond (not t) (f ∷ before) before)
@@ -150,11 +147,11 @@ filed-by c f g now before le ih false false false stays here test found =
     omega (arith, add-one (length before), add-one (length now))
 
 -- one answer fewer is filed that was not taken
-fewer-filed : (taken : List ℕ) (c : ℕ) (g : Filed) (fs : List Filed) → find (λ (f : Filed). f.connect == c) (unless taken fs) ≡ Some g → length (unless (taken ++ c ∷ []) fs) < length (unless taken fs)
+fewer-filed : (taken : List ℕ) (c : ℕ) (g : Filed) (fs : List Filed) → find (λ (f : Filed). f.connect == c) (untaken taken fs) ≡ Some g → length (untaken (taken ++ c ∷ []) fs) < length (untaken taken fs)
 fewer-filed taken c g [] found = cc
 fewer-filed taken c g (f ∷ fs) found =
-    filed-by c f g (unless (taken ++ c ∷ []) fs) (unless taken fs) (fewer-or-same taken c fs) (fewer-filed taken c g fs) (is_taken taken f.connect) (is_taken (taken ++ c ∷ []) f.connect) (f.connect == c)
-    (stays-taken taken c f.connect) (λ e. ap (is_taken (taken ++ c ∷ [])) (eq-from-test f.connect c e) ∙ taken-itself taken c) refl found
+    filed-by c f g (untaken (taken ++ c ∷ []) fs) (untaken taken fs) (fewer-or-same taken c fs) (fewer-filed taken c g fs) (is_taken taken f.connect) (is_taken (taken ++ c ∷ []) f.connect) (f.connect == c)
+    (stays-taken taken c f.connect) (λ e. ap (is_taken (taken ++ c ∷ [])) (eqb-true f.connect c e) ∙ taken_own taken c) refl found
 
 some-found : (o : Option Filed) (a : Answer) → option_map given_of (option_map answer_of o) ≡ Some a → (g : Filed) × (o ≡ Some g)
 some-found None a e = cc

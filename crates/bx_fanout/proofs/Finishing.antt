@@ -16,8 +16,8 @@ use Rattle.bx_entry.specs.Listing.{Listed}
 use Rattle.bx_fanout.specs.Desks.{Row}
 use Rattle.bx_fanout.specs.Newests.{NoneTakenFrom}
 use Rattle.bx_fanout.specs.Opens.{open_after}
-use Rattle.bx_fanout.specs.Stages.{AllUntaken, IsDealt, IsGiving, IsStaged}
-use Rattle.bx_fanout.proofs.Dealing.{dealt-same}
+use Rattle.bx_fanout.specs.Stages.{AllUntaken, IsTakenIn, IsGiving, IsStaged}
+use Rattle.bx_fanout.proofs.TakingIn.{intake-same}
 use Rattle.bx_world.specs.Worlds.{IsOutput, WorldState, after, new_world}
 use Rattle.bx_world.specs.declared.step.Step.TheVariants.{Admit}
 use Rattle.bx_world.specs.declared.step.StepOut.TheVariants.{Admitted}
@@ -69,11 +69,11 @@ giving-same s setup inputs old new rows whole added same list taken i =
 pub staged-same : (s setup : Setup) (inputs : List ReadInput) (old new : WorldState) (rows : List Row) (last whole : Option Newest) (added : List runs.Out) → s ≡ setup → new.list ≡ old.list → new.taken ≡ old.taken →
     IsStaged setup inputs old rows last whole added → IsStaged s inputs new rows last whole added
 staged-same s setup inputs old new rows None whole added same list taken i = giving-same s setup inputs old new rows whole added same list taken i
-staged-same s setup inputs old new rows (Some n) whole added same list taken i = (dealt-same s setup inputs old new rows n added same list taken i.0, i.1)
+staged-same s setup inputs old new rows (Some n) whole added same list taken i = (intake-same s setup inputs old new rows n added same list taken i.0, i.1)
 
-pub dealt-at : (setup : Setup) (inputs : List ReadInput) (w : WorldState) (rows : List Row) (last : Option Newest) (n : Newest) (whole : Option Newest) (added : List runs.Out) → last ≡ Some n →
-    IsStaged setup inputs w rows last whole added → IsDealt setup inputs w rows n added
-dealt-at setup inputs w rows last n whole added is i = (subst (λ (o : Option Newest). IsStaged setup inputs w rows o whole added) is i).0
+pub intake-at : (setup : Setup) (inputs : List ReadInput) (w : WorldState) (rows : List Row) (last : Option Newest) (n : Newest) (whole : Option Newest) (added : List runs.Out) → last ≡ Some n →
+    IsStaged setup inputs w rows last whole added → IsTakenIn setup inputs w rows n added
+intake-at setup inputs w rows last n whole added is i = (subst (λ (o : Option Newest). IsStaged setup inputs w rows o whole added) is i).0
 
 pub giving-at : (setup : Setup) (inputs : List ReadInput) (w : WorldState) (rows : List Row) (last whole : Option Newest) (added : List runs.Out) → last ≡ None →
     IsStaged setup inputs w rows last whole added → IsGiving setup inputs w rows whole added
@@ -90,6 +90,6 @@ behind-is xs ys all now k at is same =
     ∙ ap (λ (n : ℕ). take n ys) left
     ∙ ap (take (length ys)) (sym (append-nil ys)) ∙ take-append_seam ys []
 
--- nothing is left where no input was dealt with
+-- nothing is left where no input was taken in
 pub staged-new : (setup : Setup) (w : WorldState) → w ≡ new_world setup → IsStaged setup [] w [] None None []
 staged-new setup w is = subst (λ (v : WorldState). IsGiving setup [] v [] None []) (sym is) (record { list = refl; rest = refl; untaken = tt; fresh = λ p le. refl; left = refl })

@@ -1,129 +1,47 @@
 -- The outs of the connects that are answered, given from the least place on.
-use Rattle.std.proofs.Common.{◌≡◌, ◌≢◌, ℕ, ◌+◌, ◌-◌, ◌<◌, ◌≤◌, Bool, true, false, List, [], ◌∷◌, ◌++◌, length, map, filter, refl, sym, ap, subst, ◌∙◌, cond, arith, inl, inr, eqb, Option, Some, None, Ok, reverse, append_assoc, append-nil, length-append, take, slice_get}
+use Rattle.std.proofs.Common.{◌≡◌, ◌≢◌, ℕ, ◌+◌, ◌-◌, ◌<◌, ◌≤◌, Bool, true, false, List, [], ◌∷◌, ◌++◌, length, map, filter, refl, sym, ap, subst, ◌∙◌, cond, arith, eqb, Option, Some, None, Ok, reverse, append_assoc, append-nil, length-append, take, slice_get, eqb-true}
 use Rattle.std.proofs.lemmas.List.{reverse-append}
 use Rattle.std.proofs.Math.Seq.{get_or-append_seam, take-append_seam}
 use Rattle.std.proofs.lemmas.Option.{slice_get-get_or, slice_get_past}
 use Rattle.std.specs.Prelude.{◌||◌, ◌==◌, ◌⊎◌, is_none, is_some}
-use Rattle.std.specs.List.{AllByRecursion, Contains, dedup}
+use Rattle.std.specs.List.{AllByRecursion, dedup}
 use Rattle.std.specs.List.Sorted.{IsPermutation, IsSorted, IsStrictlySortedBy}
 use Rattle.std.specs.Map.{keys_of, lookup, remove_entry}
 use Rattle.std.specs.BTreeMap.{is_at}
 use Rattle.std.specs.Ordering.{nat_cmp}
 use Rattle.std.specs.declared.cmp.Ordering.TheVariants.{Less}
-use Rattle.std.proofs.lemmas.Bool.{cases_lt}
-use Rattle.std.proofs.lemmas.List.Folds.{Any-from_list_any, list_any-from_Any}
-use Rattle.std.proofs.lemmas.List.Kept.{Contains-dedup_nat, Contains-from_dedup}
+use Rattle.std.proofs.lemmas.Bool.{eqb-false}
 use Rattle.std.proofs.lemmas.List.Sorted.{IsPermutation-reverse, list_any-IsPermutation}
 use Rattle.std.proofs.lemmas.Map.Keys.{IsStrictlyIncreasing-dedup, sorted_from_strictly_increasing}
+use Rattle.bx_lists.proofs.Tests.{less-from-cmp}
+use Rattle.bx_lists.proofs.Ascending.{dedup-has, AllAbove, Ascends, same-ascends, ascends-sorted}
 use Rattle.bx_message.specs.declared.reply.Answer.{Answer}
 use Rattle.bx_fanout.specs.declared.desk.Held.{Held}
 use Rattle.bx_fanout.specs.declared.out.Out.{Out}
-use Rattle.bx_fanout.specs.Desks.{Gives, Row, answered_places, has, is_answered, items_of, out_by, outs_of, waits}
-use Rattle.bx_fanout.proofs.Desks.{at-is, eq-false, eq-from-false, eq-from-test, eq-true, less-from-cmp}
+use Rattle.bx_lists.specs.Members.{has}
+use Rattle.bx_fanout.specs.Desks.{Gives, Row, answered_places, is_answered, items_of, out_by, outs_of, waits}
+use Rattle.bx_fanout.proofs.Desks.{at-is}
 
 -- ---- ascending lists with the same numbers are the same
 
-same-tests : (a b : Bool) → (a ≡ true → b ≡ true) → (b ≡ true → a ≡ true) → a ≡ b
-same-tests true b f g = sym (f refl)
-same-tests false true f g = g refl
-same-tests false false f g = refl
-
-has-head : (n : ℕ) (ns : List ℕ) → has n (n ∷ ns) ≡ true
-has-head n ns = ap (λ (b : Bool). b || has n ns) (eq-true n n refl)
-
-contains-has : (n : ℕ) (ns : List ℕ) → Contains ns n → has n ns ≡ true
-contains-has n ns c = list_any-from_Any (λ (m : ℕ). m == n) ns (c.0, n, c.1, c.2, eq-true n n refl)
-
-has-contains : (n : ℕ) (ns : List ℕ) → has n ns ≡ true → Contains ns n
-has-contains n ns e =
-    let found = Any-from_list_any (λ (m : ℕ). m == n) ns e in
-    let same : found.1 ≡ n = eq-from-test found.1 n found.4 in
-    subst (Contains ns) same (found.0, found.2, found.3)
-
-dedup-has : (n : ℕ) (ns : List ℕ) → has n (dedup eqb ns) ≡ has n ns
-dedup-has n ns = same-tests (has n (dedup eqb ns)) (has n ns)
-    (λ e. contains-has n ns (Contains-from_dedup eqb ns n (has-contains n (dedup eqb ns) e)))
-    (λ e. contains-has n (dedup eqb ns) (Contains-dedup_nat ns n (has-contains n ns e)))
-
-AllAbove : ℕ → List ℕ → Type 0
-AllAbove x [] = Unit {0}
-AllAbove x (y ∷ ys) = (x < y) × AllAbove x ys
-
-Ascends : List ℕ → Type 0
-Ascends [] = Unit {0}
-Ascends (x ∷ xs) = AllAbove x xs × Ascends xs
-
-above-lower : (low x : ℕ) (ys : List ℕ) → low ≤ x → AllAbove x ys → AllAbove low ys
-unfolding AllAbove
-above-lower low x [] le above = tt
-above-lower low x (y ∷ ys) le above = (omega (arith, above.0), above-lower low x ys le above.1)
-
-above-has : (x : ℕ) (ys : List ℕ) → AllAbove x ys → has x ys ≡ false
-unfolding AllAbove
-above-has x [] above = refl
-above-has x (y ∷ ys) above = let ne : y ≢ x = omega (arith, above.0) in ap (λ (b : Bool). b || has x ys) (eq-false y x ne) ∙ above-has x ys above.1
-
 -- a lower number at the front is missing
-front-has : (x y : ℕ) (xs ys : List ℕ) → x < y → AllAbove y ys → has x (x ∷ xs) ≡ has x (y ∷ ys) → ⊥
-unfolding AllAbove
-front-has x y xs ys less above same =
-    let no : has x (y ∷ ys) ≡ false = above-has x (y ∷ ys) (less, above-lower x y ys (omega arith) above) in
-    let yes : true ≡ false = sym (has-head x xs) ∙ same ∙ no in
-    cc
-
-rest-by : (n x y : ℕ) (xs ys : List ℕ) → x ≡ y → AllAbove x xs → AllAbove y ys → (b : Bool) → (x == n) ≡ b → (b || has n xs) ≡ has n (y ∷ ys) → has n xs ≡ has n ys
-rest-by n x y xs ys at above above' true e same =
-    let here : x ≡ n = eq-from-test x n e in
-    ap (λ (m : ℕ). has m xs) (sym here) ∙ above-has x xs above ∙ sym (ap (λ (m : ℕ). has m ys) (sym here ∙ at) ∙ above-has y ys above')
-rest-by n x y xs ys at above above' false e same =
-    let ne : x ≢ n = eq-from-false x n e in
-    let other : y ≢ n = omega arith in
-    same ∙ ap (λ (b : Bool). b || has n ys) (eq-false y n other)
-
-mutual-by : (x y : ℕ) (xs ys : List ℕ) → AllAbove x xs → AllAbove y ys → ((n : ℕ) → has n (x ∷ xs) ≡ has n (y ∷ ys)) → (x < y) ⊎ (y ≤ x) → (y < x) ⊎ (x ≤ y) → x ≡ y
-mutual-by x y xs ys above above' same (inl less) other = absurd (front-has x y xs ys less above' (same x))
-mutual-by x y xs ys above above' same (inr le) (inl less) = absurd (front-has y x ys xs less above (sym (same y)))
-mutual-by x y xs ys above above' same (inr le) (inr le') = omega arith
-
-same-ascends : (xs ys : List ℕ) → Ascends xs → Ascends ys → ((n : ℕ) → has n xs ≡ has n ys) → xs ≡ ys
-unfolding Ascends
-same-ascends [] [] a b same = refl
-same-ascends [] (y ∷ ys) a b same = let no : false ≡ true = same y ∙ has-head y ys in cc
-same-ascends (x ∷ xs) [] a b same = let no : true ≡ false = sym (has-head x xs) ∙ same x in cc
-same-ascends (x ∷ xs) (y ∷ ys) a b same =
-    let at : x ≡ y = mutual-by x y xs ys a.0 b.0 same (cases_lt x y) (cases_lt y x) in
-    let rest : xs ≡ ys = same-ascends xs ys a.1 b.1 (λ n. rest-by n x y xs ys at a.0 b.0 (x == n) refl (same n)) in
-    ap (λ (n : ℕ). n ∷ xs) at ∙ ap (λ (ns : List ℕ). y ∷ ns) rest
-
-above-sorted : (x : ℕ) (ys : List ℕ) → AllByRecursion (λ (y : ℕ). nat_cmp x y ≡ Less) ys → AllAbove x ys
-unfolding AllAbove
-above-sorted x [] all = tt
-above-sorted x (y ∷ ys) all = (less-from-cmp x y all.0, above-sorted x ys all.1)
-
-ascends-sorted : (xs : List ℕ) → IsStrictlySortedBy nat_cmp xs → Ascends xs
-unfolding Ascends IsStrictlySortedBy
-ascends-sorted [] s = tt
-ascends-sorted (x ∷ xs) s = (above-sorted x xs s.0, ascends-sorted xs s.1)
 
 -- ---- the places of those that are answered
 
 places-above-by : (x : ℕ) (row : Row) (rows : List Row) → x < row.0 → AllAbove x (answered_places rows) → (b : Bool) → AllAbove x (map (λ (r : Row). r.0) (cond b (row ∷ filter is_answered rows) (filter is_answered rows)))
-unfolding AllAbove
 places-above-by x row rows less ih true = (less, ih)
 places-above-by x row rows less ih false = ih
 
 places-above : (x : ℕ) (rows : List Row) → AllByRecursion (λ (y : ℕ). nat_cmp x y ≡ Less) (keys_of rows) → AllAbove x (answered_places rows)
-unfolding AllAbove
 places-above x [] all = tt
 places-above x (row ∷ rows) all = places-above-by x row rows (less-from-cmp x row.0 all.0) (places-above x rows all.1) (is_answered row)
 
 places-ascend-by : (row : Row) (rows : List Row) → AllAbove row.0 (answered_places rows) → Ascends (answered_places rows) → (b : Bool) → Ascends (map (λ (r : Row). r.0) (cond b (row ∷ filter is_answered rows) (filter is_answered rows)))
-unfolding Ascends
 places-ascend-by row rows above ih true = (above, ih)
 places-ascend-by row rows above ih false = ih
 
 places-ascend : (rows : List Row) → IsStrictlySortedBy nat_cmp (keys_of rows) → Ascends (answered_places rows)
-unfolding Ascends IsStrictlySortedBy
+unfolding IsStrictlySortedBy
 places-ascend [] s = tt
 places-ascend (row ∷ rows) s = places-ascend-by row rows (places-above row.0 rows s.0) (places-ascend rows s.1) (is_answered row)
 
@@ -170,7 +88,6 @@ from-by row rows place places f = record { out = f.out; found = f.found; outs = 
 
 -- a place that is among those of rows behind one is not that one's
 apart : (x place : ℕ) (places : List ℕ) (rows : List Row) → AllByRecursion (λ (y : ℕ). nat_cmp x y ≡ Less) (keys_of rows) → answered_places rows ≡ place ∷ places → x ≢ place
-unfolding AllAbove
 apart x place places rows all is =
     let above : AllAbove x (place ∷ places) = subst (AllAbove x) is (places-above x rows all) in
     omega (arith, above.0)
@@ -201,10 +118,10 @@ first-behind row rows place places none f = record {
 first-by : (row : Row) (rows : List Row) (place : ℕ) (places : List ℕ) → (answered_places rows ≡ place ∷ places → First rows place places) → (answered_places rows ≡ place ∷ places → row.0 ≢ place) →
     (o : Option Answer) → row.1.answer ≡ o → map (λ (r : Row). r.0) (cond (is_some o) (row ∷ filter is_answered rows) (filter is_answered rows)) ≡ place ∷ places →
     (b : Bool) → (row.0 == place) ≡ b → FirstBy row rows place places b
-first-by row rows place places ih other None came is true e = absurd (other is (eq-from-test row.0 place e))
+first-by row rows place places ih other None came is true e = absurd (other is (eqb-true row.0 place e))
 first-by row rows place places ih other None came is false e = first-behind row rows place places came (ih is)
 first-by row rows place places ih other (Some a) came is true e = first-here row rows a place places came is
-first-by row rows place places ih other (Some a) came is false e = let same : row.0 ≡ place = cc in absurd (eq-from-false row.0 place e same)
+first-by row rows place places ih other (Some a) came is false e = let same : row.0 ≡ place = cc in absurd (eqb-false row.0 place e same)
 
 pub first-given : (rows : List Row) (place : ℕ) (places : List ℕ) → IsStrictlySortedBy nat_cmp (keys_of rows) → answered_places rows ≡ place ∷ places → First rows place places
 unfolding IsStrictlySortedBy

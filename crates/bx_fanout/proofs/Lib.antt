@@ -3,7 +3,7 @@ pub mod Ascending
 pub mod AtOnce
 pub mod Below
 pub mod Collecting
-pub mod Dealing
+pub mod TakingIn
 pub mod Desks
 pub mod Draining
 pub mod Finishing

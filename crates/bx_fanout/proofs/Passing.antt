@@ -15,12 +15,12 @@ use Rattle.bx_shard.specs.Refining.{given_of}
 use Rattle.bx_fanout.specs.Desks.{Row}
 use Rattle.bx_fanout.specs.Newests.{Collects, IsCollected, NextBy, NextReady, NoneTakenFrom, next_place}
 use Rattle.bx_fanout.specs.Parts.{Stands}
-use Rattle.bx_fanout.specs.Stages.{IsCollecting, IsDealt, IsGiving, IsStaged, seen_out}
+use Rattle.bx_fanout.specs.Stages.{IsCollecting, IsTakenIn, IsGiving, IsStaged, seen_out}
 use Rattle.bx_fanout.specs.declared.newest.Newest.{Newest}
 use Rattle.bx_fanout.specs.declared.parts.Parts.{Parts}
 use Rattle.bx_fanout.proofs.Collecting.{collected-more}
-use Rattle.bx_fanout.proofs.Dealing.{collected-dealt, fresh-behind}
-use Rattle.bx_fanout.proofs.Finishing.{dealt-at}
+use Rattle.bx_fanout.proofs.TakingIn.{collected-intake, fresh-behind}
+use Rattle.bx_fanout.proofs.Finishing.{intake-at}
 use Rattle.bx_fanout.proofs.Stages.{giving-whole}
 
 -- a reply that is there is the answer, whatever the shards have applied
@@ -41,10 +41,10 @@ collected-ready setup w n m a so_far next first answers =
     collected-more setup w w n m a so_far (next-at-once setup w (next_place n) n.slots.items m.slots.items a so_far.slots so_far.fresh next) first answers
 
 -- more replies were collected
-pub dealt-ready : (setup : Setup) (inputs : List ReadInput) (w : WorldState) (rows : List Row) (n m : Newest) (added : List runs.Out) → 0 < setup.config.limits.batch → IsDealt setup inputs w rows n added →
-    (IsCollected setup w n → IsCollected setup w m) → Collects n m → IsDealt setup inputs w rows m added
-dealt-ready setup inputs w rows n m added batch d so_far collects =
-    collected-dealt setup setup inputs w w rows n m added batch refl d (so_far d.collecting.collected) (record { list = refl; applied = refl; earlier = λ p less. refl }) collects
+pub intake-ready : (setup : Setup) (inputs : List ReadInput) (w : WorldState) (rows : List Row) (n m : Newest) (added : List runs.Out) → 0 < setup.config.limits.batch → IsTakenIn setup inputs w rows n added →
+    (IsCollected setup w n → IsCollected setup w m) → Collects n m → IsTakenIn setup inputs w rows m added
+intake-ready setup inputs w rows n m added batch d so_far collects =
+    collected-intake setup setup inputs w w rows n m added batch refl d (so_far d.collecting.collected) (record { list = refl; applied = refl; earlier = λ p less. refl }) collects
 
 giving-alone : (setup : Setup) (inputs : List ReadInput) (input : ReadInput) (w : WorldState) (rows : List Row) (n : Newest) (added : List runs.Out) → 0 < setup.config.limits.batch → rows ≡ [] → IsCollecting setup inputs input w rows n added →
     n.slots.items ≡ [] → IsGiving setup (inputs ++ input ∷ []) w rows (Some n) added
@@ -53,7 +53,7 @@ giving-alone setup inputs input w [] n added batch bare c none =
 giving-alone setup inputs input w (row ∷ rows) n added batch bare c none = cc
 
 -- where no connect is held and all are replies, the input is whole
-pub giving-at-once : (setup : Setup) (inputs : List ReadInput) (w : WorldState) (rows : List Row) (n : Newest) (added : List runs.Out) → 0 < setup.config.limits.batch → rows ≡ [] → IsDealt setup inputs w rows n added →
+pub giving-at-once : (setup : Setup) (inputs : List ReadInput) (w : WorldState) (rows : List Row) (n : Newest) (added : List runs.Out) → 0 < setup.config.limits.batch → rows ≡ [] → IsTakenIn setup inputs w rows n added →
     n.slots.items ≡ [] → IsGiving setup inputs w rows (Some n) added
 giving-at-once setup inputs w rows n added batch bare d none =
     subst (λ (is : List ReadInput). IsGiving setup is w rows (Some n) added) (sym d.are) (giving-alone setup d.earlier d.last w rows n added batch bare d.collecting none)
@@ -70,7 +70,7 @@ module _ {P : Type 0} {g : Ghosts P} where
         counted = i.counted;
         ended = i.ended;
         staged = (
-          dealt-ready (setup_of p.world) inputs (world_of p.world) p.desk n m (map seen_out p.added) p.world.admission.config.limits.some_batch staged.0 (so_far (setup_of p.world) (world_of p.world)) collects,
+          intake-ready (setup_of p.world) inputs (world_of p.world) p.desk n m (map seen_out p.added) p.world.admission.config.limits.some_batch staged.0 (so_far (setup_of p.world) (world_of p.world)) collects,
           staged.1,
         );
       }
@@ -82,9 +82,9 @@ module _ {P : Type 0} {g : Ghosts P} where
       let inputs : List ReadInput = map read_input p.inputs in
       let added : List runs.Out = map seen_out p.added in
       let batch = p.world.admission.config.limits.some_batch in
-      let dealt : IsDealt (setup_of p.world) inputs (world_of p.world) p.desk n added = dealt-at (setup_of p.world) inputs (world_of p.world) p.desk p.newest n p.whole added is i.staged in
-      let more : IsDealt (setup_of p.world) inputs (world_of p.world) p.desk m added =
-      dealt-ready (setup_of p.world) inputs (world_of p.world) p.desk n m added batch dealt (so_far (setup_of p.world) (world_of p.world)) collects in
+      let intake : IsTakenIn (setup_of p.world) inputs (world_of p.world) p.desk n added = intake-at (setup_of p.world) inputs (world_of p.world) p.desk p.newest n p.whole added is i.staged in
+      let more : IsTakenIn (setup_of p.world) inputs (world_of p.world) p.desk m added =
+      intake-ready (setup_of p.world) inputs (world_of p.world) p.desk n m added batch intake (so_far (setup_of p.world) (world_of p.world)) collects in
       record {
         shards = i.shards;
         counted = i.counted;

@@ -1,28 +1,28 @@
 -- What is open is a request of one message, a connect that its session has not answered.
 use Rattle.std.proofs.Common.{◌≡◌, ℕ, suc, ◌+◌, ◌<◌, max, Bool, true, false, not, is_some, Option, Some, None, List, [], ◌∷◌, ◌++◌, length, map, filter, fold, option_map, slice_get, ◌==◌, refl, sym, ap, ◌∙◌, subst, arith, append-nil, append_assoc, ne_eqb}
-use Rattle.std.proofs.lemmas.Bool.{cond_both, both_ways}
+use Rattle.std.proofs.lemmas.Bool.{cond_both, both_ways, not-true}
 use Rattle.std.proofs.lemmas.List.Sums.{fold-append}
 use Rattle.std.specs.List.{AllByRecursion}
 use Rattle.bx_advice.specs.declared.config.Config.{Config}
 use Rattle.bx_advice.specs.declared.error.Error.{Error}
 use Rattle.bx_message.specs.declared.message.Message.{Message}
-use Rattle.bx_message.specs.declared.column.Column.{Column}
-use Rattle.bx_message.specs.Columns.{column_of}
+use Rattle.bx_message.specs.declared.message_kind.MessageKind.{MessageKind}
+use Rattle.bx_message.specs.MessageKinds.{message_kind_of}
 use Rattle.bx_entry.specs.Listing.{Listed, Post, Posted, listed_from}
 use Rattle.bx_entry.specs.Inputs.{ReadInput, Request, Unread, Tick, refusal_of, added_by}
 use Rattle.bx_entry.specs.declared.input.Refusal.{Refusal}
 use Rattle.bx_entry.specs.Registry.{Registry, Registered, Judged, PlaceSlot, Ready, Waiting, NoSlot, judge, judged_by, slot_for, named_by, refusal, registry, empty_registry, entries_of}
 use Rattle.bx_entry.specs.Answers.{answer_by, answer_at, answer_in}
-use Rattle.bx_entry.specs.Runs.{Dealt, Taking, taken_as, takes_in, taken_in, numbers_from, places_of, latest}
+use Rattle.bx_entry.specs.Runs.{Intake, Taking, taken_as, take_in, taken_in, numbers_from, places_of, latest}
 use Rattle.bx_fanout.specs.Opens.{Numbered, numbered_from, is_whole}
 use Rattle.bx_fanout.specs.Sole.{IsConnect, OpenAreSole}
-use Rattle.bx_laws.proofs.Lists.{judged_length, judged_more}
+use Rattle.bx_theory.proofs.Lists.{judged_length, judged_more}
 use Rattle.bx_fanout.proofs.AtOnce.{There, AllThere, got_last, latest_there, messages_there}
 
 -- ---- where the messages of an input stand
 
 -- an input that was taken in stands in the list
-record Stands (list : List Listed) (d : Dealt) (input : ReadInput) : Type 0 where
+record Stands (list : List Listed) (d : Intake) (input : ReadInput) : Type 0 where
   before : List Listed
   behind : List Listed
   whole : before ++ (added_by input ++ behind) ≡ list
@@ -30,11 +30,11 @@ record Stands (list : List Listed) (d : Dealt) (input : ReadInput) : Type 0 wher
   count : d.count ≡ length (added_by input)
 
 -- one that was refused has no messages there
-abbrev Placed : List Listed → Dealt → Option Refusal → Type 0
+abbrev Placed : List Listed → Intake → Option Refusal → Type 0
 Placed list d None = Stands list d d.input
 Placed list d (Some refusal) = d.count ≡ 0
 
-placed_more : (list more : List Listed) (d : Dealt) (o : Option Refusal) → Placed list d o → Placed (list ++ more) d o
+placed_more : (list more : List Listed) (d : Intake) (o : Option Refusal) → Placed list d o → Placed (list ++ more) d o
 placed_more list more d None s = record {
   before = s.before;
   behind = s.behind ++ more;
@@ -44,27 +44,27 @@ placed_more list more d None s = record {
 }
 placed_more list more d (Some refusal) s = s
 
-abbrev EachPlaced : List Listed → List Dealt → Type 0
+abbrev EachPlaced : List Listed → List Intake → Type 0
 EachPlaced list [] = Unit {0}
 EachPlaced list (d ∷ ds) = Placed list d d.refusal × EachPlaced list ds
 
-each_more : (list more : List Listed) (ds : List Dealt) → EachPlaced list ds → EachPlaced (list ++ more) ds
+each_more : (list more : List Listed) (ds : List Intake) → EachPlaced list ds → EachPlaced (list ++ more) ds
 each_more list more [] e = tt
 each_more list more (d ∷ ds) e = (placed_more list more d d.refusal e.0, each_more list more ds e.1)
 
-each_push : (list : List Listed) (ds : List Dealt) (d : Dealt) → EachPlaced list ds → Placed list d d.refusal → EachPlaced list (ds ++ d ∷ [])
+each_push : (list : List Listed) (ds : List Intake) (d : Intake) → EachPlaced list ds → Placed list d d.refusal → EachPlaced list (ds ++ d ∷ [])
 each_push list [] d e h = (h, tt)
 each_push list (c ∷ ds) d e h = (e.0, each_push list ds d e.1 h)
 
-taken_as_placed : (t : Taking) (input : ReadInput) (o : Option Refusal) → EachPlaced t.list t.dealt → EachPlaced (taken_as t input o).list (taken_as t input o).dealt
+taken_as_placed : (t : Taking) (input : ReadInput) (o : Option Refusal) → EachPlaced t.list t.intake → EachPlaced (taken_as t input o).list (taken_as t input o).intake
 taken_as_placed t input None e =
-    each_push (t.list ++ added_by input) t.dealt _ (each_more t.list (added_by input) t.dealt e)
+    each_push (t.list ++ added_by input) t.intake _ (each_more t.list (added_by input) t.intake e)
     (record { before = t.list; behind = []; whole = ap (λ (xs : List Listed). t.list ++ xs) (append-nil (added_by input)); first = refl; count = refl })
-taken_as_placed t input (Some refusal) e = each_push t.list t.dealt _ e refl
+taken_as_placed t input (Some refusal) e = each_push t.list t.intake _ e refl
 
-run_placed : (t : Taking) (inputs : List ReadInput) → EachPlaced t.list t.dealt → EachPlaced (fold takes_in t inputs).list (fold takes_in t inputs).dealt
+run_placed : (t : Taking) (inputs : List ReadInput) → EachPlaced t.list t.intake → EachPlaced (fold take_in t inputs).list (fold take_in t inputs).intake
 run_placed t [] e = e
-run_placed t (i ∷ inputs) e = run_placed (takes_in t i) inputs (taken_as_placed t i (refusal_of (length t.list) i) e)
+run_placed t (i ∷ inputs) e = run_placed (take_in t i) inputs (taken_as_placed t i (refusal_of (length t.list) i) e)
 
 -- ---- what was found of a message
 
@@ -78,19 +78,19 @@ record Adds (r t : Registry) : Type 0 where
   judged : t.judged ≡ r.judged ++ found ∷ []
   slot : IsSlot found.slot
 
-slot_for_is : (config : Config) (c : Column) (p : Posted) (s : Registered) → IsSlot (slot_for config c p s)
-slot_for_is config Column.Handshake p s = tt
-slot_for_is config Column.Connect p s = tt
-slot_for_is config Column.Subscribe p s = tt
-slot_for_is config Column.Unsubscribe p s = tt
-slot_for_is config Column.Disconnect p s = tt
-slot_for_is config Column.Publish p s = tt
-slot_for_is config Column.UnknownMeta p s = tt
+slot_for_is : (config : Config) (c : MessageKind) (p : Posted) (s : Registered) → IsSlot (slot_for config c p s)
+slot_for_is config MessageKind.Handshake p s = tt
+slot_for_is config MessageKind.Connect p s = tt
+slot_for_is config MessageKind.Subscribe p s = tt
+slot_for_is config MessageKind.Unsubscribe p s = tt
+slot_for_is config MessageKind.Disconnect p s = tt
+slot_for_is config MessageKind.Publish p s = tt
+slot_for_is config MessageKind.UnknownMeta p s = tt
 
 judged_by_adds : (config : Config) (r : Registry) (moment : ℕ) (p : Posted) (sender : Option Registered) (error : Option Error) → Adds r (judged_by config r moment p sender error)
 judged_by_adds config r moment p sender (Some error) = record { found = _; judged = refl; slot = tt }
 judged_by_adds config r moment p None None = record { found = _; judged = refl; slot = tt }
-judged_by_adds config r moment p (Some s) None = record { found = _; judged = refl; slot = slot_for_is config (column_of p.message.channel) p s }
+judged_by_adds config r moment p (Some s) None = record { found = _; judged = refl; slot = slot_for_is config (message_kind_of p.message.channel) p s }
 
 -- a message is answered by what was found at its place
 record FoundAt (config : Config) (list : List Listed) (place : ℕ) : Type 0 where
@@ -101,7 +101,7 @@ record FoundAt (config : Config) (list : List Listed) (place : ℕ) : Type 0 whe
 found_at : (config : Config) (list xs ys : List Listed) (p : Posted) → xs ++ (Post p ∷ ys) ≡ list → FoundAt config list (length xs)
 found_at config list xs ys p e =
     let r : Registry = registry config xs in
-    let a : Adds (registry config xs) (judge config (registry config xs) (Post p)) = judged_by_adds config r (max r.clock p.moment) p (named_by r.sessions (column_of p.message.channel) p.message) (refusal config r.sessions p) in
+    let a : Adds (registry config xs) (judge config (registry config xs) (Post p)) = judged_by_adds config r (max r.clock p.moment) p (named_by r.sessions (message_kind_of p.message.channel) p.message) (refusal config r.sessions p) in
     let judged : (registry config (xs ++ Post p ∷ [])).judged ≡ r.judged ++ a.found ∷ [] = ap (λ (t : Registry). t.judged) (fold-append (judge config) empty_registry xs (Post p ∷ [])) ∙ a.judged in
     let here : slice_get (registry config (xs ++ Post p ∷ [])).judged (length xs) ≡ Some a.found =
     ap (λ (js : List Judged). slice_get js (length xs)) judged ∙ ap (slice_get (r.judged ++ a.found ∷ [])) (sym (judged_length config xs)) ∙ got_last r.judged a.found in
@@ -141,11 +141,11 @@ one_waits config list xs ys p e n =
     waits_by config list (length xs) f.found f.found.slot f.is refl f.slot n
 
 -- what an input that is not whole is
-record Single (config : Config) (list : List Listed) (d : Dealt) (input : ReadInput) : Type 0 where
+record Single (config : Config) (list : List Listed) (d : Intake) (input : ReadInput) : Type 0 where
   sole : places_of d input ≡ d.first ∷ []
   waits : Waits config list d.first
 
-request_single : (config : Config) (list : List Listed) (d : Dealt) (moment nonce : ℕ) (ms : List Message) → 0 < config.limits.batch → Stands list d (Request moment nonce ms) →
+request_single : (config : Config) (list : List Listed) (d : Intake) (moment nonce : ℕ) (ms : List Message) → 0 < config.limits.batch → Stands list d (Request moment nonce ms) →
     NotWhole config list (numbers_from d.first d.count) → Single config list d (Request moment nonce ms)
 request_single config list d moment nonce [] room s n = absurd (not_there config list [] (subst (λ (k : ℕ). NotWhole config list (numbers_from d.first k)) s.count n) tt)
 request_single config list d moment nonce (m ∷ []) room s n =
@@ -165,39 +165,35 @@ request_single config list d moment nonce (m ∷ k ∷ ms) room s n =
     absurd (not_there config list (numbers_from (length s.before) (length (listed_from moment nonce false false (m ∷ k ∷ ms)))) (subst (NotWhole config list) places n)
     (messages_there config list s.before s.behind moment nonce false (m ∷ k ∷ ms) room whole))
 
-stands_single : (config : Config) (list : List Listed) (d : Dealt) (input : ReadInput) → 0 < config.limits.batch → Stands list d input → NotWhole config list (places_of d input) → Single config list d input
+stands_single : (config : Config) (list : List Listed) (d : Intake) (input : ReadInput) → 0 < config.limits.batch → Stands list d input → NotWhole config list (places_of d input) → Single config list d input
 stands_single config list d (Request moment nonce ms) room s n = request_single config list d moment nonce ms room s n
 stands_single config list d (Unread fault) room s n = absurd (not_there config list [] n tt)
 stands_single config list d (Tick moment) room s n = absurd (not_there config list [] n tt)
 
 -- nothing is missing where there are no messages
-pub none_missing : (config : Config) (list : List Listed) (d : Dealt) (input : ReadInput) → d.count ≡ 0 → is_some (latest 0 (map (answer_in config (registry config list)) (places_of d input))) ≡ true
+pub none_missing : (config : Config) (list : List Listed) (d : Intake) (input : ReadInput) → d.count ≡ 0 → is_some (latest 0 (map (answer_in config (registry config list)) (places_of d input))) ≡ true
 none_missing config list d (Request moment nonce ms) h = subst (λ (k : ℕ). is_some (latest 0 (map (answer_in config (registry config list)) (numbers_from d.first k))) ≡ true) (sym h) refl
 none_missing config list d (Unread fault) h = refl
 none_missing config list d (Tick moment) h = refl
 
-is_connect_by : (config : Config) (list : List Listed) (o : Numbered) (refusal : Option Refusal) → 0 < config.limits.batch → o.dealt.refusal ≡ refusal → Placed list o.dealt refusal →
+is_connect_by : (config : Config) (list : List Listed) (o : Numbered) (refusal : Option Refusal) → 0 < config.limits.batch → o.intake.refusal ≡ refusal → Placed list o.intake refusal →
     is_whole config (registry config list) o ≡ false → IsConnect config list o
 is_connect_by config list o None room e p n =
-    let s : Single config list o.dealt o.dealt.input = stands_single config list o.dealt o.dealt.input room p n in
+    let s : Single config list o.intake o.intake.input = stands_single config list o.intake o.intake.input room p n in
     record { session = s.waits.session; accepted = e; sole = s.sole; waits = s.waits.waits }
-is_connect_by config list o (Some refusal) room e p n = absurd (both_ways (is_whole config (registry config list) o) n (none_missing config list o.dealt o.dealt.input p))
+is_connect_by config list o (Some refusal) room e p n = absurd (both_ways (is_whole config (registry config list) o) n (none_missing config list o.intake o.intake.input p))
 
-pub not_true : (b : Bool) → not b ≡ true → b ≡ false
-not_true true e = cc
-not_true false e = refl
-
-opens_connect : (config : Config) (list : List Listed) (number : ℕ) (ds : List Dealt) → 0 < config.limits.batch → EachPlaced list ds →
+opens_connect : (config : Config) (list : List Listed) (number : ℕ) (ds : List Intake) → 0 < config.limits.batch → EachPlaced list ds →
     AllByRecursion (IsConnect config list) (filter (λ (o : Numbered). not (is_whole config (registry config list) o)) (numbered_from number ds))
 opens_connect config list number [] room e = tt
 opens_connect config list number (d ∷ ds) room e =
-    let o : Numbered = record { number = number; dealt = d } in
+    let o : Numbered = record { number = number; intake = d } in
     let rest : List Numbered = filter (λ (o : Numbered). not (is_whole config (registry config list) o)) (numbered_from (number + 1) ds) in
     let others : AllByRecursion (IsConnect config list) (filter (λ (o : Numbered). not (is_whole config (registry config list) o)) (numbered_from (number + 1) ds)) = opens_connect config list (number + 1) ds room e.1 in
     cond_both (not (is_whole config (registry config list) o)) (o ∷ rest) rest (AllByRecursion (IsConnect config list))
-    (λ h. (is_connect_by config list o d.refusal room refl e.0 (not_true (is_whole config (registry config list) o) h), others)) (λ h. others)
+    (λ h. (is_connect_by config list o d.refusal room refl e.0 (not-true (is_whole config (registry config list) o) h), others)) (λ h. others)
 
 pub open_are_sole : OpenAreSole
 open_are_sole config inputs room =
     let t : Taking = taken_in inputs in
-    opens_connect config t.list 0 t.dealt room (run_placed (record { list = []; dealt = [] }) inputs tt)
+    opens_connect config t.list 0 t.intake room (run_placed (record { list = []; intake = [] }) inputs tt)

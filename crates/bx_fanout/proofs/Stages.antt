@@ -10,7 +10,7 @@ use Rattle.bx_entry.specs.Inputs.{ReadInput, Request, Tick, Unread, refusal_of}
 use Rattle.bx_entry.specs.Listing.{Listed}
 use Rattle.bx_entry.specs.Registry.{Registry, registry}
 use Rattle.bx_entry.specs.Runs as runs
-use Rattle.bx_entry.specs.Runs.{Dealt, answered_items, latest, numbers_from, outs, places_of, result_by, taken_in}
+use Rattle.bx_entry.specs.Runs.{Intake, answered_items, latest, numbers_from, outs, places_of, result_by, taken_in}
 use Rattle.bx_entry.specs.declared.input.Refusal.{Refusal}
 use Rattle.bx_entry.specs.declared.entry.Slot.{Slot}
 use Rattle.bx_message.specs.declared.reply.Answer.{Answer}
@@ -22,7 +22,7 @@ use Rattle.bx_fanout.specs.Desks.{Row, items_of, outs_of, waits}
 use Rattle.bx_fanout.specs.Draining.{Drained, filled}
 use Rattle.bx_fanout.specs.Newests.{AreAnswers, IsCollected, IsWhole, NoneTakenFrom, given_at, next_place, response_of}
 use Rattle.bx_fanout.specs.Newests as newests
-use Rattle.bx_fanout.specs.Opens.{Numbered, answers_to, dealt_as, is_whole, newest, open_after, out_of, waiting_at}
+use Rattle.bx_fanout.specs.Opens.{Numbered, answers_to, intake_as, is_whole, newest, open_after, out_of, waiting_at}
 use Rattle.bx_fanout.specs.Sole.{IsConnect}
 use Rattle.bx_fanout.specs.Stages.{AllUntaken, IsCollecting, IsGiving, bare, own_out, seen_out}
 use Rattle.bx_fanout.specs.declared.newest.Newest.{Newest}
@@ -31,8 +31,8 @@ use Rattle.bx_fanout.proofs.Sole.{open_are_sole}
 
 -- an input of one message that was not refused
 pub record IsSole (o : Numbered) : Type 0 where
-  pub accepted : o.dealt.refusal ≡ None
-  pub sole : places_of o.dealt o.dealt.input ≡ o.dealt.first ∷ []
+  pub accepted : o.intake.refusal ≡ None
+  pub sole : places_of o.intake o.intake.input ≡ o.intake.first ∷ []
 
 pub all-sole : (config : Config) (list : List Listed) (os : List Numbered) → AllByRecursion (IsConnect config list) os → AllByRecursion IsSole os
 all-sole config list [] all = tt
@@ -40,10 +40,10 @@ all-sole config list (o ∷ os) all = (record { accepted = all.0.accepted; sole 
 
 -- ---- one of them
 
-whole-sole : (config : Config) (r : Registry) (o : Numbered) → IsSole o → is_whole config r o ≡ is_some (latest 0 (answer_in config r o.dealt.first ∷ []))
+whole-sole : (config : Config) (r : Registry) (o : Numbered) → IsSole o → is_whole config r o ≡ is_some (latest 0 (answer_in config r o.intake.first ∷ []))
 whole-sole config r o s = ap (λ (ps : List ℕ). is_some (latest 0 (map (answer_in config r) ps))) s.sole
 
-result-sole : (config : Config) (r : Registry) (o : Numbered) (p : PlacedAnswer) → IsSole o → answer_in config r o.dealt.first ≡ Some p → result_by (answers_to config r o) o.dealt.refusal ≡ Ok (runs.items_of p)
+result-sole : (config : Config) (r : Registry) (o : Numbered) (p : PlacedAnswer) → IsSole o → answer_in config r o.intake.first ≡ Some p → result_by (answers_to config r o) o.intake.refusal ≡ Ok (runs.items_of p)
 result-sole config r o p s e =
     ap (λ (x : Option Refusal). result_by (answers_to config r o) x) s.accepted
     ∙ ap (λ (ps : List ℕ). result_by (map (answer_in config r) ps) None) s.sole
@@ -51,7 +51,7 @@ result-sole config r o p s e =
     ∙ ap (λ (is : List Item). Ok is) (append-nil (runs.items_of p))
 
 outs-head : (config : Config) (r : Registry) (o : Numbered) (rows : List Row) (os : List Numbered) → IsSole o → map seen_out (outs_of rows) ≡ map (out_of config r) (filter (is_whole config r) os) →
-    (x : Option PlacedAnswer) → answer_in config r o.dealt.first ≡ x → map seen_out (outs_of ((o.dealt.first, record { number = o.number; answer = option_map given_of x }) ∷ rows))
+    (x : Option PlacedAnswer) → answer_in config r o.intake.first ≡ x → map seen_out (outs_of ((o.intake.first, record { number = o.number; answer = option_map given_of x }) ∷ rows))
     ≡ map (out_of config r) (cond (is_some (latest 0 (x ∷ []))) (o ∷ filter (is_whole config r) os) (filter (is_whole config r) os))
 outs-head config r o rows os s ih None e = ih
 outs-head config r o rows os s ih (Some p) e =
@@ -65,11 +65,11 @@ pub outs-sole : (config : Config) (list : List Listed) (os : List Numbered) → 
 outs-sole config list [] all = refl
 outs-sole config list (o ∷ os) all =
     let r : Registry = registry config list in
-    outs-head config r o (map (filled config list) (map bare os)) os all.0 (outs-sole config list os all.1) (answer_in config r o.dealt.first) refl
+    outs-head config r o (map (filled config list) (map bare os)) os all.0 (outs-sole config list os all.1) (answer_in config r o.intake.first) refl
     ∙ ap (λ (b : Bool). map (out_of config r) (cond b (o ∷ filter (is_whole config r) os) (filter (is_whole config r) os))) (sym (whole-sole config r o all.0))
 
 rest-head : (config : Config) (r : Registry) (o : Numbered) (rows : List Row) (os : List Numbered) → filter waits rows ≡ map bare (filter (λ (n : Numbered). not (is_whole config r n)) os) →
-    (x : Option PlacedAnswer) → filter waits ((o.dealt.first, record { number = o.number; answer = option_map given_of x }) ∷ rows)
+    (x : Option PlacedAnswer) → filter waits ((o.intake.first, record { number = o.number; answer = option_map given_of x }) ∷ rows)
     ≡ map bare (cond (not (is_some (latest 0 (x ∷ [])))) (o ∷ filter (λ (n : Numbered). not (is_whole config r n)) os) (filter (λ (n : Numbered). not (is_whole config r n)) os))
 rest-head config r o rows os ih None = ap (λ (rs : List Row). bare o ∷ rs) ih
 rest-head config r o rows os ih (Some p) = ih
@@ -79,12 +79,12 @@ pub rest-sole : (config : Config) (list : List Listed) (os : List Numbered) → 
 rest-sole config list [] all = refl
 rest-sole config list (o ∷ os) all =
     let r : Registry = registry config list in
-    rest-head config r o (map (filled config list) (map bare os)) os (rest-sole config list os all.1) (answer_in config r o.dealt.first)
+    rest-head config r o (map (filled config list) (map bare os)) os (rest-sole config list os all.1) (answer_in config r o.intake.first)
     ∙ ap (λ (b : Bool). map bare (cond (not b) (o ∷ filter (λ (n : Numbered). not (is_whole config r n)) os) (filter (λ (n : Numbered). not (is_whole config r n)) os))) (sym (whole-sole config r o all.0))
 
 -- the others were not taken
 untaken-head : (config : Config) (r : Registry) (taken : List ℕ) (o : Numbered) (os : List Numbered) → AllUntaken taken (filter (λ (n : Numbered). not (is_whole config r n)) os) → (x : Option PlacedAnswer) →
-    (option_map given_of x ≡ None → is_taken taken o.dealt.first ≡ false) → AllUntaken taken (cond (not (is_some (latest 0 (x ∷ [])))) (o ∷ filter (λ (n : Numbered). not (is_whole config r n)) os) (filter (λ (n : Numbered). not (is_whole config r n)) os))
+    (option_map given_of x ≡ None → is_taken taken o.intake.first ≡ false) → AllUntaken taken (cond (not (is_some (latest 0 (x ∷ [])))) (o ∷ filter (λ (n : Numbered). not (is_whole config r n)) os) (filter (λ (n : Numbered). not (is_whole config r n)) os))
 untaken-head config r taken o os ih None here = (here refl, ih)
 untaken-head config r taken o os ih (Some p) here = ih
 
@@ -94,7 +94,7 @@ untaken-sole config list taken [] all none = tt
 untaken-sole config list taken (o ∷ os) all none =
     let r : Registry = registry config list in
     subst (λ (b : Bool). AllUntaken taken (cond (not b) (o ∷ filter (λ (n : Numbered). not (is_whole config r n)) os) (filter (λ (n : Numbered). not (is_whole config r n)) os))) (sym (whole-sole config r o all.0))
-    (untaken-head config r taken o os (untaken-sole config list taken os all.1 none.1) (answer_in config r o.dealt.first) none.0)
+    (untaken-head config r taken o os (untaken-sole config list taken os all.1 none.1) (answer_in config r o.intake.first) none.0)
 
 -- ---- the last input
 
@@ -151,28 +151,28 @@ length-numbers place zero = refl
 length-numbers place (suc n) = ap (λ (m : ℕ). suc m) (length-numbers (place + 1) n)
 
 -- so many messages of an input stand at places that are in order
-places-are : (d : Dealt) (input : ReadInput) (n : ℕ) → n ≡ length (places_of d input) → places_of d input ≡ numbers_from d.first n
+places-are : (d : Intake) (input : ReadInput) (n : ℕ) → n ≡ length (places_of d input) → places_of d input ≡ numbers_from d.first n
 places-are d (Request moment nonce ms) n e = ap (numbers_from d.first) (sym (e ∙ length-numbers d.first d.count))
 places-are d (Unread fault) n e = ap (numbers_from d.first) (sym e)
 places-are d (Tick moment) n e = ap (numbers_from d.first) (sym e)
 
-pub dealt-input : (len : ℕ) (input : ReadInput) (o : Option Refusal) → (dealt_as len input o).input ≡ input
-dealt-input len input None = refl
-dealt-input len input (Some refusal) = refl
+pub intake-input : (len : ℕ) (input : ReadInput) (o : Option Refusal) → (intake_as len input o).input ≡ input
+intake-input len input None = refl
+intake-input len input (Some refusal) = refl
 
-pub dealt-first : (len : ℕ) (input : ReadInput) (o : Option Refusal) → (dealt_as len input o).first ≡ len
-dealt-first len input None = refl
-dealt-first len input (Some refusal) = refl
+pub intake-first : (len : ℕ) (input : ReadInput) (o : Option Refusal) → (intake_as len input o).first ≡ len
+intake-first len input None = refl
+intake-first len input (Some refusal) = refl
 
 -- the answers to the messages of the last input
-answers-newest : (config : Config) (r : Registry) (inputs : List ReadInput) (input : ReadInput) (n : ℕ) → n ≡ length (places_of (newest inputs input).dealt input) →
+answers-newest : (config : Config) (r : Registry) (inputs : List ReadInput) (input : ReadInput) (n : ℕ) → n ≡ length (places_of (newest inputs input).intake input) →
     answers_to config r (newest inputs input) ≡ map (answer_in config r) (numbers_from (length (taken_in inputs).list) n)
 answers-newest config r inputs input n e =
     let len : ℕ = length (taken_in inputs).list in
-    let d : Dealt = (newest inputs input).dealt in
-    ap (λ (i : ReadInput). map (answer_in config r) (places_of d i)) (dealt-input len input (refusal_of len input))
+    let d : Intake = (newest inputs input).intake in
+    ap (λ (i : ReadInput). map (answer_in config r) (places_of d i)) (intake-input len input (refusal_of len input))
     ∙ ap (map (answer_in config r)) (places-are d input n e)
-    ∙ ap (λ (p : ℕ). map (answer_in config r) (numbers_from p n)) (dealt-first len input (refusal_of len input))
+    ∙ ap (λ (p : ℕ). map (answer_in config r) (numbers_from p n)) (intake-first len input (refusal_of len input))
 
 result-same : (answers : List (Option PlacedAnswer)) (items : List Item) (o : Option Refusal) → answered_items answers ≡ items → result_by answers o ≡ newests.result_of items o
 result-same answers items None e = ap (λ (is : List Item). Ok is) e
@@ -190,7 +190,7 @@ newest-whole setup inputs input w rows n added c none =
     let r : Registry = registry config w.list in
     let len : ℕ = length (taken_in inputs).list in
     let no : length n.slots.items ≡ 0 = ap (λ (xs : List Slot). length xs) none in
-    let many : length n.answers.items ≡ length (places_of (newest inputs input).dealt input) = let e = c.many in omega arith in
+    let many : length n.answers.items ≡ length (places_of (newest inputs input).intake input) = let e = c.many in omega arith in
     let are : AreAnswers config w.list len n.answers.items = subst (λ (p : ℕ). AreAnswers config w.list p n.answers.items) c.first c.collected.answers in
     let answers = answers-newest config r inputs input (length n.answers.items) many in
     let items : answered_items (answers_to config r (newest inputs input)) ≡ response_of n =
@@ -198,10 +198,10 @@ newest-whole setup inputs input w rows n added c none =
     record {
       whole = ap (λ (os : List (Option PlacedAnswer)). is_some (latest 0 os)) answers ∙ all-there config w.list len 0 n.answers.items are;
       out =
-          let result : newests.result_of (response_of n) n.refusal ≡ result_by (answers_to config r (newest inputs input)) (newest inputs input).dealt.refusal =
-          ap (newests.result_of (response_of n)) c.refusal ∙ sym (result-same (answers_to config r (newest inputs input)) (response_of n) (newest inputs input).dealt.refusal items) in
+          let result : newests.result_of (response_of n) n.refusal ≡ result_by (answers_to config r (newest inputs input)) (newest inputs input).intake.refusal =
+          ap (newests.result_of (response_of n)) c.refusal ∙ sym (result-same (answers_to config r (newest inputs input)) (response_of n) (newest inputs input).intake.refusal items) in
           ap (λ (res : Result (List Item) Refusal). record { input = n.number; result = res }) result
-          ∙ ap (λ (k : ℕ). record { input = k; result = result_by (answers_to config r (newest inputs input)) (newest inputs input).dealt.refusal }) c.number;
+          ∙ ap (λ (k : ℕ). record { input = k; result = result_by (answers_to config r (newest inputs input)) (newest inputs input).intake.refusal }) c.number;
     }
 
 -- ---- all answers were put
@@ -315,8 +315,8 @@ giving-held setup inputs input old w rows after n added batch c some missing d =
     all-append opens (newest inputs input ∷ []) (all-sole config (taken_in inputs).list opens (open_are_sole config inputs batch)) (record { accepted = connect.accepted; sole = connect.sole }, tt) in
     let len : ℕ = length (taken_in inputs).list in
     let last : (n.first, record { number = n.number; answer = None }) ≡ bare (newest inputs input) =
-    ap (λ (p : ℕ). (p, record { number = n.number; answer = None })) (c.first ∙ sym (dealt-first len input (refusal_of len input)))
-    ∙ ap (λ (k : ℕ). ((newest inputs input).dealt.first, record { number = k; answer = None })) c.number in
+    ap (λ (p : ℕ). (p, record { number = n.number; answer = None })) (c.first ∙ sym (intake-first len input (refusal_of len input)))
+    ∙ ap (λ (k : ℕ). ((newest inputs input).intake.first, record { number = k; answer = None })) c.number in
     let held : rows ++ (n.first, record { number = n.number; answer = None }) ∷ [] ≡ map bare all =
     ap (λ (rs : List Row). rs ++ (n.first, record { number = n.number; answer = None }) ∷ []) c.held ∙ ap (λ (row : Row). map bare opens ++ row ∷ []) last ∙ sym (map-append bare opens (newest inputs input ∷ [])) in
     let put : after ≡ map (filled config old.list) (map bare all) = d.rows ∙ ap (map (filled config old.list)) held in

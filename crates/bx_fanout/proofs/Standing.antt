@@ -23,9 +23,9 @@ use Rattle.bx_fanout.specs.declared.parts.Parts.{Parts}
 use Rattle.bx_fanout.proofs.Finishing.{giving-at, giving-same, staged-same}
 
 -- the shards and the placing matter to none of it
-pub giving-dealt : (setup : Setup) (shards : ℕ) (placing : ℕ → ℕ → ℕ) (inputs : List ReadInput) (w : WorldState) (rows : List Row) (whole : Option Newest) (added : List runs.Out) → IsGiving setup inputs w rows whole added →
+pub giving-intake : (setup : Setup) (shards : ℕ) (placing : ℕ → ℕ → ℕ) (inputs : List ReadInput) (w : WorldState) (rows : List Row) (whole : Option Newest) (added : List runs.Out) → IsGiving setup inputs w rows whole added →
     IsGiving (record setup { shards = shards; placing = placing }) inputs w rows whole added
-giving-dealt setup shards placing inputs w rows whole added i = record { list = i.list; rest = i.rest; untaken = i.untaken; fresh = i.fresh; left = i.left }
+giving-intake setup shards placing inputs w rows whole added i = record { list = i.list; rest = i.rest; untaken = i.untaken; fresh = i.fresh; left = i.left }
 
 -- each of a row of the same number is that number
 each-same : (n m k i : ℕ) → slice_get (replicate n m) k ≡ Some i → i ≡ m
@@ -51,27 +51,27 @@ module _ {P : Type 0} {g : Ghosts P} where
   pub stands-level : (p : Parts P g) (v : World P g) → setup_of v ≡ setup_of p.world → (world_of v).list ≡ (world_of p.world).list → (world_of v).taken ≡ (world_of p.world).taken → Stands p → Stands (record p { world = v; reached = p.end })
   stands-level p v setup list taken i = stands-reached (record p { world = v }) p.end (stands-over p v setup list taken i)
 
-  -- sessions were dealt anew among so many shards
-  pub stands-dealt : (p : Parts P g) (v : World P g) (shards : ℕ) (placing : ℕ → ℕ → ℕ) → setup_of v ≡ record (setup_of p.world) { shards = shards; placing = placing } →
+  -- sessions were redistributed among so many shards
+  pub stands-intake : (p : Parts P g) (v : World P g) (shards : ℕ) (placing : ℕ → ℕ → ℕ) → setup_of v ≡ record (setup_of p.world) { shards = shards; placing = placing } →
       (world_of v).list ≡ (world_of p.world).list → (world_of v).taken ≡ (world_of p.world).taken → IsDone p → Stands p → Stands (record p { world = v; shards = shards })
-  stands-dealt p v shards placing setup list taken done i =
+  stands-intake p v shards placing setup list taken done i =
       let inputs : List ReadInput = map read_input p.inputs in
       let giving : IsGiving (setup_of p.world) inputs (world_of p.world) p.desk p.whole (map seen_out p.added) =
       giving-at (setup_of p.world) inputs (world_of p.world) p.desk p.newest p.whole (map seen_out p.added) done.none i.staged in
-      let dealt : IsGiving (setup_of v) inputs (world_of v) p.desk p.whole (map seen_out p.added) =
+      let intake : IsGiving (setup_of v) inputs (world_of v) p.desk p.whole (map seen_out p.added) =
       giving-same (setup_of v) (record (setup_of p.world) { shards = shards; placing = placing }) inputs (world_of p.world) (world_of v) p.desk p.whole (map seen_out p.added) setup list taken
-      (giving-dealt (setup_of p.world) shards placing inputs (world_of p.world) p.desk p.whole (map seen_out p.added) giving) in
+      (giving-intake (setup_of p.world) shards placing inputs (world_of p.world) p.desk p.whole (map seen_out p.added) giving) in
       record {
         shards = sym (ap (λ (s : Setup). s.shards) setup);
         counted = i.counted;
         ended = i.ended ∙ sym (ap (λ (ls : List Listed). length ls) list);
-        staged = subst (λ (o : Option Newest). IsStaged (setup_of v) inputs (world_of v) p.desk o p.whole (map seen_out p.added)) (sym done.none) dealt;
+        staged = subst (λ (o : Option Newest). IsStaged (setup_of v) inputs (world_of v) p.desk o p.whole (map seen_out p.added)) (sym done.none) intake;
       }
 
   -- and each shard is at the end of the list
-  pub level-dealt : (p : Parts P g) (v : World P g) (shards : ℕ) → (world_of v).list ≡ (world_of p.world).list → (world_of v).applied ≡ replicate shards (length (world_of p.world).list) → IsDone p → Stands p →
+  pub level-intake : (p : Parts P g) (v : World P g) (shards : ℕ) → (world_of v).list ≡ (world_of p.world).list → (world_of v).applied ≡ replicate shards (length (world_of p.world).list) → IsDone p → Stands p →
       parts.IsLevel (record p { world = v; shards = shards })
-  level-dealt p v shards list applied done i =
+  level-intake p v shards list applied done i =
       let giving : IsGiving (setup_of p.world) (map read_input p.inputs) (world_of p.world) p.desk p.whole (map seen_out p.added) =
       giving-at (setup_of p.world) (map read_input p.inputs) (world_of p.world) p.desk p.newest p.whole (map seen_out p.added) done.none i.staged in
       record {

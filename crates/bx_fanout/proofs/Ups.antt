@@ -4,7 +4,7 @@ use Rattle.std.specs.Prelude.{slice_index, nat_lt}
 use Rattle.std.proofs.lemmas.Bool.{cond-false, cond-true, eq-eqb, lt-ltb, ltb-true}
 use Rattle.std.proofs.lemmas.List.{length-set, get_or-set_same}
 use Rattle.std.proofs.lemmas.Option.{slice_get_within, slice_get-get_or, get_or_from_slice_get}
-use Rattle.bx_laws.proofs.Moves.{either}
+use Rattle.bx_lists.proofs.Tests.{either}
 use Rattle.bx_shard.specs.Shards.{Setup}
 use Rattle.bx_world.specs.Outputs.{application}
 use Rattle.bx_world.specs.Worlds.{WorldState, IsOutput, after, is_level, may_refuse}

@@ -1,9 +1,10 @@
 -- The held connects, and the answers that came for them.
 use Rattle.std.specs.Prelude.{ℕ, ◌+◌, ◌==◌, ◌&&◌, ◌<◌, ◌≤◌, ◌≡◌, Bool, List, [], ◌∷◌, ◌++◌, filter, map, length, count_by, is_none, is_some, option_map, if◌then◌else◌, Option, Some, None, Ok}
-use Rattle.std.specs.List.{AllByRecursion, list_any}
+use Rattle.std.specs.List.{AllByRecursion}
 use Rattle.std.specs.List.Sorted.{IsStrictlySortedBy}
 use Rattle.std.specs.Map.{keys_of}
 use Rattle.std.specs.Ordering.{nat_cmp}
+use Rattle.bx_lists.specs.Members.{has}
 use Rattle.bx_fanout.specs.declared.desk.Held.{Held}
 use Rattle.bx_fanout.specs.declared.out.Out.{Out}
 use Rattle.bx_message.specs.declared.reply.Answer.{Answer}
@@ -77,10 +78,6 @@ pub record Gives (old : List Row) (before after : List Out) (new : List Row) : T
   pub others : filter waits new ≡ filter waits old
 
 -- ---- what the desk keeps beside them
-
--- whether a number is in a list
-abbrev pub has : ℕ → List ℕ → Bool
-has n ns = list_any (λ (m : ℕ). m == n) ns
 
 -- the places of those that are answered, ascending
 abbrev pub answered_places : List Row → List ℕ

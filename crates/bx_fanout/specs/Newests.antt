@@ -1,4 +1,4 @@
--- The last input that was dealt with, and the answers to its messages as they are collected.
+-- The last input that was taken in, and the answers to its messages as they are collected.
 use Rattle.std.specs.Prelude.{ℕ, ◌+◌, ◌<◌, ◌≤◌, ◌≡◌, Bool, true, false, List, [], ◌∷◌, ◌++◌, length, flat_map, slice_get, option_map, Option, Some, None, Result, Ok, Err, ⊤}
 use Rattle.bx_advice.specs.declared.config.Config.{Config}
 use Rattle.bx_entry.specs.Answers.{answer}

@@ -16,7 +16,7 @@ module _ {P : Type 0} {g : Ghosts P} where
   -- how many shards, inputs and entries there are, and how far the last input has come
   pub record Stands (p : Parts P g) : Type 0 where
     pub shards : p.shards ≡ (setup_of p.world).shards
-    pub counted : p.dealt ≡ length p.inputs
+    pub counted : p.intake ≡ length p.inputs
     pub ended : p.end ≡ length (world_of p.world).list
     pub staged : IsStaged (setup_of p.world) (map read_input p.inputs) (world_of p.world) p.desk p.newest p.whole (map seen_out p.added)
 
@@ -45,7 +45,7 @@ module _ {P : Type 0} {g : Ghosts P} where
     pub added : new.added ≡ old.added ++ more
     pub setup : setup_of new.world ≡ setup_of old.world
 
--- how many entries an input that was dealt with added to the list
+-- how many entries an input that was taken in added to the list
 abbrev pub count_by : Input → Newest → ℕ
 count_by (Post arrival) n = length n.slots.items
 count_by (Tick moment) n = if is_none n.refusal then 1 else 0

@@ -21,7 +21,7 @@ use Rattle.bx_world.specs.Worlds.{WorldState}
 use Rattle.bx_fanout.specs.Desks.{Row}
 use Rattle.bx_fanout.specs.Newests.{AreAnswers}
 use Rattle.bx_fanout.specs.Parts.{Stands}
-use Rattle.bx_fanout.specs.Stages.{IsCollecting, IsDealt, IsStaged}
+use Rattle.bx_fanout.specs.Stages.{IsCollecting, IsTakenIn, IsStaged}
 use Rattle.bx_fanout.specs.declared.newest.Newest.{Newest}
 use Rattle.bx_fanout.specs.declared.parts.Parts.{Parts}
 
@@ -72,15 +72,15 @@ same-ends xs ys x y e = let same = same_from_push xs ys x y e in λ i. (same.0 i
 collecting-prop : (setup : Setup) (inputs : List ReadInput) (input : ReadInput) (w : WorldState) (rows : List Row) (n : Newest) (added : List runs.Out) → IsProp (IsCollecting setup inputs input w rows n added)
 collecting-prop setup inputs input w rows n added = hlevel (answers-prop, slots-prop, props)
 
-abbrev Deals : Setup → List ReadInput → WorldState → List Row → Newest → List runs.Out → List ReadInput × ReadInput → Type 0
-Deals setup inputs w rows n added ends = (inputs ≡ ends.0 ++ ends.1 ∷ []) × IsCollecting setup ends.0 ends.1 w rows n added
+abbrev TakesIn : Setup → List ReadInput → WorldState → List Row → Newest → List runs.Out → List ReadInput × ReadInput → Type 0
+TakesIn setup inputs w rows n added ends = (inputs ≡ ends.0 ++ ends.1 ∷ []) × IsCollecting setup ends.0 ends.1 w rows n added
 
-dealt-prop : (setup : Setup) (inputs : List ReadInput) (w : WorldState) (rows : List Row) (n : Newest) (added : List runs.Out) → IsProp (IsDealt setup inputs w rows n added)
-dealt-prop setup inputs w rows n added = back-prop {B = (ends : List ReadInput × ReadInput) × Deals setup inputs w rows n added ends}
+intake-prop : (setup : Setup) (inputs : List ReadInput) (w : WorldState) (rows : List Row) (n : Newest) (added : List runs.Out) → IsProp (IsTakenIn setup inputs w rows n added)
+intake-prop setup inputs w rows n added = back-prop {B = (ends : List ReadInput × ReadInput) × TakesIn setup inputs w rows n added ends}
     (λ d. ((d.earlier, d.last), (d.are, d.collecting)))
     (λ p. record { earlier = p.0.0; last = p.0.1; are = p.1.0; collecting = p.1.1 })
     (λ d. refl)
-    (one-prop (Deals setup inputs w rows n added)
+    (one-prop (TakesIn setup inputs w rows n added)
     (λ ends. hlevel (collecting-prop, props))
     (λ a b p q. same-ends a.0 b.0 a.1 b.1 (sym p.0 ∙ q.0)))
 
@@ -88,7 +88,7 @@ dealt-prop setup inputs w rows n added = back-prop {B = (ends : List ReadInput �
 
 staged-prop : (setup : Setup) (inputs : List ReadInput) (w : WorldState) (rows : List Row) (newest whole : Option Newest) (added : List runs.Out) → IsProp (IsStaged setup inputs w rows newest whole added)
 staged-prop setup inputs w rows None whole added = hlevel props
-staged-prop setup inputs w rows (Some n) whole added = hlevel (dealt-prop, props)
+staged-prop setup inputs w rows (Some n) whole added = hlevel (intake-prop, props)
 
 pub stands-prop : {P : Type 0} {g : Ghosts P} (p : Parts P g) → IsProp (Stands p)
 stands-prop p = hlevel (staged-prop, props)

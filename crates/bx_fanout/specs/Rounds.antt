@@ -1,4 +1,4 @@
--- What a round has dealt with, and what its runs have added.
+-- What a round has taken in, and what its runs have added.
 use Rattle.std.specs.Prelude.{ℕ, Bool, List, Result}
 use Rattle.bx_entry.specs.Inputs.{ReadInput}
 use Rattle.bx_entry.specs.Runs as runs
@@ -19,7 +19,7 @@ module _ {P : Type 0} {g : Ghosts P} where
   abbrev pub workers_in : Round P g → ℕ
   workers_in r = r.workers
 
-  -- the inputs dealt with, over all runs
+  -- the inputs taken in, over all runs
   abbrev pub inputs_of : Round P g → List ReadInput
   inputs_of r = parts.inputs_of r.parts
 
@@ -31,11 +31,11 @@ module _ {P : Type 0} {g : Ghosts P} where
   abbrev pub is_collecting : Round P g → Bool
   is_collecting r = parts.is_collecting r.parts
 
-  -- every shard has applied the whole list, which is that of the inputs dealt with, and holds what the definitions' shard holds then
+  -- every shard has applied the whole list, which is that of the inputs taken in, and holds what the definitions' shard holds then
   abbrev pub IsLevel : Round P g → Type 0
   IsLevel r = parts.IsLevel r.parts
 
-  -- What came of a run. Either all inputs were dealt with, all outs are added, and every shard holds what it does at the end of the list; or
-  -- memory was refused, and so many of the inputs were dealt with.
+  -- What came of a run. Either all inputs were taken in, all outs are added, and every shard holds what it does at the end of the list; or
+  -- memory was refused, and so many of the inputs were taken in.
   abbrev pub IsRun : Round P g → List Input → List Out → List Out → Round P g → Result (Unit {0}) RoundFault → Type 0
   IsRun old inputs before after new result = parts.IsRun old.parts inputs before after new.parts result

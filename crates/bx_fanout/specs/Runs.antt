@@ -28,7 +28,7 @@ module _ {P : Type 0} {g : Ghosts P} where
   abbrev pub setup_in : Parts P g → Setup
   setup_in r = setup_of r.world
 
-  -- the inputs dealt with, over all runs
+  -- the inputs taken in, over all runs
   abbrev pub inputs_of : Parts P g → List ReadInput
   inputs_of r = map read_input r.inputs
 
@@ -40,13 +40,13 @@ module _ {P : Type 0} {g : Ghosts P} where
   abbrev pub is_collecting : Parts P g → Bool
   is_collecting r = is_some r.newest
 
-  -- every shard has applied the whole list, which is that of the inputs dealt with, and holds what the definitions' shard holds then
+  -- every shard has applied the whole list, which is that of the inputs taken in, and holds what the definitions' shard holds then
   pub record IsLevel (r : Parts P g) : Type 0 where
     pub list : (world_of r.world).list ≡ (taken_in (inputs_of r)).list
     pub level : (k n : ℕ) → slice_get (world_of r.world).applied k ≡ Some n → n ≡ length (world_of r.world).list
     pub holds : ShardsRefine r.world
 
-  -- Outs were added behind those that were there. All that the runs have added is how the outs of the inputs dealt with begin.
+  -- Outs were added behind those that were there. All that the runs have added is how the outs of the inputs taken in begin.
   pub record Adds (old : Parts P g) (before after : List Out) (new : Parts P g) : Type 0 where
     pub more : List Out
     pub behind : after ≡ before ++ more
@@ -55,8 +55,8 @@ module _ {P : Type 0} {g : Ghosts P} where
     pub front : outs (setup_in new).config (inputs_of new) ≡ added_by new ++ rest
     pub setup : setup_in new ≡ setup_in old
 
-  -- What came of a run. Either all inputs were dealt with, all outs are added, and every shard holds what it does at the end of the list; or
-  -- memory was refused, and so many of the inputs were dealt with.
+  -- What came of a run. Either all inputs were taken in, all outs are added, and every shard holds what it does at the end of the list; or
+  -- memory was refused, and so many of the inputs were taken in.
   abbrev pub IsRun : Parts P g → List Input → List Out → List Out → Parts P g → Result (Unit {0}) RoundFault → Type 0
   IsRun old inputs before after new (Ok tt) =
       Adds old before after new × (inputs_of new ≡ inputs_of old ++ map read_input inputs) × (added_by new ≡ outs (setup_in new).config (inputs_of new)) × IsLevel new

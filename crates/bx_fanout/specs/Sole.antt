@@ -12,9 +12,9 @@ use Rattle.bx_fanout.specs.Opens.{Numbered, open_after}
 -- the input is a request of one message, an accepted connect of this session
 pub record IsConnect (config : Config) (list : List Listed) (o : Numbered) : Type 0 where
   pub session : ℕ
-  pub accepted : o.dealt.refusal ≡ None
-  pub sole : places_of o.dealt o.dealt.input ≡ o.dealt.first ∷ []
-  pub waits : option_map (λ (j : Judged). j.slot) (slice_get (registry config list).judged o.dealt.first) ≡ Some (Waiting session)
+  pub accepted : o.intake.refusal ≡ None
+  pub sole : places_of o.intake o.intake.input ≡ o.intake.first ∷ []
+  pub waits : option_map (λ (j : Judged). j.slot) (slice_get (registry config list).judged o.intake.first) ≡ Some (Waiting session)
 
 -- so is every input that is not whole: a connect that is not its request's only message is answered at once
 abbrev pub OpenAreSole : Type 0
@@ -23,4 +23,4 @@ OpenAreSole = (config : Config) (inputs : List ReadInput) → 0 < config.limits.
 -- their numbers and their places ascend
 abbrev pub OpensAscend : Type 0
 OpensAscend = (config : Config) (inputs : List ReadInput) → 0 < config.limits.batch →
-    IsStrictlyIncreasing (map (λ (o : Numbered). o.number) (open_after config inputs)) × IsStrictlyIncreasing (map (λ (o : Numbered). o.dealt.first) (open_after config inputs))
+    IsStrictlyIncreasing (map (λ (o : Numbered). o.number) (open_after config inputs)) × IsStrictlyIncreasing (map (λ (o : Numbered). o.intake.first) (open_after config inputs))

@@ -1,4 +1,4 @@
--- How far the last input that was dealt with has come.
+-- How far the last input that was taken in has come.
 use Rattle.std.specs.Prelude.{ℕ, ◌+◌, ◌≡◌, false, List, [], ◌∷◌, ◌++◌, filter, length, map, Option, Some, None}
 use Rattle.std.specs.List.{AllByRecursion}
 use Rattle.bx_entry.specs.Inputs.{ReadInput}
@@ -18,11 +18,11 @@ seen_out o = record { input = o.input; result = o.result }
 
 -- an input that is a connect, as it is held
 abbrev pub bare : Numbered → Row
-bare o = (o.dealt.first, record { number = o.number; answer = None })
+bare o = (o.intake.first, record { number = o.number; answer = None })
 
 -- no answer to such an input was taken
 abbrev pub AllUntaken : List ℕ → List Numbered → Type 0
-AllUntaken taken os = AllByRecursion (λ (o : Numbered). is_taken taken o.dealt.first ≡ false) os
+AllUntaken taken os = AllByRecursion (λ (o : Numbered). is_taken taken o.intake.first ≡ false) os
 
 -- the out of an input that is whole and not held
 abbrev pub own_out : Option Newest → List runs.Out
@@ -34,9 +34,9 @@ pub record IsCollecting (setup : Setup) (inputs : List ReadInput) (input : ReadI
   pub list : w.list ≡ (taken_in (inputs ++ input ∷ [])).list
   pub number : n.number ≡ length inputs
   pub first : n.first ≡ length (taken_in inputs).list
-  pub refusal : n.refusal ≡ (newest inputs input).dealt.refusal
+  pub refusal : n.refusal ≡ (newest inputs input).intake.refusal
   pub items : n.items.items ≡ []
-  pub many : length n.answers.items + length n.slots.items ≡ length (places_of (newest inputs input).dealt input)
+  pub many : length n.answers.items + length n.slots.items ≡ length (places_of (newest inputs input).intake input)
   pub collected : IsCollected setup w n
   pub held : rows ≡ map bare (open_after setup.config inputs)
   pub untaken : AllUntaken w.taken (open_after setup.config inputs)
@@ -52,7 +52,7 @@ pub record IsGiving (setup : Setup) (inputs : List ReadInput) (w : WorldState) (
   pub left : added ++ map seen_out (outs_of rows) ++ own_out own ≡ outs setup.config inputs
 
 -- the answers to the last of these inputs are collected
-pub record IsDealt (setup : Setup) (inputs : List ReadInput) (w : WorldState) (rows : List Row) (n : Newest) (added : List runs.Out) : Type 0 where
+pub record IsTakenIn (setup : Setup) (inputs : List ReadInput) (w : WorldState) (rows : List Row) (n : Newest) (added : List runs.Out) : Type 0 where
   pub earlier : List ReadInput
   pub last : ReadInput
   pub are : inputs ≡ earlier ++ last ∷ []
@@ -73,4 +73,4 @@ pub record GivesOut (rows : List Row) (whole : Option Newest) (before after : Li
 -- how far the last input has come: its answers are collected, or outs are left to be added, or nothing is left
 abbrev pub IsStaged : Setup → List ReadInput → WorldState → List Row → Option Newest → Option Newest → List runs.Out → Type 0
 IsStaged setup inputs w rows None whole added = IsGiving setup inputs w rows whole added
-IsStaged setup inputs w rows (Some n) whole added = IsDealt setup inputs w rows n added × (whole ≡ None)
+IsStaged setup inputs w rows (Some n) whole added = IsTakenIn setup inputs w rows n added × (whole ≡ None)

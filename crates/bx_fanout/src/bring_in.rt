@@ -2,7 +2,7 @@
 ghost use Rattle.std.specs.Prelude.{◌≡◌, map, if◌then◌else◌, IfOk, OnErr};
 ghost use Rattle.bx_entry.specs.Requests.{read_input};
 ghost use Rattle.bx_fanout.specs.Newests.{IsLevel};
-ghost use Rattle.bx_fanout.specs.Stages.{IsDealt, IsGiving, seen_out};
+ghost use Rattle.bx_fanout.specs.Stages.{IsTakenIn, IsGiving, seen_out};
 ghost use Rattle.bx_world.specs.Seen.{setup_of, world_of};
 
 use crate::desk::Desk;
@@ -27,10 +27,10 @@ pub(crate) fn bring_in<P: Placing>(
 ) -> Result<bool, AllocError>
     requires shards { shards ≡ (setup_of world.old).shards }
     requires level { IsLevel (world_of world.old) }
-    requires dealt { IsDealt (setup_of world.old) (map read_input inputs.now) (world_of world.old) desk.old newest.old (map seen_out added.now) }
+    requires intake { IsTakenIn (setup_of world.old) (map read_input inputs.now) (world_of world.old) desk.old newest.old (map seen_out added.now) }
     ensures giving { IfOk result (λ whole. IsGiving (setup_of world.new) (map read_input inputs.now) (world_of world.new) desk.new
         (if whole then Some newest.new else None) (map seen_out added.now)) }
-    ensures dealt { OnErr result (IsDealt (setup_of world.new) (map read_input inputs.now) (world_of world.new) desk.new newest.new (map seen_out added.now)) }
+    ensures intake { OnErr result (IsTakenIn (setup_of world.new) (map read_input inputs.now) (world_of world.new) desk.new newest.new (map seen_out added.now)) }
     ensures list { (world_of world.new).list ≡ (world_of world.old).list }
     ensures applied { (world_of world.new).applied ≡ (world_of world.old).applied }
     ensures setup { setup_of world.new ≡ setup_of world.old }

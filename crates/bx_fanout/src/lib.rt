@@ -2,7 +2,6 @@
 #![tactic(auto)]
 
 mod bring_in;
-mod deal;
 mod desk;
 mod drain;
 mod give_out;
@@ -17,6 +16,7 @@ mod ready;
 mod resharding;
 mod round;
 mod run;
+mod take_in;
 
 pub use laws::{open_are_sole, open_is_held, opens_ascend, opens_go_on, outs_add};
 pub use out::{Out, RoundFault};

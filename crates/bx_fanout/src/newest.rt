@@ -1,4 +1,4 @@
-//! The last input that was dealt with.
+//! The last input that was taken in.
 ghost use Rattle.std.specs.Prelude.{◌≡◌, [], IfOk};
 ghost use Rattle.bx_fanout.specs.Newests.{Collects, IsCollected, IsLevel, IsWhole, Keeps, Next, OthersStay, out_of, response_of};
 ghost use Rattle.bx_world.specs.Seen.{setup_of, world_of};

@@ -5,7 +5,7 @@ use bx_message::{Item, Sequence};
 /// What an input comes to, once it is whole.
 #[derive(Drop)]
 pub struct Out {
-    /// The input's number among all that were dealt with, counted from 0.
+    /// The input's number among all that were taken in, counted from 0.
     pub input: usize,
     /// Its response, for each message in order the events and then the reply; none of these for a tick. Or why it was
     /// refused.
@@ -15,7 +15,7 @@ pub struct Out {
 /// Why a run ended early.
 #[derive(Clone, Copy, Debug, PartialEq, Eq)]
 pub enum RoundFault {
-    /// Memory was refused. So many of the run's inputs were dealt with; the outs that they still owe come with the next
+    /// Memory was refused. So many of the run's inputs were taken in; the outs that they still owe come with the next
     /// run.
     Memory { admitted: usize },
 }

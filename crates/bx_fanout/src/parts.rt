@@ -7,13 +7,13 @@ ghost use Rattle.bx_admission.specs.Slots.{placed_by};
 ghost use Rattle.bx_world.specs.Seen.{setup_of, world_of};
 
 use crate::bring_in::bring_in;
-use crate::deal::deal;
 use crate::desk::Desk;
 use crate::give_out::give_out;
 use crate::level::level;
 use crate::newest::Newest;
 use crate::out::Out;
 use crate::pass_over::pass_over;
+use crate::take_in::take_in;
 use bx_advice::Config;
 use bx_entry::{Input, Placing, Slot};
 use bx_history::History;
@@ -23,7 +23,7 @@ use std::alloc::{AllocError, Global};
 use std::sync::Arc;
 use std::thread::Threads;
 
-/// What a round has of the inputs that were dealt with.
+/// What a round has of the inputs that were taken in.
 #[derive(Drop)]
 pub(crate) struct Parts<P: Placing> {
     pub(crate) world: World<P>,
@@ -34,8 +34,8 @@ pub(crate) struct Parts<P: Placing> {
     pub(crate) newest: Option<Newest>,
     /// The last input, once it is whole, while its out is not added.
     pub(crate) whole: Option<Newest>,
-    /// How many inputs were dealt with.
-    pub(crate) dealt: usize,
+    /// How many inputs were taken in.
+    pub(crate) intake: usize,
     /// How long the list is.
     pub(crate) end: u64,
     /// Where the list ended when all shards were there last.
@@ -44,7 +44,7 @@ pub(crate) struct Parts<P: Placing> {
     pub(crate) added: History<Out>,
 }
 
-/// No input was dealt with.
+/// No input was taken in.
 pub(crate) fn new_parts<P: Placing + Drop>(
     alloc: Global,
     config: Config,
@@ -62,7 +62,7 @@ pub(crate) fn new_parts<P: Placing + Drop>(
         desk: Desk::new(alloc),
         newest: None,
         whole: None,
-        dealt: 0,
+        intake: 0,
         end: 0,
         reached: 0,
         inputs: History::new(),
@@ -214,8 +214,8 @@ pub(crate) fn settle<R: Threads + Sync, G: Gate + Sync, P: Placing + Send + Sync
     add_outs(alloc, parts, outs)
 }
 
-/// Deals with an input, where the last one came to its end.
-pub(crate) fn deal_with<P: Placing>(
+/// Takes one more input in, where the last one came to its end.
+pub(crate) fn take_in_next<P: Placing>(
     alloc: Global,
     parts: &mut Parts<P>,
     input: &Input,
@@ -229,24 +229,24 @@ pub(crate) fn deal_with<P: Placing>(
     ensures added { parts.new.added ≡ parts.old.added }
     ensures setup { setup_of parts.new.world ≡ setup_of parts.old.world }
 {
-    let newest = deal(
+    let newest = take_in(
         alloc,
         &mut parts.world,
         parts.end,
-        parts.dealt,
+        parts.intake,
         input,
         &parts.desk,
         &parts.inputs,
         &parts.added,
     )?;
     parts.end += count_of(input, &newest);
-    parts.dealt += 1;
+    parts.intake += 1;
     parts.newest = Some(newest);
     parts.inputs.push(input);
     Ok(())
 }
 
-// How many entries an input that was dealt with added to the list.
+// How many entries an input that was taken in added to the list.
 fn count_of(input: &Input, newest: &Newest) -> u64
     ensures { result ≡ count_by input.now newest.now }
 {

@@ -14,7 +14,7 @@ use bx_world::{Applied, World};
 use std::alloc::{AllocError, Global};
 use std::sync::Arc;
 
-/// Deals the sessions anew among so many shards, by this placing. What was dealt with and what was added stay. Where
+/// Redistributes the sessions among so many shards, by this placing. What was taken in and what was added stay. Where
 /// memory is refused, the parts come back with the same shards, some of which may have gone on.
 pub(crate) fn reshard<P: Placing + Drop>(
     alloc: Global,
@@ -37,11 +37,11 @@ pub(crate) fn reshard<P: Placing + Drop>(
     if let Err(error) = finish_here(alloc, &mut parts) {
         return Err((parts, error));
     }
-    deal_anew(alloc, parts, shards, placing)
+    redistribute(alloc, parts, shards, placing)
 }
 
 // The same, where all answers to the last input are collected.
-fn deal_anew<P: Placing + Drop>(
+fn redistribute<P: Placing + Drop>(
     alloc: Global,
     parts: Parts<P>,
     shards: usize,
@@ -66,7 +66,7 @@ fn deal_anew<P: Placing + Drop>(
         desk,
         newest,
         whole,
-        dealt,
+        intake,
         end,
         reached,
         inputs,
@@ -79,7 +79,7 @@ fn deal_anew<P: Placing + Drop>(
             desk,
             newest,
             whole,
-            dealt,
+            intake,
             end,
             reached,
             inputs,
@@ -92,7 +92,7 @@ fn deal_anew<P: Placing + Drop>(
                 desk,
                 newest,
                 whole,
-                dealt,
+                intake,
                 end,
                 reached,
                 inputs,

@@ -1,4 +1,4 @@
-//! Inputs dealt with in order, over several runs.
+//! Inputs that are taken in, in order, over several runs.
 ghost use Rattle.std.specs.Prelude.{◌≤◌};
 ghost use Rattle.bx_fanout.specs.Parts.{Stands};
 ghost use Rattle.bx_fanout.specs.Props.{stands-prop};
@@ -17,9 +17,9 @@ use std::thread::Threads;
 /// How many workers a round can have.
 pub const MAX_WORKERS: usize = 16;
 
-/// Inputs dealt with in order, each answered as one thread would answer it, by many workers.
+/// Inputs that are taken in, in order, each answered as one thread would answer it, by many workers.
 ///
-/// Contracts see the configuration with its placing, how many workers there are, the inputs that all runs dealt with, and the
+/// Contracts see the configuration with its placing, how many workers there are, the inputs that all runs took in, and the
 /// outs that all runs added.
 #[derive(Drop)]
 pub struct Round<P: Placing> {
@@ -38,7 +38,7 @@ impl<P: Placing> Round<P> {
     ghost use Rattle.bx_fanout.specs.Runs.{AreHeldBefore};
     ghost use Rattle.bx_admission.specs.Slots.{placed_by};
 
-    /// A round with so many workers, 1 to 16, that has dealt with no input. None where the workers are not so many.
+    /// A round with so many workers, 1 to 16, that has taken in no input. None where the workers are not so many.
     pub fn new(
         alloc: Global,
         config: Config,
@@ -60,7 +60,7 @@ impl<P: Placing> Round<P> {
         Ok(Some(Round { parts, workers }))
     }
 
-    /// Deals with these inputs in order. Each is brought to its end before the next one is dealt with, and the outs of
+    /// Takes these inputs in, in order. Each is brought to its end before the next one is taken in, and the outs of
     /// those that it makes whole are added behind the others, in the order of their numbers.
     ///
     /// While no connect is held, an input whose messages are all answered at once needs no shard: its out is added, and
@@ -68,7 +68,7 @@ impl<P: Placing> Round<P> {
     /// once they lack more than 1,024 entries, and at the end of a run that ends well. Where few events can come of the
     /// entries that they lack, one worker does that alone.
     ///
-    /// Where memory is refused, the fault says how many of these inputs were dealt with. The outs that they still owe are
+    /// Where memory is refused, the fault says how many of these inputs were taken in. The outs that they still owe are
     /// added by the next run, also by one of no inputs; none is added twice.
     pub fn run<R: Threads + Sync, G: Gate + Sync>(
         &mut self,
@@ -87,8 +87,8 @@ impl<P: Placing> Round<P> {
         run_all(rt, alloc, gate, self.workers, &mut self.parts, inputs, outs)
     }
 
-    /// Deals the sessions anew among so many shards, 1 to 64, by this placing. First every shard is brought up to the end
-    /// of the list. What was dealt with and what was added stay. Where memory is refused, the round comes back with the
+    /// Redistributes the sessions among so many shards, 1 to 64, by this placing. First every shard is brought up to the end
+    /// of the list. What was taken in and what was added stay. Where memory is refused, the round comes back with the
     /// same shards and placing.
     pub fn reshard(
         self,
@@ -115,11 +115,11 @@ impl<P: Placing> Round<P> {
         }
     }
 
-    /// How many inputs all runs dealt with.
-    pub fn dealt(&self) -> usize
+    /// How many inputs all runs took in.
+    pub fn intake(&self) -> usize
         ensures { result ≡ length (inputs_of self.now) }
     {
-        self.parts.dealt
+        self.parts.intake
     }
 
     /// The numbers of the inputs that are not whole, ascending. Such an input is a connect that is held. So it is after

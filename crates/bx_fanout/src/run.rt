@@ -4,14 +4,14 @@ ghost use Rattle.bx_fanout.specs.Runs.{IsRun, Runs};
 ghost use Rattle.std.specs.Prelude.{◌+◌, ◌≤◌, ◌^◌, length};
 
 use crate::out::{Out, RoundFault};
-use crate::parts::{Parts, deal_with, settle};
+use crate::parts::{Parts, settle, take_in_next};
 use crate::pass_over::catch_up;
 use bx_entry::{Input, Placing};
 use bx_workers::Gate;
 use std::alloc::Global;
 use std::thread::Threads;
 
-/// Deals with these inputs in order, and adds the outs of each before it goes on to the next. At the end all shards are
+/// Takes these inputs in, in order, and adds the outs of each before it goes on to the next. At the end all shards are
 /// brought up.
 pub(crate) fn run<R: Threads + Sync, G: Gate + Sync, P: Placing + Send + Sync>(
     rt: &R,
@@ -33,7 +33,7 @@ pub(crate) fn run<R: Threads + Sync, G: Gate + Sync, P: Placing + Send + Sync>(
         return Err(RoundFault::Memory { admitted: 0 });
     }
     for index in 0..inputs.len() {
-        if deal_with(alloc, parts, &inputs[index]).is_err() {
+        if take_in_next(alloc, parts, &inputs[index]).is_err() {
             return Err(RoundFault::Memory { admitted: index });
         }
         if settle(rt, alloc, gate, workers, parts, outs).is_err() {

@@ -13,7 +13,7 @@ use Rattle.bx_entry.specs.Inputs.{ReadInput, added_by, refusal_of, refused_beyon
 use Rattle.bx_entry.specs.Listing.{Listed}
 use Rattle.bx_entry.specs.Registry.{entries}
 use Rattle.bx_entry.specs.declared.entry.Entry.{Entry}
-use Rattle.bx_laws.proofs.Lists.{entries_length}
+use Rattle.bx_theory.proofs.Lists.{entries_length}
 use Rattle.bx_registry.specs.declared.plan.AdmitFault.{AdmitFault}
 use Rattle.bx_registry.specs.declared.plan.AdmitFault.TheVariants as faults
 use Rattle.bx_shard.specs.Shards.{Setup}

@@ -3,34 +3,34 @@ use Rattle.std.proofs.Common.{◌≡◌, ℕ, ◌+◌, ◌<◌, max, Option, Som
 use Rattle.bx_advice.specs.declared.config.Config.{Config}
 use Rattle.bx_advice.specs.declared.error.Error.{Error}
 use Rattle.bx_message.specs.declared.event.Event.{Event}
-use Rattle.bx_message.specs.declared.column.Column.{Column}
-use Rattle.bx_message.specs.Columns.{column_of}
+use Rattle.bx_message.specs.declared.message_kind.MessageKind.{MessageKind}
+use Rattle.bx_message.specs.MessageKinds.{message_kind_of}
 use Rattle.bx_entry.specs.Listing.{Listed, Post, Posted}
 use Rattle.bx_entry.specs.Listing as messages
 use Rattle.bx_entry.specs.declared.entry.Entry.{Entry}
-use Rattle.bx_entry.specs.declared.entry.Kind.{Kind}
-use Rattle.bx_entry.specs.declared.entry.Kind.TheVariants.{Publish}
+use Rattle.bx_entry.specs.declared.entry.EntryKind.{EntryKind}
+use Rattle.bx_entry.specs.declared.entry.EntryKind.TheVariants.{Publish}
 use Rattle.bx_entry.specs.Registry.{Registry, Registered, Judged, PlaceSlot, Ready, Waiting, NoSlot, event_of, kind_for, judge, judged_by, named_by, refusal, hold_of, registry, empty_registry, entries_of}
 use Rattle.bx_entry.specs.Sessions.{Publication, Filed, session, unopened}
 use Rattle.bx_entry.specs.Answers.{PlacedAnswer, answer_of, events_of, answer_by, answer_at}
-use Rattle.bx_laws.specs.Laws.{Each, EachOf, Slice, PlacesFrom}
-use Rattle.bx_laws.specs.Events.{GetsPublish, EachEvent, WasPublished, GivenWasPublished}
-use Rattle.bx_laws.proofs.Counts.{unopened_in_step}
-use Rattle.bx_laws.proofs.Moves.{each_map}
-use Rattle.bx_laws.proofs.Runs.{Grown, run_grown, all_places}
-use Rattle.bx_laws.proofs.Rising.{each_of_take, each_of_drop}
-use Rattle.bx_laws.proofs.Lists.{find_each, entries_in_order}
-use Rattle.bx_laws.proofs.Gained.{events_were_published}
+use Rattle.bx_theory.specs.Laws.{Each, EachOf, Slice, PlacesFrom}
+use Rattle.bx_theory.specs.Events.{GetsPublish, EachEvent, WasPublished, GivenWasPublished}
+use Rattle.bx_theory.proofs.Counts.{unopened_in_step}
+use Rattle.bx_theory.proofs.Moves.{each_map}
+use Rattle.bx_theory.proofs.Runs.{Grown, run_grown, all_places}
+use Rattle.bx_theory.proofs.Rising.{each_of_take, each_of_drop}
+use Rattle.bx_theory.proofs.Lists.{find_each, entries_in_order}
+use Rattle.bx_theory.proofs.Gained.{events_were_published}
 
 -- ---- a publish entry stands where the list has a publish
 
 record FromPost (x : Listed) (e : Event) : Type 0 where
   message : Posted
   posted : x ≡ Post message
-  column : column_of message.message.channel ≡ Column.Publish
+  message_kind : message_kind_of message.message.channel ≡ MessageKind.Publish
   event : e ≡ event_of message.message
 
-abbrev OfPost : Listed → Kind → Type 0
+abbrev OfPost : Listed → EntryKind → Type 0
 OfPost x k = (e : Event) → k ≡ Publish e → FromPost x e
 
 -- each element with what was found at its place
@@ -40,14 +40,14 @@ Pairs [] (j ∷ js) = ⊥
 Pairs (x ∷ xs) [] = ⊥
 Pairs (x ∷ xs) (j ∷ js) = OfPost x j.entry.kind × Pairs xs js
 
-kind_of_post : (c : Column) (p : Posted) (s : Registered) (hold : ℕ) → column_of p.message.channel ≡ c → OfPost (Post p) (kind_for c p s hold)
-kind_of_post Column.Handshake p s hold h = λ e k. cc
-kind_of_post Column.Connect p s hold h = λ e k. cc
-kind_of_post Column.Subscribe p s hold h = λ e k. cc
-kind_of_post Column.Unsubscribe p s hold h = λ e k. cc
-kind_of_post Column.Disconnect p s hold h = λ e k. cc
-kind_of_post Column.Publish p s hold h = λ e k. record { message = p; posted = refl; column = h; event = (let same : event_of p.message ≡ e = cc in sym same) }
-kind_of_post Column.UnknownMeta p s hold h = λ e k. cc
+kind_of_post : (c : MessageKind) (p : Posted) (s : Registered) (hold : ℕ) → message_kind_of p.message.channel ≡ c → OfPost (Post p) (kind_for c p s hold)
+kind_of_post MessageKind.Handshake p s hold h = λ e k. cc
+kind_of_post MessageKind.Connect p s hold h = λ e k. cc
+kind_of_post MessageKind.Subscribe p s hold h = λ e k. cc
+kind_of_post MessageKind.Unsubscribe p s hold h = λ e k. cc
+kind_of_post MessageKind.Disconnect p s hold h = λ e k. cc
+kind_of_post MessageKind.Publish p s hold h = λ e k. record { message = p; posted = refl; message_kind = h; event = (let same : event_of p.message ≡ e = cc in sym same) }
+kind_of_post MessageKind.UnknownMeta p s hold h = λ e k. cc
 
 record JudgedFrom (r t : Registry) (x : Listed) : Type 0 where
   found : Judged
@@ -57,10 +57,10 @@ record JudgedFrom (r t : Registry) (x : Listed) : Type 0 where
 judged_by_post : (config : Config) (r : Registry) (moment : ℕ) (p : Posted) (sender : Option Registered) (error : Option Error) → JudgedFrom r (judged_by config r moment p sender error) (Post p)
 judged_by_post config r moment p sender (Some error) = record { found = _; judged = refl; post = λ e k. cc }
 judged_by_post config r moment p None None = record { found = _; judged = refl; post = λ e k. cc }
-judged_by_post config r moment p (Some s) None = record { found = _; judged = refl; post = kind_of_post (column_of p.message.channel) p s (hold_of config p) refl }
+judged_by_post config r moment p (Some s) None = record { found = _; judged = refl; post = kind_of_post (message_kind_of p.message.channel) p s (hold_of config p) refl }
 
 judge_post : (config : Config) (r : Registry) (x : Listed) → JudgedFrom r (judge config r x) x
-judge_post config r (Post p) = judged_by_post config r (max r.clock p.moment) p (named_by r.sessions (column_of p.message.channel) p.message) (refusal config r.sessions p)
+judge_post config r (Post p) = judged_by_post config r (max r.clock p.moment) p (named_by r.sessions (message_kind_of p.message.channel) p.message) (refusal config r.sessions p)
 judge_post config r (messages.Tick moment) = record { found = _; judged = refl; post = λ e k. cc }
 
 record Paired (xs : List Listed) (r t : Registry) : Type 0 where
@@ -140,7 +140,7 @@ published_here config list place number p asked g =
       source = p.place;
       message = m.message;
       listed = ap (slice_get list) (sym source) ∙ l.there ∙ ap Some m.posted;
-      column = m.column;
+      message_kind = m.message_kind;
       event = m.event;
       gets = g;
     }

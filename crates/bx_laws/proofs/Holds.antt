@@ -3,16 +3,17 @@ use Rattle.std.proofs.Common.{◌≡◌, ℕ, ◌+◌, Bool, true, false, cond, 
 use Rattle.std.proofs.lemmas.Bool.{cond_both, cond-true, cond-false, and_parts}
 use Rattle.std.specs.List.{list_any}
 use Rattle.bx_advice.specs.declared.config.Config.{Config}
-use Rattle.bx_advice.specs.declared.advice.Case.{Case}
-use Rattle.bx_advice.specs.declared.advice.Case.TheVariants.{Connected, Disconnected, Failed}
+use Rattle.bx_advice.specs.declared.advice.Outcome.{Outcome}
+use Rattle.bx_advice.specs.declared.advice.Outcome.TheVariants.{Connected, Disconnected, Failed}
 use Rattle.bx_advice.specs.declared.error.Error.TheVariants.{SupersededConnect}
-use Rattle.bx_entry.specs.declared.entry.Kind.{Kind}
-use Rattle.bx_entry.specs.declared.entry.Kind.TheVariants.{Connect, Subscribe, Unsubscribe, Publish, Disconnect, Refused, Tick}
-use Rattle.bx_entry.specs.declared.entry.Kind.TheVariants as entries
+use Rattle.bx_entry.specs.declared.entry.EntryKind.{EntryKind}
+use Rattle.bx_entry.specs.declared.entry.EntryKind.TheVariants.{Connect, Subscribe, Unsubscribe, Publish, Disconnect, Refused, Tick}
+use Rattle.bx_entry.specs.declared.entry.EntryKind.TheVariants as entries
 use Rattle.bx_entry.specs.Sessions.{Session, Publication, Pending, Filed, Stage, Unopened, Live, Closed, filing, unheld, released_from, released, connected, subscribed, unsubscribed, with_batch, forgotten, gives_one, with_event, delivered_to, delivered, overflowed, is_hit, has_room, published, expired_from, expired, ended, closed_by, disconnected, begun, step_by, step}
-use Rattle.bx_laws.specs.Readings.{ends_by, AnsweredAt, HeldReading, EndingReading}
-use Rattle.bx_laws.proofs.Counts.{subscribed_by}
-use Rattle.bx_laws.proofs.Keeps.{Keeps, freed_k}
+use Rattle.bx_theory.specs.Readings.{ends_by, AnsweredAt, HeldReading, EndingReading}
+use Rattle.bx_theory.proofs.Counts.{subscribed_by}
+use Rattle.bx_theory.proofs.Keeps.{Keeps, freed_k}
+use Rattle.bx_theory.proofs.Closings.{closed_by_held}
 
 -- ---- what doesn't end it
 
@@ -37,10 +38,7 @@ expired_held : (config : Config) (place moment : ℕ) (s : Session) (p : Pending
 expired_held config place moment s p n h =
     ap (λ (o : Option Pending). (expired_from config place moment s o).held) h ∙ not_taken (nat_le (p.moment + p.hold) moment) (released config place Connected s) s (Some p) n h
 
-closed_by_held : (numbers : List ℕ) (s : Session) → (closed_by numbers s).held ≡ s.held
-closed_by_held numbers s = either_held (list_any (λ n. n == s.number) numbers) (ended s) s s.held refl refl
-
-step_by_held : (config : Config) (place moment : ℕ) (s : Session) (p : Pending) (k : Kind) → s.held ≡ Some p → ends_by config s p moment k ≡ false → (step_by config place moment s k).held ≡ Some p
+step_by_held : (config : Config) (place moment : ℕ) (s : Session) (p : Pending) (k : EntryKind) → s.held ≡ Some p → ends_by config s p moment k ≡ false → (step_by config place moment s k).held ≡ Some p
 step_by_held config place moment s p (entries.Opened n ack) h e = either_held (n == s.number) (begun ack s s.stage) s (Some p) (begun_held ack s s.stage ∙ h) h
 step_by_held config place moment s p (Connect n client id acked hold) h e =
     let q : Pending = record { place = place; client = client; id = id; moment = moment; hold = hold } in not_taken (n == s.number) (connected config q acked s) s (Some p) e h
@@ -57,10 +55,10 @@ held_reading config s p (e ∷ es) h n = held_reading config (step config s e) p
 
 -- ---- what ends it
 
-released_here : (config : Config) (place : ℕ) (case : Case) (s : Session) (p : Pending) → s.held ≡ Some p → AnsweredAt p place s (released config place case s)
-released_here config place case s p h =
-    subst (λ (o : Option Pending). AnsweredAt p place s (released_from config place case s o)) (sym h)
-    (record { answer = filing config p place [] case (unheld s); others = []; answers = refl; connect = refl; place = refl })
+released_here : (config : Config) (place : ℕ) (outcome : Outcome) (s : Session) (p : Pending) → s.held ≡ Some p → AnsweredAt p place s (released config place outcome s)
+released_here config place outcome s p h =
+    subst (λ (o : Option Pending). AnsweredAt p place s (released_from config place outcome s o)) (sym h)
+    (record { answer = filing config p place [] outcome (unheld s); others = []; answers = refl; connect = refl; place = refl })
 
 answered_then : (p : Pending) (now : ℕ) (s t u : Session) → AnsweredAt p now s t → Keeps t u → AnsweredAt p now s u
 answered_then p now s t u a k = record {
@@ -108,7 +106,7 @@ expired_here config place moment s p h n =
 taken_here : (p : Pending) (now : ℕ) (b : Bool) (s t : Session) → b ≡ true → AnsweredAt p now s t → AnsweredAt p now s (cond b t s)
 taken_here p now b s t e a = subst (AnsweredAt p now s) (sym (cond-true b t s e)) a
 
-step_by_here : (config : Config) (place moment : ℕ) (s : Session) (p : Pending) (k : Kind) → s.held ≡ Some p → ends_by config s p moment k ≡ true → AnsweredAt p place s (step_by config place moment s k)
+step_by_here : (config : Config) (place moment : ℕ) (s : Session) (p : Pending) (k : EntryKind) → s.held ≡ Some p → ends_by config s p moment k ≡ true → AnsweredAt p place s (step_by config place moment s k)
 step_by_here config place moment s p (entries.Opened n ack) h e = cc
 step_by_here config place moment s p (Connect n client id acked hold) h e =
     let q : Pending = record { place = place; client = client; id = id; moment = moment; hold = hold } in taken_here p place (n == s.number) s (connected config q acked s) e (connected_here config q acked s p h)

@@ -8,9 +8,9 @@ use Rattle.json.specs.Print.{quoted}
 use Rattle.serde_json.specs.Data.{Data, boolean, string, array, object, no_items, item}
 use Rattle.bx_advice.specs.Errors.{error_text}
 use Rattle.bx_advice.specs.declared.advice.Advice.{Advice}
-use Rattle.bx_advice.specs.declared.advice.Case.{Case}
-use Rattle.bx_advice.specs.declared.advice.Case.TheVariants.{Opened, Connected, Disconnected, Done, Failed}
-use Rattle.bx_message.specs.declared.column.Column.{Column}
+use Rattle.bx_advice.specs.declared.advice.Outcome.{Outcome}
+use Rattle.bx_advice.specs.declared.advice.Outcome.TheVariants.{Opened, Connected, Disconnected, Done, Failed}
+use Rattle.bx_message.specs.declared.message_kind.MessageKind.{MessageKind}
 use Rattle.bx_message.specs.declared.reply.AckReply.{AckReply}
 use Rattle.bx_message.specs.declared.reply.AckReply.TheVariants.{NoAck, AckTrue, AckNumber}
 use Rattle.bx_message.specs.Texts.{member, raw_member, text_member, number_member, reconnect_text, advice_members, advice_member, ack_member, error_member, success_text, types_member, version_member, reply_members, event_members, item_text}
@@ -69,45 +69,45 @@ ext_row levels h NoAck f = record { are = refl }
 ext_row levels h AckTrue f = one levels (codes "ext") _ _ (deeper 1 levels h (object_value 0 (member (codes "ack") (codes "true") ∷ []) ((codes "ack", Some (boolean true)) ∷ []) (written_one 0 (codes "ack") (codes "true") (boolean true) true_value) (refl, tt)))
 ext_row levels h (AckNumber n) f = one levels (codes "ext") _ _ (deeper 1 levels h (object_value 0 (member (codes "ack") (decimal n) ∷ []) ((codes "ack", Some (count n)) ∷ []) (written_one 0 (codes "ack") (decimal n) (count n) (count_value n f)) (refl, tt)))
 
-error_row : (levels : ℕ) (case : Case) → OneRow levels (error_member case) (codes "error") (error_data case)
+error_row : (levels : ℕ) (outcome : Outcome) → OneRow levels (error_member outcome) (codes "error") (error_data outcome)
 error_row levels Opened = record { are = refl }
 error_row levels Connected = record { are = refl }
 error_row levels Disconnected = record { are = refl }
 error_row levels Done = record { are = refl }
 error_row levels (Failed error) = text_row levels (codes "error") (Some (error_text error))
 
-success_value : (case : Case) → Value 0 (success_text case) (boolean (succeeds case))
+success_value : (outcome : Outcome) → Value 0 (success_text outcome) (boolean (succeeds outcome))
 success_value Opened = true_value
 success_value Connected = true_value
 success_value Disconnected = true_value
 success_value Done = true_value
 success_value (Failed error) = false_value
 
-success_row : (levels : ℕ) (case : Case) → OneRow levels (raw_member (codes "successful") (Some (success_text case))) (codes "successful") (Some (boolean (succeeds case)))
-success_row levels case = one levels (codes "successful") (success_text case) (boolean (succeeds case)) (deeper 0 levels (omega arith) (success_value case))
+success_row : (levels : ℕ) (outcome : Outcome) → OneRow levels (raw_member (codes "successful") (Some (success_text outcome))) (codes "successful") (Some (boolean (succeeds outcome)))
+success_row levels outcome = one levels (codes "successful") (success_text outcome) (boolean (succeeds outcome)) (deeper 0 levels (omega arith) (success_value outcome))
 
 types_value : Value 1 (array_text (quoted (codes "long-polling") ∷ quoted (codes "callback-polling") ∷ [])) connection_types
 types_value =
     array_value 0 (quoted (codes "long-polling") ∷ quoted (codes "callback-polling") ∷ []) (item (string (codes "long-polling")) (item (string (codes "callback-polling")) no_items))
     (value_read 0 _ _ (text_value (codes "long-polling")), (value_read 0 _ _ (text_value (codes "callback-polling")), tt))
 
-types_row : (levels : ℕ) → 1 ≤ levels → (column : Column) → OneRow levels (types_member column) (codes "supportedConnectionTypes") (for_handshake column connection_types)
-types_row levels h Column.Handshake = one levels (codes "supportedConnectionTypes") _ connection_types (deeper 1 levels h types_value)
-types_row levels h Column.Connect = record { are = refl }
-types_row levels h Column.Subscribe = record { are = refl }
-types_row levels h Column.Unsubscribe = record { are = refl }
-types_row levels h Column.Disconnect = record { are = refl }
-types_row levels h Column.Publish = record { are = refl }
-types_row levels h Column.UnknownMeta = record { are = refl }
+types_row : (levels : ℕ) → 1 ≤ levels → (message_kind : MessageKind) → OneRow levels (types_member message_kind) (codes "supportedConnectionTypes") (for_handshake message_kind connection_types)
+types_row levels h MessageKind.Handshake = one levels (codes "supportedConnectionTypes") _ connection_types (deeper 1 levels h types_value)
+types_row levels h MessageKind.Connect = record { are = refl }
+types_row levels h MessageKind.Subscribe = record { are = refl }
+types_row levels h MessageKind.Unsubscribe = record { are = refl }
+types_row levels h MessageKind.Disconnect = record { are = refl }
+types_row levels h MessageKind.Publish = record { are = refl }
+types_row levels h MessageKind.UnknownMeta = record { are = refl }
 
-version_row : (levels : ℕ) (column : Column) → OneRow levels (version_member column) (codes "version") (for_handshake column (string (codes "1.0")))
-version_row levels Column.Handshake = text_row levels (codes "version") (Some (codes "1.0"))
-version_row levels Column.Connect = record { are = refl }
-version_row levels Column.Subscribe = record { are = refl }
-version_row levels Column.Unsubscribe = record { are = refl }
-version_row levels Column.Disconnect = record { are = refl }
-version_row levels Column.Publish = record { are = refl }
-version_row levels Column.UnknownMeta = record { are = refl }
+version_row : (levels : ℕ) (message_kind : MessageKind) → OneRow levels (version_member message_kind) (codes "version") (for_handshake message_kind (string (codes "1.0")))
+version_row levels MessageKind.Handshake = text_row levels (codes "version") (Some (codes "1.0"))
+version_row levels MessageKind.Connect = record { are = refl }
+version_row levels MessageKind.Subscribe = record { are = refl }
+version_row levels MessageKind.Unsubscribe = record { are = refl }
+version_row levels MessageKind.Disconnect = record { are = refl }
+version_row levels MessageKind.Publish = record { are = refl }
+version_row levels MessageKind.UnknownMeta = record { are = refl }
 
 -- ---- the laws
 
@@ -120,15 +120,15 @@ replies levels r id subscription h p =
     more (advice_row levels h r.advice p.advice_fits)
     (more (text_row levels (codes "channel") (Some r.channel))
     (more (text_row levels (codes "clientId") r.client)
-    (more (error_row levels r.case)
+    (more (error_row levels r.outcome)
     (more (ext_row levels h r.ack p.ack_fits)
     (more (raw_row levels (codes "id") r.id id p.id_reads)
     (more (raw_row levels (codes "subscription") r.subscription subscription p.subscription_reads)
-    (more (success_row levels r.case)
-    (more (types_row levels h r.column) (version_row levels r.column))))))))) in
+    (more (success_row levels r.outcome)
+    (more (types_row levels h r.message_kind) (version_row levels r.message_kind))))))))) in
     let members =
-    nested (advice_member r.advice) (text_member (codes "channel") (Some r.channel)) (text_member (codes "clientId") r.client) (error_member r.case) (ack_member r.ack) (raw_member (codes "id") r.id)
-    (raw_member (codes "subscription") r.subscription) (raw_member (codes "successful") (Some (success_text r.case))) (types_member r.column ++ version_member r.column) in
+    nested (advice_member r.advice) (text_member (codes "channel") (Some r.channel)) (text_member (codes "clientId") r.client) (error_member r.outcome) (ack_member r.ack) (raw_member (codes "id") r.id)
+    (raw_member (codes "subscription") r.subscription) (raw_member (codes "successful") (Some (success_text r.outcome))) (types_member r.message_kind ++ version_member r.message_kind) in
     object_is levels (reply_members r) (reply_rows r id subscription) (subst (λ ms. Written levels ms (reply_rows r id subscription)) members all.are) (refl, (refl, (refl, (refl, (refl, (refl, (refl, (refl, (refl, (refl, tt))))))))))
 
 pub events : EventsReadBack

@@ -12,17 +12,18 @@ use Rattle.json.specs.Json.{Json}
 use Rattle.json.specs.Json as json
 use Rattle.json.specs.Text.{content, plain}
 use Rattle.json.specs.Word.{is_space}
-use Rattle.json.specs.Lex.{Lexeme, comma, colon, between, in_string, lex, string_token, fresh, after_value, after_comma, begins_colon, place_token, punctuate, tokens}
+use Rattle.json.specs.Lex.{Lexeme, colon, between, in_string, lex, string_token, fresh, after_value, after_comma, begins_colon, place_token, punctuate, tokens}
 use Rattle.json.specs.Lex as lexeme
 use Rattle.json.specs.Print.{quoted, escape}
 use Rattle.json.specs.Tree.{json_tokens, items_tokens, members_tokens, depth, items_depth, members_depth}
 use Rattle.json.proofs.Printed.Strings.{content-escape, lex-escape}
 use Rattle.json.proofs.Printed.Numbers.{lex-number}
 use Rattle.json.proofs.Printed.Decimals.{IsNumber-decimal}
-use Rattle.serde_json.specs.Data.{Data, unsigned, boolean, number, string, array, object, Items, no_items, item, Members, no_members, put}
+use Rattle.serde_json.specs.Data.{Data, unsigned, number, string, array, object, Items, no_items, item, Members, no_members, put}
 use Rattle.serde_json.specs.Data as values
 use Rattle.serde_json.specs.Read.{of_json, of_items, of_members}
 use Rattle.serde_json.proofs.Numbers.{number_of-decimal}
+use Rattle.std.proofs.lemmas.Bool.{and_parts}
 use Rattle.bx_cut.specs.Laws.{IsBlank}
 use Rattle.bx_cut.specs.Cut.{past_blank}
 use Rattle.bx_cut.proofs.Bytes.{Blank, Blank-blanks, blanks, split_blanks}
@@ -33,6 +34,7 @@ use Rattle.bx_cut.proofs.Slices.{nothing_left}
 use Rattle.bx_cut.proofs.Values.{Fits}
 use Rattle.bx_message.specs.Texts as texts
 use Rattle.bx_laws.specs.ReadBack.{read_within, Row, members_in, names_in, keys, stands_behind, Ascend, IsObjectOf, AllReadAs}
+use Rattle.bx_message.proofs.ObjectLemmas.{joined}
 
 -- ---- a value wherever it stands
 
@@ -126,10 +128,6 @@ count_value n h = record {
 abbrev pub after_commas : List (List ℕ) → List ℕ
 after_commas [] = []
 after_commas (m ∷ ms) = 44 ∷ (m ++ after_commas ms)
-
-joined : (m : List ℕ) (ms : List (List ℕ)) → join_with_byte 44 (m ∷ ms) ≡ m ++ after_commas ms
-joined m [] = sym (append-nil m)
-joined m (n ∷ ms) = ap (λ t. m ++ (44 ∷ t)) (joined n ms)
 
 -- a closing bracket, or a comma, may stand behind a value
 brace_fits : (ms : List (List ℕ)) (z : List ℕ) → Fits (after_commas ms ++ (125 ∷ z))
@@ -242,15 +240,10 @@ put_last n d no_members h = refl
 put_last n d (values.member k e ms) h =
     last_branch (slice_cmp nat_cmp n k) (values.member n d (values.member k e ms)) (values.member k d ms) (values.member k e (put n d ms)) h.0 ∙ ap (values.member k e) (put_last n d ms h.1)
 
-both : (a b : Bool) → (a && b) ≡ true → (a ≡ true) × (b ≡ true)
-both true true e = (refl, refl)
-both true false e = cc
-both false b e = cc
-
 all_parts : (p : List ℕ → Bool) (before : List (List ℕ)) (m : List ℕ) → list_all p (before ++ m ∷ []) ≡ true → (list_all p before ≡ true) × (p m ≡ true)
-all_parts p [] m e = (refl, (both (p m) true e).0)
+all_parts p [] m e = (refl, (and_parts (p m) true e).0)
 all_parts p (b ∷ bs) m e =
-    let parts = both (p b) (list_all p (bs ++ m ∷ [])) e in
+    let parts = and_parts (p b) (list_all p (bs ++ m ∷ [])) e in
     let rest = all_parts p bs m parts.1 in
     (ap (λ (x : Bool). x && list_all p bs) parts.0 ∙ rest.0, rest.1)
 

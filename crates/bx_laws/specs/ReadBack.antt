@@ -10,9 +10,9 @@ use Rattle.serde_json.specs.Data.{Data, unsigned, boolean, number, string, array
 use Rattle.serde_json.specs.Read.{of_json}
 use Rattle.bx_advice.specs.Errors.{error_text}
 use Rattle.bx_advice.specs.declared.advice.Advice.{Advice}
-use Rattle.bx_advice.specs.declared.advice.Case.{Case}
-use Rattle.bx_advice.specs.declared.advice.Case.TheVariants.{Opened, Connected, Disconnected, Done, Failed}
-use Rattle.bx_message.specs.declared.column.Column.{Column}
+use Rattle.bx_advice.specs.declared.advice.Outcome.{Outcome}
+use Rattle.bx_advice.specs.declared.advice.Outcome.TheVariants.{Opened, Connected, Disconnected, Done, Failed}
+use Rattle.bx_message.specs.declared.message_kind.MessageKind.{MessageKind}
 use Rattle.bx_message.specs.declared.event.Event.{Event}
 use Rattle.bx_message.specs.declared.reply.Reply.{Reply}
 use Rattle.bx_message.specs.declared.reply.Item.{Item}
@@ -100,7 +100,7 @@ ext_data AckTrue = Some (ack_object (boolean true))
 ext_data (AckNumber n) = Some (ack_object (count n))
 
 -- the error, where there is one
-abbrev pub error_data : Case → Option Data
+abbrev pub error_data : Outcome → Option Data
 error_data Opened = None
 error_data Connected = None
 error_data Disconnected = None
@@ -108,7 +108,7 @@ error_data Done = None
 error_data (Failed error) = Some (string (error_text error))
 
 -- whether there is none
-abbrev pub succeeds : Case → Bool
+abbrev pub succeeds : Outcome → Bool
 succeeds Opened = true
 succeeds Connected = true
 succeeds Disconnected = true
@@ -116,14 +116,14 @@ succeeds Done = true
 succeeds (Failed error) = false
 
 -- only replies to handshakes carry the types and the version
-abbrev pub for_handshake : Column → Data → Option Data
-for_handshake Column.Handshake d = Some d
-for_handshake Column.Connect d = None
-for_handshake Column.Subscribe d = None
-for_handshake Column.Unsubscribe d = None
-for_handshake Column.Disconnect d = None
-for_handshake Column.Publish d = None
-for_handshake Column.UnknownMeta d = None
+abbrev pub for_handshake : MessageKind → Data → Option Data
+for_handshake MessageKind.Handshake d = Some d
+for_handshake MessageKind.Connect d = None
+for_handshake MessageKind.Subscribe d = None
+for_handshake MessageKind.Unsubscribe d = None
+for_handshake MessageKind.Disconnect d = None
+for_handshake MessageKind.Publish d = None
+for_handshake MessageKind.UnknownMeta d = None
 
 -- the two connection types
 abbrev pub connection_types : Data
@@ -136,13 +136,13 @@ reply_rows r id subscription =
     (codes "advice", option_map (λ a. object (members_in (advice_rows a))) r.advice)
     ∷ (codes "channel", Some (string r.channel))
     ∷ (codes "clientId", option_map string r.client)
-    ∷ (codes "error", error_data r.case)
+    ∷ (codes "error", error_data r.outcome)
     ∷ (codes "ext", ext_data r.ack)
     ∷ (codes "id", id)
     ∷ (codes "subscription", subscription)
-    ∷ (codes "successful", Some (boolean (succeeds r.case)))
-    ∷ (codes "supportedConnectionTypes", for_handshake r.column connection_types)
-    ∷ (codes "version", for_handshake r.column (string (codes "1.0")))
+    ∷ (codes "successful", Some (boolean (succeeds r.outcome)))
+    ∷ (codes "supportedConnectionTypes", for_handshake r.message_kind connection_types)
+    ∷ (codes "version", for_handshake r.message_kind (string (codes "1.0")))
     ∷ []
 
 -- the numbers of an advice fit 64 bits

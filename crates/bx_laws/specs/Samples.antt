@@ -6,14 +6,14 @@ use Rattle.bx_names.specs.Segments.{segments}
 use Rattle.bx_message.specs.declared.message.Message.{Message}
 use Rattle.bx_message.specs.declared.message.TextMember.TheVariants.{Absent, Text}
 use Rattle.bx_message.specs.declared.message.AckMember.TheVariants.{NoAck, AckTrue, AckNumber}
-use Rattle.bx_message.specs.declared.column.Column.{Column}
+use Rattle.bx_message.specs.declared.message_kind.MessageKind.{MessageKind}
 use Rattle.bx_advice.specs.declared.error.Error.{Error}
 use Rattle.bx_advice.specs.declared.error.Error.TheVariants.{UnknownClient}
 use Rattle.bx_advice.specs.declared.config.Config.{Config}
 use Rattle.bx_advice.specs.Advice.{advice_of}
 use Rattle.bx_advice.specs.Limits.{standard_limits}
-use Rattle.bx_advice.specs.declared.advice.Case.{Case}
-use Rattle.bx_advice.specs.declared.advice.Case.TheVariants.{Opened, Connected, Done, Failed}
+use Rattle.bx_advice.specs.declared.advice.Outcome.{Outcome}
+use Rattle.bx_advice.specs.declared.advice.Outcome.TheVariants.{Opened, Connected, Done, Failed}
 use Rattle.bx_message.specs.declared.reply.Reply.{Reply}
 use Rattle.bx_message.specs.declared.reply.Item.{Item}
 use Rattle.bx_message.specs.declared.reply.Item.TheVariants.{EventItem, ReplyItem}
@@ -88,17 +88,17 @@ post moment ms = Request moment 0 ms
 abbrev pub standard : Config
 standard = record { shards = 2; timeout = 30000; interval = 0; max_interval = 10000; limits = standard_limits; some_shard = lit≤ tt; shards_in_range = lit≤ tt }
 
-abbrev pub reply : Column → List ℕ → Option (List ℕ) → Case → AckReply → Reply
-reply column channel client case ack = record { column = column; channel = channel; client = client; id = None; subscription = None; case = case; advice = advice_of standard case; ack = ack }
+abbrev pub reply : MessageKind → List ℕ → Option (List ℕ) → Outcome → AckReply → Reply
+reply message_kind channel client outcome ack = record { message_kind = message_kind; channel = channel; client = client; id = None; subscription = None; outcome = outcome; advice = advice_of standard outcome; ack = ack }
 
 abbrev pub handshaken : ℕ → Item
-handshaken k = ReplyItem (reply Column.Handshake (codes "/meta/handshake") (Some (id_of k)) Opened AckReply.NoAck)
+handshaken k = ReplyItem (reply MessageKind.Handshake (codes "/meta/handshake") (Some (id_of k)) Opened AckReply.NoAck)
 
 abbrev pub ack_handshaken : ℕ → Item
-ack_handshaken k = ReplyItem (reply Column.Handshake (codes "/meta/handshake") (Some (id_of k)) Opened AckReply.AckTrue)
+ack_handshaken k = ReplyItem (reply MessageKind.Handshake (codes "/meta/handshake") (Some (id_of k)) Opened AckReply.AckTrue)
 
-abbrev pub connected_as : ℕ → Case → AckReply → Item
-connected_as k case ack = ReplyItem (reply Column.Connect (codes "/meta/connect") (Some (id_of k)) case ack)
+abbrev pub connected_as : ℕ → Outcome → AckReply → Item
+connected_as k outcome ack = ReplyItem (reply MessageKind.Connect (codes "/meta/connect") (Some (id_of k)) outcome ack)
 
 abbrev pub connected : ℕ → Item
 connected k = connected_as k Connected AckReply.NoAck
@@ -107,19 +107,19 @@ abbrev pub ack_connected : ℕ → ℕ → Item
 ack_connected k n = connected_as k Connected (AckReply.AckNumber n)
 
 abbrev pub subscribed : ℕ → List ℕ → Item
-subscribed k pattern = ReplyItem (record (reply Column.Subscribe (codes "/meta/subscribe") (Some (id_of k)) Done AckReply.NoAck) { subscription = Some (in_quotes pattern) })
+subscribed k pattern = ReplyItem (record (reply MessageKind.Subscribe (codes "/meta/subscribe") (Some (id_of k)) Done AckReply.NoAck) { subscription = Some (in_quotes pattern) })
 
 abbrev pub unsubscribed : ℕ → List ℕ → Item
-unsubscribed k pattern = ReplyItem (record (reply Column.Unsubscribe (codes "/meta/unsubscribe") (Some (id_of k)) Done AckReply.NoAck) { subscription = Some (in_quotes pattern) })
+unsubscribed k pattern = ReplyItem (record (reply MessageKind.Unsubscribe (codes "/meta/unsubscribe") (Some (id_of k)) Done AckReply.NoAck) { subscription = Some (in_quotes pattern) })
 
 abbrev pub disconnected : ℕ → Item
-disconnected k = ReplyItem (reply Column.Disconnect (codes "/meta/disconnect") (Some (id_of k)) Done AckReply.NoAck)
+disconnected k = ReplyItem (reply MessageKind.Disconnect (codes "/meta/disconnect") (Some (id_of k)) Done AckReply.NoAck)
 
 abbrev pub published : List ℕ → Item
-published channel = ReplyItem (reply Column.Publish channel None Done AckReply.NoAck)
+published channel = ReplyItem (reply MessageKind.Publish channel None Done AckReply.NoAck)
 
-abbrev pub unknown_client : Column → List ℕ → Item
-unknown_client column channel = ReplyItem (reply column channel None (Failed UnknownClient) AckReply.NoAck)
+abbrev pub unknown_client : MessageKind → List ℕ → Item
+unknown_client message_kind channel = ReplyItem (reply message_kind channel None (Failed UnknownClient) AckReply.NoAck)
 
 abbrev pub event : List ℕ → List ℕ → Item
 event channel payload = EventItem (record { channel = channel; payload = payload; id = None })
@@ -134,8 +134,8 @@ listing patterns = 91 ∷ (join_with_byte 44 (map in_quotes patterns) ++ 93 ∷ 
 abbrev pub subscribe_all : ℕ → List (List ℕ) → Message
 subscribe_all k patterns = record (of_session (codes "/meta/subscribe") k) { subscription = Some (listing patterns); texts = patterns; listed = true }
 
-abbrev pub subscribed_all : ℕ → List (List ℕ) → Case → Item
-subscribed_all k patterns case = ReplyItem (record (reply Column.Subscribe (codes "/meta/subscribe") (Some (id_of k)) case AckReply.NoAck) { subscription = Some (listing patterns) })
+abbrev pub subscribed_all : ℕ → List (List ℕ) → Outcome → Item
+subscribed_all k patterns outcome = ReplyItem (record (reply MessageKind.Subscribe (codes "/meta/subscribe") (Some (id_of k)) outcome AckReply.NoAck) { subscription = Some (listing patterns) })
 
 -- whether the pattern matches each of the names
 abbrev pub match_all : List ℕ → List (List ℕ) → List Bool
@@ -153,8 +153,8 @@ held_with_ack =
 abbrev pub small : ℕ → ℕ → Config
 small events patterns = record standard { limits = record standard_limits { events = events; patterns = patterns } }
 
-abbrev pub failed : Column → List ℕ → Option (List ℕ) → Error → Item
-failed column channel client error = ReplyItem (reply column channel client (Failed error) AckReply.NoAck)
+abbrev pub failed : MessageKind → List ℕ → Option (List ℕ) → Error → Item
+failed message_kind channel client error = ReplyItem (reply message_kind channel client (Failed error) AckReply.NoAck)
 
 -- 256 publishes in a request
 abbrev pub many : ReadInput
@@ -190,7 +190,7 @@ abbrev pub mixed : List ℕ → Message
 mixed text = record (subscribe 1 text) { listed = false }
 
 abbrev pub mixed_failed : List ℕ → Error → Item
-mixed_failed text error = ReplyItem (record (reply Column.Subscribe (codes "/meta/subscribe") (Some (id_of 1)) (Failed error) AckReply.NoAck) { subscription = Some (in_quotes text) })
+mixed_failed text error = ReplyItem (record (reply MessageKind.Subscribe (codes "/meta/subscribe") (Some (id_of 1)) (Failed error) AckReply.NoAck) { subscription = Some (in_quotes text) })
 
 -- a configuration with room for so many sessions
 abbrev pub crowded : ℕ → Config

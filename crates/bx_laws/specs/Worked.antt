@@ -4,9 +4,9 @@ use Rattle.bx_names.specs.Faults.{name_fault, pattern_fault}
 use Rattle.bx_names.specs.declared.error.NameError.TheVariants.{NoSlash, EmptySegment, BadByte, Wild, TooLong, TooDeep}
 use Rattle.bx_message.specs.declared.message.TextMember.TheVariants.{Text}
 use Rattle.bx_message.specs.declared.message.AckMember.TheVariants.{NoAck}
-use Rattle.bx_message.specs.declared.column.Column.{Column}
+use Rattle.bx_message.specs.declared.message_kind.MessageKind.{MessageKind}
 use Rattle.bx_advice.specs.declared.error.Error.TheVariants.{UnknownMetaChannel, UnsupportedVersion, SecondHandshake, NoClientId, UnknownClient, InvalidChannel, SubscriptionDenied, MissingSubscription, MissingData, SupersededConnect, QueueOverflow}
-use Rattle.bx_advice.specs.declared.advice.Case.TheVariants.{Opened, Disconnected, Done, Failed}
+use Rattle.bx_advice.specs.declared.advice.Outcome.TheVariants.{Opened, Disconnected, Done, Failed}
 use Rattle.bx_message.specs.declared.reply.Item.TheVariants.{EventItem, ReplyItem}
 use Rattle.bx_message.specs.declared.reply.AckReply.{AckReply}
 use Rattle.bx_entry.specs.Inputs.{Tick}
@@ -21,7 +21,7 @@ use Rattle.bx_entry.specs.Runs.{outs, held}
 use Rattle.bx_laws.specs.Samples.{ack_connect, blank, id_of, versioned, handshake, ack_handshake, connect, connect_now, ack_connect_now, in_quotes, subscribe, unsubscribe, disconnect, publish, post, standard, reply, handshaken, ack_handshaken, connected_as, connected, ack_connected, subscribed, unsubscribed, disconnected, published, unknown_client, event, out, subscribe_all, subscribed_all, match_all, two_connects, held_with_ack, small, failed, four_batches, full_batch, texts, refused_messages, mixed, mixed_failed, crowded}
 use Rattle.bx_advice.specs.declared.error.Error.TheVariants.{TooManySessions}
 use Rattle.std.specs.Prelude.{◌++◌, map}
-use Rattle.bx_script.specs.Replay.{lines_of, line_of, Bad, Turned, Handed, Resharded, inputs_from, printed}
+use Rattle.bx_script.specs.Replay.{lines_of, line_of, Bad, Rejected, Accepted, Resharded, inputs_from, printed}
 
 -- ---- which texts read as names and patterns, and what patterns match
 
@@ -62,20 +62,20 @@ PlainMatch =
 abbrev pub HandshakeWithId : Type 0
 HandshakeWithId =
     outs standard (post 0 (record handshake { id = Some (codes "\"1\"") } ∷ []) ∷ [])
-    ≡ out 0 (ReplyItem (record (reply Column.Handshake (codes "/meta/handshake") (Some (id_of 1)) Opened AckReply.NoAck) { id = Some (codes "\"1\"") }) ∷ []) ∷ []
+    ≡ out 0 (ReplyItem (record (reply MessageKind.Handshake (codes "/meta/handshake") (Some (id_of 1)) Opened AckReply.NoAck) { id = Some (codes "\"1\"") }) ∷ []) ∷ []
 
 -- a version that isn't accepted takes no number
 abbrev pub RefusedHandshake : Type 0
 RefusedHandshake =
     outs standard (post 0 (versioned (codes "2.0") ∷ []) ∷ post 0 (handshake ∷ []) ∷ [])
-    ≡ out 0 (ReplyItem (reply Column.Handshake (codes "/meta/handshake") None (Failed UnsupportedVersion) AckReply.NoAck) ∷ [])
+    ≡ out 0 (ReplyItem (reply MessageKind.Handshake (codes "/meta/handshake") None (Failed UnsupportedVersion) AckReply.NoAck) ∷ [])
     ∷ out 1 (handshaken 1 ∷ []) ∷ []
 
 -- the second handshake of a request takes no number
 abbrev pub TwoHandshakes : Type 0
 TwoHandshakes =
     outs standard (post 0 (handshake ∷ handshake ∷ []) ∷ post 0 (handshake ∷ []) ∷ [])
-    ≡ out 0 (handshaken 1 ∷ ReplyItem (reply Column.Handshake (codes "/meta/handshake") None (Failed SecondHandshake) AckReply.NoAck) ∷ [])
+    ≡ out 0 (handshaken 1 ∷ ReplyItem (reply MessageKind.Handshake (codes "/meta/handshake") None (Failed SecondHandshake) AckReply.NoAck) ∷ [])
     ∷ out 1 (handshaken 2 ∷ []) ∷ []
 
 -- an empty array is answered by an empty array
@@ -122,7 +122,7 @@ abbrev pub SenderBytes : Type 0
 SenderBytes =
     outs standard (post 0 (handshake ∷ []) ∷ post 0 (subscribe 1 (codes "/a/b") ∷ []) ∷ post 0 (record (publish 1 (codes "/a/b") (codes "{\"a\" : 1.50}")) { id = Some (codes "\"q\"") } ∷ []) ∷ post 0 (connect_now 1 ∷ []) ∷ [])
     ≡ out 0 (handshaken 1 ∷ []) ∷ out 1 (subscribed 1 (codes "/a/b") ∷ [])
-    ∷ out 2 (ReplyItem (record (reply Column.Publish (codes "/a/b") None Done AckReply.NoAck) { id = Some (codes "\"q\"") }) ∷ [])
+    ∷ out 2 (ReplyItem (record (reply MessageKind.Publish (codes "/a/b") None Done AckReply.NoAck) { id = Some (codes "\"q\"") }) ∷ [])
     ∷ out 3 (EventItem (record { channel = codes "/a/b"; payload = codes "{\"a\" : 1.50}"; id = Some (codes "\"q\"") }) ∷ connected 1 ∷ []) ∷ []
 
 -- ---- batches, until they are acknowledged
@@ -222,7 +222,7 @@ HoldExtends =
     post 0 (handshake ∷ []) ∷ post 0 (subscribe 1 (codes "/a/b") ∷ []) ∷ post 0 (connect 1 ∷ []) ∷ post 100 (publish 1 (codes "/a/b") (codes "1") ∷ []) ∷ Tick 40000
     ∷ post 40000 (publish 1 (codes "/a/b") (codes "2") ∷ []) ∷ Tick 50000 ∷ Tick 50001 ∷ post 50001 (connect_now 1 ∷ []) ∷ [])
     ≡ out 0 (handshaken 1 ∷ []) ∷ out 1 (subscribed 1 (codes "/a/b") ∷ []) ∷ out 2 (event (codes "/a/b") (codes "1") ∷ connected 1 ∷ []) ∷ out 3 (published (codes "/a/b") ∷ []) ∷ out 4 []
-    ∷ out 5 (published (codes "/a/b") ∷ []) ∷ out 6 [] ∷ out 7 [] ∷ out 8 (unknown_client Column.Connect (codes "/meta/connect") ∷ []) ∷ []
+    ∷ out 5 (published (codes "/a/b") ∷ []) ∷ out 6 [] ∷ out 7 [] ∷ out 8 (unknown_client MessageKind.Connect (codes "/meta/connect") ∷ []) ∷ []
 
 -- moments count as the greatest so far: a deadline, and the end of moments
 abbrev pub MomentsRise : Type 0
@@ -240,13 +240,13 @@ SessionExpires =
     post 0 (handshake ∷ []) ∷ post 5 (handshake ∷ []) ∷ post 5 (subscribe 2 (codes "/a/*") ∷ []) ∷ Tick 10000 ∷ Tick 10001
     ∷ post 10001 (publish 1 (codes "/a/b") (codes "1") ∷ []) ∷ post 10001 (connect_now 2 ∷ []) ∷ [])
     ≡ out 0 (handshaken 1 ∷ []) ∷ out 1 (handshaken 2 ∷ []) ∷ out 2 (subscribed 2 (codes "/a/*") ∷ []) ∷ out 3 [] ∷ out 4 []
-    ∷ out 5 (unknown_client Column.Publish (codes "/a/b") ∷ []) ∷ out 6 (connected 2 ∷ []) ∷ []
+    ∷ out 5 (unknown_client MessageKind.Publish (codes "/a/b") ∷ []) ∷ out 6 (connected 2 ∷ []) ∷ []
 
 -- a message behind its session's disconnect comes too late
 abbrev pub GoneWithinARequest : Type 0
 GoneWithinARequest =
     outs standard (post 0 (handshake ∷ []) ∷ post 1 (disconnect 1 ∷ publish 1 (codes "/a/b") (codes "1") ∷ []) ∷ [])
-    ≡ out 0 (handshaken 1 ∷ []) ∷ out 1 (disconnected 1 ∷ unknown_client Column.Publish (codes "/a/b") ∷ []) ∷ []
+    ≡ out 0 (handshaken 1 ∷ []) ∷ out 1 (disconnected 1 ∷ unknown_client MessageKind.Publish (codes "/a/b") ∷ []) ∷ []
 
 -- ---- refused messages
 
@@ -254,20 +254,20 @@ abbrev pub EachRefusal : Type 0
 EachRefusal =
     outs standard refused_messages
     ≡ out 0 (handshaken 1 ∷ [])
-    ∷ out 1 (failed Column.UnknownMeta (codes "/meta/ping") None UnknownMetaChannel
-    ∷ failed Column.Connect (codes "/meta/connect") None NoClientId
-    ∷ failed Column.Disconnect (codes "/meta/disconnect") None UnknownClient
-    ∷ ReplyItem (record (reply Column.Subscribe (codes "/meta/subscribe") (Some (id_of 1)) (Failed SubscriptionDenied) AckReply.NoAck) { subscription = Some (in_quotes (codes "/meta/*")) })
+    ∷ out 1 (failed MessageKind.UnknownMeta (codes "/meta/ping") None UnknownMetaChannel
+    ∷ failed MessageKind.Connect (codes "/meta/connect") None NoClientId
+    ∷ failed MessageKind.Disconnect (codes "/meta/disconnect") None UnknownClient
+    ∷ ReplyItem (record (reply MessageKind.Subscribe (codes "/meta/subscribe") (Some (id_of 1)) (Failed SubscriptionDenied) AckReply.NoAck) { subscription = Some (in_quotes (codes "/meta/*")) })
     ∷ subscribed 1 (codes "/service/x")
-    ∷ failed Column.Subscribe (codes "/meta/subscribe") (Some (id_of 1)) MissingSubscription
-    ∷ failed Column.Publish (codes "/a/*") None InvalidChannel
-    ∷ failed Column.Publish (codes "/a") None MissingData ∷ []) ∷ []
+    ∷ failed MessageKind.Subscribe (codes "/meta/subscribe") (Some (id_of 1)) MissingSubscription
+    ∷ failed MessageKind.Publish (codes "/a/*") None InvalidChannel
+    ∷ failed MessageKind.Publish (codes "/a") None MissingData ∷ []) ∷ []
 
 -- a connection type that isn't served is refused
 abbrev pub UnknownType : Type 0
 UnknownType =
     drop 1 (outs standard (post 0 (handshake ∷ []) ∷ post 1 (record (connect 1) { connection = Text (codes "websocket") } ∷ []) ∷ []))
-    ≡ out 1 (failed Column.Connect (codes "/meta/connect") (Some (id_of 1)) UnknownConnectionType ∷ []) ∷ []
+    ≡ out 1 (failed MessageKind.Connect (codes "/meta/connect") (Some (id_of 1)) UnknownConnectionType ∷ []) ∷ []
 
 -- 64 patterns are accepted, 65 are not; one that reads as no pattern is told first, one of a meta channel later
 abbrev pub ManyPatterns : Type 0
@@ -409,7 +409,7 @@ RefusalsText =
 abbrev pub RefusedMovesClock : Type 0
 RefusedMovesClock =
     drop 2 (outs standard (post 0 (handshake ∷ []) ∷ post 20000 (blank (codes "/meta/ping") ∷ []) ∷ Tick 5 ∷ post 5 (connect_now 1 ∷ []) ∷ []))
-    ≡ out 2 [] ∷ out 3 (unknown_client Column.Connect (codes "/meta/connect") ∷ []) ∷ []
+    ≡ out 2 [] ∷ out 3 (unknown_client MessageKind.Connect (codes "/meta/connect") ∷ []) ∷ []
 
 -- an empty request doesn't, nor one that can't be read
 abbrev pub EmptyKeepsClock : Type 0
@@ -421,13 +421,13 @@ EmptyKeepsClock =
 abbrev pub RefusedKeepsDue : Type 0
 RefusedKeepsDue =
     drop 2 (outs standard (post 0 (handshake ∷ []) ∷ post 9000 (record (connect 1) { connection = Text (codes "websocket") } ∷ []) ∷ Tick 10001 ∷ post 10001 (connect_now 1 ∷ []) ∷ []))
-    ≡ out 2 [] ∷ out 3 (unknown_client Column.Connect (codes "/meta/connect") ∷ []) ∷ []
+    ≡ out 2 [] ∷ out 3 (unknown_client MessageKind.Connect (codes "/meta/connect") ∷ []) ∷ []
 
 -- a tick past both the deadline and the due moment answers the hold, and then closes
 abbrev pub HoldBeforeEnd : Type 0
 HoldBeforeEnd =
     drop 1 (outs standard (post 0 (handshake ∷ []) ∷ post 1 (connect 1 ∷ []) ∷ Tick 50000 ∷ post 50000 (connect_now 1 ∷ []) ∷ []))
-    ≡ out 1 (connected 1 ∷ []) ∷ out 2 [] ∷ out 3 (unknown_client Column.Connect (codes "/meta/connect") ∷ []) ∷ []
+    ≡ out 1 (connected 1 ∷ []) ∷ out 2 [] ∷ out 3 (unknown_client MessageKind.Connect (codes "/meta/connect") ∷ []) ∷ []
 
 -- a hold of an acknowledging session that a disconnect ends has the number
 abbrev pub EndedWithNumber : Type 0
@@ -451,7 +451,7 @@ MixedArrays =
 abbrev pub FullServer : Type 0
 FullServer =
     outs (crowded 1) (post 0 (handshake ∷ []) ∷ post 0 (handshake ∷ []) ∷ post 0 (disconnect 1 ∷ handshake ∷ []) ∷ [])
-    ≡ out 0 (handshaken 1 ∷ []) ∷ out 1 (failed Column.Handshake (codes "/meta/handshake") None TooManySessions ∷ []) ∷ out 2 (disconnected 1 ∷ handshaken 2 ∷ []) ∷ []
+    ≡ out 0 (handshaken 1 ∷ []) ∷ out 1 (failed MessageKind.Handshake (codes "/meta/handshake") None TooManySessions ∷ []) ∷ out 2 (disconnected 1 ∷ handshaken 2 ∷ []) ∷ []
 
 -- unsubscribing doesn't end an overflow
 abbrev pub OverflowOutlivesPatterns : Type 0
@@ -477,11 +477,11 @@ ScriptLines =
 abbrev pub LineForms : Type 0
 LineForms =
     map line_of (codes "007 T" ∷ codes "7 T " ∷ codes "x" ∷ codes "0 P" ∷ codes "18446744073709551616 T" ∷ codes "0 S 64" ∷ codes "0 S 65" ∷ [] ∷ [])
-    ≡ Handed None (Tick 7) ∷ Bad ∷ Bad ∷ Bad ∷ Bad ∷ Resharded 64 ∷ Bad ∷ Bad ∷ []
+    ≡ Accepted None (Tick 7) ∷ Bad ∷ Bad ∷ Bad ∷ Bad ∷ Resharded 64 ∷ Bad ∷ Bad ∷ []
 
 -- what lines print: an answer comes with the line that gives it, and the lines that are held come last
 abbrev pub ScriptPrinted : Type 0
 ScriptPrinted =
-    (let ls = Handed None (post 0 (handshake ∷ [])) ∷ Bad ∷ Handed None (post 0 (connect 1 ∷ [])) ∷ Turned 413 ∷ Handed None (Tick 30000) ∷ Handed None (post 30000 (connect 1 ∷ [])) ∷ [] in
+    (let ls = Accepted None (post 0 (handshake ∷ [])) ∷ Bad ∷ Accepted None (post 0 (connect 1 ∷ [])) ∷ Rejected 413 ∷ Accepted None (Tick 30000) ∷ Accepted None (post 30000 (connect 1 ∷ [])) ∷ [] in
     printed standard (inputs_from 1 ls) ls)
     ≡ (codes "1 200 [{\"advice\":{\"interval\":0,\"reconnect\":\"retry\",\"timeout\":30000},\"channel\":\"/meta/handshake\",\"clientId\":\"000000000000000000000000000000000000000000000001\",\"successful\":true,\"supportedConnectionTypes\":[\"long-polling\",\"callback-polling\"],\"version\":\"1.0\"}]" ++ 10 ∷ []) ++ (codes "2 bad" ++ 10 ∷ []) ++ (codes "4 413" ++ 10 ∷ []) ++ (codes "3 200 [{\"advice\":{\"interval\":0,\"reconnect\":\"retry\",\"timeout\":30000},\"channel\":\"/meta/connect\",\"clientId\":\"000000000000000000000000000000000000000000000001\",\"successful\":true}]" ++ 10 ∷ []) ++ (codes "6 held" ++ 10 ∷ [])

@@ -1,7 +1,7 @@
 -- Objects and arrays that are written piece by piece, and what they are when they are ended.
 use Rattle.std.proofs.Common.{◌≡◌, ℕ, ◌+◌, ◌<◌, List, [], ◌∷◌, ◌++◌, length, take, map, get_or, refl, sym, ap, ◌∙◌, arith, append_assoc}
 use Rattle.std.proofs.Common.{cond, Result, Ok, Err, OnOk, is_ok, Bool, true, false, not, ◌&&◌, ◌||◌, ◌==◌, nat_lt, eq-eqb}
-use Rattle.std.proofs.lemmas.Bool.{true≢false, ltb-false}
+use Rattle.std.proofs.lemmas.Bool.{true≢false, ltb-false, and_parts}
 use Rattle.std.specs.List.{join_with_byte, list_all}
 use Rattle.json.specs.Run.{is_plain}
 use Rattle.json.specs.Print.{escape, escape_byte}
@@ -47,7 +47,7 @@ abbrev after_commas : List (List ℕ) → List ℕ
 after_commas [] = []
 after_commas (m ∷ ms) = 44 ∷ (m ++ after_commas ms)
 
-joined : (m : List ℕ) (ms : List (List ℕ)) → join_with_byte 44 (m ∷ ms) ≡ m ++ after_commas ms
+pub joined : (m : List ℕ) (ms : List (List ℕ)) → join_with_byte 44 (m ∷ ms) ≡ m ++ after_commas ms
 joined m [] = sym (append-nil m)
 joined m (n ∷ ms) = ap (λ t. m ++ (44 ∷ t)) (joined n ms)
 
@@ -100,10 +100,6 @@ array-more f xs i x before some h e b =
 
 -- ---- texts that need no escape
 
-both_true : (a b : Bool) → (a && b) ≡ true → (a ≡ true) × (b ≡ true)
-both_true true b e = (refl, e)
-both_true false b e = cc
-
 not_stop : (a b c : Bool) → not (a || b || c) ≡ true → (a ≡ false) × (b ≡ false) × (c ≡ false)
 not_stop true b c e = cc
 not_stop false true c e = cc
@@ -118,7 +114,7 @@ plain_byte x e =
 pub escape-plain : (s : List ℕ) → list_all is_plain s ≡ true → escape s ≡ s
 escape-plain [] e = refl
 escape-plain (x ∷ xs) e =
-    let parts = both_true (is_plain x) (list_all is_plain xs) e in
+    let parts = and_parts (is_plain x) (list_all is_plain xs) e in
     ap (λ t. t ++ escape xs) (plain_byte x parts.0) ∙ ap (λ t. x ∷ t) (escape-plain xs parts.1)
 
 pub quoted_plain : (s : List ℕ) → list_all is_plain s ≡ true → quoted s ≡ 34 ∷ (s ++ 34 ∷ [])

@@ -1,4 +1,4 @@
-pub mod Columns
+pub mod MessageKinds
 pub mod Replies
 pub mod Texts
 pub mod Objects

@@ -1,16 +1,16 @@
 -- What a reply repeats of its message, and what it tells the client.
 use Rattle.std.specs.Prelude.{ℕ, List, codes, Option, Some, None}
 use Rattle.bx_advice.specs.declared.config.Config.{Config}
-use Rattle.bx_advice.specs.declared.advice.Case.{Case}
+use Rattle.bx_advice.specs.declared.advice.Outcome.{Outcome}
 use Rattle.bx_advice.specs.Advice.{advice_of}
 use Rattle.bx_message.specs.declared.message.Message.{Message}
-use Rattle.bx_message.specs.declared.column.Column.{Column}
-use Rattle.bx_message.specs.declared.column.Column.TheVariants.{Handshake, Connect, Subscribe, Unsubscribe, Disconnect, Publish, UnknownMeta}
+use Rattle.bx_message.specs.declared.message_kind.MessageKind.{MessageKind}
+use Rattle.bx_message.specs.declared.message_kind.MessageKind.TheVariants.{Handshake, Connect, Subscribe, Unsubscribe, Disconnect, Publish, UnknownMeta}
 use Rattle.bx_message.specs.declared.reply.AckReply.{AckReply}
 use Rattle.bx_message.specs.declared.reply.Reply.{Reply}
 
--- the reply to a message of this column carries the client id, where its session is known
-abbrev pub client_for : Column → Option (List ℕ) → Option (List ℕ)
+-- the reply to a message of this kind carries the client id, where its session is known
+abbrev pub client_for : MessageKind → Option (List ℕ) → Option (List ℕ)
 client_for Handshake client = client
 client_for Connect client = client
 client_for Subscribe client = client
@@ -20,7 +20,7 @@ client_for Publish client = None
 client_for UnknownMeta client = None
 
 -- subscriptions and unsubscriptions repeat the member, in a refusal too
-abbrev pub subscription_for : Column → Option (List ℕ) → Option (List ℕ)
+abbrev pub subscription_for : MessageKind → Option (List ℕ) → Option (List ℕ)
 subscription_for Handshake subscription = None
 subscription_for Connect subscription = None
 subscription_for Subscribe subscription = subscription
@@ -30,27 +30,27 @@ subscription_for Publish subscription = None
 subscription_for UnknownMeta subscription = None
 
 -- the reply to a message that is answered at its own place; the client id is that of its session, or none
-abbrev pub reply_to : Config → Column → Message → Option (List ℕ) → Case → AckReply → Reply
-reply_to config column m client case ack = record {
-  column = column;
+abbrev pub reply_to : Config → MessageKind → Message → Option (List ℕ) → Outcome → AckReply → Reply
+reply_to config message_kind m client outcome ack = record {
+  message_kind = message_kind;
   channel = m.channel;
-  client = client_for column client;
+  client = client_for message_kind client;
   id = m.id;
-  subscription = subscription_for column m.subscription;
-  case = case;
-  advice = advice_of config case;
+  subscription = subscription_for message_kind m.subscription;
+  outcome = outcome;
+  advice = advice_of config outcome;
   ack = ack;
 }
 
 -- the reply to a connect, whenever it is answered
-abbrev pub connect_reply : Config → List ℕ → Option (List ℕ) → Case → AckReply → Reply
-connect_reply config client id case ack = record {
-  column = Connect;
+abbrev pub connect_reply : Config → List ℕ → Option (List ℕ) → Outcome → AckReply → Reply
+connect_reply config client id outcome ack = record {
+  message_kind = Connect;
   channel = codes "/meta/connect";
   client = Some client;
   id = id;
   subscription = None;
-  case = case;
-  advice = advice_of config case;
+  outcome = outcome;
+  advice = advice_of config outcome;
   ack = ack;
 }

@@ -6,9 +6,9 @@ use Rattle.bx_advice.specs.Errors.{error_text}
 use Rattle.bx_advice.specs.declared.advice.Advice.{Advice}
 use Rattle.bx_advice.specs.declared.advice.Reconnect.{Reconnect}
 use Rattle.bx_advice.specs.declared.advice.Reconnect.TheVariants.{Retry, Handshake, Never}
-use Rattle.bx_advice.specs.declared.advice.Case.{Case}
-use Rattle.bx_advice.specs.declared.advice.Case.TheVariants.{Opened, Connected, Disconnected, Done, Failed}
-use Rattle.bx_message.specs.declared.column.Column.{Column}
+use Rattle.bx_advice.specs.declared.advice.Outcome.{Outcome}
+use Rattle.bx_advice.specs.declared.advice.Outcome.TheVariants.{Opened, Connected, Disconnected, Done, Failed}
+use Rattle.bx_message.specs.declared.message_kind.MessageKind.{MessageKind}
 use Rattle.bx_message.specs.declared.event.Event.{Event}
 use Rattle.bx_message.specs.declared.reply.Reply.{Reply}
 use Rattle.bx_message.specs.declared.reply.Item.{Item}
@@ -72,7 +72,7 @@ ack_member AckTrue = member (codes "ext") (object (member (codes "ack") (codes "
 ack_member (AckNumber n) = member (codes "ext") (object (member (codes "ack") (decimal n) ∷ [])) ∷ []
 
 -- the error, where there is one
-abbrev pub error_member : Case → List (List ℕ)
+abbrev pub error_member : Outcome → List (List ℕ)
 error_member Opened = []
 error_member Connected = []
 error_member Disconnected = []
@@ -80,7 +80,7 @@ error_member Done = []
 error_member (Failed error) = member (codes "error") (quoted (error_text error)) ∷ []
 
 -- `true` unless there is an error
-abbrev pub success_text : Case → List ℕ
+abbrev pub success_text : Outcome → List ℕ
 success_text Opened = codes "true"
 success_text Connected = codes "true"
 success_text Disconnected = codes "true"
@@ -88,28 +88,28 @@ success_text Done = codes "true"
 success_text (Failed error) = codes "false"
 
 -- only replies to handshakes carry the types and the version, and they carry them always
-abbrev pub types_member : Column → List (List ℕ)
-types_member Column.Handshake = member (codes "supportedConnectionTypes") (array (quoted (codes "long-polling") ∷ quoted (codes "callback-polling") ∷ [])) ∷ []
-types_member Column.Connect = []
-types_member Column.Subscribe = []
-types_member Column.Unsubscribe = []
-types_member Column.Disconnect = []
-types_member Column.Publish = []
-types_member Column.UnknownMeta = []
+abbrev pub types_member : MessageKind → List (List ℕ)
+types_member MessageKind.Handshake = member (codes "supportedConnectionTypes") (array (quoted (codes "long-polling") ∷ quoted (codes "callback-polling") ∷ [])) ∷ []
+types_member MessageKind.Connect = []
+types_member MessageKind.Subscribe = []
+types_member MessageKind.Unsubscribe = []
+types_member MessageKind.Disconnect = []
+types_member MessageKind.Publish = []
+types_member MessageKind.UnknownMeta = []
 
 -- the protocol's version
-abbrev pub version_member : Column → List (List ℕ)
-version_member Column.Handshake = member (codes "version") (quoted (codes "1.0")) ∷ []
-version_member Column.Connect = []
-version_member Column.Subscribe = []
-version_member Column.Unsubscribe = []
-version_member Column.Disconnect = []
-version_member Column.Publish = []
-version_member Column.UnknownMeta = []
+abbrev pub version_member : MessageKind → List (List ℕ)
+version_member MessageKind.Handshake = member (codes "version") (quoted (codes "1.0")) ∷ []
+version_member MessageKind.Connect = []
+version_member MessageKind.Subscribe = []
+version_member MessageKind.Unsubscribe = []
+version_member MessageKind.Disconnect = []
+version_member MessageKind.Publish = []
+version_member MessageKind.UnknownMeta = []
 
 -- what only replies to handshakes carry
-abbrev pub handshake_members : Column → List (List ℕ)
-handshake_members column = types_member column ++ version_member column
+abbrev pub handshake_members : MessageKind → List (List ℕ)
+handshake_members message_kind = types_member message_kind ++ version_member message_kind
 
 -- the members of a reply, in order
 abbrev pub reply_members : Reply → List (List ℕ)
@@ -117,12 +117,12 @@ reply_members r =
     advice_member r.advice
     ++ text_member (codes "channel") (Some r.channel)
     ++ text_member (codes "clientId") r.client
-    ++ error_member r.case
+    ++ error_member r.outcome
     ++ ack_member r.ack
     ++ raw_member (codes "id") r.id
     ++ raw_member (codes "subscription") r.subscription
-    ++ raw_member (codes "successful") (Some (success_text r.case))
-    ++ handshake_members r.column
+    ++ raw_member (codes "successful") (Some (success_text r.outcome))
+    ++ handshake_members r.message_kind
 
 -- a reply
 abbrev pub reply_text : Reply → List ℕ

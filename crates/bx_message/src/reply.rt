@@ -2,12 +2,12 @@ ghost use Rattle.std.specs.Prelude.{◌≡◌, IfOk};
 ghost use Rattle.std.specs.Option.{option_copied};
 ghost use Rattle.bx_message.specs.Replies.{reply_to, connect_reply, client_for, subscription_for};
 
-use crate::column::Column;
 use crate::event::SharedEvent;
 use crate::message::Message;
+use crate::message_kind::MessageKind;
 use crate::sequence::Sequence;
 use crate::text::{RawJson, Text};
-use bx_advice::{Advice, Case, Config, advice_for};
+use bx_advice::{Advice, Config, Outcome, advice_for};
 use std::alloc::{AllocError, Global};
 
 /// What `ack` of a reply's `ext` carries. (The acknowledgement extension of CometD.)
@@ -25,7 +25,7 @@ pub enum AckReply {
 /// it tells the client.
 #[derive(Drop)]
 pub struct Reply {
-    pub column: Column,
+    pub message_kind: MessageKind,
     pub channel: Text,
     /// The client id of the message's session, where the reply carries one.
     pub client: Option<Text>,
@@ -33,35 +33,35 @@ pub struct Reply {
     pub id: Option<RawJson>,
     /// The message's `subscription`, as the sender wrote it, where the reply repeats it.
     pub subscription: Option<RawJson>,
-    pub case: Case,
+    pub outcome: Outcome,
     pub advice: Option<Advice>,
     pub ack: AckReply,
 }
 
 impl Reply {
-    /// The reply to a message of this column that is answered at its own place. `client` is the id
+    /// The reply to a message of this kind that is answered at its own place. `client` is the id
     /// of its session, where that is known: replies to the five meta messages carry it, and no
     /// others. Replies to subscriptions and unsubscriptions repeat `subscription`, refusals too.
     /// (Bayeux 1.0, the responses of meta messages and of publish.)
     pub fn to_message(
         config: &Config,
-        column: Column,
+        message_kind: MessageKind,
         message: &Message,
         client: Option<&Text>,
-        case: Case,
+        outcome: Outcome,
         ack: AckReply,
     ) -> Result<Reply, AllocError>
         ensures { IfOk result (λ r.
-            r ≡ reply_to config.now column message.now (option_copied client.entry) case ack) }
+            r ≡ reply_to config.now message_kind message.now (option_copied client.entry) outcome ack) }
     {
         Ok(Reply {
-            column,
+            message_kind,
             channel: message.channel.clone()?,
-            client: client_of(column, client)?,
+            client: client_of(message_kind, client)?,
             id: share_json(message.id.as_ref())?,
-            subscription: subscription_of(column, message.subscription.as_ref())?,
-            case,
-            advice: advice_for(case, config),
+            subscription: subscription_of(message_kind, message.subscription.as_ref())?,
+            outcome,
+            advice: advice_for(outcome, config),
             ack,
         })
     }
@@ -73,44 +73,44 @@ impl Reply {
         config: &Config,
         client: &Text,
         id: Option<&RawJson>,
-        case: Case,
+        outcome: Outcome,
         ack: AckReply,
     ) -> Result<Reply, AllocError>
         ensures { IfOk result (λ r.
-            r ≡ connect_reply config.now client.now (option_copied id.entry) case ack) }
+            r ≡ connect_reply config.now client.now (option_copied id.entry) outcome ack) }
     {
         Ok(Reply {
-            column: Column::Connect,
+            message_kind: MessageKind::Connect,
             channel: Text::new(alloc, "/meta/connect")?,
             client: Some(client.clone()?),
             id: share_json(id)?,
             subscription: None,
-            case,
-            advice: advice_for(case, config),
+            outcome,
+            advice: advice_for(outcome, config),
             ack,
         })
     }
 }
 
-// The client id that a reply of this column carries.
-fn client_of(column: Column, client: Option<&Text>) -> Result<Option<Text>, AllocError>
-    ensures { IfOk result (λ c. c ≡ client_for column (option_copied client.entry)) }
+// The client id that a reply to a message of this kind carries.
+fn client_of(message_kind: MessageKind, client: Option<&Text>) -> Result<Option<Text>, AllocError>
+    ensures { IfOk result (λ c. c ≡ client_for message_kind (option_copied client.entry)) }
 {
-    match column {
-        Column::Publish | Column::UnknownMeta => Ok(None),
+    match message_kind {
+        MessageKind::Publish | MessageKind::UnknownMeta => Ok(None),
         _ => share_text(client),
     }
 }
 
-// The subscription that a reply of this column repeats.
+// The subscription that a reply to a message of this kind repeats.
 fn subscription_of(
-    column: Column,
+    message_kind: MessageKind,
     subscription: Option<&RawJson>,
 ) -> Result<Option<RawJson>, AllocError>
-    ensures { IfOk result (λ s. s ≡ subscription_for column (option_copied subscription.entry)) }
+    ensures { IfOk result (λ s. s ≡ subscription_for message_kind (option_copied subscription.entry)) }
 {
-    match column {
-        Column::Subscribe | Column::Unsubscribe => share_json(subscription),
+    match message_kind {
+        MessageKind::Subscribe | MessageKind::Unsubscribe => share_json(subscription),
         _ => Ok(None),
     }
 }
@@ -124,7 +124,8 @@ fn share_text(text: Option<&Text>) -> Result<Option<Text>, AllocError>
     }
 }
 
-fn share_json(json: Option<&RawJson>) -> Result<Option<RawJson>, AllocError>
+/// Another handle to a slice, where there is one.
+pub fn share_json(json: Option<&RawJson>) -> Result<Option<RawJson>, AllocError>
     ensures { IfOk result (λ shared. shared ≡ option_copied json.entry) }
 {
     match json {

@@ -6,12 +6,12 @@ ghost use Rattle.json.specs.Run.{is_plain};
 ghost use Rattle.bx_message.specs.Objects.{with_members, name_text};
 ghost use Rattle.bx_message.specs.Texts.{reply_text, event_text, body_text, item_text, reconnect_text, success_text, raw_member, text_member, number_member, advice_member, error_member, ack_member, handshake_members};
 
-use crate::column::Column;
 use crate::event::Event;
+use crate::message_kind::MessageKind;
 use crate::object::{Name, ObjectWriter};
 use crate::reply::{AckReply, Item, Reply};
 use crate::text::{RawJson, Text};
-use bx_advice::{Advice, Case, Reconnect};
+use bx_advice::{Advice, Outcome, Reconnect};
 use std::alloc::{AllocError, Global};
 
 // Both are this server's, in every reply to a handshake. (Bayeux 1.0, handshake response.)
@@ -121,12 +121,12 @@ fn write_reply(out: Vec<u8>, reply: &Reply) -> Result<Vec<u8>, AllocError>
     write_advice(&mut object, reply.advice)?;
     object.text(Name::Channel, &reply.channel)?;
     write_text(&mut object, Name::ClientId, &reply.client)?;
-    write_error(&mut object, reply.case)?;
+    write_error(&mut object, reply.outcome)?;
     write_ack(&mut object, reply.ack)?;
     write_raw(&mut object, Name::Id, &reply.id)?;
     write_raw(&mut object, Name::Subscription, &reply.subscription)?;
-    object.raw(Name::Successful, success_text(reply.case))?;
-    write_handshake(&mut object, reply.column)?;
+    object.raw(Name::Successful, success_text(reply.outcome))?;
+    write_handshake(&mut object, reply.message_kind)?;
     object.end()
 }
 
@@ -197,20 +197,20 @@ fn reconnect_text(reconnect: Reconnect) -> &'static str
 }
 
 #[tactic(auto, using(crate::proofs::ObjectLemmas::error_plain))]
-fn write_error(object: &mut ObjectWriter, case: Case) -> Result<(), AllocError>
-    ensures { OnOk result (object.new ≡ with_members object.old (error_member case)) }
+fn write_error(object: &mut ObjectWriter, outcome: Outcome) -> Result<(), AllocError>
+    ensures { OnOk result (object.new ≡ with_members object.old (error_member outcome)) }
 {
-    match case {
-        Case::Failed(error) => object.word(Name::Error, error.text()),
+    match outcome {
+        Outcome::Failed(error) => object.word(Name::Error, error.text()),
         _ => Ok(()),
     }
 }
 
-fn success_text(case: Case) -> &'static str
-    ensures { result.now ≡ success_text case }
+fn success_text(outcome: Outcome) -> &'static str
+    ensures { result.now ≡ success_text outcome }
 {
-    match case {
-        Case::Failed(_) => "false",
+    match outcome {
+        Outcome::Failed(_) => "false",
         _ => "true",
     }
 }
@@ -231,11 +231,11 @@ fn write_ack(object: &mut ObjectWriter, ack: AckReply) -> Result<(), AllocError>
 }
 
 // What every reply to a handshake carries, a refusal too.
-fn write_handshake(object: &mut ObjectWriter, column: Column) -> Result<(), AllocError>
-    ensures { OnOk result (object.new ≡ with_members object.old (handshake_members column)) }
+fn write_handshake(object: &mut ObjectWriter, message_kind: MessageKind) -> Result<(), AllocError>
+    ensures { OnOk result (object.new ≡ with_members object.old (handshake_members message_kind)) }
 {
-    match column {
-        Column::Handshake => {
+    match message_kind {
+        MessageKind::Handshake => {
             object.raw(Name::SupportedConnectionTypes, SUPPORTED_TYPES)?;
             object.word(Name::Version, VERSION)
         }

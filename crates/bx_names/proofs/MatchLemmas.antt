@@ -6,10 +6,10 @@ use Rattle.std.specs.Str.{bytes_eq}
 use Rattle.std.proofs.lemmas.Bool.Decides.{Decides-eqb, Decides-ltb}
 use Rattle.std.proofs.lemmas.Slice.Eq.{bytes_eq-Decides, starts_is}
 use Rattle.std.proofs.Common.{length-append}
-use Rattle.std.proofs.lemmas.List.{append_cancel_left}
+use Rattle.std.proofs.lemmas.List.{append_cancel_left, nil_from_length}
 use Rattle.std.specs.List.{onto_first}
 use Rattle.std.specs.Option.{option_eq}
-use Rattle.std.proofs.lemmas.Bool.{false≢true}
+use Rattle.std.proofs.lemmas.Bool.{false≢true, and_parts}
 use Rattle.bx_names.specs.Segments.{is_slash, parts, segments, is_absolute, is_path, path_of}
 use Rattle.bx_names.specs.Globs.{same_segments, matches_by}
 use Rattle.bx_names.specs.Equality.{same_segments-decides}
@@ -23,21 +23,9 @@ and_true : (a b : Bool) → a ≡ true → b ≡ true → (a && b) ≡ true
 and_true true b p q = q
 and_true false b p q = p
 
-and_left : (a b : Bool) → (a && b) ≡ true → a ≡ true
-and_left true b h = refl
-and_left false b h = h
-
-and_right : (a b : Bool) → (a && b) ≡ true → b ≡ true
-and_right true b h = h
-and_right false b h = cc
-
 false_if : (b : Bool) → (b ≡ true → ⊥) → b ≡ false
 false_if true h = absurd (h refl)
 false_if false h = refl
-
-nil_from_length : {A : Type 0} (xs : List A) → length xs ≡ 0 → xs ≡ []
-nil_from_length [] h = refl
-nil_from_length (x ∷ xs) h = absurd (omega arith)
 
 pub segments_some : (text : List ℕ) → IsTrue (is_absolute text) → 0 < length (segments text)
 segments_some [] h = cc
@@ -80,9 +68,9 @@ pub matches-miss : (own name : List ℕ) → IsTrue (is_path own) → IsTrue (is
 matches-miss own name own_path name_path miss Exact =
     false_if _ (λ h. miss [] (sym (same_text own name own_path name_path h) ∙ sym (append-nil own)))
 matches-miss own name own_path name_path miss One =
-    false_if _ (λ h. miss _ (longer own name own_path name_path (and_right (length (segments name) == length (segments own) + 1) _ h)).by_text)
+    false_if _ (λ h. miss _ (longer own name own_path name_path (and_parts (length (segments name) == length (segments own) + 1) _ h).1).by_text)
 matches-miss own name own_path name_path miss Many =
-    false_if _ (λ h. miss _ (longer own name own_path name_path (and_right (nat_lt (length (segments own)) (length (segments name))) _ h)).by_text)
+    false_if _ (λ h. miss _ (longer own name own_path name_path (and_parts (nat_lt (length (segments own)) (length (segments name))) _ h).1).by_text)
 
 -- ---- where it does
 
@@ -104,8 +92,8 @@ module _ (own name rest : List ℕ) (own_path : IsTrue (is_path own)) (name_path
 
   absolute_if_many : matches_by Many (segments own) (segments name) ≡ true → IsTrue (is_absolute rest)
   absolute_if_many h =
-      let fewer = (Decides-ltb (length (segments own)) (length (segments name))).0 (and_left _ (starts_with bytes_eq (segments name) (segments own)) h) in
-      let l = longer own name own_path name_path (and_right (nat_lt (length (segments own)) (length (segments name))) _ h) in
+      let fewer = (Decides-ltb (length (segments own)) (length (segments name))).0 (and_parts _ (starts_with bytes_eq (segments name) (segments own)) h).0 in
+      let l = longer own name own_path name_path (and_parts (nat_lt (length (segments own)) (length (segments name))) _ h).1 in
       rw (rest_is l) (path_of-absolute l.more (omega (arith, ap length l.by_segments, length-append (segments own) l.more)))
 
   many_if_absolute : IsTrue (is_absolute rest) → matches_by Many (segments own) (segments name) ≡ true
@@ -120,8 +108,8 @@ module _ (own name rest : List ℕ) (own_path : IsTrue (is_path own)) (name_path
 
   one_is : matches_by One (segments own) (segments name) ≡ true → (is_absolute rest && (length (segments rest) == 1)) ≡ true
   one_is h =
-      let count = (Decides-eqb (length (segments name)) (length (segments own) + 1)).0 (and_left _ (starts_with bytes_eq (segments name) (segments own)) h) in
-      let l = longer own name own_path name_path (and_right (length (segments name) == length (segments own) + 1) _ h) in
+      let count = (Decides-eqb (length (segments name)) (length (segments own) + 1)).0 (and_parts _ (starts_with bytes_eq (segments name) (segments own)) h).0 in
+      let l = longer own name own_path name_path (and_parts (length (segments name) == length (segments own) + 1) _ h).1 in
       let single : length l.more ≡ 1 = omega (arith, ap length l.by_segments, length-append (segments own) l.more) in
       let absolute : IsTrue (is_absolute rest) = rw (rest_is l) (path_of-absolute l.more (omega arith)) in
       let same = append_cancel_left (segments own) (segments rest) l.more (sym (split_if absolute) ∙ l.by_segments) in
@@ -129,8 +117,8 @@ module _ (own name rest : List ℕ) (own_path : IsTrue (is_path own)) (name_path
 
   one_if : (is_absolute rest && (length (segments rest) == 1)) ≡ true → matches_by One (segments own) (segments name) ≡ true
   one_if h =
-      let absolute = and_left (is_absolute rest) (length (segments rest) == 1) h in
-      let single = (Decides-eqb (length (segments rest)) 1).0 (and_right (is_absolute rest) (length (segments rest) == 1) h) in
+      let absolute = (and_parts (is_absolute rest) (length (segments rest) == 1) h).0 in
+      let single = (Decides-eqb (length (segments rest)) 1).0 (and_parts (is_absolute rest) (length (segments rest) == 1) h).1 in
       and_true (length (segments name) == length (segments own) + 1) (starts_with bytes_eq (segments name) (segments own))
       ((Decides-eqb (length (segments name)) (length (segments own) + 1)).1 (omega (arith, ap length (split_if absolute), length-append (segments own) (segments rest))))
       (begins_if (segments own) (segments rest) (segments name) (split_if absolute))
@@ -179,11 +167,11 @@ none_if_later : (text : List ℕ) (k : ℕ) → IsLastSlash text k → (k ≡ 0 
 none_if_later [] k last later = refl
 none_if_later (x ∷ xs) zero last later = absurd (later refl)
 none_if_later (x ∷ xs) (suc k) last later =
-    false_if _ (λ h. let single = (Decides-eqb (length (parts xs)) 1).0 (and_right (is_slash x) (length (parts xs) == 1) h) in omega (arith, parts_two xs k (omega (arith, last.0)) last.1))
+    false_if _ (λ h. let single = (Decides-eqb (length (parts xs)) 1).0 (and_parts (is_slash x) (length (parts xs) == 1) h).1 in omega (arith, parts_two xs k (omega (arith, last.0)) last.1))
 
 none_if_absent : (text : List ℕ) → ((i : ℕ) → i < length text → get_or text i 0 ≢ 47) → (is_absolute text && (length (segments text) == 1)) ≡ false
 none_if_absent [] none = refl
-none_if_absent (x ∷ xs) none = false_if _ (λ h. none 0 (omega arith) (slash-is x (and_left (is_slash x) (length (parts xs) == 1) h)))
+none_if_absent (x ∷ xs) none = false_if _ (λ h. none 0 (omega arith) (slash-is x (and_parts (is_slash x) (length (parts xs) == 1) h).0))
 
 one_by_test : (text : List ℕ) (k : ℕ) (test : Bool) → IsLastSlash text k → Decides test (k ≡ 0) → test ≡ (is_absolute text && (length (segments text) == 1))
 one_by_test text k true last is = sym (one_if_first text k last (is.0 refl))
@@ -207,7 +195,7 @@ pub one-decides : (own name : List (List ℕ)) → Decides (matches_by One own n
 one-decides own name =
     let count = Decides-eqb (length name) (length own + 1) in
     let same = same_segments-decides own (take (length own) name) in (
-      λ h. (count.0 (and_left _ (starts_with bytes_eq name own) h), sym (same.0 (and_right (length name == length own + 1) _ h))),
+      λ h. (count.0 (and_parts _ (starts_with bytes_eq name own) h).0, sym (same.0 (and_parts (length name == length own + 1) _ h).1)),
       λ h. and_true (length name == length own + 1) (starts_with bytes_eq name own) (count.1 h.0) (same.1 (sym h.1)),
     )
 
@@ -216,9 +204,9 @@ many-decides own name =
     let count = Decides-ltb (length own) (length name) in
     let starts = starts_is bytes_eq-Decides name own (starts_with bytes_eq name own) refl in (
       λ h.
-          let fewer = count.0 (and_left _ (starts_with bytes_eq name own) h) in
+          let fewer = count.0 (and_parts _ (starts_with bytes_eq name own) h).0 in
           let rest = drop (length own) name in
-          let is = starts.0 (and_right (nat_lt (length own) (length name)) _ h) in
+          let is = starts.0 (and_parts (nat_lt (length own) (length name)) _ h).1 in
           (rest, omega (arith, ap length is, length-append own rest), is),
       λ h. and_true (nat_lt (length own) (length name)) (starts_with bytes_eq name own) (count.1 (omega (arith, h.1, ap length h.2, length-append own h.0))) (starts.1 h.0 h.2),
     )

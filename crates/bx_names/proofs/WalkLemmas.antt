@@ -4,6 +4,7 @@ use Rattle.std.specs.Prelude.{slice_index}
 use Rattle.std.specs.List.{list_any, count_by, onto_first}
 use Rattle.std.proofs.lemmas.List.Recursion.{is_count_by}
 use Rattle.std.proofs.lemmas.List.Splits.{length-slice_split}
+use Rattle.bx_lists.proofs.Tests.{or_assoc}
 use Rattle.bx_names.specs.Segments.{is_slash, parts, segments, is_absolute, is_empty, is_path}
 use Rattle.bx_names.specs.Faults.{is_bad_byte, is_star, has_bad_byte, has_star}
 use Rattle.bx_names.proofs.PathLemmas.{parts_some, slash-is}
@@ -27,10 +28,6 @@ gap-parts (x ∷ xs) =
 pub gap-segments : (text : List ℕ) → IsTrue (is_absolute text) → has_gap false text ≡ list_any is_empty (segments text)
 gap-segments [] absolute = refl
 gap-segments (x ∷ xs) absolute = rw (absolute) (gap-parts xs).0
-
-or_assoc : (a b c : Bool) → ((a || b) || c) ≡ (a || (b || c))
-or_assoc true b c = refl
-or_assoc false b c = refl
 
 any_step : (test : ℕ → Bool) (x : ℕ) (slash : Bool) (ps : List (List ℕ)) → 0 < length ps → (slash ≡ true → test x ≡ false) → list_any (list_any test) (cond slash ([] ∷ ps) (onto_first x ps)) ≡ (test x || list_any (list_any test) ps)
 any_step test x true ps some no_slash = rw (no_slash refl) refl

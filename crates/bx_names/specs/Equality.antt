@@ -6,7 +6,7 @@ use Rattle.bx_names.specs.Globs.{Glob, same_tail, same_segments, same_glob}
 use Rattle.bx_names.specs.declared.tail.Tail.{Tail}
 use Rattle.bx_names.specs.declared.tail.Tail.TheVariants.{Exact, One, Many}
 
-same_tail-decides : (s t : Tail) → Decides (same_tail s t) (s ≡ t)
+pub same_tail-decides : (s t : Tail) → Decides (same_tail s t) (s ≡ t)
 same_tail-decides Exact Exact = (λ e. refl, λ e. refl)
 same_tail-decides Exact One = (λ e. cc, λ e. cc)
 same_tail-decides Exact Many = (λ e. cc, λ e. cc)

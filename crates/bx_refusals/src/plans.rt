@@ -4,7 +4,7 @@ ghost use Rattle.bx_registry.specs.Changes.{IsPlannedAt};
 
 use crate::requests::{HANDSHAKE, add_line, arrival, config, reply};
 use crate::unlike::Unlike;
-use bx_entry::{Kind, read_messages};
+use bx_entry::{EntryKind, read_messages};
 use bx_message::Message;
 use bx_registry::{AdmitFault, Plan, Planned, Registry, TickPlan};
 use std::alloc::Global;
@@ -108,7 +108,7 @@ fn tick(alloc: Global, registry: &mut Registry, moment: u64) -> Result<String, U
     let TickPlan { entry, change } = planned_tick(alloc, registry, moment)?;
     registry.commit(change);
     let mut text = format!(in alloc; "closed:")?;
-    if let Kind::Tick(numbers) = &entry.kind {
+    if let EntryKind::Tick(numbers) = &entry.kind {
         for number in numbers.as_slice() {
             text.push_str(format!(in alloc; " {number}")?.as_str())?;
         }

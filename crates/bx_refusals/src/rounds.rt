@@ -296,15 +296,14 @@ fn refused_behind<R: Threads + Sync>(
     inputs: &[Input],
     outs: &mut Vec<Out>,
 ) -> Result<Option<usize>, Unlike> {
-    let dealt = round.dealt();
+    let dealt = round.intake();
     if dealt > MOST_INPUTS || inputs.len() > MOST_INPUTS {
         return Err(Unlike::Wrong("too many inputs"));
     }
     match round.run(rt, alloc, &OpenGate, inputs, outs) {
         Ok(()) => Ok(None),
-        Err(RoundFault::Memory { admitted }) if round.dealt() == dealt.saturating_add(admitted) => {
-            Ok(Some(admitted))
-        }
+        Err(RoundFault::Memory { admitted }) if round.intake() == dealt.saturating_add(admitted) =>
+            { Ok(Some(admitted)) }
         Err(_) => Err(Unlike::Wrong("another number was dealt with")),
     }
 }

@@ -1,7 +1,7 @@
 //! The only shard of a server, to which entries are applied one by one.
 use crate::requests::{add_line, config, reply, text_of};
 use crate::unlike::Unlike;
-use bx_entry::{ByRemainder, Entry, Kind, Ticket};
+use bx_entry::{ByRemainder, Entry, EntryKind, Ticket};
 use bx_message::{Answer, Event, RawJson, Sequence, SharedEvent, Text};
 use bx_names::{ChannelName, Pattern};
 use bx_shard::Shard;
@@ -141,7 +141,7 @@ fn apply_all(
     let mut connect = 0;
     for deed in deeds {
         let kind = kind(alloc, *deed)?;
-        if let Kind::Connect { .. } = kind {
+        if let EntryKind::Connect { .. } = kind {
             connect = shard.place();
         }
         apply(alloc, shard, kind)?;
@@ -160,13 +160,13 @@ fn apply_all(
 fn fill(alloc: Global, shard: &mut Shard<ByRemainder>) -> Result<(), Unlike> {
     let event = event(alloc, "/a/b", "1")?;
     for _ in 0..MOST_EVENTS {
-        apply(alloc, shard, Kind::Publish(event.clone()?))?;
+        apply(alloc, shard, EntryKind::Publish(event.clone()?))?;
     }
     Ok(())
 }
 
 // Applies an entry of this kind, once more where memory was refused: the shard then stands where it did.
-fn apply(alloc: Global, shard: &mut Shard<ByRemainder>, kind: Kind) -> Result<(), Unlike> {
+fn apply(alloc: Global, shard: &mut Shard<ByRemainder>, kind: EntryKind) -> Result<(), Unlike> {
     let place = shard.place();
     if place > MOST_ENTRIES {
         return Err(Unlike::Wrong("too many entries"));
@@ -197,25 +197,25 @@ fn told(alloc: Global, answer: Answer) -> Result<String, Unlike> {
     Ok(format!(in alloc; "{count} events, {reply}")?)
 }
 
-fn kind(alloc: Global, deed: Deed) -> Result<Kind, Unlike> {
+fn kind(alloc: Global, deed: Deed) -> Result<EntryKind, Unlike> {
     match deed {
-        Deed::Open(session) => Ok(Kind::Opened {
+        Deed::Open(session) => Ok(EntryKind::Opened {
             session,
             ack: false,
         }),
-        Deed::OpenAck(session) => Ok(Kind::Opened { session, ack: true }),
-        Deed::Subscribe(session, pattern) => Ok(Kind::Subscribe {
+        Deed::OpenAck(session) => Ok(EntryKind::Opened { session, ack: true }),
+        Deed::Subscribe(session, pattern) => Ok(EntryKind::Subscribe {
             session,
             patterns: patterns(alloc, pattern)?,
         }),
-        Deed::Unsubscribe(session, pattern) => Ok(Kind::Unsubscribe {
+        Deed::Unsubscribe(session, pattern) => Ok(EntryKind::Unsubscribe {
             session,
             patterns: patterns(alloc, pattern)?,
         }),
         Deed::Connect(session) => connect(alloc, session, None, 30_000),
         Deed::ConnectAtOnce(session) => connect(alloc, session, None, 0),
         Deed::Acknowledge(session, batch) => connect(alloc, session, Some(batch), 0),
-        Deed::Publish(channel, data) => Ok(Kind::Publish(event(alloc, channel, data)?)),
+        Deed::Publish(channel, data) => Ok(EntryKind::Publish(event(alloc, channel, data)?)),
     }
 }
 
@@ -226,8 +226,13 @@ fn patterns(alloc: Global, text: &str) -> Result<Sequence<Pattern>, Unlike> {
 }
 
 // The client id is 32 zeros and the session's number in 16 hexadecimal digits.
-fn connect(alloc: Global, session: u64, acked: Option<u64>, hold: u64) -> Result<Kind, Unlike> {
-    Ok(Kind::Connect {
+fn connect(
+    alloc: Global,
+    session: u64,
+    acked: Option<u64>,
+    hold: u64,
+) -> Result<EntryKind, Unlike> {
+    Ok(EntryKind::Connect {
         session,
         client: Text::from_string(format!(in alloc; "{session:048x}")?)?,
         id: None,

@@ -1,5 +1,5 @@
 -- The number behind a client id's nonce is read back.
-use Rattle.std.proofs.Common.{◌≡◌, ℕ, zero, suc, ◌+◌, ◌*◌, ◌/◌, ◌%◌, ◌^◌, ◌<◌, ◌≤◌, Bool, true, false, List, [], ◌∷◌, ◌++◌, length, drop, refl, sym, ap, subst, ◌∙◌, cond, arith, length-append}
+use Rattle.std.proofs.Common.{◌≡◌, ℕ, zero, suc, ◌+◌, ◌*◌, ◌/◌, ◌%◌, ◌^◌, ◌<◌, ◌≤◌, Bool, true, false, List, [], ◌∷◌, ◌++◌, length, drop, refl, sym, ap, subst, ◌∙◌, cond, arith, length-append, eqb-true}
 use Rattle.std.specs.Prelude.{nat_lt, if◌then◌else◌, ◌==◌, ◌&&◌, Option, Some, None}
 use Rattle.std.specs.Str.{bytes_eq}
 use Rattle.std.proofs.lemmas.Slice.Eq.{bytes_eq-Decides}
@@ -9,9 +9,10 @@ use Rattle.std.proofs.Math.Nat.{pow-suc, div-lt_iff_lt-mul, mod-lt, mod-eq_of_lt
 use Rattle.std.proofs.Math.Seq.{drop-append_seam}
 use Rattle.std.proofs.lemmas.Nat.{div-add-mod'}
 use Rattle.std.proofs.lemmas.List.Sums.{fold-append}
+use Rattle.std.proofs.lemmas.Bool.{eqb-false}
 use Rattle.bx_entry.specs.Registry.{Registered, hex_digits, client_id, live_with_id}
 use Rattle.bx_roster.specs.Tables.{IsNamed, IsTable, AllLive, client_at}
-use Rattle.bx_roster.proofs.Slots.{IsTable-bounds, eq-from-test, eq-from-false}
+use Rattle.bx_roster.proofs.Slots.{IsTable-bounds}
 use Rattle.bx_registry.specs.Ids.{digit_value, with_digit, hex_value, number_in}
 use Rattle.bx_registry.specs.Drafts.{IsSender}
 
@@ -92,10 +93,10 @@ finds-by low high r rs text t small all ih true e true f =
       (λ known. rw here (sym (number-of low high r rs text t small e), same)),
       (λ other. absurd (other (ap (λ (x : List ℕ). Some x) same))),
     )
-finds-by low high r rs text t small all ih true e false f = absurd (eq-from-false r.number (number_in text) f (sym (number-of low high r rs text t small e)))
+finds-by low high r rs text t small all ih true e false f = absurd (eqb-false r.number (number_in text) f (sym (number-of low high r rs text t small e)))
 finds-by low high r rs text t small all ih false e true f =
     let past : live_with_id (r ∷ rs) text ≡ live_with_id rs text = found-next r (live_with_id rs text) text all.0 false e in
-    let number : r.number ≡ number_in text = eq-from-test r.number (number_in text) f in (
+    let number : r.number ≡ number_in text = eqb-true r.number (number_in text) f in (
       (λ known. absurd (not-same r.client text e known)),
       (λ other. past ∙ found-none r.number high rs text t.2 small all.1 (omega (arith, number))),
     )

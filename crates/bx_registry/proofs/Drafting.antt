@@ -1,9 +1,10 @@
 -- The sessions behind the edits of a request.
-use Rattle.std.proofs.Common.{◌≡◌, ℕ, suc, ◌+◌, ◌-◌, Bool, true, false, List, [], ◌∷◌, ◌++◌, length, length-append, map, fold, refl, sym, ap, subst, ◌∙◌, cond, arith}
+use Rattle.std.proofs.Common.{◌≡◌, ℕ, suc, ◌+◌, ◌-◌, Bool, true, false, List, [], ◌∷◌, ◌++◌, length, length-append, map, fold, refl, sym, ap, subst, ◌∙◌, cond, arith, eqb-true}
 use Rattle.std.specs.Prelude.{◌==◌, Option, Some, None, IsSome, if◌then◌else◌}
 use Rattle.std.specs.Option.{option_or}
 use Rattle.std.proofs.lemmas.List.{length-map}
 use Rattle.std.proofs.lemmas.List.Sums.{fold-append}
+use Rattle.std.proofs.lemmas.Bool.{eqb-false}
 use Rattle.bx_entry.specs.Registry.{Registered, extended, closed}
 use Rattle.bx_roster.specs.Live.{Members, live_in}
 use Rattle.bx_roster.specs.Tables.{IsTable, AllLive, client_at}
@@ -11,7 +12,7 @@ use Rattle.bx_roster.specs.Edits.{edited, CanEdit, CanEditEach, IsNext}
 use Rattle.bx_roster.specs.declared.edit.Edit.{Edit}
 use Rattle.bx_roster.specs.declared.edit.Edit.TheVariants.{Open, Extend, Close}
 use Rattle.bx_roster.proofs.Live.{live_in-extended}
-use Rattle.bx_roster.proofs.Slots.{eq-from-test, eq-from-false, IsTable-filter, IsTable-map, IsTable-push, IsTable-absent, map-absent, live_in-all, AllLive-live, changed-number, changed-client, closing-number, closing-client}
+use Rattle.bx_roster.proofs.Slots.{IsTable-filter, IsTable-map, IsTable-push, IsTable-absent, map-absent, live_in-all, AllLive-live, changed-number, changed-client, closing-number, closing-client}
 use Rattle.bx_registry.specs.Drafts.{IsDrafted, client_after}
 
 -- ---- each edit
@@ -31,7 +32,7 @@ closed-count-by : (n : ℕ) (r : Registered) (rs : List Registered) (high : ℕ)
     (IsSome (client_at n rs) → length (live_in (closed n rs)) + 1 ≡ length rs) → ((b : Bool) → (r.number == n) ≡ b → IsSome (if b then Some r.client else client_at n rs) →
     length (live_in ((if b then record r { live = false } else r) ∷ closed n rs)) + 1 ≡ suc (length rs))
 closed-count-by n r rs high t lives all more true e some =
-    let here : r.number ≡ n = eq-from-test r.number n e in
+    let here : r.number ≡ n = eqb-true r.number n e in
     let same : closed n rs ≡ rs = map-absent n (λ s. record s { live = false }) rs (IsTable-absent r.number high n rs (omega (arith, here)) t) in
     omega (arith, ap length (ap live_in same ∙ live_in-all rs all))
 closed-count-by n r rs high t lives all more false e some =
@@ -131,7 +132,7 @@ none-either false o = refl
 -- a closed session is passed over, another one is not
 client_at-kept-by : (n m : ℕ) (r : Registered) (rest kept : List Registered) → client_at n (live_in kept) ≡ (if m == n then None else client_at n rest) → (r.number == m) ≡ false →
     (c : Bool) → (r.number == n) ≡ c → (d : Bool) → (m == n) ≡ d → client_at n (r ∷ live_in kept) ≡ (if d then None else (if c then Some r.client else client_at n rest))
-client_at-kept-by n m r rest kept ih e true f true g = absurd (eq-from-false r.number m e (eq-from-test r.number n f ∙ sym (eq-from-test m n g)))
+client_at-kept-by n m r rest kept ih e true f true g = absurd (eqb-false r.number m e (eqb-true r.number n f ∙ sym (eqb-true m n g)))
 client_at-kept-by n m r rest kept ih e true f false g = ap (λ (t : Bool). if t then Some r.client else client_at n (live_in kept)) f
 client_at-kept-by n m r rest kept ih e false f true g = ap (λ (t : Bool). if t then Some r.client else client_at n (live_in kept)) f ∙ ih ∙ ap (λ (t : Bool). if t then None else client_at n rest) g
 client_at-kept-by n m r rest kept ih e false f false g = ap (λ (t : Bool). if t then Some r.client else client_at n (live_in kept)) f ∙ ih ∙ ap (λ (t : Bool). if t then None else client_at n rest) g
@@ -140,8 +141,8 @@ client_at-closed-by : (n m : ℕ) (r : Registered) (rest kept : List Registered)
     (b : Bool) → (r.number == m) ≡ b → (c : Bool) → (r.number == n) ≡ c → (d : Bool) → (m == n) ≡ d →
     client_at n (live_in ((if b then record r { live = false } else r) ∷ kept)) ≡ (if d then None else (if c then Some r.client else client_at n rest))
 client_at-closed-by n m r rest kept ih lives true e true f true g = ih ∙ ap (λ (t : Bool). if t then None else client_at n rest) g
-client_at-closed-by n m r rest kept ih lives true e true f false g = absurd (eq-from-false m n g (sym (eq-from-test r.number m e) ∙ eq-from-test r.number n f))
-client_at-closed-by n m r rest kept ih lives true e false f true g = absurd (eq-from-false r.number n f (eq-from-test r.number m e ∙ eq-from-test m n g))
+client_at-closed-by n m r rest kept ih lives true e true f false g = absurd (eqb-false m n g (sym (eqb-true r.number m e) ∙ eqb-true r.number n f))
+client_at-closed-by n m r rest kept ih lives true e false f true g = absurd (eqb-false r.number n f (eqb-true r.number m e ∙ eqb-true m n g))
 client_at-closed-by n m r rest kept ih lives true e false f false g = ih ∙ ap (λ (t : Bool). if t then None else client_at n rest) g
 client_at-closed-by n m r rest kept ih lives false e c f d g = ap (λ (t : Bool). client_at n (cond t (r ∷ live_in kept) (live_in kept))) lives ∙ client_at-kept-by n m r rest kept ih e c f d g
 

@@ -1,5 +1,5 @@
 -- What a message comes to, by the edit, the entry and the slot that are made for it.
-use Rattle.std.proofs.Common.{◌≡◌, ℕ, ◌+◌, ◌<◌, ◌^◌, Bool, true, false, List, [], ◌∷◌, length, refl, sym, ap, ◌∙◌, cond, arith, Result, Ok, Err}
+use Rattle.std.proofs.Common.{◌≡◌, ℕ, ◌+◌, ◌<◌, ◌^◌, Bool, true, false, List, [], ◌∷◌, length, refl, sym, ap, ◌∙◌, cond, arith, Result, Ok, Err, eq-eqb}
 use Rattle.std.specs.Prelude.{◌&&◌, ◌==◌, not, nat_le, max, Option, Some, None, IsSome, IfOk, MatchOption, is_some, is_none, option_map, if◌then◌else◌}
 use Rattle.std.specs.Str.{bytes_eq}
 use Rattle.std.proofs.lemmas.Bool.{leb-false}
@@ -10,30 +10,30 @@ use Rattle.bx_advice.specs.declared.error.Error.TheVariants.{SecondHandshake, Un
 use Rattle.std.specs.List.{list_any}
 use Rattle.bx_registry.specs.declared.draft.Sender.{Sender}
 use Rattle.bx_registry.specs.Drafts.{named}
-use Rattle.bx_advice.specs.declared.advice.Case.TheVariants.{Failed}
-use Rattle.bx_advice.specs.declared.advice.Case.TheVariants as advice
-use Rattle.bx_message.specs.declared.column.Column.{Column}
-use Rattle.bx_message.specs.declared.column.Column.TheVariants.{Handshake, Connect, Subscribe, Unsubscribe, Disconnect, Publish, UnknownMeta}
+use Rattle.bx_advice.specs.declared.advice.Outcome.TheVariants.{Failed}
+use Rattle.bx_advice.specs.declared.advice.Outcome.TheVariants as advice
+use Rattle.bx_message.specs.declared.message_kind.MessageKind.{MessageKind}
+use Rattle.bx_message.specs.declared.message_kind.MessageKind.TheVariants.{Handshake, Connect, Subscribe, Unsubscribe, Disconnect, Publish, UnknownMeta}
 use Rattle.bx_message.specs.declared.message.Message.{Message}
 use Rattle.bx_message.specs.declared.message.TextMember.{TextMember}
 use Rattle.bx_message.specs.declared.message.TextMember.TheVariants.{Absent, NotText, Text}
 use Rattle.bx_message.specs.declared.reply.AckReply.TheVariants as replies
-use Rattle.bx_message.specs.Columns.{column_of}
+use Rattle.bx_message.specs.MessageKinds.{message_kind_of}
 use Rattle.bx_message.specs.Replies.{reply_to}
 use Rattle.bx_entry.specs.Listing.{Posted}
-use Rattle.bx_entry.specs.declared.entry.Kind.{Kind}
-use Rattle.bx_entry.specs.declared.entry.Kind.TheVariants as entries
+use Rattle.bx_entry.specs.declared.entry.EntryKind.{EntryKind}
+use Rattle.bx_entry.specs.declared.entry.EntryKind.TheVariants as entries
 use Rattle.bx_entry.specs.Registry.{Registered, is_version, is_polling, is_text, connect_cases, subscription_cases, publish_cases, cases_of, client_id, closed, count_live, extended, hold_of, is_ack, kind_for, left_by, live_with_id, named_by, refusal, sender_of, slot_for}
 use Rattle.bx_roster.specs.Live.{Members, live_in, with_live}
 use Rattle.bx_roster.specs.Tables.{client_at, AllLive}
 use Rattle.bx_roster.specs.Edits.{edited, CanEdit}
 use Rattle.bx_roster.specs.declared.edit.Edit.{Edit}
 use Rattle.bx_roster.specs.declared.edit.Edit.TheVariants.{Open}
-use Rattle.bx_roster.proofs.Slots.{live_in-all, eq-true}
-use Rattle.bx_registry.specs.Rolls.{newcomer, outcome, judged_by}
+use Rattle.bx_roster.proofs.Slots.{live_in-all}
+use Rattle.bx_registry.specs.Rolls.{newcomer, verdict, judged_by}
 use Rattle.bx_registry.specs.Drafts.{IsSender}
 use Rattle.bx_registry.specs.Plans.{planned_at}
-use Rattle.bx_registry.specs.Judgements.{edit_for, IsOutcome}
+use Rattle.bx_registry.specs.Judgements.{edit_for, IsVerdict}
 use Rattle.bx_registry.specs.declared.plan.Planned.{Planned}
 use Rattle.bx_registry.specs.declared.plan.Planned.TheVariants.{Ready}
 use Rattle.bx_registry.proofs.Digits.{drop-client_id}
@@ -44,11 +44,11 @@ all_three (Err e) P Q R S f p q s = tt
 
 -- ---- a refused message
 
-pub refused-outcome : (config : Config) (ms : Members) (moment place : ℕ) (p : Posted) (error : Error) (edit : Option Edit) (kind : Kind) (slot : Planned) (client : Option (List ℕ)) →
-    refusal config ms.live p ≡ Some error → client ≡ option_map (λ (s : Registered). s.client) (named_by ms.live (column_of p.message.channel) p.message) →
-    edit ≡ None → kind ≡ entries.Refused → slot ≡ Ready (reply_to config (column_of p.message.channel) p.message client (Failed error) replies.NoAck) →
-    IsOutcome ms place (outcome config ms moment p) edit kind slot
-refused-outcome config ms moment place p error edit kind slot client is who e f g = rw (is, e, f, g, who) record {
+pub refused-verdict : (config : Config) (ms : Members) (moment place : ℕ) (p : Posted) (error : Error) (edit : Option Edit) (kind : EntryKind) (slot : Planned) (client : Option (List ℕ)) →
+    refusal config ms.live p ≡ Some error → client ≡ option_map (λ (s : Registered). s.client) (named_by ms.live (message_kind_of p.message.channel) p.message) →
+    edit ≡ None → kind ≡ entries.Refused → slot ≡ Ready (reply_to config (message_kind_of p.message.channel) p.message client (Failed error) replies.NoAck) →
+    IsVerdict ms place (verdict config ms moment p) edit kind slot
+refused-verdict config ms moment place p error edit kind slot client is who e f g = rw (is, e, f, g, who) record {
   members = refl;
   can = tt;
   what = refl;
@@ -57,37 +57,37 @@ refused-outcome config ms moment place p error edit kind slot client is who e f 
 
 -- ---- a handshake
 
-last-case : {E : Type 0} (b1 b2 b3 b4 : Bool) (e1 e2 e3 e4 : E) → first_case ((b1, e1) ∷ (b2, e2) ∷ (b3, e3) ∷ (b4, e4) ∷ []) ≡ None → b4 ≡ false
-last-case true b2 b3 b4 e1 e2 e3 e4 h = cc
-last-case false true b3 b4 e1 e2 e3 e4 h = cc
-last-case false false true b4 e1 e2 e3 e4 h = cc
-last-case false false false true e1 e2 e3 e4 h = cc
-last-case false false false false e1 e2 e3 e4 h = refl
+last-outcome : {E : Type 0} (b1 b2 b3 b4 : Bool) (e1 e2 e3 e4 : E) → first_case ((b1, e1) ∷ (b2, e2) ∷ (b3, e3) ∷ (b4, e4) ∷ []) ≡ None → b4 ≡ false
+last-outcome true b2 b3 b4 e1 e2 e3 e4 h = cc
+last-outcome false true b3 b4 e1 e2 e3 e4 h = cc
+last-outcome false false true b4 e1 e2 e3 e4 h = cc
+last-outcome false false false true e1 e2 e3 e4 h = cc
+last-outcome false false false false e1 e2 e3 e4 h = refl
 
-second-case : {E : Type 0} (b : Bool) (o : Option Registered) (e1 e2 : E) (rest : List (Bool × E)) → first_case ((b, e1) ∷ (is_none o, e2) ∷ rest) ≡ None → o ≡ None → ⊥
-second-case true o e1 e2 rest h e = cc
-second-case false None e1 e2 rest h e = cc
-second-case false (Some r) e1 e2 rest h e = cc
+second-outcome : {E : Type 0} (b : Bool) (o : Option Registered) (e1 e2 : E) (rest : List (Bool × E)) → first_case ((b, e1) ∷ (is_none o, e2) ∷ rest) ≡ None → o ≡ None → ⊥
+second-outcome true o e1 e2 rest h e = cc
+second-outcome false None e1 e2 rest h e = cc
+second-outcome false (Some r) e1 e2 rest h e = cc
 
 -- where nothing refuses a message that names no session, there is room for one more
-room-by : (config : Config) (live : List Registered) (p : Posted) (column : Column) → first_case (cases_of config live p column) ≡ None → named_by live column p.message ≡ None →
+room-by : (config : Config) (live : List Registered) (p : Posted) (message_kind : MessageKind) → first_case (cases_of config live p message_kind) ≡ None → named_by live message_kind p.message ≡ None →
     nat_le config.limits.sessions (count_live live) ≡ false
-room-by config live p Handshake h e = last-case p.second (not (is_version p.message.version)) (not (list_any is_polling p.message.supported)) (nat_le config.limits.sessions (count_live live)) SecondHandshake UnsupportedVersion NoSupportedConnectionType TooManySessions h
-room-by config live p Connect h e = absurd (second-case (not (is_text p.message.client)) (sender_of live p.message.client) NoClientId UnknownClient (connect_cases p.message) h e)
-room-by config live p Subscribe h e = absurd (second-case (not (is_text p.message.client)) (sender_of live p.message.client) NoClientId UnknownClient (subscription_cases config p.message) h e)
-room-by config live p Unsubscribe h e = absurd (second-case (not (is_text p.message.client)) (sender_of live p.message.client) NoClientId UnknownClient (subscription_cases config p.message) h e)
-room-by config live p Disconnect h e = absurd (second-case (not (is_text p.message.client)) (sender_of live p.message.client) NoClientId UnknownClient [] h e)
-room-by config live p Publish h e = absurd (second-case (not (is_text p.message.client)) (sender_of live p.message.client) NoClientId UnknownClient (publish_cases p.message) h e)
+room-by config live p Handshake h e = last-outcome p.second (not (is_version p.message.version)) (not (list_any is_polling p.message.supported)) (nat_le config.limits.sessions (count_live live)) SecondHandshake UnsupportedVersion NoSupportedConnectionType TooManySessions h
+room-by config live p Connect h e = absurd (second-outcome (not (is_text p.message.client)) (sender_of live p.message.client) NoClientId UnknownClient (connect_cases p.message) h e)
+room-by config live p Subscribe h e = absurd (second-outcome (not (is_text p.message.client)) (sender_of live p.message.client) NoClientId UnknownClient (subscription_cases config p.message) h e)
+room-by config live p Unsubscribe h e = absurd (second-outcome (not (is_text p.message.client)) (sender_of live p.message.client) NoClientId UnknownClient (subscription_cases config p.message) h e)
+room-by config live p Disconnect h e = absurd (second-outcome (not (is_text p.message.client)) (sender_of live p.message.client) NoClientId UnknownClient [] h e)
+room-by config live p Publish h e = absurd (second-outcome (not (is_text p.message.client)) (sender_of live p.message.client) NoClientId UnknownClient (publish_cases p.message) h e)
 room-by config live p UnknownMeta h e = cc
 
-pub opened-outcome : (config : Config) (ms : Members) (moment place n : ℕ) (p : Posted) (edit : Option Edit) (kind : Kind) (slot : Planned) →
+pub opened-verdict : (config : Config) (ms : Members) (moment place n : ℕ) (p : Posted) (edit : Option Edit) (kind : EntryKind) (slot : Planned) →
     AllLive ms.live → ms.limit ≡ config.limits.sessions → n ≡ ms.opened + 1 → n < 2 ^ 64 →
-    refusal config ms.live p ≡ None → named_by ms.live (column_of p.message.channel) p.message ≡ None →
+    refusal config ms.live p ≡ None → named_by ms.live (message_kind_of p.message.channel) p.message ≡ None →
     edit ≡ Some (Open (newcomer config moment p n)) → kind ≡ entries.Opened n (is_ack p.message.ack) →
     slot ≡ Ready (reply_to config Handshake p.message (Some (client_id p.nonce n)) advice.Opened (if is_ack p.message.ack then replies.AckTrue else replies.NoAck)) →
-    IsOutcome ms place (outcome config ms moment p) edit kind slot
-opened-outcome config ms moment place n p edit kind slot all limit number small is who e f g =
-    let full = room-by config ms.live p (column_of p.message.channel) is who in
+    IsVerdict ms place (verdict config ms moment p) edit kind slot
+opened-verdict config ms moment place n p edit kind slot all limit number small is who e f g =
+    let full = room-by config ms.live p (message_kind_of p.message.channel) is who in
     let room : length ms.live < ms.limit = omega (arith, leb-false config.limits.sessions (count_live ms.live) full, limit, ap length (live_in-all ms.live all)) in
     rw (is, who, e, f, g, number) record {
       members = refl;
@@ -118,7 +118,7 @@ found-at-either false client o some = some
 
 found-at-by : (r s : Registered) (rest : List Registered) (text : List ℕ) → (live_with_id rest text ≡ Some r → IsSome (client_at r.number rest)) → (b : Bool) →
     (if b then Some s else live_with_id rest text) ≡ Some r → IsSome (if s.number == r.number then Some s.client else client_at r.number rest)
-found-at-by r s rest text more true e = let same : s ≡ r = cc in rw (eq-true s.number r.number (ap (λ (x : Registered). x.number) same)) refl
+found-at-by r s rest text more true e = let same : s ≡ r = cc in rw (eq-eqb s.number r.number (ap (λ (x : Registered). x.number) same)) refl
 found-at-by r s rest text more false e = found-at-either (s.number == r.number) s.client (client_at r.number rest) (more e)
 
 found-at : (r : Registered) (rs : List Registered) (text : List ℕ) → live_with_id rs text ≡ Some r → IsSome (client_at r.number rs)
@@ -130,7 +130,7 @@ sender-at r rs Absent e = cc
 sender-at r rs NotText e = cc
 sender-at r rs (Text text) e = found-at r rs text e
 
-named-at : (r : Registered) (rs : List Registered) (column : Column) (m : Message) → named_by rs column m ≡ Some r → IsSome (client_at r.number rs)
+named-at : (r : Registered) (rs : List Registered) (message_kind : MessageKind) (m : Message) → named_by rs message_kind m ≡ Some r → IsSome (client_at r.number rs)
 named-at r rs Handshake m e = cc
 named-at r rs Connect m e = sender-at r rs m.client e
 named-at r rs Subscribe m e = sender-at r rs m.client e
@@ -153,7 +153,7 @@ closed-extended : (n due : ℕ) (rs : List Registered) → live_in (closed n (ex
 closed-extended n due [] = refl
 closed-extended n due (r ∷ rs) = closing-extended n due r (r.number == n) refl (closed n (extended n due rs)) (closed n rs) (closed-extended n due rs)
 
-edited-for : (ms : Members) (column : Column) (n due : ℕ) → edited ms (edit_for column n due) ≡ with_live ms (live_in (left_by column n (extended n due ms.live)))
+edited-for : (ms : Members) (message_kind : MessageKind) (n due : ℕ) → edited ms (edit_for message_kind n due) ≡ with_live ms (live_in (left_by message_kind n (extended n due ms.live)))
 edited-for ms Handshake n due = refl
 edited-for ms Connect n due = refl
 edited-for ms Subscribe n due = refl
@@ -162,7 +162,7 @@ edited-for ms Disconnect n due = ap (with_live ms) (sym (closed-extended n due m
 edited-for ms Publish n due = refl
 edited-for ms UnknownMeta n due = refl
 
-can-for : (ms : Members) (column : Column) (n due : ℕ) → IsSome (client_at n ms.live) → CanEdit ms (edit_for column n due)
+can-for : (ms : Members) (message_kind : MessageKind) (n due : ℕ) → IsSome (client_at n ms.live) → CanEdit ms (edit_for message_kind n due)
 can-for ms Handshake n due some = tt
 can-for ms Connect n due some = tt
 can-for ms Subscribe n due some = tt
@@ -171,7 +171,7 @@ can-for ms Disconnect n due some = some
 can-for ms Publish n due some = tt
 can-for ms UnknownMeta n due some = tt
 
-kind-for : (column : Column) (p : Posted) (s : Sender) (r : Registered) (hold : ℕ) → r.number ≡ s.number → r.client ≡ s.client.now → kind_for column p (named s) hold ≡ kind_for column p r hold
+kind-for : (message_kind : MessageKind) (p : Posted) (s : Sender) (r : Registered) (hold : ℕ) → r.number ≡ s.number → r.client ≡ s.client.now → kind_for message_kind p (named s) hold ≡ kind_for message_kind p r hold
 kind-for Handshake p s r hold e f = refl
 kind-for Connect p s r hold e f = rw (e, f) refl
 kind-for Subscribe p s r hold e f = rw e refl
@@ -180,7 +180,7 @@ kind-for Disconnect p s r hold e f = rw e refl
 kind-for Publish p s r hold e f = refl
 kind-for UnknownMeta p s r hold e f = refl
 
-slot-for : (config : Config) (column : Column) (p : Posted) (s : Sender) (r : Registered) → r.number ≡ s.number → r.client ≡ s.client.now → slot_for config column p (named s) ≡ slot_for config column p r
+slot-for : (config : Config) (message_kind : MessageKind) (p : Posted) (s : Sender) (r : Registered) → r.number ≡ s.number → r.client ≡ s.client.now → slot_for config message_kind p (named s) ≡ slot_for config message_kind p r
 slot-for config Handshake p s r e f = rw f refl
 slot-for config Connect p s r e f = rw e refl
 slot-for config Subscribe p s r e f = rw f refl
@@ -189,26 +189,26 @@ slot-for config Disconnect p s r e f = rw f refl
 slot-for config Publish p s r e f = refl
 slot-for config UnknownMeta p s r e f = refl
 
-served-by : (config : Config) (ms : Members) (moment place due : ℕ) (p : Posted) (s : Sender) (o : Option Registered) (edit : Option Edit) (kind : Kind) (slot : Planned) →
-    o ≡ named_by ms.live (column_of p.message.channel) p.message → IsSender o s.number s.client.now → due ≡ moment + hold_of config p + config.max_interval →
-    edit ≡ Some (edit_for (column_of p.message.channel) s.number due) → kind ≡ kind_for (column_of p.message.channel) p (named s) (hold_of config p) →
-    planned_at place (slot_for config (column_of p.message.channel) p (named s)) ≡ Some slot →
-    IsOutcome ms place (judged_by config ms moment p o None) edit kind slot
+served-by : (config : Config) (ms : Members) (moment place due : ℕ) (p : Posted) (s : Sender) (o : Option Registered) (edit : Option Edit) (kind : EntryKind) (slot : Planned) →
+    o ≡ named_by ms.live (message_kind_of p.message.channel) p.message → IsSender o s.number s.client.now → due ≡ moment + hold_of config p + config.max_interval →
+    edit ≡ Some (edit_for (message_kind_of p.message.channel) s.number due) → kind ≡ kind_for (message_kind_of p.message.channel) p (named s) (hold_of config p) →
+    planned_at place (slot_for config (message_kind_of p.message.channel) p (named s)) ≡ Some slot →
+    IsVerdict ms place (judged_by config ms moment p o None) edit kind slot
 served-by config ms moment place due p s None edit kind slot is who d e f g = absurd who
 served-by config ms moment place due p s (Some r) edit kind slot is who d e f g =
-    let column = column_of p.message.channel in
-    let some : IsSome (client_at s.number ms.live) = rw (← who.0) (named-at r ms.live column p.message (sym is)) in
+    let message_kind = message_kind_of p.message.channel in
+    let some : IsSome (client_at s.number ms.live) = rw (← who.0) (named-at r ms.live message_kind p.message (sym is)) in
     record {
-      members = rw (e, d, ← who.0) (edited-for ms column r.number (moment + hold_of config p + config.max_interval));
-      can = rw e (can-for ms column s.number due some, tt);
-      what = f ∙ kind-for column p s r (hold_of config p) who.0 who.1;
-      answer = rw (← slot-for config column p s r who.0 who.1) g;
+      members = rw (e, d, ← who.0) (edited-for ms message_kind r.number (moment + hold_of config p + config.max_interval));
+      can = rw e (can-for ms message_kind s.number due some, tt);
+      what = f ∙ kind-for message_kind p s r (hold_of config p) who.0 who.1;
+      answer = rw (← slot-for config message_kind p s r who.0 who.1) g;
     }
 
-pub served-outcome : (config : Config) (ms : Members) (moment place : ℕ) (p : Posted) (s : Sender) (edit : Option Edit) (kind : Kind) (slot : Planned) →
-    refusal config ms.live p ≡ None → IsSender (named_by ms.live (column_of p.message.channel) p.message) s.number s.client.now →
-    edit ≡ Some (edit_for (column_of p.message.channel) s.number (moment + hold_of config p + config.max_interval)) → kind ≡ kind_for (column_of p.message.channel) p (named s) (hold_of config p) →
-    planned_at place (slot_for config (column_of p.message.channel) p (named s)) ≡ Some slot →
-    IsOutcome ms place (outcome config ms moment p) edit kind slot
-served-outcome config ms moment place p s edit kind slot is who e f g =
-    rw is (served-by config ms moment place (moment + hold_of config p + config.max_interval) p s (named_by ms.live (column_of p.message.channel) p.message) edit kind slot refl who refl e f g)
+pub served-verdict : (config : Config) (ms : Members) (moment place : ℕ) (p : Posted) (s : Sender) (edit : Option Edit) (kind : EntryKind) (slot : Planned) →
+    refusal config ms.live p ≡ None → IsSender (named_by ms.live (message_kind_of p.message.channel) p.message) s.number s.client.now →
+    edit ≡ Some (edit_for (message_kind_of p.message.channel) s.number (moment + hold_of config p + config.max_interval)) → kind ≡ kind_for (message_kind_of p.message.channel) p (named s) (hold_of config p) →
+    planned_at place (slot_for config (message_kind_of p.message.channel) p (named s)) ≡ Some slot →
+    IsVerdict ms place (verdict config ms moment p) edit kind slot
+served-verdict config ms moment place p s edit kind slot is who e f g =
+    rw is (served-by config ms moment place (moment + hold_of config p + config.max_interval) p s (named_by ms.live (message_kind_of p.message.channel) p.message) edit kind slot refl who refl e f g)

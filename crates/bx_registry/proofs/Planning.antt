@@ -5,12 +5,12 @@ use Rattle.bx_advice.specs.declared.config.Config.{Config}
 use Rattle.bx_advice.specs.declared.error.Error.{Error}
 use Rattle.bx_advice.specs.Limits.{greatest_moment, greatest_length}
 use Rattle.bx_message.specs.declared.message.Message.{Message}
-use Rattle.bx_message.specs.Columns.{column_of, is_handshake}
+use Rattle.bx_message.specs.MessageKinds.{message_kind_of, is_handshake}
 use Rattle.bx_entry.specs.Listing.{Posted, Listed, Post, listed_from}
 use Rattle.bx_entry.specs.declared.entry.Entry.{Entry}
 use Rattle.bx_entry.specs.Registry.{Registered, named_by, refusal}
 use Rattle.bx_roster.specs.Live.{Members}
-use Rattle.bx_registry.specs.Rolls.{Outcome, Roll, after, found, next, step, outcome, judged_by}
+use Rattle.bx_registry.specs.Rolls.{Verdict, Roll, after, found, next, step, verdict, judged_by}
 use Rattle.bx_registry.specs.Drafts.{Drafted, members_of}
 use Rattle.std.proofs.lemmas.Bool.{ltb-false}
 use Rattle.bx_roster.specs.Edits.{CanEditEach, edited, edited_by}
@@ -47,16 +47,16 @@ pub record SoFar (config : Config) (before base : Members) (clock first : ℕ) (
 
 pub one_next : (config : Config) (before base : Members) (clock first : ℕ) (list rest : List Listed) (d e : Drafted) (now place : ℕ) (es : List Entry) (ss : List Planned) (p : Posted) (entry : Entry) (slot : Planned) →
     SoFar config before base clock first list (Post p ∷ rest) d now place es ss → max now p.moment ≤ greatest_moment → e.base ≡ d.base →
-    IsFoundAt place (max now p.moment) (outcome config (members_of d) (max now p.moment) p) (members_of e) entry slot →
+    IsFoundAt place (max now p.moment) (verdict config (members_of d) (max now p.moment) p) (members_of e) entry slot →
     SoFar config before base clock first list rest e (max now p.moment) (place + 1) (es ++ entry ∷ []) (ss ++ slot ∷ [])
 one_next config before base clock first list rest d e now place es ss p entry slot so le same f =
     let later = max now p.moment in
-    let o : Outcome = outcome config (members_of d) later p in
+    let o : Verdict = verdict config (members_of d) later p in
     let old : Roll = roll_with config (members_of d) now place in
     let new : Roll = roll_with config (members_of e) later (place + 1) in
     let ms : Members = members_of d in
     let roll : next old (Post p) ≡ new = ap (λ (x : Members). roll_with config x later (place + 1)) (sym f.members) in
-    let sender = named_by ms.live (column_of p.message.channel) p.message in
+    let sender = named_by ms.live (message_kind_of p.message.channel) p.message in
     let fault = refusal config ms.live p in
     let here : slots_in (found old (Post p ∷ rest)) ≡ slot ∷ slots_in (found (next old (Post p)) rest) = rw f.answer refl in
     record {

@@ -6,17 +6,17 @@ use Rattle.std.proofs.lemmas.List.Elements.{filter-append}
 use Rattle.bx_names.specs.Faults.{first_case}
 use Rattle.bx_advice.specs.declared.config.Config.{Config}
 use Rattle.bx_advice.specs.declared.error.Error.{Error}
-use Rattle.bx_message.specs.declared.column.Column.{Column}
-use Rattle.bx_message.specs.declared.column.Column.TheVariants.{Handshake, Connect, Subscribe, Unsubscribe, Disconnect, Publish, UnknownMeta}
+use Rattle.bx_message.specs.declared.message_kind.MessageKind.{MessageKind}
+use Rattle.bx_message.specs.declared.message_kind.MessageKind.TheVariants.{Handshake, Connect, Subscribe, Unsubscribe, Disconnect, Publish, UnknownMeta}
 use Rattle.bx_message.specs.declared.message.Message.{Message}
 use Rattle.bx_message.specs.declared.message.TextMember.{TextMember}
 use Rattle.bx_message.specs.declared.message.TextMember.TheVariants.{Absent, NotText, Text}
-use Rattle.bx_message.specs.Columns.{column_of}
+use Rattle.bx_message.specs.MessageKinds.{message_kind_of}
 use Rattle.bx_entry.specs.Listing.{Posted, Listed, Post}
 use Rattle.bx_entry.specs.Listing as messages
 use Rattle.bx_entry.specs.Registry.{Registered, Registry, Judged, judge, judged_by, refusal, cases_of, sender_of, named_by, count_live, extended, closed, left_by, overdue, hold_of}
 use Rattle.bx_roster.specs.Live.{live_in}
-use Rattle.bx_registry.specs.Rolls.{Roll, roll_of, step, next, after, found, noted, outcome, Outcome, tick_outcome}
+use Rattle.bx_registry.specs.Rolls.{Roll, roll_of, step, next, after, found, noted, verdict, Verdict, tick_verdict}
 use Rattle.bx_registry.specs.Rolls as rolls
 use Rattle.bx_registry.specs.Laws.{GoesOn, StepsAgree, RunsAgree}
 use Rattle.bx_roster.proofs.Live.{live_in-live, live_in-extended, live_in-closed, live_in-swept}
@@ -33,7 +33,7 @@ sender_of-live sessions Absent = refl
 sender_of-live sessions NotText = refl
 sender_of-live sessions (Text client) = find-more is_live _ sessions
 
-cases_of-live : (config : Config) (sessions : List Registered) (p : Posted) (column : Column) → cases_of config (live_in sessions) p column ≡ cases_of config sessions p column
+cases_of-live : (config : Config) (sessions : List Registered) (p : Posted) (message_kind : MessageKind) → cases_of config (live_in sessions) p message_kind ≡ cases_of config sessions p message_kind
 cases_of-live config sessions p Handshake = rw count_live-live refl
 cases_of-live config sessions p Connect = rw sender_of-live refl
 cases_of-live config sessions p Subscribe = rw sender_of-live refl
@@ -43,9 +43,9 @@ cases_of-live config sessions p Publish = rw sender_of-live refl
 cases_of-live config sessions p UnknownMeta = refl
 
 pub refusal-live : (config : Config) (sessions : List Registered) (p : Posted) → refusal config (live_in sessions) p ≡ refusal config sessions p
-refusal-live config sessions p = ap first_case (cases_of-live config sessions p (column_of p.message.channel))
+refusal-live config sessions p = ap first_case (cases_of-live config sessions p (message_kind_of p.message.channel))
 
-named_by-live : (sessions : List Registered) (column : Column) (m : Message) → named_by (live_in sessions) column m ≡ named_by sessions column m
+named_by-live : (sessions : List Registered) (message_kind : MessageKind) (m : Message) → named_by (live_in sessions) message_kind m ≡ named_by sessions message_kind m
 named_by-live sessions Handshake m = refl
 named_by-live sessions Connect m = sender_of-live sessions m.client
 named_by-live sessions Subscribe m = sender_of-live sessions m.client
@@ -57,8 +57,8 @@ named_by-live sessions UnknownMeta m = refl
 pub overdue-live : (moment : ℕ) (sessions : List Registered) → overdue moment (live_in sessions) ≡ overdue moment sessions
 overdue-live moment sessions = ap (map (λ (r : Registered). r.number)) (filter-more is_live _ sessions)
 
-left_by-live : (column : Column) (number due : ℕ) (sessions : List Registered) →
-    live_in (left_by column number (extended number due (live_in sessions))) ≡ live_in (left_by column number (extended number due sessions))
+left_by-live : (message_kind : MessageKind) (number due : ℕ) (sessions : List Registered) →
+    live_in (left_by message_kind number (extended number due (live_in sessions))) ≡ live_in (left_by message_kind number (extended number due sessions))
 left_by-live Handshake number due sessions = ap live_in (sym (live_in-extended number due sessions)) ∙ live_in-live (extended number due sessions)
 left_by-live Connect number due sessions = ap live_in (sym (live_in-extended number due sessions)) ∙ live_in-live (extended number due sessions)
 left_by-live Subscribe number due sessions = ap live_in (sym (live_in-extended number due sessions)) ∙ live_in-live (extended number due sessions)
@@ -69,7 +69,7 @@ left_by-live UnknownMeta number due sessions = ap live_in (sym (live_in-extended
 
 -- ---- one element
 
-length-left_by : (column : Column) (number due : ℕ) (sessions : List Registered) → length (left_by column number (extended number due sessions)) ≡ length sessions
+length-left_by : (message_kind : MessageKind) (number due : ℕ) (sessions : List Registered) → length (left_by message_kind number (extended number due sessions)) ≡ length sessions
 length-left_by Handshake number due sessions = length-map sessions _
 length-left_by Connect number due sessions = length-map sessions _
 length-left_by Subscribe number due sessions = length-map sessions _
@@ -87,7 +87,7 @@ one_more : (js : List Judged) (j : Judged) → length (js ++ j ∷ []) ≡ lengt
 one_more js j = length-append js (j ∷ [])
 
 -- the registry after an element, as an outcome of its roll says it
-pub record Went (config : Config) (r : Registry) (moment : ℕ) (o : Outcome) (s : Registry) : Type 0 where
+pub record Went (config : Config) (r : Registry) (moment : ℕ) (o : Verdict) (s : Registry) : Type 0 where
   pub roll : (noted (roll_of config r) moment o).roll ≡ roll_of config s
   pub judged : s.judged ≡ r.judged ++ (noted (roll_of config r) moment o).found ∷ []
 
@@ -100,8 +100,8 @@ goes-by config r moment p None None = record {
 }
 goes-by config r moment p (Some s) None = record {
   roll = same_roll config config.limits.sessions moment
-      (sym (length-left_by (column_of p.message.channel) s.number (moment + hold_of config p + config.max_interval) r.sessions))
-      (left_by-live (column_of p.message.channel) s.number (moment + hold_of config p + config.max_interval) r.sessions)
+      (sym (length-left_by (message_kind_of p.message.channel) s.number (moment + hold_of config p + config.max_interval) r.sessions))
+      (left_by-live (message_kind_of p.message.channel) s.number (moment + hold_of config p + config.max_interval) r.sessions)
       (sym (one_more r.judged _));
   judged = refl;
 }
@@ -109,10 +109,10 @@ goes-by config r moment p (Some s) None = record {
 goes : (config : Config) (r : Registry) (element : Listed) → GoesOn config r (judge config r element) (element ∷ [])
 goes config r (Post p) =
     let moment = max r.clock p.moment in
-    let column = column_of p.message.channel in
-    let named = named_by r.sessions column p.message in
-    let went : Went config r moment (outcome config (roll_of config r).members moment p) (judge config r (Post p)) =
-    rw (refusal-live config r.sessions p, named_by-live r.sessions column p.message) (goes-by config r moment p named (refusal config r.sessions p)) in
+    let message_kind = message_kind_of p.message.channel in
+    let named = named_by r.sessions message_kind p.message in
+    let went : Went config r moment (verdict config (roll_of config r).members moment p) (judge config r (Post p)) =
+    rw (refusal-live config r.sessions p, named_by-live r.sessions message_kind p.message) (goes-by config r moment p named (refusal config r.sessions p)) in
     record { roll = went.roll; judged = went.judged }
 goes config r (messages.Tick moment) = record {
   roll = same_roll config config.limits.sessions (max r.clock moment) (sym (length-map r.sessions _)) (live_in-swept (max r.clock moment) r.sessions) (sym (one_more r.judged _));

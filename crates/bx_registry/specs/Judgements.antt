@@ -3,29 +3,29 @@ use Rattle.std.specs.Prelude.{ℕ, ◌≡◌, ⊤, Bool, false, List, fold, is_s
 use Rattle.std.specs.List.{list_any}
 use Rattle.bx_names.specs.Faults.{name_fault, pattern_fault}
 use Rattle.bx_message.specs.declared.message.Message.{Message}
-use Rattle.bx_message.specs.declared.column.Column.{Column}
-use Rattle.bx_message.specs.declared.column.Column.TheVariants as columns
-use Rattle.bx_entry.specs.declared.entry.Kind.{Kind}
+use Rattle.bx_message.specs.declared.message_kind.MessageKind.{MessageKind}
+use Rattle.bx_message.specs.declared.message_kind.MessageKind.TheVariants as message_kinds
+use Rattle.bx_entry.specs.declared.entry.EntryKind.{EntryKind}
 use Rattle.bx_roster.specs.Live.{Members}
 use Rattle.bx_roster.specs.Edits.{edited, CanEditEach}
 use Rattle.bx_roster.specs.declared.edit.Edit.{Edit}
 use Rattle.bx_roster.specs.declared.edit.Edit.TheVariants.{Extend, Close}
-use Rattle.bx_registry.specs.Rolls.{Outcome}
+use Rattle.bx_registry.specs.Rolls.{Verdict}
 use Rattle.bx_registry.specs.Plans.{planned_at}
 use Rattle.bx_registry.specs.declared.plan.Planned.{Planned}
 
 -- an accepted message of a session moves its due moment on; a disconnect closes the session
-abbrev pub edit_for : Column → ℕ → ℕ → Edit
-edit_for columns.Handshake number due = Extend number due
-edit_for columns.Connect number due = Extend number due
-edit_for columns.Subscribe number due = Extend number due
-edit_for columns.Unsubscribe number due = Extend number due
-edit_for columns.Disconnect number due = Close number
-edit_for columns.Publish number due = Extend number due
-edit_for columns.UnknownMeta number due = Extend number due
+abbrev pub edit_for : MessageKind → ℕ → ℕ → Edit
+edit_for message_kinds.Handshake number due = Extend number due
+edit_for message_kinds.Connect number due = Extend number due
+edit_for message_kinds.Subscribe number due = Extend number due
+edit_for message_kinds.Unsubscribe number due = Extend number due
+edit_for message_kinds.Disconnect number due = Close number
+edit_for message_kinds.Publish number due = Extend number due
+edit_for message_kinds.UnknownMeta number due = Extend number due
 
 -- the edit, if there is one, the kind of the entry and the slot are those of the outcome at this place
-pub record IsOutcome (ms : Members) (place : ℕ) (o : Outcome) (edit : Option Edit) (kind : Kind) (slot : Planned) : Type 0 where
+pub record IsVerdict (ms : Members) (place : ℕ) (o : Verdict) (edit : Option Edit) (kind : EntryKind) (slot : Planned) : Type 0 where
   pub members : fold edited ms (option_to_list edit) ≡ o.members
   pub can : CanEditEach ms (option_to_list edit)
   pub what : kind ≡ o.kind
@@ -35,12 +35,12 @@ pub record IsOutcome (ms : Members) (place : ℕ) (o : Outcome) (edit : Option E
 abbrev pub has_fault : List (List ℕ) → Bool
 has_fault texts = list_any (λ text. is_some (pattern_fault text)) texts
 
--- where a message of this column names patterns, each of them reads as one; where it is a publish, its channel reads as a name
-abbrev pub AreReadable : Column → Message → Type 0
-AreReadable columns.Handshake message = ⊤
-AreReadable columns.Connect message = ⊤
-AreReadable columns.Subscribe message = has_fault message.texts ≡ false
-AreReadable columns.Unsubscribe message = has_fault message.texts ≡ false
-AreReadable columns.Disconnect message = ⊤
-AreReadable columns.Publish message = is_some (name_fault message.channel) ≡ false
-AreReadable columns.UnknownMeta message = ⊤
+-- where a message of this kind names patterns, each of them reads as one; where it is a publish, its channel reads as a name
+abbrev pub AreReadable : MessageKind → Message → Type 0
+AreReadable message_kinds.Handshake message = ⊤
+AreReadable message_kinds.Connect message = ⊤
+AreReadable message_kinds.Subscribe message = has_fault message.texts ≡ false
+AreReadable message_kinds.Unsubscribe message = has_fault message.texts ≡ false
+AreReadable message_kinds.Disconnect message = ⊤
+AreReadable message_kinds.Publish message = is_some (name_fault message.channel) ≡ false
+AreReadable message_kinds.UnknownMeta message = ⊤

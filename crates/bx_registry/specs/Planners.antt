@@ -5,12 +5,12 @@ use Rattle.bx_advice.specs.Limits.{greatest_moment}
 use Rattle.bx_entry.specs.Listing.{Listed}
 use Rattle.bx_entry.specs.declared.entry.Entry.{Entry}
 use Rattle.bx_roster.specs.Live.{Members}
-use Rattle.bx_registry.specs.Rolls.{Outcome, Roll, after, found}
+use Rattle.bx_registry.specs.Rolls.{Verdict, Roll, after, found}
 use Rattle.bx_registry.specs.Plans.{planned_at, entries_in, slots_in}
 use Rattle.bx_registry.specs.declared.plan.Planned.{Planned}
 
 -- the sessions, the entry and the answer are those of the outcome at this place
-pub record IsFoundAt (place moment : ℕ) (o : Outcome) (ms : Members) (entry : Entry) (slot : Planned) : Type 0 where
+pub record IsFoundAt (place moment : ℕ) (o : Verdict) (ms : Members) (entry : Entry) (slot : Planned) : Type 0 where
   pub members : ms ≡ o.members
   pub noted : entry ≡ record { place = place; moment = moment; kind = o.kind }
   pub answer : planned_at place o.slot ≡ Some slot

@@ -2,15 +2,15 @@
 -- accepted one comes to, is said by the words of the registry itself.
 use Rattle.std.specs.Prelude.{ℕ, ◌+◌, max, Bool, List, [], ◌∷◌, ◌++◌, length, fold, if◌then◌else◌, Option, Some, None, option_map}
 use Rattle.bx_advice.specs.declared.config.Config.{Config}
-use Rattle.bx_advice.specs.declared.advice.Case.TheVariants.{Failed}
-use Rattle.bx_advice.specs.declared.advice.Case.TheVariants as advice
+use Rattle.bx_advice.specs.declared.advice.Outcome.TheVariants.{Failed}
+use Rattle.bx_advice.specs.declared.advice.Outcome.TheVariants as advice
 use Rattle.bx_advice.specs.declared.error.Error.{Error}
-use Rattle.bx_message.specs.declared.column.Column.{Column}
+use Rattle.bx_message.specs.declared.message_kind.MessageKind.{MessageKind}
 use Rattle.bx_message.specs.declared.reply.AckReply.TheVariants as replies
-use Rattle.bx_message.specs.Columns.{column_of}
+use Rattle.bx_message.specs.MessageKinds.{message_kind_of}
 use Rattle.bx_message.specs.Replies.{reply_to}
-use Rattle.bx_entry.specs.declared.entry.Kind.{Kind}
-use Rattle.bx_entry.specs.declared.entry.Kind.TheVariants as entries
+use Rattle.bx_entry.specs.declared.entry.EntryKind.{EntryKind}
+use Rattle.bx_entry.specs.declared.entry.EntryKind.TheVariants as entries
 use Rattle.bx_entry.specs.Listing.{Posted, Listed, Post}
 use Rattle.bx_entry.specs.Listing as messages
 use Rattle.bx_entry.specs.Registry.{Registered, Registry, Judged, PlaceSlot, Ready, NoSlot, client_id, extended, hold_of, is_ack, kind_for, left_by, named_by, overdue, refusal, slot_for, swept}
@@ -37,21 +37,21 @@ roll_of config r = record {
 -- ---- what an element of the list comes to
 
 -- the sessions after it, the kind of its entry, its sender, the hold granted to it, and how it is answered
-pub record Outcome : Type 0 where
+pub record Verdict : Type 0 where
   pub members : Members
-  pub kind : Kind
+  pub kind : EntryKind
   pub sender : Option ℕ
   pub hold : ℕ
   pub slot : PlaceSlot
 
 -- a refused message changes nothing
-abbrev pub refused : Config → Members → Posted → Error → Option Registered → Outcome
+abbrev pub refused : Config → Members → Posted → Error → Option Registered → Verdict
 refused config ms p error sender = record {
   members = ms;
   kind = entries.Refused;
   sender = None;
   hold = 0;
-  slot = Ready (reply_to config (column_of p.message.channel) p.message (option_map (λ (s : Registered). s.client) sender) (Failed error) replies.NoAck);
+  slot = Ready (reply_to config (message_kind_of p.message.channel) p.message (option_map (λ (s : Registered). s.client) sender) (Failed error) replies.NoAck);
 }
 
 -- a session as it is opened
@@ -60,43 +60,43 @@ newcomer config moment p number =
     record { number = number; client = client_id p.nonce number; ack = is_ack p.message.ack; due = moment + config.max_interval; live = Bool.true }
 
 -- a new session, under the next number
-abbrev pub opened : Config → Members → ℕ → Posted → ℕ → Outcome
+abbrev pub opened : Config → Members → ℕ → Posted → ℕ → Verdict
 opened config ms moment p number = record {
   members = record ms { opened = number; live = ms.live ++ newcomer config moment p number ∷ [] };
   kind = entries.Opened number (is_ack p.message.ack);
   sender = Some number;
   hold = 0;
-  slot = Ready (reply_to config Column.Handshake p.message (Some (client_id p.nonce number)) advice.Opened (if is_ack p.message.ack then replies.AckTrue else replies.NoAck));
+  slot = Ready (reply_to config MessageKind.Handshake p.message (Some (client_id p.nonce number)) advice.Opened (if is_ack p.message.ack then replies.AckTrue else replies.NoAck));
 }
 
 -- an accepted message of a live session
-abbrev pub served : Config → Members → ℕ → Posted → Column → Registered → ℕ → Outcome
-served config ms moment p column s hold = record {
-  members = with_live ms (live_in (left_by column s.number (extended s.number (moment + hold + config.max_interval) ms.live)));
-  kind = kind_for column p s hold;
+abbrev pub served : Config → Members → ℕ → Posted → MessageKind → Registered → ℕ → Verdict
+served config ms moment p message_kind s hold = record {
+  members = with_live ms (live_in (left_by message_kind s.number (extended s.number (moment + hold + config.max_interval) ms.live)));
+  kind = kind_for message_kind p s hold;
   sender = Some s.number;
   hold = hold;
-  slot = slot_for config column p s;
+  slot = slot_for config message_kind p s;
 }
 
 -- an accepted message: a handshake has no session yet, every other has one
-abbrev pub accepted : Config → Members → ℕ → Posted → Option Registered → Outcome
+abbrev pub accepted : Config → Members → ℕ → Posted → Option Registered → Verdict
 accepted config ms moment p None = opened config ms moment p (ms.opened + 1)
-accepted config ms moment p (Some s) = served config ms moment p (column_of p.message.channel) s (hold_of config p)
+accepted config ms moment p (Some s) = served config ms moment p (message_kind_of p.message.channel) s (hold_of config p)
 
 -- a message is refused or accepted
-abbrev pub judged_by : Config → Members → ℕ → Posted → Option Registered → Option Error → Outcome
+abbrev pub judged_by : Config → Members → ℕ → Posted → Option Registered → Option Error → Verdict
 judged_by config ms moment p sender (Some error) = refused config ms p error sender
 judged_by config ms moment p sender None = accepted config ms moment p sender
 
 -- what a message comes to at this moment
-abbrev pub outcome : Config → Members → ℕ → Posted → Outcome
-outcome config ms moment p =
-    judged_by config ms moment p (named_by ms.live (column_of p.message.channel) p.message) (refusal config ms.live p)
+abbrev pub verdict : Config → Members → ℕ → Posted → Verdict
+verdict config ms moment p =
+    judged_by config ms moment p (named_by ms.live (message_kind_of p.message.channel) p.message) (refusal config ms.live p)
 
 -- a tick closes the sessions that are overdue
-abbrev pub tick_outcome : Members → ℕ → Outcome
-tick_outcome ms moment = record {
+abbrev pub tick_verdict : Members → ℕ → Verdict
+tick_verdict ms moment = record {
   members = with_live ms (live_in (swept moment ms.live));
   kind = entries.Tick (overdue moment ms.live);
   sender = None;
@@ -112,7 +112,7 @@ pub record Step : Type 0 where
   pub found : Judged
 
 -- the roll with one more place
-abbrev pub noted : Roll → ℕ → Outcome → Step
+abbrev pub noted : Roll → ℕ → Verdict → Step
 noted roll moment o = record {
   roll = record { config = roll.config; members = o.members; clock = moment; length = roll.length + 1 };
   found = record { entry = record { place = roll.length; moment = moment; kind = o.kind }; sender = o.sender; hold = o.hold; slot = o.slot };
@@ -120,8 +120,8 @@ noted roll moment o = record {
 
 -- the next element has the greatest moment so far, and is judged by the sessions before it
 abbrev pub step : Roll → Listed → Step
-step roll (Post p) = noted roll (max roll.clock p.moment) (outcome roll.config roll.members (max roll.clock p.moment) p)
-step roll (messages.Tick moment) = noted roll (max roll.clock moment) (tick_outcome roll.members (max roll.clock moment))
+step roll (Post p) = noted roll (max roll.clock p.moment) (verdict roll.config roll.members (max roll.clock p.moment) p)
+step roll (messages.Tick moment) = noted roll (max roll.clock moment) (tick_verdict roll.members (max roll.clock moment))
 
 -- the roll after one more element
 abbrev pub next : Roll → Listed → Roll

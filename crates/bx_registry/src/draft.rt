@@ -7,7 +7,7 @@ ghost use Rattle.bx_roster.specs.Edits.{CanEdit, CanEditEach};
 ghost use Rattle.bx_registry.specs.Drafts.{Drafted, IsSender, client_after, members_of};
 
 use crate::id::number_in;
-use bx_message::{Column, Message, Sequence, Text, TextMember};
+use bx_message::{Message, MessageKind, Sequence, Text, TextMember};
 use bx_roster::{Edit, Table};
 use std::alloc::{AllocError, AllocFailed, Global};
 use std::marker::Model;
@@ -61,13 +61,17 @@ impl<'a> Draft<'a> {
         (self.count, self.opened)
     }
 
-    /// The live session that a message of this column names. A handshake names none.
-    pub(crate) fn named_by<'m>(&self, column: Column, message: &'m Message) -> Option<Sender<'m>>
-        ensures { MatchOption result (named_by (members_of self.now).live column message.now ≡ None)
-            (λ s. IsSender (named_by (members_of self.now).live column message.now) s.number s.client.now) }
+    /// The live session that a message of this kind names. A handshake names none.
+    pub(crate) fn named_by<'m>(
+        &self,
+        message_kind: MessageKind,
+        message: &'m Message,
+    ) -> Option<Sender<'m>>
+        ensures { MatchOption result (named_by (members_of self.now).live message_kind message.now ≡ None)
+            (λ s. IsSender (named_by (members_of self.now).live message_kind message.now) s.number s.client.now) }
     {
-        match column {
-            Column::Handshake | Column::UnknownMeta => None,
+        match message_kind {
+            MessageKind::Handshake | MessageKind::UnknownMeta => None,
             _ => self.sender_of(&message.client),
         }
     }

@@ -5,32 +5,33 @@ ghost use Rattle.bx_names.specs.Faults.{name_fault, pattern_fault};
 ghost use Rattle.bx_names.specs.Globs.{Glob, glob_of};
 ghost use Rattle.bx_names.specs.Kinds.{is_service};
 ghost use Rattle.bx_names.specs.Segments.{segments};
-ghost use Rattle.bx_advice.specs.declared.advice.Case.TheVariants.{Failed};
-ghost use Rattle.bx_advice.specs.declared.advice.Case.TheVariants as advice;
+ghost use Rattle.bx_advice.specs.declared.advice.Outcome.TheVariants.{Failed};
+ghost use Rattle.bx_advice.specs.declared.advice.Outcome.TheVariants as advice;
 ghost use Rattle.bx_advice.specs.Limits.{greatest_moment};
 ghost use Rattle.bx_message.specs.declared.reply.AckReply.TheVariants as replies;
-ghost use Rattle.bx_message.specs.declared.column.Column.TheVariants as columns;
-ghost use Rattle.bx_message.specs.Columns.{column_of};
+ghost use Rattle.bx_message.specs.declared.message_kind.MessageKind.TheVariants as message_kinds;
+ghost use Rattle.bx_message.specs.MessageKinds.{message_kind_of};
 ghost use Rattle.bx_message.specs.Replies.{reply_to};
-ghost use Rattle.bx_entry.specs.declared.entry.Kind.TheVariants as entries;
+ghost use Rattle.bx_entry.specs.declared.entry.EntryKind.TheVariants as entries;
 ghost use Rattle.bx_entry.specs.Registry.{Registered, acked_by, client_id, event_of, hold_of, is_ack, kind_for, patterns_of, slot_for};
 ghost use Rattle.bx_roster.specs.declared.edit.Edit.TheVariants as edits;
 ghost use Rattle.bx_registry.specs.Postings.{posted_of};
-ghost use Rattle.bx_registry.specs.Rolls.{newcomer, outcome};
+ghost use Rattle.bx_registry.specs.Rolls.{newcomer, verdict};
 ghost use Rattle.bx_entry.specs.Listing as messages;
 ghost use Rattle.bx_registry.specs.Drafts.{members_of, named};
 ghost use Rattle.bx_registry.specs.Plans.{planned_at};
-ghost use Rattle.bx_registry.specs.Judgements.{AreReadable, IsOutcome, edit_for, has_fault};
+ghost use Rattle.bx_registry.specs.Judgements.{AreReadable, IsVerdict, edit_for, has_fault};
 
 use crate::draft::{Draft, Sender};
 use crate::id::client_id;
 use crate::plan::Planned;
 use crate::posted::Posted;
 use crate::refusal::refusal;
-use bx_advice::{Case, Config, Error};
-use bx_entry::Kind;
+use bx_advice::{Config, Error, Outcome};
+use bx_entry::EntryKind;
 use bx_message::{
-    AckMember, AckReply, Column, Event, Message, RawJson, Reply, Sequence, SharedEvent, Text,
+    AckMember, AckReply, Event, Message, MessageKind, RawJson, Reply, Sequence, SharedEvent, Text,
+    share_json,
 };
 use bx_names::{ChannelName, NameError, Pattern};
 use bx_roster::{Edit, Session};
@@ -40,7 +41,7 @@ use std::alloc::{AllocError, AllocFailed, Global};
 #[derive(Drop)]
 pub(crate) struct Judgement {
     pub(crate) edit: Option<Edit>,
-    pub(crate) kind: Kind,
+    pub(crate) kind: EntryKind,
     pub(crate) slot: Planned,
 }
 
@@ -56,17 +57,17 @@ pub(crate) fn judge(
     requires moment { moment ≤ greatest_moment }
     requires limit { (members_of draft.now).limit ≡ config.now.limits.sessions }
     requires number { (members_of draft.now).opened + 1 < 2 ^ 64 }
-    ensures { IfOk result (λ j. IsOutcome (members_of draft.now) place
-        (outcome config.now (members_of draft.now) moment (posted_of posted.entry)) j.edit j.kind j.slot) }
+    ensures { IfOk result (λ j. IsVerdict (members_of draft.now) place
+        (verdict config.now (members_of draft.now) moment (posted_of posted.entry)) j.edit j.kind j.slot) }
 {
-    let column = Column::of(posted.message.channel.as_str());
-    let sender = draft.named_by(column, posted.message);
+    let message_kind = MessageKind::of(posted.message.channel.as_str());
+    let sender = draft.named_by(message_kind, posted.message);
     let (live, opened) = draft.counts();
-    match refusal(config, live, sender.is_some(), column, posted) {
-        Some(error) => refuse(config, column, posted.message, &sender, error),
+    match refusal(config, live, sender.is_some(), message_kind, posted) {
+        Some(error) => refuse(config, message_kind, posted.message, &sender, error),
         None => match &sender {
             None => open(alloc, config, moment, opened + 1, posted),
-            Some(sender) => serve(alloc, config, column, moment, place, posted, sender),
+            Some(sender) => serve(alloc, config, message_kind, moment, place, posted, sender),
         },
     }
 }
@@ -74,14 +75,14 @@ pub(crate) fn judge(
 // A refused message changes nothing but the list.
 fn refuse(
     config: &Config,
-    column: Column,
+    message_kind: MessageKind,
     message: &Message,
     sender: &Option<Sender<'_>>,
     error: Error,
 ) -> Result<Judgement, AllocError>
     ensures edit { IfOk result (λ j. j.edit ≡ None) }
     ensures kind { IfOk result (λ j. j.kind ≡ entries.Refused) }
-    ensures slot { IfOk result (λ j. j.slot ≡ Planned.Ready (reply_to config.now column message.now
+    ensures slot { IfOk result (λ j. j.slot ≡ Planned.Ready (reply_to config.now message_kind message.now
         (option_map (λ s. s.client.now) sender.now) (Failed error) replies.NoAck)) }
 {
     let client = match sender {
@@ -90,15 +91,15 @@ fn refuse(
     };
     let reply = Reply::to_message(
         config,
-        column,
+        message_kind,
         message,
         client,
-        Case::Failed(error),
+        Outcome::Failed(error),
         AckReply::NoAck,
     )?;
     Ok(Judgement {
         edit: None,
-        kind: Kind::Refused,
+        kind: EntryKind::Refused,
         slot: Planned::Ready(reply),
     })
 }
@@ -107,28 +108,28 @@ fn refuse(
 fn serve(
     alloc: Global,
     config: &Config,
-    column: Column,
+    message_kind: MessageKind,
     moment: u64,
     place: u64,
     posted: Posted<'_>,
     sender: &Sender<'_>,
 ) -> Result<Judgement, AllocError>
-    requires column { column ≡ column_of posted.message.now.channel }
-    requires readable { AreReadable column posted.message.now }
+    requires message_kind { message_kind ≡ message_kind_of posted.message.now.channel }
+    requires readable { AreReadable message_kind posted.message.now }
     requires moment { moment ≤ greatest_moment }
-    ensures edit { IfOk result (λ j. j.edit ≡ Some (edit_for column sender.now.number
+    ensures edit { IfOk result (λ j. j.edit ≡ Some (edit_for message_kind sender.now.number
         (moment + hold_of config.now (posted_of posted.entry) + config.now.max_interval))) }
     ensures kind { IfOk result (λ j. j.kind
-        ≡ kind_for column (posted_of posted.entry) (named sender.now) (hold_of config.now (posted_of posted.entry))) }
+        ≡ kind_for message_kind (posted_of posted.entry) (named sender.now) (hold_of config.now (posted_of posted.entry))) }
     ensures slot { IfOk result (λ j. planned_at place
-        (slot_for config.now column (posted_of posted.entry) (named sender.now)) ≡ Some j.slot) }
+        (slot_for config.now message_kind (posted_of posted.entry) (named sender.now)) ≡ Some j.slot) }
 {
-    let hold = hold_of(config, column, posted);
+    let hold = hold_of(config, message_kind, posted);
     let due = due_after(config, moment, hold);
     Ok(Judgement {
-        edit: Some(edit_for(column, sender.number, due)),
-        kind: kind_for(alloc, column, posted.message, sender, hold)?,
-        slot: slot_for(config, column, place, posted.message, sender)?,
+        edit: Some(edit_for(message_kind, sender.number, due)),
+        kind: kind_for(alloc, message_kind, posted.message, sender, hold)?,
+        slot: slot_for(config, message_kind, place, posted.message, sender)?,
     })
 }
 
@@ -136,51 +137,51 @@ fn serve(
 // channel is one.
 fn kind_for(
     alloc: Global,
-    column: Column,
+    message_kind: MessageKind,
     message: &Message,
     sender: &Sender<'_>,
     hold: u64,
-) -> Result<Kind, AllocError>
-    requires { AreReadable column message.now }
+) -> Result<EntryKind, AllocError>
+    requires { AreReadable message_kind message.now }
     ensures { IfOk result (λ kind. (p : messages.Posted) → p.message ≡ message.now
-        → kind ≡ kind_for column p (named sender.now) hold) }
+        → kind ≡ kind_for message_kind p (named sender.now) hold) }
 {
     let session = sender.number;
-    Ok(match column {
-        Column::Handshake | Column::UnknownMeta => Kind::Refused,
-        Column::Connect => Kind::Connect {
+    Ok(match message_kind {
+        MessageKind::Handshake | MessageKind::UnknownMeta => EntryKind::Refused,
+        MessageKind::Connect => EntryKind::Connect {
             session,
             client: sender.client.clone()?,
-            id: share(&message.id)?,
+            id: share_json(message.id.as_ref())?,
             acked: acked_by(message.ack),
             hold,
         },
-        Column::Subscribe => Kind::Subscribe {
+        MessageKind::Subscribe => EntryKind::Subscribe {
             session,
             patterns: patterns_of(alloc, message)?,
         },
-        Column::Unsubscribe => Kind::Unsubscribe {
+        MessageKind::Unsubscribe => EntryKind::Unsubscribe {
             session,
             patterns: patterns_of(alloc, message)?,
         },
-        Column::Disconnect => Kind::Disconnect { session },
-        Column::Publish => Kind::Publish(event_of(alloc, message)?),
+        MessageKind::Disconnect => EntryKind::Disconnect { session },
+        MessageKind::Publish => EntryKind::Publish(event_of(alloc, message)?),
     })
 }
 
 // How an accepted message of a live session is answered.
 fn slot_for(
     config: &Config,
-    column: Column,
+    message_kind: MessageKind,
     place: u64,
     message: &Message,
     sender: &Sender<'_>,
 ) -> Result<Planned, AllocError>
     ensures { IfOk result (λ slot. (p : messages.Posted) → p.message ≡ message.now
-        → planned_at place (slot_for config.now column p (named sender.now)) ≡ Some slot) }
+        → planned_at place (slot_for config.now message_kind p (named sender.now)) ≡ Some slot) }
 {
-    match column {
-        Column::Connect => Ok(Planned::Waiting {
+    match message_kind {
+        MessageKind::Connect => Ok(Planned::Waiting {
             place,
             session: sender.number,
         }),
@@ -188,10 +189,10 @@ fn slot_for(
             let client = Some(sender.client);
             let reply = Reply::to_message(
                 config,
-                column,
+                message_kind,
                 message,
                 client,
-                Case::Done,
+                Outcome::Done,
                 AckReply::NoAck,
             )?;
             Ok(Planned::Ready(reply))
@@ -221,7 +222,7 @@ fn open(
     ensures edit { IfOk result (λ j.
         j.edit ≡ Some (edits.Open (newcomer config.now moment (posted_of posted.entry) number))) }
     ensures kind { IfOk result (λ j. j.kind ≡ entries.Opened number (is_ack posted.entry.message.now.ack)) }
-    ensures slot { IfOk result (λ j. j.slot ≡ Planned.Ready (reply_to config.now columns.Handshake
+    ensures slot { IfOk result (λ j. j.slot ≡ Planned.Ready (reply_to config.now message_kinds.Handshake
         posted.entry.message.now (Some (client_id posted.entry.nonce number)) advice.Opened
         (if is_ack posted.entry.message.now.ack then replies.AckTrue else replies.NoAck))) }
 {
@@ -237,7 +238,7 @@ fn open(
     };
     Ok(Judgement {
         edit: Some(Edit::Open(session)),
-        kind: Kind::Opened {
+        kind: EntryKind::Opened {
             session: number,
             ack,
         },
@@ -247,7 +248,7 @@ fn open(
 
 // How the handshake that opens the session with this client id is answered.
 fn opened_reply(config: &Config, message: &Message, client: &Text) -> Result<Reply, AllocError>
-    ensures { IfOk result (λ reply. reply ≡ reply_to config.now columns.Handshake message.now
+    ensures { IfOk result (λ reply. reply ≡ reply_to config.now message_kinds.Handshake message.now
         (Some client.now) advice.Opened (if is_ack message.now.ack then replies.AckTrue else replies.NoAck)) }
 {
     let answer = if is_ack(message.ack) {
@@ -257,10 +258,10 @@ fn opened_reply(config: &Config, message: &Message, client: &Text) -> Result<Rep
     };
     Reply::to_message(
         config,
-        Column::Handshake,
+        MessageKind::Handshake,
         message,
         Some(client),
-        Case::Opened,
+        Outcome::Opened,
         answer,
     )
 }
@@ -276,13 +277,13 @@ fn is_ack(ack: AckMember) -> bool
 }
 
 // How long a connect may be held: only a request's sole message is.
-fn hold_of(config: &Config, column: Column, posted: Posted<'_>) -> u64
-    requires { column ≡ column_of posted.message.now.channel }
+fn hold_of(config: &Config, message_kind: MessageKind, posted: Posted<'_>) -> u64
+    requires { message_kind ≡ message_kind_of posted.message.now.channel }
     ensures hold { result ≡ hold_of config.now (posted_of posted.entry) }
     ensures small { result < 2 ^ 32 }
 {
-    match column {
-        Column::Connect if posted.sole => {
+    match message_kind {
+        MessageKind::Connect if posted.sole => {
             let timeout = u64::from(config.timeout);
             timeout.min(posted.message.timeout.unwrap_or(timeout))
         }
@@ -301,11 +302,11 @@ fn due_after(config: &Config, moment: u64, hold: u64) -> u64
 }
 
 // What an accepted message of a session changes: a disconnect closes it.
-fn edit_for(column: Column, number: u64, due: u64) -> Edit
-    ensures { result ≡ edit_for column number due }
+fn edit_for(message_kind: MessageKind, number: u64, due: u64) -> Edit
+    ensures { result ≡ edit_for message_kind number due }
 {
-    match column {
-        Column::Disconnect => Edit::Close { number },
+    match message_kind {
+        MessageKind::Disconnect => Edit::Close { number },
         _ => Edit::Extend { number, due },
     }
 }
@@ -354,17 +355,8 @@ fn event_of(alloc: Global, message: &Message) -> Result<SharedEvent, AllocError>
     let event = Event {
         channel: message.channel.clone()?,
         payload,
-        id: share(&message.id)?,
+        id: share_json(message.id.as_ref())?,
     };
     let name = ChannelName::of_valid(alloc, message.channel.as_str())?;
     SharedEvent::new(alloc, event, name)
-}
-
-fn share(json: &Option<RawJson>) -> Result<Option<RawJson>, AllocError>
-    ensures { IfOk result (λ shared. shared ≡ json.now) }
-{
-    match json {
-        Some(json) => Ok(Some(json.clone()?)),
-        None => Ok(None),
-    }
 }

@@ -1,10 +1,10 @@
 //! The messages of a request, one after another.
 ghost use Rattle.std.specs.Prelude.{◌≡◌, ◌+◌, ◌<◌, ◌≤◌, ◌&&◌, ◌==◌, max, Some, List, length, IfOk};
 ghost use Rattle.bx_advice.specs.Limits.{greatest_length, greatest_moment};
-ghost use Rattle.bx_message.specs.Columns.{is_handshake};
+ghost use Rattle.bx_message.specs.MessageKinds.{is_handshake};
 ghost use Rattle.bx_entry.specs.Listing.{request};
 ghost use Rattle.bx_entry.specs.declared.entry.Entry.{Entry};
-ghost use Rattle.bx_registry.specs.Rolls.{Roll, after, found, outcome};
+ghost use Rattle.bx_registry.specs.Rolls.{Roll, after, found, verdict};
 ghost use Rattle.bx_registry.specs.Drafts.{members_of};
 ghost use Rattle.bx_registry.specs.Postings.{posted_of};
 ghost use Rattle.bx_registry.specs.Plans.{entries_in, planned_at, slots_in};
@@ -119,7 +119,7 @@ fn plan_next(
     requires opened { (members_of draft.old).opened ≤ greatest_length }
     ensures base { draft.new.base ≡ draft.old.base }
     ensures found { IfOk result (λ r. IsFoundAt place clock
-        (outcome config.now (members_of draft.old) clock (posted_of posted.entry)) (members_of draft.new) r.0 r.1) }
+        (verdict config.now (members_of draft.old) clock (posted_of posted.entry)) (members_of draft.new) r.0 r.1) }
 {
     let Judgement { edit, kind, slot } = judge(alloc, config, draft, clock, place, posted)?;
     if let Some(edit) = edit {

@@ -3,57 +3,57 @@ ghost use Rattle.std.specs.Prelude.{◌≡◌, List, None, length, nat_lt, nat_l
 ghost use Rattle.std.specs.List.{list_any};
 ghost use Rattle.bx_names.specs.Faults.{name_fault, pattern_fault};
 ghost use Rattle.bx_names.specs.Kinds.{is_meta};
-ghost use Rattle.bx_message.specs.Columns.{column_of};
+ghost use Rattle.bx_message.specs.MessageKinds.{message_kind_of};
 ghost use Rattle.bx_entry.specs.Registry.{Registered, count_live, is_connection, is_polling, is_text, is_version, named_by, refusal};
 ghost use Rattle.bx_registry.specs.Judgements.{AreReadable};
 ghost use Rattle.bx_registry.specs.Postings.{posted_of};
 
 use crate::posted::Posted;
 use bx_advice::{Config, Error};
-use bx_message::{Column, Message, Text, TextMember};
+use bx_message::{Message, MessageKind, Text, TextMember};
 use bx_names::{ChannelKind, kind_of, name_fault, pattern_fault};
 
-/// Why a message of this column is refused, where so many sessions are live, and it is `known` whether it names one
+/// Why a message of this kind is refused, where so many sessions are live, and it is `known` whether it names one
 /// of them: the first line that holds. They stand in the order of the errors.
 pub(crate) fn refusal(
     config: &Config,
     live: usize,
     known: bool,
-    column: Column,
+    message_kind: MessageKind,
     posted: Posted<'_>,
 ) -> Option<Error>
-    requires { column ≡ column_of posted.message.now.channel }
+    requires { message_kind ≡ message_kind_of posted.message.now.channel }
     ensures table { (sessions : List Registered) → live ≡ count_live sessions
-        → known ≡ is_some (named_by sessions column posted.entry.message.now)
+        → known ≡ is_some (named_by sessions message_kind posted.entry.message.now)
         → result ≡ refusal config.now sessions (posted_of posted.entry) }
-    ensures readable { result ≡ None → AreReadable column posted.entry.message.now }
+    ensures readable { result ≡ None → AreReadable message_kind posted.entry.message.now }
 {
     let message = posted.message;
-    match column {
-        Column::UnknownMeta => Some(Error::UnknownMetaChannel),
-        Column::Handshake if posted.second => Some(Error::SecondHandshake),
-        Column::Handshake if !is_version(&message.version) => Some(Error::UnsupportedVersion),
-        Column::Handshake if !has_polling(message) => Some(Error::NoSupportedConnectionType),
-        Column::Handshake if live >= config.limits.sessions => Some(Error::TooManySessions),
-        Column::Handshake => None,
+    match message_kind {
+        MessageKind::UnknownMeta => Some(Error::UnknownMetaChannel),
+        MessageKind::Handshake if posted.second => Some(Error::SecondHandshake),
+        MessageKind::Handshake if !is_version(&message.version) => Some(Error::UnsupportedVersion),
+        MessageKind::Handshake if !has_polling(message) => Some(Error::NoSupportedConnectionType),
+        MessageKind::Handshake if live >= config.limits.sessions => Some(Error::TooManySessions),
+        MessageKind::Handshake => None,
         _ if !is_text(&message.client) => Some(Error::NoClientId),
         _ if !known => Some(Error::UnknownClient),
-        Column::Connect if !is_connection(&message.connection) => Some(
+        MessageKind::Connect if !is_connection(&message.connection) => Some(
             Error::UnknownConnectionType,
         ),
-        Column::Publish if !is_name(message) => Some(Error::InvalidChannel),
-        Column::Subscribe | Column::Unsubscribe if has_no_pattern(message) => Some(
+        MessageKind::Publish if !is_name(message) => Some(Error::InvalidChannel),
+        MessageKind::Subscribe | MessageKind::Unsubscribe if has_no_pattern(message) => Some(
             Error::InvalidPattern,
         ),
-        Column::Subscribe | Column::Unsubscribe if message.texts.len() > config.limits.texts =>
-            Some(Error::TooManyPatterns),
-        Column::Subscribe | Column::Unsubscribe if has_meta(message) => Some(
+        MessageKind::Subscribe | MessageKind::Unsubscribe
+            if message.texts.len() > config.limits.texts => Some(Error::TooManyPatterns),
+        MessageKind::Subscribe | MessageKind::Unsubscribe if has_meta(message) => Some(
             Error::SubscriptionDenied,
         ),
-        Column::Subscribe | Column::Unsubscribe if !message.listed => Some(
+        MessageKind::Subscribe | MessageKind::Unsubscribe if !message.listed => Some(
             Error::MissingSubscription,
         ),
-        Column::Publish if message.payload.is_none() => Some(Error::MissingData),
+        MessageKind::Publish if message.payload.is_none() => Some(Error::MissingData),
         _ => None,
     }
 }

@@ -13,7 +13,7 @@ use crate::draft::Draft;
 use crate::plan::{AdmitFault, Plan, TickPlan};
 use crate::planner::{Start, plan_all};
 use bx_advice::{Config, MAX_LENGTH, MAX_MOMENT};
-use bx_entry::{Batch, Entry, Kind};
+use bx_entry::{Batch, Entry, EntryKind};
 use bx_message::{Message, Sequence};
 use bx_roster::{Edits, Table};
 use std::alloc::{AllocError, Global};
@@ -149,7 +149,7 @@ impl Registry {
         let entry = Entry {
             place: self.length,
             moment: clock,
-            kind: Kind::Tick(self.table.overdue(alloc, clock)?),
+            kind: EntryKind::Tick(self.table.overdue(alloc, clock)?),
         };
         let change = Change {
             edits: Edits::Sweep(clock),

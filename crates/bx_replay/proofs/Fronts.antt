@@ -6,13 +6,13 @@ use Rattle.std.specs.Prelude.{IfSome, IsErr, OnErr, option_map, string_bytes}
 use Rattle.std.proofs.Common.{Global, String}
 use Rattle.std.specs.Io.KnownBytes.{Appends}
 use Rattle.bx_replay.specs.Kept.{AreKept, IsKept, held_texts}
-use Rattle.bx_replay.specs.Serving.{Dealt, HandsFront, Prints, PrintsFront, Reads, seen_lines}
-use Rattle.bx_replay.specs.declared.kept.Asked.{Asked}
+use Rattle.bx_replay.specs.Serving.{Served, HandsFront, Prints, PrintsFront, Reads, seen_lines}
+use Rattle.bx_replay.specs.declared.kept.PendingLine.{PendingLine}
 use Rattle.bx_replay.proofs.Keeping.{TicksAs, out_same}
 use Rattle.bx_replay.proofs.Steps.{many_of, seen_more, texts_handed}
 use Rattle.bx_advice.specs.declared.config.Config.{Config}
 use Rattle.bx_entry.specs.Inputs.{ReadInput}
-use Rattle.bx_script.specs.Replay.{Line, Bad, Turned, Handed, Resharded, Numbered, inputs_from, held_text, line_of, lines_of, out_by, replay_text, result_text}
+use Rattle.bx_script.specs.Replay.{Line, Bad, Rejected, Accepted, Resharded, Numbered, inputs_from, held_text, line_of, lines_of, out_by, replay_text, result_text}
 use Rattle.bx_entry.specs.Requests.{read_input}
 use Rattle.bx_entry.specs.Runs.{Out, held, outs, whole_at, wholes}
 use Rattle.bx_entry.specs.declared.Placing.{Ghosts}
@@ -21,8 +21,8 @@ use Rattle.bx_fanout.specs.Rounds.{added_by, inputs_of, setup_in}
 use Rattle.bx_fanout.specs.Stages.{seen_out}
 use Rattle.bx_fanout.specs.declared.out.Out as fanout
 use Rattle.bx_fanout.specs.declared.round.Round.{Round}
-use Rattle.bx_laws.specs.Lines.{AddsOuts, inputs_in, line_prints, outs_text, printed_so_far}
-use Rattle.bx_laws.proofs.Lines.{lines_go_on, outs_last}
+use Rattle.bx_theory.specs.Lines.{AddsOuts, inputs_in, line_prints, outs_text, printed_so_far}
+use Rattle.bx_theory.proofs.Lines.{lines_go_on, outs_last}
 use Rattle.bx_script.specs.Lines.{said_by}
 use Rattle.bx_script.specs.Printing.{AppendsFront, Writes, numbered}
 use Rattle.bx_script.specs.declared.line.Line as script
@@ -40,7 +40,7 @@ numbers_split ns i h =
     sym (take-append-drop i ns) ∙ ap (λ (us : List ℕ). take i ns ++ us) (drop-cons ns i 0 h ∙ ap (λ (n : ℕ). get_or ns i 0 ∷ drop n ns) (let l : suc i ≡ i + 1 = omega arith in l))
 
 -- a front of one out, by what was kept of its input
-pub out_front : {A E : Type 0} (o : Out) (a : Asked) (old : ℕ → Option Asked) (before after : Option (List ℕ)) (r : Result A E) → old o.input ≡ Some a →
+pub out_front : {A E : Type 0} (o : Out) (a : PendingLine) (old : ℕ → Option PendingLine) (before after : Option (List ℕ)) (r : Result A E) → old o.input ≡ Some a →
     ((read : TicksAs a.tick) → Writes before after r (result_text (numbered a.line (option_map string_bytes a.callback) read.read) read.read o.result)) →
     OnErr r ((ns : List Numbered) → AreKept ns old → AppendsFront before after (outs_text ns (o ∷ [])))
 out_front o a old before after (Ok x) found w = tt
@@ -79,22 +79,22 @@ front_line config ls l k more text before after room is adds e front = record {
 
 module _ {P : Type 0} {g : Ghosts P} where
   -- nothing of what an input adds is written
-  pub hands_none : (old : Round P g) (one : Numbered) (before : Option (List ℕ)) (kept : ℕ → Option Asked) → 0 < (setup_in old).config.limits.batch → HandsFront old one before before kept
+  pub hands_none : (old : Round P g) (one : Numbered) (before : Option (List ℕ)) (kept : ℕ → Option PendingLine) → 0 < (setup_in old).config.limits.batch → HandsFront old one before before kept
   hands_none old one before kept room = record {
     more = whole_at (length (inputs_of old)) (wholes (setup_in old).config (inputs_of old ++ one.input ∷ []));
     adds = outs_last (setup_in old).config (inputs_of old) one.input room;
     prints = λ ns many kept. front_none before (outs_text (ns ++ one ∷ []) (whole_at (length (inputs_of old)) (wholes (setup_in old).config (inputs_of old ++ one.input ∷ []))));
   }
 
-  pub handed_front : (old : Round P g) (ls : List script.Line) (l : script.Line) (callback : Option (String Global)) (input : Input) (before after : Option (List ℕ)) (kept : ℕ → Option Asked) (number : ℕ) → 0 < (setup_in old).config.limits.batch →
-      Dealt (setup_in old).config (seen_lines ls) (inputs_of old) (added_by old) kept number →
-      HandsFront old (numbered (number + 1) (option_map string_bytes callback) (read_input input)) before after kept → l ≡ script.Line.Handed callback input →
+  pub handed_front : (old : Round P g) (ls : List script.Line) (l : script.Line) (callback : Option (String Global)) (input : Input) (before after : Option (List ℕ)) (kept : ℕ → Option PendingLine) (number : ℕ) → 0 < (setup_in old).config.limits.batch →
+      Served (setup_in old).config (seen_lines ls) (inputs_of old) (added_by old) kept number →
+      HandsFront old (numbered (number + 1) (option_map string_bytes callback) (read_input input)) before after kept → l ≡ script.Line.Accepted callback input →
       PrintsFront (setup_in old).config ls (ls ++ l ∷ []) before after
   handed_front old ls l callback input before after kept number room d h is =
       let config : Config = (setup_in old).config in
       let name : Option (List ℕ) = option_map string_bytes callback in
       let read : ReadInput = read_input input in
-      front_line config ls l (script.Line.Handed callback input) h.more (outs_text (inputs_from 1 (seen_lines ls) ++ numbered (number + 1) name read ∷ []) h.more) before after room is
+      front_line config ls l (script.Line.Accepted callback input) h.more (outs_text (inputs_from 1 (seen_lines ls) ++ numbered (number + 1) name read ∷ []) h.more) before after room is
       (subst (λ (is : List ReadInput). outs config (is ++ read ∷ []) ≡ outs config is ++ h.more) d.inputs_are h.adds)
       (texts_handed config (seen_lines ls) name read (inputs_of old) (added_by old) h.more kept number d)
       (h.prints (inputs_from 1 (seen_lines ls)) (many_of config (seen_lines ls) (inputs_of old) (added_by old) kept number d) d.kept_are)
@@ -108,8 +108,8 @@ record Adds (config : Config) (ls : List Line) (l : Line) : Type 0 where
 
 adds_some : (config : Config) (ls : List Line) (l : Line) → 0 < config.limits.batch → Adds config ls l
 adds_some config ls Bad room = record { more = []; adds = tt }
-adds_some config ls (Turned status) room = record { more = []; adds = tt }
-adds_some config ls (Handed callback input) room = record {
+adds_some config ls (Rejected status) room = record { more = []; adds = tt }
+adds_some config ls (Accepted callback input) room = record {
   more = whole_at (length (inputs_in ls)) (wholes config (inputs_in ls ++ input ∷ []));
   adds = outs_last config (inputs_in ls) input room;
 }
@@ -162,10 +162,6 @@ prints_some config ls ms a b c p q = record {
 }
 
 -- ---- results
-
-pub err_of : {A E P : Type 0} (r : Result A E) → P → OnErr r P
-err_of (Ok x) h = tt
-err_of (Err e) h = h
 
 -- nothing is written before the first line
 pub none_known : {A E : Type 0} (config : Config) (bytes a : Option (List ℕ)) (r : Result A E) → IsErr r → IfSome bytes (λ bs. Writes a a r (replay_text config bs))

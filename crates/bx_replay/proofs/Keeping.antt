@@ -8,14 +8,14 @@ use Rattle.std.proofs.lemmas.Grind.{flat_map-append}
 use Rattle.std.proofs.lemmas.List.{map-append, take_more}
 use Rattle.std.proofs.lemmas.Option.{slice_get_within}
 use Rattle.bx_replay.specs.Kept.{IsKept, AreKept, PrintsOuts, held_texts}
-use Rattle.bx_replay.specs.declared.kept.Asked.{Asked}
+use Rattle.bx_replay.specs.declared.kept.PendingLine.{PendingLine}
 use Rattle.bx_entry.specs.Inputs.{ReadInput}
 use Rattle.bx_script.specs.Replay.{Numbered, line_text, result_text, out_by, held_text}
 use Rattle.bx_entry.specs.Runs.{Out}
 use Rattle.bx_fanout.specs.Stages.{seen_out}
 use Rattle.bx_fanout.specs.declared.out.Out as fanout
-use Rattle.bx_laws.specs.Lines.{outs_text}
-use Rattle.bx_laws.proofs.Lines.{get_front}
+use Rattle.bx_theory.specs.Lines.{outs_text}
+use Rattle.bx_theory.proofs.Lines.{get_front}
 use Rattle.bx_script.specs.Printing.{is_tick}
 use Rattle.bx_script.specs.Printing as script
 
@@ -36,7 +36,7 @@ appends_same a b xs ys e h = subst (Appends a b) e h
 
 -- ---- an out, by what was kept of its input
 
-pub out_same : (numbered : List Numbered) (o : Out) (a : Asked) (k : IsKept numbered o.input a) →
+pub out_same : (numbered : List Numbered) (o : Out) (a : PendingLine) (k : IsKept numbered o.input a) →
     result_text (script.numbered a.line (option_map string_bytes a.callback) k.one.input) k.one.input o.result ≡ outs_text numbered (o ∷ [])
 out_same numbered o a k =
     let n : Numbered = k.one in
@@ -45,7 +45,7 @@ out_same numbered o a k =
     ∙ ap (out_by o) (sym k.there)
     ∙ sym (append-nil (out_by o (slice_get numbered o.input)))
 
-pub held_same : (numbered : List Numbered) (i : ℕ) (a : Asked) (text : ℕ → List ℕ) → IsKept numbered i a → ((n : Numbered) → text n.line ≡ held_text (Some n)) → text a.line ≡ held_text (slice_get numbered i)
+pub held_same : (numbered : List Numbered) (i : ℕ) (a : PendingLine) (text : ℕ → List ℕ) → IsKept numbered i a → ((n : Numbered) → text n.line ≡ held_text (Some n)) → text a.line ≡ held_text (slice_get numbered i)
 held_same numbered i a text k e = ap text k.line ∙ e k.one ∙ ap held_text (sym k.there)
 
 -- an input that is a tick, or none
@@ -58,13 +58,13 @@ pub record TicksAs (tick : Bool) : Type 0 where
 pub at_is : (a b : ℕ) → is_at (nat_cmp a) b ≡ true → b ≡ a
 at_is a b e = grind (arith, nat_tests)
 
-pub kept_less : (numbered : List Numbered) (old new : ℕ → Option Asked) (test : ℕ → Bool) → ((i : ℕ) → new i ≡ cond (test i) None (old i)) → AreKept numbered old → AreKept numbered new
+pub kept_less : (numbered : List Numbered) (old new : ℕ → Option PendingLine) (test : ℕ → Bool) → ((i : ℕ) → new i ≡ cond (test i) None (old i)) → AreKept numbered old → AreKept numbered new
 kept_less numbered old new test is kept =
     λ i a found.
     let by : (b : Bool) → cond b None (old i) ≡ Some a → IsKept numbered i a = λ b. (elim b as (λ c. cond c None (old i) ≡ Some a → IsKept numbered i a) [ true ↦ λ h. cc | false ↦ λ h. kept i a h ]) in
     by (test i) (sym (is i) ∙ found)
 
-kept_longer : (numbered ones : List Numbered) (i : ℕ) (a : Asked) → IsKept numbered i a → IsKept (numbered ++ ones) i a
+kept_longer : (numbered ones : List Numbered) (i : ℕ) (a : PendingLine) → IsKept numbered i a → IsKept (numbered ++ ones) i a
 kept_longer numbered ones i a k = record {
   one = k.one;
   there = get_front numbered ones i (slice_get_within numbered i k.one k.there) ∙ k.there;
@@ -77,25 +77,25 @@ get_last : (ns : List Numbered) (n : Numbered) → slice_get (ns ++ n ∷ []) (l
 get_last [] n = refl
 get_last (m ∷ ns) n = get_last ns n
 
-pub kept_last : (numbered : List Numbered) (one : Numbered) (a : Asked) → a.line ≡ one.line → option_map string_bytes a.callback ≡ one.callback → a.tick ≡ is_tick one.input →
+pub kept_last : (numbered : List Numbered) (one : Numbered) (a : PendingLine) → a.line ≡ one.line → option_map string_bytes a.callback ≡ one.callback → a.tick ≡ is_tick one.input →
     IsKept (numbered ++ one ∷ []) (length numbered) a
 kept_last numbered one a line callback tick = record { one = one; there = get_last numbered one; line = line; callback = callback; tick = tick }
 
-pub kept_more : (numbered : List Numbered) (one : Numbered) (old new : ℕ → Option Asked) (a : Asked) (test : ℕ → Bool) →
+pub kept_more : (numbered : List Numbered) (one : Numbered) (old new : ℕ → Option PendingLine) (a : PendingLine) (test : ℕ → Bool) →
     ((i : ℕ) → new i ≡ cond (test i) (Some a) (old i)) → ((i : ℕ) → test i ≡ true → i ≡ length numbered) → IsKept (numbered ++ one ∷ []) (length numbered) a → AreKept numbered old → AreKept (numbered ++ one ∷ []) new
 kept_more numbered one old new a test is at last kept =
     λ i b found.
     let by : (t : Bool) → test i ≡ t → cond t (Some a) (old i) ≡ Some b → IsKept (numbered ++ one ∷ []) i b =
     λ t. (elim t as (λ c. test i ≡ c → cond c (Some a) (old i) ≡ Some b → IsKept (numbered ++ one ∷ []) i b) [
-      | true ↦ λ e h. let same : a ≡ b = cc in subst (λ (x : Asked). IsKept (numbered ++ one ∷ []) i x) same (subst (λ (j : ℕ). IsKept (numbered ++ one ∷ []) j a) (sym (at i e)) last)
+      | true ↦ λ e h. let same : a ≡ b = cc in subst (λ (x : PendingLine). IsKept (numbered ++ one ∷ []) i x) same (subst (λ (j : ℕ). IsKept (numbered ++ one ∷ []) j a) (sym (at i e)) last)
       | false ↦ λ e h. kept_longer numbered (one ∷ []) i b (kept i b h)
     ]) in
     by (test i) refl (sym (is i) ∙ found)
 
-pub outs_none : (numbered : List Numbered) (a : Option (List ℕ)) (kept : ℕ → Option Asked) → AreKept numbered kept → PrintsOuts numbered [] a a kept
+pub outs_none : (numbered : List Numbered) (a : Option (List ℕ)) (kept : ℕ → Option PendingLine) → AreKept numbered kept → PrintsOuts numbered [] a a kept
 outs_none numbered a kept k = record { kept = k; appends = appends_none a }
 
-pub outs_more : (numbered : List Numbered) (os us : List Out) (a b c : Option (List ℕ)) (kept new : ℕ → Option Asked) →
+pub outs_more : (numbered : List Numbered) (os us : List Out) (a b c : Option (List ℕ)) (kept new : ℕ → Option PendingLine) →
     PrintsOuts numbered os a b kept → (AreKept numbered kept → PrintsOuts numbered us b c new) → PrintsOuts numbered (os ++ us) a c new
 outs_more numbered os us a b c kept new p q =
     let r : PrintsOuts numbered us b c new = q p.kept in
@@ -115,7 +115,7 @@ pub on_ok_each : {A E N Q : Type 0} (r : Result A E) (P : N → Type 0) → ((n 
 on_ok_each (Ok x) P h f = f h
 on_ok_each (Err e) P h f = tt
 
-pub out_printed : (numbered : List Numbered) (o : Out) (a : Asked) (old new : ℕ → Option Asked) (test : ℕ → Bool) (before after : Option (List ℕ)) → old o.input ≡ Some a → ((i : ℕ) → new i ≡ cond (test i) None (old i)) →
+pub out_printed : (numbered : List Numbered) (o : Out) (a : PendingLine) (old new : ℕ → Option PendingLine) (test : ℕ → Bool) (before after : Option (List ℕ)) → old o.input ≡ Some a → ((i : ℕ) → new i ≡ cond (test i) None (old i)) →
     ((read : TicksAs a.tick) → Appends before after (result_text (script.numbered a.line (option_map string_bytes a.callback) read.read) read.read o.result)) → AreKept numbered old → PrintsOuts numbered (o ∷ []) before after new
 out_printed numbered o a old new test before after found is appends kept =
     let k : IsKept numbered o.input a = kept o.input a found in
@@ -125,7 +125,7 @@ out_printed numbered o a old new test before after found is appends kept =
           (appends (record { read = k.one.input; ticks = sym k.tick }));
     }
 
-pub held_printed : (numbered : List Numbered) (is : List ℕ) (i : ℕ) (a : Asked) (old : ℕ → Option Asked) (first before after : Option (List ℕ)) → old i ≡ Some a → AreKept numbered old →
+pub held_printed : (numbered : List Numbered) (is : List ℕ) (i : ℕ) (a : PendingLine) (old : ℕ → Option PendingLine) (first before after : Option (List ℕ)) → old i ≡ Some a → AreKept numbered old →
     Appends first before (held_texts numbered is) → Appends before after (line_text a.line (codes "held")) → Appends first after (held_texts numbered (is ++ i ∷ []))
 held_printed numbered is i a old first before after found kept h k =
     let one : line_text a.line (codes "held") ≡ held_texts numbered (i ∷ []) = held_same numbered i a (λ (line : ℕ). line_text line (codes "held")) (kept i a found) (λ n. refl) ∙ sym (append-nil (held_text (slice_get numbered i))) in

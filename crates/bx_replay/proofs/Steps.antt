@@ -5,13 +5,13 @@ use Rattle.std.specs.Prelude.{IfSome, option_map, string_bytes}
 use Rattle.std.specs.Io.KnownBytes.{Appends}
 use Rattle.std.proofs.Common.{Global, String}
 use Rattle.bx_replay.specs.Kept.{AllKept, AreKept, Keeps}
-use Rattle.bx_replay.specs.Serving.{Dealt, Hands, IsAll, Prints, Reads, held_lines, seen_lines}
-use Rattle.bx_replay.specs.declared.kept.Asked.{Asked}
+use Rattle.bx_replay.specs.Serving.{Served, Hands, IsAll, Prints, Reads, held_lines, seen_lines}
+use Rattle.bx_replay.specs.declared.kept.PendingLine.{PendingLine}
 use Rattle.bx_replay.proofs.Keeping.{appends_more, appends_none}
 use Rattle.bx_replay.proofs.Ready.{none_last}
 use Rattle.bx_advice.specs.declared.config.Config.{Config}
 use Rattle.bx_entry.specs.Inputs.{ReadInput}
-use Rattle.bx_script.specs.Replay.{Line, Bad, Turned, Handed, Resharded, Numbered, inputs_from, line_of, lines_of, printed, replay_text}
+use Rattle.bx_script.specs.Replay.{Line, Bad, Rejected, Accepted, Resharded, Numbered, inputs_from, line_of, lines_of, printed, replay_text}
 use Rattle.bx_entry.specs.Requests.{read_input}
 use Rattle.bx_entry.specs.Runs.{Out, held, outs}
 use Rattle.bx_entry.specs.declared.Placing.{Ghosts}
@@ -21,8 +21,8 @@ use Rattle.bx_fanout.specs.Stages.{seen_out}
 use Rattle.bx_fanout.specs.declared.out.Out as fanout
 use Rattle.bx_fanout.specs.declared.out.RoundFault.{RoundFault}
 use Rattle.bx_fanout.specs.declared.round.Round.{Round}
-use Rattle.bx_laws.specs.Lines.{AddsOuts, inputs_in, line_prints, outs_text, printed_so_far}
-use Rattle.bx_laws.proofs.Lines.{inputs_go_on, lines_go_on}
+use Rattle.bx_theory.specs.Lines.{AddsOuts, inputs_in, line_prints, outs_text, printed_so_far}
+use Rattle.bx_theory.proofs.Lines.{inputs_go_on, lines_go_on}
 use Rattle.bx_script.specs.Lines.{IsNext, NextLine, said_by}
 use Rattle.bx_script.specs.Printing.{Writes, numbered}
 use Rattle.bx_script.proofs.Fronts.{writes_second}
@@ -36,9 +36,9 @@ inputs_on ls l ones e =
     ap (map (λ (n : Numbered). n.input)) (inputs_go_on ls l ∙ ap (λ (ns : List Numbered). inputs_from 1 ls ++ ns) e)
     ∙ map-append (λ (n : Numbered). n.input) (inputs_from 1 ls) ones
 
-pub dealt_bare : (config : Config) (ls : List Line) (l : Line) (inputs : List ReadInput) (added : List Out) (kept : ℕ → Option Asked) (number : ℕ) → inputs_from (length ls + 1) (l ∷ []) ≡ [] →
-    Dealt config ls inputs added kept number → Dealt config (ls ++ l ∷ []) inputs added kept (number + 1)
-dealt_bare config ls l inputs added kept number e d =
+pub served_bare : (config : Config) (ls : List Line) (l : Line) (inputs : List ReadInput) (added : List Out) (kept : ℕ → Option PendingLine) (number : ℕ) → inputs_from (length ls + 1) (l ∷ []) ≡ [] →
+    Served config ls inputs added kept number → Served config (ls ++ l ∷ []) inputs added kept (number + 1)
+served_bare config ls l inputs added kept number e d =
     let same : inputs_in ls ≡ inputs_in (ls ++ l ∷ []) = sym (inputs_on ls l [] e ∙ append-nil (inputs_in ls)) in
     record {
       inputs_are = d.inputs_are ∙ same;
@@ -51,9 +51,9 @@ dealt_bare config ls l inputs added kept number e d =
 pub seen_more : (ls : List script.Line) (l : script.Line) → seen_lines (ls ++ l ∷ []) ≡ seen_lines ls ++ said_by l ∷ []
 seen_more ls l = map-append said_by ls (l ∷ [])
 
-pub dealt_seen : (config : Config) (ls : List script.Line) (l : script.Line) (inputs : List ReadInput) (added : List Out) (kept : ℕ → Option Asked) (number : ℕ) →
-    Dealt config (seen_lines ls ++ said_by l ∷ []) inputs added kept number → Dealt config (seen_lines (ls ++ l ∷ [])) inputs added kept number
-dealt_seen config ls l inputs added kept number d = subst (λ (us : List Line). Dealt config us inputs added kept number) (sym (seen_more ls l)) d
+pub served_seen : (config : Config) (ls : List script.Line) (l : script.Line) (inputs : List ReadInput) (added : List Out) (kept : ℕ → Option PendingLine) (number : ℕ) →
+    Served config (seen_lines ls ++ said_by l ∷ []) inputs added kept number → Served config (seen_lines (ls ++ l ∷ [])) inputs added kept number
+served_seen config ls l inputs added kept number d = subst (λ (us : List Line). Served config us inputs added kept number) (sym (seen_more ls l)) d
 
 pub prints_line : (config : Config) (ls : List script.Line) (l : script.Line) (more : List Out) (text : List ℕ) (before after : Option (List ℕ)) → 0 < config.limits.batch → AddsOuts config (inputs_in (seen_lines ls)) (said_by l) more →
     text ≡ line_prints (length (seen_lines ls) + 1) (inputs_from 1 (seen_lines ls ++ said_by l ∷ [])) (said_by l) more → Appends before after text → Prints config ls (ls ++ l ∷ []) before after
@@ -65,57 +65,57 @@ prints_line config ls l more text before after room adds e appends = record {
 
 -- ---- inputs
 
-pub dealt_handed : (config : Config) (ls : List Line) (callback : Option (List ℕ)) (input : ReadInput) (inputs now : List ReadInput) (added then : List Out) (kept keeps : ℕ → Option Asked) (number : ℕ) →
-    Dealt config ls inputs added kept number → now ≡ inputs ++ input ∷ [] → then ≡ outs config now → AreKept (inputs_from 1 ls ++ record { line = number + 1; callback = callback; input = input } ∷ []) keeps → AllKept keeps (held config now) →
-    Dealt config (ls ++ Handed callback input ∷ []) now then keeps (number + 1)
-dealt_handed config ls callback input inputs now added then kept keeps number d are all keep each =
+pub served_handed : (config : Config) (ls : List Line) (callback : Option (List ℕ)) (input : ReadInput) (inputs now : List ReadInput) (added then : List Out) (kept keeps : ℕ → Option PendingLine) (number : ℕ) →
+    Served config ls inputs added kept number → now ≡ inputs ++ input ∷ [] → then ≡ outs config now → AreKept (inputs_from 1 ls ++ record { line = number + 1; callback = callback; input = input } ∷ []) keeps → AllKept keeps (held config now) →
+    Served config (ls ++ Accepted callback input ∷ []) now then keeps (number + 1)
+served_handed config ls callback input inputs now added then kept keeps number d are all keep each =
     let one : Numbered = record { line = length ls + 1; callback = callback; input = input } in
-    let same : now ≡ inputs_in (ls ++ Handed callback input ∷ []) = are ∙ ap (λ (is : List ReadInput). is ++ input ∷ []) d.inputs_are ∙ sym (inputs_on ls (Handed callback input) (one ∷ []) refl) in
+    let same : now ≡ inputs_in (ls ++ Accepted callback input ∷ []) = are ∙ ap (λ (is : List ReadInput). is ++ input ∷ []) d.inputs_are ∙ sym (inputs_on ls (Accepted callback input) (one ∷ []) refl) in
     record {
       inputs_are = same;
       added_are = all ∙ ap (outs config) same;
       all_are = subst (λ (is : List ReadInput). AllKept keeps (held config is)) same each;
       kept_are = subst (λ (ns : List Numbered). AreKept ns keeps)
-          (ap (λ (n : ℕ). inputs_from 1 ls ++ record { line = n + 1; callback = callback; input = input } ∷ []) d.number_is ∙ sym (inputs_go_on ls (Handed callback input))) keep;
-      number_is = omega (arith, d.number_is, length-append ls (Handed callback input ∷ []));
+          (ap (λ (n : ℕ). inputs_from 1 ls ++ record { line = n + 1; callback = callback; input = input } ∷ []) d.number_is ∙ sym (inputs_go_on ls (Accepted callback input))) keep;
+      number_is = omega (arith, d.number_is, length-append ls (Accepted callback input ∷ []));
     }
 
 -- the outs that it adds
-pub adds_handed : (config : Config) (ls : List Line) (input : ReadInput) (inputs now : List ReadInput) (added then more : List Out) (kept : ℕ → Option Asked) (number : ℕ) →
-    Dealt config ls inputs added kept number → now ≡ inputs ++ input ∷ [] → then ≡ outs config now → then ≡ added ++ more → outs config (inputs_in ls ++ input ∷ []) ≡ outs config (inputs_in ls) ++ more
+pub adds_handed : (config : Config) (ls : List Line) (input : ReadInput) (inputs now : List ReadInput) (added then more : List Out) (kept : ℕ → Option PendingLine) (number : ℕ) →
+    Served config ls inputs added kept number → now ≡ inputs ++ input ∷ [] → then ≡ outs config now → then ≡ added ++ more → outs config (inputs_in ls ++ input ∷ []) ≡ outs config (inputs_in ls) ++ more
 adds_handed config ls input inputs now added then more kept number d are all adds =
     ap (λ (is : List ReadInput). outs config (is ++ input ∷ [])) (sym d.inputs_are)
     ∙ ap (outs config) (sym are) ∙ sym all ∙ adds ∙ ap (λ (os : List Out). os ++ more) d.added_are
 
-pub texts_handed : (config : Config) (ls : List Line) (callback : Option (List ℕ)) (input : ReadInput) (inputs : List ReadInput) (added more : List Out) (kept : ℕ → Option Asked) (number : ℕ) → Dealt config ls inputs added kept number →
-    outs_text (inputs_from 1 ls ++ record { line = number + 1; callback = callback; input = input } ∷ []) more ≡ outs_text (inputs_from 1 (ls ++ Handed callback input ∷ [])) more
+pub texts_handed : (config : Config) (ls : List Line) (callback : Option (List ℕ)) (input : ReadInput) (inputs : List ReadInput) (added more : List Out) (kept : ℕ → Option PendingLine) (number : ℕ) → Served config ls inputs added kept number →
+    outs_text (inputs_from 1 ls ++ record { line = number + 1; callback = callback; input = input } ∷ []) more ≡ outs_text (inputs_from 1 (ls ++ Accepted callback input ∷ [])) more
 texts_handed config ls callback input inputs added more kept number d =
     ap (λ (ns : List Numbered). outs_text ns more)
-    (ap (λ (n : ℕ). inputs_from 1 ls ++ record { line = n + 1; callback = callback; input = input } ∷ []) d.number_is ∙ sym (inputs_go_on ls (Handed callback input)))
+    (ap (λ (n : ℕ). inputs_from 1 ls ++ record { line = n + 1; callback = callback; input = input } ∷ []) d.number_is ∙ sym (inputs_go_on ls (Accepted callback input)))
 
 -- how many inputs there are
 
 few_from : (number : ℕ) (ls : List Line) → length (inputs_from number ls) ≤ length ls
 few_from number [] = omega arith
 few_from number (Bad ∷ ls) = omega (arith, few_from (number + 1) ls)
-few_from number (Turned status ∷ ls) = omega (arith, few_from (number + 1) ls)
-few_from number (Handed callback input ∷ ls) = omega (arith, few_from (number + 1) ls)
+few_from number (Rejected status ∷ ls) = omega (arith, few_from (number + 1) ls)
+few_from number (Accepted callback input ∷ ls) = omega (arith, few_from (number + 1) ls)
 few_from number (Resharded shards ∷ ls) = omega (arith, few_from (number + 1) ls)
 
-pub many_of : (config : Config) (ls : List Line) (inputs : List ReadInput) (added : List Out) (kept : ℕ → Option Asked) (number : ℕ) → Dealt config ls inputs added kept number → length (inputs_from 1 ls) ≡ length inputs
+pub many_of : (config : Config) (ls : List Line) (inputs : List ReadInput) (added : List Out) (kept : ℕ → Option PendingLine) (number : ℕ) → Served config ls inputs added kept number → length (inputs_from 1 ls) ≡ length inputs
 many_of config ls inputs added kept number d = sym (ap length d.inputs_are ∙ length-map (inputs_from 1 ls) (λ (n : Numbered). n.input))
 
-pub few_dealt : (config : Config) (ls : List Line) (inputs : List ReadInput) (added : List Out) (kept : ℕ → Option Asked) (number : ℕ) → Dealt config ls inputs added kept number → length inputs ≤ number
-few_dealt config ls inputs added kept number d = omega (arith, few_from 1 ls, many_of config ls inputs added kept number d, d.number_is)
+pub few_served : (config : Config) (ls : List Line) (inputs : List ReadInput) (added : List Out) (kept : ℕ → Option PendingLine) (number : ℕ) → Served config ls inputs added kept number → length inputs ≤ number
+few_served config ls inputs added kept number d = omega (arith, few_from 1 ls, many_of config ls inputs added kept number d, d.number_is)
 
 -- ---- a line of a server
 
-pub dealt_line : (config : Config) (ls ms : List script.Line) (l k : script.Line) (inputs : List ReadInput) (added : List Out) (kept : ℕ → Option Asked) (number : ℕ) →
-    ms ≡ ls ++ l ∷ [] → l ≡ k → ((n : ℕ) → inputs_from n (said_by k ∷ []) ≡ []) → Dealt config (seen_lines ls) inputs added kept number → Dealt config (seen_lines ms) inputs added kept (number + 1)
-dealt_line config ls ms l k inputs added kept number e is none d =
+pub served_line : (config : Config) (ls ms : List script.Line) (l k : script.Line) (inputs : List ReadInput) (added : List Out) (kept : ℕ → Option PendingLine) (number : ℕ) →
+    ms ≡ ls ++ l ∷ [] → l ≡ k → ((n : ℕ) → inputs_from n (said_by k ∷ []) ≡ []) → Served config (seen_lines ls) inputs added kept number → Served config (seen_lines ms) inputs added kept (number + 1)
+served_line config ls ms l k inputs added kept number e is none d =
     let same : ms ≡ ls ++ k ∷ [] = e ∙ ap (λ (x : script.Line). ls ++ x ∷ []) is in
-    subst (λ (us : List script.Line). Dealt config (seen_lines us) inputs added kept (number + 1)) (sym same)
-    (dealt_seen config ls k inputs added kept (number + 1) (dealt_bare config (seen_lines ls) (said_by k) inputs added kept number (none (length (seen_lines ls) + 1)) d))
+    subst (λ (us : List script.Line). Served config (seen_lines us) inputs added kept (number + 1)) (sym same)
+    (served_seen config ls k inputs added kept (number + 1) (served_bare config (seen_lines ls) (said_by k) inputs added kept number (none (length (seen_lines ls) + 1)) d))
 
 pub prints_bare : (config : Config) (ls ms : List script.Line) (l k : script.Line) (more : List Out) (text : List ℕ) (before after : Option (List ℕ)) → 0 < config.limits.batch → ms ≡ ls ++ l ∷ [] → l ≡ k →
     AddsOuts config (inputs_in (seen_lines ls)) (said_by k) more → text ≡ line_prints (length (seen_lines ls) + 1) (inputs_from 1 (seen_lines ls ++ said_by k ∷ [])) (said_by k) more → Appends before after text → Prints config ls ms before after
@@ -123,9 +123,9 @@ prints_bare config ls ms l k more text before after room e is adds t appends =
     let same : ms ≡ ls ++ k ∷ [] = e ∙ ap (λ (x : script.Line). ls ++ x ∷ []) is in
     subst (λ (us : List script.Line). Prints config ls us before after) (sym same) (prints_line config ls k more text before after room adds t appends)
 
-pub dealt_same : (config other : Config) (ls : List Line) (inputs those : List ReadInput) (added these : List Out) (kept : ℕ → Option Asked) (number : ℕ) → other ≡ config → those ≡ inputs → these ≡ added →
-    Dealt config ls inputs added kept number → Dealt other ls those these kept number
-dealt_same config other ls inputs those added these kept number e f h d = record {
+pub served_same : (config other : Config) (ls : List Line) (inputs those : List ReadInput) (added these : List Out) (kept : ℕ → Option PendingLine) (number : ℕ) → other ≡ config → those ≡ inputs → these ≡ added →
+    Served config ls inputs added kept number → Served other ls those these kept number
+served_same config other ls inputs those added these kept number e f h d = record {
   inputs_are = f ∙ d.inputs_are;
   added_are = h ∙ d.added_are ∙ ap (λ (c : Config). outs c (inputs_in ls)) (sym e);
   kept_are = d.kept_are;
@@ -156,30 +156,30 @@ module _ {P : Type 0} {g : Ghosts P} where
   }
   ran old inputs before after new (Err fault) u e run = cc
 
-  pub handed_dealt : (old new : Round P g) (ls ms : List script.Line) (l : script.Line) (callback : Option (String Global)) (input : Input) (before after : Option (List ℕ)) (kept keeps : ℕ → Option Asked) (number : ℕ) →
-      Dealt (setup_in old).config (seen_lines ls) (inputs_of old) (added_by old) kept number →
-      Hands old (numbered (number + 1) (option_map string_bytes callback) (read_input input)) new before after kept keeps → ms ≡ ls ++ l ∷ [] → l ≡ script.Line.Handed callback input →
-      Dealt (setup_in new).config (seen_lines ms) (inputs_of new) (added_by new) keeps (number + 1)
-  handed_dealt old new ls ms l callback input before after kept keeps number d h e is =
+  pub handed_served : (old new : Round P g) (ls ms : List script.Line) (l : script.Line) (callback : Option (String Global)) (input : Input) (before after : Option (List ℕ)) (kept keeps : ℕ → Option PendingLine) (number : ℕ) →
+      Served (setup_in old).config (seen_lines ls) (inputs_of old) (added_by old) kept number →
+      Hands old (numbered (number + 1) (option_map string_bytes callback) (read_input input)) new before after kept keeps → ms ≡ ls ++ l ∷ [] → l ≡ script.Line.Accepted callback input →
+      Served (setup_in new).config (seen_lines ms) (inputs_of new) (added_by new) keeps (number + 1)
+  handed_served old new ls ms l callback input before after kept keeps number d h e is =
       let config : Config = (setup_in new).config in
-      let k : script.Line = script.Line.Handed callback input in
+      let k : script.Line = script.Line.Accepted callback input in
       let same : ms ≡ ls ++ k ∷ [] = e ∙ ap (λ (x : script.Line). ls ++ x ∷ []) is in
-      let was : Dealt config (seen_lines ls) (inputs_of old) (added_by old) kept number = dealt_same (setup_in old).config config (seen_lines ls) (inputs_of old) (inputs_of old) (added_by old) (added_by old) kept number h.setup refl refl d in
-      subst (λ (us : List script.Line). Dealt config (seen_lines us) (inputs_of new) (added_by new) keeps (number + 1)) (sym same)
-      (dealt_seen config ls k (inputs_of new) (added_by new) keeps (number + 1)
-      (dealt_handed config (seen_lines ls) (option_map string_bytes callback) (read_input input) (inputs_of old) (inputs_of new) (added_by old) (added_by new) kept keeps number was h.inputs h.all
+      let was : Served config (seen_lines ls) (inputs_of old) (added_by old) kept number = served_same (setup_in old).config config (seen_lines ls) (inputs_of old) (inputs_of old) (added_by old) (added_by old) kept number h.setup refl refl d in
+      subst (λ (us : List script.Line). Served config (seen_lines us) (inputs_of new) (added_by new) keeps (number + 1)) (sym same)
+      (served_seen config ls k (inputs_of new) (added_by new) keeps (number + 1)
+      (served_handed config (seen_lines ls) (option_map string_bytes callback) (read_input input) (inputs_of old) (inputs_of new) (added_by old) (added_by new) kept keeps number was h.inputs h.all
       (h.prints (inputs_from 1 (seen_lines ls)) (many_of config (seen_lines ls) (inputs_of old) (added_by old) kept number was) d.kept_are).kept h.held_are))
 
-  pub handed_prints : (old new : Round P g) (ls ms : List script.Line) (l : script.Line) (callback : Option (String Global)) (input : Input) (before after : Option (List ℕ)) (kept keeps : ℕ → Option Asked) (number : ℕ) → 0 < (setup_in new).config.limits.batch →
-      Dealt (setup_in old).config (seen_lines ls) (inputs_of old) (added_by old) kept number →
-      Hands old (numbered (number + 1) (option_map string_bytes callback) (read_input input)) new before after kept keeps → ms ≡ ls ++ l ∷ [] → l ≡ script.Line.Handed callback input →
+  pub handed_prints : (old new : Round P g) (ls ms : List script.Line) (l : script.Line) (callback : Option (String Global)) (input : Input) (before after : Option (List ℕ)) (kept keeps : ℕ → Option PendingLine) (number : ℕ) → 0 < (setup_in new).config.limits.batch →
+      Served (setup_in old).config (seen_lines ls) (inputs_of old) (added_by old) kept number →
+      Hands old (numbered (number + 1) (option_map string_bytes callback) (read_input input)) new before after kept keeps → ms ≡ ls ++ l ∷ [] → l ≡ script.Line.Accepted callback input →
       Prints (setup_in new).config ls ms before after
   handed_prints old new ls ms l callback input before after kept keeps number room d h e is =
       let config : Config = (setup_in new).config in
       let name : Option (List ℕ) = option_map string_bytes callback in
       let read : ReadInput = read_input input in
-      let was : Dealt config (seen_lines ls) (inputs_of old) (added_by old) kept number = dealt_same (setup_in old).config config (seen_lines ls) (inputs_of old) (inputs_of old) (added_by old) (added_by old) kept number h.setup refl refl d in
-      prints_bare config ls ms l (script.Line.Handed callback input) h.more (outs_text (inputs_from 1 (seen_lines ls) ++ numbered (number + 1) name read ∷ []) h.more) before after room e is
+      let was : Served config (seen_lines ls) (inputs_of old) (added_by old) kept number = served_same (setup_in old).config config (seen_lines ls) (inputs_of old) (inputs_of old) (added_by old) (added_by old) kept number h.setup refl refl d in
+      prints_bare config ls ms l (script.Line.Accepted callback input) h.more (outs_text (inputs_from 1 (seen_lines ls) ++ numbered (number + 1) name read ∷ []) h.more) before after room e is
       (adds_handed config (seen_lines ls) read (inputs_of old) (inputs_of new) (added_by old) (added_by new) h.more kept number was h.inputs h.all h.added)
       (texts_handed config (seen_lines ls) name read (inputs_of old) (added_by old) h.more kept number was)
       (h.prints (inputs_from 1 (seen_lines ls)) (many_of config (seen_lines ls) (inputs_of old) (added_by old) kept number was) d.kept_are).appends
@@ -249,14 +249,14 @@ replayed config other (Some bs) ls a b d r e all p h = subst (λ (c : Config). W
 
 -- ---- what a server keeps
 
-pub keeps_dealt : (config : Config) (ls : List Line) (inputs : List ReadInput) (added : List Out) (kept : ℕ → Option Asked) (number : ℕ) → Dealt config ls inputs added kept number → Keeps kept (held config inputs) (length inputs)
-keeps_dealt config ls inputs added kept number d = record {
+pub keeps_served : (config : Config) (ls : List Line) (inputs : List ReadInput) (added : List Out) (kept : ℕ → Option PendingLine) (number : ℕ) → Served config ls inputs added kept number → Keeps kept (held config inputs) (length inputs)
+keeps_served config ls inputs added kept number d = record {
   all = subst (λ (is : List ReadInput). AllKept kept (held config is)) (sym d.inputs_are) d.all_are;
   none = ap kept (sym (many_of config ls inputs added kept number d)) ∙ none_last (kept (length (inputs_from 1 ls))) (inputs_from 1 ls) kept refl d.kept_are;
 }
 
-pub added_dealt : (config : Config) (ls : List Line) (inputs : List ReadInput) (added : List Out) (kept : ℕ → Option Asked) (number : ℕ) → Dealt config ls inputs added kept number → added ≡ outs config inputs
-added_dealt config ls inputs added kept number d = d.added_are ∙ ap (outs config) (sym d.inputs_are)
+pub added_served : (config : Config) (ls : List Line) (inputs : List ReadInput) (added : List Out) (kept : ℕ → Option PendingLine) (number : ℕ) → Served config ls inputs added kept number → added ≡ outs config inputs
+added_served config ls inputs added kept number d = d.added_are ∙ ap (outs config) (sym d.inputs_are)
 
-pub held_dealt : (config : Config) (ls : List Line) (inputs : List ReadInput) (added : List Out) (kept : ℕ → Option Asked) (number : ℕ) (is : List ℕ) → Dealt config ls inputs added kept number → is ≡ held config inputs → AllKept kept is
-held_dealt config ls inputs added kept number is d e = subst (AllKept kept) (sym (e ∙ ap (held config) d.inputs_are)) d.all_are
+pub held_served : (config : Config) (ls : List Line) (inputs : List ReadInput) (added : List Out) (kept : ℕ → Option PendingLine) (number : ℕ) (is : List ℕ) → Served config ls inputs added kept number → is ≡ held config inputs → AllKept kept is
+held_served config ls inputs added kept number is d e = subst (AllKept kept) (sym (e ∙ ap (held config) d.inputs_are)) d.all_are

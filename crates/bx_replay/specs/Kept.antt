@@ -1,15 +1,15 @@
 -- What the program keeps of the inputs whose outs are not printed.
 use Rattle.std.specs.Prelude.{ℕ, ◌≡◌, ◌==◌, IsSome, None, ⊤, if◌then◌else◌, map, [], ◌∷◌, List, flat_map, option_map, slice_get, string_bytes, Option, Some}
 use Rattle.std.specs.Io.KnownBytes.{Appends}
-use Rattle.bx_replay.specs.declared.kept.Asked.{Asked}
+use Rattle.bx_replay.specs.declared.kept.PendingLine.{PendingLine}
 use Rattle.bx_script.specs.Replay.{Numbered, held_text}
 use Rattle.bx_entry.specs.Runs.{Out}
 use Rattle.bx_fanout.specs.declared.out.Out as fanout
-use Rattle.bx_laws.specs.Lines.{outs_text}
+use Rattle.bx_theory.specs.Lines.{outs_text}
 use Rattle.bx_script.specs.Printing.{is_tick}
 
 -- what is kept of the input of this number
-pub record IsKept (numbered : List Numbered) (i : ℕ) (a : Asked) : Type 0 where
+pub record IsKept (numbered : List Numbered) (i : ℕ) (a : PendingLine) : Type 0 where
   pub one : Numbered
   pub there : slice_get numbered i ≡ Some one
   pub line : a.line ≡ one.line
@@ -17,11 +17,11 @@ pub record IsKept (numbered : List Numbered) (i : ℕ) (a : Asked) : Type 0 wher
   pub tick : a.tick ≡ is_tick one.input
 
 -- whatever is kept is that of an input
-abbrev pub AreKept : List Numbered → (ℕ → Option Asked) → Type 0
-AreKept numbered kept = (i : ℕ) (a : Asked) → kept i ≡ Some a → IsKept numbered i a
+abbrev pub AreKept : List Numbered → (ℕ → Option PendingLine) → Type 0
+AreKept numbered kept = (i : ℕ) (a : PendingLine) → kept i ≡ Some a → IsKept numbered i a
 
 -- These outs are printed, and what is kept after them is still that of the inputs.
-pub record PrintsOuts (numbered : List Numbered) (os : List Out) (before after : Option (List ℕ)) (new : ℕ → Option Asked) : Type 0 where
+pub record PrintsOuts (numbered : List Numbered) (os : List Out) (before after : Option (List ℕ)) (new : ℕ → Option PendingLine) : Type 0 where
   pub kept : AreKept numbered new
   pub appends : Appends before after (outs_text numbered os)
 
@@ -30,11 +30,11 @@ abbrev pub held_texts : List Numbered → List ℕ → List ℕ
 held_texts numbered is = flat_map (λ index. held_text (slice_get numbered index)) is
 
 -- what is kept but for one input
-abbrev pub without : ℕ → (ℕ → Option Asked) → ℕ → Option Asked
+abbrev pub without : ℕ → (ℕ → Option PendingLine) → ℕ → Option PendingLine
 without i kept j = if j == i then None else kept j
 
 -- all of these inputs are kept, and stand here once
-abbrev pub AllKept : (ℕ → Option Asked) → List ℕ → Type 0
+abbrev pub AllKept : (ℕ → Option PendingLine) → List ℕ → Type 0
 AllKept kept [] = ⊤
 AllKept kept (i ∷ is) = IsSome (kept i) × AllKept (without i kept) is
 
@@ -43,6 +43,6 @@ abbrev pub inputs_given : List fanout.Out → List ℕ
 inputs_given os = map (λ (o : fanout.Out). o.input) os
 
 -- these inputs are kept, and nothing is kept under the next number
-pub record Keeps (kept : ℕ → Option Asked) (is : List ℕ) (count : ℕ) : Type 0 where
+pub record Keeps (kept : ℕ → Option PendingLine) (is : List ℕ) (count : ℕ) : Type 0 where
   pub all : AllKept kept is
   pub none : kept count ≡ None

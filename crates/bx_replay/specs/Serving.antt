@@ -1,10 +1,10 @@
--- What a server has dealt with of a script, and what was printed of that.
+-- What a server has taken in of a script, and what was printed of that.
 use Rattle.std.specs.Prelude.{ℕ, ◌≡◌, ◌++◌, List, [], ◌∷◌, length, map, ⊤, Option, Some, None}
 use Rattle.std.specs.BTreeMap.{get}
 use Rattle.std.specs.Io.KnownBytes.{Appends}
 use Rattle.std.specs.Ordering.{nat_cmp}
 use Rattle.bx_replay.specs.Kept.{AllKept, AreKept, PrintsOuts, held_texts}
-use Rattle.bx_replay.specs.declared.kept.Asked.{Asked}
+use Rattle.bx_replay.specs.declared.kept.PendingLine.{PendingLine}
 use Rattle.bx_replay.specs.declared.server.Server.{Server}
 use Rattle.bx_advice.specs.declared.config.Config.{Config}
 use Rattle.bx_entry.specs.Inputs.{ReadInput}
@@ -13,21 +13,21 @@ use Rattle.bx_entry.specs.Runs.{Out, held, outs}
 use Rattle.bx_entry.specs.declared.Placing.{Ghosts}
 use Rattle.bx_fanout.specs.Rounds.{added_by, inputs_of, setup_in}
 use Rattle.bx_fanout.specs.declared.round.Round.{Round}
-use Rattle.bx_laws.specs.Lines.{inputs_in, outs_text, printed_so_far}
+use Rattle.bx_theory.specs.Lines.{inputs_in, outs_text, printed_so_far}
 use Rattle.bx_script.specs.Lines.{said_by}
 use Rattle.bx_script.specs.Printing.{AppendsFront}
 use Rattle.bx_script.specs.declared.line.Line as script
-use Rattle.bx_script.specs.declared.line.Line.TheVariants.{Bad, Turned, Handed, Resharded}
+use Rattle.bx_script.specs.declared.line.Line.TheVariants.{Bad, Rejected, Accepted, Resharded}
 
--- the lines that were dealt with, as the definitions have them
+-- the lines that were taken in, as the definitions have them
 abbrev pub seen_lines : List script.Line → List Line
 seen_lines ls = map said_by ls
 
 -- among how many shards the sessions stand after a line
 abbrev pub shards_after : script.Line → ℕ → ℕ
 shards_after Bad before = before
-shards_after (Turned status) before = before
-shards_after (Handed callback input) before = before
+shards_after (Rejected status) before = before
+shards_after (Accepted callback input) before = before
 shards_after (Resharded shards) before = shards
 
 -- What more lines print.
@@ -57,8 +57,8 @@ IsAll (Some script) ls = seen_lines ls ≡ map line_of (lines_of script)
 abbrev pub held_lines : Config → List script.Line → List ℕ
 held_lines config ls = held_texts (inputs_from 1 (seen_lines ls)) (held config (inputs_in (seen_lines ls)))
 
--- so many lines were dealt with, which have these inputs; these outs were added, which are all, and the inputs that are held are kept
-pub record Dealt (config : Config) (ls : List Line) (inputs : List ReadInput) (added : List Out) (kept : ℕ → Option Asked) (number : ℕ) : Type 0 where
+-- so many lines were taken in, which have these inputs; these outs were added, which are all, and the inputs that are held are kept
+pub record Served (config : Config) (ls : List Line) (inputs : List ReadInput) (added : List Out) (kept : ℕ → Option PendingLine) (number : ℕ) : Type 0 where
   pub inputs_are : inputs ≡ inputs_in ls
   pub added_are : added ≡ outs config (inputs_in ls)
   pub kept_are : AreKept (inputs_from 1 ls) kept
@@ -67,7 +67,7 @@ pub record Dealt (config : Config) (ls : List Line) (inputs : List ReadInput) (a
 
 module _ {P : Type 0} {g : Ghosts P} where
   -- One more input of a round: its outs, and those of earlier inputs that it makes whole, are printed.
-  pub record Hands (old : Round P g) (one : Numbered) (new : Round P g) (before after : Option (List ℕ)) (kept keeps : ℕ → Option Asked) : Type 0 where
+  pub record Hands (old : Round P g) (one : Numbered) (new : Round P g) (before after : Option (List ℕ)) (kept keeps : ℕ → Option PendingLine) : Type 0 where
     pub more : List Out
     pub inputs : inputs_of new ≡ inputs_of old ++ one.input ∷ []
     pub added : added_by new ≡ added_by old ++ more
@@ -78,11 +78,11 @@ module _ {P : Type 0} {g : Ghosts P} where
     pub prints : (numbered : List Numbered) → length numbered ≡ length (inputs_of old) → AreKept numbered kept → PrintsOuts (numbered ++ one ∷ []) more before after keeps
 
   -- One more input of a round, at a fault: a front of what its outs print is written.
-  pub record HandsFront (old : Round P g) (one : Numbered) (before after : Option (List ℕ)) (kept : ℕ → Option Asked) : Type 0 where
+  pub record HandsFront (old : Round P g) (one : Numbered) (before after : Option (List ℕ)) (kept : ℕ → Option PendingLine) : Type 0 where
     pub more : List Out
     pub adds : outs (setup_in old).config (inputs_of old ++ one.input ∷ []) ≡ outs (setup_in old).config (inputs_of old) ++ more
     pub prints : (numbered : List Numbered) → length numbered ≡ length (inputs_of old) → AreKept numbered kept → AppendsFront before after (outs_text (numbered ++ one ∷ []) more)
 
-  -- A server has dealt with its lines: the outs of their inputs are printed, and it keeps the others.
+  -- A server has taken in its lines: the outs of their inputs are printed, and it keeps the others.
   abbrev pub Serves : Server P g → Type 0
-  Serves s = Dealt (setup_in s.round).config (seen_lines s.lines) (inputs_of s.round) (added_by s.round) (get nat_cmp s.kept) s.number
+  Serves s = Served (setup_in s.round).config (seen_lines s.lines) (inputs_of s.round) (added_by s.round) (get nat_cmp s.kept) s.number

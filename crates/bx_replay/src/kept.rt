@@ -5,7 +5,7 @@ ghost use Rattle.std.specs.Ordering.{nat_cmp};
 ghost use Rattle.bx_replay.specs.Kept.{AllKept, AreKept, PrintsOuts, held_texts, inputs_given};
 ghost use Rattle.bx_script.specs.Replay.{Numbered};
 ghost use Rattle.bx_fanout.specs.Stages.{seen_out};
-ghost use Rattle.bx_laws.specs.Lines.{outs_text};
+ghost use Rattle.bx_theory.specs.Lines.{outs_text};
 ghost use Rattle.bx_script.specs.Output.{IsWriteFault, written};
 ghost use Rattle.bx_script.specs.Printing.{AppendsFront, Writes};
 
@@ -17,7 +17,7 @@ use std::io::Write;
 
 /// What is kept of an input until its out is printed.
 #[derive(Drop)]
-pub struct Asked {
+pub struct PendingLine {
     /// The number of its line.
     pub line: u64,
     /// The function that is called with its response.
@@ -29,7 +29,7 @@ pub struct Asked {
 /// Prints these outs in order, and lets go of what was kept of their inputs. At a fault a front of that is printed.
 pub fn print_outs<W: Write>(
     alloc: Global,
-    kept: &mut BTreeMap<usize, Asked>,
+    kept: &mut BTreeMap<usize, PendingLine>,
     outs: &[Out],
     writer: &mut Output<W>,
 ) -> Result<(), ScriptFault>
@@ -49,7 +49,7 @@ pub fn print_outs<W: Write>(
 
 fn print_out<W: Write>(
     alloc: Global,
-    kept: &mut BTreeMap<usize, Asked>,
+    kept: &mut BTreeMap<usize, PendingLine>,
     out: &Out,
     writer: &mut Output<W>,
 ) -> Result<(), ScriptFault>
@@ -76,7 +76,7 @@ fn print_out<W: Write>(
 
 /// Prints that the inputs of these numbers are held, or at a fault a front of that.
 pub fn print_held<W: Write>(
-    kept: &BTreeMap<usize, Asked>,
+    kept: &BTreeMap<usize, PendingLine>,
     numbers: &[usize],
     writer: &mut Output<W>,
 ) -> Result<(), ScriptFault>

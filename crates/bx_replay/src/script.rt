@@ -20,7 +20,7 @@ use std::thread::Threads;
 
 /// Writes what the server answers to each line that it reads, numbered from 1, and at the end which lines have no
 /// answer yet: what the definition of a replay prints for the script, whatever the number of workers and of shards is, and
-/// wherever sessions are placed. A line that changes the number of shards deals them anew by the same placing. It answers
+/// wherever sessions are placed. A line that changes the number of shards redistributes them by the same placing. It answers
 /// `Memory` where memory was refused, `Read` only where a read failed or there were as many as there may be, and `Write`
 /// only where a write failed; what was written then is a front of the right output.
 pub fn replay<T: Threads + Sync, P: Placing + Drop + Send + Sync, R: BufRead, W: Write>(
@@ -44,7 +44,7 @@ pub fn replay<T: Threads + Sync, P: Placing + Drop + Send + Sync, R: BufRead, W:
     finish(alloc, &server, writer)
 }
 
-// Deals with all lines that the reader has.
+// Takes in all lines that the reader has.
 fn answer_all<T: Threads + Sync, P: Placing + Drop + Send + Sync, R: BufRead, W: Write>(
     rt: &T,
     alloc: Global,

@@ -11,7 +11,7 @@ ghost use Rattle.bx_script.specs.Lines.{InRange};
 ghost use Rattle.bx_script.specs.Output.{IsWriteFault, written};
 ghost use Rattle.bx_script.specs.Printing.{is_tick, numbered};
 
-use crate::kept::{Asked, print_outs};
+use crate::kept::{PendingLine, print_outs};
 use bx_advice::Config;
 use bx_entry::{Input, Placing};
 use bx_fanout::{Round, RoundFault};
@@ -29,14 +29,14 @@ use std::thread::Threads;
 pub struct Server<P: Placing> {
     pub round: Round<P>,
     /// The inputs whose outs are not printed yet, by their numbers.
-    pub kept: BTreeMap<usize, Asked>,
-    /// How many lines were dealt with.
+    pub kept: BTreeMap<usize, PendingLine>,
+    /// How many lines were taken in.
     pub number: u64,
     /// These lines.
     pub lines: History<Line>,
 }
 
-/// A server that has dealt with no line.
+/// A server that has taken in no line.
 pub fn new_server<P: Placing + Drop>(
     alloc: Global,
     config: Config,
@@ -61,7 +61,7 @@ pub fn new_server<P: Placing + Drop>(
     })
 }
 
-/// Deals with one more line, and prints what comes of it, or at a fault a front of that.
+/// Takes one more line in, and prints what comes of it, or at a fault a front of that.
 pub fn answer<T: Threads + Sync, P: Placing + Drop + Send + Sync, W: Write>(
     rt: &T,
     alloc: Global,
@@ -89,11 +89,11 @@ pub fn answer<T: Threads + Sync, P: Placing + Drop + Send + Sync, W: Write>(
             write_bad(writer, number)?;
             Ok(server)
         }
-        Line::Turned { status } => {
+        Line::Rejected { status } => {
             write_status(writer, number, status)?;
             Ok(server)
         }
-        Line::Handed { callback, input } => {
+        Line::Accepted { callback, input } => {
             let (round, kept) = (&mut server.round, &mut server.kept);
             hand(rt, alloc, round, kept, number, callback, input, writer)?;
             Ok(server)
@@ -116,12 +116,12 @@ pub fn answer<T: Threads + Sync, P: Placing + Drop + Send + Sync, W: Write>(
     }
 }
 
-// Deals with one more input, and prints the outs that come of it.
+// Takes one more input in, and prints the outs that come of it.
 fn hand<T: Threads + Sync, P: Placing + Send + Sync, W: Write>(
     rt: &T,
     alloc: Global,
     round: &mut Round<P>,
-    kept: &mut BTreeMap<usize, Asked>,
+    kept: &mut BTreeMap<usize, PendingLine>,
     line: u64,
     callback: Option<String>,
     input: Input,
@@ -137,12 +137,12 @@ fn hand<T: Threads + Sync, P: Placing + Send + Sync, W: Write>(
     ensures reason { IfErr result (IsWriteFault writer.new) }
 {
     let tick = ticks(&input);
-    let asked = Asked {
+    let asked = PendingLine {
         line,
         callback,
         tick,
     };
-    kept.insert(round.dealt(), asked)?;
+    kept.insert(round.intake(), asked)?;
     let inputs = [input];
     let mut outs = Vec::new(alloc);
     match round.run(rt, alloc, &OpenGate, &inputs, &mut outs) {

@@ -1,5 +1,5 @@
 -- The entries of a queue, the sessions that they file, and what a tick makes of them.
-use Rattle.std.proofs.Common.{◌≡◌, ◌≢◌, ℕ, ◌+◌, ◌<◌, ◌≤◌, Bool, true, false, List, [], ◌∷◌, ◌++◌, append_assoc, append-nil, length, length-append, get_or, take, drop, map, refl, sym, ap, subst, ◌∙◌, cond, arith}
+use Rattle.std.proofs.Common.{◌≡◌, ◌≢◌, ℕ, ◌+◌, ◌<◌, ◌≤◌, Bool, true, false, List, [], ◌∷◌, ◌++◌, append_assoc, append-nil, length, length-append, get_or, take, drop, map, refl, sym, ap, subst, ◌∙◌, cond, arith, eq-eqb, ne_eqb, eqb-true}
 use Rattle.std.specs.Prelude.{◌&&◌, ◌||◌, ◌==◌, nat_lt, nat_le, not, Some, None, if◌then◌else◌}
 use Rattle.std.specs.List.{filter, list_any}
 use Rattle.std.specs.List.Sorted.{IsPermutation}
@@ -7,39 +7,22 @@ use Rattle.std.specs.BinaryHeap.{IsUpperBound}
 use Rattle.std.specs.Ordering.{is_lt, nat_cmp, ordering_then}
 use Rattle.std.specs.declared.cmp.Ordering.{Ordering}
 use Rattle.std.specs.declared.cmp.Ordering.TheVariants.{Less, Equal, Greater}
-use Rattle.std.proofs.Math.Bool.{and-false}
+use Rattle.std.proofs.Math.Bool.{and-false, or-true}
 use Rattle.std.proofs.lemmas.Map.Keys.{ge_from_not_lt}
 use Rattle.std.proofs.lemmas.Bool.Decides.{nat_tests}
 use Rattle.std.proofs.lemmas.List.{take_more, take-append-drop}
 use Rattle.std.proofs.lemmas.List.Elements.{All-nil, All-cons, All-head, All-tail, filter-append}
 use Rattle.std.proofs.lemmas.List.Sorted.{length_permutation, IsPermutation-sym, IsPermutation-trans, IsPermutation-middle, IsPermutation-append_right, list_any-IsPermutation}
+use Rattle.std.proofs.lemmas.Bool.{eqb-false, leb-true, le-leb, and_parts}
 use Rattle.bx_entry.specs.Registry.{Registered, extended, closed, swept, is_overdue}
 use Rattle.bx_roster.specs.Live.{Members, live_in, with_live}
 use Rattle.bx_roster.specs.Tables.{IsTable, IsAbsent, AllLive, due_at}
 use Rattle.bx_roster.specs.Queues.{AllFiled, IsFrom, Queue, due_order, entries, files}
 use Rattle.bx_roster.specs.declared.due_queue.Due.{Due}
 use Rattle.bx_roster.proofs.Live.{live_in-swept}
-use Rattle.bx_roster.proofs.Slots.{eq-true, eq-false, eq-from-test, eq-from-false, IsTable-absent, map-absent, live_in-all, changed-due, changed-number, closing-due, closing-number}
+use Rattle.bx_roster.proofs.Slots.{IsTable-absent, map-absent, live_in-all, changed-due, changed-number, closing-due, closing-number}
 
 -- ---- tests
-
-pub or-true : (b : Bool) → (b || true) ≡ true
-or-true true = refl
-or-true false = refl
-
-and-left : (a b : Bool) → (a && b) ≡ true → a ≡ true
-and-left true b e = refl
-and-left false b e = e
-
-and-right : (a b : Bool) → (a && b) ≡ true → b ≡ true
-and-right true b e = e
-and-right false b e = cc
-
-le-from-test : (a b : ℕ) → nat_le a b ≡ true → a ≤ b
-le-from-test a b e = grind (arith, nat_tests)
-
-pub le-test : (a b : ℕ) → a ≤ b → nat_le a b ≡ true
-le-test a b le = grind (arith, nat_tests)
 
 pub lt-from-test : (a b : ℕ) → nat_lt a b ≡ true → a < b
 lt-from-test a b e = grind (arith, nat_tests)
@@ -50,16 +33,16 @@ not-less a b le = grind (arith, nat_tests)
 -- ---- entries of a session
 
 pub files-number : (r : Registered) (d : Due) → files r d ≡ true → d.number ≡ r.number
-files-number r d e = eq-from-test d.number r.number (and-left (d.number == r.number) (nat_le d.moment.0 r.due) e)
+files-number r d e = eqb-true d.number r.number (and_parts (d.number == r.number) (nat_le d.moment.0 r.due) e).0
 
 files-due : (r : Registered) (d : Due) → files r d ≡ true → d.moment.0 ≤ r.due
-files-due r d e = le-from-test d.moment.0 r.due (and-right (d.number == r.number) (nat_le d.moment.0 r.due) e)
+files-due r d e = leb-true d.moment.0 r.due (and_parts (d.number == r.number) (nat_le d.moment.0 r.due) e).1
 
 pub files-from : (r : Registered) (d : Due) → d.number ≡ r.number → d.moment.0 ≤ r.due → files r d ≡ true
-files-from r d same le = ap (λ (b : Bool). b && nat_le d.moment.0 r.due) (eq-true d.number r.number same) ∙ le-test d.moment.0 r.due le
+files-from r d same le = ap (λ (b : Bool). b && nat_le d.moment.0 r.due) (eq-eqb d.number r.number same) ∙ le-leb d.moment.0 r.due le
 
 files-other : (r : Registered) (d : Due) → r.number ≢ d.number → files r d ≡ false
-files-other r d ne = ap (λ (b : Bool). b && nat_le d.moment.0 r.due) (eq-false d.number r.number (λ e. ne (sym e)))
+files-other r d ne = ap (λ (b : Bool). b && nat_le d.moment.0 r.due) (ne_eqb d.number r.number (λ e. ne (sym e)))
 
 files-later : (r s : Registered) (d : Due) → s.number ≡ r.number → r.due ≤ s.due → files r d ≡ true → files s d ≡ true
 files-later r s d same later e = let le : d.moment.0 ≤ r.due = files-due r d e in files-from s d (files-number r d e ∙ sym same) (omega arith)
@@ -165,7 +148,7 @@ filed-absent d es (r ∷ rs) a all = (any-other r d es a.0 all.0, filed-absent d
 
 none-absent-by : (n : ℕ) (r : Registered) (rs : List Registered) → (due_at n rs ≡ None → IsAbsent n rs) → (b : Bool) → (r.number == n) ≡ b → (if b then Some r.due else due_at n rs) ≡ None → IsAbsent n (r ∷ rs)
 none-absent-by n r rs ih true e none = cc
-none-absent-by n r rs ih false e none = (eq-from-false r.number n e, ih none)
+none-absent-by n r rs ih false e none = (eqb-false r.number n e, ih none)
 
 pub none-absent : (n : ℕ) (rs : List Registered) → due_at n rs ≡ None → IsAbsent n rs
 none-absent n [] none = tt
@@ -175,7 +158,7 @@ none-absent n (r ∷ rs) none = none-absent-by n r rs (none-absent n rs) (r.numb
 gone-by : (d : Due) (es : List Due) (r : Registered) (rs : List Registered) → list_any (files r) (d ∷ es) ≡ true → AllFiled es (live_in (closed d.number rs)) →
     (b : Bool) → (r.number == d.number) ≡ b → AllFiled es (live_in ((if b then record r { live = false } else r) ∷ closed d.number rs))
 gone-by d es r rs any ih true e = ih
-gone-by d es r rs any ih false e = filed-by es r (live_in (closed d.number rs)) (any-other r d es (eq-from-false r.number d.number e) any) ih r.live
+gone-by d es r rs any ih false e = filed-by es r (live_in (closed d.number rs)) (any-other r d es (eqb-false r.number d.number e) any) ih r.live
 
 pub filed-gone : (d : Due) (es : List Due) (rs : List Registered) → AllFiled (d ∷ es) rs → AllFiled es (live_in (closed d.number rs))
 filed-gone d es [] all = tt
@@ -185,12 +168,12 @@ filed-gone d es (r ∷ rs) all = gone-by d es r rs all.0 (filed-gone d es rs all
 moved-by : (d e : Due) (es : List Due) (due high : ℕ) (r : Registered) (rs : List Registered) → e.number ≡ d.number → e.moment.0 ≡ due → IsTable r.number high rs → list_any (files r) (d ∷ es) ≡ true →
     AllFiled (d ∷ es) rs → (due_at d.number rs ≡ Some due → AllFiled (e ∷ es) rs) → (b : Bool) → (r.number == d.number) ≡ b → (if b then Some r.due else due_at d.number rs) ≡ Some due → AllFiled (e ∷ es) (r ∷ rs)
 moved-by d e es due high r rs same moment t any all ih true f is =
-    let here : r.number ≡ d.number = eq-from-test r.number d.number f in
+    let here : r.number ≡ d.number = eqb-true r.number d.number f in
     let at : r.due ≡ due = cc in
     let yes : files r e ≡ true = files-from r e (same ∙ sym here) (omega (arith, at, moment)) in
     (ap (λ (b : Bool). b || list_any (files r) es) yes, filed-cons e es rs (filed-absent d es rs (IsTable-absent r.number high d.number rs (omega (arith, here)) t) all))
 moved-by d e es due high r rs same moment t any all ih false f is =
-    (ap (λ (b : Bool). files r e || b) (any-other r d es (eq-from-false r.number d.number f) any) ∙ or-true (files r e), ih is)
+    (ap (λ (b : Bool). files r e || b) (any-other r d es (eqb-false r.number d.number f) any) ∙ or-true (files r e), ih is)
 
 pub filed-moved : (d e : Due) (es : List Due) (due low high : ℕ) (rs : List Registered) → e.number ≡ d.number → e.moment.0 ≡ due → IsTable low high rs → AllFiled (d ∷ es) rs →
     due_at d.number rs ≡ Some due → AllFiled (e ∷ es) rs
@@ -255,7 +238,7 @@ closed-by : (n m due high : ℕ) (r : Registered) (rs : List Registered) → due
     (due_at n rs ≡ Some due → filter (stays m) (closed n rs) ≡ filter (stays m) rs) → (b : Bool) → (r.number == n) ≡ b → (if b then Some r.due else due_at n rs) ≡ Some due →
     filter (stays m) ((if b then record r { live = false } else r) ∷ closed n rs) ≡ filter (stays m) (r ∷ rs)
 closed-by n m due high r rs late t ih true e is =
-    let here : r.number ≡ n = eq-from-test r.number n e in
+    let here : r.number ≡ n = eqb-true r.number n e in
     let at : r.due ≡ due = cc in
     let same : closed n rs ≡ rs = map-absent n (λ s. record s { live = false }) rs (IsTable-absent r.number high n rs (omega (arith, here)) t) in
     ap (filter (stays m)) same ∙ ap (λ (b : Bool). cond b (r ∷ filter (stays m) rs) (filter (stays m) rs)) (sym (goes m r (omega (arith, at, late))))

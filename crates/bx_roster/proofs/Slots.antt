@@ -1,12 +1,12 @@
 -- A session of the table, found by its number, and what a change of it makes of those that are live.
-use Rattle.std.proofs.Common.{◌≡◌, ◌≢◌, ℕ, zero, suc, ◌+◌, ◌<◌, ◌≤◌, Bool, true, false, List, [], ◌∷◌, ◌++◌, length, length-append, ◌-◌, map, get_or, set, refl, sym, ap, ◌∙◌, cond, arith}
+use Rattle.std.proofs.Common.{◌≡◌, ◌≢◌, ℕ, zero, suc, ◌+◌, ◌<◌, ◌≤◌, Bool, true, false, List, [], ◌∷◌, ◌++◌, length, length-append, ◌-◌, map, get_or, set, refl, sym, ap, ◌∙◌, cond, arith, eq-eqb, ne_eqb}
 use Rattle.std.specs.Prelude.{◌==◌, max, Some, None, if◌then◌else◌}
 use Rattle.std.specs.Prelude.{nat_lt, ◌⊎◌}
 use Rattle.std.specs.List.{filter}
 use Rattle.std.specs.List.Sorted.{IsNonDecreasingBy, IsPartitionPoint}
 use Rattle.std.proofs.Common.{inl, inr}
 use Rattle.std.proofs.lemmas.Bool.{ltb-true, ltb-false, cases_lt}
-use Rattle.std.proofs.lemmas.Bool.Decides.{nat_tests, eqb_tells}
+use Rattle.std.proofs.lemmas.Bool.Decides.{eqb_tells}
 use Rattle.std.proofs.lemmas.List.{length-map}
 use Rattle.std.proofs.lemmas.List.Elements.{filter-append}
 use Rattle.bx_entry.specs.Registry.{Registered, extended, closed}
@@ -15,18 +15,6 @@ use Rattle.bx_roster.specs.Tables.{IsNamed, IsTable, IsAbsent, AllLive, client_a
 use Rattle.bx_roster.specs.Queues.{IsRoster}
 use Rattle.bx_roster.proofs.Lists.{filter-filter}
 use Rattle.bx_roster.proofs.Live.{live_in-extended, live_in-closed}
-
-pub eq-true : (a b : ℕ) → a ≡ b → (a == b) ≡ true
-eq-true a b e = grind (arith, nat_tests)
-
-pub eq-false : (a b : ℕ) → a ≢ b → (a == b) ≡ false
-eq-false a b ne = grind (arith, nat_tests)
-
-pub eq-from-test : (a b : ℕ) → (a == b) ≡ true → a ≡ b
-eq-from-test a b e = grind (arith, nat_tests)
-
-pub eq-from-false : (a b : ℕ) → (a == b) ≡ false → a ≢ b
-eq-from-false a b e = grind (arith, nat_tests)
 
 -- ---- tables
 
@@ -98,7 +86,7 @@ module _ (n : ℕ) (f : Registered → Registered) where
 
   pub map-absent : (rs : List Registered) → IsAbsent n rs → map changing rs ≡ rs
   map-absent [] a = refl
-  map-absent (r ∷ rs) a = rw (eq-false r.number n a.0) (ap (λ (ys : List Registered). r ∷ ys) (map-absent rs a.1))
+  map-absent (r ∷ rs) a = rw (ne_eqb r.number n a.0) (ap (λ (ys : List Registered). r ∷ ys) (map-absent rs a.1))
 
   -- a write over the slot of that session is that change
   pub set-changes : (low high : ℕ) (rs : List Registered) (i : ℕ) (x : Registered) → IsTable low high rs → i < length rs → x ≡ get_or rs i x → x.number ≡ n →
@@ -106,25 +94,25 @@ module _ (n : ℕ) (f : Registered → Registered) where
   set-changes low high [] i x t h is number = absurd (omega arith)
   set-changes low high (r ∷ rs) zero x t h is number =
       let here : r.number ≡ n = ap (λ (s : Registered). s.number) (sym is) ∙ number in
-      rw (eq-true r.number n here) (ap (λ (s : Registered). f s ∷ rs) is ∙ ap (λ (ys : List Registered). f r ∷ ys) (sym (map-absent rs (IsTable-absent r.number high n rs (omega arith) t.2))))
+      rw (eq-eqb r.number n here) (ap (λ (s : Registered). f s ∷ rs) is ∙ ap (λ (ys : List Registered). f r ∷ ys) (sym (map-absent rs (IsTable-absent r.number high n rs (omega arith) t.2))))
   set-changes low high (r ∷ rs) (suc i) x t h is number =
       let above : r.number < x.number = omega (arith, number-above r.number high rs i x t.2 (omega arith), ap (λ (s : Registered). s.number) is) in
       let ne : r.number ≢ n = omega arith in
-      rw (eq-false r.number n ne) (ap (λ (ys : List Registered). r ∷ ys) (set-changes r.number high rs i x t.2 (omega arith) is number))
+      rw (ne_eqb r.number n ne) (ap (λ (ys : List Registered). r ∷ ys) (set-changes r.number high rs i x t.2 (omega arith) is number))
 
 -- ---- its client id
 
 pub client_at-absent : (n : ℕ) (rs : List Registered) → IsAbsent n rs → client_at n rs ≡ None
 client_at-absent n [] a = refl
-client_at-absent n (r ∷ rs) a = rw (eq-false r.number n a.0) (client_at-absent n rs a.1)
+client_at-absent n (r ∷ rs) a = rw (ne_eqb r.number n a.0) (client_at-absent n rs a.1)
 
 client_at-here : (n : ℕ) (r : Registered) (kept : List Registered) → r.number ≡ n → IsAbsent n kept → (b : Bool) →
     client_at n (cond b (r ∷ kept) kept) ≡ cond b (Some r.client) None
-client_at-here n r kept e a true = rw (eq-true r.number n e) refl
+client_at-here n r kept e a true = rw (eq-eqb r.number n e) refl
 client_at-here n r kept e a false = client_at-absent n kept a
 
 client_at-there : (n : ℕ) (r : Registered) (kept : List Registered) → r.number ≢ n → (b : Bool) → client_at n (cond b (r ∷ kept) kept) ≡ client_at n kept
-client_at-there n r kept ne true = rw (eq-false r.number n ne) refl
+client_at-there n r kept ne true = rw (ne_eqb r.number n ne) refl
 client_at-there n r kept ne false = refl
 
 pub client_at-slot : (low high n : ℕ) (rs : List Registered) (i : ℕ) (x : Registered) → IsTable low high rs → i < length rs → x ≡ get_or rs i x → x.number ≡ n →
@@ -143,15 +131,15 @@ client_at-slot low high n (r ∷ rs) (suc i) x t h is number =
 
 pub due_at-absent : (n : ℕ) (rs : List Registered) → IsAbsent n rs → due_at n rs ≡ None
 due_at-absent n [] a = refl
-due_at-absent n (r ∷ rs) a = rw (eq-false r.number n a.0) (due_at-absent n rs a.1)
+due_at-absent n (r ∷ rs) a = rw (ne_eqb r.number n a.0) (due_at-absent n rs a.1)
 
 due_at-here : (n : ℕ) (r : Registered) (kept : List Registered) → r.number ≡ n → IsAbsent n kept → (b : Bool) →
     due_at n (cond b (r ∷ kept) kept) ≡ cond b (Some r.due) None
-due_at-here n r kept e a true = rw (eq-true r.number n e) refl
+due_at-here n r kept e a true = rw (eq-eqb r.number n e) refl
 due_at-here n r kept e a false = due_at-absent n kept a
 
 due_at-there : (n : ℕ) (r : Registered) (kept : List Registered) → r.number ≢ n → (b : Bool) → due_at n (cond b (r ∷ kept) kept) ≡ due_at n kept
-due_at-there n r kept ne true = rw (eq-false r.number n ne) refl
+due_at-there n r kept ne true = rw (ne_eqb r.number n ne) refl
 due_at-there n r kept ne false = refl
 
 pub due_at-slot : (low high n : ℕ) (rs : List Registered) (i : ℕ) (x : Registered) → IsTable low high rs → i < length rs → x ≡ get_or rs i x → x.number ≡ n →

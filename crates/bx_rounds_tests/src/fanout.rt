@@ -123,7 +123,7 @@ fn run<R: Threads + Sync, G: Gate + Sync>(
     inputs: &[Input],
     outs: &mut Vec<Out>,
 ) -> Result<(), Fail> {
-    if round.dealt() > MOST_INPUTS || inputs.len() > MOST_INPUTS {
+    if round.intake() > MOST_INPUTS || inputs.len() > MOST_INPUTS {
         return Err(Fail::from("too many inputs"));
     }
     round

@@ -11,7 +11,7 @@ use Rattle.std.specs.List.{before_first, after_first, starts_with}
 use Rattle.bx_entry.specs.Inputs.{Tick}
 use Rattle.bx_advice.specs.declared.config.TheConstants.{BODY_LIMIT}
 use Rattle.bx_message.specs.Fields.{number_of, is_digits}
-use Rattle.bx_script.specs.Replay.{is_space, Refused, body_taken, query_taken, Line, Bad, Handed, command, line_by, line_of, resharded_by, handed_by}
+use Rattle.bx_script.specs.Replay.{is_space, Refused, body_taken, query_taken, Line, Bad, Accepted, command, line_by, line_of, resharded_by, handed_by}
 use Rattle.bx_script.specs.Kept.{without_zeros, kept_with, keep_byte}
 use Rattle.bx_script.specs.declared.kept.TheConstants.{KEPT_LIMIT}
 use Rattle.bx_script.proofs.Digits.{value_grows}
@@ -98,7 +98,7 @@ cut_command moment (suc (suc (suc n))) (a ∷ b ∷ c ∷ rest) long within =
     let short : BODY_LIMIT < length (c ∷ take n rest) = omega (arith, length-take-le n rest (omega arith)) in
     let whole : BODY_LIMIT < length (c ∷ rest) = omega arith in
     let text = a ∷ b ∷ c ∷ rest in
-    same_line (bytes_eq text (codes "T")) (starts_with nat_eq text (codes "P ")) (starts_with nat_eq text (codes "G ")) (starts_with nat_eq text (codes "S ")) (Handed None (Tick moment)) _ _ _ _ _ _
+    same_line (bytes_eq text (codes "T")) (starts_with nat_eq text (codes "P ")) (starts_with nat_eq text (codes "G ")) (starts_with nat_eq text (codes "S ")) (Accepted None (Tick moment)) _ _ _ _ _ _
     (ap (handed_by moment) (large_body (c ∷ take n rest) short ∙ sym (large_body (c ∷ rest) whole)))
     (ap (handed_by moment) (large_query (c ∷ take n rest) short ∙ sym (large_query (c ∷ rest) whole)))
     (large_number (c ∷ take n rest) short ∙ sym (large_number (c ∷ rest) whole))

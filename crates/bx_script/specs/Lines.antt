@@ -7,21 +7,21 @@ use Rattle.bx_script.specs.Reading.{first_of, rest_of}
 use Rattle.bx_script.specs.Reads.{HasEnded, IsReadFault}
 use Rattle.bx_script.specs.declared.error.ScriptFault.{ScriptFault}
 use Rattle.bx_script.specs.declared.line.Line.{Line}
-use Rattle.bx_script.specs.declared.line.Line.TheVariants.{Bad, Turned, Handed, Resharded}
+use Rattle.bx_script.specs.declared.line.Line.TheVariants.{Bad, Rejected, Accepted, Resharded}
 use Rattle.bx_script.specs.declared.lines.Lines.{Lines}
 
 -- what a line is read as, in the words of the replay
 abbrev pub said_by : Line → replay.Line
 said_by Bad = replay.Bad
-said_by (Turned status) = replay.Turned status
-said_by (Handed callback input) = replay.Handed (option_map string_bytes callback) (read_input input)
+said_by (Rejected status) = replay.Rejected status
+said_by (Accepted callback input) = replay.Accepted (option_map string_bytes callback) (read_input input)
 said_by (Resharded shards) = replay.Resharded shards
 
 -- a number of shards is 1 to 64
 abbrev pub InRange : Line → Type 0
 InRange Bad = ⊤
-InRange (Turned status) = ⊤
-InRange (Handed callback input) = ⊤
+InRange (Rejected status) = ⊤
+InRange (Accepted callback input) = ⊤
 InRange (Resharded shards) = (1 ≤ shards) × (shards ≤ 64)
 
 -- what is left of the script

@@ -69,14 +69,14 @@ query_taken query = query_by (get_taken query)
 -- a line of another form, one that its transport refuses, an input with the name of its callback, or a change of the number of shards, which is no input
 pub data Line : Type 0 where
   Bad : Line
-  Turned : (status : ℕ) → Line
-  Handed : (callback : Option (List ℕ)) → (input : ReadInput) → Line
+  Rejected : (status : ℕ) → Line
+  Accepted : (callback : Option (List ℕ)) → (input : ReadInput) → Line
   Resharded : (shards : ℕ) → Line
 
 -- the documents of a request, with nonce 0
 abbrev pub handed_by : ℕ → Taken → Line
-handed_by moment (Refused status) = Turned status
-handed_by moment (Documents callback documents) = Handed callback (read_by moment 0 (request_messages documents))
+handed_by moment (Refused status) = Rejected status
+handed_by moment (Documents callback documents) = Accepted callback (read_by moment 0 (request_messages documents))
 
 -- a number of shards
 abbrev pub reshards : Option ℕ → Line
@@ -90,7 +90,7 @@ resharded_by digits = if nat_lt BODY_LIMIT (length digits) then Bad else reshard
 -- what follows a line's moment
 abbrev pub command : ℕ → List ℕ → Line
 command moment rest =
-    if bytes_eq rest (codes "T") then Handed None (Tick moment)
+    if bytes_eq rest (codes "T") then Accepted None (Tick moment)
     else (if starts_with nat_eq rest (codes "P ") then handed_by moment (body_taken (drop 2 rest))
     else (if starts_with nat_eq rest (codes "G ") then handed_by moment (query_taken (drop 2 rest))
     else (if starts_with nat_eq rest (codes "S ") then resharded_by (drop 2 rest) else Bad)))
@@ -116,8 +116,8 @@ pub record Numbered : Type 0 where
 abbrev pub inputs_from : ℕ → List Line → List Numbered
 inputs_from number [] = []
 inputs_from number (Bad ∷ ls) = inputs_from (number + 1) ls
-inputs_from number (Turned status ∷ ls) = inputs_from (number + 1) ls
-inputs_from number (Handed callback input ∷ ls) = record { line = number; callback = callback; input = input } ∷ inputs_from (number + 1) ls
+inputs_from number (Rejected status ∷ ls) = inputs_from (number + 1) ls
+inputs_from number (Accepted callback input ∷ ls) = record { line = number; callback = callback; input = input } ∷ inputs_from (number + 1) ls
 inputs_from number (Resharded shards ∷ ls) = inputs_from (number + 1) ls
 
 -- ---- what is printed
@@ -155,8 +155,8 @@ outs_at ws numbered index = flat_map (λ (o : Out). out_by o (slice_get numbered
 abbrev pub printed_from : List Whole → List Numbered → ℕ → ℕ → List Line → List ℕ
 printed_from ws numbered number index [] = []
 printed_from ws numbered number index (Bad ∷ ls) = line_text number (codes "bad") ++ printed_from ws numbered (number + 1) index ls
-printed_from ws numbered number index (Turned status ∷ ls) = line_text number (decimal status) ++ printed_from ws numbered (number + 1) index ls
-printed_from ws numbered number index (Handed callback input ∷ ls) = outs_at ws numbered index ++ printed_from ws numbered (number + 1) (index + 1) ls
+printed_from ws numbered number index (Rejected status ∷ ls) = line_text number (decimal status) ++ printed_from ws numbered (number + 1) index ls
+printed_from ws numbered number index (Accepted callback input ∷ ls) = outs_at ws numbered index ++ printed_from ws numbered (number + 1) (index + 1) ls
 printed_from ws numbered number index (Resharded shards ∷ ls) = printed_from ws numbered (number + 1) index ls
 
 -- an input that isn't whole at the end

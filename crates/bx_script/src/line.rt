@@ -2,7 +2,7 @@
 ghost use Rattle.std.specs.Prelude.{◌≡◌, ◌≢◌, IfOk, OnOk, option_map, position, string_bytes};
 ghost use Rattle.std.specs.List.{after_first, before_first};
 ghost use Rattle.bx_cut.specs.Bodies.{texts_of};
-ghost use Rattle.bx_script.specs.Replay.{Documents, Turned, body_taken, command, handed_by, is_space, line_of, query_taken, resharded_by, reshards, status_of};
+ghost use Rattle.bx_script.specs.Replay.{Documents, Rejected, body_taken, command, handed_by, is_space, line_of, query_taken, resharded_by, reshards, status_of};
 ghost use Rattle.bx_script.specs.Lines.{InRange, said_by};
 
 use crate::number::number_of;
@@ -18,11 +18,11 @@ pub enum Line {
     /// It has no known form.
     Bad,
     /// Its body or its query is not taken, with this status.
-    Turned {
+    Rejected {
         status: u16,
     },
     /// A request, with the name of the callback that it asks for, or a tick.
-    Handed {
+    Accepted {
         callback: Option<String>,
         input: Input,
     },
@@ -70,7 +70,7 @@ fn read_command(alloc: Global, moment: u64, rest: &[u8]) -> Result<Line, AllocEr
     ensures { IfOk result (λ line. said_by line ≡ command moment rest.now) }
 {
     if rest == b"T".as_slice() {
-        return Ok(Line::Handed {
+        return Ok(Line::Accepted {
             callback: None,
             input: Input::Tick(moment),
         });
@@ -109,20 +109,20 @@ fn read_query(alloc: Global, moment: u64, query: &[u8]) -> Result<Line, AllocErr
 
 // What a line comes to whose body or query is not taken for this.
 fn turned(error: TransportError) -> Result<Line, AllocError>
-    ensures status { IfOk result (λ line. said_by line ≡ Turned (status_of error)) }
+    ensures status { IfOk result (λ line. said_by line ≡ Rejected (status_of error)) }
     ensures reason { OnOk result (error ≢ TransportError.Memory) }
 {
     match error {
         TransportError::Memory => Err(AllocError),
-        TransportError::TooLarge => Ok(Line::Turned { status: 413 }),
-        TransportError::BadName | TransportError::NoMessage => Ok(Line::Turned { status: 400 }),
+        TransportError::TooLarge => Ok(Line::Rejected { status: 413 }),
+        TransportError::BadName | TransportError::NoMessage => Ok(Line::Rejected { status: 400 }),
     }
 }
 
 fn request(moment: u64, callback: Option<String>, bodies: Bodies) -> Line
     ensures { said_by result ≡ handed_by moment (Documents (option_map string_bytes callback) (texts_of bodies)) }
 {
-    Line::Handed {
+    Line::Accepted {
         callback,
         input: Input::Post(Arrival {
             moment,

@@ -7,7 +7,7 @@ use Rattle.bx_entry.specs.Listing.{Listed}
 use Rattle.bx_entry.specs.Registry.{Judged, PlaceSlot, Ready, Waiting, NoSlot, registry}
 use Rattle.bx_entry.specs.declared.entry.Slot.{Slot}
 use Rattle.bx_hub.specs.Posts.{AreSlotsAt, IsAdmittedAt}
-use Rattle.bx_laws.proofs.Lists.{judged_length}
+use Rattle.bx_theory.proofs.Lists.{judged_length}
 use Rattle.bx_shard.specs.Shards.{Setup}
 use Rattle.bx_window.specs.Steps.{list_of}
 use Rattle.bx_window.specs.declared.law.Step.{Step}

@@ -3,8 +3,8 @@ use Rattle.std.proofs.Common.{◌≡◌, ℕ, Bool, Option, Some, None, List, �
 use Rattle.std.proofs.lemmas.List.{drop-map, take-map, map-append}
 use Rattle.std.specs.Option.{option_to_list}
 use Rattle.bx_advice.specs.declared.config.Config.{Config}
-use Rattle.bx_advice.specs.declared.advice.Case.{Case}
-use Rattle.bx_advice.specs.declared.advice.Case.TheVariants.{Failed}
+use Rattle.bx_advice.specs.declared.advice.Outcome.{Outcome}
+use Rattle.bx_advice.specs.declared.advice.Outcome.TheVariants.{Failed}
 use Rattle.bx_advice.specs.declared.error.Error.TheVariants.{SupersededConnect}
 use Rattle.bx_message.specs.declared.event.Event.{Event}
 use Rattle.bx_entry.specs.Answers.{events_of}
@@ -23,12 +23,12 @@ part_events done count queue given rest all part =
     ap (λ (es : List Event). take count (drop done es)) all ∙ ap (take count) (drop-map event_in done queue) ∙ take-map event_in count (drop done queue) ∙ ap events_of part
 
 -- where no connect is held any longer, what is kept is what a release leaves
-from_held : (config : Config) (place : ℕ) (case : Case) (k : Kept) (held : Option Pending) → k.held ≡ held → kept (released_from config place case (resumed k) held) ≡ after unheld k
-from_held config place case k None e = ap (λ (h : Option Pending). record k { held = h }) e
-from_held config place case k (Some p) e = refl
+from_held : (config : Config) (place : ℕ) (outcome : Outcome) (k : Kept) (held : Option Pending) → k.held ≡ held → kept (released_from config place outcome (resumed k) held) ≡ after unheld k
+from_held config place outcome k None e = ap (λ (h : Option Pending). record k { held = h }) e
+from_held config place outcome k (Some p) e = refl
 
-pub released_unheld : (config : Config) (place : ℕ) (case : Case) (k : Kept) → after (released config place case) k ≡ after unheld k
-released_unheld config place case k = from_held config place case k k.held refl
+pub released_unheld : (config : Config) (place : ℕ) (outcome : Outcome) (k : Kept) → after (released config place outcome) k ≡ after unheld k
+released_unheld config place outcome k = from_held config place outcome k k.held refl
 
 module _ (config : Config) (p : Pending) (acked : Option ℕ) (k : Kept) where
   abbrev freed : Session

@@ -6,12 +6,12 @@ use Rattle.std.specs.List.{list_any}
 use Rattle.bx_names.specs.Globs.{Glob}
 use Rattle.bx_names.specs.InForce.{with_pattern}
 use Rattle.bx_advice.specs.declared.config.Config.{Config}
-use Rattle.bx_advice.specs.declared.advice.Case.{Case}
-use Rattle.bx_advice.specs.declared.advice.Case.TheVariants.{Connected, Disconnected, Failed}
+use Rattle.bx_advice.specs.declared.advice.Outcome.{Outcome}
+use Rattle.bx_advice.specs.declared.advice.Outcome.TheVariants.{Connected, Disconnected, Failed}
 use Rattle.bx_advice.specs.declared.error.Error.TheVariants.{SupersededConnect, QueueOverflow}
 use Rattle.bx_entry.specs.declared.entry.Entry.{Entry}
-use Rattle.bx_entry.specs.declared.entry.Kind.{Kind}
-use Rattle.bx_entry.specs.declared.entry.Kind.TheVariants as entries
+use Rattle.bx_entry.specs.declared.entry.EntryKind.{EntryKind}
+use Rattle.bx_entry.specs.declared.entry.EntryKind.TheVariants as entries
 use Rattle.bx_entry.specs.Answers.{PlacedAnswer, events_of}
 use Rattle.bx_entry.specs.Sessions.{Session, Publication, Pending, Filed, Stage, Unopened, Live, Closed, filing, answered, unheld, released_from, released, acknowledged, portion, given, gives, gives_one, idle, answered_or_held, connected, overflowed, subscribed, is_hit, has_room, with_event, delivered_to, delivered, published, expired_from, closed_by, begun, step_by}
 use Rattle.bx_entry.specs.Keeping.{Kept, resumed, kept_answers}
@@ -34,12 +34,12 @@ pushed place fs f e h =
     ∙ sym (map-append (filed_at place) (map answered_of fs) (answered_of f ∷ []))
     ∙ ap (map (filed_at place)) (sym (map-append answered_of fs (f ∷ [])))
 
-answered_h : (config : Config) (p : Pending) (place : ℕ) (given : List Publication) (case : Case) (t : Session) → HereIn place t → HereIn place (answered config p place given case t)
-answered_h config p place given case t h = pushed place t.answers (filing config p place given case t) refl h
+answered_h : (config : Config) (p : Pending) (place : ℕ) (given : List Publication) (outcome : Outcome) (t : Session) → HereIn place t → HereIn place (answered config p place given outcome t)
+answered_h config p place given outcome t h = pushed place t.answers (filing config p place given outcome t) refl h
 
-released_h : (config : Config) (place : ℕ) (case : Case) (t : Session) (held : Option Pending) → HereIn place t → HereIn place (released_from config place case t held)
-released_h config place case t None h = h
-released_h config place case t (Some p) h = answered_h config p place [] case (unheld t) h
+released_h : (config : Config) (place : ℕ) (outcome : Outcome) (t : Session) (held : Option Pending) → HereIn place t → HereIn place (released_from config place outcome t held)
+released_h config place outcome t None h = h
+released_h config place outcome t (Some p) h = answered_h config p place [] outcome (unheld t) h
 
 acknowledged_h : (place : ℕ) (acked : Option ℕ) (t : Session) → HereIn place t → HereIn place (acknowledged acked t)
 acknowledged_h place None t h = h
@@ -87,7 +87,7 @@ begun_h place ack t Unopened h = h
 begun_h place ack t Live h = h
 begun_h place ack t Closed h = h
 
-step_h : (config : Config) (place moment : ℕ) (t : Session) (kind : Kind) → HereIn place t → HereIn place (step_by config place moment t kind)
+step_h : (config : Config) (place moment : ℕ) (t : Session) (kind : EntryKind) → HereIn place t → HereIn place (step_by config place moment t kind)
 step_h config place moment t (entries.Opened n ack) h = cond_both (n == t.number) (begun ack t t.stage) t (HereIn place) (λ g. begun_h place ack t t.stage h) (λ g. h)
 step_h config place moment t (entries.Connect n client id acked hold) h =
     let p : Pending = record { place = place; client = client; id = id; moment = moment; hold = hold } in

@@ -5,12 +5,12 @@ use Rattle.std.specs.List.{list_any}
 use Rattle.bx_names.specs.Globs.{Glob}
 use Rattle.bx_names.specs.InForce.{with_pattern}
 use Rattle.bx_advice.specs.declared.config.Config.{Config}
-use Rattle.bx_advice.specs.declared.advice.Case.{Case}
-use Rattle.bx_advice.specs.declared.advice.Case.TheVariants.{Disconnected, Connected, Failed}
+use Rattle.bx_advice.specs.declared.advice.Outcome.{Outcome}
+use Rattle.bx_advice.specs.declared.advice.Outcome.TheVariants.{Disconnected, Connected, Failed}
 use Rattle.bx_advice.specs.declared.error.Error.TheVariants.{SupersededConnect}
 use Rattle.bx_entry.specs.declared.entry.Entry.{Entry}
-use Rattle.bx_entry.specs.declared.entry.Kind.{Kind}
-use Rattle.bx_entry.specs.declared.entry.Kind.TheVariants as entries
+use Rattle.bx_entry.specs.declared.entry.EntryKind.{EntryKind}
+use Rattle.bx_entry.specs.declared.entry.EntryKind.TheVariants as entries
 use Rattle.bx_entry.specs.Sessions.{Session, Publication, Pending, Stage, Unopened, Live, Closed, unopened, released_from, released, acknowledged, portion, gives, idle, answered_or_held, connected, overflowed, with_patterns, subscribed, is_hit, has_room, with_event, delivered_to, delivered, published, expired_from, closed_by, begun, step_by, step, session}
 use Rattle.bx_entry.specs.Keeping.{Kept, resumed, kept_step}
 
@@ -18,9 +18,9 @@ use Rattle.bx_entry.specs.Keeping.{Kept, resumed, kept_step}
 abbrev Raised : ℕ → Session → Type 0
 Raised n t = t.num ≤ n + 1
 
-released_n : (config : Config) (place : ℕ) (case : Case) (t : Session) (held : Option Pending) → (released_from config place case t held).num ≡ t.num
-released_n config place case t None = refl
-released_n config place case t (Some p) = refl
+released_n : (config : Config) (place : ℕ) (outcome : Outcome) (t : Session) (held : Option Pending) → (released_from config place outcome t held).num ≡ t.num
+released_n config place outcome t None = refl
+released_n config place outcome t (Some p) = refl
 
 acknowledged_n : (acked : Option ℕ) (k : Session) → (acknowledged acked k).num ≡ k.num
 acknowledged_n None k = refl
@@ -65,7 +65,7 @@ begun_n ack t Unopened = omega arith
 begun_n ack t Live = omega arith
 begun_n ack t Closed = omega arith
 
-step_n : (config : Config) (place moment : ℕ) (t : Session) (kind : Kind) → Raised t.num (step_by config place moment t kind)
+step_n : (config : Config) (place moment : ℕ) (t : Session) (kind : EntryKind) → Raised t.num (step_by config place moment t kind)
 step_n config place moment t (entries.Opened n ack) = cond_both (n == t.number) _ t (Raised t.num) (λ h. begun_n ack t t.stage) (λ h. omega arith)
 step_n config place moment t (entries.Connect n client id acked hold) = cond_both (n == t.number) _ t (Raised t.num) (λ h. connected_n config _ acked t) (λ h. omega arith)
 step_n config place moment t (entries.Subscribe n ps) = cond_both (n == t.number) _ t (Raised t.num)

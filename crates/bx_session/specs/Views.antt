@@ -2,7 +2,7 @@
 use Rattle.std.specs.Prelude.{ℕ, ◌+◌, ◌≤◌, ◌^◌, Bool, true, false, List, [], ◌∷◌, ◌++◌, nat_lt, if◌then◌else◌, Option, Some, None}
 use Rattle.std.specs.Option.{option_to_list}
 use Rattle.bx_advice.specs.declared.config.Config.{Config}
-use Rattle.bx_advice.specs.declared.advice.Case.{Case}
+use Rattle.bx_advice.specs.declared.advice.Outcome.{Outcome}
 use Rattle.bx_advice.specs.Limits.{greatest_length}
 use Rattle.bx_entry.specs.Answers.{events_of}
 use Rattle.bx_entry.specs.Keeping.{Kept}
@@ -42,8 +42,8 @@ abbrev pub answered : ℕ → List Event → Reply → Answered
 answered place given reply = record { place = place; answer = record { events = given; reply = reply } }
 
 -- the answer to a connect, with these events
-abbrev pub answer_to : Config → Pending → List Event → Case → AckReply → Answered
-answer_to config p given case ack = answered p.place given (connect_reply config p.client p.id case ack)
+abbrev pub answer_to : Config → Pending → List Event → Outcome → AckReply → Answered
+answer_to config p given outcome ack = answered p.place given (connect_reply config p.client p.id outcome ack)
 
 -- an answer as the program gives it: its events without their places
 abbrev pub answered_of : Filed → Answered

@@ -1,14 +1,14 @@
 //! A connect until it is answered.
 ghost use Rattle.std.specs.Prelude.{◌≡◌, ◌==◌, IfOk, [], ◌∷◌, not, codes};
 ghost use Rattle.std.specs.Option.{option_copied};
-ghost use Rattle.bx_advice.specs.declared.advice.Case.TheVariants.{Connected};
+ghost use Rattle.bx_advice.specs.declared.advice.Outcome.TheVariants.{Connected};
 ghost use Rattle.bx_message.specs.Replies.{connect_reply};
 ghost use Rattle.bx_entry.specs.Sessions.{ends_by};
 ghost use Rattle.bx_session.specs.Views.{answer_to, answered, deadline_of, pending};
 
 use crate::answered::Answered;
-use bx_advice::{Case, Config, advice_for};
-use bx_message::{AckReply, Answer, Column, RawJson, Reply, Sequence, SharedEvent, Text};
+use bx_advice::{Config, Outcome, advice_for};
+use bx_message::{AckReply, Answer, MessageKind, RawJson, Reply, Sequence, SharedEvent, Text};
 use std::alloc::{AllocError, Global};
 use std::marker::Model;
 
@@ -101,8 +101,8 @@ impl PendingConnect {
     }
 
     /// Answers the connect without events.
-    pub(crate) fn answer_empty(self, config: &Config, case: Case, ack: AckReply) -> Answered
-        ensures { result ≡ answer_to config.now self [] case ack }
+    pub(crate) fn answer_empty(self, config: &Config, outcome: Outcome, ack: AckReply) -> Answered
+        ensures { result ≡ answer_to config.now self [] outcome ack }
     {
         let PendingConnect {
             place,
@@ -115,7 +115,7 @@ impl PendingConnect {
         answer_of(
             place,
             room,
-            reply_of(config, channel, client, id, case, ack),
+            reply_of(config, channel, client, id, outcome, ack),
         )
     }
 
@@ -135,7 +135,7 @@ impl PendingConnect {
         answer_of(
             place,
             room,
-            reply_of(config, channel, client, id, Case::Connected, ack),
+            reply_of(config, channel, client, id, Outcome::Connected, ack),
         )
     }
 
@@ -158,7 +158,7 @@ impl PendingConnect {
         answer_of(
             place,
             events,
-            reply_of(config, channel, client, id, Case::Connected, ack),
+            reply_of(config, channel, client, id, Outcome::Connected, ack),
         )
     }
 }
@@ -182,20 +182,20 @@ fn reply_of(
     channel: Text,
     client: Text,
     id: Option<RawJson>,
-    case: Case,
+    outcome: Outcome,
     ack: AckReply,
 ) -> Reply
     requires { channel ≡ codes "/meta/connect" }
-    ensures { result ≡ connect_reply config.now client id case ack }
+    ensures { result ≡ connect_reply config.now client id outcome ack }
 {
     Reply {
-        column: Column::Connect,
+        message_kind: MessageKind::Connect,
         channel,
         client: Some(client),
         id,
         subscription: None,
-        case,
-        advice: advice_for(case, config),
+        outcome,
+        advice: advice_for(outcome, config),
         ack,
     }
 }

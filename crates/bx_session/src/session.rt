@@ -3,7 +3,7 @@ ghost use Rattle.std.specs.Prelude.{◌≡◌, ◌<◌, ◌≤◌, ◌+◌, ◌&
 ghost use Rattle.std.specs.Option.{option_to_list};
 ghost use Rattle.std.specs.VecDeque.Iter.{deque_iter_rest};
 ghost use Rattle.bx_names.specs.InForce.{with_pattern, without_pattern};
-ghost use Rattle.bx_advice.specs.declared.advice.Case.TheVariants.{Connected, Disconnected};
+ghost use Rattle.bx_advice.specs.declared.advice.Outcome.TheVariants.{Connected, Disconnected};
 ghost use Rattle.bx_entry.specs.Answers.{events_of};
 ghost use Rattle.bx_entry.specs.Keeping.{after, answers_of, kept, resumed};
 ghost use Rattle.bx_entry.specs.Sessions.{ack_given, acknowledged, admitted, answered_or_held, begun, connected, ends_by, expired, given, gives, overflowed, received, released, subscribed, unheld, unopened, unsubscribed};
@@ -12,7 +12,7 @@ ghost use Rattle.bx_session.specs.Views.{Countable, answered_of, connection_answ
 use crate::answered::{Answered, Connection, Delivery};
 use crate::patterns::{with_all, without_all};
 use crate::pending::PendingConnect;
-use bx_advice::{Case, Config, Error};
+use bx_advice::{Config, Error, Outcome};
 use bx_batches::Window;
 use bx_history::History;
 use bx_message::{AckReply, SharedEvent};
@@ -174,11 +174,11 @@ impl Session {
     }
 
     // What the reply to a connect acknowledges in this case.
-    fn ack_for(&self, case: Case) -> AckReply
-        ensures { result ≡ ack_given self.now.kept.ack self.now.kept.num case }
+    fn ack_for(&self, outcome: Outcome) -> AckReply
+        ensures { result ≡ ack_given self.now.kept.ack self.now.kept.num outcome }
     {
-        match case {
-            Case::Connected | Case::Disconnected if self.ack => AckReply::AckNumber(
+        match outcome {
+            Outcome::Connected | Outcome::Disconnected if self.ack => AckReply::AckNumber(
                 self.last_batch(),
             ),
             _ => AckReply::NoAck,
@@ -186,13 +186,13 @@ impl Session {
     }
 
     // Answers the held connect, if there is one, without events.
-    fn release(&mut self, config: &Config, case: Case) -> Option<Answered>
-        ensures answer { (place : ℕ) → option_to_list result ≡ map answered_of (answers_of (released config.now place case) self.old.kept) }
+    fn release(&mut self, config: &Config, outcome: Outcome) -> Option<Answered>
+        ensures answer { (place : ℕ) → option_to_list result ≡ map answered_of (answers_of (released config.now place outcome) self.old.kept) }
         ensures kept { self.new.kept ≡ after unheld self.old.kept }
     {
-        let ack = self.ack_for(case);
+        let ack = self.ack_for(outcome);
         match self.held.take() {
-            Some(held) => Some(held.answer_empty(config, case, ack)),
+            Some(held) => Some(held.answer_empty(config, outcome, ack)),
             None => None,
         }
     }
@@ -252,12 +252,12 @@ impl Session {
     {
         if !events.is_empty() {
             self.give(config, events.len());
-            let ack = self.ack_for(Case::Connected);
+            let ack = self.ack_for(Outcome::Connected);
             return Some(connect.answer_all(config, events, ack));
         }
         if connect.is_answered_at_once() {
-            let ack = self.ack_for(Case::Connected);
-            return Some(connect.answer_empty(config, Case::Connected, ack));
+            let ack = self.ack_for(Outcome::Connected);
+            return Some(connect.answer_empty(config, Outcome::Connected, ack));
         }
         self.held = Some(connect);
         None
@@ -297,7 +297,7 @@ impl Session {
         ensures none { given config.now (acknowledged acked (resumed self.old.kept)) ≡ [] → IsOk result }
     {
         let events = self.events_for(alloc, config, acked)?;
-        let superseded = self.release(config, Case::Failed(Error::SupersededConnect));
+        let superseded = self.release(config, Outcome::Failed(Error::SupersededConnect));
         let answered = self.admit(config, connect, acked, events);
         Ok(Connection {
             superseded,
@@ -320,7 +320,7 @@ impl Session {
         ensures kept { self.new.kept ≡ after (admitted config.now connect acked self.old.kept.overflow) self.old.kept }
     {
         if self.is_overflowed() {
-            let overflow = Case::Failed(Error::QueueOverflow);
+            let overflow = Outcome::Failed(Error::QueueOverflow);
             return Some(connect.answer_empty(config, overflow, AckReply::NoAck));
         }
         self.acknowledge(acked);
@@ -357,7 +357,7 @@ impl Session {
                     self.window.push_reserved(place, keep);
                     self.window.give(config.limits.batch);
                 }
-                let ack = self.ack_for(Case::Connected);
+                let ack = self.ack_for(Outcome::Connected);
                 Delivery::Given(held.answer_one(config, give, ack))
             }
             None => {
@@ -374,7 +374,7 @@ impl Session {
         ensures kept { (place : ℕ) → self.new.kept ≡ after (expired config.now place moment) self.old.kept }
     {
         match &self.held {
-            Some(held) if held.is_due(moment) => self.release(config, Case::Connected),
+            Some(held) if held.is_due(moment) => self.release(config, Outcome::Connected),
             _ => None,
         }
     }
@@ -385,7 +385,7 @@ impl Session {
         ensures answer { (place : ℕ) → option_to_list result ≡ map answered_of (answers_of (released config.now place Disconnected) self.old.kept) }
         ensures kept { (place : ℕ) → self.new.kept ≡ after (released config.now place Disconnected) self.old.kept }
     {
-        self.release(config, Case::Disconnected)
+        self.release(config, Outcome::Disconnected)
     }
 }
 

@@ -5,8 +5,8 @@ use Rattle.std.proofs.lemmas.Bool.{cond_both}
 use Rattle.std.proofs.lemmas.Bool.Decides.{leb_tells}
 use Rattle.bx_advice.specs.declared.config.Config.{Config}
 use Rattle.bx_entry.specs.declared.entry.Entry.{Entry}
-use Rattle.bx_entry.specs.declared.entry.Kind.{Kind}
-use Rattle.bx_entry.specs.declared.entry.Kind.TheVariants.{Opened, Connect, Subscribe, Unsubscribe, Publish, Disconnect, Refused, Tick}
+use Rattle.bx_entry.specs.declared.entry.EntryKind.{EntryKind}
+use Rattle.bx_entry.specs.declared.entry.EntryKind.TheVariants.{Opened, Connect, Subscribe, Unsubscribe, Publish, Disconnect, Refused, Tick}
 use Rattle.bx_entry.specs.Keeping.{Kept, kept, kept_step}
 use Rattle.bx_entry.specs.Sessions.{is_live, unopened}
 use Rattle.bx_session.proofs.NumberLemmas.{numbers_step}
@@ -33,7 +33,7 @@ passed a b h = by (leb_tells a b)
 -- ---- an entry
 
 -- a session that an entry opens has formed none
-opening_none : (stands : Bool) (kind : Kind) (n : ℕ) → IfSome (opening stands kind n) (λ (k : Kept). k.num ≡ 0)
+opening_none : (stands : Bool) (kind : EntryKind) (n : ℕ) → IfSome (opening stands kind n) (λ (k : Kept). k.num ≡ 0)
 opening_none stands (Opened m ack) n = cond_both ((m == n) && stands) (Some (kept (unopened m))) None (λ o. IfSome o (λ (k : Kept). k.num ≡ 0)) (λ h. refl) (λ h. tt)
 opening_none stands (Connect m client id acked hold) n = tt
 opening_none stands (Subscribe m patterns) n = tt

@@ -4,10 +4,10 @@ use Rattle.std.proofs.lemmas.Bool.{cond_both, eqb-true, both_ways}
 use Rattle.bx_names.specs.Globs.{Glob}
 use Rattle.bx_names.specs.InForce.{with_pattern}
 use Rattle.bx_advice.specs.declared.config.Config.{Config}
-use Rattle.bx_advice.specs.declared.advice.Case.TheVariants.{Connected}
+use Rattle.bx_advice.specs.declared.advice.Outcome.TheVariants.{Connected}
 use Rattle.bx_entry.specs.Keeping.{Kept, after, kept, resumed}
 use Rattle.bx_entry.specs.Sessions.{Pending, Publication, Session, answered, delivered, delivered_to, forgotten, has_room, is_hit, overflowed, published, received, subscribed, unheld, with_batch, with_event, with_patterns}
-use Rattle.bx_laws.proofs.Keeps.{Keeps}
+use Rattle.bx_theory.proofs.Keeps.{Keeps}
 use Rattle.bx_shard.specs.Sessions.{IsCounted, IsOwn}
 
 -- what is counted of one session is counted of all, where the others are as they were

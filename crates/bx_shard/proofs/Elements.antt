@@ -4,29 +4,29 @@ use Rattle.std.proofs.lemmas.Bool.{cond_both, cond-false, both_ways}
 use Rattle.std.proofs.lemmas.List.{map-append, length-map, length_push}
 use Rattle.std.proofs.lemmas.List.Sums.{fold-append}
 use Rattle.std.specs.List.{list_any}
+use Rattle.bx_lists.proofs.Tests.{either}
 use Rattle.bx_advice.specs.declared.config.Config.{Config}
 use Rattle.bx_advice.specs.declared.error.Error.{Error}
-use Rattle.bx_message.specs.declared.column.Column.{Column}
-use Rattle.bx_message.specs.Columns.{column_of}
+use Rattle.bx_message.specs.declared.message_kind.MessageKind.{MessageKind}
+use Rattle.bx_message.specs.MessageKinds.{message_kind_of}
 use Rattle.bx_entry.specs.Listing.{Listed, Post, Posted}
 use Rattle.bx_entry.specs.Listing as messages
 use Rattle.bx_entry.specs.declared.entry.Entry.{Entry}
-use Rattle.bx_entry.specs.declared.entry.Kind.{Kind}
-use Rattle.bx_entry.specs.declared.entry.Kind.TheVariants.{Opened, Connect, Subscribe, Unsubscribe, Publish, Disconnect, Refused, Tick}
+use Rattle.bx_entry.specs.declared.entry.EntryKind.{EntryKind}
+use Rattle.bx_entry.specs.declared.entry.EntryKind.TheVariants.{Opened, Connect, Subscribe, Unsubscribe, Publish, Disconnect, Refused, Tick}
 use Rattle.bx_entry.specs.Registry.{Registry, Registered, Judged, judge, judged_by, kind_for, left_by, extended, swept, overdue, is_overdue, named_by, refusal, hold_of, registry, empty_registry, entries_of, entries}
 use Rattle.bx_entry.specs.Sessions.{Session, ended, step_by, step, unopened, session}
-use Rattle.bx_laws.specs.Readings.{opens_by}
-use Rattle.bx_laws.proofs.Moves.{either}
-use Rattle.bx_laws.proofs.Dues.{numbered_below, named_session}
-use Rattle.bx_laws.proofs.Lives.{numbered}
-use Rattle.bx_laws.proofs.Lists.{judged_more, judged_length}
+use Rattle.bx_theory.specs.Readings.{opens_by}
+use Rattle.bx_theory.proofs.Dues.{numbered_below, named_session}
+use Rattle.bx_theory.proofs.Lives.{numbered, entries_push}
+use Rattle.bx_theory.proofs.Lists.{judged_more, judged_length}
 
 -- ---- the numbers of the registry
 
 abbrev pub numbers : List Registered → List ℕ
 numbers rs = map (λ (r : Registered). r.number) rs
 
-abbrev pub opened_numbers : Kind → List ℕ
+abbrev pub opened_numbers : EntryKind → List ℕ
 opened_numbers (Opened n ack) = n ∷ []
 opened_numbers (Connect n client id acked hold) = []
 opened_numbers (Subscribe n ps) = []
@@ -40,14 +40,14 @@ numbers_through : (f : Registered → Registered) (rs : List Registered) → ((r
 numbers_through f [] h = refl
 numbers_through f (r ∷ rs) h = ap (λ (n : ℕ). n ∷ numbers (map f rs)) (h r) ∙ ap (λ (ns : List ℕ). r.number ∷ ns) (numbers_through f rs h)
 
-left_same : (c : Column) (number : ℕ) (rs : List Registered) → numbers (left_by c number rs) ≡ numbers rs
-left_same Column.Handshake number rs = refl
-left_same Column.Connect number rs = refl
-left_same Column.Subscribe number rs = refl
-left_same Column.Unsubscribe number rs = refl
-left_same Column.Disconnect number rs = numbers_through (λ s. cond (s.number == number) (record s { live = false }) s) rs (λ s. let t : Registered = record s { live = false } in cond_both (s.number == number) t s (λ (u : Registered). u.number ≡ s.number) (λ e. refl) (λ e. refl))
-left_same Column.Publish number rs = refl
-left_same Column.UnknownMeta number rs = refl
+left_same : (c : MessageKind) (number : ℕ) (rs : List Registered) → numbers (left_by c number rs) ≡ numbers rs
+left_same MessageKind.Handshake number rs = refl
+left_same MessageKind.Connect number rs = refl
+left_same MessageKind.Subscribe number rs = refl
+left_same MessageKind.Unsubscribe number rs = refl
+left_same MessageKind.Disconnect number rs = numbers_through (λ s. cond (s.number == number) (record s { live = false }) s) rs (λ s. let t : Registered = record s { live = false } in cond_both (s.number == number) t s (λ (u : Registered). u.number ≡ s.number) (λ e. refl) (λ e. refl))
+left_same MessageKind.Publish number rs = refl
+left_same MessageKind.UnknownMeta number rs = refl
 
 extended_same : (number due : ℕ) (rs : List Registered) → numbers (extended number due rs) ≡ numbers rs
 extended_same number due rs = numbers_through (λ s. cond (s.number == number) (record s { due = max s.due due }) s) rs (λ s. let t : Registered = record s { due = max s.due due } in cond_both (s.number == number) t s (λ (u : Registered). u.number ≡ s.number) (λ e. refl) (λ e. refl))
@@ -69,35 +69,35 @@ pub record Adds (config : Config) (r t : Registry) : Type 0 where
 same_length : (rs ts : List Registered) → numbers ts ≡ numbers rs → length ts ≡ length rs
 same_length rs ts e = sym (length-map ts (λ (r : Registered). r.number)) ∙ ap length e ∙ length-map rs (λ (r : Registered). r.number)
 
-served_sessions : (c : Column) (number due : ℕ) (rs : List Registered) → numbers (left_by c number (extended number due rs)) ≡ numbers rs
+served_sessions : (c : MessageKind) (number due : ℕ) (rs : List Registered) → numbers (left_by c number (extended number due rs)) ≡ numbers rs
 served_sessions c number due rs = left_same c number (extended number due rs) ∙ extended_same number due rs
 
-no_opening : (c : Column) (p : Posted) (q : Registered) (hold : ℕ) → opened_numbers (kind_for c p q hold) ≡ []
-no_opening Column.Handshake p q hold = refl
-no_opening Column.Connect p q hold = refl
-no_opening Column.Subscribe p q hold = refl
-no_opening Column.Unsubscribe p q hold = refl
-no_opening Column.Disconnect p q hold = refl
-no_opening Column.Publish p q hold = refl
-no_opening Column.UnknownMeta p q hold = refl
+no_opening : (c : MessageKind) (p : Posted) (q : Registered) (hold : ℕ) → opened_numbers (kind_for c p q hold) ≡ []
+no_opening MessageKind.Handshake p q hold = refl
+no_opening MessageKind.Connect p q hold = refl
+no_opening MessageKind.Subscribe p q hold = refl
+no_opening MessageKind.Unsubscribe p q hold = refl
+no_opening MessageKind.Disconnect p q hold = refl
+no_opening MessageKind.Publish p q hold = refl
+no_opening MessageKind.UnknownMeta p q hold = refl
 
-not_opened : (n : ℕ) (c : Column) (p : Posted) (q : Registered) (hold : ℕ) → opens_by n (kind_for c p q hold) ≡ false
-not_opened n Column.Handshake p q hold = refl
-not_opened n Column.Connect p q hold = refl
-not_opened n Column.Subscribe p q hold = refl
-not_opened n Column.Unsubscribe p q hold = refl
-not_opened n Column.Disconnect p q hold = refl
-not_opened n Column.Publish p q hold = refl
-not_opened n Column.UnknownMeta p q hold = refl
+not_opened : (n : ℕ) (c : MessageKind) (p : Posted) (q : Registered) (hold : ℕ) → opens_by n (kind_for c p q hold) ≡ false
+not_opened n MessageKind.Handshake p q hold = refl
+not_opened n MessageKind.Connect p q hold = refl
+not_opened n MessageKind.Subscribe p q hold = refl
+not_opened n MessageKind.Unsubscribe p q hold = refl
+not_opened n MessageKind.Disconnect p q hold = refl
+not_opened n MessageKind.Publish p q hold = refl
+not_opened n MessageKind.UnknownMeta p q hold = refl
 
-served_fresh : (config : Config) (place moment : ℕ) (c : Column) (p : Posted) (q : Registered) (hold n : ℕ) → (q.number == n) ≡ false → step_by config place moment (unopened n) (kind_for c p q hold) ≡ unopened n
-served_fresh config place moment Column.Handshake p q hold n h = refl
-served_fresh config place moment Column.Connect p q hold n h = cond-false (q.number == n) _ (unopened n) h
-served_fresh config place moment Column.Subscribe p q hold n h = cond-false (q.number == n) _ (unopened n) h
-served_fresh config place moment Column.Unsubscribe p q hold n h = cond-false (q.number == n) _ (unopened n) h
-served_fresh config place moment Column.Disconnect p q hold n h = cond-false (q.number == n) _ (unopened n) h
-served_fresh config place moment Column.Publish p q hold n h = refl
-served_fresh config place moment Column.UnknownMeta p q hold n h = refl
+served_fresh : (config : Config) (place moment : ℕ) (c : MessageKind) (p : Posted) (q : Registered) (hold n : ℕ) → (q.number == n) ≡ false → step_by config place moment (unopened n) (kind_for c p q hold) ≡ unopened n
+served_fresh config place moment MessageKind.Handshake p q hold n h = refl
+served_fresh config place moment MessageKind.Connect p q hold n h = cond-false (q.number == n) _ (unopened n) h
+served_fresh config place moment MessageKind.Subscribe p q hold n h = cond-false (q.number == n) _ (unopened n) h
+served_fresh config place moment MessageKind.Unsubscribe p q hold n h = cond-false (q.number == n) _ (unopened n) h
+served_fresh config place moment MessageKind.Disconnect p q hold n h = cond-false (q.number == n) _ (unopened n) h
+served_fresh config place moment MessageKind.Publish p q hold n h = refl
+served_fresh config place moment MessageKind.UnknownMeta p q hold n h = refl
 
 judged_by_adds : (config : Config) (r : Registry) (moment : ℕ) (p : Posted) (sender : Option Registered) (error : Option Error) → ((q : Registered) → sender ≡ Some q → q.number < 1 + length r.sessions) → Adds config r (judged_by config r moment p sender error)
 judged_by_adds config r moment p sender (Some error) h = record { found = _; judged = refl; sessions = sym (append-nil (numbers r.sessions)); new = λ n l. refl; fresh = λ n l. refl; longer = omega arith }
@@ -112,24 +112,24 @@ judged_by_adds config r moment p None None h =
       longer = omega (arith, many);
     }
 judged_by_adds config r moment p (Some q) None h =
-    let c : Column = column_of p.message.channel in
+    let c : MessageKind = message_kind_of p.message.channel in
     let t : Registry = judged_by config r moment p (Some q) None in
-    let same : numbers (judged_by config r moment p (Some q) None).sessions ≡ numbers r.sessions = served_sessions (column_of p.message.channel) q.number (moment + hold_of config p + config.max_interval) r.sessions in
+    let same : numbers (judged_by config r moment p (Some q) None).sessions ≡ numbers r.sessions = served_sessions (message_kind_of p.message.channel) q.number (moment + hold_of config p + config.max_interval) r.sessions in
     let many : length (judged_by config r moment p (Some q) None).sessions ≡ length r.sessions = same_length r.sessions t.sessions same in
     record {
       found = _;
       judged = refl;
-      sessions = same ∙ sym (append-nil (numbers r.sessions)) ∙ ap (λ (ns : List ℕ). numbers r.sessions ++ ns) (sym (no_opening (column_of p.message.channel) p q (hold_of config p)));
-      new = λ n l. not_opened n (column_of p.message.channel) p q (hold_of config p);
-      fresh = λ n l. served_fresh config (length r.judged) moment (column_of p.message.channel) p q (hold_of config p) n (ne_eqb q.number n (λ e. let below : q.number < 1 + length r.sessions = h q refl in omega (arith, l, many)));
+      sessions = same ∙ sym (append-nil (numbers r.sessions)) ∙ ap (λ (ns : List ℕ). numbers r.sessions ++ ns) (sym (no_opening (message_kind_of p.message.channel) p q (hold_of config p)));
+      new = λ n l. not_opened n (message_kind_of p.message.channel) p q (hold_of config p);
+      fresh = λ n l. served_fresh config (length r.judged) moment (message_kind_of p.message.channel) p q (hold_of config p) n (ne_eqb q.number n (λ e. let below : q.number < 1 + length r.sessions = h q refl in omega (arith, l, many)));
       longer = omega (arith, many);
     }
 
 pub judge_adds : (config : Config) (ys : List Listed) (x : Listed) → Adds config (registry config ys) (judge config (registry config ys) x)
 judge_adds config ys (Post p) =
     let r : Registry = registry config ys in
-    judged_by_adds config r (max r.clock p.moment) p (named_by r.sessions (column_of p.message.channel) p.message) (refusal config r.sessions p)
-    (λ q e. named_session (λ s. s.number < 1 + length (registry config ys).sessions) r.sessions (column_of p.message.channel) p.message q e (numbered_below 1 r.sessions (numbered config ys)))
+    judged_by_adds config r (max r.clock p.moment) p (named_by r.sessions (message_kind_of p.message.channel) p.message) (refusal config r.sessions p)
+    (λ q e. named_session (λ s. s.number < 1 + length (registry config ys).sessions) r.sessions (message_kind_of p.message.channel) p.message q e (numbered_below 1 r.sessions (numbered config ys)))
 judge_adds config ys (messages.Tick moment) =
     let r : Registry = registry config ys in
     let now : ℕ = max r.clock moment in
@@ -146,9 +146,6 @@ judge_adds config ys (messages.Tick moment) =
 
 pub next_is : (config : Config) (ys : List Listed) (x : Listed) → registry config (ys ++ x ∷ []) ≡ judge config (registry config ys) x
 next_is config ys x = fold-append (judge config) empty_registry ys (x ∷ [])
-
-entries_push : (r t : Registry) (j : Judged) → t.judged ≡ r.judged ++ j ∷ [] → entries_of t ≡ entries_of r ++ j.entry ∷ []
-entries_push r t j e = ap (map (λ (k : Judged). k.entry)) e ∙ map-append (λ (k : Judged). k.entry) r.judged (j ∷ [])
 
 pub session_next : (config : Config) (number : ℕ) (ys : List Listed) (x : Listed) (a : Adds config (registry config ys) (judge config (registry config ys) x)) →
     session config number (entries_of (registry config (ys ++ x ∷ []))) ≡ step config (session config number (entries_of (registry config ys))) a.found.entry

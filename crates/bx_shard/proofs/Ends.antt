@@ -2,8 +2,8 @@
 use Rattle.std.proofs.Common.{◌≡◌, ◌⊎◌, inl, inr, ℕ, nat_eq, Bool, true, false, cond, ◌&&◌, Option, Some, None, option_map, List, [], ◌∷◌, ◌++◌, map, length, ◌==◌, refl, sym, ap, ◌∙◌}
 use Rattle.std.proofs.lemmas.Bool.{cond_both, eqb-true}
 use Rattle.bx_advice.specs.declared.config.Config.{Config}
-use Rattle.bx_advice.specs.declared.advice.Case.{Case}
-use Rattle.bx_advice.specs.declared.advice.Case.TheVariants.{Connected, Disconnected, Failed}
+use Rattle.bx_advice.specs.declared.advice.Outcome.{Outcome}
+use Rattle.bx_advice.specs.declared.advice.Outcome.TheVariants.{Connected, Disconnected, Failed}
 use Rattle.bx_advice.specs.declared.error.Error.TheVariants.{QueueOverflow}
 use Rattle.bx_message.specs.declared.reply.Answer.{Answer}
 use Rattle.bx_entry.specs.Keeping.{Kept, after, kept, resumed}
@@ -90,12 +90,12 @@ unchanged k s none same = inr (record { none = ap (map answered_of) none; same =
 ended_by : (k : Kept) (s : Session) (q : Pending) (a : Answered) → k.held ≡ Some q → map answered_of s.answers ≡ a ∷ [] → a.place ≡ q.place → s.held ≡ None → From k s
 ended_by k s q a held given own free = inl (record { session = k; hold = q; answer = a; here = refl; held = held; given = given; own = own; free = λ p. ap (λ h. ends_for h p) free })
 
-released_from_e : (config : Config) (place : ℕ) (case : Case) (k : Kept) (held : Option Pending) → k.held ≡ held → From k (released_from config place case (resumed k) held)
-released_from_e config place case k None e = unchanged k (resumed k) refl refl
-released_from_e config place case k (Some q) e = ended_by k (released_from config place case (resumed k) (Some q)) q _ e refl refl refl
+released_from_e : (config : Config) (place : ℕ) (outcome : Outcome) (k : Kept) (held : Option Pending) → k.held ≡ held → From k (released_from config place outcome (resumed k) held)
+released_from_e config place outcome k None e = unchanged k (resumed k) refl refl
+released_from_e config place outcome k (Some q) e = ended_by k (released_from config place outcome (resumed k) (Some q)) q _ e refl refl refl
 
-pub released_e : (config : Config) (place : ℕ) (case : Case) (k : Kept) → From k (released config place case (resumed k))
-released_e config place case k = released_from_e config place case k k.held refl
+pub released_e : (config : Config) (place : ℕ) (outcome : Outcome) (k : Kept) → From k (released config place outcome (resumed k))
+released_e config place outcome k = released_from_e config place outcome k k.held refl
 
 expired_from_e : (config : Config) (place moment : ℕ) (k : Kept) (held : Option Pending) → k.held ≡ held → From k (expired_from config place moment (resumed k) held)
 expired_from_e config place moment k None e = unchanged k (resumed k) refl refl
@@ -140,9 +140,9 @@ abbrev pub with_hold : Pending → Kept → Kept
 with_hold p k = record k { held = Some p }
 
 module _ (config : Config) (p : Pending) (k : Kept) (free : k.held ≡ None) where
-  answered_e : (events : List Publication) (case : Case) (t : Session) → Quiet (resumed k) t → From (with_hold p k) (answered config p p.place events case t)
-  answered_e events case t q =
-      ended_by (with_hold p k) (answered config p p.place events case t) p _ refl (ap (λ (fs : List sessions.Filed). map answered_of (fs ++ filing config p p.place events case t ∷ [])) q.answers) refl (q.held ∙ free)
+  answered_e : (events : List Publication) (outcome : Outcome) (t : Session) → Quiet (resumed k) t → From (with_hold p k) (answered config p p.place events outcome t)
+  answered_e events outcome t q =
+      ended_by (with_hold p k) (answered config p p.place events outcome t) p _ refl (ap (λ (fs : List sessions.Filed). map answered_of (fs ++ filing config p p.place events outcome t ∷ [])) q.answers) refl (q.held ∙ free)
 
   settled_e : (t : Session) → Quiet (resumed k) t → From (with_hold p k) (answered_or_held config p t)
   settled_e t q =

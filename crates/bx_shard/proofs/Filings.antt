@@ -2,23 +2,23 @@
 use Rattle.std.proofs.Common.{◌≡◌, ℕ, ◌+◌, ◌<◌, Bool, false, Option, Some, None, List, [], ◌∷◌, ◌++◌, length, take, map, filter, ◌==◌, refl, sym, ap, ◌∙◌, subst, arith, append-nil, find, flat_map, length-append, eqb-true}
 use Rattle.std.proofs.lemmas.Bool.{cond_both, cond-true, cond-false}
 use Rattle.std.proofs.lemmas.List.Elements.{filter-append}
+use Rattle.bx_lists.proofs.Tests.{either}
 use Rattle.bx_advice.specs.declared.config.Config.{Config}
 use Rattle.bx_entry.specs.Listing.{Listed}
 use Rattle.bx_entry.specs.declared.entry.Entry.{Entry}
-use Rattle.bx_entry.specs.declared.entry.Kind.{Kind}
-use Rattle.bx_entry.specs.declared.entry.Kind.TheVariants.{Opened, Connect, Subscribe, Unsubscribe, Publish, Disconnect, Refused, Tick}
+use Rattle.bx_entry.specs.declared.entry.EntryKind.{EntryKind}
+use Rattle.bx_entry.specs.declared.entry.EntryKind.TheVariants.{Opened, Connect, Subscribe, Unsubscribe, Publish, Disconnect, Refused, Tick}
 use Rattle.bx_entry.specs.Registry.{Registry, judge, registry, entries_of, Waiting}
 use Rattle.bx_entry.specs.Sessions.{Session, Live, is_live, step_by, step, unopened, session, Filed}
 use Rattle.bx_entry.specs.Keeping.{Kept, kept, StepsAlike, kept_answers}
 use Rattle.bx_shard.specs.Shards.{Setup, stands_in, is_taken, shard_at, sessions_in}
-use Rattle.bx_laws.proofs.Moves.{either}
-use Rattle.bx_laws.proofs.Kept.{kept_steps}
+use Rattle.bx_theory.proofs.Kept.{kept_steps}
 use Rattle.std.specs.Option.{option_or}
 use Rattle.std.proofs.lemmas.Grind.{flat_map-append}
 use Rattle.std.proofs.lemmas.List.Folds.{find-append}
 use Rattle.bx_shard.specs.Steps.{answers_by, ShardsFile}
-use Rattle.bx_laws.proofs.Lists.{find_each, find_true}
-use Rattle.bx_laws.proofs.Closings.{idle_next}
+use Rattle.bx_theory.proofs.Lists.{find_each, find_true}
+use Rattle.bx_theory.proofs.Closings.{idle_next}
 use Rattle.bx_shard.proofs.Waits.{WaitsAt, answered_waits}
 use Rattle.bx_shard.proofs.Untaken.{find_untaken}
 use Rattle.bx_shard.proofs.Elements.{numbers, opened_numbers, Adds, next_is, session_next, all_fresh, opens_above, Met, met}
@@ -90,7 +90,7 @@ one_waiter : (config : Config) (zs : List Listed) (place n m : ℕ) (f g : Filed
 one_waiter config zs place n m f g x y = let both : Some (Waiting n) ≡ Some (Waiting m) = sym (waiter config zs n place f x) ∙ waiter config zs m place g y in cc
 
 -- a session that the entry opens has no answers
-opened_nothing : (config : Config) (setup : Setup) (shard : ℕ) (ys : List Listed) (x : Listed) (k : Kind) → (a : Adds config (registry config ys) (judge config (registry config ys) x)) → a.found.entry.kind ≡ k →
+opened_nothing : (config : Config) (setup : Setup) (shard : ℕ) (ys : List Listed) (x : Listed) (k : EntryKind) → (a : Adds config (registry config ys) (judge config (registry config ys) x)) → a.found.entry.kind ≡ k →
     flat_map (λ (n : ℕ). (session config n (entries_of (registry config (ys ++ x ∷ [])))).answers) (filter (λ (n : ℕ). stands_in setup shard n) (opened_numbers k)) ≡ []
 opened_nothing config setup shard ys x (Opened n ack) a h =
     let A : Answers = λ m. (session config m (entries_of (registry config (ys ++ x ∷ [])))).answers in
@@ -100,7 +100,7 @@ opened_nothing config setup shard ys x (Opened n ack) a h =
     cond_both (n == n) (record s { stage = Live; ack = ack }) s (λ (u : Session). u.answers ≡ []) (λ g. refl) (λ g. refl) in
     let here : (session config n (entries_of (registry config (ys ++ x ∷ [])))).answers ≡ [] =
     ap (λ (u : Session). u.answers) (session_next config n ys x a ∙ ap (λ (u : Session). step config u a.found.entry) (all_fresh config ys n past))
-    ∙ ap (λ (k : Kind). (step_by config a.found.entry.place a.found.entry.moment (unopened n) k).answers) h ∙ none in
+    ∙ ap (λ (k : EntryKind). (step_by config a.found.entry.place a.found.entry.moment (unopened n) k).answers) h ∙ none in
     cond_both (stands_in setup shard n) (n ∷ []) [] (λ (ms : List ℕ). flat_map A ms ≡ []) (λ g. append-nil (A n) ∙ here) (λ g. refl)
 opened_nothing config setup shard ys x (Connect n client id acked hold) a h = refl
 opened_nothing config setup shard ys x (Subscribe n ps) a h = refl

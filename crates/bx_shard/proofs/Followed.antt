@@ -5,12 +5,12 @@ use Rattle.std.specs.Option.{option_and_then, option_map_or}
 use Rattle.std.proofs.lemmas.Bool.{eqb-true, eq-eqb, cond_both}
 use Rattle.std.proofs.lemmas.List.Elements.{Contains-append_cases, Contains-append_left, Contains-append_right}
 use Rattle.bx_names.specs.Globs.{Glob}
-use Rattle.bx_advice.specs.declared.advice.Case.TheVariants.{Disconnected, Failed}
+use Rattle.bx_advice.specs.declared.advice.Outcome.TheVariants.{Disconnected, Failed}
 use Rattle.bx_advice.specs.declared.error.Error.TheVariants.{SupersededConnect}
 use Rattle.bx_message.specs.declared.event.Event.{Event}
 use Rattle.bx_entry.specs.declared.entry.Entry.{Entry}
-use Rattle.bx_entry.specs.declared.entry.Kind.{Kind}
-use Rattle.bx_entry.specs.declared.entry.Kind.TheVariants as kinds
+use Rattle.bx_entry.specs.declared.entry.EntryKind.{EntryKind}
+use Rattle.bx_entry.specs.declared.entry.EntryKind.TheVariants as kinds
 use Rattle.bx_entry.specs.Keeping.{Kept, after, kept, resumed}
 use Rattle.bx_entry.specs.Sessions.{Closed, Live, Pending, Session, Stage, Unopened, admitted, begun, closed_by, connected, disconnected, ended, expired, is_live, published, released, stage_after, step, subscribed, unheld, unopened, unsubscribed}
 use Rattle.bx_session.specs.declared.answered.Answered.{Answered}
@@ -26,7 +26,7 @@ use Rattle.bx_shard.specs.Sessions.{AreCounted, AreHeld, IsCounted, IsOwn, holds
 use Rattle.bx_shard.specs.States.{Connects, IsGiven, if_live, let_go, session_after}
 use Rattle.bx_shard.specs.States as states
 use Rattle.bx_shard.proofs.Beginnings.{both_answers, own_answers, superseded}
-use Rattle.bx_laws.proofs.Keeps.{Keeps, connected_k, expired_from_k, released_from_k}
+use Rattle.bx_theory.proofs.Keeps.{Keeps, connected_k, expired_from_k, released_from_k}
 use Rattle.bx_shard.proofs.Counts.{published_stage, subscribed_l, subscribed_quiet}
 use Rattle.bx_shard.proofs.Ends.{From, admitted_e, released_e, with_hold}
 use Rattle.bx_shard.proofs.Keeps.{filed_known, filing_each_session, filing_session, held_session, let_go_session, unfiled}
@@ -34,8 +34,8 @@ use Rattle.bx_shard.proofs.Singles.{nowhere, only_one}
 use Rattle.bx_shard.proofs.Ties.{holds_own}
 
 -- an entry does what one of its kind does
-of_kind : (stands : Bool) (e : Entry) (kind : Kind) (old new : Sessions) → e.kind ≡ kind → Followed stands (record e { kind = kind }) old new → Followed stands e old new
-of_kind stands e kind old new is follows = subst (λ (k : Kind). Followed stands (record e { kind = k }) old new) (sym is) follows
+of_kind : (stands : Bool) (e : Entry) (kind : EntryKind) (old new : Sessions) → e.kind ≡ kind → Followed stands (record e { kind = kind }) old new → Followed stands e old new
+of_kind stands e kind old new is follows = subst (λ (k : EntryKind). Followed stands (record e { kind = k }) old new) (sym is) follows
 
 -- ---- one session
 
@@ -110,7 +110,7 @@ of_one_given false answers a is there = absurd (true≢false (sym is))
 -- a change of one session that leaves it live and changes no connect
 module _ (stands : Bool) (e : Entry) (m : ℕ) (old : Sessions) (counted : AreCounted old) where
   -- what an entry that is one of this session makes of all
-  one_stepped : (kind : Kind) (change : Session → Session) → ((s : Session) → step old.config s (record e { kind = kind }) ≡ cond (m == s.number) (change s) s)
+  one_stepped : (kind : EntryKind) (change : Session → Session) → ((s : Session) → step old.config s (record e { kind = kind }) ≡ cond (m == s.number) (change s) s)
       → ((n : ℕ) → states.opening stands kind n ≡ None) → ((n : ℕ) (k : Kept) → kept_in old n ≡ Some k → (change (resumed k)).stage ≡ k.stage)
       → (n : ℕ) → with_one m change (kept_in old) n ≡ session_after old.config stands (record e { kind = kind }) n (kept_in old n)
   one_stepped kind change is opens stage n = at_number m n (option_map (after change)) (kept_in old) ∙ by (kept_in old n) refl (counted n)
@@ -123,7 +123,7 @@ module _ (stands : Bool) (e : Entry) (m : ℕ) (old : Sessions) (counted : AreCo
       by (Some k) here c = own_or_as_it_was n k (patterns_in old n) c m (change (resumed k)) (stage n k here) ∙ sym (ap (λ (t : Session). if_live (kept t)) (is (resumed k)))
 
   -- and what it answers
-  one_answered : (kind : Kind) (change : Session → Session) → ((s : Session) → step old.config s (record e { kind = kind }) ≡ cond (m == s.number) (change s) s)
+  one_answered : (kind : EntryKind) (change : Session → Session) → ((s : Session) → step old.config s (record e { kind = kind }) ≡ cond (m == s.number) (change s) s)
       → (n : ℕ) → answers_by (λ s. step old.config s (record e { kind = kind })) (kept_in old n) ≡ cond (nat_eq m n) (answers_by change (kept_in old n)) []
   one_answered kind change is n = by (kept_in old n) (counted n)
     where
@@ -187,7 +187,7 @@ followed_opened_here stands e m ack old new kind here gone sessions others count
         (cond_both (m == k.number) (begun ack (resumed k) k.stage) (resumed k) (λ (t : Session). t.answers ≡ []) (λ h. begun_answers k k.stage) (λ h. refl)) there)
 
 -- an entry that changes nothing: no session takes a step, and none is opened
-unchanged : (stands : Bool) (e : Entry) (s : Sessions) (kind : Kind) → e.kind ≡ kind → ((n : ℕ) → kept_in s n ≡ session_after s.config stands (record e { kind = kind }) n (kept_in s n))
+unchanged : (stands : Bool) (e : Entry) (s : Sessions) (kind : EntryKind) → e.kind ≡ kind → ((n : ℕ) → kept_in s n ≡ session_after s.config stands (record e { kind = kind }) n (kept_in s n))
     → ((n : ℕ) (a : Answered) → IsGiven s.config (kept_in s) (record e { kind = kind }) n a → ⊥)
     → ((p : ℕ) → connect_at s.connects p ≡ states.begun (kept_in s) (connect_at s.connects) (record e { kind = kind }) kind p) → AreCounted s → AreHeld s → Followed stands e s s
 unchanged stands e s kind is sessions nothing connects counted held = of_kind stands e kind s s is (record {
@@ -530,7 +530,7 @@ followed_refused stands e s is counted held = unchanged stands e s kinds.Refused
 -- ---- patterns
 
 -- a change of one session that answers nothing
-followed_quiet : (stands : Bool) (e : Entry) (m : ℕ) (kind : Kind) (change : Session → Session) (old new : Sessions) → e.kind ≡ kind
+followed_quiet : (stands : Bool) (e : Entry) (m : ℕ) (kind : EntryKind) (change : Session → Session) (old new : Sessions) → e.kind ≡ kind
     → ((s : Session) → step old.config s (record e { kind = kind }) ≡ cond (m == s.number) (change s) s) → ((n : ℕ) → states.opening stands kind n ≡ None)
     → ((n : ℕ) (k : Kept) → kept_in old n ≡ Some k → (change (resumed k)).stage ≡ k.stage) → ((k : Kept) → (change (resumed k)).answers ≡ [])
     → ((p : ℕ) → connect_at old.connects p ≡ states.begun (kept_in old) (connect_at old.connects) (record e { kind = kind }) kind p)

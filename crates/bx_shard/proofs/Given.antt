@@ -4,6 +4,7 @@ use Rattle.std.specs.Option.{option_or}
 use Rattle.std.proofs.lemmas.Bool.{cond-true, cond-false}
 use Rattle.std.proofs.lemmas.List.Folds.{find-append}
 use mathlib.Core.List.{IsPrefix}
+use Rattle.bx_lists.proofs.Tests.{either}
 use Rattle.bx_advice.specs.declared.config.Config.{Config}
 use Rattle.bx_message.specs.declared.reply.Answer.{Answer}
 use Rattle.bx_entry.specs.Listing.{Listed}
@@ -16,8 +17,7 @@ use Rattle.bx_connects.specs.declared.connects.ConnectState.TheVariants as state
 use Rattle.bx_shard.specs.Refining.{FiledIsGiven, Took, filed_with_place, given_of}
 use Rattle.bx_shard.specs.Shards.{Setup, shard_at, sessions_in, stands_in}
 use Rattle.bx_shard.specs.States.{State, IsAsBefore, connect_in}
-use Rattle.bx_laws.proofs.Moves.{either}
-use Rattle.bx_laws.proofs.Lists.{answer_more, find_each, find_true}
+use Rattle.bx_theory.proofs.Lists.{answer_more, find_each, find_true}
 use Rattle.bx_shard.proofs.Waits.{WaitsAt, answered_waits}
 use Rattle.bx_shard.proofs.Untaken.{found_kept}
 

@@ -5,11 +5,11 @@ use Rattle.std.proofs.lemmas.List.Elements.{Contains-append_cases}
 use Rattle.std.specs.List.{All, Contains, list_any}
 use Rattle.std.specs.Option.{option_map_or}
 use Rattle.bx_advice.specs.declared.config.Config.{Config}
-use Rattle.bx_advice.specs.declared.advice.Case.TheVariants.{Disconnected, Failed}
+use Rattle.bx_advice.specs.declared.advice.Outcome.TheVariants.{Disconnected, Failed}
 use Rattle.bx_advice.specs.declared.error.Error.TheVariants.{SupersededConnect}
 use Rattle.bx_entry.specs.declared.entry.Entry.{Entry}
-use Rattle.bx_entry.specs.declared.entry.Kind.{Kind}
-use Rattle.bx_entry.specs.declared.entry.Kind.TheVariants.{Opened, Connect, Subscribe, Unsubscribe, Publish, Disconnect, Refused, Tick}
+use Rattle.bx_entry.specs.declared.entry.EntryKind.{EntryKind}
+use Rattle.bx_entry.specs.declared.entry.EntryKind.TheVariants.{Opened, Connect, Subscribe, Unsubscribe, Publish, Disconnect, Refused, Tick}
 use Rattle.bx_entry.specs.Keeping.{Kept, after, answers_of, resumed}
 use Rattle.bx_entry.specs.Sessions.{Closed, Live, Pending, Publication, Session, Stage, Unopened, admitted, begun, connected, ended, expired, is_hit, received, released, step, step_by, subscribed, unheld}
 use Rattle.bx_session.specs.declared.answered.Answered.{Answered}
@@ -65,7 +65,7 @@ connected_due config p acked k a there =
     by (inr its_own) = inl (sym (held_due (with_hold p (after unheld k)) (admitted config p acked k.overflow (resumed (after unheld k))) a (admitted_e config p (after unheld k) refl acked k.overflow) its_own))
 
 -- every answer that an entry at this place gives
-answers_due : (config : Config) (place moment : ℕ) (k : Kept) (a : Answered) (kind : Kind) → Contains (map answered_of (step_by config place moment (resumed k) kind).answers) a → Due place k.held a
+answers_due : (config : Config) (place moment : ℕ) (k : Kept) (a : Answered) (kind : EntryKind) → Contains (map answered_of (step_by config place moment (resumed k) kind).answers) a → Due place k.held a
 answers_due config place moment k a (Opened m ack) there = absurd (begun_nothing ack k k.stage a (of_own (m == k.number) k (begun ack (resumed k) k.stage) a there))
 answers_due config place moment k a (Connect m client id acked hold) there =
     let p : Pending = pending place client id moment hold in

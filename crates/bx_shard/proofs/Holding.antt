@@ -7,7 +7,7 @@ use Rattle.bx_entry.specs.Answers.{answer_of}
 use Rattle.bx_entry.specs.Keeping.{Kept, kept}
 use Rattle.bx_entry.specs.Registry.{Registry, Registered, Judged, registry, entries_of}
 use Rattle.bx_entry.specs.Sessions.{Session, Filed, session}
-use Rattle.bx_laws.proofs.Lists.{judged_length, judged_more}
+use Rattle.bx_theory.proofs.Lists.{judged_length, judged_more}
 use Rattle.bx_connects.specs.Connects.{session_at}
 use Rattle.bx_shard.specs.Shards.{Setup, filed_among, live_among, stands_in}
 use Rattle.bx_shard.specs.Refining.{RefinesAtFirst, RefinesLonger, RefinesStill, IsConnectOf, filed_with_place}

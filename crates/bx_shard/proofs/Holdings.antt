@@ -10,16 +10,17 @@ use Rattle.bx_advice.specs.declared.config.Config.{Config}
 use Rattle.bx_entry.specs.declared.entry.Entry.{Entry}
 use Rattle.bx_entry.specs.Listing.{Listed}
 use Rattle.bx_entry.specs.Registry.{Registry, Registered, Judged, judge, registry, entries_of}
-use Rattle.bx_entry.specs.Sessions.{Session, Stage, Unopened, Live, Closed, is_live, unopened, session}
+use Rattle.bx_entry.specs.Sessions.{Session, is_live, unopened, session}
 use Rattle.bx_entry.specs.Keeping.{Kept, kept}
-use Rattle.bx_laws.proofs.Dues.{NumberedFrom}
-use Rattle.bx_laws.proofs.Lives.{numbered}
-use Rattle.bx_laws.proofs.Lists.{judged_length}
+use Rattle.bx_theory.proofs.Dues.{NumberedFrom}
+use Rattle.bx_theory.proofs.Lives.{numbered}
+use Rattle.bx_theory.proofs.Lists.{judged_length}
 use Rattle.bx_session.proofs.NumberLemmas.{numbers_count}
 use Rattle.bx_shard.specs.Shards.{Setup, shard_at, stands_in}
 use Rattle.bx_shard.specs.Holdings.{IsReached, SessionsReached, NumbersAscend, OpenedIsFresh}
 use Rattle.bx_shard.proofs.Elements.{numbers, opens_above, Met, met}
-use Rattle.bx_shard.proofs.Stepping.{held_by, held_cons, numbers_in, held_at, EachNumber, numbers_below, run_number}
+use Rattle.bx_shard.proofs.Stepping.{held_by, held_cons, numbers_in, held_at, EachNumber, numbers_below}
+use Rattle.bx_theory.proofs.Closings.{run_number, live_stage}
 
 -- ---- each that is held
 
@@ -34,11 +35,6 @@ each_held P Q config es (n ∷ ns) h d =
     (cond_both (is_live s.stage) (kept s ∷ held_by config es ns) (held_by config es ns) (All P) (λ l. All-cons P (kept s) (held_by config es ns) (h n d.0 l) rest) (λ l. rest))
 
 -- ---- reached
-
-live_stage : (stage : Stage) → is_live stage ≡ true → stage ≡ Live
-live_stage Unopened h = cc
-live_stage Live h = refl
-live_stage Closed h = cc
 
 -- a live session after these entries is reached wherever so many entries may stand
 session_reached : (config : Config) (number place : ℕ) (es : List Entry) → length es ≤ place → is_live (session config number es).stage ≡ true → IsReached place (kept (session config number es))

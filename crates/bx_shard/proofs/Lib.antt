@@ -1,10 +1,7 @@
-pub mod Among
 pub mod Applying
 pub mod Beginnings
 pub mod Closing
 pub mod Counting
-pub mod DealLaws
-pub mod Dealt
 pub mod Elements
 pub mod Ends
 pub mod Filings
@@ -13,12 +10,9 @@ pub mod Followed
 pub mod Gives
 pub mod Given
 pub mod Handing
-pub mod HeirLemmas
 pub mod Holding
 pub mod Holdings
 pub mod Keeps
-pub mod Made
-pub mod MoveLemmas
 pub mod Placed
 pub mod Counts
 pub mod Onwards

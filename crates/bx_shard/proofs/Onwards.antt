@@ -6,18 +6,18 @@ use Rattle.std.proofs.lemmas.List.Elements.{All-map, filter-append}
 use Rattle.std.proofs.lemmas.List.Folds.{find-append}
 use Rattle.std.specs.List.{All, Contains, list_any}
 use Rattle.std.specs.Option.{option_and_then, option_or}
+use Rattle.bx_lists.proofs.Tests.{either}
 use Rattle.bx_advice.specs.declared.config.Config.{Config}
 use Rattle.bx_entry.specs.declared.entry.Entry.{Entry}
-use Rattle.bx_entry.specs.declared.entry.Kind.{Kind}
-use Rattle.bx_entry.specs.declared.entry.Kind.TheVariants.{Opened, Connect, Subscribe, Unsubscribe, Publish, Disconnect, Refused, Tick}
+use Rattle.bx_entry.specs.declared.entry.EntryKind.{EntryKind}
+use Rattle.bx_entry.specs.declared.entry.EntryKind.TheVariants.{Opened, Connect, Subscribe, Unsubscribe, Publish, Disconnect, Refused, Tick}
 use Rattle.bx_entry.specs.Answers.{answer_of}
 use Rattle.bx_entry.specs.Listing.{Listed}
 use Rattle.bx_entry.specs.Keeping.{Kept, kept, kept_answers, kept_step, resumed}
 use Rattle.bx_entry.specs.Registry.{entries, registry}
 use Rattle.bx_entry.specs.Sessions.{Filed, Live, Session, Stage, is_live, step, unopened}
 use Rattle.bx_entry.specs.Sessions as sessions
-use Rattle.bx_laws.proofs.Moves.{either}
-use Rattle.bx_laws.proofs.Stages.{step_number}
+use Rattle.bx_theory.proofs.Stages.{step_number}
 use Rattle.bx_session.specs.declared.answered.Answered.{Answered}
 use Rattle.bx_session.specs.Views.{answered_of, deadline_of, pending}
 use Rattle.bx_session.proofs.FilingLemmas.{files_alike}
@@ -43,7 +43,7 @@ use Rattle.bx_shard.proofs.Taking.{connect_of_filed, find_of, none_taken}
 use Rattle.bx_shard.proofs.Waits.{WaitsAt, connect_waits}
 
 -- an entry by its parts
-abbrev entry : ℕ → ℕ → Kind → Entry
+abbrev entry : ℕ → ℕ → EntryKind → Entry
 entry place moment kind = record { place = place; moment = moment; kind = kind }
 
 -- nothing else is taken
@@ -83,7 +83,7 @@ opened_one config place moment n ack m =
     ])
 
 -- the session that the entry opens in the shard
-opened_found : (setup : Setup) (index place moment m : ℕ) (kind : Kind) → find_kept m (steps setup.config (entry place moment kind) (opening_by setup index kind))
+opened_found : (setup : Setup) (index place moment m : ℕ) (kind : EntryKind) → find_kept m (steps setup.config (entry place moment kind) (opening_by setup index kind))
     ≡ option_and_then (onward setup.config (entry place moment kind)) (opening (opens_in setup index kind) kind m)
 opened_found setup index place moment m (Opened n ack) =
     let e : Entry = entry place moment (Opened n ack) in
@@ -106,7 +106,7 @@ opened_found setup index place moment m Refused = refl
 opened_found setup index place moment m (Tick numbers) = refl
 
 -- a session that is there is as the entry leaves it, whatever the entry opens
-onward_first : (config : Config) (stands : Bool) (place moment m : ℕ) (k : Kept) (kind : Kind) → k.stage ≡ Live →
+onward_first : (config : Config) (stands : Bool) (place moment m : ℕ) (k : Kept) (kind : EntryKind) → k.stage ≡ Live →
     option_or (onward config (entry place moment kind) k) (option_and_then (onward config (entry place moment kind)) (opening stands kind m)) ≡ onward config (entry place moment kind) k
 onward_first config stands place moment m k (Opened n ack) live =
     let t : Session = step config (resumed k) (entry place moment (Opened n ack)) in
@@ -210,7 +210,7 @@ let_go_none numbers (Some (states.Held session deadline waker)) h = absurd (let 
 let_go_none numbers (Some (states.Filed session place answer)) h = absurd (let no : Some (states.Filed session place answer) ≡ None = h in cc)
 
 -- no answer is filed or lost by it
-begun_filed : (s : State) (e : Entry) (kind : Kind) (p : ℕ) → connect_in s e.place ≡ None → filed_with_place (begun (session_in s) (connect_in s) e kind p) ≡ filed_with_place (connect_in s p)
+begun_filed : (s : State) (e : Entry) (kind : EntryKind) (p : ℕ) → connect_in s e.place ≡ None → filed_with_place (begun (session_in s) (connect_in s) e kind p) ≡ filed_with_place (connect_in s p)
 begun_filed s e (Opened m ack) p fresh = refl
 begun_filed s e (Connect m client id acked hold) p fresh =
     let P : Option ConnectState → Type 0 = λ o. filed_with_place o ≡ filed_with_place (connect_in s p) in
@@ -226,7 +226,7 @@ begun_filed s e Refused p fresh = refl
 begun_filed s e (Tick numbers) p fresh = let_go_filed numbers (connect_in s p)
 
 -- and nothing is known of any but the entry's own, where nothing was
-pub begun_none : (s : State) (e : Entry) (kind : Kind) (p : ℕ) → connect_in s p ≡ None → p ≢ e.place → begun (session_in s) (connect_in s) e kind p ≡ None
+pub begun_none : (s : State) (e : Entry) (kind : EntryKind) (p : ℕ) → connect_in s p ≡ None → p ≢ e.place → begun (session_in s) (connect_in s) e kind p ≡ None
 begun_none s e (Opened m ack) p none other = none
 begun_none s e (Connect m client id acked hold) p none other =
     let P : Option ConnectState → Type 0 = λ o. o ≡ None in

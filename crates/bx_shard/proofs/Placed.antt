@@ -4,8 +4,8 @@ use Rattle.bx_advice.specs.declared.config.Config.{Config}
 use Rattle.bx_entry.specs.Listing.{Listed}
 use Rattle.bx_entry.specs.declared.entry.Entry.{Entry}
 use Rattle.bx_entry.specs.Registry.{entries}
-use Rattle.bx_laws.specs.Laws.{PlacesFrom}
-use Rattle.bx_laws.proofs.Lists.{entries_in_order}
+use Rattle.bx_theory.specs.Laws.{PlacesFrom}
+use Rattle.bx_theory.proofs.Lists.{entries_in_order}
 
 place_from : (first n : ℕ) (es : List Entry) (e : Entry) → PlacesFrom first es → slice_get es n ≡ Some e → e.place ≡ first + n
 place_from first n [] e d h = absurd (let no : None ≡ Some e = h in cc)

@@ -6,7 +6,7 @@ use Rattle.bx_entry.specs.Keeping.{Kept}
 use Rattle.bx_entry.specs.Listing.{Listed}
 use Rattle.bx_entry.specs.Registry.{entries}
 use Rattle.bx_entry.specs.declared.entry.Entry.{Entry}
-use Rattle.bx_entry.specs.declared.entry.Kind.TheVariants.{Opened}
+use Rattle.bx_entry.specs.declared.entry.EntryKind.TheVariants.{Opened}
 use Rattle.bx_session.specs.Views.{Countable}
 use Rattle.bx_shard.specs.Refining.{Refines}
 use Rattle.bx_shard.specs.Holdings.{IsReached}

@@ -1,25 +1,27 @@
 -- The live sessions of a shard after one more entry.
-use Rattle.std.proofs.Common.{◌≡◌, ℕ, ◌+◌, ◌<◌, Bool, true, false, cond, List, [], ◌∷◌, ◌++◌, length, take, map, filter, fold, refl, sym, ap, ◌∙◌}
+use Rattle.std.proofs.Common.{◌≡◌, ℕ, ◌+◌, ◌<◌, Bool, true, false, cond, List, [], ◌∷◌, ◌++◌, length, take, map, filter, refl, sym, ap, ◌∙◌}
 use Rattle.std.proofs.lemmas.Bool.{cond_both, cond-true, cond-false}
 use Rattle.std.proofs.lemmas.List.{map-append}
 use Rattle.std.proofs.lemmas.List.Elements.{filter-append}
+use Rattle.bx_lists.proofs.Tests.{either}
 use Rattle.bx_advice.specs.declared.config.Config.{Config}
 use Rattle.bx_entry.specs.Listing.{Listed}
 use Rattle.bx_entry.specs.declared.entry.Entry.{Entry}
-use Rattle.bx_entry.specs.declared.entry.Kind.{Kind}
-use Rattle.bx_entry.specs.declared.entry.Kind.TheVariants.{Opened, Connect, Subscribe, Unsubscribe, Publish, Disconnect, Refused, Tick}
+use Rattle.bx_entry.specs.declared.entry.EntryKind.{EntryKind}
+use Rattle.bx_entry.specs.declared.entry.EntryKind.TheVariants.{Opened, Connect, Subscribe, Unsubscribe, Publish, Disconnect, Refused, Tick}
 use Rattle.bx_entry.specs.Registry.{Registry, Registered, judge, registry, entries_of}
 use Rattle.bx_entry.specs.Sessions.{Session, Stage, Unopened, Live, Closed, is_live, stage_after, step, unopened, session}
-use Rattle.bx_laws.specs.Readings.{opens_by, closes_by, EachSession}
+use Rattle.bx_theory.specs.Readings.{opens_by, closes_by, EachSession}
 use Rattle.bx_entry.specs.Keeping.{Kept, kept, kept_step, StepsAlike}
 use Rattle.bx_shard.specs.Shards.{Setup, stands_in, shard_at}
 use Rattle.bx_shard.specs.Steps.{opening_by, ShardsStep, stepped}
-use Rattle.bx_laws.proofs.Moves.{either}
-use Rattle.bx_laws.proofs.Stages.{Next, step_by_next}
-use Rattle.bx_laws.proofs.Dues.{numbered_below}
-use Rattle.bx_laws.proofs.Lives.{numbered}
-use Rattle.bx_laws.proofs.Kept.{kept_steps}
+use Rattle.bx_theory.proofs.Stages.{Next, step_by_next}
+use Rattle.bx_theory.proofs.Dues.{numbered_below}
+use Rattle.bx_theory.proofs.Lives.{numbered}
+use Rattle.bx_theory.proofs.Kept.{kept_steps}
 use Rattle.bx_shard.proofs.Elements.{numbers, opened_numbers, Adds, next_is, session_next, all_fresh, opens_above, Met, met}
+use Rattle.bx_theory.proofs.Closings.{run_number}
+use Rattle.bx_shard.proofs.Finding.{steps}
 
 -- ---- sessions by their numbers
 
@@ -64,10 +66,8 @@ held_append config es ns ms =
     ap (λ (ss : List Session). map kept (filter live ss)) (map-append F ns ms) ∙ ap (map kept) (filter-append live (map F ns) (map F ms)) ∙ map-append kept (filter live (map F ns)) (filter live (map F ms))
 
 -- a step of each
-abbrev each_step : Config → Entry → List Kept → List Kept
-each_step config e ks = filter (λ (k : Kept). is_live k.stage) (map (λ (k : Kept). kept_step config k e) ks)
 
-steps_append : (config : Config) (e : Entry) (ks ls : List Kept) → each_step config e (ks ++ ls) ≡ each_step config e ks ++ each_step config e ls
+steps_append : (config : Config) (e : Entry) (ks ls : List Kept) → steps config e (ks ++ ls) ≡ steps config e ks ++ steps config e ls
 steps_append config e ks ls =
     let F : Kept → Kept = λ k. kept_step config k e in
     let live : Kept → Bool = λ k. is_live k.stage in
@@ -87,12 +87,12 @@ dead_step config s e o h =
     ap is_live (n.stage ∙ cond-false (opens_by s.number e.kind) _ (cond (closes_by s.number e.kind) (stage_after s.stage) s.stage) o) ∙ dead_next s.stage (closes_by s.number e.kind) h
 
 one_step : (config : Config) (s : Session) (e : Entry) (ks : List Kept) → StepsAlike config s e → (is_live s.stage ≡ false → is_live (step config s e).stage ≡ false) →
-    one_kept (step config s e) (each_step config e ks) ≡ each_step config e (one_kept s ks)
+    one_kept (step config s e) (steps config e ks) ≡ steps config e (one_kept s ks)
 one_step config s e ks a dead =
     let u : Session = step config s e in
-    either (is_live s.stage) (one_kept (step config s e) (each_step config e ks) ≡ each_step config e (one_kept s ks))
-    (λ h. ap (λ (k : Kept). cond (is_live k.stage) (k ∷ each_step config e ks) (each_step config e ks)) a.state ∙ sym (ap (each_step config e) (cond-true (is_live s.stage) (kept s ∷ ks) ks h)))
-    (λ h. cond-false (is_live u.stage) (kept u ∷ each_step config e ks) (each_step config e ks) (dead h) ∙ sym (ap (each_step config e) (cond-false (is_live s.stage) (kept s ∷ ks) ks h)))
+    either (is_live s.stage) (one_kept (step config s e) (steps config e ks) ≡ steps config e (one_kept s ks))
+    (λ h. ap (λ (k : Kept). cond (is_live k.stage) (k ∷ steps config e ks) (steps config e ks)) a.state ∙ sym (ap (steps config e) (cond-true (is_live s.stage) (kept s ∷ ks) ks h)))
+    (λ h. cond-false (is_live u.stage) (kept u ∷ steps config e ks) (steps config e ks) (dead h) ∙ sym (ap (steps config e) (cond-false (is_live s.stage) (kept s ∷ ks) ks h)))
 
 -- ---- one element, in a shard
 
@@ -114,12 +114,8 @@ numbers_below setup shard xs =
     each_number_filter (λ n. n < 1 + length r.sessions) (λ n. stands_in setup shard n) (numbers r.sessions)
     (each_number_of (λ n. n < 1 + length r.sessions) r.sessions (numbered_below 1 r.sessions (numbered setup.config xs)))
 
-pub run_number : (config : Config) (s : Session) (es : List Entry) → (fold (step config) s es).number ≡ s.number
-run_number config s [] = refl
-run_number config s (e ∷ es) = run_number config (step config s e) es ∙ (step_by_next config e.place e.moment s e.kind).number
-
 held_step : (config : Config) (ys : List Listed) (x : Listed) (ns : List ℕ) → 0 < config.limits.batch → EachNumber (λ n. n < 1 + length (registry config ys).sessions) ns → (a : Adds config (registry config ys) (judge config (registry config ys) x)) →
-    held_by config (entries_of (registry config (ys ++ x ∷ []))) ns ≡ each_step config a.found.entry (held_by config (entries_of (registry config ys)) ns)
+    held_by config (entries_of (registry config (ys ++ x ∷ []))) ns ≡ steps config a.found.entry (held_by config (entries_of (registry config ys)) ns)
 held_step config ys x [] room d a = refl
 held_step config ys x (n ∷ ns) room d a =
     let es : List Entry = entries_of (registry config ys) in
@@ -131,11 +127,11 @@ held_step config ys x (n ∷ ns) room d a =
     ∙ ap (λ (u : Session). one_kept u (held_by config after ns)) (session_next config n ys x a)
     ∙ ap (one_kept (step config s e)) (held_step config ys x ns room d.1 a)
     ∙ one_step config s e (held_by config es ns) (kept_steps config s e) (λ h. dead_step config s e own h)
-    ∙ sym (ap (each_step config e) (held_cons config es n ns))
+    ∙ sym (ap (steps config e) (held_cons config es n ns))
 
 -- the session that the entry opens
-opening_step : (setup : Setup) (shard : ℕ) (ys : List Listed) (x : Listed) (k : Kind) → 0 < setup.config.limits.batch → (a : Adds setup.config (registry setup.config ys) (judge setup.config (registry setup.config ys) x)) → a.found.entry.kind ≡ k →
-    held_by setup.config (entries_of (registry setup.config (ys ++ x ∷ []))) (filter (λ (n : ℕ). stands_in setup shard n) (opened_numbers k)) ≡ each_step setup.config a.found.entry (opening_by setup shard k)
+opening_step : (setup : Setup) (shard : ℕ) (ys : List Listed) (x : Listed) (k : EntryKind) → 0 < setup.config.limits.batch → (a : Adds setup.config (registry setup.config ys) (judge setup.config (registry setup.config ys) x)) → a.found.entry.kind ≡ k →
+    held_by setup.config (entries_of (registry setup.config (ys ++ x ∷ []))) (filter (λ (n : ℕ). stands_in setup shard n) (opened_numbers k)) ≡ steps setup.config a.found.entry (opening_by setup shard k)
 opening_step setup shard ys x (Opened n ack) room a h =
     let config : Config = setup.config in
     let e : Entry = a.found.entry in
@@ -145,7 +141,7 @@ opening_step setup shard ys x (Opened n ack) room a h =
     let past : length (registry setup.config ys).sessions < n = opens_above setup.config (registry setup.config ys) (judge setup.config (registry setup.config ys) x) a n ack h in
     let begin : session setup.config n (entries_of (registry setup.config ys)) ≡ unopened n = all_fresh setup.config ys n past in
     let one : session setup.config n (entries_of (registry setup.config (ys ++ x ∷ []))) ≡ step setup.config (unopened n) a.found.entry = session_next setup.config n ys x a ∙ ap (λ (s : Session). step setup.config s a.found.entry) begin in
-    (elim (stands_in setup shard n) as (λ b. held_by setup.config (entries_of (registry setup.config (ys ++ x ∷ []))) (cond b (n ∷ []) []) ≡ each_step setup.config a.found.entry (cond b (kept (unopened n) ∷ []) [])) [
+    (elim (stands_in setup shard n) as (λ b. held_by setup.config (entries_of (registry setup.config (ys ++ x ∷ []))) (cond b (n ∷ []) []) ≡ steps setup.config a.found.entry (cond b (kept (unopened n) ∷ []) [])) [
       | true ↦ held_cons config after n [] ∙ ap (λ (s : Session). one_kept s none) one
           ∙ ap (λ (k : Kept). cond (is_live k.stage) (k ∷ none) none) (kept_steps setup.config (unopened n) a.found.entry).state
       | false ↦ refl
@@ -159,7 +155,7 @@ opening_step setup shard ys x Refused room a h = refl
 opening_step setup shard ys x (Tick ns) room a h = refl
 
 shard_next : (setup : Setup) (shard : ℕ) (ys : List Listed) (x : Listed) → 0 < setup.config.limits.batch → (a : Adds setup.config (registry setup.config ys) (judge setup.config (registry setup.config ys) x)) →
-    held_over setup shard (ys ++ x ∷ []) ≡ each_step setup.config a.found.entry (held_over setup shard ys ++ opening_by setup shard a.found.entry.kind)
+    held_over setup shard (ys ++ x ∷ []) ≡ steps setup.config a.found.entry (held_over setup shard ys ++ opening_by setup shard a.found.entry.kind)
 shard_next setup shard ys x room a =
     let config : Config = setup.config in
     let r : Registry = registry setup.config ys in
@@ -173,7 +169,7 @@ shard_next setup shard ys x room a =
     ∙ ap (held_by config after) (filter-append here ns ms)
     ∙ held_append config after (filter here ns) (filter here ms)
     ∙ ap (λ (ks : List Kept). ks ++ held_by config after (filter here ms)) (held_step config ys x (filter here ns) room (numbers_below setup shard ys) a)
-    ∙ ap (λ (ks : List Kept). each_step config e (held_by config (entries_of r) (filter here ns)) ++ ks) (opening_step setup shard ys x e.kind room a refl)
+    ∙ ap (λ (ks : List Kept). steps config e (held_by config (entries_of r) (filter here ns)) ++ ks) (opening_step setup shard ys x e.kind room a refl)
     ∙ sym (steps_append config e (held_by config (entries_of r) (filter here ns)) (opening_by setup shard e.kind))
 
 -- ---- the law
@@ -184,5 +180,5 @@ shards_step setup list taken shard n e room there =
     held_at setup list taken shard (n + 1)
     ∙ ap (held_over setup shard) m.next
     ∙ shard_next setup shard (take n list) m.element room m.adds
-    ∙ ap (λ (x : Entry). each_step setup.config x (held_over setup shard (take n list) ++ opening_by setup shard x.kind)) m.same
+    ∙ ap (λ (x : Entry). steps setup.config x (held_over setup shard (take n list) ++ opening_by setup shard x.kind)) m.same
     ∙ ap (stepped setup shard e) (sym (held_at setup list taken shard n))

@@ -7,9 +7,9 @@ use Rattle.std.proofs.lemmas.Map.Views.{any-filter_same}
 use Rattle.std.specs.List.{list_any}
 use Rattle.std.specs.Map.{keys_of}
 use Rattle.std.specs.Option.{IsSome}
+use Rattle.bx_lists.proofs.Tests.{either}
 use Rattle.bx_entry.specs.Answers.{answer_of}
 use Rattle.bx_entry.specs.Sessions.{Filed, Session}
-use Rattle.bx_laws.proofs.Moves.{either}
 use Rattle.bx_connects.specs.declared.connects.ConnectState.{ConnectState}
 use Rattle.bx_connects.specs.declared.connects.ConnectState.TheVariants as states
 use Rattle.bx_connects.specs.declared.connects.FiledAnswer.{FiledAnswer}

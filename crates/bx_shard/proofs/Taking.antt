@@ -4,14 +4,14 @@ use Rattle.std.proofs.lemmas.Bool.{both_ways, cond-true, cond-false, or_right}
 use Rattle.std.proofs.lemmas.List.{take-append-drop}
 use Rattle.std.proofs.lemmas.List.Folds.{find-append}
 use Rattle.std.specs.Option.{IsSome, option_or}
+use Rattle.bx_lists.proofs.Tests.{either}
 use Rattle.bx_advice.specs.declared.config.Config.{Config}
 use Rattle.bx_entry.specs.declared.entry.Entry.{Entry}
 use Rattle.bx_entry.specs.Listing.{Listed}
 use Rattle.bx_entry.specs.Answers.{answer_of}
 use Rattle.bx_entry.specs.Registry.{Judged, PlaceSlot, Registered, Waiting, entries_of, registry}
 use Rattle.bx_entry.specs.Sessions.{Filed, Session, session}
-use Rattle.bx_laws.proofs.Lists.{find_each, find_true, judged_more}
-use Rattle.bx_laws.proofs.Moves.{either}
+use Rattle.bx_theory.proofs.Lists.{find_each, find_true, judged_more}
 use Rattle.bx_connects.specs.declared.connects.ConnectState.{ConnectState}
 use Rattle.bx_connects.specs.declared.connects.ConnectState.TheVariants as states
 use Rattle.bx_connects.specs.Connects.{filed_answer, session_at, taken_from}
@@ -23,7 +23,7 @@ use Rattle.bx_shard.proofs.Waits.{WaitsAt, answered_waits}
 
 -- ---- which were taken
 
-taken_own : (taken : List ℕ) (place : ℕ) → is_taken (taken ++ place ∷ []) place ≡ true
+pub taken_own : (taken : List ℕ) (place : ℕ) → is_taken (taken ++ place ∷ []) place ≡ true
 taken_own [] place = ap (λ (b : Bool). b || false) (eq-eqb place place refl)
 taken_own (t ∷ ts) place = or_right (t == place) (is_taken (ts ++ place ∷ []) place) (taken_own ts place)
 

@@ -3,7 +3,7 @@ use Rattle.std.proofs.Common.{Contains, ◌≡◌, ◌≢◌, ◌⊎◌, inl, in
 use Rattle.std.specs.Option.{option_map_or}
 use Rattle.std.proofs.lemmas.Bool.{cond_both, eqb-true, eq-eqb, ne_eqb, ltb-false, le-leb, lt-leb}
 use Rattle.bx_advice.specs.declared.config.Config.{Config}
-use Rattle.bx_advice.specs.declared.advice.Case.TheVariants.{Connected}
+use Rattle.bx_advice.specs.declared.advice.Outcome.TheVariants.{Connected}
 use Rattle.bx_entry.specs.Keeping.{Kept, after, kept, resumed}
 use Rattle.bx_entry.specs.Sessions.{Pending, Session, ends_by, expired, expired_from, released, released_from, unheld}
 use Rattle.bx_session.specs.declared.answered.Answered.{Answered}

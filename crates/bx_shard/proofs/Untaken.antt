@@ -1,9 +1,9 @@
 -- What is found among the answers that weren't taken.
 use Rattle.std.proofs.Common.{◌≡◌, ℕ, Bool, false, not, Some, List, [], ◌∷◌, filter, find, ◌==◌, refl, sym, ap, ◌∙◌, eqb-true, true}
 use Rattle.std.proofs.lemmas.Bool.{cond-true, cond-false, both_ways, cond_both}
+use Rattle.bx_lists.proofs.Tests.{either}
 use Rattle.bx_entry.specs.Sessions.{Filed}
 use Rattle.bx_shard.specs.Shards.{is_taken}
-use Rattle.bx_laws.proofs.Moves.{either}
 
 -- what is found among those that weren't taken is found among all
 pub found_kept : (taken : List ℕ) (place : ℕ) (fs : List Filed) (f : Filed) → find (λ (g : Filed). g.connect == place) (filter (λ (g : Filed). not (is_taken taken g.connect)) fs) ≡ Some f →

@@ -3,23 +3,23 @@ use Rattle.std.proofs.Common.{◌≡◌, ℕ, zero, suc, max, Option, Some, None
 use Rattle.std.proofs.lemmas.List.{length_push}
 use Rattle.bx_advice.specs.declared.config.Config.{Config}
 use Rattle.bx_advice.specs.declared.error.Error.{Error}
-use Rattle.bx_message.specs.declared.column.Column.{Column}
+use Rattle.bx_message.specs.declared.message_kind.MessageKind.{MessageKind}
 use Rattle.bx_entry.specs.Listing.{Listed, Post, Posted}
-use Rattle.bx_message.specs.Columns.{column_of}
+use Rattle.bx_message.specs.MessageKinds.{message_kind_of}
 use Rattle.bx_entry.specs.Listing as messages
 use Rattle.bx_entry.specs.declared.entry.Entry.{Entry}
-use Rattle.bx_entry.specs.declared.entry.Kind.{Kind}
-use Rattle.bx_entry.specs.declared.entry.Kind.TheVariants.{Opened, Connect, Subscribe, Unsubscribe, Publish, Disconnect, Refused}
-use Rattle.bx_entry.specs.declared.entry.Kind.TheVariants as entries
+use Rattle.bx_entry.specs.declared.entry.EntryKind.{EntryKind}
+use Rattle.bx_entry.specs.declared.entry.EntryKind.TheVariants.{Opened, Connect, Subscribe, Unsubscribe, Publish, Disconnect, Refused}
+use Rattle.bx_entry.specs.declared.entry.EntryKind.TheVariants as entries
 use Rattle.bx_entry.specs.Registry.{Registry, Registered, Judged, PlaceSlot, Waiting, judge, judged_by, kind_for, slot_for, named_by, refusal, hold_of, registry, empty_registry, entries_of}
 use Rattle.bx_entry.specs.Sessions.{session, unopened}
 use Rattle.bx_shard.specs.States.{connecting}
-use Rattle.bx_laws.specs.Laws.{PlacesFrom}
-use Rattle.bx_laws.proofs.Runs.{EachEntry}
-use Rattle.bx_laws.proofs.Places.{Only, Allowed, run_only, only_unopened}
-use Rattle.bx_laws.proofs.Lists.{entries_in_order}
+use Rattle.bx_theory.specs.Laws.{PlacesFrom}
+use Rattle.bx_theory.proofs.Runs.{EachEntry}
+use Rattle.bx_theory.proofs.Places.{Only, Allowed, run_only, only_unopened}
+use Rattle.bx_theory.proofs.Lists.{entries_in_order}
 
-abbrev WaitsBy : PlaceSlot → Kind → Type 0
+abbrev WaitsBy : PlaceSlot → EntryKind → Type 0
 WaitsBy slot (Opened n ack) = Unit {0}
 WaitsBy slot (Connect n client id acked hold) = slot ≡ Waiting n
 WaitsBy slot (Subscribe n ps) = Unit {0}
@@ -37,22 +37,22 @@ waits_push : (js : List Judged) (j : Judged) → EachWaits js → WaitsBy j.slot
 waits_push [] j d h = (h, tt)
 waits_push (i ∷ js) j d h = (d.0, waits_push js j d.1 h)
 
-served_waits : (config : Config) (c : Column) (p : Posted) (s : Registered) (hold : ℕ) → WaitsBy (slot_for config c p s) (kind_for c p s hold)
-served_waits config Column.Handshake p s hold = tt
-served_waits config Column.Connect p s hold = refl
-served_waits config Column.Subscribe p s hold = tt
-served_waits config Column.Unsubscribe p s hold = tt
-served_waits config Column.Disconnect p s hold = tt
-served_waits config Column.Publish p s hold = tt
-served_waits config Column.UnknownMeta p s hold = tt
+served_waits : (config : Config) (c : MessageKind) (p : Posted) (s : Registered) (hold : ℕ) → WaitsBy (slot_for config c p s) (kind_for c p s hold)
+served_waits config MessageKind.Handshake p s hold = tt
+served_waits config MessageKind.Connect p s hold = refl
+served_waits config MessageKind.Subscribe p s hold = tt
+served_waits config MessageKind.Unsubscribe p s hold = tt
+served_waits config MessageKind.Disconnect p s hold = tt
+served_waits config MessageKind.Publish p s hold = tt
+served_waits config MessageKind.UnknownMeta p s hold = tt
 
 judged_by_waits : (config : Config) (r : Registry) (moment : ℕ) (p : Posted) (sender : Option Registered) (error : Option Error) → EachWaits r.judged → EachWaits (judged_by config r moment p sender error).judged
 judged_by_waits config r moment p sender (Some error) d = waits_push r.judged _ d tt
 judged_by_waits config r moment p None None d = waits_push r.judged _ d tt
-judged_by_waits config r moment p (Some s) None d = waits_push r.judged _ d (served_waits config (column_of p.message.channel) p s (hold_of config p))
+judged_by_waits config r moment p (Some s) None d = waits_push r.judged _ d (served_waits config (message_kind_of p.message.channel) p s (hold_of config p))
 
 judge_waits : (config : Config) (r : Registry) (x : Listed) → EachWaits r.judged → EachWaits (judge config r x).judged
-judge_waits config r (Post p) d = judged_by_waits config r (max r.clock p.moment) p (named_by r.sessions (column_of p.message.channel) p.message) (refusal config r.sessions p) d
+judge_waits config r (Post p) d = judged_by_waits config r (max r.clock p.moment) p (named_by r.sessions (message_kind_of p.message.channel) p.message) (refusal config r.sessions p) d
 judge_waits config r (messages.Tick moment) d = waits_push r.judged _ d tt
 
 run_waits : (config : Config) (r : Registry) (xs : List Listed) → EachWaits r.judged → EachWaits (fold (judge config) r xs).judged
@@ -63,7 +63,7 @@ run_waits config r (x ∷ xs) d = run_waits config (judge config r x) xs (judge_
 abbrev pub WaitsAt : List Judged → ℕ → ℕ → Type 0
 WaitsAt js number place = option_map (λ (j : Judged). j.slot) (slice_get js place) ≡ Some (Waiting number)
 
-allowed_by : (P : ℕ → Type 0) (number place : ℕ) (slot : PlaceSlot) (k : Kind) → WaitsBy slot k → (slot ≡ Waiting number → P place) → Allowed P number place k
+allowed_by : (P : ℕ → Type 0) (number place : ℕ) (slot : PlaceSlot) (k : EntryKind) → WaitsBy slot k → (slot ≡ Waiting number → P place) → Allowed P number place k
 allowed_by P number place slot (Opened n ack) w h = tt
 allowed_by P number place slot (Connect n client id acked hold) w h = λ e. h (w ∙ ap Waiting (eqb-true n number e))
 allowed_by P number place slot (Subscribe n ps) w h = tt
@@ -102,7 +102,7 @@ answered_waits config number xs =
 
 -- ---- the slot of a connect
 
-slot_waits : (slot : PlaceSlot) (k : Kind) (m : ℕ) → WaitsBy slot k → connecting k ≡ Some m → slot ≡ Waiting m
+slot_waits : (slot : PlaceSlot) (k : EntryKind) (m : ℕ) → WaitsBy slot k → connecting k ≡ Some m → slot ≡ Waiting m
 slot_waits slot (Opened n ack) m w h = cc
 slot_waits slot (Connect n client id acked hold) m w h = let same : n ≡ m = cc in w ∙ ap Waiting same
 slot_waits slot (Subscribe n ps) m w h = cc

@@ -4,7 +4,7 @@ use Rattle.std.specs.List.{All}
 use Rattle.std.specs.List.Sorted.{IsStrictlyIncreasing}
 use Rattle.bx_entry.specs.Listing.{Listed}
 use Rattle.bx_entry.specs.declared.entry.Entry.{Entry}
-use Rattle.bx_entry.specs.declared.entry.Kind.TheVariants.{Opened}
+use Rattle.bx_entry.specs.declared.entry.EntryKind.TheVariants.{Opened}
 use Rattle.bx_entry.specs.Registry.{entries}
 use Rattle.bx_entry.specs.Sessions.{Live}
 use Rattle.bx_entry.specs.Keeping.{Kept}

@@ -1,10 +1,7 @@
-pub mod Dealing
 pub mod Effects
 pub mod Following
-pub mod Heirs
 pub mod Refining
 pub mod Holdings
-pub mod Making
 pub mod Props
 pub mod Publishing
 pub mod Seen

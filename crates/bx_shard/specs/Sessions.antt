@@ -1,5 +1,5 @@
 -- The sessions of a shard, pointwise: by the number of a session, and by the place of a connect.
-use Rattle.std.specs.Prelude.{ℕ, ◌≡◌, ◌<◌, nat_eq, true, List, [], if◌then◌else◌, Option, Some, None, option_map, IfSome, Bool, nat_le}
+use Rattle.std.specs.Prelude.{ℕ, ◌≡◌, ◌<◌, ◌≤◌, nat_eq, true, List, [], if◌then◌else◌, Option, Some, None, option_map, IfSome, Bool, nat_le}
 use Rattle.std.specs.Map.{lookup}
 use Rattle.bx_names.specs.Globs.{Glob}
 use Rattle.bx_tree.specs.Patterns.{patterns_of}
@@ -57,6 +57,10 @@ abbrev pub holds_until : Option Kept → ℕ → Option (Option ℕ)
 holds_until None place = None
 holds_until (Some k) place = ends_for k.held place
 
+-- a session that isn't here has no pattern
+abbrev pub AreClean : Sessions → Type 0
+AreClean s = (n : ℕ) → kept_in s n ≡ None → patterns_in s n ≡ []
+
 -- so it is with every session
 abbrev pub AreCounted : Sessions → Type 0
 AreCounted s = (n : ℕ) → IsCounted n (kept_in s n) (patterns_in s n)
@@ -74,3 +78,10 @@ pub record AreTied (s : Sessions) : Type 0 where
 abbrev pub has_formed_at_most : ℕ → Option Kept → Bool
 has_formed_at_most count None = true
 has_formed_at_most count (Some k) = nat_le k.num count
+
+-- what a shard that has applied so many entries says of its sessions
+pub record Fits (place : ℕ) (s : Sessions) : Type 0 where
+  pub counted : AreCounted s
+  pub held : AreHeld s
+  pub batches : (n : ℕ) → has_formed_at_most place (kept_in s n) ≡ true
+  pub fresh : (p : ℕ) → place ≤ p → connect_at s.connects p ≡ None

@@ -4,8 +4,8 @@ use Rattle.std.specs.List.{list_any}
 use Rattle.std.specs.Option.{option_and_then, option_or}
 use Rattle.bx_advice.specs.declared.config.Config.{Config}
 use Rattle.bx_entry.specs.declared.entry.Entry.{Entry}
-use Rattle.bx_entry.specs.declared.entry.Kind.{Kind}
-use Rattle.bx_entry.specs.declared.entry.Kind.TheVariants.{Opened, Connect, Subscribe, Unsubscribe, Publish, Disconnect, Refused, Tick}
+use Rattle.bx_entry.specs.declared.entry.EntryKind.{EntryKind}
+use Rattle.bx_entry.specs.declared.entry.EntryKind.TheVariants.{Opened, Connect, Subscribe, Unsubscribe, Publish, Disconnect, Refused, Tick}
 use Rattle.bx_entry.specs.Keeping.{Kept, kept, kept_step}
 use Rattle.bx_entry.specs.Sessions.{is_live, step, unopened}
 use Rattle.bx_session.specs.declared.answered.Answered.{Answered}
@@ -38,7 +38,7 @@ session_in s number = kept_in s.sessions number
 -- ---- what an entry does to a session
 
 -- the session that an entry of this kind opens, if it stands here, before it is opened
-abbrev pub opening : Bool → Kind → ℕ → Option Kept
+abbrev pub opening : Bool → EntryKind → ℕ → Option Kept
 opening stands (Opened m ack) n = if (m == n) && stands then Some (kept (unopened m)) else None
 opening stands (Connect m client id acked hold) n = None
 opening stands (Subscribe m patterns) n = None
@@ -66,7 +66,7 @@ let_go numbers (Some (Filed session place answer)) = Some (Filed session place a
 
 -- The connects with the one that the entry is, where its session is here; it is held at first. A session that a tick closes holds none (in a list
 -- it never does, since a session is due no sooner than its hold ends).
-abbrev pub begun : (ℕ → Option Kept) → (ℕ → Option ConnectState) → Entry → Kind → ℕ → Option ConnectState
+abbrev pub begun : (ℕ → Option Kept) → (ℕ → Option ConnectState) → Entry → EntryKind → ℕ → Option ConnectState
 begun sessions connects e (Opened m ack) p = connects p
 begun sessions connects e (Connect m client id acked hold) p = if is_some (sessions m) then holding m (pending e.place client id e.moment hold) connects p else connects p
 begun sessions connects e (Subscribe m patterns) p = connects p
@@ -86,7 +86,7 @@ pub record Files (place : ℕ) (Given : ℕ → Answered → Type 0) (old new : 
   pub kept : (p : ℕ) → ((n : ℕ) (a : Answered) → Given n a → a.place ≢ p) → new p ≡ old p
 
 -- the session of which an entry of this kind is a connect, if it is one
-abbrev pub connecting : Kind → Option ℕ
+abbrev pub connecting : EntryKind → Option ℕ
 connecting (Opened m ack) = None
 connecting (Connect m client id acked hold) = Some m
 connecting (Subscribe m patterns) = None
@@ -107,7 +107,7 @@ abbrev pub KeepsSessions : (ℕ → Option Kept) → Entry → (ℕ → Option C
 KeepsSessions sessions e old new = (p m : ℕ) → session_at (new p) ≡ Some m → (session_at (old p) ≡ Some m) ⊎ Connects sessions e p m
 
 -- whether an entry of this kind opens a session that stands in the shard
-abbrev pub opens_in : Setup → ℕ → Kind → Bool
+abbrev pub opens_in : Setup → ℕ → EntryKind → Bool
 opens_in setup index (Opened m ack) = stands_in setup index m
 opens_in setup index (Connect m client id acked hold) = false
 opens_in setup index (Subscribe m patterns) = false
@@ -175,7 +175,7 @@ pub record WasShut (old new : State) : Type 0 where
   pub connects : (p : ℕ) → connect_in new p ≡ option_map unwatched (connect_in old p)
 
 -- whether an entry of this kind is applied without taking memory
-abbrev pub takes_no_memory : Kind → Bool
+abbrev pub takes_no_memory : EntryKind → Bool
 takes_no_memory (Opened m ack) = false
 takes_no_memory (Connect m client id acked hold) = false
 takes_no_memory (Subscribe m patterns) = false

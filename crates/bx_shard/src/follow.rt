@@ -6,7 +6,7 @@ ghost use Rattle.bx_shard.specs.Sessions.{AreCountable, AreCounted, AreHeld, kep
 ghost use Rattle.bx_shard.specs.States.{takes_no_memory};
 
 use crate::sessions::Sessions;
-use bx_entry::{Entry, Kind};
+use bx_entry::{Entry, EntryKind};
 use bx_session::PendingConnect;
 use std::alloc::{AllocError, Global};
 
@@ -32,12 +32,12 @@ impl Sessions {
         ensures config { self.new.config ≡ self.old.config }
     {
         match &entry.kind {
-            Kind::Opened { session, ack } => {
+            EntryKind::Opened { session, ack } => {
                 if stands && !self.has(*session) {
                     self.open(alloc, *session, *ack)?;
                 }
             }
-            Kind::Connect {
+            EntryKind::Connect {
                 session,
                 client,
                 id,
@@ -51,16 +51,16 @@ impl Sessions {
                     self.connect(alloc, *session, connect, *acked)?;
                 }
             }
-            Kind::Subscribe { session, patterns } => {
+            EntryKind::Subscribe { session, patterns } => {
                 self.subscribe(alloc, *session, patterns.as_slice())?;
             }
-            Kind::Unsubscribe { session, patterns } => {
+            EntryKind::Unsubscribe { session, patterns } => {
                 self.unsubscribe(*session, patterns.as_slice());
             }
-            Kind::Publish(event) => self.publish(alloc, entry.place, event)?,
-            Kind::Disconnect { session } => self.disconnect(entry.place, *session),
-            Kind::Refused => {}
-            Kind::Tick(numbers) => {
+            EntryKind::Publish(event) => self.publish(alloc, entry.place, event)?,
+            EntryKind::Disconnect { session } => self.disconnect(entry.place, *session),
+            EntryKind::Refused => {}
+            EntryKind::Tick(numbers) => {
                 self.end_holds(entry.place, entry.moment);
                 self.close_all(numbers.as_slice());
             }

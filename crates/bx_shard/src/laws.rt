@@ -1,5 +1,4 @@
 //! Laws of what a shard holds, for every configuration, every placing and every list.
-ghost use Rattle.bx_shard.specs.Dealing.{HoldersAreApart, RefinesDealt};
 ghost use Rattle.bx_shard.specs.Refining.{FiledIsGiven, RefinesAtFirst, RefinesBeside, RefinesBesideSwept, RefinesLonger, RefinesOnwards, RefinesShut, RefinesStill, RefinesSwept, RefinesTaken, RefinesWatched};
 ghost use Rattle.bx_shard.specs.Holdings.{SessionsReached, NumbersAscend, OpenedIsFresh};
 ghost use Rattle.bx_shard.specs.Steps.{ShardsFile, ShardsStep};
@@ -77,16 +76,6 @@ pub fn refines_swept()
 /// A shard holds the same after a sweep dropped answers from another.
 pub fn refines_beside_swept()
     ensures { RefinesBesideSwept }
-{}
-
-/// Shards that hold what the definition's shards hold are alike, and no session or connect is in two of them.
-pub fn holders_are_apart()
-    ensures { HoldersAreApart }
-{}
-
-/// Shards that were dealt anew hold what the definition's shards hold with the other number of shards and the other placing.
-pub fn refines_dealt()
-    ensures { RefinesDealt }
 {}
 
 /// What a shard has filed for a connect is what one thread gives it over the entries that the shard has applied.

@@ -1,14 +1,8 @@
 //! Many sessions, entry by entry: their patterns, their held connects and the answers that are filed for them.
 #![tactic(auto)]
 
-mod deal_anew;
-mod dealing;
 mod follow;
-mod heirs;
 mod laws;
-mod lending;
-mod making;
-mod moving;
 mod patterns;
 mod publish;
 mod sessions;
@@ -16,11 +10,10 @@ mod shard;
 mod tick;
 
 pub use bx_connects::{Filing, Watch};
-pub use deal_anew::deal;
 pub use laws::{
-    filed_is_given, holders_are_apart, opened_is_fresh, refines_at_first, refines_beside,
-    refines_beside_swept, refines_dealt, refines_longer, refines_onwards, refines_shut,
-    refines_still, refines_swept, refines_taken, refines_watched, sessions_are_reached,
-    sessions_ascend, shards_file, shards_step,
+    filed_is_given, opened_is_fresh, refines_at_first, refines_beside, refines_beside_swept,
+    refines_longer, refines_onwards, refines_shut, refines_still, refines_swept, refines_taken,
+    refines_watched, sessions_are_reached, sessions_ascend, shards_file, shards_step,
 };
+pub use sessions::Sessions;
 pub use shard::Shard;

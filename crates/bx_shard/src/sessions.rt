@@ -1,30 +1,32 @@
 //! The sessions that stand in a shard.
-ghost use Rattle.std.specs.Prelude.{◌≡◌, ◌<◌, ◌-◌, ℕ, nat_eq, Some, None, [], ◌∷◌, length, option_map, is_some, if◌then◌else◌, OnOk, OnErr, IfSome, false, Option, not, ◌&&◌, ◌||◌};
+ghost use Rattle.std.specs.Prelude.{◌≡◌, ◌<◌, ◌-◌, ℕ, nat_eq, Some, None, [], ◌∷◌, length, option_map, is_some, if◌then◌else◌, OnOk, OnErr, IfSome, true, false, Option, not, ◌&&◌, ◌||◌};
 ghost use Rattle.std.specs.Map.{keys_of};
+ghost use Rattle.std.specs.Option.{option_or};
 ghost use Rattle.bx_tree.specs.Patterns.{patterns_of};
-ghost use Rattle.bx_advice.specs.declared.advice.Case.TheVariants.{Disconnected};
+ghost use Rattle.bx_advice.specs.declared.advice.Outcome.TheVariants.{Disconnected};
 ghost use Rattle.bx_entry.specs.Keeping.{Kept, after, kept};
 ghost use Rattle.bx_entry.specs.Sessions.{begun, connected, expired, released, unopened};
 ghost use Rattle.bx_session.specs.Views.{Countable};
 ghost use Rattle.bx_session.specs.declared.answered.Answered.{Answered};
 ghost use Rattle.futures.specs.declared.task.waker.Waker.{Waker};
 ghost use Rattle.bx_connects.specs.declared.connects.ConnectState.TheVariants.{Held};
-ghost use Rattle.bx_connects.specs.Connects.{connect_at, count_held};
-ghost use Rattle.bx_shard.specs.Sessions.{AreCounted, AreHeld, HasRoom, kept_in, patterns_in};
-ghost use Rattle.bx_shard.specs.Heirs.{AreClean};
+ghost use Rattle.bx_connects.specs.Connects.{connect_at, count_held, filed_as, held_by};
+ghost use Rattle.bx_shard.specs.Sessions.{AreClean, AreCounted, AreHeld, HasRoom, kept_in, patterns_in};
 ghost use Rattle.bx_shard.specs.Effects.{answers_by, connect_filing, filing_each, forgetting, held_in};
 
 use bx_advice::Config;
 use bx_connects::Connects;
 use bx_names::Pattern;
-use bx_session::{Connection, PendingConnect, Session};
+use bx_session::{Answered, Connection, PendingConnect, Session};
 use bx_tree::Tree;
 use indexmap::IndexMap;
 use std::alloc::{AllocError, Global};
 
 /// The sessions that stand in a shard, with their patterns and their connects.
+///
+/// Contracts see them by their numbers, and connects by their places.
 #[derive(Drop)]
-pub(crate) struct Sessions {
+pub struct Sessions {
     pub(crate) config: Config,
     pub(crate) by_number: IndexMap<u64, Session>,
     pub(crate) tree: Tree,
@@ -33,7 +35,7 @@ pub(crate) struct Sessions {
 
 impl Sessions {
     /// No session.
-    pub(crate) fn new(alloc: Global, config: Config) -> Sessions
+    pub fn new(alloc: Global, config: Config) -> Sessions
         ensures config { result.config ≡ config }
         ensures sessions { (n : ℕ) → kept_in result n ≡ None }
         ensures patterns { result.tree ≡ [] }
@@ -183,15 +185,37 @@ impl Sessions {
         self.connects.file_if(place, answered);
     }
 
+    /// The configuration.
+    pub fn config(&self) -> Config
+        ensures { result ≡ self.now.config }
+    {
+        self.config
+    }
+
+    /// The patterns of a session, in the order in which they came; none where it is not here.
+    pub fn patterns(&self, number: u64) -> &[Pattern]
+        ensures { result.now ≡ patterns_in self.now number }
+    {
+        self.tree.patterns(number)
+    }
+
+    /// The connects of these sessions.
+    pub fn connects(&self) -> &Connects
+        ensures { result.now ≡ self.now.connects }
+    {
+        &self.connects
+    }
+
     /// The numbers of the sessions that are here.
-    pub(crate) fn numbers(&self) -> &[u64]
+    pub fn numbers(&self) -> &[u64]
         ensures { result.now ≡ keys_of self.now.by_number.entries }
     {
         self.by_number.keys().as_slice()
     }
 
-    /// Makes room for a session and puts its patterns in force, unless one of this number is here.
-    pub(crate) fn lend(
+    /// Makes room for a session and puts its patterns in force, unless one of this number is here. A session in which nothing
+    /// came stands in that room until one settles there. Where memory is refused the room may be there, without patterns.
+    pub fn lend(
         &mut self,
         alloc: Global,
         number: u64,
@@ -202,6 +226,8 @@ impl Sessions {
         ensures patterns { OnOk result ((n : ℕ) → patterns_in self.new n
             ≡ (if nat_eq number n && not (is_some (kept_in self.old n)) then patterns.now else patterns_in self.old n)) }
         ensures clean { OnOk result (AreClean self.new) }
+        ensures kept { (n : ℕ) → is_some (kept_in self.old n) ≡ true → kept_in self.new n ≡ kept_in self.old n }
+        ensures err { OnErr result ((self.new.tree ≡ self.old.tree) × ((n : ℕ) → nat_eq number n ≡ false → kept_in self.new n ≡ kept_in self.old n)) }
         ensures others { (self.new.config ≡ self.old.config) × (self.new.connects ≡ self.old.connects) }
     {
         if self.has(number) {
@@ -211,8 +237,23 @@ impl Sessions {
         self.tree.copy(alloc, patterns, number)
     }
 
+    /// Makes room for a connect as if this session held it until then, unless one of this place is known.
+    pub fn lend_connect(
+        &mut self,
+        place: u64,
+        session: u64,
+        deadline: Option<u64>,
+    ) -> Result<(), AllocError>
+        ensures connects { OnOk result ((p : ℕ) → connect_at self.new.connects p
+            ≡ (if nat_eq place p then option_or (connect_at self.old.connects p) (held_by session deadline) else connect_at self.old.connects p)) }
+        ensures err { OnErr result ((p : ℕ) → connect_at self.new.connects p ≡ connect_at self.old.connects p) }
+        ensures others { (self.new.config ≡ self.old.config) × (self.new.by_number ≡ self.old.by_number) × (self.new.tree ≡ self.old.tree) }
+    {
+        self.connects.lend(place, session, deadline)
+    }
+
     /// Puts a session in the place that was made for one of this number.
-    pub(crate) fn settle(&mut self, number: u64, session: Session)
+    pub fn settle(&mut self, number: u64, session: Session)
         ensures sessions { (n : ℕ) → kept_in self.new n
             ≡ (if nat_eq number n then option_map (λ _. session.kept) (kept_in self.old number) else kept_in self.old n) }
         ensures others { (self.new.config ≡ self.old.config) × (self.new.tree ≡ self.old.tree) × (self.new.connects ≡ self.old.connects) }
@@ -220,5 +261,15 @@ impl Sessions {
         if let Some(lent) = self.by_number.get_mut(&number) {
             *lent = session;
         }
+    }
+
+    /// Files an answer that the entry at this place gave, under a connect that is known.
+    pub fn file(&mut self, place: u64, answered: Answered)
+        ensures connects { (p : ℕ) → connect_at self.new.connects p
+            ≡ (if nat_eq answered.place p then filed_as place answered.answer (connect_at self.old.connects p)
+            else connect_at self.old.connects p) }
+        ensures others { (self.new.config ≡ self.old.config) × (self.new.by_number ≡ self.old.by_number) × (self.new.tree ≡ self.old.tree) }
+    {
+        self.connects.file(place, answered);
     }
 }

@@ -2,14 +2,16 @@
 ghost use Rattle.std.specs.Prelude.{◌≡◌, ◌≤◌, ℕ, true, None};
 ghost use Rattle.bx_connects.specs.Connects.{connect_at};
 ghost use Rattle.bx_shard.specs.Props.{holds_props};
-ghost use Rattle.bx_shard.specs.Sessions.{AreCounted, AreHeld, has_formed_at_most, kept_in};
+ghost use Rattle.bx_shard.specs.Sessions.{AreCounted, AreHeld, Fits, has_formed_at_most, kept_in};
 
 use crate::sessions::Sessions;
 use bx_advice::Config;
-use bx_connects::{Filing, Watch};
-use bx_entry::{Entry, Kind, Placing, Ticket};
+use bx_connects::{Connects, Filing, Watch};
+use bx_entry::{Entry, EntryKind, Placing, Ticket};
 use bx_message::Answer;
+use bx_session::Session;
 use futures::task::Waker;
+use indexmap::IndexMap;
 use std::alloc::{AllocError, Global};
 use std::sync::Arc;
 
@@ -101,11 +103,11 @@ impl<P: Placing> Shard<P> {
     }
 
     // Whether an entry of this kind opens a session that stands in this shard.
-    fn opens_here(&self, kind: &Kind) -> bool
+    fn opens_here(&self, kind: &EntryKind) -> bool
         ensures { result ≡ opens_in (setup_in P.place_of self.now) self.now.index kind.now }
     {
         match kind {
-            Kind::Opened { session, .. } => {
+            EntryKind::Opened { session, .. } => {
                 self.placing.place(*session, self.shards) == self.index
             }
             _ => false,
@@ -186,5 +188,62 @@ impl<P: Placing> Shard<P> {
     {
         self.is_shut = true;
         self.sessions.connects.unwatch_all();
+    }
+    /// The shard of this index that has applied so many entries and has these sessions, which are such as one has then,
+    /// with their connects: among so many shards, by this placing.
+    pub fn resume(
+        placing: Arc<P>,
+        index: usize,
+        shards: usize,
+        place: u64,
+        is_shut: bool,
+        sessions: Sessions,
+    ) -> Shard<P>
+        requires some_shard { 1 ≤ shards }
+        requires shards_in_range { shards ≤ 64 }
+        requires fit { Fits place sessions }
+        ensures placing { result.placing ≡ placing }
+        ensures index { (result.index ≡ index) × (result.shards ≡ shards) }
+        ensures place { (result.place ≡ place) × (result.is_shut ≡ is_shut) }
+        ensures sessions { result.sessions ≡ sessions }
+    {
+        Shard {
+            placing,
+            index,
+            shards,
+            place,
+            is_shut,
+            sessions,
+        }
+    }
+
+    /// Its sessions, with their patterns and their connects.
+    pub fn sessions(&self) -> &Sessions
+        ensures { result.now ≡ self.now.sessions }
+    {
+        &self.sessions
+    }
+
+    /// Whether it was shut.
+    pub fn is_shut(&self) -> bool
+        ensures { result ≡ self.now.is_shut }
+    {
+        self.is_shut
+    }
+
+    /// All that another shard can take over from it: its sessions by their numbers, and its connects.
+    pub fn into_parts(self) -> (IndexMap<u64, Session>, Connects)
+    where
+        P: Drop,
+        ensures sessions { result.0 ≡ self.sessions.by_number }
+        ensures connects { result.1 ≡ self.sessions.connects }
+    {
+        let Shard { sessions, .. } = self;
+        let Sessions {
+            by_number,
+            connects,
+            ..
+        } = sessions;
+        (by_number, connects)
     }
 }

@@ -1,6 +1,6 @@
 //! One shard by what whoever waits for its answers sees: which wakers are woken and when, and which answers are there.
 use bx_advice::Config;
-use bx_entry::{ByRemainder, Entry, Kind, Ticket};
+use bx_entry::{ByRemainder, Entry, EntryKind, Ticket};
 use bx_message::{Event, RawJson, Sequence, SharedEvent, Text, event_text, reply_text};
 use bx_names::{ChannelName, Pattern};
 use bx_shard::{Shard, Watch};
@@ -53,16 +53,16 @@ const ANSWERS: [Deed; 3] = [
     Deed::Connect(1),
 ];
 
-fn subscribe(alloc: Global, session: u64, pattern: &str) -> Result<Kind, Fail> {
+fn subscribe(alloc: Global, session: u64, pattern: &str) -> Result<EntryKind, Fail> {
     let pattern = Pattern::read(alloc, pattern).map_err(|_| "no pattern")?;
     let mut patterns = Sequence::new(alloc);
     patterns.push(pattern)?;
-    Ok(Kind::Subscribe { session, patterns })
+    Ok(EntryKind::Subscribe { session, patterns })
 }
 
 // The client id is 32 zeros and the session's number in 16 hexadecimal digits.
-fn connect(alloc: Global, session: u64) -> Result<Kind, AllocError> {
-    Ok(Kind::Connect {
+fn connect(alloc: Global, session: u64) -> Result<EntryKind, AllocError> {
+    Ok(EntryKind::Connect {
         session,
         client: Text::from_string(format!(in alloc; "{session:048x}")?)?,
         id: None,
@@ -71,19 +71,19 @@ fn connect(alloc: Global, session: u64) -> Result<Kind, AllocError> {
     })
 }
 
-fn publish(alloc: Global, channel: &str) -> Result<Kind, Fail> {
+fn publish(alloc: Global, channel: &str) -> Result<EntryKind, Fail> {
     let event = Event {
         channel: Text::new(alloc, channel)?,
         payload: RawJson::new(alloc, "7")?,
         id: None,
     };
     let name = ChannelName::read(alloc, channel)?;
-    Ok(Kind::Publish(SharedEvent::new(alloc, event, name)?))
+    Ok(EntryKind::Publish(SharedEvent::new(alloc, event, name)?))
 }
 
-fn kind(alloc: Global, deed: Deed) -> Result<Kind, Fail> {
+fn kind(alloc: Global, deed: Deed) -> Result<EntryKind, Fail> {
     match deed {
-        Deed::Open(session) => Ok(Kind::Opened {
+        Deed::Open(session) => Ok(EntryKind::Opened {
             session,
             ack: false,
         }),

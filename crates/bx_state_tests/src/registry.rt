@@ -1,6 +1,6 @@
 //! Plans by what they say of entries and answers.
-use bx_advice::{Case, Config, Error, Limits};
-use bx_entry::Kind;
+use bx_advice::{Config, Error, Limits, Outcome};
+use bx_entry::EntryKind;
 use bx_message::{AckMember, Message, Sequence, Text, TextMember, reply_text};
 use bx_registry::{AdmitFault, Plan, Planned, Registry, TickPlan};
 use std::alloc::{AllocError, Global};
@@ -49,9 +49,9 @@ fn config(sessions: usize) -> Config {
 }
 
 // How the first message is answered; a connect that waits has no case.
-fn case_of(plan: &Plan) -> Option<Case> {
+fn case_of(plan: &Plan) -> Option<Outcome> {
     match plan.slots.as_slice().first() {
-        Some(Planned::Ready(reply)) => Some(reply.case),
+        Some(Planned::Ready(reply)) => Some(reply.outcome),
         _ => None,
     }
 }
@@ -65,13 +65,17 @@ fn first_reply(alloc: Global, plan: &Plan) -> Result<Vec<u8>, AllocError> {
 }
 
 // Plans and commits a handshake, and says how it is answered.
-fn open(alloc: Global, registry: &mut Registry, moment: u64) -> Result<Option<Case>, AdmitFault> {
+fn open(
+    alloc: Global,
+    registry: &mut Registry,
+    moment: u64,
+) -> Result<Option<Outcome>, AdmitFault> {
     let messages = [hello(alloc)?];
     let plan = registry.plan(alloc, moment, 0, messages.as_slice())?;
-    let case = case_of(&plan);
+    let outcome = case_of(&plan);
     let Plan { change, .. } = plan;
     registry.commit(change);
-    Ok(case)
+    Ok(outcome)
 }
 
 // Plans and commits a tick, and answers the numbers of the sessions that it closes.
@@ -79,7 +83,7 @@ fn tick(alloc: Global, registry: &mut Registry, moment: u64) -> Result<Sequence<
     let TickPlan { entry, change } = registry.plan_tick(alloc, moment)?;
     registry.commit(change);
     match entry.kind {
-        Kind::Tick(numbers) => Ok(numbers),
+        EntryKind::Tick(numbers) => Ok(numbers),
         _ => Ok(Sequence::new(alloc)),
     }
 }
@@ -92,7 +96,7 @@ fn a_plan_changes_nothing(rt: HostRuntime) -> Result<(), Fail> {
     let plan = registry.plan(alloc, 0, 0, messages.as_slice())?;
     assert_eq!(rt; plan.batch.first, 0);
     assert_eq!(rt; plan.batch.entries.len(), 1);
-    assert_eq!(rt; case_of(&plan), Some(Case::Opened));
+    assert_eq!(rt; case_of(&plan), Some(Outcome::Opened));
     let reply = first_reply(alloc, &plan)?;
     assert_eq!(rt; reply.as_slice(), OPENED);
     assert_eq!(rt; registry.entries(), 0);
@@ -104,7 +108,7 @@ fn a_plan_changes_nothing(rt: HostRuntime) -> Result<(), Fail> {
 fn a_session_is_opened_and_closed(rt: HostRuntime) -> Result<(), Fail> {
     let alloc = rt.alloc();
     let mut registry = Registry::new(alloc, config(2))?;
-    assert_eq!(rt; open(alloc, &mut registry, 0)?, Some(Case::Opened));
+    assert_eq!(rt; open(alloc, &mut registry, 0)?, Some(Outcome::Opened));
     assert!(rt; registry.live(1));
     assert!(rt; !registry.live(2));
     assert_eq!(rt; tick(alloc, &mut registry, 10_000)?.len(), 0);
@@ -140,7 +144,7 @@ fn there_is_room_for_the_standard_limit(rt: HostRuntime) -> Result<(), Fail> {
         open(alloc, &mut registry, 0)?;
     }
     assert!(rt; registry.live(65_536));
-    let wanted = Some(Case::Failed(Error::TooManySessions));
+    let wanted = Some(Outcome::Failed(Error::TooManySessions));
     assert_eq!(rt; open(alloc, &mut registry, 0)?, wanted);
     assert_eq!(rt; tick(alloc, &mut registry, 10_001)?.len(), 65_536);
     open(alloc, &mut registry, 10_001)?;

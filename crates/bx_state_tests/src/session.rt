@@ -2,7 +2,7 @@
 ghost use Rattle.std.specs.Prelude.{◌≡◌, IfOk, false};
 ghost use Rattle.bx_tree.specs.Patterns.{patterns_of};
 
-use bx_advice::{Case, Config, Reconnect};
+use bx_advice::{Config, Outcome, Reconnect};
 use bx_message::{AckReply, Event, RawJson, Reply, SharedEvent, Text};
 use bx_names::{ChannelName, Pattern};
 use bx_session::{Answered, Connection, Delivery, PendingConnect, Session};
@@ -50,10 +50,10 @@ fn numbers(alloc: Global, answered: &Answered) -> Result<Vec<u64>, Fail> {
 
 // Writes an answer as its place, its outcome, its `ack` and its events.
 fn push_text(alloc: Global, answered: &Answered, text: &mut String) -> Result<(), Fail> {
-    let outcome = match answered.answer.reply.case {
-        Case::Connected => "ok",
-        Case::Disconnected => "left",
-        Case::Failed(error) => error.text(),
+    let outcome = match answered.answer.reply.outcome {
+        Outcome::Connected => "ok",
+        Outcome::Disconnected => "left",
+        Outcome::Failed(error) => error.text(),
         _ => "other",
     };
     let place = answered.place;

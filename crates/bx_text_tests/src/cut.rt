@@ -1,24 +1,34 @@
 //! Bodies cut into messages, and what is found in them.
+use crate::same::same;
 use bx_cut::{Bodies, CutError, Document, MAX_MESSAGES, elements_of, member_of, spells, text_of};
-use std::alloc::Global;
+use std::alloc::{AllocError, Global};
 use std::process::Abort;
 use std::test::Fail;
 
-// The texts of a body's messages, or why it has none.
-fn texts_of(alloc: Global, body: &[u8]) -> Result<Vec<String>, CutError> {
-    let document = Document::read(alloc, body)?;
-    let mut texts = Vec::new(alloc);
-    for piece in document.pieces() {
-        texts.push(String::from_str(alloc, piece.text())?)?;
-    }
-    Ok(texts)
+// How many messages a body has, or why it has none.
+fn count_of(alloc: Global, body: &[u8]) -> Result<usize, CutError> {
+    Ok(Document::read(alloc, body)?.pieces().len())
 }
 
-fn assert_fault(rt: &impl Abort, alloc: Global, body: &[u8], wanted: CutError) {
-    match Document::read(alloc, body) {
-        Ok(_) => assert!(rt; false, "{wanted:?} at {}", body.len()),
-        Err(fault) => assert_eq!(rt; fault, wanted),
+// The body has so many messages, or none for this reason.
+fn check(rt: &impl Abort, alloc: Global, body: &str, wanted: Result<usize, CutError>) {
+    same(rt, count_of(alloc, body.as_bytes()), wanted, body);
+}
+
+// The pieces of a body have these texts.
+fn check_pieces(
+    rt: &impl Abort,
+    alloc: Global,
+    body: &str,
+    wanted: &[&str],
+) -> Result<(), CutError> {
+    let document = Document::read(alloc, body.as_bytes())?;
+    let pieces = document.pieces();
+    same(rt, pieces.len(), wanted.len(), body);
+    for (piece, want) in pieces.iter().zip(wanted) {
+        same(rt, piece.text(), *want, body);
     }
+    Ok(())
 }
 
 #[test]
@@ -43,11 +53,25 @@ fn documents_have_their_pieces(rt: HostRuntime) -> Result<(), Fail> {
         ("{}", &["{}"]),
     ];
     for (body, wanted) in table {
-        let texts = texts_of(rt.alloc(), body.as_bytes())?;
-        assert_eq!(rt; texts.len(), wanted.len(), "{body}");
-        for (text, want) in texts.iter().zip(wanted) {
-            assert_eq!(rt; text.as_str(), *want, "{body}");
-        }
+        check_pieces(&rt, rt.alloc(), body, wanted)?;
+    }
+    Ok(())
+}
+
+// The member of this name of a body's only message, by the piece and by its text.
+fn check_member(
+    rt: &impl Abort,
+    alloc: Global,
+    body: &str,
+    name: &str,
+    wanted: Option<&str>,
+) -> Result<(), CutError> {
+    let document = Document::read(alloc, body.as_bytes())?;
+    let pieces = document.pieces();
+    same(rt, pieces.len(), 1, body);
+    for piece in pieces {
+        same(rt, piece.member(name), wanted, body);
+        same(rt, member_of(piece.text(), name), wanted, body);
     }
     Ok(())
 }
@@ -77,11 +101,7 @@ fn members_are_the_last_of_their_name(rt: HostRuntime) -> Result<(), Fail> {
         (r#"{"ab":1,"a":2,"abc":3}"#, "ab", Some("1")),
     ];
     for (body, name, wanted) in table {
-        let document = Document::read(rt.alloc(), body.as_bytes())?;
-        let pieces = document.pieces();
-        assert_eq!(rt; pieces.len(), 1, "{body}");
-        assert_eq!(rt; pieces[0].member(name), wanted, "{body}");
-        assert_eq!(rt; member_of(pieces[0].text(), name), wanted, "{body}");
+        check_member(&rt, rt.alloc(), body, name, wanted)?;
     }
     Ok(())
 }
@@ -121,19 +141,19 @@ fn faults_are_told_in_order(rt: HostRuntime) -> Result<(), Fail> {
         (b"[{},1]", CutError::NotObject),
     ];
     for (body, wanted) in table {
-        assert_fault(&rt, rt.alloc(), body, wanted);
+        same(&rt, count_of(rt.alloc(), body), Err(wanted), body);
     }
     Ok(())
 }
 
 #[test]
-fn no_front_of_a_document_is_one(rt: HostRuntime) -> Result<(), Fail> {
+fn no_front_of_a_document_is_one(rt: HostRuntime) {
     let body = br#"[{"a\u0062":[1.5e-3,true,"\ud83d\ude00\\"]},{"c":null}]"#;
     for len in 0..body.len() {
-        assert_fault(&rt, rt.alloc(), &body[..len], CutError::NotJson);
+        let count = count_of(rt.alloc(), &body[..len]);
+        same(&rt, count, Err(CutError::NotJson), len);
     }
-    assert_eq!(rt; texts_of(rt.alloc(), body)?.len(), 2);
-    Ok(())
+    same(&rt, count_of(rt.alloc(), body), Ok(2), body.len());
 }
 
 // `count` times `part`, with commas, between `front` and `back`.
@@ -152,38 +172,51 @@ fn repeated(
     Ok(text)
 }
 
+// The body of a front, so many parts and a back has so many messages, or none for this reason.
+fn check_repeated(
+    rt: &impl Abort,
+    alloc: Global,
+    (front, part, back): (&str, &str, &str),
+    count: usize,
+    wanted: Result<usize, CutError>,
+) -> Result<(), Fail> {
+    let body = repeated(alloc, front, part, count, back)?;
+    check(rt, alloc, body.as_str(), wanted);
+    Ok(())
+}
+
 #[test]
 fn limits_are_exact(rt: HostRuntime) -> Result<(), Fail> {
-    assert_eq!(rt; MAX_MESSAGES, 256);
-    let full = repeated(rt.alloc(), "[", "{},", 255, "{}]")?;
-    assert_eq!(rt; texts_of(rt.alloc(), full.as_str().as_bytes())?.len(), 256);
-    let over = repeated(rt.alloc(), "[", "{},", 256, "{}]")?;
-    assert_fault(&rt, rt.alloc(), over.as_str().as_bytes(), CutError::TooMany);
-    let mixed = repeated(rt.alloc(), "[", "{},", 256, "1]")?;
-    assert_fault(
-        &rt,
-        rt.alloc(),
-        mixed.as_str().as_bytes(),
-        CutError::NotObject,
-    );
-    let open = repeated(rt.alloc(), "[", "{},", 256, "{}")?;
-    assert_fault(&rt, rt.alloc(), open.as_str().as_bytes(), CutError::NotJson);
-
-    for (depth, read) in [(126, true), (127, false)] {
-        let back = repeated(rt.alloc(), "", "]", depth, "}")?;
-        let body = repeated(rt.alloc(), "{\"a\":", "[", depth, back.as_str())?;
-        assert_eq!(rt;
-            texts_of(rt.alloc(), body.as_str().as_bytes()).is_ok(),
-            read
-        );
+    same(&rt, MAX_MESSAGES, 256, "the limit");
+    for (back, count, wanted) in [
+        ("{}]", 255, Ok(256)),
+        ("{}]", 256, Err(CutError::TooMany)),
+        ("1]", 256, Err(CutError::NotObject)),
+        ("{}", 256, Err(CutError::NotJson)),
+    ] {
+        check_repeated(&rt, rt.alloc(), ("[", "{},", back), count, wanted)?;
     }
-
+    for (depth, wanted) in [(126, Ok(1)), (127, Err(CutError::NotJson))] {
+        let place = ("{\"a\":", "}");
+        check_nested(&rt, rt.alloc(), place, ("[", "", "]"), depth, wanted)?;
+    }
     let digits = repeated(rt.alloc(), "{\"a\":0.", "7", 1000, "}")?;
-    let document = Document::read(rt.alloc(), digits.as_str().as_bytes())?;
-    let pieces = document.pieces();
-    assert_eq!(rt; pieces.len(), 1);
-    assert_eq!(rt; pieces[0].member("a").ok_or("no member")?.len(), 1002);
+    same(
+        &rt,
+        length_of_a(rt.alloc(), digits.as_str())?,
+        1002,
+        "digits",
+    );
     Ok(())
+}
+
+// How long the member `a` of a body's only message is.
+fn length_of_a(alloc: Global, body: &str) -> Result<usize, Fail> {
+    let document = Document::read(alloc, body.as_bytes())?;
+    match document.pieces() {
+        [piece] => Ok(piece.member("a").map_or(0, str::len)),
+        _ => Err(Fail::from("not one message")),
+    }
 }
 
 #[test]
@@ -212,7 +245,7 @@ fn bodies_are_read_to_their_end(rt: HostRuntime) {
         r#"[{"a":{"\udc00":1}}]"#,
     ];
     for body in broken {
-        assert_fault(&rt, rt.alloc(), body.as_bytes(), CutError::NotJson);
+        check(&rt, rt.alloc(), body, Err(CutError::NotJson));
     }
 }
 
@@ -229,18 +262,19 @@ fn only_objects_are_messages(rt: HostRuntime) {
         "[[],{}]",
         "[{},false]",
     ] {
-        assert_fault(&rt, rt.alloc(), body.as_bytes(), CutError::NotObject);
+        check(&rt, rt.alloc(), body, Err(CutError::NotObject));
     }
 }
 
-// How many messages the body has in which the number stands at this place.
-fn count_with(
+// The body in which the number stands at this place has so many messages, or none for this reason.
+fn check_number(
+    rt: &impl Abort,
     alloc: Global,
     (front, back): (&str, &str),
     number: &str,
-) -> Result<Result<usize, CutError>, Fail> {
-    let body = repeated(alloc, front, number, 1, back)?;
-    Ok(texts_of(alloc, body.as_str().as_bytes()).map(|texts| texts.len()))
+    wanted: Result<usize, CutError>,
+) -> Result<(), Fail> {
+    check_repeated(rt, alloc, (front, number, back), 1, wanted)
 }
 
 #[test]
@@ -267,12 +301,9 @@ fn numbers_in_range_are_read(rt: HostRuntime) -> Result<(), Fail> {
             ("[{\"a\":[1,", "]}]"),
             ("{\"b\":{\"c\":", "}}"),
         ] {
-            assert_eq!(rt; count_with(rt.alloc(), place, number)?, Ok(1), "{number}");
+            check_number(&rt, rt.alloc(), place, number, Ok(1))?;
         }
-        assert_eq!(rt;
-            count_with(rt.alloc(), ("", ""), number)?,
-            Err(CutError::NotObject)
-        );
+        check_number(&rt, rt.alloc(), ("", ""), number, Err(CutError::NotObject))?;
     }
     Ok(())
 }
@@ -295,106 +326,88 @@ fn numbers_too_large_for_a_float_are_no_json(rt: HostRuntime) -> Result<(), Fail
             ("[{},", "]"),
             ("", ""),
         ] {
-            assert_eq!(rt;
-                count_with(rt.alloc(), place, number)?,
-                Err(CutError::NotJson),
-                "{number}"
-            );
+            check_number(&rt, rt.alloc(), place, number, Err(CutError::NotJson))?;
         }
     }
     for front in ["{\"a\":1", "{\"a\":-1"] {
-        let longest = repeated(rt.alloc(), front, "0", 308, "}")?;
-        assert_eq!(rt; texts_of(rt.alloc(), longest.as_str().as_bytes())?.len(), 1);
-        let longer = repeated(rt.alloc(), front, "0", 309, "}")?;
-        assert_fault(
-            &rt,
-            rt.alloc(),
-            longer.as_str().as_bytes(),
-            CutError::NotJson,
-        );
+        for (zeros, wanted) in [(308, Ok(1)), (309, Err(CutError::NotJson))] {
+            check_repeated(&rt, rt.alloc(), (front, "0", "}"), zeros, wanted)?;
+        }
     }
     Ok(())
 }
 
-// `depth` times `open`, `inside`, and as many times `close`.
-fn nested(
+// The body of a front, `depth` times `open`, `inside`, as many times `close`, and a back.
+fn check_nested(
+    rt: &impl Abort,
     alloc: Global,
-    open: &str,
-    inside: &str,
-    close: &str,
+    (front, back): (&str, &str),
+    (open, inside, close): (&str, &str, &str),
     depth: usize,
-) -> Result<String, Fail> {
-    let end = repeated(alloc, inside, close, depth, "")?;
-    repeated(alloc, "", open, depth, end.as_str())
+    wanted: Result<usize, CutError>,
+) -> Result<(), Fail> {
+    let end = repeated(alloc, inside, close, depth, back)?;
+    check_repeated(rt, alloc, (front, open, end.as_str()), depth, wanted)
 }
 
 #[test]
 fn values_nest_127_deep(rt: HostRuntime) -> Result<(), Fail> {
-    let alloc = rt.alloc();
-    let arrays = nested(alloc, "[", "", "]", 127)?;
-    assert_fault(&rt, alloc, arrays.as_str().as_bytes(), CutError::NotObject);
-    let deeper = nested(alloc, "[", "", "]", 128)?;
-    assert_fault(&rt, alloc, deeper.as_str().as_bytes(), CutError::NotJson);
-
-    let objects = nested(alloc, "{\"a\":", "0", "}", 127)?;
-    assert_eq!(rt; texts_of(alloc, objects.as_str().as_bytes())?.len(), 1);
-    let deeper = nested(alloc, "{\"a\":", "0", "}", 128)?;
-    assert_fault(&rt, alloc, deeper.as_str().as_bytes(), CutError::NotJson);
-
-    let inside = nested(alloc, "[", "", "]", 125)?;
-    let listed = repeated(alloc, "[{},{\"a\":", inside.as_str(), 1, "},{}]")?;
-    assert_eq!(rt; texts_of(alloc, listed.as_str().as_bytes())?.len(), 3);
-    let inside = nested(alloc, "[", "", "]", 126)?;
-    let deeper = repeated(alloc, "[{},{\"a\":", inside.as_str(), 1, "},{}]")?;
-    assert_fault(&rt, alloc, deeper.as_str().as_bytes(), CutError::NotJson);
+    let arrays = ("[", "", "]");
+    let objects = ("{\"a\":", "0", "}");
+    let alone = ("", "");
+    let listed = ("[{},{\"a\":", "},{}]");
+    for (place, parts, depth, wanted) in [
+        (alone, arrays, 127, Err(CutError::NotObject)),
+        (alone, arrays, 128, Err(CutError::NotJson)),
+        (alone, objects, 127, Ok(1)),
+        (alone, objects, 128, Err(CutError::NotJson)),
+        (listed, arrays, 125, Ok(3)),
+        (listed, arrays, 126, Err(CutError::NotJson)),
+    ] {
+        check_nested(&rt, rt.alloc(), place, parts, depth, wanted)?;
+    }
     Ok(())
 }
 
 #[test]
 fn only_messages_are_counted(rt: HostRuntime) -> Result<(), Fail> {
-    let alloc = rt.alloc();
-    let inside = repeated(alloc, "[{\"a\":[", "{},", 300, "{}]},{}]")?;
-    assert_eq!(rt; texts_of(alloc, inside.as_str().as_bytes())?.len(), 2);
-    let member = repeated(alloc, "{\"a\":[", "{},", 300, "1]}")?;
-    assert_eq!(rt; texts_of(alloc, member.as_str().as_bytes())?.len(), 1);
-    let table = [
-        ("[[", "{},", "{}]]", CutError::NotObject),
-        ("[1,", "{},", "{}]", CutError::NotObject),
-        ("[", "1,", "1]", CutError::NotObject),
-        ("[", "{},", "{}]", CutError::TooMany),
-        ("[", "{},", "{}]]", CutError::NotJson),
-    ];
-    for (front, part, back, wanted) in table {
-        let body = repeated(alloc, front, part, 999, back)?;
-        assert_fault(&rt, alloc, body.as_str().as_bytes(), wanted);
+    for (parts, count, wanted) in [
+        (("[{\"a\":[", "{},", "{}]},{}]"), 300, Ok(2)),
+        (("{\"a\":[", "{},", "1]}"), 300, Ok(1)),
+        (("[[", "{},", "{}]]"), 999, Err(CutError::NotObject)),
+        (("[1,", "{},", "{}]"), 999, Err(CutError::NotObject)),
+        (("[", "1,", "1]"), 999, Err(CutError::NotObject)),
+        (("[", "{},", "{}]"), 999, Err(CutError::TooMany)),
+        (("[", "{},", "{}]]"), 999, Err(CutError::NotJson)),
+    ] {
+        check_repeated(&rt, rt.alloc(), parts, count, wanted)?;
     }
     Ok(())
 }
 
-fn assert_elements(rt: &impl Abort, array: &str, wanted: &[&str]) {
+fn check_elements(rt: &impl Abort, array: &str, wanted: &[&str]) {
     let mut elements = elements_of(array);
     for want in wanted {
-        assert_eq!(rt; elements.next(), Some(*want), "{array}");
+        same(rt, elements.next(), Some(*want), array);
     }
-    assert_eq!(rt; elements.next(), None, "{array}");
-    assert_eq!(rt; elements.next(), None, "{array}");
+    for _ in 0..2 {
+        same(rt, elements.next(), None, array);
+    }
 }
 
 #[test]
 fn nested_values_are_cut_too(rt: HostRuntime) {
-    assert_elements(
+    check_elements(
         &rt,
         r#"["/a", "b,]" ,[1,{"c":2}],{} , -1]"#,
         &[r#""/a""#, r#""b,]""#, r#"[1,{"c":2}]"#, "{}", "-1"],
     );
-    assert_elements(&rt, "[]", &[]);
-    assert_elements(&rt, "[ ]", &[]);
-    for no_array in ["{}", "{\"a\":1}", "\"[1]\"", "1", "null", ""] {
-        assert_elements(&rt, no_array, &[]);
+    for empty in ["[]", "[ ]", "{}", "{\"a\":1}", "\"[1]\"", "1", "null", ""] {
+        check_elements(&rt, empty, &[]);
     }
-    assert_eq!(rt; member_of(r#"{"ack":true}"#, "ack"), Some("true"));
+    same(&rt, member_of(r#"{"ack":true}"#, "ack"), Some("true"), "");
     for no_object in ["[]", "[{\"a\":1}]", "\"{}\"", "1", "null", ""] {
-        assert_eq!(rt; member_of(no_object, "a"), None, "{no_object}");
+        same(&rt, member_of(no_object, "a"), None, no_object);
     }
 }
 
@@ -420,8 +433,20 @@ fn no_text_is_too_odd_to_cut(rt: HostRuntime) {
         let mut elements = elements_of(odd);
         let _ = elements.next();
         let _ = elements.next();
-        assert!(rt; !spells(odd, "é"), "{odd}");
+        same(&rt, spells(odd, "é"), false, odd);
     }
+}
+
+// The string that a value writes, where it writes one.
+fn check_text(
+    rt: &impl Abort,
+    alloc: Global,
+    value: &str,
+    wanted: Option<&str>,
+) -> Result<(), Fail> {
+    let text = text_of(alloc, value)?;
+    same(rt, text.as_ref().map(String::as_str), wanted, value);
+    Ok(())
 }
 
 #[test]
@@ -436,30 +461,40 @@ fn strings_are_unescaped(rt: HostRuntime) -> Result<(), Fail> {
         (r#""\u005c\u0022""#, "\\\""),
     ];
     for (value, wanted) in table {
-        let text = text_of(rt.alloc(), value)?.ok_or("no string")?;
-        assert_eq!(rt; text.as_str(), wanted, "{value}");
-        assert!(rt; spells(value, wanted), "{value}");
-        assert!(rt; !spells(value, "x"), "{value}");
-        assert!(rt; !spells(wanted, wanted), "{value}");
+        check_text(&rt, rt.alloc(), value, Some(wanted))?;
+        same(&rt, spells(value, wanted), true, value);
+        same(&rt, spells(value, "x"), false, value);
+        same(&rt, spells(wanted, wanted), false, value);
     }
     for value in ["1", "null", "[\"a\"]", "{}", ""] {
-        assert!(rt; text_of(rt.alloc(), value)?.is_none(), "{value}");
+        check_text(&rt, rt.alloc(), value, None)?;
     }
     Ok(())
+}
+
+fn check_bodies(rt: &impl Abort, bodies: &Bodies, wanted: &[&[u8]]) {
+    same(rt, bodies.len(), wanted.len(), wanted);
+    same(rt, bodies.is_empty(), wanted.is_empty(), wanted);
+    for (index, want) in wanted.iter().enumerate() {
+        if index < bodies.len() {
+            same(rt, bodies.get(index), *want, index);
+        }
+    }
+}
+
+fn decoded(alloc: Global, texts: &[&str]) -> Result<Bodies, AllocError> {
+    let mut all = Vec::new(alloc);
+    for text in texts {
+        all.push(String::from_str(alloc, text)?)?;
+    }
+    Ok(Bodies::Decoded(all))
 }
 
 #[test]
 fn bodies_are_counted_from_zero(rt: HostRuntime) -> Result<(), Fail> {
     let whole = Bodies::Whole(b"[]".to_vec(rt.alloc())?);
-    assert_eq!(rt; whole.len(), 1);
-    assert!(rt; !whole.is_empty());
-    assert_eq!(rt; whole.get(0), b"[]".as_slice());
-    let mut texts = Vec::new(rt.alloc());
-    texts.push(String::from_str(rt.alloc(), "a")?)?;
-    texts.push(String::from_str(rt.alloc(), "b")?)?;
-    let decoded = Bodies::Decoded(texts);
-    assert_eq!(rt; decoded.len(), 2);
-    assert_eq!(rt; decoded.get(1), b"b".as_slice());
-    assert!(rt; Bodies::Decoded(Vec::new(rt.alloc())).is_empty());
+    check_bodies(&rt, &whole, &[b"[]"]);
+    check_bodies(&rt, &decoded(rt.alloc(), &["a", "b"])?, &[b"a", b"b"]);
+    check_bodies(&rt, &decoded(rt.alloc(), &[])?, &[]);
     Ok(())
 }

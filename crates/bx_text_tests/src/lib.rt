@@ -9,6 +9,8 @@ mod message;
 #[cfg(test)]
 mod names;
 #[cfg(test)]
+mod same;
+#[cfg(test)]
 mod script;
 #[cfg(test)]
 mod transport;

@@ -1,18 +1,39 @@
 //! Names and patterns at their edges, and which match.
+use crate::same::same;
 use bx_names::{
     ChannelKind, ChannelName, MAX_NAME_BYTES, MAX_NAME_SEGMENTS, NameError, Pattern, Tail, kind_of,
     matches, name_fault, pattern_fault,
 };
 use std::alloc::{AllocError, Global};
+use std::process::Abort;
 use std::test::Fail;
 
-/// A text of `count` times `part`, behind `start`.
+// A text of `count` times `part`, behind `start`.
 fn repeated(alloc: Global, start: &str, part: &str, count: usize) -> Result<String, AllocError> {
     let mut text = String::from_str(alloc, start)?;
     for _ in 0..count {
         text.push_str(part)?;
     }
     Ok(text)
+}
+
+// The text is a name, or has this fault.
+fn check_name(rt: &impl Abort, alloc: Global, text: &str, fault: Option<NameError>) {
+    same(rt, name_fault(text), fault, text);
+    same(rt, ChannelName::read(alloc, text).err(), fault, text);
+}
+
+// The text of so many parts behind a start is a name, or has this fault.
+fn check_repeated(
+    rt: &impl Abort,
+    alloc: Global,
+    (start, part): (&str, &str),
+    count: usize,
+    fault: Option<NameError>,
+) -> Result<(), AllocError> {
+    let text = repeated(alloc, start, part, count)?;
+    check_name(rt, alloc, text.as_str(), fault);
+    Ok(())
 }
 
 #[test]
@@ -39,11 +60,14 @@ fn names(rt: HostRuntime) -> Result<(), Fail> {
         ("/meta", None),
     ];
     for (text, fault) in table {
-        assert_eq!(rt; name_fault(text), fault, "at {text:?}");
-        let read = ChannelName::read(rt.alloc(), text);
-        assert_eq!(rt; read.err(), fault, "at {text:?}");
+        check_name(&rt, rt.alloc(), text, fault);
     }
-    assert_eq!(rt; (MAX_NAME_BYTES, MAX_NAME_SEGMENTS), (256, 32));
+    same(
+        &rt,
+        (MAX_NAME_BYTES, MAX_NAME_SEGMENTS),
+        (256, 32),
+        "limits",
+    );
     let edges = [
         ("/", "a", 255, None),
         ("/", "a", 256, Some(NameError::TooLong)),
@@ -53,10 +77,37 @@ fn names(rt: HostRuntime) -> Result<(), Fail> {
         ("/*", "a", 255, Some(NameError::Wild)),
     ];
     for (start, part, count, fault) in edges {
-        let text = repeated(rt.alloc(), start, part, count)?;
-        assert_eq!(rt; name_fault(text.as_str()), fault, "{count} times {part:?}");
+        check_repeated(&rt, rt.alloc(), (start, part), count, fault)?;
     }
     Ok(())
+}
+
+// The text is a pattern, with so many segments and this tail.
+fn check_pattern(
+    rt: &impl Abort,
+    alloc: Global,
+    text: &str,
+    own: usize,
+    tail: Tail,
+) -> Result<(), NameError> {
+    let pattern = Pattern::read(alloc, text)?;
+    same(rt, pattern.as_str(), text, text);
+    same(rt, pattern.segment_count(), own, text);
+    same(rt, pattern.tail(), tail, text);
+    Ok(())
+}
+
+// The text has this fault as a pattern.
+fn check_refused(rt: &impl Abort, alloc: Global, text: &str, fault: NameError) {
+    same(rt, pattern_fault(text), Some(fault), text);
+    same(rt, Pattern::read(alloc, text).err(), Some(fault), text);
+}
+
+// What is wrong with 31 segments and this one more.
+fn fault_behind(alloc: Global, end: &str) -> Result<Option<NameError>, AllocError> {
+    let mut text = repeated(alloc, "", "/a", 31)?;
+    text.push_str(end)?;
+    Ok(pattern_fault(text.as_str()))
 }
 
 #[test]
@@ -69,10 +120,7 @@ fn patterns(rt: HostRuntime) -> Result<(), Fail> {
         ("/**", 0, Tail::Many),
     ];
     for (text, own, tail) in read {
-        let pattern = Pattern::read(rt.alloc(), text)?;
-        assert!(rt; pattern.as_str() == text, "at {pattern:?}");
-        assert_eq!(rt; pattern.segment_count(), own, "at {pattern:?}");
-        assert_eq!(rt; pattern.tail(), tail, "at {pattern:?}");
+        check_pattern(&rt, rt.alloc(), text, own, tail)?;
     }
     let refused = [
         ("", NameError::NoSlash),
@@ -87,18 +135,19 @@ fn patterns(rt: HostRuntime) -> Result<(), Fail> {
         ("/**/*", NameError::Wild),
     ];
     for (text, fault) in refused {
-        assert_eq!(rt; pattern_fault(text), Some(fault), "at {text:?}");
-        let read = Pattern::read(rt.alloc(), text);
-        assert_eq!(rt; read.err(), Some(fault), "at {text:?}");
+        check_refused(&rt, rt.alloc(), text, fault);
     }
-    let deep = repeated(rt.alloc(), "", "/a", 31)?;
-    let mut wild = deep.clone()?;
-    wild.push_str("/**")?;
-    assert_eq!(rt; pattern_fault(wild.as_str()), None);
-    let mut wild = deep;
-    wild.push_str("/a/*")?;
-    assert_eq!(rt; pattern_fault(wild.as_str()), Some(NameError::TooDeep));
+    for (end, fault) in [("/**", None), ("/a/*", Some(NameError::TooDeep))] {
+        same(&rt, fault_behind(rt.alloc(), end)?, fault, end);
+    }
     Ok(())
+}
+
+// Whether the pattern of this text matches the name of that one.
+fn is_match(alloc: Global, pattern: &str, name: &str) -> Result<bool, NameError> {
+    let name = ChannelName::read(alloc, name)?;
+    let pattern = Pattern::read(alloc, pattern)?;
+    Ok(matches(&pattern, &name))
 }
 
 #[test]
@@ -120,9 +169,8 @@ fn matching(rt: HostRuntime) -> Result<(), Fail> {
         ("/a/b", "/a", false),
     ];
     for (pattern, name, answer) in table {
-        let pattern = Pattern::read(rt.alloc(), pattern)?;
-        let name = ChannelName::read(rt.alloc(), name)?;
-        assert_eq!(rt; matches(&pattern, &name), answer, "{pattern:?} at {name:?}");
+        let is_match = is_match(rt.alloc(), pattern, name)?;
+        same(&rt, is_match, answer, (pattern, name));
     }
     Ok(())
 }
@@ -138,39 +186,60 @@ fn kinds(rt: HostRuntime) -> Result<(), Fail> {
         ("/a/meta/x", ChannelKind::Broadcast),
     ];
     for (text, kind) in table {
-        assert_eq!(rt; kind_of(text), kind, "at {text:?}");
+        same(&rt, kind_of(text), kind, text);
         let name = ChannelName::read(rt.alloc(), text)?;
-        assert_eq!(rt; name.kind(), kind, "at {text:?}");
+        same(&rt, name.kind(), kind, text);
     }
-    assert_eq!(rt; kind_of("/meta/"), ChannelKind::Meta);
+    same(&rt, kind_of("/meta/"), ChannelKind::Meta, "a text");
     let pattern = Pattern::read(rt.alloc(), "/meta/*")?;
-    assert_eq!(rt; pattern.kind(), ChannelKind::Meta);
+    same(&rt, pattern.kind(), ChannelKind::Meta, "a pattern");
+    Ok(())
+}
+
+// The segments, one behind another.
+fn joined(alloc: Global, name: &ChannelName) -> Result<String, AllocError> {
+    let mut joined = String::new(alloc);
+    for segment in name.segments() {
+        joined.push_str(segment)?;
+    }
+    Ok(joined)
+}
+
+fn check_name_parts(rt: &impl Abort, alloc: Global, name: &ChannelName) -> Result<(), Fail> {
+    same(rt, name.as_str(), "/a/bc/d", "the text");
+    same(rt, name.segment_count(), 3, "the count");
+    if name.segment_count() == 3 {
+        same(rt, name.segment(1), "bc", "a segment");
+    }
+    same(rt, joined(alloc, name)?.as_str(), "abcd", "the segments");
+    Ok(())
+}
+
+fn check_pattern_parts(rt: &impl Abort, alloc: Global, pattern: &Pattern) -> Result<(), Fail> {
+    same(rt, pattern.segment_count(), 2, "the count");
+    if pattern.segment_count() == 2 {
+        same(rt, pattern.segment(1), "bc", "a segment");
+    }
+    same(rt, *pattern == pattern.clone()?, true, "a copy");
+    let other = Pattern::read(alloc, "/a/bc/**")?;
+    same(rt, *pattern == other, false, "another pattern");
     Ok(())
 }
 
 #[test]
 fn parts(rt: HostRuntime) -> Result<(), Fail> {
     let name = ChannelName::read(rt.alloc(), "/a/bc/d")?.clone()?;
-    assert_eq!(rt; name.as_str(), "/a/bc/d");
-    assert!(rt; name.segment_count() == 3);
-    let mut joined = String::new(rt.alloc());
-    for segment in name.segments() {
-        joined.push_str(segment)?;
-    }
-    assert_eq!(rt; joined.as_str(), "abcd");
-    assert_eq!(rt; name.segment(1), "bc");
-
+    check_name_parts(&rt, rt.alloc(), &name)?;
     let pattern = Pattern::read(rt.alloc(), "/a/bc/*")?;
-    assert!(rt; pattern.segment_count() == 2);
-    assert_eq!(rt; pattern.segment(1), "bc");
-    assert!(rt; pattern == pattern.clone()?);
-    assert!(rt; pattern != Pattern::read(rt.alloc(), "/a/bc/**")?);
+    check_pattern_parts(&rt, rt.alloc(), &pattern)
+}
 
+#[test]
+fn faults_have_texts(rt: HostRuntime) -> Result<(), Fail> {
     let refused = ChannelName::read(rt.alloc(), "/a*").err();
-    let shown = match refused {
-        Some(fault) => format!(in rt.alloc(); "{fault}")?,
-        None => String::new(rt.alloc()),
-    };
-    assert_eq!(rt; shown.as_str(), "the name has a star out of place");
+    let fault = refused.ok_or("no fault")?;
+    let shown = format!(in rt.alloc(); "{fault}")?;
+    let wanted = "the name has a star out of place";
+    same(&rt, shown.as_str(), wanted, "a star");
     Ok(())
 }

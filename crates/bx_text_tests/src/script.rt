@@ -1,4 +1,5 @@
 //! What the lines of a script say, and what is printed for them.
+use crate::same::same;
 use bx_advice::BODY_LIMIT;
 use bx_entry::{Input, Refusal};
 use bx_message::Sequence;
@@ -8,15 +9,16 @@ use bx_script::{
 use std::alloc::{AllocError, Global};
 use std::io;
 use std::io::{BufRead, BufReader, Read, Write};
+use std::process::Abort;
 use std::test::Fail;
 
 // What a line says, in words. Of a long document the length stands in its place.
 fn told(alloc: Global, line: &Line) -> Result<String, AllocError> {
     match line {
         Line::Bad => String::from_str(alloc, "bad"),
-        Line::Turned { status } => format!(in alloc; "turned {status}"),
+        Line::Rejected { status } => format!(in alloc; "turned {status}"),
         Line::Resharded { shards } => format!(in alloc; "shards {shards}"),
-        Line::Handed { callback, input } => {
+        Line::Accepted { callback, input } => {
             let name = match callback {
                 Some(name) => name.as_str(),
                 None => "-",
@@ -94,45 +96,71 @@ impl Read for Slow {
     }
 }
 
-fn told_slowly(
+// The script says this, or is not read, where this reader reads it.
+fn check_told<R: BufRead>(
+    rt: &impl Abort,
+    alloc: Global,
+    reader: &mut R,
+    wanted: Result<&str, ScriptFault>,
+) {
+    match &all_told(alloc, reader) {
+        Ok(text) => same(rt, Ok(text.as_str()), wanted, "a script"),
+        Err(fault) => same(rt, Err(*fault), wanted, "a script"),
+    }
+}
+
+fn check_slowly(
+    rt: &impl Abort,
     alloc: Global,
     fault: Option<(usize, io::ErrorKind)>,
-) -> Result<Result<String, ScriptFault>, Fail> {
+    wanted: Result<&str, ScriptFault>,
+) -> Result<(), Fail> {
     let bytes = SCRIPT;
     let mut reader = BufReader::new(alloc, Slow { bytes, fault })?;
-    Ok(all_told(alloc, &mut reader))
+    check_told(rt, alloc, &mut reader, wanted);
+    Ok(())
 }
 
 #[test]
 fn lines_say_what_they_say(rt: HostRuntime) -> Result<(), Fail> {
     let alloc = rt.alloc();
     let mut all = SCRIPT;
-    assert_eq!(rt; all_told(alloc, &mut all)?.as_str(), TOLD);
+    check_told(&rt, alloc, &mut all, Ok(TOLD));
     let mut none: &[u8] = b"";
-    assert_eq!(rt; all_told(alloc, &mut none)?.as_str(), "");
-    assert_eq!(rt; told_slowly(alloc, None)??.as_str(), TOLD);
+    check_told(&rt, alloc, &mut none, Ok(""));
+    check_slowly(&rt, alloc, None, Ok(TOLD))?;
     let interrupted = Some((5, io::ErrorKind::Interrupted));
-    assert_eq!(rt; told_slowly(alloc, interrupted)??.as_str(), TOLD);
+    check_slowly(&rt, alloc, interrupted, Ok(TOLD))?;
     for reads in [0, 1, 6, 7, SCRIPT.len()] {
         let broken = Some((reads, io::ErrorKind::BrokenPipe));
-        assert_eq!(rt; told_slowly(alloc, broken)?.err(), Some(ScriptFault::Read));
+        check_slowly(&rt, alloc, broken, Err(ScriptFault::Read))?;
     }
     Ok(())
 }
 
-#[test]
-fn a_script_has_thousands_of_lines(rt: HostRuntime) -> Result<(), Fail> {
-    let alloc = rt.alloc();
-    let script = "7 T\n".repeat(alloc, 5_000)?;
+// How many lines a script has, where each is handed on.
+fn handed(alloc: Global, script: &str) -> Result<Option<u32>, ScriptFault> {
     let mut lines = Lines::new(alloc, script.as_bytes());
     for count in 0..5_001 {
-        let Some(line) = lines.next_line(alloc)? else {
-            assert_eq!(rt; count, 5_000);
-            return Ok(());
-        };
-        assert!(rt; matches!(line, Line::Handed { .. }), "{count}");
+        match lines.next_line(alloc)? {
+            Some(Line::Accepted { .. }) => {}
+            Some(_) => return Ok(None),
+            None => return Ok(Some(count)),
+        }
     }
-    Err(Fail::from("more lines than the script has"))
+    Ok(None)
+}
+
+#[test]
+fn a_script_has_thousands_of_lines(rt: HostRuntime) -> Result<(), Fail> {
+    let script = "7 T\n".repeat(rt.alloc(), 5_000)?;
+    same(
+        &rt,
+        handed(rt.alloc(), script.as_str())?,
+        Some(5_000),
+        "lines",
+    );
+    Ok(())
 }
 
 // A line of a head, so many equal bytes and an end, and a line behind it.
@@ -157,34 +185,44 @@ fn long_lines_say_what_they_say(rt: HostRuntime) -> Result<(), Fail> {
         ("0 S ", "0", BODY_LIMIT, "1", "bad;tick 5;"),
     ] {
         let script = long_script(alloc, head, byte, count, end)?;
-        let mut reader = script.as_bytes();
-        assert_eq!(rt; all_told(alloc, &mut reader)?.as_str(), expected, "{head}");
+        check_told(&rt, alloc, &mut script.as_bytes(), Ok(expected));
     }
     Ok(())
+}
+
+// Writes what a script's lines are answered, to eight lines.
+fn write_all(alloc: Global, out: &mut Output<&mut Vec<u8>>) -> Result<(), ScriptFault> {
+    write_bad(out, 1)?;
+    write_status(out, 2, 413)?;
+    write_results(alloc, out)?;
+    write_held(out, u64::MAX)
+}
+
+fn write_results(alloc: Global, out: &mut Output<&mut Vec<u8>>) -> Result<(), ScriptFault> {
+    let name = Some(String::from_str(alloc, "cb")?);
+    let none = Ok(Sequence::new(alloc));
+    write_result(alloc, out, 3, &None, false, &none)?;
+    write_result(alloc, out, 4, &name, false, &none)?;
+    write_result(alloc, out, 5, &None, true, &none)?;
+    write_result(alloc, out, 6, &name, false, &Err(Refusal::Ended))?;
+    write_result(alloc, out, 7, &None, true, &Err(Refusal::BadMoment))
 }
 
 #[test]
 fn what_is_printed(rt: HostRuntime) -> Result<(), Fail> {
     let alloc = rt.alloc();
     let mut written = Vec::new(alloc);
-    let mut out = Output::new(&mut written);
-    let name = Some(String::from_str(alloc, "cb")?);
-    let none = Ok(Sequence::new(alloc));
-    write_bad(&mut out, 1)?;
-    write_status(&mut out, 2, 413)?;
-    write_result(alloc, &mut out, 3, &None, false, &none)?;
-    write_result(alloc, &mut out, 4, &name, false, &none)?;
-    write_result(alloc, &mut out, 5, &None, true, &none)?;
-    write_result(alloc, &mut out, 6, &name, false, &Err(Refusal::Ended))?;
-    write_result(alloc, &mut out, 7, &None, true, &Err(Refusal::BadMoment))?;
-    write_held(&mut out, u64::MAX)?;
-    assert_eq!(rt;
-        written.as_slice(),
-        b"1 bad\n2 413\n3 200 []\n4 200 cb([])\n6 503\n7 400\n18446744073709551615 held\n".as_slice()
-    );
+    write_all(alloc, &mut Output::new(&mut written))?;
+    let wanted = "1 bad\n2 413\n3 200 []\n4 200 cb([])\n6 503\n7 400\n18446744073709551615 held\n";
+    same(&rt, written.as_slice(), wanted.as_bytes(), "all");
     let mut place = [0u8; 3];
     let mut short = Output::new(place.as_mut_slice());
-    assert_eq!(rt; write_bad(&mut short, 1), Err(ScriptFault::Write));
+    same(
+        &rt,
+        write_bad(&mut short, 1),
+        Err(ScriptFault::Write),
+        "3 bytes",
+    );
     Ok(())
 }
 
@@ -214,21 +252,32 @@ impl Write for Broken {
     }
 }
 
+// A response to line 12, to a writer.
+fn respond<W: Write>(
+    alloc: Global,
+    writer: &mut W,
+    name: &Option<String>,
+) -> Result<(), ScriptFault> {
+    let none = Ok(Sequence::new(alloc));
+    write_result(alloc, &mut Output::new(writer), 12, name, false, &none)
+}
+
+fn check_front(rt: &impl Abort, alloc: Global, writes: usize, name: &Option<String>) {
+    let mut writer = Broken {
+        held: Vec::new(alloc),
+        writes: Some(writes),
+    };
+    let written = respond(alloc, &mut writer, name);
+    same(rt, written, Err(ScriptFault::Write), writes);
+    let is_front = b"12 200 cb([])\n".starts_with(writer.held.as_slice());
+    same(rt, is_front, true, writes);
+}
+
 #[test]
 fn a_failed_write_leaves_a_front(rt: HostRuntime) -> Result<(), Fail> {
-    let alloc = rt.alloc();
-    let name = Some(String::from_str(alloc, "cb")?);
-    let none = Ok(Sequence::new(alloc));
+    let name = Some(String::from_str(rt.alloc(), "cb")?);
     for writes in 0..4 {
-        let mut writer = Broken {
-            held: Vec::new(alloc),
-            writes: Some(writes),
-        };
-        let mut out = Output::new(&mut writer);
-        let written = write_result(alloc, &mut out, 12, &name, false, &none);
-        assert_eq!(rt; written, Err(ScriptFault::Write), "{writes}");
-        let all = b"12 200 cb([])\n".as_slice();
-        assert!(rt; all.starts_with(writer.held.as_slice()), "{writes}");
+        check_front(&rt, rt.alloc(), writes, &name);
     }
     Ok(())
 }
@@ -256,18 +305,22 @@ impl Write for Halting {
     }
 }
 
+fn respond_twice<W: Write>(alloc: Global, writer: &mut W) -> Result<(), ScriptFault> {
+    let none = Ok(Sequence::new(alloc));
+    let mut out = Output::new(writer);
+    write_result(alloc, &mut out, 12, &None, false, &none)?;
+    write_held(&mut out, 7)
+}
+
 #[test]
 fn short_and_interrupted_writes_go_on(rt: HostRuntime) -> Result<(), Fail> {
-    let alloc = rt.alloc();
     let mut writer = Halting {
-        held: Vec::new(alloc),
+        held: Vec::new(rt.alloc()),
         ready: false,
     };
-    let none = Ok(Sequence::new(alloc));
-    let mut out = Output::new(&mut writer);
-    write_result(alloc, &mut out, 12, &None, false, &none)?;
-    write_held(&mut out, 7)?;
-    assert_eq!(rt; writer.held.as_slice(), b"12 200 []\n7 held\n".as_slice());
+    respond_twice(rt.alloc(), &mut writer)?;
+    let wanted = b"12 200 []\n7 held\n".as_slice();
+    same(&rt, writer.held.as_slice(), wanted, "two lines");
     Ok(())
 }
 
@@ -289,19 +342,27 @@ impl Write for Narrow {
     }
 }
 
+fn check_narrow(
+    rt: &impl Abort,
+    alloc: Global,
+    name: &Option<String>,
+    wanted: &str,
+) -> Result<(), Fail> {
+    let mut writer = Narrow {
+        held: Vec::new(alloc),
+    };
+    respond(alloc, &mut writer, name)?;
+    let is_same = writer.held.as_slice() == wanted.as_bytes();
+    same(rt, is_same, true, "a long text");
+    Ok(())
+}
+
 #[test]
 fn a_long_text_is_written_byte_by_byte(rt: HostRuntime) -> Result<(), Fail> {
     let alloc = rt.alloc();
     let name = "f".repeat(alloc, 100_000)?;
-    let expected = format!(in alloc; "12 200 {name}([])\n")?;
-    let mut writer = Narrow {
-        held: Vec::new(alloc),
-    };
-    let none = Ok(Sequence::new(alloc));
-    let mut out = Output::new(&mut writer);
-    write_result(alloc, &mut out, 12, &Some(name), false, &none)?;
-    assert_eq!(rt; writer.held.as_slice(), expected.as_bytes());
-    Ok(())
+    let wanted = format!(in alloc; "12 200 {name}([])\n")?;
+    check_narrow(&rt, alloc, &Some(name), wanted.as_str())
 }
 
 // Is interrupted so often, and then takes all.
@@ -333,7 +394,8 @@ fn a_write_is_tried_after_many_interruptions(rt: HostRuntime) -> Result<(), Fail
         interruptions: 100_000,
     };
     write_bad(&mut Output::new(&mut writer), 7)?;
-    assert_eq!(rt; writer.held.as_slice(), b"7 bad\n".as_slice());
+    let wanted = b"7 bad\n".as_slice();
+    same(&rt, writer.held.as_slice(), wanted, "one line");
     Ok(())
 }
 
@@ -348,7 +410,7 @@ fn digits_say_numbers(rt: HostRuntime) {
         ("18446744073709551615", Some(u64::MAX)),
         ("18446744073709551616", None),
     ] {
-        assert_eq!(rt; number_of(digits.as_bytes()), number, "{digits}");
+        same(&rt, number_of(digits.as_bytes()), number, digits);
     }
 }
 
@@ -361,6 +423,7 @@ fn faults_have_texts(rt: HostRuntime) -> Result<(), Fail> {
         ScriptFault::Read,
         ScriptFault::Write
     )?;
-    assert_eq!(rt; text.as_str(), "out of memory, read fault, write fault");
+    let wanted = "out of memory, read fault, write fault";
+    same(&rt, text.as_str(), wanted, "faults");
     Ok(())
 }

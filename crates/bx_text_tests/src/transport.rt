@@ -1,10 +1,12 @@
 //! What bodies and queries hand on, and responses down to their bytes.
-use bx_advice::{BODY_LIMIT, Case, Config};
+use crate::same::same;
+use bx_advice::{BODY_LIMIT, Config, Outcome};
 use bx_cut::Bodies;
 use bx_message::{AckReply, Event, Item, RawJson, Reply, SharedEvent, Text};
 use bx_names::ChannelName;
 use bx_transport::{TransportError, callback_of, read_get, read_post, response_of};
 use std::alloc::{AllocError, Global};
+use std::process::Abort;
 use std::test::Fail;
 
 const FORM: &str = "application/x-www-form-urlencoded";
@@ -20,29 +22,41 @@ fn listed(alloc: Global, bodies: &Bodies) -> Result<String, AllocError> {
     Ok(text)
 }
 
-fn post(
-    alloc: Global,
-    content_type: Option<&str>,
-    body: &str,
-) -> Result<Result<String, TransportError>, Fail> {
-    let content_type = content_type.map(|text| text.as_bytes());
-    match read_post(alloc, content_type, body.as_bytes()) {
-        Ok(bodies) => Ok(Ok(listed(alloc, &bodies)?)),
-        Err(TransportError::Memory) => Err(Fail::from("out of memory")),
-        Err(error) => Ok(Err(error)),
+// What is taken of a body: the documents, or why there are none.
+fn post(alloc: Global, content_type: Option<&str>, body: &str) -> Result<String, TransportError> {
+    let content_type = content_type.map(str::as_bytes);
+    let bodies = read_post(alloc, content_type, body.as_bytes())?;
+    Ok(listed(alloc, &bodies)?)
+}
+
+// The name of the callback, a space and the documents, or why there are none.
+fn get(alloc: Global, query: &str) -> Result<String, TransportError> {
+    let (name, bodies) = read_get(alloc, query.as_bytes())?;
+    let documents = listed(alloc, &bodies)?;
+    Ok(format!(in alloc; "{name} {documents}")?)
+}
+
+// It has this text, or this error.
+fn check(
+    rt: &impl Abort,
+    taken: Result<String, TransportError>,
+    wanted: Result<&str, TransportError>,
+    at: &str,
+) {
+    match &taken {
+        Ok(text) => same(rt, Ok(text.as_str()), wanted, at),
+        Err(error) => same(rt, Err(*error), wanted, at),
     }
 }
 
-// The name of the callback, a space and the documents.
-fn get(alloc: Global, query: &str) -> Result<Result<String, TransportError>, Fail> {
-    match read_get(alloc, query.as_bytes()) {
-        Ok((name, bodies)) => {
-            let documents = listed(alloc, &bodies)?;
-            Ok(Ok(format!(in alloc; "{name} {documents}")?))
-        }
-        Err(TransportError::Memory) => Err(Fail::from("out of memory")),
-        Err(error) => Ok(Err(error)),
-    }
+// It is taken, or has this error.
+fn check_fault(
+    rt: &impl Abort,
+    taken: Result<String, TransportError>,
+    fault: Option<TransportError>,
+    at: &str,
+) {
+    same(rt, taken.err(), fault, at);
 }
 
 #[test]
@@ -79,11 +93,8 @@ fn content_types_tell_forms(rt: HostRuntime) -> Result<(), Fail> {
         (Some(""), "|message=[]&x=1&message=[]|"),
         (None, "|message=[]&x=1&message=[]|"),
     ] {
-        let taken = post(alloc, content_type, "message=[]&x=1&message=[]")?;
-        assert_eq!(rt; taken.is_ok(), true);
-        if let Ok(taken) = taken {
-            assert_eq!(rt; taken.as_str(), documents);
-        }
+        let taken = post(alloc, content_type, "message=[]&x=1&message=[]");
+        check(&rt, taken, Ok(documents), content_type.unwrap_or("none"));
     }
     Ok(())
 }
@@ -106,15 +117,11 @@ fn forms_are_decoded(rt: HostRuntime) -> Result<(), Fail> {
         ("message=%E2%80%A8", "|\u{2028}|"),
         ("Message=1&message=2", "|2|"),
     ] {
-        let taken = post(alloc, Some(FORM), form)?;
-        assert_eq!(rt; taken.is_ok(), true, "{form}");
-        if let Ok(taken) = taken {
-            assert_eq!(rt; taken.as_str(), documents, "{form}");
-        }
+        check(&rt, post(alloc, Some(FORM), form), Ok(documents), form);
     }
     for form in ["", "x=1", "Message=1", "message%3D1"] {
-        let taken = post(alloc, Some(FORM), form)?;
-        assert_eq!(rt; taken.err(), Some(TransportError::NoMessage), "{form}");
+        let error = TransportError::NoMessage;
+        check(&rt, post(alloc, Some(FORM), form), Err(error), form);
     }
     Ok(())
 }
@@ -131,11 +138,7 @@ fn queries_name_their_callback(rt: HostRuntime) -> Result<(), Fail> {
             "cb.x_$-[0] |1|2|",
         ),
     ] {
-        let found = get(alloc, query)?;
-        assert_eq!(rt; found.is_ok(), true, "{query}");
-        if let Ok(found) = found {
-            assert_eq!(rt; found.as_str(), taken, "{query}");
-        }
+        check(&rt, get(alloc, query), Ok(taken), query);
     }
     for (query, error) in [
         ("message=[]&jsonp=", TransportError::BadName),
@@ -147,88 +150,121 @@ fn queries_name_their_callback(rt: HostRuntime) -> Result<(), Fail> {
         ("jsonp=cb", TransportError::NoMessage),
         ("", TransportError::NoMessage),
     ] {
-        assert_eq!(rt; get(alloc, query)?.err(), Some(error), "{query}");
+        check(&rt, get(alloc, query), Err(error), query);
     }
+    Ok(())
+}
+
+// A name of this length is taken, or has this fault.
+fn check_length(
+    rt: &impl Abort,
+    alloc: Global,
+    length: usize,
+    fault: Option<TransportError>,
+) -> Result<(), AllocError> {
+    let name = "a".repeat(alloc, length)?;
+    let query = format!(in alloc; "message=1&jsonp={name}")?;
+    check_fault(rt, get(alloc, query.as_str()), fault, "a length");
     Ok(())
 }
 
 #[test]
 fn names_have_256_characters_at_most(rt: HostRuntime) -> Result<(), Fail> {
-    let alloc = rt.alloc();
-    for (length, is_taken) in [(1, true), (256, true), (257, false)] {
-        let name = "a".repeat(alloc, length)?;
-        let query = format!(in alloc; "message=1&jsonp={name}")?;
-        let taken = get(alloc, query.as_str())?;
-        assert_eq!(rt; taken.is_ok(), is_taken, "{length}");
+    for (length, fault) in [(1, None), (256, None), (257, Some(TransportError::BadName))] {
+        check_length(&rt, rt.alloc(), length, fault)?;
     }
+    Ok(())
+}
+
+// What is wrong with so many blanks as JSON, as a form and as a query.
+fn check_size(
+    rt: &impl Abort,
+    alloc: Global,
+    size: usize,
+    plain: Option<TransportError>,
+    form: TransportError,
+) -> Result<(), AllocError> {
+    let blanks = " ".repeat(alloc, size)?;
+    let text = blanks.as_str();
+    check_fault(rt, post(alloc, None, text), plain, "JSON");
+    check_fault(rt, post(alloc, Some(FORM), text), Some(form), "a form");
+    check_fault(rt, get(alloc, text), Some(form), "a query");
     Ok(())
 }
 
 #[test]
 fn sizes_are_limited(rt: HostRuntime) -> Result<(), Fail> {
-    let alloc = rt.alloc();
-    let large = " ".repeat(alloc, BODY_LIMIT)?;
-    let too_large = " ".repeat(alloc, BODY_LIMIT + 1)?;
-    assert_eq!(rt; post(alloc, None, large.as_str())?.is_ok(), true);
-    assert_eq!(rt;
-        post(alloc, None, too_large.as_str())?.err(),
-        Some(TransportError::TooLarge)
-    );
-    assert_eq!(rt;
-        post(alloc, Some(FORM), large.as_str())?.err(),
-        Some(TransportError::NoMessage)
-    );
-    assert_eq!(rt;
-        post(alloc, Some(FORM), too_large.as_str())?.err(),
-        Some(TransportError::TooLarge)
-    );
-    assert_eq!(rt;
-        get(alloc, large.as_str())?.err(),
-        Some(TransportError::NoMessage)
-    );
-    assert_eq!(rt;
-        get(alloc, too_large.as_str())?.err(),
-        Some(TransportError::TooLarge)
-    );
+    let none = TransportError::NoMessage;
+    check_size(&rt, rt.alloc(), BODY_LIMIT, None, none)?;
+    let large = TransportError::TooLarge;
+    check_size(&rt, rt.alloc(), BODY_LIMIT + 1, Some(large), large)?;
     Ok(())
+}
+
+fn connected(alloc: Global) -> Result<Item, Fail> {
+    let config = Config::new(2, 30_000, 0, 10_000).ok_or("no configuration")?;
+    let client = Text::new(alloc, "Z1")?;
+    let id = RawJson::new(alloc, "\"\u{2029}\u{2027}\"")?;
+    let (outcome, ack) = (Outcome::Connected, AckReply::NoAck);
+    let reply = Reply::to_connect(alloc, &config, &client, Some(&id), outcome, ack)?;
+    Ok(Item::ReplyItem(reply))
+}
+
+fn published(alloc: Global) -> Result<Item, Fail> {
+    let name = ChannelName::read(alloc, "/a/b")?;
+    let payload = RawJson::new(alloc, "\"x\u{2028}\u{2028}y\"")?;
+    let event = Event {
+        channel: Text::new(alloc, "/a/b")?,
+        payload,
+        id: None,
+    };
+    Ok(Item::EventItem(SharedEvent::new(alloc, event, name)?))
+}
+
+fn check_callback(
+    rt: &impl Abort,
+    alloc: Global,
+    name: &str,
+    items: &[Item],
+    wanted: &str,
+) -> Result<(), Fail> {
+    let text = callback_of(alloc, name, items)?;
+    same(rt, text.as_slice(), wanted.as_bytes(), wanted);
+    Ok(())
+}
+
+fn check_response(
+    rt: &impl Abort,
+    alloc: Global,
+    items: &[Item],
+    wanted: &str,
+) -> Result<(), Fail> {
+    let text = response_of(alloc, items)?;
+    same(rt, text.as_slice(), wanted.as_bytes(), wanted);
+    Ok(())
+}
+
+fn check_both(rt: &impl Abort, alloc: Global, items: &[Item; 2]) -> Result<(), Fail> {
+    check_callback(
+        rt,
+        alloc,
+        "cb.x",
+        items,
+        "cb.x([{\"channel\":\"/a/b\",\"data\":\"x\\u2028\\u2028y\"},{\"advice\":{\"interval\":0,\"reconnect\":\"retry\",\"timeout\":30000},\"channel\":\"/meta/connect\",\"clientId\":\"Z1\",\"id\":\"\\u2029\u{2027}\",\"successful\":true}])",
+    )?;
+    check_response(
+        rt,
+        alloc,
+        &items[..1],
+        "[{\"channel\":\"/a/b\",\"data\":\"x\u{2028}\u{2028}y\"}]",
+    )
 }
 
 #[test]
 fn callbacks_hold_no_line_ends(rt: HostRuntime) -> Result<(), Fail> {
     let alloc = rt.alloc();
-    assert_eq!(rt; response_of(alloc, &[])?.as_slice(), b"[]".as_slice());
-    assert_eq!(rt;
-        callback_of(alloc, "jsonpcallback", &[])?.as_slice(),
-        b"jsonpcallback([])".as_slice()
-    );
-    let config = Config::new(2, 30_000, 0, 10_000).ok_or("no configuration")?;
-    let client = Text::new(alloc, "Z1")?;
-    let id = RawJson::new(alloc, "\"\u{2029}\u{2027}\"")?;
-    let reply = Reply::to_connect(
-        alloc,
-        &config,
-        &client,
-        Some(&id),
-        Case::Connected,
-        AckReply::NoAck,
-    )?;
-    let event = SharedEvent::new(
-        alloc,
-        Event {
-            channel: Text::new(alloc, "/a/b")?,
-            payload: RawJson::new(alloc, "\"x\u{2028}\u{2028}y\"")?,
-            id: None,
-        },
-        ChannelName::read(alloc, "/a/b")?,
-    )?;
-    let items = [Item::EventItem(event), Item::ReplyItem(reply)];
-    assert_eq!(rt;
-        callback_of(alloc, "cb.x", &items)?.as_slice(),
-        "cb.x([{\"channel\":\"/a/b\",\"data\":\"x\\u2028\\u2028y\"},{\"advice\":{\"interval\":0,\"reconnect\":\"retry\",\"timeout\":30000},\"channel\":\"/meta/connect\",\"clientId\":\"Z1\",\"id\":\"\\u2029\u{2027}\",\"successful\":true}])".as_bytes()
-    );
-    assert_eq!(rt;
-        response_of(alloc, &items[..1])?.as_slice(),
-        "[{\"channel\":\"/a/b\",\"data\":\"x\u{2028}\u{2028}y\"}]".as_bytes()
-    );
-    Ok(())
+    check_response(&rt, alloc, &[], "[]")?;
+    check_callback(&rt, alloc, "jsonpcallback", &[], "jsonpcallback([])")?;
+    let event = published(alloc)?;
+    check_both(&rt, alloc, &[event, connected(alloc)?])
 }

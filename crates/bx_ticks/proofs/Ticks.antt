@@ -6,7 +6,7 @@ use Rattle.bx_advice.specs.declared.config.Config.{Config}
 use Rattle.bx_entry.specs.Listing.{Listed, Tick}
 use Rattle.bx_entry.specs.Registry.{Judged, Registry, judge, found_at, entries_of, entries, NoSlot}
 use Rattle.bx_entry.specs.declared.entry.Entry.{Entry}
-use Rattle.bx_entry.specs.declared.entry.Kind.TheVariants as kinds
+use Rattle.bx_entry.specs.declared.entry.EntryKind.TheVariants as kinds
 use Rattle.bx_window.specs.declared.batch.Bundle.{Bundle}
 use Rattle.bx_window.specs.Places.{Continues}
 use Rattle.bx_ticks.specs.Ticks.{ticks, tick_at, tick_entries}

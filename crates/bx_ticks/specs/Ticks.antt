@@ -2,7 +2,7 @@
 use Rattle.std.specs.Prelude.{ℕ, zero, suc, ◌+◌, List, [], ◌∷◌}
 use Rattle.bx_entry.specs.Listing.{Listed, Tick}
 use Rattle.bx_entry.specs.declared.entry.Entry.{Entry}
-use Rattle.bx_entry.specs.declared.entry.Kind.TheVariants as kinds
+use Rattle.bx_entry.specs.declared.entry.EntryKind.TheVariants as kinds
 
 -- so many ticks
 abbrev pub ticks : ℕ → List Listed

@@ -3,7 +3,7 @@ ghost use Rattle.std.specs.Prelude.{◌≡◌, ◌+◌, ◌<◌, ◌≤◌, ◌^
 ghost use Rattle.bx_window.specs.Steps.{list_of};
 ghost use Rattle.bx_ticks.specs.Ticks.{ticks, tick_entries};
 
-use bx_entry::{Batch, Entry, Kind};
+use bx_entry::{Batch, Entry, EntryKind};
 use bx_listing::Listing;
 use bx_message::Sequence;
 use bx_window::{Bundle, Front, LogWriter, Naming, Note, Refusal};
@@ -121,7 +121,7 @@ fn ticks(alloc: Global, first: u64, count: u64) -> Result<Bundle, AllocError>
     let mut entries = Sequence::new(alloc);
     let mut elements = Listing::new();
     for step in 0..count {
-        let kind = Kind::Tick(Sequence::new(alloc));
+        let kind = EntryKind::Tick(Sequence::new(alloc));
         entries.push(Entry {
             place: first + step,
             moment: 0,

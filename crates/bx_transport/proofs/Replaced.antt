@@ -13,15 +13,13 @@ use Rattle.bx_cut.proofs.Bytes.{Other, byte_cases, space_cases}
 use Rattle.bx_cut.proofs.Seen.{IsWord, is_word}
 use Rattle.bx_cut.proofs.Values.{true_other, false_other, null_other}
 use Rattle.bx_cut.proofs.Words.{AllOther, WordText, Ended, word_text, true_text, false_text, null_text}
+use Rattle.bx_cut.proofs.Local.{from_prepend, no_some}
 
 -- a text with a separator, and the same with the escape in its place
 pub data Replaced : List ℕ → List ℕ → Type 0 where
   line_here : (r : List ℕ) → Replaced (226 ∷ 128 ∷ 168 ∷ r) (92 ∷ 117 ∷ 50 ∷ 48 ∷ 50 ∷ 56 ∷ r)
   paragraph_here : (r : List ℕ) → Replaced (226 ∷ 128 ∷ 169 ∷ r) (92 ∷ 117 ∷ 50 ∷ 48 ∷ 50 ∷ 57 ∷ r)
   there : (x : ℕ) (t u : List ℕ) → Replaced t u → Replaced (x ∷ t) (x ∷ u)
-
-none_is : {P : Type 0} (s : List ℕ) → None ≡ Some s → P
-none_is s e = cc
 
 some_text : {t v : List ℕ} → Replaced t v → 0 < length t
 some_text (line_here r) = omega arith
@@ -97,12 +95,12 @@ unit_content a b c d xs = refl
 
 unit_some : (t s : List ℕ) → content after_u t ≡ Some s → Four t
 unfolding content
-unit_some [] s e = none_is s e
-unit_some (a ∷ []) s e = none_is s e
-unit_some (a ∷ b ∷ []) s e = none_is s e
-unit_some (a ∷ b ∷ c ∷ []) s e = none_is s e
+unit_some [] s e = no_some s e
+unit_some (a ∷ []) s e = no_some s e
+unit_some (a ∷ b ∷ []) s e = no_some s e
+unit_some (a ∷ b ∷ c ∷ []) s e = no_some s e
 unit_some (a ∷ b ∷ c ∷ d ∷ xs) s e =
-    let h = digits_of a b c d (λ n. none_is s (sym (ap (option_and_then (follow_unit xs)) n) ∙ sym (unit_content a b c d xs) ∙ e)) in
+    let h = digits_of a b c d (λ n. no_some s (sym (ap (option_and_then (follow_unit xs)) n) ∙ sym (unit_content a b c d xs) ∙ e)) in
     record { a = a; b = b; c = c; d = d; rest = xs; at = refl; hex_a = h.0; hex_b = h.1; hex_c = h.2; hex_d = h.3 }
 
 -- what the second unit of a pair goes on with
@@ -115,21 +113,21 @@ half_content h a b c d xs = refl
 
 half_some : (h : ℕ) (t s : List ℕ) → content (after_high h) t ≡ Some s → (y : List ℕ) × (t ≡ 92 ∷ 117 ∷ y) × Four y
 unfolding content follow_half
-half_some h [] s e = none_is s e
-half_some h (x ∷ []) s e = none_is s e
-half_some h (x ∷ u ∷ []) s e = none_is s e
-half_some h (x ∷ u ∷ a ∷ []) s e = none_is s e
-half_some h (x ∷ u ∷ a ∷ b ∷ []) s e = none_is s e
-half_some h (x ∷ u ∷ a ∷ b ∷ c ∷ []) s e = none_is s e
+half_some h [] s e = no_some s e
+half_some h (x ∷ []) s e = no_some s e
+half_some h (x ∷ u ∷ []) s e = no_some s e
+half_some h (x ∷ u ∷ a ∷ []) s e = no_some s e
+half_some h (x ∷ u ∷ a ∷ b ∷ []) s e = no_some s e
+half_some h (x ∷ u ∷ a ∷ b ∷ c ∷ []) s e = no_some s e
 half_some h (x ∷ u ∷ a ∷ b ∷ c ∷ d ∷ xs) s e = by_tests (x == 92) (u == 117) (eqb-true x 92) (eqb-true u 117) e
   where
     by_tests : (p q : Bool) → (p ≡ true → x ≡ 92) → (q ≡ true → u ≡ 117) → cond (p && q) (option_and_then (follow_half h xs) (code_unit a b c d)) None ≡ Some s
         → (y : List ℕ) × (x ∷ u ∷ a ∷ b ∷ c ∷ d ∷ xs ≡ 92 ∷ 117 ∷ y) × Four y
     by_tests true true f g e =
-        let k = digits_of a b c d (λ n. none_is s (sym (ap (option_and_then (follow_half h xs)) n) ∙ e)) in
+        let k = digits_of a b c d (λ n. no_some s (sym (ap (option_and_then (follow_half h xs)) n) ∙ e)) in
         (a ∷ b ∷ c ∷ d ∷ xs, (λ i. f refl i ∷ g refl i ∷ a ∷ b ∷ c ∷ d ∷ xs), record { a = a; b = b; c = c; d = d; rest = xs; at = refl; hex_a = k.0; hex_b = k.1; hex_c = k.2; hex_d = k.3 })
-    by_tests true false f g e = none_is s e
-    by_tests false q f g e = none_is s e
+    by_tests true false f g e = no_some s e
+    by_tests false q f g e = no_some s e
 
 hex_is : (x n : ℕ) → is_digit n 16 ≡ false → is_digit x 16 ≡ true → n ≡ x → ⊥
 hex_is x n f h e = true≢false (sym h ∙ ap (λ y. is_digit y 16) (sym e) ∙ f)
@@ -192,10 +190,6 @@ mode (after_high h) = in_string
 abbrev Stays : Within → List ℕ → List ℕ → List ℕ → Type 0
 Stays w t v s = (content w v ≡ Some s) × (lex (mode w) v ≡ lex (mode w) t)
 
-from_prepend : (p : List ℕ) (o : Option (List ℕ)) (s : List ℕ) → prepend p o ≡ Some s → (r : List ℕ) × (o ≡ Some r) × (Some (p ++ r) ≡ Some s)
-from_prepend p None s e = none_is s e
-from_prepend p (Some r) s e = (r, refl, e)
-
 plain_byte : (x : ℕ) (xs : List ℕ) (a b c : Bool) → (x == 34) ≡ a → (x == 92) ≡ b → nat_lt x 32 ≡ c → content plain (x ∷ xs) ≡ cond a (Some []) (cond b (content after_backslash xs) (cond c None (prepend (x ∷ []) (content plain xs))))
 unfolding content
 plain_byte x xs a b c p q r = λ i. cond (p i) (Some []) (cond (q i) (content after_backslash xs) (cond (r i) None (prepend (x ∷ []) (content plain xs))))
@@ -214,11 +208,11 @@ paragraph_string r = refl
 
 no_line_escape : {P : Type 0} (r s : List ℕ) → content after_backslash (226 ∷ 128 ∷ 168 ∷ r) ≡ Some s → P
 unfolding content short_escape
-no_line_escape r s e = none_is s e
+no_line_escape r s e = no_some s e
 
 no_paragraph_escape : {P : Type 0} (r s : List ℕ) → content after_backslash (226 ∷ 128 ∷ 169 ∷ r) ≡ Some s → P
 unfolding content short_escape
-no_paragraph_escape r s e = none_is s e
+no_paragraph_escape r s e = no_some s e
 
 pair_lex : (y : List ℕ) → lex in_string (92 ∷ 117 ∷ y) ≡ lex in_string y
 unfolding lex
@@ -237,7 +231,7 @@ module _ (n : ℕ) (onwards : (t v : List ℕ) → length t ≤ n → Replaced t
       let at = λ (ys : List ℕ). string_byte x ys false true p q in
       let more = ih after_backslash xs us s l R (sym (plain_byte x xs false true c p q r) ∙ e) (subst Sound (at xs) d) in
       (plain_byte x us false true c p q r ∙ more.0, at us ∙ more.1 ∙ sym (at xs))
-  plain_there k x xs us s false false true p q r l m ih R e d = none_is s (sym (plain_byte x xs false false true p q r) ∙ e)
+  plain_there k x xs us s false false true p q r l m ih R e d = no_some s (sym (plain_byte x xs false false true p q r) ∙ e)
   plain_there k x xs us s false false false p q r l m ih R e d =
       let at = λ (ys : List ℕ). string_byte x ys false false p q in
       let parts = from_prepend (x ∷ []) (content plain xs) s (sym (plain_byte x xs false false false p q r) ∙ e) in
@@ -248,7 +242,7 @@ module _ (n : ℕ) (onwards : (t v : List ℕ) → length t ≤ n → Replaced t
   escape_there k x xs us s true o p q l ih R e d =
       let more = ih after_u xs us s l R (sym (escaped_byte x xs true o p q) ∙ e) (subst Sound (escape_byte_lex x xs) d) in
       (escaped_byte x us true o p q ∙ more.0, escape_byte_lex x us ∙ more.1 ∙ sym (escape_byte_lex x xs))
-  escape_there k x xs us s false None p q l ih R e d = none_is s (sym (escaped_byte x xs false None p q) ∙ e)
+  escape_there k x xs us s false None p q l ih R e d = no_some s (sym (escaped_byte x xs false None p q) ∙ e)
   escape_there k x xs us s false (Some c) p q l ih R e d =
       let parts = from_prepend (c ∷ []) (content plain xs) s (sym (escaped_byte x xs false (Some c) p q) ∙ e) in
       let more = ih plain xs us parts.0 l R parts.1 (subst Sound (escape_byte_lex x xs) d) in
@@ -268,26 +262,26 @@ module _ (n : ℕ) (onwards : (t v : List ℕ) → length t ≤ n → Replaced t
       both ys b q = λ i. cond (p i) (content (after_high u) ys) (cond (q i) None (prepend (encode_utf8 u) (content plain ys)))
 
       low : (b : Bool) → is_low_surrogate u ≡ b → (follow_unit us u ≡ Some s) × (lex in_string us ≡ lex in_string xs)
-      low true q = none_is s (sym (both xs true q) ∙ e)
+      low true q = no_some s (sym (both xs true q) ∙ e)
       low false q =
           let parts = from_prepend (encode_utf8 u) (content plain xs) s (sym (both xs false q) ∙ e) in
           let more = ih plain xs us parts.0 l R parts.1 d in
           (both us false q ∙ ap (prepend (encode_utf8 u)) more.0 ∙ parts.2, more.1)
 
   unit_there : (k : ℕ) (xs us s : List ℕ) (o : Option ℕ) → length xs ≤ k → Shorter k → Replaced xs us → option_and_then (follow_unit xs) o ≡ Some s → Sound (lex in_string xs) → (option_and_then (follow_unit us) o ≡ Some s) × (lex in_string us ≡ lex in_string xs)
-  unit_there k xs us s None l ih R e d = none_is s e
+  unit_there k xs us s None l ih R e d = no_some s e
   unit_there k xs us s (Some u) l ih R e d = followed k u xs us s (is_high_surrogate u) (is_low_surrogate u) refl refl l ih R e d
 
   half_there : (k h : ℕ) (xs us s : List ℕ) (o : Option ℕ) → length xs ≤ k → Shorter k → Replaced xs us → option_and_then (follow_half h xs) o ≡ Some s → Sound (lex in_string xs) → (option_and_then (follow_half h us) o ≡ Some s) × (lex in_string us ≡ lex in_string xs)
   unfolding follow_half
-  half_there k h xs us s None l ih R e d = none_is s e
+  half_there k h xs us s None l ih R e d = no_some s e
   half_there k h xs us s (Some u) l ih R e d = by_low (is_low_surrogate u) refl
     where
       at : (ys : List ℕ) (b : Bool) → is_low_surrogate u ≡ b → follow_half h ys u ≡ cond b (prepend (encode_utf8 (surrogate_pair h u)) (content plain ys)) None
       at ys b q = λ i. cond (q i) (prepend (encode_utf8 (surrogate_pair h u)) (content plain ys)) None
 
       by_low : (b : Bool) → is_low_surrogate u ≡ b → (follow_half h us u ≡ Some s) × (lex in_string us ≡ lex in_string xs)
-      by_low false q = none_is s (sym (at xs false q) ∙ e)
+      by_low false q = no_some s (sym (at xs false q) ∙ e)
       by_low true q =
           let parts = from_prepend (encode_utf8 (surrogate_pair h u)) (content plain xs) s (sym (at xs true q) ∙ e) in
           let more = ih plain xs us parts.0 l R parts.1 d in

@@ -1,6 +1,7 @@
 -- How a change in one of the three maps changes what stands for which pattern.
 use Rattle.std.proofs.Common.{◌≡◌, ℕ, Bool, true, false, ◌==◌, ◌&&◌, List, refl, sym, ap, ◌∙◌}
 use Rattle.std.specs.Str.{bytes_eq}
+use Rattle.std.proofs.Math.Bool.{and-false}
 use Rattle.bx_names.specs.Segments.{path_of}
 use Rattle.bx_names.specs.Globs.{Glob, same_tail, same_segments, same_glob}
 use Rattle.bx_names.specs.declared.tail.Tail.{Tail}
@@ -9,14 +10,11 @@ use Rattle.bx_tree.specs.declared.nodes.Nodes.{Nodes}
 use Rattle.bx_tree.specs.Whole.{AreWhole}
 use Rattle.bx_tree.specs.Lists.{stands_at, lists_of, stands_for}
 use Rattle.bx_tree.proofs.WholeLemmas.{paths_decide}
+use Rattle.bx_names.specs.Equality.{same_tail-decides}
 
 and_true : (b : Bool) → (b && true) ≡ b
 and_true true = refl
 and_true false = refl
-
-and_false : (b : Bool) → (b && false) ≡ false
-and_false true = refl
-and_false false = refl
 
 -- the maps but that of this tail are the same
 abbrev OthersSame : Nodes → Nodes → Tail → Type 0
@@ -37,17 +35,6 @@ but_many old new exact one Exact h = exact
 but_many old new exact one One h = one
 but_many old new exact one Many h = cc
 
-tails_same : (s t : Tail) → same_tail s t ≡ true → s ≡ t
-tails_same Exact Exact h = refl
-tails_same Exact One h = cc
-tails_same Exact Many h = cc
-tails_same One Exact h = cc
-tails_same One One h = refl
-tails_same One Many h = cc
-tails_same Many Exact h = cc
-tails_same Many One h = cc
-tails_same Many Many h = refl
-
 -- a change of one number at the pattern's own path
 pub changed_for : (step : Bool → Bool → Bool) → ((b : Bool) → step b false ≡ b) → (old new : Nodes) (p : Glob) (tail : Tail) (path : List ℕ) (number : ℕ) → p.tail ≡ tail → path ≡ path_of p.segments → AreWhole p.segments
     → ((other : List ℕ) (n : ℕ) → stands_at (lists_of new tail) other n ≡ step (stands_at (lists_of old tail) other n) (bytes_eq path other && (n == number)))
@@ -58,7 +45,7 @@ changed_for step idle old new p tail path number tail_is path_is whole here othe
   where
     by : (b : Bool) → same_tail other.tail tail ≡ b → stands_for new other n ≡ step (stands_for old other n) ((same_segments other.segments p.segments && same_tail other.tail tail) && (n == number))
     by true e =
-        let same : other.tail ≡ tail = tails_same other.tail tail e in
+        let same : other.tail ≡ tail = (same_tail-decides other.tail tail).0 e in
         let test : bytes_eq path (path_of other.segments) ≡ (same_segments other.segments p.segments && same_tail other.tail tail) =
         ap (λ text. bytes_eq text (path_of other.segments)) path_is ∙ paths_decide p.segments other.segments whole other_whole ∙ sym (and_true (same_segments other.segments p.segments)) ∙ ap (λ b. same_segments other.segments p.segments && b) (sym e) in
         ap (λ t. stands_at (lists_of new t) (path_of other.segments) n) same
@@ -68,4 +55,4 @@ changed_for step idle old new p tail path number tail_is path_is whole here othe
     by false e =
         ap (λ lists. stands_at lists (path_of other.segments) n) (others other.tail e)
         ∙ sym (idle (stands_for old other n))
-        ∙ ap (λ b. step (stands_for old other n) (b && (n == number))) (sym (and_false (same_segments other.segments p.segments)) ∙ ap (λ b. same_segments other.segments p.segments && b) (sym e))
+        ∙ ap (λ b. step (stands_for old other n) (b && (n == number))) (sym (and-false (same_segments other.segments p.segments)) ∙ ap (λ b. same_segments other.segments p.segments && b) (sym e))

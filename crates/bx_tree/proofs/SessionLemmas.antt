@@ -1,5 +1,5 @@
 -- The patterns of one session, after a change of one session's.
-use Rattle.std.proofs.Common.{◌≡◌, ◌≢◌, ℕ, nat_eq, eqb, Bool, true, false, cond, Option, Some, Result, Ok, Err, List, [], ◌∷◌, map, length, arith, refl, sym, ap, ◌∙◌}
+use Rattle.std.proofs.Common.{◌≡◌, ◌≢◌, ℕ, nat_eq, eqb, Bool, true, false, cond, Option, Some, Result, Ok, Err, List, [], ◌∷◌, map, arith, refl, sym, ap, ◌∙◌}
 use Rattle.std.specs.Option.{option_map_or, unwrap_or}
 use Rattle.std.specs.Result.{is_ok, is_err}
 use Rattle.std.specs.Map.{lookup, set_value}
@@ -7,10 +7,6 @@ use Rattle.std.specs.HashMap.{HashMap, UpdatesBy}
 use Rattle.std.proofs.lemmas.Bool.{ne_eqb}
 use Rattle.bx_names.specs.Globs.{Glob}
 use Rattle.bx_tree.specs.Patterns.{patterns_of}
-
-pub nil_from_length : {A : Type 0} (xs : List A) → length xs ≡ 0 → xs ≡ []
-nil_from_length [] h = refl
-nil_from_length (x ∷ xs) h = absurd (omega arith)
 
 -- what a result that is known leaves
 pub when_ok : {T E X : Type 0} (r : Result T E) (a b : X) {x : X} → is_err r ≡ false → x ≡ cond (is_ok r) a b → x ≡ a

@@ -4,7 +4,7 @@ ghost use Rattle.bx_workers.specs.Numbered.{AreFresh, AreNumbered};
 
 use crate::{Gate, OpenGate, bring_up};
 use bx_advice::Config;
-use bx_entry::{ByRemainder, Entry, Kind, Ticket};
+use bx_entry::{ByRemainder, Entry, EntryKind, Ticket};
 use bx_message::{Event, RawJson, Sequence, SharedEvent, Text};
 use bx_names::{ChannelName, Pattern};
 use bx_shard::Shard;
@@ -22,7 +22,7 @@ const CONNECT: u64 = 2;
 const LOOKS: u32 = 10_000_000;
 
 // Adds an entry of this kind as the next.
-fn add(entries: &mut Vec<Entry>, kind: Kind) -> Result<(), AllocError>
+fn add(entries: &mut Vec<Entry>, kind: EntryKind) -> Result<(), AllocError>
     requires { AreNumbered entries.old.items }
     ensures { AreNumbered entries.new.items }
 {
@@ -35,15 +35,15 @@ fn add(entries: &mut Vec<Entry>, kind: Kind) -> Result<(), AllocError>
     Ok(())
 }
 
-fn subscribe(alloc: Global, session: u64, pattern: &str) -> Result<Kind, Fail> {
+fn subscribe(alloc: Global, session: u64, pattern: &str) -> Result<EntryKind, Fail> {
     let pattern = Pattern::read(alloc, pattern).map_err(|_| "no pattern")?;
     let mut patterns = Sequence::new(alloc);
     patterns.push(pattern)?;
-    Ok(Kind::Subscribe { session, patterns })
+    Ok(EntryKind::Subscribe { session, patterns })
 }
 
-fn connect(alloc: Global, session: u64) -> Result<Kind, AllocError> {
-    Ok(Kind::Connect {
+fn connect(alloc: Global, session: u64) -> Result<EntryKind, AllocError> {
+    Ok(EntryKind::Connect {
         session,
         client: Text::new(alloc, "Z1")?,
         id: None,
@@ -52,14 +52,14 @@ fn connect(alloc: Global, session: u64) -> Result<Kind, AllocError> {
     })
 }
 
-fn publish(alloc: Global, channel: &str) -> Result<Kind, Fail> {
+fn publish(alloc: Global, channel: &str) -> Result<EntryKind, Fail> {
     let event = Event {
         channel: Text::new(alloc, channel)?,
         payload: RawJson::new(alloc, "7")?,
         id: None,
     };
     let name = ChannelName::read(alloc, channel)?;
-    Ok(Kind::Publish(SharedEvent::new(alloc, event, name)?))
+    Ok(EntryKind::Publish(SharedEvent::new(alloc, event, name)?))
 }
 
 // A handshake of session 1, its subscription and connect, and a publish that answers the connect.
@@ -68,7 +68,7 @@ fn entries(alloc: Global) -> Result<Vec<Entry>, Fail>
 {
     let mut entries = Vec::new(alloc);
     let (session, ack) = (1, false);
-    add(&mut entries, Kind::Opened { session, ack })?;
+    add(&mut entries, EntryKind::Opened { session, ack })?;
     add(&mut entries, subscribe(alloc, session, "/a/*")?)?;
     add(&mut entries, connect(alloc, session)?)?;
     add(&mut entries, publish(alloc, "/a/b")?)?;

@@ -1,19 +1,20 @@
 -- No event stands in two answers of a session that does not acknowledge.
 use Rattle.std.proofs.Common.{◌≡◌, ℕ, zero, suc, ◌<◌, Bool, false, ◌==◌, Some, List, [], ◌∷◌, ◌++◌, take, find, sym, ◌∙◌, subst, arith, ne_eqb, eqb-true}
 use Rattle.std.proofs.lemmas.Bool.{cond-true, cond-false}
+use Rattle.bx_lists.proofs.Tests.{either}
 use Rattle.bx_advice.specs.declared.config.Config.{Config}
 use Rattle.bx_entry.specs.Listing.{Listed}
 use Rattle.bx_entry.specs.Registry.{entries}
 use Rattle.bx_entry.specs.Sessions.{Session, Publication, Filed, session}
-use Rattle.bx_laws.specs.Events as events
-use Rattle.bx_laws.specs.Laws.{AllBelow, Each, EachOf, given_in}
-use Rattle.bx_laws.proofs.Gained.{events_rise}
-use Rattle.bx_laws.proofs.Lists.{entries_in_order, find_each, find_true}
-use Rattle.bx_laws.proofs.Moves.{either}
-use Rattle.bx_laws.proofs.Once.{given_once}
+use Rattle.bx_theory.specs.Events as events
+use Rattle.bx_theory.specs.Laws.{AllBelow, Each, EachOf, given_in}
+use Rattle.bx_theory.proofs.Gained.{events_rise}
+use Rattle.bx_theory.proofs.Lists.{entries_in_order, find_each, find_true}
+use Rattle.bx_theory.proofs.Once.{given_once}
 use Rattle.bx_world.specs.Headline.{GivenLater, PlainGivenOnce}
 use Rattle.bx_world.proofs.Giving.{none_given_again}
 use Rattle.bx_world.proofs.InTurn.{Rising, session_turn}
+use Rattle.bx_theory.proofs.Rising.{each_of_take}
 
 -- ---- parts of a list of publications
 
@@ -25,17 +26,11 @@ of_rest : (P : Publication → Type 0) (ps qs : List Publication) → EachOf P (
 of_rest P [] qs d = d
 of_rest P (p ∷ ps) qs d = of_rest P ps qs d.1
 
-of_take : (P : Publication → Type 0) (n : ℕ) (ps : List Publication) → EachOf P ps → EachOf P (take n ps)
-of_take P zero [] d = tt
-of_take P zero (p ∷ ps) d = tt
-of_take P (suc n) [] d = tt
-of_take P (suc n) (p ∷ ps) d = (d.0, of_take P n ps d.1)
-
 rising_take : (n : ℕ) (ps : List Publication) → events.Rising ps → events.Rising (take n ps)
 rising_take zero [] r = tt
 rising_take zero (p ∷ ps) r = tt
 rising_take (suc n) [] r = tt
-rising_take (suc n) (p ∷ ps) r = (of_take (λ q. p.place < q.place) n ps r.0, rising_take n ps r.1)
+rising_take (suc n) (p ∷ ps) r = (each_of_take (λ q. p.place < q.place) n ps r.0, rising_take n ps r.1)
 
 rising_rest : (ps qs : List Publication) → events.Rising (ps ++ qs) → events.Rising qs
 rising_rest [] qs r = r

@@ -9,7 +9,7 @@ use Rattle.bx_advice.specs.declared.config.Config.{Config}
 use Rattle.bx_entry.specs.Listing.{Listed}
 use Rattle.bx_entry.specs.Registry.{entries}
 use Rattle.bx_entry.specs.declared.entry.Entry.{Entry}
-use Rattle.bx_laws.proofs.Lists.{entries_length}
+use Rattle.bx_theory.proofs.Lists.{entries_length}
 use Rattle.bx_shard.specs.Refining.{Refines}
 use Rattle.bx_shard.specs.Seen.{state}
 use Rattle.bx_shard.specs.Shards.{Setup}

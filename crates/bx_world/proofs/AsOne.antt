@@ -6,7 +6,7 @@ use Rattle.bx_entry.specs.Listing.{Listed}
 use Rattle.bx_entry.specs.Registry.{entries}
 use Rattle.bx_entry.specs.Sessions.{session}
 use Rattle.bx_entry.specs.declared.entry.Entry.{Entry}
-use Rattle.bx_laws.proofs.Done.{done_never_falls}
+use Rattle.bx_theory.proofs.Done.{done_never_falls}
 use Rattle.bx_world.specs.Headline.{Headline, session_before}
 use Rattle.bx_world.proofs.Takes.{list_is_admitted, takes_are_answers}
 use Rattle.bx_world.proofs.Files.{none_taken_twice}

@@ -4,18 +4,19 @@ use Rattle.std.proofs.lemmas.Bool.{cond_both, cond-true, cond-false, lt-ltb}
 use Rattle.std.proofs.lemmas.List.Folds.{find-append, list_any-append}
 use Rattle.std.specs.Option.{option_or}
 use Rattle.std.specs.List.{list_any}
+use Rattle.bx_lists.proofs.Tests.{either}
 use Rattle.bx_advice.specs.declared.config.Config.{Config}
 use Rattle.bx_message.specs.declared.reply.Answer.{Answer}
 use Rattle.bx_advice.specs.declared.error.Error.{Error}
-use Rattle.bx_message.specs.declared.column.Column.{Column}
+use Rattle.bx_message.specs.declared.message_kind.MessageKind.{MessageKind}
 use Rattle.bx_entry.specs.Listing.{Listed, Post, Posted}
-use Rattle.bx_message.specs.Columns.{column_of}
+use Rattle.bx_message.specs.MessageKinds.{message_kind_of}
 use Rattle.bx_entry.specs.Listing as messages
 use Rattle.bx_entry.specs.Registry.{Registry, Registered, Judged, PlaceSlot, Ready, Waiting, NoSlot, judge, judged_by, served, opened, slot_for, left_by, extended, swept, is_overdue, named_by, refusal, hold_of, is_ack, registry, empty_registry, entries_of}
 use Rattle.bx_entry.specs.declared.input.Input.{Input}
 use Rattle.bx_entry.specs.Sessions.{Session, Filed, session}
 use Rattle.bx_entry.specs.Answers.{PlacedAnswer, answer_of, answer_by, answer_at}
-use Rattle.bx_laws.specs.Readings.{EachSession}
+use Rattle.bx_theory.specs.Readings.{EachSession}
 use Rattle.bx_shard.specs.Shards.{Setup, shard_at, sessions_in, stands_in, is_taken}
 use Rattle.bx_world.specs.Worlds.{WorldState, IsOutput, Runs, after, filed_under}
 use Rattle.bx_shard.specs.Refining.{given_of}
@@ -25,9 +26,8 @@ use Rattle.bx_world.specs.declared.step.StepOut.{StepOut}
 use Rattle.bx_world.specs.declared.step.StepOut.TheVariants.{Admitted, NotAdmitted, Applied, Level, Taken, OutOfMemory}
 use Rattle.bx_entry.specs.declared.entry.Ticket.{Ticket}
 use Rattle.bx_world.specs.Schedules.{AnswersAreFiled, AnswersCanBeTaken, NoneTakenTwice, SchedulesCompose, EachNew, taken_by, taken_places}
-use Rattle.bx_laws.proofs.Moves.{either}
-use Rattle.bx_laws.proofs.Lists.{find_each, find_true, judged_more, answer_within}
-use Rattle.bx_laws.proofs.Dues.{EachJudged, each_judged_push, each_judged_map, each_session_map, named_session}
+use Rattle.bx_theory.proofs.Lists.{find_each, find_true, judged_more, answer_within}
+use Rattle.bx_theory.proofs.Dues.{EachJudged, each_judged_push, each_judged_map, each_session_map, named_session}
 use Rattle.bx_shard.proofs.Waits.{WaitsAt, answered_waits}
 use Rattle.bx_shard.proofs.Untaken.{found_kept, find_untaken}
 
@@ -68,14 +68,14 @@ Waiters r = EachJudged (λ j. SlotHas r.sessions j.slot) r.judged
 waiters_push : (r : Registry) (ts : List Registered) (j : Judged) → ((n : ℕ) → has n r.sessions ≡ true → has n ts ≡ true) → SlotHas ts j.slot → Waiters r → EachJudged (λ i. SlotHas ts i.slot) (r.judged ++ j ∷ [])
 waiters_push r ts j h s w = each_judged_push (λ i. SlotHas ts i.slot) r.judged j (each_judged_map (λ i. SlotHas r.sessions i.slot) (λ i. SlotHas ts i.slot) r.judged (λ i g. slot_has r.sessions ts i.slot h g) w) s
 
-left_has : (c : Column) (number n : ℕ) (rs : List Registered) → has n (left_by c number rs) ≡ has n rs
-left_has Column.Handshake number n rs = refl
-left_has Column.Connect number n rs = refl
-left_has Column.Subscribe number n rs = refl
-left_has Column.Unsubscribe number n rs = refl
-left_has Column.Disconnect number n rs = has_map (λ s. cond (s.number == number) (record s { live = false }) s) n rs (λ s. let t : Registered = record s { live = false } in cond_both (s.number == number) t s (λ (u : Registered). u.number ≡ s.number) (λ e. refl) (λ e. refl))
-left_has Column.Publish number n rs = refl
-left_has Column.UnknownMeta number n rs = refl
+left_has : (c : MessageKind) (number n : ℕ) (rs : List Registered) → has n (left_by c number rs) ≡ has n rs
+left_has MessageKind.Handshake number n rs = refl
+left_has MessageKind.Connect number n rs = refl
+left_has MessageKind.Subscribe number n rs = refl
+left_has MessageKind.Unsubscribe number n rs = refl
+left_has MessageKind.Disconnect number n rs = has_map (λ s. cond (s.number == number) (record s { live = false }) s) n rs (λ s. let t : Registered = record s { live = false } in cond_both (s.number == number) t s (λ (u : Registered). u.number ≡ s.number) (λ e. refl) (λ e. refl))
+left_has MessageKind.Publish number n rs = refl
+left_has MessageKind.UnknownMeta number n rs = refl
 
 extended_has : (number due n : ℕ) (rs : List Registered) → has n (extended number due rs) ≡ has n rs
 extended_has number due n rs = has_map (λ s. cond (s.number == number) (record s { due = max s.due due }) s) n rs (λ s. let t : Registered = record s { due = max s.due due } in cond_both (s.number == number) t s (λ (u : Registered). u.number ≡ s.number) (λ e. refl) (λ e. refl))
@@ -83,16 +83,16 @@ extended_has number due n rs = has_map (λ s. cond (s.number == number) (record 
 swept_has : (moment n : ℕ) (rs : List Registered) → has n (swept moment rs) ≡ has n rs
 swept_has moment n rs = has_map (λ s. cond (is_overdue moment s) (record s { live = false }) s) n rs (λ s. let t : Registered = record s { live = false } in cond_both (is_overdue moment s) t s (λ (u : Registered). u.number ≡ s.number) (λ e. refl) (λ e. refl))
 
-slot_served : (config : Config) (c : Column) (p : Posted) (s : Registered) (rs : List Registered) → has s.number rs ≡ true → SlotHas rs (slot_for config c p s)
-slot_served config Column.Handshake p s rs h = tt
-slot_served config Column.Connect p s rs h = h
-slot_served config Column.Subscribe p s rs h = tt
-slot_served config Column.Unsubscribe p s rs h = tt
-slot_served config Column.Disconnect p s rs h = tt
-slot_served config Column.Publish p s rs h = tt
-slot_served config Column.UnknownMeta p s rs h = tt
+slot_served : (config : Config) (c : MessageKind) (p : Posted) (s : Registered) (rs : List Registered) → has s.number rs ≡ true → SlotHas rs (slot_for config c p s)
+slot_served config MessageKind.Handshake p s rs h = tt
+slot_served config MessageKind.Connect p s rs h = h
+slot_served config MessageKind.Subscribe p s rs h = tt
+slot_served config MessageKind.Unsubscribe p s rs h = tt
+slot_served config MessageKind.Disconnect p s rs h = tt
+slot_served config MessageKind.Publish p s rs h = tt
+slot_served config MessageKind.UnknownMeta p s rs h = tt
 
-served_waiters : (config : Config) (r : Registry) (moment : ℕ) (p : Posted) (c : Column) (s : Registered) (hold : ℕ) → has s.number r.sessions ≡ true → Waiters r → Waiters (served config r moment p c s hold)
+served_waiters : (config : Config) (r : Registry) (moment : ℕ) (p : Posted) (c : MessageKind) (s : Registered) (hold : ℕ) → has s.number r.sessions ≡ true → Waiters r → Waiters (served config r moment p c s hold)
 served_waiters config r moment p c s hold here w =
     let due : ℕ = moment + hold + config.max_interval in
     let ts : List Registered = left_by c s.number (extended s.number due r.sessions) in
@@ -103,11 +103,11 @@ served_waiters config r moment p c s hold here w =
 judged_by_waiters : (config : Config) (r : Registry) (moment : ℕ) (p : Posted) (sender : Option Registered) (error : Option Error) → ((s : Registered) → sender ≡ Some s → has s.number r.sessions ≡ true) → Waiters r → Waiters (judged_by config r moment p sender error)
 judged_by_waiters config r moment p sender (Some error) h w = waiters_push r r.sessions _ (λ n g. g) tt w
 judged_by_waiters config r moment p None None h w = waiters_push r (opened config r moment p (length r.sessions + 1) (is_ack p.message.ack)).sessions _ (λ n g. has_push n r.sessions _ g) tt w
-judged_by_waiters config r moment p (Some s) None h w = served_waiters config r moment p (column_of p.message.channel) s (hold_of config p) (h s refl) w
+judged_by_waiters config r moment p (Some s) None h w = served_waiters config r moment p (message_kind_of p.message.channel) s (hold_of config p) (h s refl) w
 
 judge_waiters : (config : Config) (r : Registry) (x : Listed) → Waiters r → Waiters (judge config r x)
-judge_waiters config r (Post p) w = judged_by_waiters config r (max r.clock p.moment) p (named_by r.sessions (column_of p.message.channel) p.message) (refusal config r.sessions p)
-    (λ s e. named_session (λ q. has q.number r.sessions ≡ true) r.sessions (column_of p.message.channel) p.message s e (each_has r.sessions)) w
+judge_waiters config r (Post p) w = judged_by_waiters config r (max r.clock p.moment) p (named_by r.sessions (message_kind_of p.message.channel) p.message) (refusal config r.sessions p)
+    (λ s e. named_session (λ q. has q.number r.sessions ≡ true) r.sessions (message_kind_of p.message.channel) p.message s e (each_has r.sessions)) w
 judge_waiters config r (messages.Tick moment) w = let now : ℕ = max r.clock moment in waiters_push r (swept now r.sessions) _ (λ n g. swept_has now n r.sessions ∙ g) tt w
 
 run_waiters : (config : Config) (r : Registry) (xs : List Listed) → Waiters r → Waiters (fold (judge config) r xs)

@@ -10,7 +10,7 @@ use Rattle.bx_entry.specs.declared.entry.Entry.{Entry}
 use Rattle.bx_entry.specs.Registry.{Judged, Waiting, registry, entries}
 use Rattle.bx_entry.specs.Sessions.{Session, Filed, step, session, unopened}
 use Rattle.bx_entry.specs.Answers.{answer_of, events_of, filed_for, answer_by, answer_at, answer}
-use Rattle.bx_laws.specs.Laws.{InStep, Each, AllBelow, PlacesFrom, GivesLater}
+use Rattle.bx_theory.specs.Laws.{InStep, Each, AllBelow, PlacesFrom, GivesLater}
 use Rattle.bx_shard.specs.Refining.{given_of}
 use Rattle.bx_world.specs.Schedules.{EachTook}
 use Rattle.bx_world.specs.Headline.{slot_at, Gave, GaveIn, GivenLater, NoneGivenAgain}
@@ -19,10 +19,10 @@ use Rattle.bx_world.specs.declared.step.Step.TheVariants.{Admit, Apply, Take}
 use Rattle.bx_world.specs.declared.step.StepOut.{StepOut}
 use Rattle.bx_world.specs.declared.step.StepOut.TheVariants.{Admitted, NotAdmitted, Applied, Level, Taken, OutOfMemory}
 use Rattle.bx_entry.specs.declared.entry.Ticket.{Ticket}
-use Rattle.bx_laws.proofs.Counts.{stays_in_step, unopened_in_step}
-use Rattle.bx_laws.proofs.Moves.{Moved, step_moved, each_map, each_append}
-use Rattle.bx_laws.proofs.Lists.{find_each, entries_in_order}
-use Rattle.bx_laws.proofs.Rising.{no_event_twice}
+use Rattle.bx_theory.proofs.Counts.{stays_in_step, unopened_in_step}
+use Rattle.bx_theory.proofs.Moves.{Moved, step_moved, each_map, each_append}
+use Rattle.bx_theory.proofs.Lists.{find_each, entries_in_order}
+use Rattle.bx_theory.proofs.Rising.{no_event_twice}
 use Rattle.bx_world.proofs.Takes.{takes_are_answers}
 
 -- ---- what was given is the list's

@@ -3,17 +3,17 @@ use Rattle.std.proofs.Common.{◌≡◌, ℕ, ◌+◌, ◌<◌, ◌≤◌, Bool,
 use Rattle.std.proofs.lemmas.Bool.{cond_both, cond-true, cond-false}
 use Rattle.std.specs.List.{list_any}
 use Rattle.bx_advice.specs.declared.config.Config.{Config}
-use Rattle.bx_advice.specs.declared.advice.Case.{Case}
-use Rattle.bx_advice.specs.declared.advice.Case.TheVariants.{Connected, Disconnected, Failed}
+use Rattle.bx_advice.specs.declared.advice.Outcome.{Outcome}
+use Rattle.bx_advice.specs.declared.advice.Outcome.TheVariants.{Connected, Disconnected, Failed}
 use Rattle.bx_advice.specs.declared.error.Error.TheVariants.{SupersededConnect, QueueOverflow}
 use Rattle.bx_entry.specs.declared.entry.Entry.{Entry}
-use Rattle.bx_entry.specs.declared.entry.Kind.{Kind}
-use Rattle.bx_entry.specs.declared.entry.Kind.TheVariants.{Connect, Subscribe, Unsubscribe, Publish, Disconnect, Refused, Tick}
-use Rattle.bx_entry.specs.declared.entry.Kind.TheVariants as entries
+use Rattle.bx_entry.specs.declared.entry.EntryKind.{EntryKind}
+use Rattle.bx_entry.specs.declared.entry.EntryKind.TheVariants.{Connect, Subscribe, Unsubscribe, Publish, Disconnect, Refused, Tick}
+use Rattle.bx_entry.specs.declared.entry.EntryKind.TheVariants as entries
 use Rattle.bx_entry.specs.Sessions.{Session, Publication, Pending, Filed, Stage, Unopened, Live, Closed, filing, answered, unheld, released_from, released, cleared, acknowledged, portion, with_batch, formed, forgotten, gives, given, holding, idle, answered_or_held, connected, subscribed, unsubscribed, gives_one, with_event, delivered_to, delivered, overflowed, is_hit, has_room, published, begun, expired_from, expired, ended, closed_by, disconnected, step_by, step, session, unopened}
-use Rattle.bx_laws.specs.Laws.{Each, PlacesFrom}
-use Rattle.bx_laws.proofs.Counts.{subscribed_by}
-use Rattle.bx_laws.proofs.Moves.{each_map, each_append}
+use Rattle.bx_theory.specs.Laws.{Each, PlacesFrom}
+use Rattle.bx_theory.proofs.Counts.{subscribed_by}
+use Rattle.bx_theory.proofs.Moves.{each_map, each_append}
 
 -- each answered connect stands before those that were answered later
 abbrev pub Rising : List Filed → Type 0
@@ -59,22 +59,22 @@ free_more : (m n : ℕ) (s : Session) → m ≤ n → Free m s → Free n s
 free_more m n s l f = record { rising = f.rising; below = below_more m n s.answers l f.below; none = f.none }
 
 -- one more is answered
-answered_free : (config : Config) (p : Pending) (place : ℕ) (given : List Publication) (case : Case) (s : Session) → Free p.place s → Free (p.place + 1) (answered config p place given case s)
-answered_free config p place given case s f = record {
-  rising = rising_push s.answers (filing config p place given case s) f.rising f.below;
-  below = each_append (λ g. g.connect < p.place + 1) s.answers (filing config p place given case s ∷ []) (below_more p.place (p.place + 1) s.answers (omega arith) f.below) (omega arith, tt);
+answered_free : (config : Config) (p : Pending) (place : ℕ) (given : List Publication) (outcome : Outcome) (s : Session) → Free p.place s → Free (p.place + 1) (answered config p place given outcome s)
+answered_free config p place given outcome s f = record {
+  rising = rising_push s.answers (filing config p place given outcome s) f.rising f.below;
+  below = each_append (λ g. g.connect < p.place + 1) s.answers (filing config p place given outcome s ∷ []) (below_more p.place (p.place + 1) s.answers (omega arith) f.below) (omega arith, tt);
   none = f.none;
 }
 
-released_from_free : (config : Config) (n place : ℕ) (case : Case) (s : Session) (held : Option Pending) → s.held ≡ held → InTurn n s → Free n (released_from config place case s held)
-released_from_free config n place case s None e t = record { rising = t.rising; below = subst (Behind n s.answers) e t.behind; none = e }
-released_from_free config n place case s (Some p) e t =
+released_from_free : (config : Config) (n place : ℕ) (outcome : Outcome) (s : Session) (held : Option Pending) → s.held ≡ held → InTurn n s → Free n (released_from config place outcome s held)
+released_from_free config n place outcome s None e t = record { rising = t.rising; below = subst (Behind n s.answers) e t.behind; none = e }
+released_from_free config n place outcome s (Some p) e t =
     let b : Behind n s.answers (Some p) = subst (Behind n s.answers) e t.behind in
-    let f : Free (p.place + 1) (answered config p place [] case (unheld s)) = answered_free config p place [] case (unheld s) (record { rising = t.rising; below = b.0; none = refl }) in
-    free_more (p.place + 1) n (answered config p place [] case (unheld s)) (omega (arith, b.1)) f
+    let f : Free (p.place + 1) (answered config p place [] outcome (unheld s)) = answered_free config p place [] outcome (unheld s) (record { rising = t.rising; below = b.0; none = refl }) in
+    free_more (p.place + 1) n (answered config p place [] outcome (unheld s)) (omega (arith, b.1)) f
 
-released_free : (config : Config) (n place : ℕ) (case : Case) (s : Session) → InTurn n s → Free n (released config place case s)
-released_free config n place case s t = released_from_free config n place case s s.held refl t
+released_free : (config : Config) (n place : ℕ) (outcome : Outcome) (s : Session) → InTurn n s → Free n (released config place outcome s)
+released_free config n place outcome s t = released_from_free config n place outcome s s.held refl t
 
 acknowledged_free : (n : ℕ) (acked : Option ℕ) (s : Session) → Free n s → Free n (acknowledged acked s)
 acknowledged_free n None s f = f
@@ -86,8 +86,8 @@ formed_free config n s f = cond_both ((s.out == 0) && nat_lt 0 (portion config s
 gives_free : (config : Config) (n : ℕ) (s : Session) → Free n s → Free n (gives config s)
 gives_free config n s f = cond_both s.ack (formed config s) (forgotten (portion config s) s) (Free n) (λ h. formed_free config n s f) (λ h. record { rising = f.rising; below = f.below; none = f.none })
 
-answered_turn : (config : Config) (p : Pending) (place : ℕ) (given : List Publication) (case : Case) (s : Session) → Free p.place s → InTurn (p.place + 1) (answered config p place given case s)
-answered_turn config p place given case s f = free_turn (p.place + 1) (answered config p place given case s) (answered_free config p place given case s f)
+answered_turn : (config : Config) (p : Pending) (place : ℕ) (given : List Publication) (outcome : Outcome) (s : Session) → Free p.place s → InTurn (p.place + 1) (answered config p place given outcome s)
+answered_turn config p place given outcome s f = free_turn (p.place + 1) (answered config p place given outcome s) (answered_free config p place given outcome s f)
 
 idle_turn : (config : Config) (p : Pending) (s : Session) → Free p.place s → InTurn (p.place + 1) (idle config p s)
 idle_turn config p s f =
@@ -141,7 +141,7 @@ begun_turn n ack s Unopened t = record { rising = t.rising; behind = t.behind }
 begun_turn n ack s Live t = t
 begun_turn n ack s Closed t = t
 
-step_by_turn : (config : Config) (place moment : ℕ) (s : Session) (k : Kind) → InTurn place s → InTurn (place + 1) (step_by config place moment s k)
+step_by_turn : (config : Config) (place moment : ℕ) (s : Session) (k : EntryKind) → InTurn place s → InTurn (place + 1) (step_by config place moment s k)
 step_by_turn config place moment s (entries.Opened m ack) t =
     turn_more place (place + 1) (step_by config place moment s (entries.Opened m ack)) (omega arith)
     (cond_both (m == s.number) (begun ack s s.stage) s (InTurn place) (λ h. begun_turn place ack s s.stage t) (λ h. t))

@@ -16,4 +16,4 @@ pub mod Starting
 pub mod Runs
 pub mod Slowest
 pub mod Upwards
-pub mod Dealing
+pub mod Redistribution

@@ -1,17 +1,17 @@
 -- A connect that acknowledges nothing new is answered with the outstanding batch.
 use Rattle.std.proofs.Common.{◌≡◌, ℕ, ◌<◌, min, false, true, ◌==◌, ◌&&◌, Option, Some, None, List, [], ◌∷◌, ◌++◌, length, take, nat_lt, nat_le, refl, sym, ap, ◌∙◌, subst, arith, length-take, eq-eqb}
 use Rattle.std.proofs.lemmas.Bool.{cond-true, cond-false, and_left, and_right, lt-leb, ne_eqb}
+use Rattle.bx_lists.proofs.Tests.{either}
 use Rattle.bx_advice.specs.declared.config.Config.{Config}
-use Rattle.bx_advice.specs.declared.advice.Case.{Case}
-use Rattle.bx_advice.specs.declared.advice.Case.TheVariants.{Connected, Failed}
+use Rattle.bx_advice.specs.declared.advice.Outcome.{Outcome}
+use Rattle.bx_advice.specs.declared.advice.Outcome.TheVariants.{Connected, Failed}
 use Rattle.bx_advice.specs.declared.error.Error.TheVariants.{SupersededConnect, QueueOverflow}
 use Rattle.bx_entry.specs.declared.entry.Entry.{Entry}
-use Rattle.bx_entry.specs.declared.entry.Kind.TheVariants.{Connect}
+use Rattle.bx_entry.specs.declared.entry.EntryKind.TheVariants.{Connect}
 use Rattle.bx_entry.specs.Sessions.{Session, Publication, Pending, Filed, filing, answered, released_from, released, acknowledged, cleared, portion, batch, with_batch, formed, gives, given, idle, answered_or_held, connected, step_by, step, session, unopened}
-use Rattle.bx_laws.specs.Laws.{InStep, Repeats, LastAnswer}
-use Rattle.bx_laws.proofs.Counts.{all_in_step, unopened_in_step, released_in}
-use Rattle.bx_laws.proofs.Moves.{either}
-use Rattle.bx_laws.proofs.Runs.{Grown, run_grown, all_places}
+use Rattle.bx_theory.specs.Laws.{InStep, Repeats, LastAnswer}
+use Rattle.bx_theory.proofs.Counts.{all_in_step, unopened_in_step, released_in}
+use Rattle.bx_theory.proofs.Runs.{Grown, run_grown, all_places}
 
 -- a session with this batch outstanding
 record Stands (config : Config) (num : ℕ) (b : List Publication) (s : Session) : Type 0 where
@@ -22,10 +22,10 @@ record Stands (config : Config) (num : ℕ) (b : List Publication) (s : Session)
   numbered : s.num ≡ num
   same : batch s ≡ b
 
-released_stands : (config : Config) (num place : ℕ) (b : List Publication) (case : Case) (s : Session) (held : Option Pending) → InStep config (released_from config place case s held) → Stands config num b s →
-    Stands config num b (released_from config place case s held)
-released_stands config num place b case s None i t = t
-released_stands config num place b case s (Some p) i t = record { inside = i; ack = t.ack; overflow = t.overflow; out = t.out; numbered = t.numbered; same = t.same }
+released_stands : (config : Config) (num place : ℕ) (b : List Publication) (outcome : Outcome) (s : Session) (held : Option Pending) → InStep config (released_from config place outcome s held) → Stands config num b s →
+    Stands config num b (released_from config place outcome s held)
+released_stands config num place b outcome s None i t = t
+released_stands config num place b outcome s (Some p) i t = record { inside = i; ack = t.ack; overflow = t.overflow; out = t.out; numbered = t.numbered; same = t.same }
 
 acknowledged_stands : (config : Config) (num : ℕ) (b : List Publication) (acked : Option ℕ) (s : Session) → Repeats num acked → Stands config num b s → acknowledged acked s ≡ s
 acknowledged_stands config num b None s r t = refl
@@ -55,8 +55,8 @@ last_same (x ∷ []) [] f g e = cc
 last_same (x ∷ z ∷ xs) [] f g e = cc
 last_same (x ∷ xs) (y ∷ ys) f g e = last_same xs ys f g (let h : xs ++ f ∷ [] ≡ ys ++ g ∷ [] = cc in h)
 
-answered_gives : (config : Config) (p : Pending) (place : ℕ) (b : List Publication) (case : Case) (s : Session) → Gives b (answered config p place b case s)
-answered_gives config p place b case s f l = ap (λ (g : Filed). g.publications) (last_same l.0 s.answers f (filing config p place b case s) (sym l.1))
+answered_gives : (config : Config) (p : Pending) (place : ℕ) (b : List Publication) (outcome : Outcome) (s : Session) → Gives b (answered config p place b outcome s)
+answered_gives config p place b outcome s f l = ap (λ (g : Filed). g.publications) (last_same l.0 s.answers f (filing config p place b outcome s) (sym l.1))
 
 answered_or_held_gives : (config : Config) (p : Pending) (num : ℕ) (b : List Publication) (s : Session) → Stands config num b s → Gives b (answered_or_held config p s)
 answered_or_held_gives config p num b s t =

@@ -10,11 +10,11 @@ use Rattle.bx_entry.specs.declared.entry.Entry.{Entry}
 use Rattle.bx_entry.specs.Registry.{Waiting, registry, entries}
 use Rattle.bx_entry.specs.Sessions.{Session, Filed, batch, step, session, unopened}
 use Rattle.bx_entry.specs.Answers.{answer_of, events_of, answer}
-use Rattle.bx_laws.specs.Laws.{Each, PlacesFrom, LastAnswer, Repetition}
-use Rattle.bx_laws.proofs.Batches.{batch_repeats}
-use Rattle.bx_laws.proofs.Counts.{all_in_step, unopened_in_step}
-use Rattle.bx_laws.proofs.Lists.{find_each, entries_in_order}
-use Rattle.bx_laws.proofs.Runs.{Grown, run_grown, all_places}
+use Rattle.bx_theory.specs.Laws.{Each, PlacesFrom, LastAnswer, Repetition}
+use Rattle.bx_theory.proofs.Batches.{batch_repeats}
+use Rattle.bx_theory.proofs.Counts.{all_in_step, unopened_in_step}
+use Rattle.bx_theory.proofs.Lists.{find_each, entries_in_order}
+use Rattle.bx_theory.proofs.Runs.{Grown, run_grown, all_places}
 use Rattle.bx_shard.proofs.Waits.{WaitsAt, answered_waits}
 use Rattle.bx_shard.specs.Refining.{given_of}
 use Rattle.bx_world.specs.Schedules.{EachTook}

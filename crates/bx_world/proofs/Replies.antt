@@ -4,9 +4,9 @@ use Rattle.std.proofs.lemmas.List.{map-append, length-map, drop_at}
 use Rattle.std.proofs.lemmas.List.Sums.{fold-append}
 use Rattle.bx_advice.specs.declared.config.Config.{Config}
 use Rattle.bx_advice.specs.declared.error.Error.{Error}
-use Rattle.bx_message.specs.declared.column.Column.{Column}
+use Rattle.bx_message.specs.declared.message_kind.MessageKind.{MessageKind}
 use Rattle.bx_message.specs.declared.message.Message.{Message}
-use Rattle.bx_message.specs.Columns.{column_of, is_handshake}
+use Rattle.bx_message.specs.MessageKinds.{message_kind_of, is_handshake}
 use Rattle.bx_entry.specs.Listing.{Listed, Post, Posted, listed_from}
 use Rattle.bx_entry.specs.Listing as messages
 use Rattle.bx_entry.specs.Inputs.{ReadInput, Request, Unread, Tick, added_by}
@@ -26,7 +26,7 @@ use Rattle.bx_world.specs.declared.step.StepOut.{StepOut}
 use Rattle.bx_world.specs.declared.step.StepOut.TheVariants.{Admitted, NotAdmitted, Applied, Level, Taken, OutOfMemory}
 use Rattle.bx_world.specs.Headline.{EachSlot, IsAdmitted, RepliedBy, Replied, EachReplied, RepliesAreAnswers}
 use Rattle.bx_world.proofs.Takes.{Longer, run_longer}
-use Rattle.bx_laws.proofs.Lists.{judged_more, judged_length}
+use Rattle.bx_theory.proofs.Lists.{judged_more, judged_length}
 
 -- ---- every message has a slot, and no tick has one
 
@@ -45,14 +45,14 @@ AllSlotted [] (j ∷ js) = ⊥
 AllSlotted (x ∷ xs) [] = ⊥
 AllSlotted (x ∷ xs) (j ∷ js) = Slotted x j.slot × AllSlotted xs js
 
-slot_for_message : (config : Config) (c : Column) (p : Posted) (s : Registered) → Slotted (Post p) (slot_for config c p s)
-slot_for_message config Column.Handshake p s = tt
-slot_for_message config Column.Connect p s = tt
-slot_for_message config Column.Subscribe p s = tt
-slot_for_message config Column.Unsubscribe p s = tt
-slot_for_message config Column.Disconnect p s = tt
-slot_for_message config Column.Publish p s = tt
-slot_for_message config Column.UnknownMeta p s = tt
+slot_for_message : (config : Config) (c : MessageKind) (p : Posted) (s : Registered) → Slotted (Post p) (slot_for config c p s)
+slot_for_message config MessageKind.Handshake p s = tt
+slot_for_message config MessageKind.Connect p s = tt
+slot_for_message config MessageKind.Subscribe p s = tt
+slot_for_message config MessageKind.Unsubscribe p s = tt
+slot_for_message config MessageKind.Disconnect p s = tt
+slot_for_message config MessageKind.Publish p s = tt
+slot_for_message config MessageKind.UnknownMeta p s = tt
 
 -- one more place is judged, with the slot of this element
 record Slots (x : Listed) (r t : Registry) : Type 0 where
@@ -63,10 +63,10 @@ record Slots (x : Listed) (r t : Registry) : Type 0 where
 judged_by_slots : (config : Config) (r : Registry) (moment : ℕ) (p : Posted) (sender : Option Registered) (error : Option Error) → Slots (Post p) r (judged_by config r moment p sender error)
 judged_by_slots config r moment p sender (Some error) = record { found = _; judged = refl; slotted = tt }
 judged_by_slots config r moment p None None = record { found = _; judged = refl; slotted = tt }
-judged_by_slots config r moment p (Some s) None = record { found = _; judged = refl; slotted = slot_for_message config (column_of p.message.channel) p s }
+judged_by_slots config r moment p (Some s) None = record { found = _; judged = refl; slotted = slot_for_message config (message_kind_of p.message.channel) p s }
 
 judge_slots : (config : Config) (r : Registry) (x : Listed) → Slots x r (judge config r x)
-judge_slots config r (Post p) = judged_by_slots config r (max r.clock p.moment) p (named_by r.sessions (column_of p.message.channel) p.message) (refusal config r.sessions p)
+judge_slots config r (Post p) = judged_by_slots config r (max r.clock p.moment) p (named_by r.sessions (message_kind_of p.message.channel) p.message) (refusal config r.sessions p)
 judge_slots config r (messages.Tick moment) = record { found = _; judged = refl; slotted = tt }
 
 record Adds (xs : List Listed) (r t : Registry) : Type 0 where

@@ -3,7 +3,7 @@ use Rattle.std.proofs.Common.{◌≡◌, ◌≢◌, ℕ, ◌<◌, true, Some, Li
 use Rattle.std.proofs.lemmas.Bool.{eq-eqb}
 use Rattle.std.proofs.lemmas.List.{length-set, get_or-set_same, get_or-set_other}
 use Rattle.std.proofs.lemmas.Option.{slice_get-get_or, get_or_from_slice_get, slice_get_within, slice_get-map}
-use Rattle.bx_laws.proofs.Moves.{either}
+use Rattle.bx_lists.proofs.Tests.{either}
 
 pub set_here : {X : Type 0} (xs : List X) (i : ℕ) (y : X) → i < length xs → slice_get (slice_set xs i y) i ≡ Some y
 set_here {X} xs i y h = slice_get-get_or (slice_set xs i y) i y (omega (arith, h, length-set xs i y)) ∙ ap Some (get_or-set_same xs i y y h)

@@ -2,6 +2,7 @@
 use Rattle.std.proofs.Common.{◌≡◌, ℕ, zero, suc, Some, None, List, [], ◌∷◌, ◌++◌, length, map, slice_get, refl, sym, ap, ◌∙◌, subst, arith}
 use Rattle.std.specs.Prelude.{replicate}
 use Rattle.std.specs.Arc.{arc_value}
+use Rattle.bx_lists.proofs.Lists.{each_push}
 use Rattle.bx_advice.specs.declared.config.Config.{Config}
 use Rattle.bx_entry.specs.Listing.{Listed}
 use Rattle.bx_shard.specs.Refining.{Refines}
@@ -30,12 +31,6 @@ abbrev pub AreFirst : {P : Type 0} → (P → ℕ → ℕ → ℕ) → Config �
 AreFirst {P} place_of config placing xs = (k : ℕ) (s : Shard P) → slice_get xs k ≡ Some s → IsFirst place_of config placing k s
 
 -- the last of a row, or one of those before it
-each_push : {X : Type 0} (P : ℕ → X → Type 0) (xs : List X) (y : X) → ((k : ℕ) (x : X) → slice_get xs k ≡ Some x → P k x) → P (length xs) y → (k : ℕ) (x : X) → slice_get (xs ++ y ∷ []) k ≡ Some x → P k x
-each_push P [] y each here zero x e = let same : y ≡ x = cc in subst (P 0) same here
-each_push P [] y each here (suc k) x e = absurd (cc)
-each_push P (z ∷ xs) y each here zero x e = each 0 x e
-each_push P (z ∷ xs) y each here (suc k) x e =
-    each_push (λ n. P (suc n)) xs y (λ n v g. each (suc n) v g) here k x e
 
 pub none_first : {P : Type 0} (place_of : P → ℕ → ℕ → ℕ) (config : Config) (placing : P) → AreFirst place_of config placing []
 none_first place_of config placing k s e = absurd (cc)

@@ -1,6 +1,7 @@
 -- Each answer that is taken from a shard is the one that the list gives.
 use Rattle.std.proofs.Common.{◌≡◌, ℕ, ◌<◌, ⊎_elim, Option, Some, None, List, [], ◌∷◌, ◌++◌, length, take, drop, find, option_map, slice_index, nat_lt, ◌==◌, refl, sym, ap, ◌∙◌, append-nil, append_assoc, take-append-drop, true≢false}
 use Rattle.std.proofs.lemmas.Bool.{cond-true, cond-false}
+use Rattle.bx_lists.proofs.Tests.{either}
 use Rattle.bx_message.specs.declared.reply.Answer.{Answer}
 use Rattle.bx_entry.specs.Listing.{Listed}
 use Rattle.bx_entry.specs.Registry.{refusal}
@@ -15,8 +16,7 @@ use Rattle.bx_world.specs.declared.step.StepOut.{StepOut}
 use Rattle.bx_world.specs.declared.step.StepOut.TheVariants.{Admitted, NotAdmitted, Applied, Level, Taken, OutOfMemory}
 use Rattle.bx_entry.specs.declared.entry.Ticket.{Ticket}
 use Rattle.bx_world.specs.Schedules.{added_in, admitted_in, ListIsAdmitted, TookBy, Took, EachTook, TakesAreAnswers}
-use Rattle.bx_laws.proofs.Moves.{either}
-use Rattle.bx_laws.proofs.Lists.{answer_more}
+use Rattle.bx_theory.proofs.Lists.{answer_more}
 use Rattle.bx_shard.proofs.Given.{found_answer}
 
 -- ---- a filed answer is the list's

@@ -1,10 +1,11 @@
 -- The entries that are kept, and the shards after they were brought up to their end.
-use Rattle.std.proofs.Common.{◌≡◌, ℕ, suc, ◌+◌, ◌-◌, ◌<◌, ◌≤◌, Bool, false, cond, Option, Some, None, List, [], ◌∷◌, length, map, drop, take, ◌++◌, option_map, nat_lt, slice_get, get_or, refl, sym, ap, ◌∙◌, subst, arith, length-drop}
+use Rattle.std.proofs.Common.{◌≡◌, ℕ, suc, ◌+◌, ◌-◌, ◌<◌, ◌≤◌, Bool, false, cond, Some, List, [], ◌∷◌, length, map, drop, take, ◌++◌, nat_lt, slice_get, get_or, refl, sym, ap, ◌∙◌, subst, arith, length-drop}
 use Rattle.std.specs.Prelude.{count_by}
 use Rattle.std.proofs.lemmas.Bool.{le-ltb}
 use Rattle.std.proofs.lemmas.List.{get_or-drop, take-append-le, take_all}
 use Rattle.std.proofs.lemmas.List.Sums.{sum_by-cons}
-use Rattle.std.proofs.lemmas.Option.{get_or_from_slice_get, slice_get-get_or, slice_get-map, slice_get_read, slice_get_within}
+use Rattle.std.proofs.lemmas.Option.{get_or_from_slice_get, slice_get-get_or, slice_get_read, slice_get_within}
+use Rattle.bx_lists.proofs.Lists.{mapped}
 use Rattle.bx_advice.specs.Limits.{greatest_length}
 use Rattle.bx_entry.specs.Registry.{entries}
 use Rattle.bx_entry.specs.declared.entry.Entry.{Entry}
@@ -15,7 +16,7 @@ use Rattle.bx_shard.proofs.Placed.{entry_placed}
 use Rattle.bx_workers.specs.Upward.{AreConsecutive, AreOf, AreWithin, BroughtUp, WentOn, count_behind, end_of, first_of, is_behind}
 use Rattle.bx_world.specs.Admissions.{Admitting, entries_kept}
 use Rattle.bx_world.specs.Refining.{EachRefines, RefinesFrom, StandFrom, StandWithin}
-use Rattle.bx_laws.proofs.Lists.{entries_length}
+use Rattle.bx_theory.proofs.Lists.{entries_length}
 use Rattle.bx_world.proofs.Applications.{place_within}
 
 -- ---- rows
@@ -33,19 +34,6 @@ to_drop {X} n xs p x from e =
     let same : n + (p - n) ≡ p = omega (arith, from) in
     let value : x ≡ get_or (drop n xs) (p - n) x = sym (get_or_from_slice_get xs p x x e) ∙ ap (λ (i : ℕ). get_or xs i x) (sym same) ∙ sym (get_or-drop n xs (p - n) x) in
     slice_get_read (drop n xs) (length (drop n xs)) (p - n) x refl (omega (arith, within, from, length-drop n xs)) value
-
--- what stands in a row of numbers is the number of an element
-record Numbered {X : Type 0} (f : X → ℕ) (xs : List X) (k n : ℕ) : Type 0 where
-  one : X
-  there : slice_get xs k ≡ Some one
-  is : f one ≡ n
-
-numbered : {X : Type 0} (f : X → ℕ) (xs : List X) (k n : ℕ) → slice_get (map f xs) k ≡ Some n → Numbered f xs k n
-numbered {X} f xs k n e = by (slice_get xs k) refl (sym (slice_get-map f xs k) ∙ e)
-  where
-    by : (o : Option X) → slice_get xs k ≡ o → option_map f o ≡ Some n → Numbered f xs k n
-    by None at h = absurd (cc)
-    by (Some x) at h = record { one = x; there = at; is = cc }
 
 count_cons : {X : Type 0} (p : X → Bool) (x : X) (xs : List X) → count_by p (x ∷ xs) ≡ cond (p x) 1 0 + count_by p xs
 count_cons {X} p x xs = sum_by-cons (λ (y : X). cond (p y) 1 0) x xs
@@ -131,14 +119,14 @@ module _ (a : Admitting) where
   pub places_onward : {P : Type 0} (place_of : P → ℕ → ℕ → ℕ) (xs ys : List (Shard P)) → BroughtUp place_of (entries_kept a) xs ys → (k m n : ℕ) →
       slice_get (map (λ (s : Shard P). s.place) xs) k ≡ Some m → slice_get (map (λ (s : Shard P). s.place) ys) k ≡ Some n → m ≤ n
   places_onward {P} place_of xs ys up k m n old new =
-      let s = numbered (λ (s : Shard P). s.place) xs k m old in
-      let t = numbered (λ (s : Shard P). s.place) ys k n new in
+      let s = mapped (λ (s : Shard P). s.place) xs k m old in
+      let t = mapped (λ (s : Shard P). s.place) ys k n new in
       let on : s.one.place ≤ t.one.place = (up.each k s.one t.one s.there t.there).onward in
       omega (arith, on, s.is, t.is)
 
   pub places_within : {P : Type 0} (ys : List (Shard P)) → StandWithin (length a.list) ys → (k n : ℕ) → slice_get (map (λ (s : Shard P). s.place) ys) k ≡ Some n → n ≤ length a.list
   places_within {P} ys within k n at =
-      let t = numbered (λ (s : Shard P). s.place) ys k n at in
+      let t = mapped (λ (s : Shard P). s.place) ys k n at in
       let le : t.one.place ≤ length a.list = within k t.one t.there in
       omega (arith, le, t.is)
 
@@ -146,7 +134,7 @@ module _ (a : Admitting) where
   pub places_stopped : {P : Type 0} (place_of : P → ℕ → ℕ → ℕ) (xs ys : List (Shard P)) → BroughtUp place_of (entries_kept a) xs ys → StandFrom a.first ys → (k n : ℕ) (e : Entry) →
       slice_get (map (λ (s : Shard P). s.place) ys) k ≡ Some n → slice_get (entries a.config a.list) n ≡ Some e → takes_no_memory e.kind ≡ false
   places_stopped {P} place_of xs ys up from k n e at next =
-      let t = numbered (λ (s : Shard P). s.place) ys k n at in
+      let t = mapped (λ (s : Shard P). s.place) ys k n at in
       let before = was place_of xs ys up k t.one t.there in
       let low : a.first ≤ t.one.place = from k t.one t.there in
       let inside : n < length a.list = place_within a.config a.list n e next in

@@ -8,7 +8,7 @@ use Rattle.bx_entry.specs.Listing.{Listed}
 use Rattle.bx_entry.specs.Inputs.{ReadInput, Request, Unread, Tick, added_by}
 use Rattle.bx_entry.specs.Requests.{read_input}
 use Rattle.bx_entry.specs.declared.entry.Entry.{Entry}
-use Rattle.bx_entry.specs.declared.entry.Kind.TheVariants.{Connect}
+use Rattle.bx_entry.specs.declared.entry.EntryKind.TheVariants.{Connect}
 use Rattle.bx_entry.specs.declared.entry.Slot.{Slot}
 use Rattle.bx_entry.specs.declared.entry.Slot.TheVariants as answers
 use Rattle.bx_entry.specs.declared.entry.Ticket.{Ticket}
@@ -16,7 +16,7 @@ use Rattle.bx_entry.specs.declared.input.Input.{Input}
 use Rattle.bx_entry.specs.Registry.{PlaceSlot, Waiting, Judged, registry, entries}
 use Rattle.bx_entry.specs.Sessions.{Session, Filed, batch, session}
 use Rattle.bx_entry.specs.Answers.{PlacedAnswer, answer, answer_of, events_of}
-use Rattle.bx_laws.specs.Laws.{Repeats, LastAnswer, AllBelow}
+use Rattle.bx_theory.specs.Laws.{Repeats, LastAnswer, AllBelow}
 use Rattle.bx_shard.specs.Shards.{Setup}
 use Rattle.bx_world.specs.Worlds.{WorldState, Runs}
 use Rattle.bx_world.specs.Schedules.{admitted_in, EachTook, EachNew, taken_places}

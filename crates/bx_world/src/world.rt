@@ -14,7 +14,8 @@ use bx_advice::Config;
 use bx_entry::{Arrival, Input, Placing, Ticket};
 use bx_history::History;
 use bx_message::Answer;
-use bx_shard::{Filing, Shard, deal};
+use bx_reshard::redistribute;
+use bx_shard::{Filing, Shard};
 use bx_workers::Gate;
 use std::alloc::{AllocError, Global};
 use std::sync::Arc;
@@ -106,7 +107,7 @@ impl<P: Placing> World<P> {
     }
 
     /// The answer that is filed under a ticket, which is taken with that: it is given once. A ticket from before the sessions
-    /// were dealt anew finds nothing where its session went to another shard, though its answer may be filed there.
+    /// were redistributed finds nothing where its session went to another shard, though its answer may be filed there.
     pub fn take(&mut self, ticket: Ticket) -> Option<Answer>
         ensures { Steps self.old (Take ticket) (Taken result) self.new }
     {
@@ -168,7 +169,7 @@ impl<P: Placing> World<P> {
         Some(filing)
     }
 
-    /// Deals the sessions anew among so many shards, by this placing. Every shard has applied the whole list. The list and
+    /// Redistributes the sessions among so many shards, by this placing. Every shard has applied the whole list. The list and
     /// what was taken stay, and what was filed goes with its session: tickets of old are not good any more. Where memory is
     /// refused, the world comes back as it was.
     pub fn reshard(
@@ -196,7 +197,7 @@ impl<P: Placing> World<P> {
             shards: row,
             taken,
         } = self;
-        match deal(alloc, row, shards, own) {
+        match redistribute(alloc, row, shards, own) {
             Ok(row) => {
                 admission.reshard(shards);
                 Ok(World {

@@ -4,21 +4,21 @@ use Rattle.bx_world.specs.Seen.{setup_of, world_of}
 use Rattle.bx_fanout.specs.Desks.{Row}
 use Rattle.bx_fanout.specs.Draining.{CanDrain, Drained}
 use Rattle.bx_fanout.specs.Newests.{IsLevel, IsWhole}
-use Rattle.bx_fanout.specs.Stages.{IsDealt, seen_out}
+use Rattle.bx_fanout.specs.Stages.{IsTakenIn, seen_out}
 use Rattle.bx_fanout.proofs.Collecting.{level-kept}
-use Rattle.bx_fanout.proofs.Dealing.{can-drain, can-drain-held, collected-dealt, giving-of, held-below, on-err}
+use Rattle.bx_fanout.proofs.TakingIn.{can-drain, can-drain-held, collected-intake, giving-of, held-below, on-err}
 use Rattle.bx_fanout.proofs.Stages.{giving-held, giving-whole}
 use Rattle.bx_fanout.proofs.bring_in.bring_in.Goals as goal
 
-pub returns-in_err-collect-clause-dealt : goal.returns-in_err-collect-clause-dealt
-returns-in_err-collect-clause-dealt g c =
+pub returns-in_err-collect-clause-intake : goal.returns-in_err-collect-clause-intake
+returns-in_err-collect-clause-intake g c =
     let w = c.args.world.now in
     let v = c.collect.new.world in
     let m = c.collect.new.self in
     let rows = c.args.desk.now in
     let added = map seen_out c.args.added.now in
     let batch = v.admission.config.limits.some_batch in
-    let d = collected-dealt (setup_of v) (setup_of w) (map read_input c.args.inputs.now) (world_of w) (world_of v) rows c.args.newest.now m added w.admission.config.limits.some_batch c.collect.ensures.setup c.requires.dealt c.collect.ensures.so_far c.collect.ensures.world c.collect.ensures.collects in
+    let d = collected-intake (setup_of v) (setup_of w) (map read_input c.args.inputs.now) (world_of w) (world_of v) rows c.args.newest.now m added w.admission.config.limits.some_batch c.collect.ensures.setup c.requires.intake c.collect.ensures.so_far c.collect.ensures.world c.collect.ensures.collects in
     on-err c.from_residual.result d
 
 pub drain-requires-clause-can : goal.drain-requires-clause-can
@@ -29,7 +29,7 @@ drain-requires-clause-can g c =
     let rows = c.args.desk.now in
     let added = map seen_out c.args.added.now in
     let batch = v.admission.config.limits.some_batch in
-    let d = collected-dealt (setup_of v) (setup_of w) (map read_input c.args.inputs.now) (world_of w) (world_of v) rows c.args.newest.now m added w.admission.config.limits.some_batch c.collect.ensures.setup c.requires.dealt c.collect.ensures.so_far c.collect.ensures.world c.collect.ensures.collects in
+    let d = collected-intake (setup_of v) (setup_of w) (map read_input c.args.inputs.now) (world_of w) (world_of v) rows c.args.newest.now m added w.admission.config.limits.some_batch c.collect.ensures.setup c.requires.intake c.collect.ensures.so_far c.collect.ensures.world c.collect.ensures.collects in
     let level : IsLevel (world_of v) = level-kept (world_of w) (world_of v) c.collect.ensures.world.list c.collect.ensures.world.applied c.requires.level in
     can-drain (setup_of v) d.earlier d.last (world_of v) rows m added batch d.collecting level
 
@@ -41,7 +41,7 @@ returns-then-branch-clause-giving g c =
     let rows = c.args.desk.now in
     let added = map seen_out c.args.added.now in
     let batch = v.admission.config.limits.some_batch in
-    let d = collected-dealt (setup_of v) (setup_of w) (map read_input c.args.inputs.now) (world_of w) (world_of v) rows c.args.newest.now m added w.admission.config.limits.some_batch c.collect.ensures.setup c.requires.dealt c.collect.ensures.so_far c.collect.ensures.world c.collect.ensures.collects in
+    let d = collected-intake (setup_of v) (setup_of w) (map read_input c.args.inputs.now) (world_of w) (world_of v) rows c.args.newest.now m added w.admission.config.limits.some_batch c.collect.ensures.setup c.requires.intake c.collect.ensures.so_far c.collect.ensures.world c.collect.ensures.collects in
     let whole = subst (IsWhole (setup_of v).config (world_of v).list m) c.if-branch.true c.in_ok-collect.ensures.whole in
     let x = c.drain.new.world in
     giving-of (setup_of x) (setup_of v) (map read_input c.args.inputs.now) (d.earlier ++ d.last ∷ []) (world_of x) c.drain.new.desk (Some m) added c.drain.ensures.setup d.are
@@ -55,19 +55,19 @@ hold-requires g c =
     let rows = c.args.desk.now in
     let added = map seen_out c.args.added.now in
     let batch = v.admission.config.limits.some_batch in
-    let d = collected-dealt (setup_of v) (setup_of w) (map read_input c.args.inputs.now) (world_of w) (world_of v) rows c.args.newest.now m added w.admission.config.limits.some_batch c.collect.ensures.setup c.requires.dealt c.collect.ensures.so_far c.collect.ensures.world c.collect.ensures.collects in
+    let d = collected-intake (setup_of v) (setup_of w) (map read_input c.args.inputs.now) (world_of w) (world_of v) rows c.args.newest.now m added w.admission.config.limits.some_batch c.collect.ensures.setup c.requires.intake c.collect.ensures.so_far c.collect.ensures.world c.collect.ensures.collects in
     held-below (setup_of v) d.earlier d.last (world_of v) rows m added batch d.collecting
 
-pub returns-in_err-hold-clause-dealt : goal.returns-in_err-hold-clause-dealt
-returns-in_err-hold-clause-dealt g c =
+pub returns-in_err-hold-clause-intake : goal.returns-in_err-hold-clause-intake
+returns-in_err-hold-clause-intake g c =
     let w = c.args.world.now in
     let v = c.collect.new.world in
     let m = c.collect.new.self in
     let rows = c.args.desk.now in
     let added = map seen_out c.args.added.now in
     let batch = v.admission.config.limits.some_batch in
-    let d = collected-dealt (setup_of v) (setup_of w) (map read_input c.args.inputs.now) (world_of w) (world_of v) rows c.args.newest.now m added w.admission.config.limits.some_batch c.collect.ensures.setup c.requires.dealt c.collect.ensures.so_far c.collect.ensures.world c.collect.ensures.collects in
-    on-err c.from_residual-in_err-hold.result (subst (λ (rs : List Row). IsDealt (setup_of v) (map read_input c.args.inputs.now) (world_of v) rs m added) (sym c.in_err-hold.ensures.err) d)
+    let d = collected-intake (setup_of v) (setup_of w) (map read_input c.args.inputs.now) (world_of w) (world_of v) rows c.args.newest.now m added w.admission.config.limits.some_batch c.collect.ensures.setup c.requires.intake c.collect.ensures.so_far c.collect.ensures.world c.collect.ensures.collects in
+    on-err c.from_residual-in_err-hold.result (subst (λ (rs : List Row). IsTakenIn (setup_of v) (map read_input c.args.inputs.now) (world_of v) rs m added) (sym c.in_err-hold.ensures.err) d)
 
 pub drain-requires-2-clause-can : goal.drain-requires-2-clause-can
 drain-requires-2-clause-can g c =
@@ -77,7 +77,7 @@ drain-requires-2-clause-can g c =
     let rows = c.args.desk.now in
     let added = map seen_out c.args.added.now in
     let batch = v.admission.config.limits.some_batch in
-    let d = collected-dealt (setup_of v) (setup_of w) (map read_input c.args.inputs.now) (world_of w) (world_of v) rows c.args.newest.now m added w.admission.config.limits.some_batch c.collect.ensures.setup c.requires.dealt c.collect.ensures.so_far c.collect.ensures.world c.collect.ensures.collects in
+    let d = collected-intake (setup_of v) (setup_of w) (map read_input c.args.inputs.now) (world_of w) (world_of v) rows c.args.newest.now m added w.admission.config.limits.some_batch c.collect.ensures.setup c.requires.intake c.collect.ensures.so_far c.collect.ensures.world c.collect.ensures.collects in
     let level : IsLevel (world_of v) = level-kept (world_of w) (world_of v) c.collect.ensures.world.list c.collect.ensures.world.applied c.requires.level in
     let missing = subst (IsWhole (setup_of v).config (world_of v).list m) c.if-branch.false c.in_ok-collect.ensures.whole in
     subst (CanDrain (setup_of v) (world_of v)) (sym c.in_ok-hold.ensures.ok) (can-drain-held (setup_of v) d.earlier d.last (world_of v) rows m added batch d.collecting level missing.0 missing.1)
@@ -90,7 +90,7 @@ returns-clause-giving g c =
     let rows = c.args.desk.now in
     let added = map seen_out c.args.added.now in
     let batch = v.admission.config.limits.some_batch in
-    let d = collected-dealt (setup_of v) (setup_of w) (map read_input c.args.inputs.now) (world_of w) (world_of v) rows c.args.newest.now m added w.admission.config.limits.some_batch c.collect.ensures.setup c.requires.dealt c.collect.ensures.so_far c.collect.ensures.world c.collect.ensures.collects in
+    let d = collected-intake (setup_of v) (setup_of w) (map read_input c.args.inputs.now) (world_of w) (world_of v) rows c.args.newest.now m added w.admission.config.limits.some_batch c.collect.ensures.setup c.requires.intake c.collect.ensures.so_far c.collect.ensures.world c.collect.ensures.collects in
     let missing = subst (IsWhole (setup_of v).config (world_of v).list m) c.if-branch.false c.in_ok-collect.ensures.whole in
     let x = c.drain-2.new.world in
     let drained = subst (λ (rs : List Row). Drained (setup_of v) (world_of v) rs (world_of x) c.drain-2.new.desk) c.in_ok-hold.ensures.ok c.drain-2.ensures.drained in

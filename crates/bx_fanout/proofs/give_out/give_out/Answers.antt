@@ -1,4 +1,4 @@
-use Rattle.bx_fanout.proofs.Dealing.{gives-own}
+use Rattle.bx_fanout.proofs.TakingIn.{gives-own}
 use Rattle.bx_fanout.proofs.give_out.give_out.Goals as goal
 
 pub returns-clause-gives : goal.returns-clause-gives

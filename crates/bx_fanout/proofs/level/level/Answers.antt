@@ -1,6 +1,6 @@
 use Rattle.std.proofs.Common.{◌≡◌, ◌∙◌, arith, length, sym}
 use Rattle.bx_world.specs.Seen.{world_of}
-use Rattle.bx_fanout.proofs.Dealing.{level-all}
+use Rattle.bx_fanout.proofs.TakingIn.{level-all}
 use Rattle.bx_fanout.proofs.level.level.Goals as goal
 
 pub returns-clause-level : goal.returns-clause-level

@@ -5,7 +5,7 @@ use Rattle.bx_fanout.specs.Stages.{IsGiving, IsStaged, seen_out}
 use Rattle.bx_fanout.specs.declared.out.Out.{Out}
 use Rattle.bx_fanout.specs.declared.newest.Newest.{Newest}
 use Rattle.bx_world.specs.Seen.{setup_of, world_of}
-use Rattle.bx_fanout.proofs.Dealing.{giving-out}
+use Rattle.bx_fanout.proofs.TakingIn.{giving-out}
 use Rattle.bx_fanout.proofs.Finishing.{behind-is, giving-at}
 use Rattle.bx_fanout.proofs.parts.add_outs.Goals as goal
 

@@ -3,7 +3,7 @@ use Rattle.bx_entry.specs.Requests.{read_input}
 use Rattle.bx_fanout.specs.Stages.{IsStaged, seen_out}
 use Rattle.bx_fanout.specs.declared.newest.Newest.{Newest}
 use Rattle.bx_world.specs.Seen.{setup_of, world_of}
-use Rattle.bx_fanout.proofs.Finishing.{dealt-at}
+use Rattle.bx_fanout.proofs.Finishing.{intake-at}
 use Rattle.bx_fanout.proofs.parts.collect_last.Goals as goal
 
 pub returns-in_default-clause-stands : goal.returns-in_default-clause-stands
@@ -20,9 +20,9 @@ returns-in_default-clause-stands g c =
       staged = subst (λ (o : Option Newest). IsStaged (setup_of p.world) (map read_input p.inputs) (world_of p.world) p.desk o p.whole (map seen_out p.added)) same i.staged;
     }
 
-pub bring_in-requires-clause-dealt : goal.bring_in-requires-clause-dealt
-bring_in-requires-clause-dealt g c =
+pub bring_in-requires-clause-intake : goal.bring_in-requires-clause-intake
+bring_in-requires-clause-intake g c =
     let p = c.args.parts.now in
     let value = c.take.ensures.value in
     let is : p.newest ≡ Some c.in-Some.newest = cc in
-    dealt-at (setup_of p.world) (map read_input p.inputs) (world_of p.world) p.desk p.newest c.in-Some.newest p.whole (map seen_out p.added) is c.requires.stands.staged
+    intake-at (setup_of p.world) (map read_input p.inputs) (world_of p.world) p.desk p.newest c.in-Some.newest p.whole (map seen_out p.added) is c.requires.stands.staged

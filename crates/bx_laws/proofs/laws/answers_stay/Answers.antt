@@ -1,4 +1,4 @@
-use Rattle.bx_laws.proofs.Lists.{answers_stay}
+use Rattle.bx_theory.proofs.Lists.{answers_stay}
 use Rattle.bx_laws.proofs.laws.answers_stay.Goals as goal
 
 pub returns : goal.returns

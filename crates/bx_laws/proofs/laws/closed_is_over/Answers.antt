@@ -1,4 +1,4 @@
-use Rattle.bx_laws.proofs.Closings.{closed_is_over}
+use Rattle.bx_theory.proofs.Closings.{closed_is_over}
 use Rattle.bx_laws.proofs.laws.closed_is_over.Goals as goal
 
 pub returns : goal.returns

@@ -1,4 +1,4 @@
-use Rattle.bx_laws.proofs.Done.{done_never_falls}
+use Rattle.bx_theory.proofs.Done.{done_never_falls}
 use Rattle.bx_laws.proofs.laws.done_never_falls.Goals as goal
 
 pub returns : goal.returns

@@ -1,4 +1,4 @@
-use Rattle.bx_laws.proofs.Lines.{held_come_last}
+use Rattle.bx_theory.proofs.Lines.{held_come_last}
 use Rattle.bx_laws.proofs.laws.held_come_last.Goals as goal
 
 pub returns : goal.returns

@@ -1,4 +1,4 @@
-use Rattle.bx_laws.proofs.Lines.{inputs_go_on}
+use Rattle.bx_theory.proofs.Lines.{inputs_go_on}
 use Rattle.bx_laws.proofs.laws.inputs_go_on.Goals as goal
 
 pub returns : goal.returns

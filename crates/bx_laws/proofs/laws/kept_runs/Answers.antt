@@ -1,4 +1,4 @@
-use Rattle.bx_laws.proofs.Kept.{kept_runs}
+use Rattle.bx_theory.proofs.Kept.{kept_runs}
 use Rattle.bx_laws.proofs.laws.kept_runs.Goals as goal
 
 pub returns : goal.returns

@@ -1,4 +1,4 @@
-use Rattle.bx_laws.proofs.Gained.{publishes_are_events}
+use Rattle.bx_theory.proofs.Gained.{publishes_are_events}
 use Rattle.bx_laws.proofs.laws.publishes_are_events.Goals as goal
 
 pub returns : goal.returns

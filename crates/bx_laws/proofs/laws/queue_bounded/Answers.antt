@@ -1,4 +1,4 @@
-use Rattle.bx_laws.proofs.Keeps.{queue_bounded}
+use Rattle.bx_theory.proofs.Keeps.{queue_bounded}
 use Rattle.bx_laws.proofs.laws.queue_bounded.Goals as goal
 
 pub returns : goal.returns

@@ -1,4 +1,4 @@
-use Rattle.bx_laws.proofs.Lives.{same_live}
+use Rattle.bx_theory.proofs.Lives.{same_live}
 use Rattle.bx_laws.proofs.laws.same_live.Goals as goal
 
 pub returns : goal.returns

@@ -10,10 +10,10 @@ returns c =
     let advice = adding (advice_member r.advice) begun c.in_ok-write_advice.ensures in
     let channel = adding (text_member (codes "channel") (Some r.channel)) advice c.in_ok-text.ensures in
     let client = adding (text_member (codes "clientId") r.client) channel c.in_ok-write_text.ensures in
-    let error = adding (error_member r.case) client c.in_ok-write_error.ensures in
+    let error = adding (error_member r.outcome) client c.in_ok-write_error.ensures in
     let ack = adding (ack_member r.ack) error c.in_ok-write_ack.ensures in
     let id = adding (raw_member (codes "id") r.id) ack c.in_ok-write_raw.ensures in
     let subscription = adding (raw_member (codes "subscription") r.subscription) id c.in_ok-write_raw-2.ensures in
-    let successful = adding (raw_member (codes "successful") (Some (success_text r.case))) subscription (rw c.success_text.ensures at c.in_ok-raw.ensures) in
-    let all = adding (handshake_members r.column) successful c.in_ok-write_handshake.ensures in
+    let successful = adding (raw_member (codes "successful") (Some (success_text r.outcome))) subscription (rw c.success_text.ensures at c.in_ok-raw.ensures) in
+    let all = adding (handshake_members r.message_kind) successful c.in_ok-write_handshake.ensures in
     rw (closed-holds all) at c.end.ensures

@@ -3,9 +3,9 @@ use Rattle.std.specs.Prelude.{◌&&◌, ◌||◌, ◌==◌, max}
 use Rattle.std.proofs.lemmas.List.{drop_more}
 use Rattle.bx_advice.specs.Limits.{greatest_moment}
 use Rattle.bx_message.specs.declared.message.Message.{Message}
-use Rattle.bx_message.specs.Columns.{is_handshake}
+use Rattle.bx_message.specs.MessageKinds.{is_handshake}
 use Rattle.bx_entry.specs.Listing.{Listed, Posted, listed_from, request}
-use Rattle.bx_registry.specs.Rolls.{outcome}
+use Rattle.bx_registry.specs.Rolls.{verdict}
 use Rattle.bx_registry.specs.Planners.{IsFoundAt}
 use Rattle.bx_registry.specs.Drafts.{members_of}
 use Rattle.bx_registry.proofs.Planning.{SoFar, one_next, length-listed}
@@ -39,10 +39,10 @@ loop-message-preserved c =
     let rest : drop i ms ≡ x ∷ drop (i + 1) ms = drop_more ms i x c.loop-message-test.true ∙ ap (λ (y : Message). y ∷ drop (i + 1) ms) (sym c.message-item.is) in
     let so : SoFar config (members_of c.args.draft.now) c.args.draft.now.base c.args.start.clock c.args.start.place list (listed_from moment nonce sole seen (x ∷ drop (i + 1) ms)) d now place c.loop-message.entries c.loop-message.slots =
     subst (λ (ys : List Message). SoFar config (members_of c.args.draft.now) c.args.draft.now.base c.args.start.clock c.args.start.place list (listed_from moment nonce sole seen ys) d now place c.loop-message.entries c.loop-message.slots) rest c.loop-message.invariant in
-    let found : IsFoundAt place (max now moment) (outcome config (members_of d) (max now moment) p) (members_of c.plan_next.new.draft) c.in_ok-entry.entry c.in_ok-entry.slot =
-    subst (λ (h : Bool). IsFoundAt place (max now moment) (outcome config (members_of d) (max now moment) (record p { second = seen && h })) (members_of c.plan_next.new.draft) c.in_ok-entry.entry c.in_ok-entry.slot) c.is_handshake-handshake.ensures
-    (subst (λ (k : ℕ). IsFoundAt place k (outcome config (members_of d) k (record p { second = seen && c.is_handshake-handshake.result })) (members_of c.plan_next.new.draft) c.in_ok-entry.entry c.in_ok-entry.slot) c.max-now.ensures
-    (subst (λ (q : Posted). IsFoundAt place c.max-now.result (outcome config (members_of d) c.max-now.result q) (members_of c.plan_next.new.draft) c.in_ok-entry.entry c.in_ok-entry.slot) c.posted_at-posted.ensures c.in_ok-entry.ensures.found)) in
+    let found : IsFoundAt place (max now moment) (verdict config (members_of d) (max now moment) p) (members_of c.plan_next.new.draft) c.in_ok-entry.entry c.in_ok-entry.slot =
+    subst (λ (h : Bool). IsFoundAt place (max now moment) (verdict config (members_of d) (max now moment) (record p { second = seen && h })) (members_of c.plan_next.new.draft) c.in_ok-entry.entry c.in_ok-entry.slot) c.is_handshake-handshake.ensures
+    (subst (λ (k : ℕ). IsFoundAt place k (verdict config (members_of d) k (record p { second = seen && c.is_handshake-handshake.result })) (members_of c.plan_next.new.draft) c.in_ok-entry.entry c.in_ok-entry.slot) c.max-now.ensures
+    (subst (λ (q : Posted). IsFoundAt place c.max-now.result (verdict config (members_of d) c.max-now.result q) (members_of c.plan_next.new.draft) c.in_ok-entry.entry c.in_ok-entry.slot) c.posted_at-posted.ensures c.in_ok-entry.ensures.found)) in
     let le : max now moment ≤ greatest_moment = omega (arith, c.loop-message.invariant.moment, c.requires.moment) in
     rw (c.in_ok-push.ensures.ok, c.in_ok-push-2.ensures.ok, c.is_handshake-handshake.ensures, c.max-now.ensures)
     (one_next config (members_of c.args.draft.now) c.args.draft.now.base c.args.start.clock c.args.start.place list (listed_from moment nonce sole (seen || is_handshake x) (drop (i + 1) ms)) d c.plan_next.new.draft now place

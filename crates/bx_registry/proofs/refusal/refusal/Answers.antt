@@ -1,6 +1,6 @@
 use Rattle.std.proofs.Common.{rules, ◌≡◌, Bool, true, false, is_some, not, refl, subst, sym}
 use Rattle.bx_names.specs.Faults.{name_fault}
-use Rattle.bx_message.specs.declared.column.Column.{Column}
+use Rattle.bx_message.specs.declared.message_kind.MessageKind.{MessageKind}
 use Rattle.bx_registry.specs.Judgements.{AreReadable}
 use Rattle.bx_registry.proofs.refusal.refusal.Goals as goal
 
@@ -13,8 +13,8 @@ pub returns-in_default-3-2 : goal.returns-in_default-3-2
 returns-in_default-3-2 c =
     let message = c.args.posted.message.now in
     let named : is_some (name_fault message.channel) ≡ false = is_not (is_some (name_fault message.channel)) c.if-not-is_name.ensures in
-    let is : c.args.column ≡ Column.Publish = search rules in
+    let is : c.args.message_kind ≡ MessageKind.Publish = search rules in
     record {
       table = λ sessions live known. search rules;
-      readable = λ none. subst (λ (column : Column). AreReadable column message) (sym is) named;
+      readable = λ none. subst (λ (message_kind : MessageKind). AreReadable message_kind message) (sym is) named;
     }

@@ -8,9 +8,10 @@ use Rattle.bx_replay.proofs.Ready.{kept_less_one, next_kept, past_all}
 use Rattle.bx_entry.specs.Runs as runs
 use Rattle.bx_fanout.specs.Stages.{seen_out}
 use Rattle.bx_fanout.specs.declared.out.Out.{Out}
-use Rattle.bx_replay.proofs.Fronts.{err_of, outs_front, outs_split}
+use Rattle.bx_replay.proofs.Fronts.{outs_front, outs_split}
 use Rattle.bx_script.specs.Output.{written}
 use Rattle.bx_replay.proofs.kept.print_outs.Goals as goal
+use Rattle.bx_fanout.proofs.TakingIn.{on-err}
 
 pub loop-out-init : goal.loop-out-init
 loop-out-init g c = record {
@@ -52,7 +53,7 @@ returns-clause-prints g c = λ numbered kept.
     (ap (λ (n : ℕ). take n os) all ∙ take-length os) (c.loop-out.invariant.prints numbered kept)
 
 pub returns-in_err-print_out-clause-fault : goal.returns-in_err-print_out-clause-fault
-returns-in_err-print_out-clause-fault g c = err_of c.from_residual.result
+returns-in_err-print_out-clause-fault g c = on-err c.from_residual.result
     (λ numbered kept.
     let os = c.args.outs.now in
     let index = c.loop-out.out-index in

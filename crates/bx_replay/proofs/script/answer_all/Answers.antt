@@ -3,10 +3,11 @@ use Rattle.bx_replay.specs.Serving.{seen_lines}
 use Rattle.bx_fanout.specs.Rounds.{setup_in}
 use Rattle.bx_script.specs.declared.line.Line.{Line}
 use Rattle.bx_replay.proofs.Steps.{number_more, prints_more, prints_none, reads_end, reads_more, reads_none}
-use Rattle.bx_replay.proofs.Fronts.{err_of, prints_all, prints_some, whole_front}
+use Rattle.bx_replay.proofs.Fronts.{prints_all, prints_some, whole_front}
 use Rattle.bx_script.specs.Output.{written}
 use Rattle.bx_script.specs.Lines.{unread}
 use Rattle.bx_replay.proofs.script.answer_all.Goals as goal
+use Rattle.bx_fanout.proofs.TakingIn.{on-err}
 
 pub loop-server-init : goal.loop-server-init
 loop-server-init g c =
@@ -59,7 +60,7 @@ returns-in_err-line-clause-fault g c =
     let config = (setup_in s.round).config in
     let first = written g.W.Write.contents c.args.writer.now in
     let before = written g.W.Write.contents c.loop-server.writer in
-    err_of c.from_residual.result
+    on-err c.from_residual.result
     (whole_front (setup_in c.args.server.round).config config (unread g.R.Read.remaining c.args.lines.now) (unread g.R.Read.remaining c.loop-server.lines) s.lines first before i.config config.limits.some_batch i.reads
     (prints_all config s.lines first before i.prints))
 
@@ -72,7 +73,7 @@ returns-in_err-server-clause-fault g c =
     let first = written g.W.Write.contents c.args.writer.now in
     let before = written g.W.Write.contents c.loop-server.writer in
     let after = written g.W.Write.contents c.answer.new.writer in
-    err_of c.from_residual-in_err-server.result
+    on-err c.from_residual-in_err-server.result
     (whole_front (setup_in c.args.server.round).config config (unread g.R.Read.remaining c.args.lines.now) (unread g.R.Read.remaining c.next_line.new.self) (s.lines ++ line ∷ []) first after i.config config.limits.some_batch
     (reads_more (unread g.R.Read.remaining c.args.lines.now) (unread g.R.Read.remaining c.loop-server.lines) (unread g.R.Read.remaining c.next_line.new.self) s.lines (s.lines ++ line ∷ []) c.in_ok-line.field-0 line c.in-Some.is refl i.reads c.in_ok-line.ensures.next)
     (prints_some config s.lines (s.lines ++ line ∷ []) first before after i.prints c.in_err-server.ensures.fault))

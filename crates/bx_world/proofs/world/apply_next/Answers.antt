@@ -1,7 +1,7 @@
 use Rattle.std.proofs.Common.{◌≡◌, ℕ, ◌<◌, true, false, Some, slice_get, sym, ap, subst, ◌∙◌}
+use Rattle.bx_lists.proofs.Tests.{either}
 use Rattle.bx_advice.specs.Limits.{greatest_length}
 use Rattle.bx_entry.specs.Registry.{entries}
-use Rattle.bx_laws.proofs.Moves.{either}
 use Rattle.bx_shard.proofs.Placed.{entry_placed}
 use Rattle.bx_shard.specs.States.{takes_no_memory}
 use Rattle.bx_world.proofs.Applications.{place_before, place_within}

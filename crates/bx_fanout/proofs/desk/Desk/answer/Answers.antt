@@ -1,5 +1,6 @@
 use Rattle.std.proofs.Common.{ap, sym, ◌∙◌, arith, subst, List, vec_capacity, count_by, ◌+◌, ◌≤◌}
-use Rattle.bx_fanout.specs.Desks.{IsMarked, Row, has, answered_places, waits, answered_at}
+use Rattle.bx_lists.specs.Members.{has}
+use Rattle.bx_fanout.specs.Desks.{IsMarked, Row, answered_places, waits, answered_at}
 use Rattle.bx_fanout.proofs.Desks.{fewer-wait, marked-answered, unchanged}
 use Rattle.bx_fanout.proofs.desk.Desk.answer.Goals as goal
 

@@ -1,6 +1,6 @@
 use Rattle.std.proofs.Common.{rules, refl, option_map}
 use Rattle.bx_entry.specs.Keeping.{after, resumed}
-use Rattle.bx_laws.proofs.Keeps.{connected_k}
+use Rattle.bx_theory.proofs.Keeps.{connected_k}
 use Rattle.bx_entry.specs.Sessions.{connected}
 use Rattle.bx_shard.specs.Sessions.{kept_in, patterns_in}
 use Rattle.bx_shard.proofs.Beginnings.{connect_agrees}

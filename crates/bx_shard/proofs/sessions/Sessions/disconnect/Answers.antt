@@ -1,5 +1,5 @@
 use Rattle.std.proofs.Common.{rules, None}
-use Rattle.bx_advice.specs.declared.advice.Case.TheVariants.{Disconnected}
+use Rattle.bx_advice.specs.declared.advice.Outcome.TheVariants.{Disconnected}
 use Rattle.bx_entry.specs.Sessions.{released}
 use Rattle.bx_shard.specs.Effects.{answers_by}
 use Rattle.bx_shard.specs.Sessions.{kept_in}

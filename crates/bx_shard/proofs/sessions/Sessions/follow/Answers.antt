@@ -1,5 +1,5 @@
 use Rattle.std.proofs.Common.{rules, ℕ, List, ap, sym, ◌∙◌}
-use Rattle.bx_entry.specs.declared.entry.Kind.TheVariants as kinds
+use Rattle.bx_entry.specs.declared.entry.EntryKind.TheVariants as kinds
 use Rattle.bx_shard.proofs.Followed.{followed_connect, followed_disconnect, followed_publish, followed_tick}
 use Rattle.bx_shard.proofs.sessions.Sessions.follow.Goals as goal
 

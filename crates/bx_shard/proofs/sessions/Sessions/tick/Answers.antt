@@ -1,6 +1,6 @@
 use Rattle.std.proofs.Common.{rules, option_map}
 use Rattle.bx_entry.specs.Keeping.{after, resumed}
-use Rattle.bx_laws.proofs.Keeps.{expired_from_k}
+use Rattle.bx_theory.proofs.Keeps.{expired_from_k}
 use Rattle.bx_entry.specs.Sessions.{expired}
 use Rattle.bx_shard.specs.Effects.{answers_by}
 use Rattle.bx_shard.specs.Sessions.{kept_in, patterns_in}

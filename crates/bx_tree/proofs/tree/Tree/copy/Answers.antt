@@ -1,4 +1,5 @@
-use Rattle.std.proofs.Common.{◌≡◌, ◌&&◌, Bool, true, false, sym, ap, subst, ◌∙◌, refl}
+use Rattle.std.proofs.Common.{◌≡◌, ◌&&◌, sym, ap, subst, ◌∙◌}
+use Rattle.std.proofs.Math.Bool.{and-false}
 use Rattle.bx_names.specs.InForce.{in_force}
 use Rattle.bx_tree.specs.Lists.{IsIndexOf}
 use Rattle.bx_tree.proofs.FreshLemmas.{AreApart}
@@ -6,16 +7,12 @@ use Rattle.bx_tree.specs.Patterns.{patterns_of}
 use Rattle.bx_tree.proofs.IndexLemmas.{index_kept}
 use Rattle.bx_tree.proofs.tree.Tree.copy.Goals as goal
 
-and_none : (b : Bool) → (b && false) ≡ false
-and_none true = refl
-and_none false = refl
-
 pub invariant_of-self-in-Err : goal.invariant_of-self-in-Err
 invariant_of-self-in-Err c =
     let number = c.args.number in
     let ps = c.args.list.now in
     let apart : AreApart ps (patterns_of c.self.inside.sessions number) = λ q.
-    ap (λ (held : _). in_force ps q && in_force held q) (ap (λ all. patterns_of all number) c.self.view_is ∙ c.requires.none) ∙ and_none (in_force ps q) in
+    ap (λ (held : _). in_force ps q && in_force held q) (ap (λ all. patterns_of all number) c.self.view_is ∙ c.requires.none) ∙ and-false (in_force ps q) in
     subst (IsIndexOf c.remove_each.new.self) (sym c.in-Err.ensures.err)
     (index_kept c.self.inside.nodes c.add_each.new.self c.remove_each.new.self c.self.inside.sessions ps number c.self.invariant apart
     (λ other whole n. c.in_ok-add_each.ensures.ok other whole n)

@@ -1,18 +1,18 @@
 use Rattle.std.proofs.Common.{◌≡◌, ◌≤◌, ◌<◌, ℕ, List, true, length, map, sym, ap, ◌∙◌, subst, arith}
 use Rattle.std.specs.Arc.{arc_value}
 use Rattle.bx_advice.specs.Limits.{greatest_length}
-use Rattle.bx_shard.specs.Dealing.{AreAlike, AreApart, Dealt}
+use Rattle.bx_reshard.specs.Redistribution.{AreAlike, AreApart, Redistributed}
 use Rattle.bx_shard.specs.Seen.{state}
 use Rattle.bx_shard.specs.declared.shard.Shard.{Shard}
-use Rattle.bx_shard.proofs.DealLaws.{holders_are_apart}
+use Rattle.bx_reshard.proofs.RedistributionLaws.{holders_are_apart}
 use Rattle.bx_world.specs.Admissions.{Admitting}
 use Rattle.bx_admission.specs.Slots.{placed_by}
 use Rattle.bx_world.specs.Refining.{EachRefines, some_stands_at}
-use Rattle.bx_world.proofs.Dealing.{AreAtEnd, dealt_at_end, same_world, states_hold}
+use Rattle.bx_world.proofs.Redistribution.{AreAtEnd, redistributed_at_end, same_world, states_hold}
 use Rattle.bx_world.proofs.world.World.reshard.Goals as goal
-use Rattle.bx_world.proofs.world.World.reshard.Goals.{In-Ok-deal, Start}
+use Rattle.bx_world.proofs.world.World.reshard.Goals.{In-Ok-redistribute, Start}
 
--- what the shards hold that are dealt anew is the same list's, at its end
+-- what the shards hold whose sessions are redistributed is the same list's, at its end
 apart : (g : _) (c : Start g) →
     AreAlike (map (state g.P.Placing.place_of) c.args.self.shards.items) × AreApart (map (state g.P.Placing.place_of) c.args.self.shards.items)
 apart g c =
@@ -22,30 +22,30 @@ apart g c =
     holders_are_apart setup w.admission.list w.taken (length w.admission.list) (map (state place_of) w.shards.items)
     (states_hold place_of setup w.admission.list w.taken w.admission.first w.shards.items w.holding c.requires.level)
 
-pub deal-requires-clause-alike : goal.deal-requires-clause-alike
-deal-requires-clause-alike g c = (apart g (goal.at.deal-requires-clause-alike g c).Start).0
+pub redistribute-requires-clause-alike : goal.redistribute-requires-clause-alike
+redistribute-requires-clause-alike g c = (apart g (goal.at.redistribute-requires-clause-alike g c).Start).0
 
-pub deal-requires-clause-apart : goal.deal-requires-clause-apart
-deal-requires-clause-apart g c = (apart g (goal.at.deal-requires-clause-apart g c).Start).1
+pub redistribute-requires-clause-apart : goal.redistribute-requires-clause-apart
+redistribute-requires-clause-apart g c = (apart g (goal.at.redistribute-requires-clause-apart g c).Start).1
 
--- what the shards hold that were dealt anew
-dealt : (g : _) (c : In-Ok-deal g) →
-    AreAtEnd g.P.Placing.place_of (placed_by c.args.self.admission.config c.args.shards (g.P.Placing.place_of (arc_value c.args.placing))) c.args.self.admission.list c.args.self.taken c.args.self.admission.first c.in-Ok-deal.row.items
-dealt g c =
+-- what the shards hold whose sessions were redistributed
+redistributed : (g : _) (c : In-Ok-redistribute g) →
+    AreAtEnd g.P.Placing.place_of (placed_by c.args.self.admission.config c.args.shards (g.P.Placing.place_of (arc_value c.args.placing))) c.args.self.admission.list c.args.self.taken c.args.self.admission.first c.in-Ok-redistribute.row.items
+redistributed g c =
     let w = c.args.self in
     let place_of = g.P.Placing.place_of in
     let setup = placed_by w.admission.config w.admission.shards (place_of (arc_value w.placing)) in
     let room : 0 < w.admission.config.limits.batch = omega (arith, w.admission.config.limits.some_batch) in
     let below : (m : ℕ) → setup.placing m setup.shards < setup.shards = λ m. g.met.P.Placing.is_below (arc_value w.placing) m w.admission.shards w.some_shard w.shards_in_range in
-    let anew : Dealt (place_of (arc_value c.args.placing)) c.args.shards (map (state place_of) w.shards.items) (map (state place_of) c.in-Ok-deal.row.items) =
-    subst (λ (p : g.row.P.Denot). Dealt (place_of p) c.args.shards (map (state place_of) w.shards.items) (map (state place_of) c.in-Ok-deal.row.items)) c.in-Ok.ensures.cases c.in-Ok-deal.ensures.dealt in
-    dealt_at_end place_of setup w.admission.list w.taken w.admission.first w.shards.items c.in-Ok-deal.row.items c.args.shards (place_of (arc_value c.args.placing)) room w.counted below w.holding c.requires.level w.slowest c.requires.some_shard anew
+    let anew : Redistributed (place_of (arc_value c.args.placing)) c.args.shards (map (state place_of) w.shards.items) (map (state place_of) c.in-Ok-redistribute.row.items) =
+    subst (λ (p : g.row.P.Denot). Redistributed (place_of p) c.args.shards (map (state place_of) w.shards.items) (map (state place_of) c.in-Ok-redistribute.row.items)) c.in-Ok.ensures.cases c.in-Ok-redistribute.ensures.redistributed in
+    redistributed_at_end place_of setup w.admission.list w.taken w.admission.first w.shards.items c.in-Ok-redistribute.row.items c.args.shards (place_of (arc_value c.args.placing)) room w.counted below w.holding c.requires.level w.slowest c.requires.some_shard anew
 
 pub invariant_of-result : goal.invariant_of-result
 invariant_of-result g c =
     let w = c.args.self in
-    let ys = c.in-Ok-deal.row.items in
-    let d = dealt g (goal.at.invariant_of-result g c).In-Ok-deal in
+    let ys = c.in-Ok-redistribute.row.items in
+    let d = redistributed g (goal.at.invariant_of-result g c).In-Ok-redistribute in
     let now : c.reshard.new.self ≡ record w.admission { shards = c.args.shards } = c.reshard.ensures in
     record {
       bounded = subst (λ (a : Admitting). length a.list ≤ greatest_length) (sym now) w.bounded;
@@ -59,7 +59,7 @@ invariant_of-result g c =
 pub invariant_of-world : goal.invariant_of-world
 invariant_of-world g c =
     let w = c.args.self in
-    let same : w.shards.items ≡ c.in-Err-deal.row.items = ap (λ row. row.items) (sym c.in-Err-deal.ensures.refused) in
+    let same : w.shards.items ≡ c.in-Err-redistribute.row.items = ap (λ row. row.items) (sym c.in-Err-redistribute.ensures.refused) in
     record {
       bounded = w.bounded;
       some_shard = w.some_shard;
@@ -69,12 +69,12 @@ invariant_of-world g c =
       slowest = subst (λ (xs : List (Shard g.row.P.Denot)). some_stands_at w.admission.first xs ≡ true) same w.slowest;
     }
 
-pub returns-in-Ok-deal-clause-world : goal.returns-in-Ok-deal-clause-world
-returns-in-Ok-deal-clause-world g c =
+pub returns-in-Ok-redistribute-clause-world : goal.returns-in-Ok-redistribute-clause-world
+returns-in-Ok-redistribute-clause-world g c =
     let w = c.args.self in
-    let d = dealt g (goal.at.returns-in-Ok-deal-clause-world g c).In-Ok-deal in
-    ap (λ (a : Admitting). record { list = a.list; applied = map (λ (s : Shard g.row.P.Denot). s.place) c.in-Ok-deal.row.items; taken = w.taken }) c.reshard.ensures
+    let d = redistributed g (goal.at.returns-in-Ok-redistribute-clause-world g c).In-Ok-redistribute in
+    ap (λ (a : Admitting). record { list = a.list; applied = map (λ (s : Shard g.row.P.Denot). s.place) c.in-Ok-redistribute.row.items; taken = w.taken }) c.reshard.ensures
     ∙ ap (λ (ns : List ℕ). record { list = w.admission.list; applied = ns; taken = w.taken }) d.places
 
-pub returns-in-Err-deal-clause-same : goal.returns-in-Err-deal-clause-same
-returns-in-Err-deal-clause-same g c = same_world c.args.self c.in-Err-deal.row c.in-Err-deal.ensures.refused _ _ _ _ _ _
+pub returns-in-Err-redistribute-clause-same : goal.returns-in-Err-redistribute-clause-same
+returns-in-Err-redistribute-clause-same g c = same_world c.args.self c.in-Err-redistribute.row c.in-Err-redistribute.ensures.refused _ _ _ _ _ _

@@ -1,0 +1,47 @@
+-- What becomes of many shards where one of them changes.
+use Rattle.std.proofs.Common.{◌≡◌, ◌≢◌, ℕ, ◌<◌, ◌≤◌, Bool, true, false, cond, Option, Some, Result, Ok, Err, OnOk, List, length, slice_get, slice_set, nat_eq, nat_lt, refl, sym, ap, ◌∙◌, subst, arith, eqb-true, eq-eqb, ltb-true, ltb-false}
+use Rattle.std.proofs.lemmas.List.{length-set, get_or-set_same, get_or-set_other}
+use Rattle.std.proofs.lemmas.Option.{slice_get-get_or, slice_get_past}
+use Rattle.bx_lists.proofs.Tests.{either}
+use Rattle.bx_shard.specs.declared.sessions.Sessions.{Sessions}
+
+set_here : (xs : List Sessions) (i : ℕ) (y : Sessions) → i < length xs → slice_get (slice_set xs i y) i ≡ Some y
+set_here xs i y h = slice_get-get_or (slice_set xs i y) i y (omega (arith, h, length-set xs i y)) ∙ ap Some (get_or-set_same xs i y y h)
+
+set_beside : (xs : List Sessions) (i k : ℕ) (y : Sessions) → nat_eq i k ≡ false → slice_get (slice_set xs i y) k ≡ slice_get xs k
+set_beside xs i k y e =
+    let apart : k ≢ i = λ s. absurd (let no : false ≡ true = sym e ∙ eq-eqb i k (sym s) in cc) in
+    either (nat_lt k (length xs)) (slice_get (slice_set xs i y) k ≡ slice_get xs k)
+    (λ l.
+    let within : k < length xs = ltb-true k (length xs) l in
+    slice_get-get_or (slice_set xs i y) k y (omega (arith, within, length-set xs i y)) ∙ ap Some (get_or-set_other xs i k y y apart) ∙ sym (slice_get-get_or xs k y within))
+    (λ l.
+    let past : length xs ≤ k = ltb-false k (length xs) l in
+    slice_get_past (slice_set xs i y) k (omega (arith, past, length-set xs i y)) ∙ sym (slice_get_past xs k past))
+
+-- what holds of the one that changes, and of one that stays, holds of each
+pub at_each : (P : Option Sessions → Option Sessions → Bool → Type 0) (xs : List Sessions) (i : ℕ) (old new : Sessions) → i < length xs → slice_get xs i ≡ Some old →
+    P (Some old) (Some new) true → ((o : Option Sessions) → P o o false) → (k : ℕ) → P (slice_get xs k) (slice_get (slice_set xs i new) k) (nat_eq i k)
+at_each P xs i old new within here own others k = either (nat_eq i k) (P (slice_get xs k) (slice_get (slice_set xs i new) k) (nat_eq i k))
+    (λ t.
+    let same : i ≡ k = eqb-true i k t in
+    let was : slice_get xs k ≡ Some old = ap (slice_get xs) (sym same) ∙ here in
+    let is : slice_get (slice_set xs i new) k ≡ Some new = ap (slice_get (slice_set xs i new)) (sym same) ∙ set_here xs i new within in
+    subst (λ b. P (slice_get xs k) (slice_get (slice_set xs i new) k) b) (sym t)
+    (subst (λ o. P o (slice_get (slice_set xs i new) k) true) (sym was) (subst (λ o. P (Some old) o true) (sym is) own)))
+    (λ f.
+    subst (λ b. P (slice_get xs k) (slice_get (slice_set xs i new) k) b) (sym f)
+    (subst (λ o. P (slice_get xs k) o false) (sym (set_beside xs i k new f)) (others (slice_get xs k))))
+
+-- what follows from success follows
+pub on_ok : {T E : Type 0} {P Q : Type 0} (r : Result T E) → (P → Q) → OnOk r P → OnOk r Q
+on_ok (Ok x) f p = f p
+on_ok (Err e) f p = tt
+
+-- where the number is its own, what was there is meant
+pub at_own : {X : Type 0} (F : X → X) (g : ℕ → X) (m n : ℕ) → cond (nat_eq m n) (F (g m)) (g n) ≡ cond (nat_eq m n) (F (g n)) (g n)
+at_own F g m n = by (nat_eq m n) refl
+  where
+    by : (b : Bool) → nat_eq m n ≡ b → cond b (F (g m)) (g n) ≡ cond b (F (g n)) (g n)
+    by true e = ap (λ k. F (g k)) (eqb-true m n e)
+    by false e = refl

@@ -1,0 +1,6 @@
+pub mod Among
+pub mod HeirLemmas
+pub mod Made
+pub mod MoveLemmas
+pub mod Redistributed
+pub mod RedistributionLaws

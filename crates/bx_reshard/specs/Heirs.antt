@@ -1,0 +1,140 @@
+-- Shards that take over the sessions of others: pointwise by shard, and by the number of a session or the place of a connect.
+use Rattle.std.specs.Prelude.{ℕ, ◌≡◌, nat_eq, List, [], length, option_map, slice_get, if◌then◌else◌, ◌<◌, ◌&&◌, ◌∷◌, is_some, Option, Some, None}
+use Rattle.std.specs.List.{All}
+use Rattle.std.specs.Map.{lookup}
+use Rattle.std.specs.Option.{option_or}
+use Rattle.bx_names.specs.Globs.{Glob}
+use Rattle.bx_advice.specs.declared.config.Config.{Config}
+use Rattle.bx_entry.specs.Keeping.{Kept}
+use Rattle.bx_session.specs.Views.{WithRoom}
+use Rattle.bx_connects.specs.declared.connects.ConnectState.{ConnectState}
+use Rattle.bx_connects.specs.declared.connects.FiledAnswer.{FiledAnswer}
+use Rattle.bx_connects.specs.Connects.{AreApart, connect_at, filed_as, filing_at, held_by, known_as}
+use Rattle.bx_shard.specs.declared.sessions.Sessions.{Sessions}
+use Rattle.bx_shard.specs.Sessions.{patterns_in, kept_in}
+
+-- what is lent for it to the shard where the session is placed, among so many
+abbrev pub lent_as : (ℕ → ℕ → ℕ) → ℕ → ℕ → Option (ℕ × Option ℕ) → Option ConnectState
+lent_as placing count k None = None
+lent_as placing count k (Some known) = if nat_eq (placing known.0 count) k then held_by known.0 known.1 else None
+
+abbrev pub kept_there : Option Sessions → ℕ → Option Kept
+kept_there None n = None
+kept_there (Some s) n = kept_in s n
+
+abbrev pub patterns_there : Option Sessions → ℕ → List Glob
+patterns_there None n = []
+patterns_there (Some s) n = patterns_in s n
+
+abbrev pub connect_there : Option Sessions → ℕ → Option ConnectState
+connect_there None p = None
+connect_there (Some s) p = connect_at s.connects p
+
+-- what is kept of a session in one of the shards
+abbrev pub kept_of : List Sessions → ℕ → ℕ → Option Kept
+kept_of heirs k n = kept_there (slice_get heirs k) n
+
+-- the patterns of a session in one of the shards
+abbrev pub patterns_at : List Sessions → ℕ → ℕ → List Glob
+patterns_at heirs k n = patterns_there (slice_get heirs k) n
+
+-- what became of a connect, as one of the shards knows it
+abbrev pub connect_of : List Sessions → ℕ → ℕ → Option ConnectState
+connect_of heirs k p = connect_there (slice_get heirs k) p
+
+-- the configuration of one of the shards
+abbrev pub config_of : List Sessions → ℕ → Option Config
+config_of heirs k = option_map (λ (s : Sessions). s.config) (slice_get heirs k)
+
+-- nothing is here yet
+pub record IsEmptyOf (config : Config) (s : Sessions) : Type 0 where
+  pub config_is : s.config ≡ config
+  pub sessions : (n : ℕ) → kept_in s n ≡ None
+  pub patterns : (n : ℕ) → patterns_in s n ≡ []
+  pub connects : (p : ℕ) → connect_at s.connects p ≡ None
+
+-- so it is in each of the shards
+abbrev pub AreAllClean : List Sessions → Type 0
+AreAllClean heirs = (k n : ℕ) → kept_of heirs k n ≡ None → patterns_at heirs k n ≡ []
+
+-- the connects of the shards are as they were, and their configurations
+pub record SameConnects (old new : List Sessions) : Type 0 where
+  pub many : length new ≡ length old
+  pub configs : (k : ℕ) → config_of new k ≡ config_of old k
+  pub connects : (k p : ℕ) → connect_of new k p ≡ connect_of old k p
+
+-- the sessions of the shards are as they were, with their patterns, and their configurations
+pub record SameSessions (old new : List Sessions) : Type 0 where
+  pub many : length new ≡ length old
+  pub configs : (k : ℕ) → config_of new k ≡ config_of old k
+  pub sessions : (k n : ℕ) → kept_of new k n ≡ kept_of old k n
+  pub patterns : (k n : ℕ) → patterns_at new k n ≡ patterns_at old k n
+
+-- ---- all shards that are redistributed
+
+-- what is kept of the session in the first of them that has it
+abbrev pub kept_among : List Sessions → ℕ → Option Kept
+kept_among [] n = None
+kept_among (s ∷ ss) n = option_or (kept_in s n) (kept_among ss n)
+
+-- its patterns there
+abbrev pub patterns_among : List Sessions → ℕ → List Glob
+patterns_among [] n = []
+patterns_among (s ∷ ss) n = if is_some (kept_in s n) then patterns_in s n else patterns_among ss n
+
+-- what is lent for a connect to the shard of this index
+abbrev pub lent_among : (ℕ → ℕ → ℕ) → ℕ → ℕ → List Sessions → ℕ → Option ConnectState
+lent_among placing count k [] p = None
+lent_among placing count k (s ∷ ss) p = option_or (lent_as placing count k (known_as (connect_at s.connects p))) (lent_among placing count k ss p)
+
+-- no session stands in any of the shards
+pub record AreEmpty (config : Config) (count : ℕ) (heirs : List Sessions) : Type 0 where
+  pub many : length heirs ≡ count
+  pub all : All (IsEmptyOf config) heirs
+
+-- room was made for all that these shards have
+pub record AreLent (placing : ℕ → ℕ → ℕ) (count : ℕ) (olds : List Sessions) (config : Config) (heirs : List Sessions) : Type 0 where
+  pub many : length heirs ≡ count
+  pub configs : (k : ℕ) → k < count → config_of heirs k ≡ Some config
+  pub sessions : (k n : ℕ) → is_some (kept_of heirs k n) ≡ (nat_eq (placing n count) k && is_some (kept_among olds n))
+  pub patterns : (k n : ℕ) → patterns_at heirs k n ≡ (if nat_eq (placing n count) k then patterns_among olds n else [])
+  pub connects : (k p : ℕ) → connect_of heirs k p ≡ lent_among placing count k olds p
+  pub apart : All (λ (s : Sessions). AreApart s.connects.held s.connects.filed) olds
+
+-- ---- what moves
+
+-- a session in the place that was made for it
+abbrev pub overlaid : Option Kept → Option Kept → Option Kept
+overlaid None lent = lent
+overlaid (Some k) lent = option_map (λ (x : Kept). k) lent
+
+-- the session of this number, once these entries have moved to where they are placed
+abbrev pub settled : (ℕ → ℕ → ℕ) → ℕ → ℕ → ℕ → Option Kept → Option Kept → Option Kept
+settled placing count k n moved lent = if nat_eq (placing n count) k then overlaid moved lent else lent
+
+-- the connect, once the answer that is filed for it has moved to where its session is placed
+abbrev pub answered_with : (ℕ → ℕ → ℕ) → ℕ → ℕ → Option FiledAnswer → Option ConnectState → Option ConnectState
+answered_with placing count k None lent = lent
+answered_with placing count k (Some f) lent = if nat_eq (placing f.session count) k then filed_as f.place f.answer lent else lent
+
+-- what is kept of the sessions of a list of entries
+abbrev pub kept_by : List (ℕ × WithRoom) → ℕ → Option Kept
+kept_by entries n = option_map (λ (x : WithRoom). x.kept) (lookup (nat_eq n) entries)
+
+-- what is kept, once what each of these shards has was moved
+abbrev pub settled_all : (ℕ → ℕ → ℕ) → ℕ → ℕ → ℕ → List Sessions → Option Kept → Option Kept
+settled_all placing count k n [] lent = lent
+settled_all placing count k n (s ∷ ss) lent = settled_all placing count k n ss (settled placing count k n (kept_in s n) lent)
+
+-- the connect, once the answers that each of these shards has filed were moved
+abbrev pub answered_all : (ℕ → ℕ → ℕ) → ℕ → ℕ → ℕ → List Sessions → Option ConnectState → Option ConnectState
+answered_all placing count k p [] lent = lent
+answered_all placing count k p (s ∷ ss) lent = answered_all placing count k p ss (answered_with placing count k (filing_at s.connects.filed p) lent)
+
+-- all that these shards have was moved
+pub record AreMoved (placing : ℕ → ℕ → ℕ) (count : ℕ) (olds old new : List Sessions) : Type 0 where
+  pub many : length new ≡ length old
+  pub configs : (k : ℕ) → config_of new k ≡ config_of old k
+  pub sessions : (k n : ℕ) → kept_of new k n ≡ settled_all placing count k n olds (kept_of old k n)
+  pub patterns : (k n : ℕ) → patterns_at new k n ≡ patterns_at old k n
+  pub connects : (k p : ℕ) → connect_of new k p ≡ answered_all placing count k p olds (connect_of old k p)

@@ -1,0 +1,3 @@
+pub mod Heirs
+pub mod Making
+pub mod Redistribution

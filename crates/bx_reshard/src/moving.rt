@@ -1,0 +1,78 @@
+//! What shards have moves to where room was made for it. None of this takes memory.
+ghost use Rattle.std.specs.Prelude.{◌≡◌, ◌≤◌, ℕ, length, map};
+ghost use Rattle.bx_connects.specs.Connects.{filing_at};
+ghost use Rattle.bx_reshard.specs.Heirs.{AreMoved, SameConnects, SameSessions, answered_with, connect_of, patterns_at, kept_by, kept_of, settled};
+
+use crate::heirs::Heirs;
+use bx_connects::{Connects, FiledAnswer};
+use bx_entry::Placing;
+use bx_session::{Answered, Session};
+use bx_shard::Shard;
+use indexmap::IndexMap;
+
+/// Moves these sessions to the shards where they are placed.
+pub(crate) fn move_sessions<P: Placing>(
+    heirs: &mut Heirs,
+    mut by_number: IndexMap<u64, Session>,
+    placing: &P,
+    count: usize,
+)
+    requires some_shard { 1 ≤ count }
+    requires shards_in_range { count ≤ 64 }
+    requires many { length heirs.old.shards.items ≡ count }
+    ensures sessions { (k n : ℕ) → kept_of heirs.new.shards.items k n
+        ≡ settled (P.place_of placing.now) count k n (kept_by by_number.entries n) (kept_of heirs.old.shards.items k n) }
+    ensures patterns { (k n : ℕ) → patterns_at heirs.new.shards.items k n ≡ patterns_at heirs.old.shards.items k n }
+    ensures connects { SameConnects heirs.old.shards.items heirs.new.shards.items }
+{
+    while let Some((number, session)) = by_number.pop() {
+        heirs.settle(placing.place(number, count), number, session);
+    }
+}
+
+/// Moves the answers that are filed to the shards where their sessions are placed.
+pub(crate) fn move_answers<P: Placing>(
+    heirs: &mut Heirs,
+    mut connects: Connects,
+    placing: &P,
+    count: usize,
+)
+    requires some_shard { 1 ≤ count }
+    requires shards_in_range { count ≤ 64 }
+    requires many { length heirs.old.shards.items ≡ count }
+    ensures connects { (k p : ℕ) → connect_of heirs.new.shards.items k p
+        ≡ answered_with (P.place_of placing.now) count k (filing_at connects.filed p) (connect_of heirs.old.shards.items k p) }
+    ensures sessions { SameSessions heirs.old.shards.items heirs.new.shards.items }
+{
+    while let Some((connect, filed)) = connects.pop_filed() {
+        let FiledAnswer {
+            session,
+            place,
+            answer,
+        } = filed;
+        let answered = Answered {
+            place: connect,
+            answer,
+        };
+        heirs.file(placing.place(session, count), place, answered);
+    }
+}
+
+/// Moves all that these shards have to where room was made for it.
+pub(crate) fn move_all<P: Placing + Drop>(
+    heirs: &mut Heirs,
+    shards: Vec<Shard<P>>,
+    placing: &P,
+    count: usize,
+)
+    requires some_shard { 1 ≤ count }
+    requires shards_in_range { count ≤ 64 }
+    requires many { length heirs.old.shards.items ≡ count }
+    ensures { AreMoved (P.place_of placing.now) count (map (λ s. s.sessions) shards.items) heirs.old.shards.items heirs.new.shards.items }
+{
+    for shard in shards {
+        let (by_number, connects) = shard.into_parts();
+        move_sessions(heirs, by_number, placing, count);
+        move_answers(heirs, connects, placing, count);
+    }
+}

@@ -1,0 +1,80 @@
+//! The sessions of all shards, redistributed among another number of shards.
+ghost use Rattle.std.specs.Prelude.{◌≡◌, ◌≤◌, length, map, IfOk, IfErr};
+ghost use Rattle.std.specs.Arc.{arc_value};
+ghost use Rattle.bx_reshard.specs.Redistribution.{AreAlike, AreApart, Redistributed};
+ghost use Rattle.bx_reshard.specs.Making.{IsReady};
+ghost use Rattle.bx_shard.specs.Seen.{state};
+
+use crate::lending::lend_all;
+use crate::making::{Room, copy_handle, finish};
+use crate::moving::move_all;
+use bx_entry::Placing;
+use bx_shard::Shard;
+use std::alloc::{AllocError, Global};
+use std::sync::Arc;
+
+/// Redistributes the sessions of these shards among so many shards, 1 to 64, by this placing: each session stands from then
+/// on in the shard where it is placed, with its patterns, its held connect and its answers that nobody took. Wakers are
+/// dropped, which wakes them. Where memory is refused nothing changes, and the shards come back.
+pub fn redistribute<P: Placing + Drop>(
+    alloc: Global,
+    shards: Vec<Shard<P>>,
+    count: usize,
+    placing: Arc<P>,
+) -> Result<Vec<Shard<P>>, (Vec<Shard<P>>, AllocError)>
+    requires some_shard { 1 ≤ count }
+    requires shards_in_range { count ≤ 64 }
+    requires some { 1 ≤ length shards.items }
+    requires alike { AreAlike (map (state P.place_of) shards.items) }
+    requires apart { AreApart (map (state P.place_of) shards.items) }
+    ensures redistributed { IfOk result (λ new. Redistributed (P.place_of (arc_value placing)) count (map (state P.place_of) shards.items) (map (state P.place_of) new.items)) }
+    ensures refused { IfErr result (λ e. e.0 ≡ shards) }
+{
+    match make_room(alloc, &shards, count, &placing) {
+        Ok(room) => Ok(move_in(room, shards, count, &*placing)),
+        Err(error) => Err((shards, error)),
+    }
+}
+
+// All that takes memory.
+fn make_room<P: Placing + Drop>(
+    alloc: Global,
+    shards: &[Shard<P>],
+    count: usize,
+    placing: &Arc<P>,
+) -> Result<Room<P>, AllocError>
+    requires some_shard { 1 ≤ count }
+    requires shards_in_range { count ≤ 64 }
+    requires some { 1 ≤ length shards.now }
+    ensures { IfOk result (IsReady P.place_of (arc_value placing.now) count shards.now) }
+{
+    let first = &shards[0];
+    let heirs = lend_all(alloc, first.sessions().config(), shards, &**placing, count)?;
+    let handles = copy_handle(alloc, placing, count)?;
+    let made = Vec::with_capacity(alloc, count)?;
+    Ok(Room {
+        heirs,
+        handles,
+        shards: made,
+        place: first.place(),
+        is_shut: first.is_shut(),
+    })
+}
+
+// All that moves. It takes no memory.
+fn move_in<P: Placing + Drop>(
+    mut room: Room<P>,
+    shards: Vec<Shard<P>>,
+    count: usize,
+    placing: &P,
+) -> Vec<Shard<P>>
+    requires some_shard { 1 ≤ count }
+    requires shards_in_range { count ≤ 64 }
+    requires ready { IsReady P.place_of placing.now count shards.items room }
+    requires alike { AreAlike (map (state P.place_of) shards.items) }
+    requires apart { AreApart (map (state P.place_of) shards.items) }
+    ensures { Redistributed (P.place_of placing.now) count (map (state P.place_of) shards.items) (map (state P.place_of) result.items) }
+{
+    move_all(&mut room.heirs, shards, placing, count);
+    finish(room, count)
+}

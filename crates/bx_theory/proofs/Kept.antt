@@ -1,0 +1,36 @@
+-- What is kept of a session is kept step by step, and stays in its bounds.
+use Rattle.std.proofs.Common.{◌≡◌, ℕ, List, [], ◌∷◌, drop, fold, refl, ap, ◌∙◌}
+use Rattle.std.proofs.lemmas.Bool.{cond_both}
+use Rattle.std.proofs.lemmas.List.{drop_all}
+use Rattle.bx_advice.specs.declared.config.Config.{Config}
+use Rattle.bx_entry.specs.declared.entry.Entry.{Entry}
+use Rattle.bx_entry.specs.Sessions.{Session, Publication, step_by, step, unopened, session}
+use Rattle.bx_entry.specs.Keeping.{Kept, kept, resumed, kept_step, KeptSteps, kept_run, KeptRuns, KeptInBounds}
+use Rattle.bx_entry.proofs.Settled.{Settled, step_by_s}
+use Rattle.bx_theory.specs.Laws.{InStep}
+use Rattle.bx_theory.proofs.Keeps.{queue_bounded}
+use Rattle.bx_theory.proofs.Counts.{all_in_step, unopened_in_step}
+
+pub kept_steps : KeptSteps
+kept_steps config s e = let a : Settled (λ (t : Session). step_by config e.place e.moment t e.kind) = step_by_s config e.place e.moment e.kind in record { state = a.state s; answers = a.answers s }
+
+run_kept : (config : Config) (s : Session) (k : Kept) (es : List Entry) → kept s ≡ k → kept (fold (step config) s es) ≡ fold (kept_step config) k es
+run_kept config s k [] h = h
+run_kept config s k (e ∷ es) h = run_kept config (step config s e) (kept_step config k e) es ((kept_steps config s e).state ∙ ap (λ (j : Kept). kept_step config j e) h)
+
+pub kept_runs : KeptRuns
+kept_runs config number es = run_kept config (unopened number) (kept (unopened number)) es refl
+
+-- ---- bounds
+
+pub kept_in_bounds : KeptInBounds
+kept_in_bounds config number es room =
+    let s : Session = session config number es in
+    let i : InStep config (session config number es) = all_in_step config (unopened number) es room (unopened_in_step config number) in
+    record {
+      queue = queue_bounded config number es;
+      batch = i.small;
+      front = i.front;
+      plain = i.plain;
+      idle = λ h. i.queue ∙ cond_both s.overflow [] (drop s.done s.events) (λ (q : List Publication). q ≡ []) (λ g. refl) (λ g. drop_all s.done s.events (i.idle h).0);
+    }

@@ -1,0 +1,261 @@
+-- The registry's list grows with the list, and an answer stays.
+use Rattle.std.proofs.Common.{◌≡◌, ℕ, zero, suc, ◌+◌, ◌<◌, ◌≤◌, max, ⊎_elim, Bool, true, Option, Some, None, List, [], ◌∷◌, ◌++◌, length, take, drop, map, find, fold, option_map, slice_get, ◌==◌, refl, sym, ap, ◌∙◌, subst, arith, eqb-true, append-nil, append_assoc, length-take, take-append-drop, take_all}
+use Rattle.std.proofs.lemmas.Bool.{cond-true, cond-false, cases_lt}
+use Rattle.std.proofs.lemmas.List.{map-append, length-map, length_push}
+use Rattle.std.proofs.lemmas.List.Sums.{fold-append}
+use Rattle.std.proofs.lemmas.List.Folds.{find-append}
+use Rattle.std.specs.Option.{option_or}
+use Rattle.bx_lists.proofs.Tests.{either}
+use Rattle.bx_advice.specs.declared.config.Config.{Config}
+use Rattle.bx_advice.specs.declared.error.Error.{Error}
+use Rattle.bx_entry.specs.Listing.{Listed, Post, Posted}
+use Rattle.bx_message.specs.MessageKinds.{message_kind_of}
+use Rattle.bx_entry.specs.Listing as messages
+use Rattle.bx_entry.specs.declared.entry.Entry.{Entry}
+use Rattle.bx_entry.specs.Registry.{Registry, Registered, Judged, PlaceSlot, Ready, Waiting, NoSlot, judge, judged_by, named_by, refusal, registry, empty_registry, entries_of}
+use Rattle.bx_entry.specs.Sessions.{Filed, step, session, unopened}
+use Rattle.bx_entry.specs.Answers.{PlacedAnswer, answer_of, filed_for, answer_by, answer_at, answer}
+use Rattle.bx_theory.specs.Laws.{Each, AnswersStay, PlacesFrom, EntriesInOrder}
+use Rattle.bx_theory.proofs.Counts.{all_in_step, unopened_in_step}
+use Rattle.bx_theory.proofs.Runs.{Grown, run_grown, EachEntry, all_places}
+use Rattle.bx_theory.proofs.Places.{Only, run_only, only_unopened, all_allowed}
+
+-- ---- the registry
+
+-- one more place is judged
+record Notes (r t : Registry) : Type 0 where
+  found : Judged
+  judged : t.judged ≡ r.judged ++ found ∷ []
+  place : found.entry.place ≡ length r.judged
+
+judged_by_notes : (config : Config) (r : Registry) (moment : ℕ) (p : Posted) (sender : Option Registered) (error : Option Error) → Notes r (judged_by config r moment p sender error)
+judged_by_notes config r moment p sender (Some error) = record { found = _; judged = refl; place = refl }
+judged_by_notes config r moment p None None = record { found = _; judged = refl; place = refl }
+judged_by_notes config r moment p (Some s) None = record { found = _; judged = refl; place = refl }
+
+judge_notes : (config : Config) (r : Registry) (x : Listed) → Notes r (judge config r x)
+judge_notes config r (Post p) = judged_by_notes config r (max r.clock p.moment) p (named_by r.sessions (message_kind_of p.message.channel) p.message) (refusal config r.sessions p)
+judge_notes config r (messages.Tick moment) = record { found = _; judged = refl; place = refl }
+
+abbrev entry_of : Judged → Entry
+entry_of j = j.entry
+
+-- as many places are judged as elements come, each at its own place
+record Judges (count : ℕ) (r t : Registry) : Type 0 where
+  more : List Judged
+  judged : t.judged ≡ r.judged ++ more
+  many : length more ≡ count
+  places : PlacesFrom (length r.judged) (map entry_of more)
+
+judges_more : (count : ℕ) (r s t : Registry) → Notes r s → Judges count s t → Judges (suc count) r t
+judges_more count r s t n j = record {
+  more = n.found ∷ j.more;
+  judged = j.judged ∙ ap (λ (js : List Judged). js ++ j.more) n.judged ∙ append_assoc r.judged (n.found ∷ []) j.more;
+  many = ap suc j.many;
+  places = (n.place, subst (λ (k : ℕ). PlacesFrom k (map entry_of j.more)) (ap length n.judged ∙ length_push r.judged n.found) j.places);
+}
+
+judges : (config : Config) (r : Registry) (xs : List Listed) → Judges (length xs) r (fold (judge config) r xs)
+judges config r [] = record { more = []; judged = sym (append-nil r.judged); many = refl; places = tt }
+judges config r (x ∷ xs) = judges_more (length xs) r (judge config r x) (fold (judge config) (judge config r x) xs) (judge_notes config r x) (judges config (judge config r x) xs)
+
+-- ---- finding
+
+pub find_each : (P : Filed → Type 0) (test : Filed → Bool) (fs : List Filed) (f : Filed) → find test fs ≡ Some f → Each P fs → P f
+find_each P test [] f e d = cc
+find_each P test (g ∷ gs) f e d = either (test g) (P f)
+    (λ h. let same : Some g ≡ Some f = sym (cond-true (test g) (Some g) (find test gs) h) ∙ e in let one : g ≡ f = cc in subst P one d.0)
+    (λ h. find_each P test gs f (sym (cond-false (test g) (Some g) (find test gs) h) ∙ e) d.1)
+
+slice_get_more : (xs ys : List Judged) (k : ℕ) (j : Judged) → slice_get xs k ≡ Some j → slice_get (xs ++ ys) k ≡ Some j
+slice_get_more [] ys k j e = cc
+slice_get_more (x ∷ xs) ys zero j e = e
+slice_get_more (x ∷ xs) ys (suc k) j e = slice_get_more xs ys k j e
+
+slice_get_less : (xs ys : List Judged) (k : ℕ) → k < length xs → slice_get (xs ++ ys) k ≡ slice_get xs k
+slice_get_less [] ys k h = absurd (omega arith)
+slice_get_less (x ∷ xs) ys zero h = refl
+slice_get_less (x ∷ xs) ys (suc k) h = slice_get_less xs ys k (omega arith)
+
+-- ---- an answer over a longer list
+
+find_more : (test : Filed → Bool) (fs gs : List Filed) (a : PlacedAnswer) → option_map answer_of (find test fs) ≡ Some a → option_map answer_of (find test (fs ++ gs)) ≡ Some a
+find_more test fs gs a e =
+    let P : Option Filed → Type 0 = λ o. option_map answer_of o ≡ Some a → option_map answer_of (option_or o (find test gs)) ≡ Some a in
+    let here : P (find test fs) = (elim (find test fs) as P [ None ↦ λ n. cc | Some f ↦ λ n. n ]) in
+    ap (option_map answer_of) (find-append test fs gs) ∙ here e
+
+-- the entries of what was judged
+entries_more : (r t : Registry) (more : List Judged) → t.judged ≡ r.judged ++ more → entries_of t ≡ entries_of r ++ map entry_of more
+entries_more r t more e = ap (map entry_of) e ∙ map-append entry_of r.judged more
+
+session_more : (config : Config) (number : ℕ) (es more : List Entry) → session config number (es ++ more) ≡ fold (step config) (session config number es) more
+session_more config number es more = fold-append (step config) (unopened number) es more
+
+session_grown : (config : Config) (number first : ℕ) (es more : List Entry) → 0 < config.limits.batch → EachEntry (λ e. first ≤ e.place) more → Grown first (session config number es) (session config number (es ++ more))
+session_grown config number first es more room d =
+    subst (Grown first (session config number es)) (sym (session_more config number es more))
+    (run_grown config first (session config number es) more room (all_in_step config (unopened number) es room (unopened_in_step config number)) d)
+
+filed_more : (config : Config) (number place : ℕ) (es more : List Entry) (a : PlacedAnswer) → 0 < config.limits.batch →
+    filed_for place (session config number es).answers ≡ Some a → filed_for place (session config number (es ++ more)).answers ≡ Some a
+filed_more config number place es more a room e =
+    let g : Grown 0 (session config number es) (session config number (es ++ more)) = session_grown config number 0 es more room (all_places more) in
+    ap (filed_for place) g.answers ∙ find_more (λ (f : Filed). f.connect == place) (session config number es).answers g.filed a e
+
+answer_by_more : (config : Config) (es more : List Entry) (place : ℕ) (slot : PlaceSlot) (a : PlacedAnswer) → 0 < config.limits.batch → answer_by config es place slot ≡ Some a → answer_by config (es ++ more) place slot ≡ Some a
+answer_by_more config es more place (Ready reply) a room e = e
+answer_by_more config es more place (Waiting number) a room e = filed_more config number place es more a room e
+answer_by_more config es more place NoSlot a room e = e
+
+answer_at_more : (config : Config) (es more : List Entry) (place : ℕ) (o u : Option Judged) (a : PlacedAnswer) → 0 < config.limits.batch → ((j : Judged) → o ≡ Some j → u ≡ Some j) →
+    answer_at config es place o ≡ Some a → answer_at config (es ++ more) place u ≡ Some a
+answer_at_more config es more place None u a room h e = cc
+answer_at_more config es more place (Some j) u a room h e = ap (answer_at config (es ++ more) place) (h j refl) ∙ answer_by_more config es more place j.slot a room e
+
+pub answer_more : (config : Config) (xs ys : List Listed) (place : ℕ) (a : PlacedAnswer) → 0 < config.limits.batch → answer config xs place ≡ Some a → answer config (xs ++ ys) place ≡ Some a
+answer_more config xs ys place a room e =
+    let r : Registry = registry config xs in
+    let t : Registry = registry config (xs ++ ys) in
+    let j : Judges (length ys) r t = subst (Judges (length ys) r) (sym (fold-append (judge config) empty_registry xs ys)) (judges config r ys) in
+    ap (λ (es : List Entry). answer_at config es place (slice_get t.judged place)) (entries_more r t j.more j.judged)
+    ∙ answer_at_more config (entries_of r) (map entry_of j.more) place (slice_get r.judged place) (slice_get t.judged place) a room
+    (λ k g. ap (λ (js : List Judged). slice_get js place) j.judged ∙ slice_get_more r.judged j.more place k g) e
+
+-- what was found at a place is found there over a longer list
+pub judged_more : (config : Config) (xs ys : List Listed) (place : ℕ) (j : Judged) → slice_get (registry config xs).judged place ≡ Some j → slice_get (registry config (xs ++ ys)).judged place ≡ Some j
+judged_more config xs ys place k e =
+    let r : Registry = registry config xs in
+    let j : Judges (length ys) (registry config xs) (registry config (xs ++ ys)) = subst (Judges (length ys) (registry config xs)) (sym (fold-append (judge config) empty_registry xs ys)) (judges config (registry config xs) ys) in
+    ap (λ (js : List Judged). slice_get js place) j.judged ∙ slice_get_more r.judged j.more place k e
+
+-- ---- an answer over a shorter list
+
+pub find_true : (test : Filed → Bool) (fs : List Filed) (f : Filed) → find test fs ≡ Some f → test f ≡ true
+find_true test [] f e = cc
+find_true test (g ∷ gs) f e = either (test g) (test f ≡ true)
+    (λ h. let same : Some g ≡ Some f = sym (cond-true (test g) (Some g) (find test gs) h) ∙ e in let one : g ≡ f = cc in ap test (sym one) ∙ h)
+    (λ h. find_true test gs f (sym (cond-false (test g) (Some g) (find test gs) h) ∙ e))
+
+places_above : (first n : ℕ) (es : List Entry) → first ≤ n → PlacesFrom n es → EachEntry (λ e. first ≤ e.place) es
+places_above first n [] h d = tt
+places_above first n (e ∷ es) h d = (omega (arith, d.0), places_above first (n + 1) es (omega arith) d.1)
+
+pub judged_length : (config : Config) (xs : List Listed) → length (registry config xs).judged ≡ length xs
+judged_length config xs = let j : Judges (length xs) empty_registry (registry config xs) = judges config empty_registry xs in ap length j.judged ∙ j.many
+
+pub entries_length : (config : Config) (xs : List Listed) → length (entries_of (registry config xs)) ≡ length xs
+entries_length config xs = length-map (registry config xs).judged entry_of ∙ judged_length config xs
+
+-- every connect that was answered over the list stands in it
+answered_within : (config : Config) (number : ℕ) (xs : List Listed) → Only (λ n. n < length xs) (session config number (entries_of (registry config xs)))
+answered_within config number xs =
+    let j : Judges (length xs) empty_registry (registry config xs) = judges config empty_registry xs in
+    let same : entries_of (registry config xs) ≡ map entry_of j.more = ap (map entry_of) j.judged in
+    let d : PlacesFrom 0 (entries_of (registry config xs)) = subst (PlacesFrom 0) (sym same) j.places in
+    run_only config (λ n. n < length xs) number (unopened number) (entries_of (registry config xs)) refl
+    (all_allowed (length xs) number 0 (entries_of (registry config xs)) (let l = entries_length config xs in omega arith) d) (only_unopened (λ n. n < length xs) number)
+
+-- what the two lists have in common, where the longer one gives an answer that was given within the shorter one
+record Shared (config : Config) (xs : List Listed) (r t : Registry) : Type 0 where
+  more : List Judged
+  judged : t.judged ≡ r.judged ++ more
+  many : length r.judged ≡ length xs
+  before : (number : ℕ) → Only (λ n. n < length xs) (session config number (entries_of r))
+  grown : (number : ℕ) → Grown (length xs) (session config number (entries_of r)) (session config number (entries_of t))
+
+shared : (config : Config) (xs ys : List Listed) → 0 < config.limits.batch → Shared config xs (registry config xs) (registry config (xs ++ ys))
+shared config xs ys room =
+    let r : Registry = registry config xs in
+    let t : Registry = registry config (xs ++ ys) in
+    let j : Judges (length ys) r t = subst (Judges (length ys) r) (sym (fold-append (judge config) empty_registry xs ys)) (judges config r ys) in
+    let many : length r.judged ≡ length xs = judged_length config xs in
+    let above : EachEntry (λ e. length xs ≤ e.place) (map entry_of j.more) = places_above (length xs) (length r.judged) (map entry_of j.more) (omega arith) j.places in
+    record {
+      more = j.more;
+      judged = j.judged;
+      many = many;
+      before = λ number. answered_within config number xs;
+      grown = λ number. subst (λ (es : List Entry). Grown (length xs) (session config number (entries_of r)) (session config number es)) (sym (entries_more r t j.more j.judged))
+          (session_grown config number (length xs) (entries_of r) (map entry_of j.more) room above);
+    }
+
+-- a connect's answer that was given within the shorter list was found there
+record FoundThere (place : ℕ) (count : ℕ) (fs : List Filed) (a : PlacedAnswer) : Type 0 where
+  there : filed_for place fs ≡ Some a
+  within : place < count
+
+found_there : (place count : ℕ) (fs gs : List Filed) (a : PlacedAnswer) → a.place < count → Each (λ f. f.connect < count) fs → Each (λ f. count ≤ f.place) gs →
+    filed_for place (fs ++ gs) ≡ Some a → FoundThere place count fs a
+found_there place count fs gs a h b d e =
+    let test : Filed → Bool = λ f. f.connect == place in
+    let whole : option_map answer_of (option_or (find test fs) (find test gs)) ≡ Some a = sym (ap (option_map answer_of) (find-append test fs gs)) ∙ e in
+    let late : (o : Option Filed) → find test gs ≡ o → option_map answer_of o ≡ Some a → ⊥ =
+    elim [
+      | None ↦ λ s n. cc
+      | Some f ↦ λ s n. let same : answer_of f ≡ a = cc in let p : f.place ≡ a.place = ap (λ (x : PlacedAnswer). x.place) same in
+          let q : count ≤ f.place = find_each (λ g. count ≤ g.place) test gs f s d in let l : a.place < a.place = omega arith in omega arith
+    ] in
+    let P : Option Filed → Type 0 = λ o. find test fs ≡ o → option_map answer_of (option_or o (find test gs)) ≡ Some a → FoundThere place count fs a in
+    let at_none : P None = λ s n. absurd (late (find test gs) refl n) in
+    let at_some : (f : Filed) → P (Some f) = λ f s n. record {
+      there = ap (option_map answer_of) s ∙ n;
+      within = let c : f.connect < count = find_each (λ g. g.connect < count) test fs f s b in let k : f.connect ≡ place = eqb-true f.connect place (find_true test fs f s) in omega arith;
+    } in
+    (elim (find test fs) as P [ None ↦ at_none | Some f ↦ at_some f ]) refl whole
+
+answer_by_less : (config : Config) (xs : List Listed) (r t : Registry) (place : ℕ) (k : Judged) (a : PlacedAnswer) (slot : PlaceSlot) → Shared config xs r t → a.place < length xs →
+    slice_get t.judged place ≡ Some k → k.slot ≡ slot → answer_by config (entries_of t) place slot ≡ Some a → answer_at config (entries_of r) place (slice_get r.judged place) ≡ Some a
+answer_by_less config xs r t place k a (Ready reply) s h g e n =
+    let p : place ≡ a.place = ap (λ (o : Option PlacedAnswer). elim o [ None ↦ 0 | Some x ↦ x.place ]) n in
+    let l : place < length r.judged = omega (arith, s.many) in
+    ap (answer_at config (entries_of r) place) (sym (slice_get_less r.judged s.more place l) ∙ sym (ap (λ (js : List Judged). slice_get js place) s.judged) ∙ g)
+    ∙ ap (answer_by config (entries_of r) place) e ∙ n
+answer_by_less config xs r t place k a (Waiting number) s h g e n =
+    let w : Grown (length xs) (session config number (entries_of r)) (session config number (entries_of t)) = s.grown number in
+    let f : FoundThere place (length xs) (session config number (entries_of r)).answers a = found_there place (length xs) (session config number (entries_of r)).answers w.filed a h (s.before number).answers w.here (sym (ap (filed_for place) w.answers) ∙ n) in
+    let l : place < length r.judged = omega (arith, s.many, f.within) in
+    ap (answer_at config (entries_of r) place) (sym (slice_get_less r.judged s.more place l) ∙ sym (ap (λ (js : List Judged). slice_get js place) s.judged) ∙ g)
+    ∙ ap (answer_by config (entries_of r) place) e ∙ f.there
+answer_by_less config xs r t place k a NoSlot s h g e n = cc
+
+answer_at_less : (config : Config) (xs : List Listed) (r t : Registry) (place : ℕ) (a : PlacedAnswer) (o : Option Judged) → Shared config xs r t → a.place < length xs →
+    slice_get t.judged place ≡ o → answer_at config (entries_of t) place o ≡ Some a → answer_at config (entries_of r) place (slice_get r.judged place) ≡ Some a
+answer_at_less config xs r t place a None s h g n = cc
+answer_at_less config xs r t place a (Some k) s h g n = answer_by_less config xs r t place k a k.slot s h g refl n
+
+pub answer_less : (config : Config) (xs ys : List Listed) (place : ℕ) (a : PlacedAnswer) → 0 < config.limits.batch → a.place < length xs → answer config (xs ++ ys) place ≡ Some a → answer config xs place ≡ Some a
+answer_less config xs ys place a room h e =
+    answer_at_less config xs (registry config xs) (registry config (xs ++ ys)) place a (slice_get (registry config (xs ++ ys)).judged place) (shared config xs ys room) h refl e
+
+-- ---- the law
+
+answer_front : (config : Config) (list : List Listed) (place : ℕ) (a : PlacedAnswer) → 0 < config.limits.batch → answer config list place ≡ Some a → answer config (take (a.place + 1) list) place ≡ Some a
+answer_front config list place a room e =
+    let xs : List Listed = take (a.place + 1) list in
+    let ys : List Listed = drop (a.place + 1) list in
+    let whole : xs ++ ys ≡ list = take-append-drop (a.place + 1) list in
+    ⊎_elim
+    (λ h. let l : a.place < length xs = omega (arith, h, length-take (a.place + 1) list) in
+    answer_less config xs ys place a room l (ap (λ (zs : List Listed). answer config zs place) whole ∙ e))
+    (λ h. ap (λ (zs : List Listed). answer config zs place) (take_all (a.place + 1) list (omega (arith, h))) ∙ e)
+    (cases_lt a.place (length list))
+
+-- an answer below a place is the answer over the list up to there
+pub answer_within : (config : Config) (list : List Listed) (n place : ℕ) (a : PlacedAnswer) → 0 < config.limits.batch → a.place < n → answer config list place ≡ Some a → answer config (take n list) place ≡ Some a
+answer_within config list n place a room l e =
+    let whole : take n list ++ drop n list ≡ list = take-append-drop n list in
+    ⊎_elim
+    (λ h. answer_less config (take n list) (drop n list) place a room h (ap (λ (zs : List Listed). answer config zs place) whole ∙ e))
+    (λ h. ap (λ (zs : List Listed). answer config zs place) (take_all n list (omega (arith, h, length-take n list))) ∙ e)
+    (cases_lt a.place (length (take n list)))
+
+pub answers_stay : AnswersStay
+answers_stay config list other place a room e same =
+    let there : answer config (take (a.place + 1) other) place ≡ Some a = ap (λ (zs : List Listed). answer config zs place) same ∙ answer_front config list place a room e in
+    sym (ap (λ (zs : List Listed). answer config zs place) (take-append-drop (a.place + 1) other)) ∙ answer_more config (take (a.place + 1) other) (drop (a.place + 1) other) place a room there
+
+pub entries_in_order : EntriesInOrder
+entries_in_order config list =
+    let j : Judges (length list) empty_registry (registry config list) = judges config empty_registry list in
+    subst (PlacesFrom 0) (sym (ap (map entry_of) j.judged)) j.places

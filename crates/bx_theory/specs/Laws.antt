@@ -1,0 +1,144 @@
+-- Laws over the definitions, each for every list.
+use Rattle.std.specs.Prelude.{ℕ, ◌+◌, ◌≡◌, ◌≤◌, ◌<◌, true, false, is_some, List, [], ◌∷◌, ◌++◌, length, take, drop, fold, flat_map, if◌then◌else◌, Option, Some, None, ⊤}
+use Rattle.bx_advice.specs.declared.config.Config.{Config}
+use Rattle.bx_entry.specs.Listing.{Listed}
+use Rattle.bx_message.specs.declared.reply.AckReply.TheVariants.{AckNumber}
+use Rattle.bx_entry.specs.declared.entry.Entry.{Entry}
+use Rattle.bx_entry.specs.declared.entry.EntryKind.TheVariants.{Connect}
+use Rattle.bx_entry.specs.Sessions.{Session, Publication, Filed, Unopened, step, session}
+use Rattle.bx_entry.specs.Registry.{entries}
+use Rattle.bx_entry.specs.Answers.{PlacedAnswer, answer}
+
+-- ---- counts
+
+-- what was given for good stays given for good
+abbrev pub DoneNeverFalls : Type 0
+DoneNeverFalls = (config : Config) (number : ℕ) (xs ys : List Entry) → (session config number xs).done ≤ (session config number (xs ++ ys)).done
+
+-- What holds of a session at any time: the queue has the events behind those that are given for good, or none after an overflow, when no pattern is in
+-- force either; the outstanding batch is its front; the counts never pass each other, a batch is no longer than its limit, a plain session has none, and while a connect is held nothing waits.
+pub record InStep (config : Config) (s : Session) : Type 0 where
+  pub queue : s.queue ≡ (if s.overflow then [] else drop s.done s.events)
+  pub emptied : s.overflow ≡ true → s.patterns ≡ []
+  pub front : s.out ≤ length s.queue
+  pub few : s.done + s.out ≤ length s.events
+  pub small : s.out ≤ config.limits.batch
+  pub plain : s.ack ≡ false → s.out ≡ 0
+  pub fresh : s.stage ≡ Unopened → s.ack ≡ false
+  pub idle : is_some s.held ≡ true → (length s.events ≤ s.done) × (s.out ≡ 0)
+
+-- whatever entries come
+abbrev pub CountsAgree : Type 0
+CountsAgree = (config : Config) (number : ℕ) (es : List Entry) → 0 < config.limits.batch → InStep config (session config number es)
+
+-- ---- answers stay
+
+-- an answer is the same over every list that begins with the elements up to the place at which it was given
+abbrev pub AnswersStay : Type 0
+AnswersStay = (config : Config) (list other : List Listed) (place : ℕ) (a : PlacedAnswer) → 0 < config.limits.batch →
+    answer config list place ≡ Some a → take (a.place + 1) other ≡ take (a.place + 1) list → answer config other place ≡ Some a
+
+-- ---- events in answers
+
+-- P holds of each answer
+abbrev pub Each : (Filed → Type 0) → List Filed → Type 0
+Each P [] = ⊤
+Each P (f ∷ fs) = P f × Each P fs
+
+-- the publications are so many of the events from some index on, which is at least `low` where they are any
+pub record Slice (events : List Publication) (low : ℕ) (given : List Publication) : Type 0 where
+  pub from : ℕ
+  pub count : ℕ
+  pub above : 0 < count → low ≤ from
+  pub within : from + count ≤ length events
+  pub is : given ≡ take count (drop from events)
+
+-- Answers at or after an entry have only events that weren't done before it; in an acknowledging session only events that aren't done after it.
+-- So what was acknowledged, or given by a plain session, is never given again.
+pub record GivesFrom (config : Config) (s u t : Session) : Type 0 where
+  pub filed : List Filed
+  pub answers : t.answers ≡ s.answers ++ filed
+  pub slices : Each (λ f. Slice t.events (if u.ack then u.done else s.done) f.publications) filed
+
+-- so it is at every entry of every run
+abbrev pub NeverGivenAgain : Type 0
+NeverGivenAgain = (config : Config) (number : ℕ) (xs : List Entry) (e : Entry) (ys : List Entry) → 0 < config.limits.batch →
+    GivesFrom config (session config number xs) (step config (session config number xs) e) (fold (step config) (step config (session config number xs) e) ys)
+
+-- P holds of each publication
+abbrev pub EachOf : (Publication → Type 0) → List Publication → Type 0
+EachOf P [] = ⊤
+EachOf P (p ∷ ps) = P p × EachOf P ps
+
+-- each of the first stands at an earlier place than each of the second
+abbrev pub AllBelow : List Publication → List Publication → Type 0
+AllBelow ps qs = EachOf (λ p. EachOf (λ q. p.place < q.place) qs) ps
+
+-- entries at consecutive places
+abbrev pub PlacesFrom : ℕ → List Entry → Type 0
+PlacesFrom n [] = ⊤
+PlacesFrom n (e ∷ es) = (e.place ≡ n) × PlacesFrom (n + 1) es
+
+-- the same by the places of the events: an answer at or after an entry has only events of later places than those that were done
+pub record GivesLater (s u t : Session) : Type 0 where
+  pub filed : List Filed
+  pub answers : t.answers ≡ s.answers ++ filed
+  pub apart : Each (λ f. AllBelow (take (if u.ack then u.done else s.done) t.events) f.publications) filed
+
+-- so it is at every entry of every run over a list's entries
+abbrev pub NoEventTwice : Type 0
+NoEventTwice = (config : Config) (number : ℕ) (xs : List Entry) (e : Entry) (ys : List Entry) → 0 < config.limits.batch → PlacesFrom 0 (xs ++ e ∷ ys) →
+    GivesLater (session config number xs) (step config (session config number xs) e) (fold (step config) (step config (session config number xs) e) ys)
+
+-- the entries of a list stand at consecutive places
+abbrev pub EntriesInOrder : Type 0
+EntriesInOrder = (config : Config) (list : List Listed) → PlacesFrom 0 (entries config list)
+
+-- the events of a plain session's answers, one answer after another, are its first `done` events, each once
+abbrev pub given_in : List Filed → List Publication
+given_in answers = flat_map (λ (f : Filed). f.publications) answers
+
+-- so what was given by a plain session, in whatever pieces, is the front of its events
+abbrev pub GivenOnce : Type 0
+GivenOnce = (config : Config) (number : ℕ) (es : List Entry) → 0 < config.limits.batch →
+    (session config number es).ack ≡ false → given_in (session config number es).answers ≡ take (session config number es).done (session config number es).events
+
+-- ---- a repeated acknowledgement
+
+-- the number acknowledges nothing new
+abbrev pub Repeats : ℕ → Option ℕ → Type 0
+Repeats num None = ⊤
+Repeats num (Some n) = n < num
+
+-- the last answer that the session gave
+abbrev pub LastAnswer : Session → Filed → Type 0
+LastAnswer s f = (rest : List Filed) × (s.answers ≡ rest ++ f ∷ [])
+
+-- the answer that formed the batch, and the one that gives it again
+pub record SameBatch (forming : Session) (now : ℕ) (after : Session) : Type 0 where
+  pub first : Filed
+  pub again : Filed
+  pub formed : LastAnswer forming first
+  pub given : LastAnswer after again
+  pub connect : again.connect ≡ now
+  pub place : again.place ≡ now
+  pub same : again.publications ≡ first.publications
+  pub number : first.reply.ack ≡ AckNumber forming.num
+  pub same_number : again.reply.ack ≡ AckNumber forming.num
+
+-- The entry that formed the outstanding batch, and that a later connect is answered with it again.
+pub record Repetition (config : Config) (number : ℕ) (es : List Entry) (e : Entry) : Type 0 where
+  pub before : List Entry
+  pub forming : Entry
+  pub between : List Entry
+  pub split : es ≡ before ++ forming ∷ between
+  pub grew : (step config (session config number before) forming).num ≡ (session config number before).num + 1
+  pub current : (step config (session config number before) forming).num ≡ (session config number es).num
+  pub same : SameBatch (step config (session config number before) forming) e.place (step config (session config number es) e)
+
+-- While a batch is outstanding, a connect that acknowledges nothing new is answered at once, with that batch's number and the very events
+-- of the answer that formed it.
+abbrev pub BatchRepeats : Type 0
+BatchRepeats = (config : Config) (number : ℕ) (es : List Entry) (e : Entry) (client : List ℕ) (id : Option (List ℕ)) (acked : Option ℕ) (hold : ℕ) → 0 < config.limits.batch →
+    0 < (session config number es).out → (session config number es).overflow ≡ false →
+    e.kind ≡ Connect number client id acked hold → Repeats (session config number es).num acked → Repetition config number es e

@@ -1,0 +1,5 @@
+pub mod Laws
+pub mod Readings
+pub mod Events
+pub mod Outs
+pub mod Lines

@@ -1,0 +1,46 @@
+-- What a replay has printed where it has taken in the first lines of a script, what one more line prints, and what comes at the end.
+use Rattle.std.specs.Prelude.{ℕ, ◌+◌, ◌<◌, ◌≡◌, List, [], ◌∷◌, ◌++◌, length, map, flat_map, slice_get, codes, decimal, ⊤}
+use Rattle.bx_advice.specs.declared.config.Config.{Config}
+use Rattle.bx_entry.specs.Inputs.{ReadInput}
+use Rattle.bx_script.specs.Replay.{Line, Bad, Rejected, Accepted, Resharded, Numbered, inputs_from, line_text, out_by, printed_from, printed, held_text}
+use Rattle.bx_entry.specs.Runs.{Out, wholes, outs, held}
+
+-- the inputs among a script's first lines
+abbrev pub inputs_in : List Line → List ReadInput
+inputs_in ls = map (λ (n : Numbered). n.input) (inputs_from 1 ls)
+
+-- what these lines print
+abbrev pub printed_so_far : Config → List Line → List ℕ
+printed_so_far config ls = printed_from (wholes config (inputs_in ls)) (inputs_from 1 ls) 1 0 ls
+
+-- the outs that an input adds; a line that is no input adds none
+abbrev pub AddsOuts : Config → List ReadInput → Line → List Out → Type 0
+AddsOuts config inputs Bad more = ⊤
+AddsOuts config inputs (Rejected status) more = ⊤
+AddsOuts config inputs (Accepted callback input) more = outs config (inputs ++ input ∷ []) ≡ outs config inputs ++ more
+AddsOuts config inputs (Resharded shards) more = ⊤
+
+-- what outs print, where the inputs that they belong to are numbered by their lines
+abbrev pub outs_text : List Numbered → List Out → List ℕ
+outs_text numbered os = flat_map (λ (o : Out). out_by o (slice_get numbered o.input)) os
+
+-- what the line of this number prints, where its input adds these outs
+abbrev pub line_prints : ℕ → List Numbered → Line → List Out → List ℕ
+line_prints number numbered Bad more = line_text number (codes "bad")
+line_prints number numbered (Rejected status) more = line_text number (decimal status)
+line_prints number numbered (Accepted callback input) more = outs_text numbered more
+line_prints number numbered (Resharded shards) more = []
+
+-- One more line's input stands behind those before it;
+abbrev pub InputsGoOn : Type 0
+InputsGoOn = (ls : List Line) (l : Line) → inputs_from 1 (ls ++ l ∷ []) ≡ inputs_from 1 ls ++ inputs_from (length ls + 1) (l ∷ [])
+
+-- what it prints stands behind what was printed;
+abbrev pub LinesGoOn : Type 0
+LinesGoOn = (config : Config) (ls : List Line) (l : Line) (more : List Out) → 0 < config.limits.batch → AddsOuts config (inputs_in ls) l more →
+    printed_so_far config (ls ++ l ∷ []) ≡ printed_so_far config ls ++ line_prints (length ls + 1) (inputs_from 1 (ls ++ l ∷ [])) l more
+
+-- and the lines that are held stand behind all that the lines print.
+abbrev pub HeldComeLast : Type 0
+HeldComeLast = (config : Config) (ls : List Line) →
+    printed config (inputs_from 1 ls) ls ≡ printed_so_far config ls ++ flat_map (λ index. held_text (slice_get (inputs_from 1 ls) index)) (held config (inputs_in ls))

@@ -1,0 +1,195 @@
+-- What the words of a session mean, said of the whole list instead of step by step.
+use Rattle.std.specs.Prelude.{ℕ, ◌+◌, ◌≡◌, ◌≤◌, ◌==◌, ◌&&◌, ◌||◌, not, max, Bool, true, false, List, [], ◌∷◌, ◌++◌, length, map, filter, filter_map, fold, nat_le, nat_lt, if◌then◌else◌, Option, Some, None, ⊤}
+use Rattle.std.specs.List.{list_any}
+use Rattle.bx_names.specs.Globs.{Glob}
+use Rattle.bx_advice.specs.declared.config.Config.{Config}
+use Rattle.bx_entry.specs.Listing.{Listed}
+use Rattle.bx_entry.specs.Listing as messages
+use Rattle.bx_entry.specs.declared.entry.Entry.{Entry}
+use Rattle.bx_entry.specs.declared.entry.EntryKind.{EntryKind}
+use Rattle.bx_entry.specs.declared.entry.EntryKind.TheVariants.{Opened, Connect, Subscribe, Unsubscribe, Publish, Disconnect, Refused, Tick}
+use Rattle.bx_entry.specs.Registry.{Registered, Judged, registry, entries_of, entries}
+use Rattle.bx_names.specs.InForce.{in_force, with_pattern}
+use Rattle.bx_entry.specs.Sessions.{Session, Pending, Filed, is_live, is_hit, has_room, pending_count, step, session, Closed}
+
+-- ---- live: opened, and not closed since
+
+-- whether a kind of entry opens the session
+abbrev pub opens_by : ℕ → EntryKind → Bool
+opens_by number (Opened n ack) = n == number
+opens_by number (Connect n client id acked hold) = false
+opens_by number (Subscribe n ps) = false
+opens_by number (Unsubscribe n ps) = false
+opens_by number (Publish e) = false
+opens_by number (Disconnect n) = false
+opens_by number Refused = false
+opens_by number (Tick numbers) = false
+
+-- whether a kind of entry closes the session: its disconnect, or a tick that names it
+abbrev pub closes_by : ℕ → EntryKind → Bool
+closes_by number (Opened n ack) = false
+closes_by number (Connect n client id acked hold) = false
+closes_by number (Subscribe n ps) = false
+closes_by number (Unsubscribe n ps) = false
+closes_by number (Publish e) = false
+closes_by number (Disconnect n) = n == number
+closes_by number Refused = false
+closes_by number (Tick numbers) = list_any (λ n. n == number) numbers
+
+-- whether an entry closes the session
+abbrev pub closes : ℕ → Entry → Bool
+closes number e = closes_by number e.kind
+
+-- the entries behind the one that opens the session
+abbrev pub since_opening : ℕ → List Entry → Option (List Entry)
+since_opening number [] = None
+since_opening number (e ∷ es) = if opens_by number e.kind then Some es else since_opening number es
+
+-- opened, and nothing since closes it
+abbrev pub unclosed : ℕ → Option (List Entry) → Bool
+unclosed number None = false
+unclosed number (Some es) = not (list_any (closes number) es)
+
+-- the stage that the entries lead to, one after another, says the same
+abbrev pub LiveReading : Type 0
+LiveReading = (config : Config) (number : ℕ) (es : List Entry) → is_live (session config number es).stage ≡ unclosed number (since_opening number es)
+
+-- ---- in force: the last mention is in a subscribe
+
+-- what a kind of entry of the session says of a pattern: in, out or nothing
+abbrev pub mention_by : ℕ → Glob → EntryKind → Option Bool
+mention_by number p (Opened n ack) = None
+mention_by number p (Connect n client id acked hold) = None
+mention_by number p (Subscribe n ps) = if (n == number) && in_force ps p then Some true else None
+mention_by number p (Unsubscribe n ps) = if (n == number) && in_force ps p then Some false else None
+mention_by number p (Publish e) = None
+mention_by number p (Disconnect n) = None
+mention_by number p Refused = None
+mention_by number p (Tick numbers) = None
+
+-- the last of some answers, or the first argument
+abbrev pub last_of : Bool → List Bool → Bool
+last_of b [] = b
+last_of b (c ∷ cs) = last_of c cs
+
+-- the patterns that the entries lead to, one after another, say the same; after an overflow none is in force
+abbrev pub InForceReading : Type 0
+InForceReading = (config : Config) (number : ℕ) (es : List Entry) (p : Glob) →
+    in_force (session config number es).patterns p ≡ (not (session config number es).overflow && last_of false (filter_map (λ (e : Entry). mention_by number p e.kind) es))
+
+-- ---- held: no ending entry since
+
+-- the entry ends this hold: an event of the session, a newer connect of it, its disconnect, or a tick at or past the deadline
+abbrev pub ends_by : Config → Session → Pending → ℕ → EntryKind → Bool
+ends_by config s p moment (Opened n ack) = false
+ends_by config s p moment (Connect n client id acked hold) = n == s.number
+ends_by config s p moment (Subscribe n ps) = false
+ends_by config s p moment (Unsubscribe n ps) = false
+ends_by config s p moment (Publish e) = is_hit s e && has_room config s
+ends_by config s p moment (Disconnect n) = n == s.number
+ends_by config s p moment Refused = false
+ends_by config s p moment (Tick numbers) = nat_le (p.moment + p.hold) moment
+
+-- the same of an entry
+abbrev pub ends : Config → Session → Pending → Entry → Bool
+ends config s p e = ends_by config s p e.moment e.kind
+
+-- none of the entries ends the hold
+abbrev pub NoneEnds : Config → Pending → Session → List Entry → Type 0
+NoneEnds config p s [] = ⊤
+NoneEnds config p s (e ∷ es) = (ends config s p e ≡ false) × NoneEnds config p (step config s e) es
+
+-- the connect is answered at this place, before anything else
+pub record AnsweredAt (p : Pending) (now : ℕ) (s t : Session) : Type 0 where
+  pub answer : Filed
+  pub others : List Filed
+  pub answers : t.answers ≡ s.answers ++ answer ∷ others
+  pub connect : answer.connect ≡ p.place
+  pub place : answer.place ≡ now
+
+-- a held connect stays held as long as no entry ends it
+abbrev pub HeldReading : Type 0
+HeldReading = (config : Config) (s : Session) (p : Pending) (es : List Entry) → s.held ≡ Some p → NoneEnds config p s es → (fold (step config) s es).held ≡ Some p
+
+-- and is answered at the first entry that does
+abbrev pub EndingReading : Type 0
+EndingReading = (config : Config) (s : Session) (p : Pending) (es : List Entry) (e : Entry) → s.held ≡ Some p → NoneEnds config p s es →
+    ends config (fold (step config) s es) p e ≡ true → AnsweredAt p e.place (fold (step config) s es) (step config (fold (step config) s es) e)
+
+-- ---- overflow: some earlier entry found no room
+
+-- whether an entry of this kind finds no room
+abbrev pub overfills_by : Config → Session → EntryKind → Bool
+overfills_by config s (Opened n ack) = false
+overfills_by config s (Connect n client id acked hold) = false
+overfills_by config s (Subscribe n ps) = (n == s.number) && nat_lt config.limits.patterns (length (fold with_pattern s.patterns ps))
+overfills_by config s (Unsubscribe n ps) = false
+overfills_by config s (Publish e) = is_hit s e && not (has_room config s)
+overfills_by config s (Disconnect n) = false
+overfills_by config s Refused = false
+overfills_by config s (Tick numbers) = false
+
+-- some entry is a hit that finds the queue full, or a subscribe after which too many patterns are in force
+abbrev pub some_overfills : Config → Session → List Entry → Bool
+some_overfills config s [] = false
+some_overfills config s (e ∷ es) = overfills_by config s e.kind || some_overfills config (step config s e) es
+
+-- the flag says the same
+abbrev pub OverflowReading : Type 0
+OverflowReading = (config : Config) (s : Session) (es : List Entry) → (fold (step config) s es).overflow ≡ (s.overflow || some_overfills config s es)
+
+-- a queue is never longer than its limit
+abbrev pub QueueBounded : Type 0
+QueueBounded = (config : Config) (number : ℕ) (es : List Entry) → pending_count (session config number es) ≤ config.limits.events
+
+-- ---- due: the greatest moment that an accepted message gave
+
+-- whether the message at a place is an accepted one of the session
+abbrev pub is_from : ℕ → Option ℕ → Bool
+is_from number None = false
+is_from number (Some n) = number == n
+
+-- what the messages of the session gave, one after another
+abbrev pub given_moments : Config → ℕ → List Judged → List ℕ
+given_moments config number js = map (λ (j : Judged). j.entry.moment + j.hold + config.max_interval) (filter (λ (j : Judged). is_from number j.sender) js)
+
+-- P holds of each session
+abbrev pub EachSession : (Registered → Type 0) → List Registered → Type 0
+EachSession P [] = ⊤
+EachSession P (r ∷ rs) = P r × EachSession P rs
+
+-- the running due moment says the same: the moment of the entry, the hold granted to it and the configured interval, at its greatest
+abbrev pub DueReading : Type 0
+DueReading = (config : Config) (list : List Listed) → EachSession (λ r. r.due ≡ fold max 0 (given_moments config r.number (registry config list).judged)) (registry config list).sessions
+
+-- who is live by the registry is live by the entries
+abbrev pub SameLive : Type 0
+SameLive = (config : Config) (list : List Listed) → EachSession (λ r. r.live ≡ unclosed r.number (since_opening r.number (entries_of (registry config list)))) (registry config list).sessions
+
+-- An accepted message of a session, other than the handshake that opens it, stands where the session is live: by the entries before it
+-- the session was opened and not closed since. So a publish is accepted from a live session only.
+abbrev pub AcceptedWhileLive : Type 0
+AcceptedWhileLive = (config : Config) (list : List Listed) (before : List Judged) (j : Judged) (behind : List Judged) (number : ℕ) →
+    (registry config list).judged ≡ before ++ j ∷ behind → j.sender ≡ Some number → opens_by number j.entry.kind ≡ false →
+    unclosed number (since_opening number (map (λ (i : Judged). i.entry) before)) ≡ true
+
+-- nothing more comes of a session: no connect of it is held, and its events and answers are as they were
+pub record NothingMore (s t : Session) : Type 0 where
+  pub stage : t.stage ≡ Closed
+  pub held : t.held ≡ None
+  pub events : t.events ≡ s.events
+  pub answers : t.answers ≡ s.answers
+
+-- nothing more comes of a closed session, whatever the list goes on with
+abbrev pub ClosedIsOver : Type 0
+ClosedIsOver = (config : Config) (list more : List Listed) (number : ℕ) → (session config number (entries config list)).stage ≡ Closed →
+    NothingMore (session config number (entries config list)) (session config number (entries config (list ++ more)))
+
+-- the moment of an entry is the greatest that was handed in so far
+abbrev pub moment_of : Listed → ℕ
+moment_of (messages.Post p) = p.moment
+moment_of (messages.Tick moment) = moment
+
+-- the running clock says the same
+abbrev pub ClockReading : Type 0
+ClockReading = (config : Config) (list : List Listed) → (registry config list).clock ≡ fold max 0 (map moment_of list)
