@@ -1,16 +1,12 @@
 //! Requests in forms of HTTP that few clients send, each over a connection of its own.
-use crate::runs::{add_written, serve};
+use crate::host::{Host, add_written};
 use crate::wire::Wire;
 use anyhow::Result;
 use bytes::Bytes;
 use http::{Request, Response};
 use http_body_util::Full;
 use hyper::body::Incoming;
-use hyper::server::conn::http1;
 use hyper::service::Service;
-use std::alloc::{AllocGlobal, Global};
-use std::random::RandomSource;
-use std::sync::Wait;
 
 // What stands behind this comes once something was written.
 const GO_ON: &str = "<goes on>";
@@ -71,29 +67,33 @@ const FORMS: [(&str, &str); 13] = [
     ),
 ];
 
-/// Adds for each what is written to its connection.
-pub fn run<S, E, R>(
-    rt: &R,
-    alloc: Global,
-    service: &S,
-    http: &http1::Builder,
-    text: &mut String,
-) -> Result<()>
+impl<S, E> Host<'_, S>
 where
     S: Service<Request<Incoming<Wire>>, Response = Response<Full<Bytes>>, Error = E> + Clone,
     E: Into<anyhow::Error> + Drop,
-    R: Wait + RandomSource + AllocGlobal,
-    requires { (each : S) → S.can_call each }
 {
-    for (name, bytes) in FORMS {
-        text.push_str("\na request ")?;
-        text.push_str(name)?;
-        text.push_str("\n")?;
-        let wire = match bytes.split_once(GO_ON) {
-            Some((head, body)) => Wire::in_turn(alloc, head.as_bytes(), body.as_bytes())?,
-            None => Wire::new(alloc, bytes.as_bytes())?,
-        };
-        add_written(text, alloc, &serve(rt, http, service.clone()?, wire)?)?;
+    /// Adds for each what is written to its connection.
+    pub fn add_forms(&self, text: &mut String) -> Result<()>
+        requires { (each : S) → S.can_call each }
+    {
+        for (name, bytes) in &FORMS {
+            text.push_str("\na request ")?;
+            text.push_str(name)?;
+            text.push_str("\n")?;
+            self.add_form(bytes, text)?;
+        }
+        Ok(())
     }
-    Ok(())
+
+    fn add_form(&self, bytes: &str, text: &mut String) -> Result<()>
+        requires { (each : S) → S.can_call each }
+    {
+        let (coming, later) = match bytes.split_once(GO_ON) {
+            Some(parts) => parts,
+            None => (bytes, ""),
+        };
+        let wire = Wire::new(self.alloc, coming.as_bytes(), later.as_bytes())?;
+        add_written(text, self.alloc, self.serve(wire)?.as_slice())?;
+        Ok(())
+    }
 }

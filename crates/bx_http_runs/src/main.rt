@@ -4,6 +4,7 @@
 
 mod forms;
 mod held;
+mod host;
 mod posts;
 mod runs;
 mod wire;

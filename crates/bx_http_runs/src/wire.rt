@@ -12,22 +12,23 @@ use tokio::io::{AsyncRead, AsyncWrite};
 pub struct Wire {
     coming: Bytes,
     later: Bytes,
-    pub written: Vec<u8>,
+    written: Vec<u8>,
 }
 
 impl Wire {
-    /// A connection on which these bytes come.
-    pub fn new(alloc: Global, coming: &[u8]) -> Result<Wire, AllocError> {
-        Wire::in_turn(alloc, coming, b"")
-    }
-
-    /// A connection on which the first bytes come, and the others once something was written.
-    pub fn in_turn(alloc: Global, coming: &[u8], later: &[u8]) -> Result<Wire, AllocError> {
+    /// A connection on which the first bytes come, and the others, if there are any, once something was written.
+    pub fn new(alloc: Global, coming: &[u8], later: &[u8]) -> Result<Wire, AllocError> {
         Ok(Wire {
             coming: Bytes::copy_from_slice(alloc, coming)?,
             later: Bytes::copy_from_slice(alloc, later)?,
             written: Vec::new(alloc),
         })
+    }
+
+    /// What was written.
+    pub fn into_written(self) -> Vec<u8> {
+        let Wire { written, .. } = self;
+        written
     }
 }
 

@@ -1,63 +1,76 @@
 //! Requests of several documents, and where sessions are placed.
+use crate::same::same;
 use bx_cut::Bodies;
 use bx_entry::{AllFirst, BodyFault, ByRemainder, ByTable, Placing, ReadFault, read_messages};
-use std::alloc::Global;
+use bx_message::Message;
+use std::alloc::{AllocError, Global};
+use std::process::Abort;
 use std::test::Fail;
 
-// The channels of a request's messages, each followed by a space, or its fault.
-fn channels(alloc: Global, documents: &[&str]) -> Result<Result<String, BodyFault>, Fail> {
+// A request of these documents.
+fn bodies(alloc: Global, documents: &[&str]) -> Result<Bodies, AllocError> {
     let mut texts = Vec::new(alloc);
     for document in documents {
         texts.push(String::from_str(alloc, document)?)?;
     }
-    match read_messages(alloc, &Bodies::Decoded(texts)) {
-        Ok(messages) => {
-            let mut found = String::new(alloc);
-            for message in &messages {
-                found.push_str(message.channel.as_str())?;
-                found.push(' ')?;
-            }
-            Ok(Ok(found))
-        }
-        Err(ReadFault::Body(fault)) => Ok(Err(fault)),
+    Ok(Bodies::Decoded(texts))
+}
+
+// The channels of messages, each followed by a space.
+fn channels(alloc: Global, messages: &[Message]) -> Result<String, AllocError> {
+    let mut found = String::new(alloc);
+    for message in messages {
+        found.push_str(message.channel.as_str())?;
+        found.push(' ')?;
+    }
+    Ok(found)
+}
+
+// What a request comes to.
+#[derive(Clone, Copy, Debug, PartialEq, Eq)]
+enum Found {
+    // So many messages.
+    Messages(usize),
+    Fault(BodyFault),
+}
+
+fn read(alloc: Global, documents: &[&str]) -> Result<Found, Fail> {
+    match &read_messages(alloc, &bodies(alloc, documents)?) {
+        Ok(messages) => Ok(Found::Messages(messages.len())),
+        Err(ReadFault::Body(fault)) => Ok(Found::Fault(*fault)),
         Err(ReadFault::Memory) => Err(Fail::from("out of memory")),
     }
 }
 
 #[test]
 fn messages_come_in_order(rt: HostRuntime) -> Result<(), Fail> {
-    let found = channels(
-        rt.alloc(),
-        &[
-            "[{\"channel\":\"/a\"},{\"channel\":\"/b\"}]",
-            "[]",
-            "{\"channel\":\"/c\"}",
-        ],
-    )?;
-    assert_eq!(rt; found.is_ok(), true);
-    if let Ok(found) = found {
-        assert_eq!(rt; found.as_str(), "/a /b /c ");
-    }
+    let documents = [
+        "[{\"channel\":\"/a\"},{\"channel\":\"/b\"}]",
+        "[]",
+        "{\"channel\":\"/c\"}",
+    ];
+    let messages = read_messages(rt.alloc(), &bodies(rt.alloc(), &documents)?)?;
+    let found = channels(rt.alloc(), messages.as_slice())?;
+    same(&rt, found.as_str(), "/a /b /c ", "channels");
     Ok(())
 }
 
+const FAULTS: [(&str, &str, BodyFault); 4] = [
+    ("[1]", "{", BodyFault::NotJson),
+    ("[{}]", "7", BodyFault::NotObject),
+    ("[{}]", "[]", BodyFault::NoChannel),
+    (
+        "{\"channel\":7}",
+        "{\"channel\":\"/a\"}",
+        BodyFault::NoChannel,
+    ),
+];
+
 #[test]
 fn faults_are_ordered_over_all_documents(rt: HostRuntime) -> Result<(), Fail> {
-    for (first, second, fault) in [
-        ("[1]", "{", BodyFault::NotJson),
-        ("[{}]", "7", BodyFault::NotObject),
-        ("[{}]", "[]", BodyFault::NoChannel),
-        (
-            "{\"channel\":7}",
-            "{\"channel\":\"/a\"}",
-            BodyFault::NoChannel,
-        ),
-    ] {
-        let found = channels(rt.alloc(), &[first, second])?;
-        assert_eq!(rt; found.is_err(), true, "{first} {second}");
-        if let Err(found) = found {
-            assert_eq!(rt; found, fault, "{first} {second}");
-        }
+    for (first, second, fault) in &FAULTS {
+        let found = read(rt.alloc(), &[*first, *second])?;
+        same(&rt, found, Found::Fault(*fault), *first);
     }
     Ok(())
 }
@@ -75,27 +88,40 @@ fn array_of(alloc: Global, count: usize) -> Result<String, Fail> {
     Ok(text)
 }
 
+// What so many messages in one document and so many in another come to.
+fn found_in_two(alloc: Global, first: usize, second: usize) -> Result<Found, Fail> {
+    let first = array_of(alloc, first)?;
+    let second = array_of(alloc, second)?;
+    read(alloc, &[first.as_str(), second.as_str()])
+}
+
+const COUNTS: [(usize, usize, Found); 3] = [
+    (200, 56, Found::Messages(256)),
+    (200, 57, Found::Fault(BodyFault::TooMany)),
+    (257, 0, Found::Fault(BodyFault::TooMany)),
+];
+
 #[test]
 fn messages_are_counted_over_all_documents(rt: HostRuntime) -> Result<(), Fail> {
-    for (first, second, is_ok) in [(200, 56, true), (200, 57, false), (257, 0, false)] {
-        let first = array_of(rt.alloc(), first)?;
-        let second = array_of(rt.alloc(), second)?;
-        let found = channels(rt.alloc(), &[first.as_str(), second.as_str()])?;
-        assert_eq!(rt; found.is_ok(), is_ok);
+    for (first, second, wanted) in &COUNTS {
+        let found = found_in_two(rt.alloc(), *first, *second)?;
+        same(&rt, found, *wanted, *first);
     }
     Ok(())
 }
 
+fn check_place<P: Placing>(rt: &impl Abort, placing: &P, places: &[(u64, usize)]) {
+    for (number, shard) in places {
+        same(rt, placing.place(*number, 2), *shard, *number);
+    }
+}
+
 #[test]
 fn places_by_rule(rt: HostRuntime) -> Result<(), Fail> {
-    assert_eq!(rt; ByRemainder.place(1, 2), 1);
-    assert_eq!(rt; ByRemainder.place(2, 2), 0);
-    assert_eq!(rt; AllFirst.place(7, 2), 0);
-    let table = ByTable::new(rt.alloc(), &[1, 0, 0])?;
-    for (number, shard) in [(1, 0), (2, 0), (3, 1)] {
-        assert_eq!(rt; table.place(number, 2), shard, "session {number}");
-    }
-    let empty = ByTable::new(rt.alloc(), &[])?;
-    assert_eq!(rt; empty.place(5, 2), 0);
+    check_place(&rt, &ByRemainder, &[(1, 1), (2, 0)]);
+    check_place(&rt, &AllFirst, &[(7, 0)]);
+    let places = [(1, 0), (2, 0), (3, 1)];
+    check_place(&rt, &ByTable::new(rt.alloc(), &[1, 0, 0])?, &places);
+    check_place(&rt, &ByTable::new(rt.alloc(), &[])?, &[(5, 0)]);
     Ok(())
 }

@@ -7,6 +7,8 @@ mod entry;
 #[cfg(test)]
 mod registry;
 #[cfg(test)]
+mod same;
+#[cfg(test)]
 mod session;
 #[cfg(test)]
 mod tree;

@@ -1,4 +1,5 @@
 //! Plans by what they say of entries and answers.
+use crate::same::same;
 use bx_advice::{Config, Error, Limits, Outcome};
 use bx_entry::EntryKind;
 use bx_message::{AckMember, Message, Sequence, Text, TextMember, reply_text};
@@ -88,66 +89,115 @@ fn tick(alloc: Global, registry: &mut Registry, moment: u64) -> Result<Sequence<
     }
 }
 
+// The plan of a first handshake.
+fn check_plan(rt: &impl Abort, alloc: Global, plan: &Plan) -> Result<(), Fail> {
+    same(rt, plan.batch.first, 0, "place");
+    same(rt, plan.batch.entries.len(), 1, "entries");
+    same(rt, case_of(plan), Some(Outcome::Opened), "outcome");
+    let reply = first_reply(alloc, plan)?;
+    same(rt, reply.as_slice(), OPENED, "reply");
+    Ok(())
+}
+
+fn plan_of_first(alloc: Global, registry: &Registry) -> Result<Plan, AdmitFault> {
+    let messages = [hello(alloc)?];
+    registry.plan(alloc, 0, 0, messages.as_slice())
+}
+
+// A plan that is not committed.
+fn check_unchanged(rt: &impl Abort, alloc: Global, registry: &Registry) -> Result<(), Fail> {
+    check_plan(rt, alloc, &plan_of_first(alloc, registry)?)?;
+    same(rt, registry.entries(), 0, "entries");
+    same(rt, registry.live(1), false, "session 1");
+    Ok(())
+}
+
+// A tick at this moment closes the sessions with these numbers.
+fn check_tick(
+    rt: &impl Abort,
+    alloc: Global,
+    registry: &mut Registry,
+    moment: u64,
+    wanted: &[u64],
+) -> Result<(), Fail> {
+    let closed = tick(alloc, registry, moment)?;
+    same(rt, closed.as_slice(), wanted, moment);
+    Ok(())
+}
+
+fn check_closed(rt: &impl Abort, alloc: Global, registry: &mut Registry) -> Result<(), Fail> {
+    let opened = open(alloc, registry, 0)?;
+    same(rt, opened, Some(Outcome::Opened), "outcome");
+    same(rt, registry.live(1), true, "session 1");
+    same(rt, registry.live(2), false, "session 2");
+    check_tick(rt, alloc, registry, 10_000, &[])?;
+    same(rt, registry.live(1), true, "session 1");
+    check_tick(rt, alloc, registry, 10_001, &[1])?;
+    same(rt, registry.live(1), false, "session 1");
+    same(rt, registry.entries(), 3, "entries");
+    Ok(())
+}
+
+// Why a request without messages is refused at this moment, if it is.
+fn fault_at(alloc: Global, registry: &Registry, moment: u64) -> Option<AdmitFault> {
+    registry.plan(alloc, moment, 0, &[]).err()
+}
+
+// Where the entry of a tick at this moment would stand.
+fn place_of_tick(alloc: Global, registry: &mut Registry, moment: u64) -> Result<u64, AdmitFault> {
+    match &registry.plan_tick(alloc, moment) {
+        Ok(plan) => Ok(plan.entry.place),
+        Err(fault) => Err(*fault),
+    }
+}
+
+fn check_moments(rt: &impl Abort, alloc: Global, registry: &mut Registry) -> Result<(), Fail> {
+    let late = 4_611_686_018_427_387_905;
+    let refused = Some(AdmitFault::BadMoment);
+    same(rt, fault_at(alloc, registry, late), refused, "a request");
+    let place = place_of_tick(alloc, registry, late);
+    same(rt, place, Err(AdmitFault::BadMoment), "a tick");
+    let place = place_of_tick(alloc, registry, late - 1);
+    same(rt, place, Ok(0), "the last tick");
+    same(rt, registry.entries(), 0, "entries");
+    Ok(())
+}
+
+fn check_room(rt: &impl Abort, alloc: Global, registry: &mut Registry) -> Result<(), Fail> {
+    for _ in 0..65_536 {
+        open(alloc, registry, 0)?;
+    }
+    same(rt, registry.live(65_536), true, "the last session");
+    let wanted = Some(Outcome::Failed(Error::TooManySessions));
+    same(rt, open(alloc, registry, 0)?, wanted, "one more");
+    let closed = tick(alloc, registry, 10_001)?.len();
+    same(rt, closed, 65_536, "closed");
+    open(alloc, registry, 10_001)?;
+    same(rt, registry.live(65_537), true, "the next session");
+    Ok(())
+}
+
 #[test]
 fn a_plan_changes_nothing(rt: HostRuntime) -> Result<(), Fail> {
     let alloc = rt.alloc();
-    let registry = Registry::new(alloc, config(2))?;
-    let messages = [hello(alloc)?];
-    let plan = registry.plan(alloc, 0, 0, messages.as_slice())?;
-    assert_eq!(rt; plan.batch.first, 0);
-    assert_eq!(rt; plan.batch.entries.len(), 1);
-    assert_eq!(rt; case_of(&plan), Some(Outcome::Opened));
-    let reply = first_reply(alloc, &plan)?;
-    assert_eq!(rt; reply.as_slice(), OPENED);
-    assert_eq!(rt; registry.entries(), 0);
-    assert!(rt; !registry.live(1));
-    Ok(())
+    check_unchanged(&rt, alloc, &Registry::new(alloc, config(2))?)
 }
 
 #[test]
 fn a_session_is_opened_and_closed(rt: HostRuntime) -> Result<(), Fail> {
     let alloc = rt.alloc();
-    let mut registry = Registry::new(alloc, config(2))?;
-    assert_eq!(rt; open(alloc, &mut registry, 0)?, Some(Outcome::Opened));
-    assert!(rt; registry.live(1));
-    assert!(rt; !registry.live(2));
-    assert_eq!(rt; tick(alloc, &mut registry, 10_000)?.len(), 0);
-    assert!(rt; registry.live(1));
-    let closed = tick(alloc, &mut registry, 10_001)?;
-    assert_eq!(rt; closed.as_slice(), [1].as_slice());
-    assert!(rt; !registry.live(1));
-    assert_eq!(rt; registry.entries(), 3);
-    Ok(())
+    check_closed(&rt, alloc, &mut Registry::new(alloc, config(2))?)
 }
 
 #[test]
 fn moments_have_an_end(rt: HostRuntime) -> Result<(), Fail> {
     let alloc = rt.alloc();
-    let mut registry = Registry::new(alloc, config(1))?;
-    let late = 4_611_686_018_427_387_905;
-    let refused = registry.plan(alloc, late, 0, &[]).err();
-    assert_eq!(rt; refused, Some(AdmitFault::BadMoment));
-    let refused = registry.plan_tick(alloc, late).err();
-    assert_eq!(rt; refused, Some(AdmitFault::BadMoment));
-    let last = registry.plan_tick(alloc, late - 1)?;
-    assert_eq!(rt; last.entry.place, 0);
-    assert_eq!(rt; registry.entries(), 0);
-    Ok(())
+    check_moments(&rt, alloc, &mut Registry::new(alloc, config(1))?)
 }
 
 #[test]
 fn there_is_room_for_the_standard_limit(rt: HostRuntime) -> Result<(), Fail> {
     let alloc = rt.alloc();
     let standard = Config::new(1, 30_000, 0, 10_000).ok_or("no configuration")?;
-    let mut registry = Registry::new(alloc, standard)?;
-    for _ in 0..65_536 {
-        open(alloc, &mut registry, 0)?;
-    }
-    assert!(rt; registry.live(65_536));
-    let wanted = Some(Outcome::Failed(Error::TooManySessions));
-    assert_eq!(rt; open(alloc, &mut registry, 0)?, wanted);
-    assert_eq!(rt; tick(alloc, &mut registry, 10_001)?.len(), 65_536);
-    open(alloc, &mut registry, 10_001)?;
-    assert!(rt; registry.live(65_537));
-    Ok(())
+    check_room(&rt, alloc, &mut Registry::new(alloc, standard)?)
 }

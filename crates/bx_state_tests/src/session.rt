@@ -2,6 +2,7 @@
 ghost use Rattle.std.specs.Prelude.{◌≡◌, IfOk, false};
 ghost use Rattle.bx_tree.specs.Patterns.{patterns_of};
 
+use crate::same::same;
 use bx_advice::{Config, Outcome, Reconnect};
 use bx_message::{AckReply, Event, RawJson, Reply, SharedEvent, Text};
 use bx_names::{ChannelName, Pattern};
@@ -28,13 +29,21 @@ fn config() -> Result<Config, Fail> {
     Ok(Config::new(1, 30_000, 0, 10_000).ok_or("no configuration")?)
 }
 
+// The number as JSON.
+fn json(alloc: Global, number: u64) -> Result<RawJson, AllocError> {
+    let text = format!(in alloc; "{number}")?;
+    RawJson::new(alloc, text.as_str())
+}
+
 fn event(alloc: Global, number: u64) -> Result<SharedEvent, Fail> {
+    let name = ChannelName::read(alloc, "/a/b")?;
+    let channel = Text::new(alloc, "/a/b")?;
+    let payload = json(alloc, number)?;
     let event = Event {
-        channel: Text::new(alloc, "/a/b")?,
-        payload: RawJson::new(alloc, format!(in alloc; "{number}")?.as_str())?,
+        channel,
+        payload,
         id: None,
     };
-    let name = ChannelName::read(alloc, "/a/b")?;
     Ok(SharedEvent::new(alloc, event, name)?)
 }
 
@@ -90,11 +99,26 @@ fn push_answer(answers: &mut Vec<Answered>, answered: Option<Answered>) -> Resul
     Ok(())
 }
 
+fn push_both(answers: &mut Vec<Answered>, connection: Connection) -> Result<(), Fail> {
+    let Connection {
+        superseded,
+        answered,
+    } = connection;
+    push_answer(answers, superseded)?;
+    push_answer(answers, answered)
+}
+
+fn push_delivery(answers: &mut Vec<Answered>, delivery: Delivery) -> Result<(), Fail> {
+    match delivery {
+        Delivery::Given(answered) => push_answer(answers, Some(answered)),
+        Delivery::Waits | Delivery::Overflowed => Ok(()),
+    }
+}
+
+// A connect at this place, moment and hold.
 fn pending(
     alloc: Global,
-    place: u64,
-    moment: u64,
-    hold: u64,
+    (place, moment, hold): (u64, u64, u64),
 ) -> Result<PendingConnect, AllocError> {
     let client = Text::new(alloc, "Z1")?;
     let id = RawJson::new(alloc, "\"7\"")?;
@@ -105,27 +129,15 @@ fn connect(
     alloc: Global,
     config: &Config,
     session: &mut Session,
-    connect: PendingConnect,
+    at: (u64, u64, u64),
     acked: Option<u64>,
     answers: &mut Vec<Answered>,
 ) -> Result<(), Fail> {
-    if session.last_batch() < MANY {
-        let Connection {
-            superseded,
-            answered,
-        } = session.connect(alloc, config, connect, acked)?;
-        push_both(answers, superseded, answered)?;
+    if session.last_batch() >= MANY {
+        return Ok(());
     }
-    Ok(())
-}
-
-fn push_both(
-    answers: &mut Vec<Answered>,
-    first: Option<Answered>,
-    second: Option<Answered>,
-) -> Result<(), Fail> {
-    push_answer(answers, first)?;
-    push_answer(answers, second)
+    let pending = pending(alloc, at)?;
+    push_both(answers, session.connect(alloc, config, pending, acked)?)
 }
 
 fn publish(
@@ -136,16 +148,29 @@ fn publish(
     number: u64,
     answers: &mut Vec<Answered>,
 ) -> Result<(), Fail> {
-    session.reserve()?;
-    let keep = event(alloc, number)?;
-    let give = keep.clone()?;
     if session.is_overflowed() || session.last_batch() >= MANY {
         return Ok(());
     }
-    match session.deliver(config, place, keep, give) {
-        Delivery::Given(answered) => push_answer(answers, Some(answered)),
-        Delivery::Waits | Delivery::Overflowed => Ok(()),
+    session.reserve()?;
+    let event = event(alloc, number)?;
+    let further = session.further(&event)?;
+    push_delivery(answers, session.deliver(config, place, event, further))
+}
+
+// So many events with consecutive numbers.
+fn publish_all(
+    alloc: Global,
+    config: &Config,
+    session: &mut Session,
+    place: u64,
+    (first, count): (u64, u64),
+    answers: &mut Vec<Answered>,
+) -> Result<(), Fail> {
+    for i in 0..count {
+        let number = first.saturating_add(i);
+        publish(alloc, config, session, place, number, answers)?;
     }
+    Ok(())
 }
 
 fn apply(
@@ -158,179 +183,213 @@ fn apply(
 ) -> Result<(), Fail> {
     match step {
         Step::Publish(first, count) => {
-            for i in 0..count {
-                let number = first.saturating_add(i);
-                publish(alloc, config, session, place, number, answers)?;
-            }
+            publish_all(alloc, config, session, place, (first, count), answers)
         }
         Step::Connect(acked, moment, hold) => {
-            let pending = pending(alloc, place, moment, hold)?;
-            connect(alloc, config, session, pending, acked, answers)?;
+            let at = (place, moment, hold);
+            connect(alloc, config, session, at, acked, answers)
         }
-        Step::Tick(moment) => push_answer(answers, session.tick(config, moment))?,
-        Step::Close => push_answer(answers, session.close(config))?,
+        Step::Tick(moment) => push_answer(answers, session.tick(config, moment)),
+        Step::Close => push_answer(answers, session.close(config)),
     }
-    Ok(())
 }
 
-// What a step at this place is answered, as text.
-fn told(
+// What a step at this place is answered.
+fn answers_to(
     alloc: Global,
-    config: &Config,
     session: &mut Session,
     place: u64,
     step: Step,
-) -> Result<String, Fail> {
+) -> Result<Vec<Answered>, Fail> {
+    let config = config()?;
     let mut answers = Vec::new(alloc);
-    apply(alloc, config, session, place, step, &mut answers)?;
+    apply(alloc, &config, session, place, step, &mut answers)?;
+    Ok(answers)
+}
+
+// Answers as text.
+fn text_of(alloc: Global, answers: &[Answered]) -> Result<String, Fail> {
     let mut text = String::new(alloc);
-    for answered in answers.as_slice() {
+    for answered in answers {
         push_text(alloc, answered, &mut text)?;
     }
     Ok(text)
 }
 
-// Applies the steps at places from 0 on, and compares what each is answered.
-fn run(
+// What a step at this place is answered, as text.
+fn told(alloc: Global, session: &mut Session, place: u64, step: Step) -> Result<String, Fail> {
+    text_of(alloc, &answers_to(alloc, session, place, step)?)
+}
+
+// A step at this place is answered by this text.
+fn check_told(
+    rt: &impl Abort,
+    alloc: Global,
+    session: &mut Session,
+    place: u64,
+    step: Step,
+    expected: &str,
+) -> Result<(), Fail> {
+    let text = told(alloc, session, place, step)?;
+    same(rt, text.as_str(), expected, place);
+    Ok(())
+}
+
+// What a session says of itself.
+#[derive(Clone, Copy, Debug)]
+enum Says {
+    Number(u64),
+    LastBatch(u64),
+    Patterns(usize),
+    Held(bool),
+    Overflowed(bool),
+}
+
+fn check_says(rt: &impl Abort, session: &Session, says: Says) {
+    match says {
+        Says::Number(number) => same(rt, session.number(), number, says),
+        Says::LastBatch(number) => same(rt, session.last_batch(), number, says),
+        Says::Patterns(count) => same(rt, session.patterns(), count, says),
+        Says::Held(is_held) => same(rt, session.is_held(), is_held, says),
+        Says::Overflowed(is_overflowed) => same(rt, session.is_overflowed(), is_overflowed, says),
+    }
+}
+
+// Applies the steps at places from 0 on, compares what each is answered, and then what the session says of itself.
+fn run_in(
     rt: &impl Abort,
     alloc: Global,
     session: &mut Session,
     steps: &[(Step, &str)],
+    says: &[Says],
 ) -> Result<(), Fail> {
-    let config = config()?;
     let mut place = 0u64;
     for (step, expected) in steps {
-        let text = told(alloc, &config, session, place, *step)?;
-        assert_eq!(rt; text.as_str(), *expected, "at place {place}");
+        check_told(rt, alloc, session, place, *step, expected)?;
         place = place.saturating_add(1);
+    }
+    for says in says {
+        check_says(rt, session, *says);
     }
     Ok(())
 }
 
+// The same with session 7, which acknowledges or does not.
+fn run(
+    rt: &impl Abort,
+    alloc: Global,
+    ack: bool,
+    steps: &[(Step, &str)],
+    says: &[Says],
+) -> Result<(), Fail> {
+    run_in(rt, alloc, &mut Session::open(alloc, 7, ack), steps, says)
+}
+
+const BATCHES: [(Step, &str); 14] = [
+    (Step::Connect(None, 0, 0), "0 ok ack 0 0: none;"),
+    (Step::Publish(1, 2), ""),
+    (Step::Connect(Some(0), 0, 9), "2 ok ack 1 2: 1..2;"),
+    (Step::Publish(3, 1), ""),
+    (Step::Connect(None, 0, 9), "4 ok ack 1 2: 1..2;"),
+    (Step::Connect(Some(0), 0, 9), "5 ok ack 1 2: 1..2;"),
+    (Step::Connect(Some(1), 0, 9), "6 ok ack 2 1: 3;"),
+    (
+        Step::Connect(Some(18_446_744_073_709_551_615), 0, 0),
+        "7 ok ack 2 0: none;",
+    ),
+    (Step::Connect(None, 0, 9), ""),
+    (Step::Publish(4, 2), "8 ok ack 3 1: 4;"),
+    (Step::Connect(Some(3), 0, 9), "10 ok ack 4 1: 5;"),
+    (Step::Publish(6, 300), ""),
+    (Step::Connect(Some(4), 0, 9), "12 ok ack 5 256: 6..261;"),
+    (Step::Connect(Some(5), 0, 9), "13 ok ack 6 44: 262..305;"),
+];
+
 #[test]
 fn batches_are_given_until_they_are_acknowledged(rt: HostRuntime) -> Result<(), Fail> {
-    let mut session = Session::open(rt.alloc(), 7, true);
-    run(
-        &rt,
-        rt.alloc(),
-        &mut session,
-        &[
-            (Step::Connect(None, 0, 0), "0 ok ack 0 0: none;"),
-            (Step::Publish(1, 2), ""),
-            (Step::Connect(Some(0), 0, 9), "2 ok ack 1 2: 1..2;"),
-            (Step::Publish(3, 1), ""),
-            (Step::Connect(None, 0, 9), "4 ok ack 1 2: 1..2;"),
-            (Step::Connect(Some(0), 0, 9), "5 ok ack 1 2: 1..2;"),
-            (Step::Connect(Some(1), 0, 9), "6 ok ack 2 1: 3;"),
-            (
-                Step::Connect(Some(18_446_744_073_709_551_615), 0, 0),
-                "7 ok ack 2 0: none;",
-            ),
-            (Step::Connect(None, 0, 9), ""),
-            (Step::Publish(4, 2), "8 ok ack 3 1: 4;"),
-            (Step::Connect(Some(3), 0, 9), "10 ok ack 4 1: 5;"),
-            (Step::Publish(6, 300), ""),
-            (Step::Connect(Some(4), 0, 9), "12 ok ack 5 256: 6..261;"),
-            (Step::Connect(Some(5), 0, 9), "13 ok ack 6 44: 262..305;"),
-        ],
-    )?;
-    assert_eq!(rt; session.number(), 7);
-    assert_eq!(rt; session.last_batch(), 6);
-    Ok(())
+    let says = [Says::Number(7), Says::LastBatch(6)];
+    run(&rt, rt.alloc(), true, &BATCHES, &says)
 }
+
+const PLAIN: [(Step, &str); 7] = [
+    (Step::Publish(0, 300), ""),
+    (Step::Connect(Some(9), 0, 9), "1 ok plain 256: 0..255;"),
+    (Step::Connect(None, 0, 9), "2 ok plain 44: 256..299;"),
+    (Step::Connect(None, 0, 9), ""),
+    (Step::Publish(300, 2), "3 ok plain 1: 300;"),
+    (Step::Connect(None, 0, 0), "5 ok plain 1: 301;"),
+    (Step::Connect(None, 0, 0), "6 ok plain 0: none;"),
+];
 
 #[test]
 fn plain_sessions_forget_what_they_give(rt: HostRuntime) -> Result<(), Fail> {
-    let mut session = Session::open(rt.alloc(), 7, false);
-    run(
-        &rt,
-        rt.alloc(),
-        &mut session,
-        &[
-            (Step::Publish(0, 300), ""),
-            (Step::Connect(Some(9), 0, 9), "1 ok plain 256: 0..255;"),
-            (Step::Connect(None, 0, 9), "2 ok plain 44: 256..299;"),
-            (Step::Connect(None, 0, 9), ""),
-            (Step::Publish(300, 2), "3 ok plain 1: 300;"),
-            (Step::Connect(None, 0, 0), "5 ok plain 1: 301;"),
-            (Step::Connect(None, 0, 0), "6 ok plain 0: none;"),
-        ],
-    )
+    run(&rt, rt.alloc(), false, &PLAIN, &[])
 }
+
+const HOLDS: [(Step, &str); 9] = [
+    (Step::Connect(None, 1_000, 500), ""),
+    (Step::Tick(1_499), ""),
+    (Step::Tick(1_500), "0 ok ack 0 0: none;"),
+    (Step::Tick(1_500), ""),
+    (Step::Connect(None, 2_000, 500), ""),
+    (
+        Step::Connect(None, 2_100, 500),
+        "4 408::Superseded connect plain 0: none;",
+    ),
+    (Step::Close, "5 left ack 0 0: none;"),
+    (Step::Close, ""),
+    (Step::Connect(None, 3_000, 500), ""),
+];
 
 #[test]
 fn holds_end(rt: HostRuntime) -> Result<(), Fail> {
-    let mut session = Session::open(rt.alloc(), 7, true);
-    run(
-        &rt,
-        rt.alloc(),
-        &mut session,
-        &[
-            (Step::Connect(None, 1_000, 500), ""),
-            (Step::Tick(1_499), ""),
-            (Step::Tick(1_500), "0 ok ack 0 0: none;"),
-            (Step::Tick(1_500), ""),
-            (Step::Connect(None, 2_000, 500), ""),
-            (
-                Step::Connect(None, 2_100, 500),
-                "4 408::Superseded connect plain 0: none;",
-            ),
-            (Step::Close, "5 left ack 0 0: none;"),
-            (Step::Close, ""),
-            (Step::Connect(None, 3_000, 500), ""),
-        ],
-    )?;
-    assert!(rt; session.is_held());
-    Ok(())
+    run(&rt, rt.alloc(), true, &HOLDS, &[Says::Held(true)])
 }
+
+const OVERFLOW: [(Step, &str); 8] = [
+    (Step::Publish(0, 1_024), ""),
+    (Step::Connect(None, 0, 9), "1 ok ack 1 256: 0..255;"),
+    (Step::Connect(Some(1), 0, 9), "2 ok ack 2 256: 256..511;"),
+    (Step::Publish(1_024, 256), ""),
+    (Step::Connect(None, 0, 9), "4 ok ack 2 256: 256..511;"),
+    (Step::Publish(1_280, 1), ""),
+    (
+        Step::Connect(Some(2), 0, 9),
+        "6 413::Queue overflow plain 0: none;",
+    ),
+    (
+        Step::Connect(None, 0, 9),
+        "7 413::Queue overflow plain 0: none;",
+    ),
+];
 
 #[test]
 fn overflows_drop_the_events(rt: HostRuntime) -> Result<(), Fail> {
-    let mut session = Session::open(rt.alloc(), 7, true);
-    run(
-        &rt,
-        rt.alloc(),
-        &mut session,
-        &[
-            (Step::Publish(0, 1_024), ""),
-            (Step::Connect(None, 0, 9), "1 ok ack 1 256: 0..255;"),
-            (Step::Connect(Some(1), 0, 9), "2 ok ack 2 256: 256..511;"),
-            (Step::Publish(1_024, 256), ""),
-            (Step::Connect(None, 0, 9), "4 ok ack 2 256: 256..511;"),
-            (Step::Publish(1_280, 1), ""),
-            (
-                Step::Connect(Some(2), 0, 9),
-                "6 413::Queue overflow plain 0: none;",
-            ),
-            (
-                Step::Connect(None, 0, 9),
-                "7 413::Queue overflow plain 0: none;",
-            ),
-        ],
-    )?;
-    assert!(rt; session.is_overflowed());
-    assert_eq!(rt; session.patterns(), 0);
-    Ok(())
+    let says = [Says::Overflowed(true), Says::Patterns(0)];
+    run(&rt, rt.alloc(), true, &OVERFLOW, &says)
 }
 
 // Patterns with consecutive numbers in their texts.
 fn patterns(alloc: Global, first: u64, count: u64) -> Result<Vec<Pattern>, Fail> {
     let mut patterns = Vec::new(alloc);
     for i in 0..count {
-        let number = first.saturating_add(i);
-        let text = format!(in alloc; "/p/{number}/*")?;
-        patterns.push(Pattern::read(alloc, text.as_str())?)?;
+        patterns.push(pattern(alloc, first.saturating_add(i))?)?;
     }
     Ok(patterns)
 }
 
-// A subscription, and whether the session overflows by it. The tree has what is in force.
+fn pattern(alloc: Global, number: u64) -> Result<Pattern, Fail> {
+    let text = format!(in alloc; "/p/{number}/*")?;
+    Ok(Pattern::read(alloc, text.as_str())?)
+}
+
+// A subscription to so many patterns from this number on, and whether the session overflows by it. The tree has what is in force.
 fn subscribe(
     alloc: Global,
-    config: &Config,
     session: &mut Session,
     tree: &mut Tree,
-    patterns: &[Pattern],
+    first: u64,
+    count: u64,
 ) -> Result<bool, Fail>
     requires tied { patterns_of tree.old 7 ≡ session.old.kept.patterns }
     ensures tied { IfOk result (λ overflows. overflows ≡ false → patterns_of tree.new 7 ≡ session.new.kept.patterns) }
@@ -338,8 +397,10 @@ fn subscribe(
     if session.is_overflowed() {
         return Ok(true);
     }
-    let fresh = tree.add_all(alloc, patterns, 7)?;
-    Ok(session.subscribe(config, patterns, fresh))
+    let config = config()?;
+    let patterns = patterns(alloc, first, count)?;
+    let fresh = tree.add_all(alloc, patterns.as_slice(), 7)?;
+    Ok(session.subscribe(&config, patterns.as_slice(), fresh))
 }
 
 // An unsubscription.
@@ -351,80 +412,91 @@ fn unsubscribe(session: &mut Session, tree: &mut Tree, patterns: &[Pattern])
     session.unsubscribe(patterns, gone);
 }
 
-// As many patterns are in force as may be, one goes and another comes, and then there is one too many.
+// As many patterns are in force as may be, one goes and another comes.
+fn reach_the_limit(
+    rt: &impl Abort,
+    alloc: Global,
+    session: &mut Session,
+    tree: &mut Tree,
+) -> Result<(), Fail>
+    requires tied { patterns_of tree.old 7 ≡ session.old.kept.patterns }
+    ensures tied { IfOk result (λ _. patterns_of tree.new 7 ≡ session.new.kept.patterns) }
+{
+    if subscribe(alloc, session, tree, 0, 1_024)? {
+        return Err(Fail::from("1,024 patterns are too many"));
+    }
+    check_says(rt, session, Says::Patterns(1_024));
+    unsubscribe(session, tree, patterns(alloc, 0, 1)?.as_slice());
+    check_says(rt, session, Says::Patterns(1_023));
+    if subscribe(alloc, session, tree, 1_024, 1)? {
+        return Err(Fail::from("1,024 other patterns are too many"));
+    }
+    check_says(rt, session, Says::Patterns(1_024));
+    check_says(rt, session, Says::Overflowed(false));
+    Ok(())
+}
+
+// There is one pattern more than may be.
 fn pass_the_limit(
     rt: &impl Abort,
     alloc: Global,
-    config: &Config,
     session: &mut Session,
-) -> Result<(), Fail> {
-    let most = patterns(alloc, 0, 1_024)?;
-    let first = patterns(alloc, 0, 1)?;
-    let other = patterns(alloc, 1_024, 1)?;
-    let last = patterns(alloc, 1_025, 1)?;
-    let mut tree = Tree::new(alloc);
+    tree: &mut Tree,
+) -> Result<(), Fail>
+    requires tied { patterns_of tree.old 7 ≡ session.old.kept.patterns }
+{
+    reach_the_limit(rt, alloc, session, tree)?;
+    let overflows = subscribe(alloc, session, tree, 1_025, 1)?;
+    same(rt, overflows, true, "1,025 patterns");
+    check_says(rt, session, Says::Overflowed(true));
+    check_says(rt, session, Says::Patterns(0));
+    Ok(())
+}
+
+// A connect is held while its session overflows by patterns.
+fn check_limit(rt: &impl Abort, alloc: Global, session: &mut Session) -> Result<(), Fail> {
+    check_told(rt, alloc, session, 3, Step::Connect(None, 0, 9), "")?;
     if session.patterns() != 0 {
         return Err(Fail::from("a pattern is in force"));
     }
-    if subscribe(alloc, config, session, &mut tree, most.as_slice())? {
-        return Err(Fail::from("1,024 patterns are too many"));
-    }
-    assert_eq!(rt; session.patterns(), 1_024);
-    unsubscribe(session, &mut tree, first.as_slice());
-    assert_eq!(rt; session.patterns(), 1_023);
-    if subscribe(alloc, config, session, &mut tree, other.as_slice())? {
-        return Err(Fail::from("1,024 other patterns are too many"));
-    }
-    assert_eq!(rt; session.patterns(), 1_024);
-    assert!(rt; !session.is_overflowed());
-    assert!(rt; subscribe(alloc, config, session, &mut tree, last.as_slice())?);
-    assert!(rt; session.is_overflowed());
-    assert_eq!(rt; session.patterns(), 0);
-    Ok(())
+    pass_the_limit(rt, alloc, session, &mut Tree::new(alloc))?;
+    check_told(rt, alloc, session, 5, Step::Tick(9), "3 ok ack 0 0: none;")?;
+    let refused = "6 413::Queue overflow plain 0: none;";
+    check_told(rt, alloc, session, 6, Step::Connect(None, 9, 9), refused)
 }
 
 #[test]
 fn patterns_past_their_limit_leave_a_connect_held(rt: HostRuntime) -> Result<(), Fail> {
     let alloc = rt.alloc();
-    let config = config()?;
-    let mut session = Session::open(alloc, 7, true);
-    let connect = Step::Connect(None, 0, 9);
-    let held = told(alloc, &config, &mut session, 3, connect)?;
-    assert_eq!(rt; held.as_str(), "");
-    pass_the_limit(&rt, alloc, &config, &mut session)?;
-    let ended = told(alloc, &config, &mut session, 5, Step::Tick(9))?;
-    assert_eq!(rt; ended.as_str(), "3 ok ack 0 0: none;");
-    let connect = Step::Connect(None, 9, 9);
-    let refused = told(alloc, &config, &mut session, 6, connect)?;
-    assert_eq!(rt; refused.as_str(), "6 413::Queue overflow plain 0: none;");
-    Ok(())
+    check_limit(&rt, alloc, &mut Session::open(alloc, 7, true))
 }
 
 // The reply to a connect that a disconnect ended.
 fn check_reply(rt: &impl Abort, reply: &Reply) -> Result<(), Fail> {
-    assert_eq!(rt; reply.channel.as_str(), "/meta/connect");
-    let client = reply.client.as_ref().ok_or("no client id")?;
-    assert_eq!(rt; client.as_str(), "Z1");
-    let id = reply.id.as_ref().ok_or("no id")?;
-    assert_eq!(rt; id.as_str(), "\"7\"");
-    let advice = reply.advice.ok_or("no advice")?;
-    assert_eq!(rt; advice.reconnect, Reconnect::Never);
-    Ok(())
+    same(rt, reply.channel.as_str(), "/meta/connect", "channel");
+    match (&reply.client, &reply.id, reply.advice) {
+        (Some(client), Some(id), Some(advice)) => {
+            same(rt, client.as_str(), "Z1", "client id");
+            same(rt, id.as_str(), "\"7\"", "id");
+            same(rt, advice.reconnect, Reconnect::Never, "advice");
+            Ok(())
+        }
+        _ => Err(Fail::from("no client id, no id or no advice")),
+    }
+}
+
+fn check_closed(rt: &impl Abort, alloc: Global, session: &mut Session) -> Result<(), Fail> {
+    check_told(rt, alloc, session, 3, Step::Connect(None, 0, 9), "")?;
+    match &session.close(&config()?) {
+        Some(answered) => check_reply(rt, &answered.answer.reply),
+        None => Err(Fail::from("no answer")),
+    }
 }
 
 #[test]
 fn replies_repeat_what_the_connect_had(rt: HostRuntime) -> Result<(), Fail> {
     let alloc = rt.alloc();
-    let config = config()?;
-    let pending = pending(alloc, 3, 0, 9)?;
-    let mut session = Session::open(alloc, 7, true);
-    let mut answers = Vec::new(alloc);
-    connect(alloc, &config, &mut session, pending, None, &mut answers)?;
-    assert!(rt; answers.is_empty());
-    match session.close(&config) {
-        Some(answered) => check_reply(&rt, &answered.answer.reply),
-        None => Err(Fail::from("no answer")),
-    }
+    check_closed(&rt, alloc, &mut Session::open(alloc, 7, true))
 }
 
 // What a client knows of an acknowledging session: which event it is to get next, the first of those that
@@ -435,6 +507,16 @@ struct Seen {
     done: u64,
     number: u64,
     out: u64,
+}
+
+// The events are consecutive from this one on; says which would be next.
+fn follow(rt: &impl Abort, events: &[u64], first: u64, place: u64) -> u64 {
+    let mut next = first;
+    for event in events {
+        same(rt, *event, next, place);
+        next = next.saturating_add(1);
+    }
+    next
 }
 
 impl Seen {
@@ -451,26 +533,27 @@ impl Seen {
     // An answer has the first of the events that are not acknowledged, in order, and the outstanding batch
     // again where there is one.
     fn gets(&mut self, rt: &impl Abort, alloc: Global, answered: &Answered) -> Result<(), Fail> {
-        let AckReply::AckNumber(number) = answered.answer.reply.ack else {
-            return Ok(());
-        };
-        let mut next = self.done;
-        for event in numbers(alloc, answered)? {
-            assert_eq!(rt; event, next, "at place {}", answered.place);
-            next = next.saturating_add(1);
+        if let AckReply::AckNumber(number) = answered.answer.reply.ack {
+            let events = numbers(alloc, answered)?;
+            let next = follow(rt, events.as_slice(), self.done, answered.place);
+            self.gets_batch(rt, number, next, answered.place);
         }
+        Ok(())
+    }
+
+    // The batch of this number ends before this event.
+    fn gets_batch(&mut self, rt: &impl Abort, number: u64, next: u64, place: u64) {
         let count = next.saturating_sub(self.done);
-        assert!(rt; next <= self.published);
+        same(rt, next <= self.published, true, place);
         if number == self.number {
-            assert_eq!(rt; count, self.out, "at place {}", answered.place);
+            same(rt, count, self.out, place);
         } else {
-            assert_eq!(rt; number, self.number.saturating_add(1));
-            assert_eq!(rt; self.out, 0);
-            assert!(rt; count > 0);
+            same(rt, number, self.number.saturating_add(1), place);
+            same(rt, self.out, 0, place);
+            same(rt, count > 0, true, place);
         }
         self.number = number;
         self.out = count;
-        Ok(())
     }
 }
 
@@ -496,7 +579,6 @@ fn step_of(random: u64, seen: &Seen, place: u64) -> Step {
 fn see(
     rt: &impl Abort,
     alloc: Global,
-    config: &Config,
     session: &mut Session,
     seen: &mut Seen,
     place: u64,
@@ -507,34 +589,51 @@ fn see(
         Step::Connect(acked, ..) => seen.acknowledges(acked),
         _ => {}
     }
-    let mut answers = Vec::new(alloc);
-    apply(alloc, config, session, place, step, &mut answers)?;
-    for answered in answers.as_slice() {
+    see_all(rt, alloc, seen, &answers_to(alloc, session, place, step)?)
+}
+
+fn see_all(
+    rt: &impl Abort,
+    alloc: Global,
+    seen: &mut Seen,
+    answers: &[Answered],
+) -> Result<(), Fail> {
+    for answered in answers {
         seen.gets(rt, alloc, answered)?;
     }
+    Ok(())
+}
+
+// 10,000 random steps.
+fn see_steps(
+    rt: &impl Abort,
+    alloc: Global,
+    session: &mut Session,
+    seen: &mut Seen,
+) -> Result<(), Fail> {
+    let mut state = 20_240_229u64;
+    for place in 0..10_000u64 {
+        state = state.wrapping_mul(6_364_136_223_846_793_005);
+        state = state.wrapping_add(1_442_695_040_888_963_407);
+        let step = step_of(state >> 33, seen, place);
+        see(rt, alloc, session, seen, place, step)?;
+    }
+    check_says(rt, session, Says::Overflowed(false));
     Ok(())
 }
 
 #[test]
 fn each_event_comes_once_and_in_order(rt: HostRuntime) -> Result<(), Fail> {
     let alloc = rt.alloc();
-    let config = config()?;
-    let mut session = Session::open(alloc, 7, true);
     let mut seen = Seen {
         published: 0,
         done: 0,
         number: 0,
         out: 0,
     };
-    let mut state = 20_240_229u64;
-    for place in 0..10_000u64 {
-        state = state.wrapping_mul(6_364_136_223_846_793_005);
-        state = state.wrapping_add(1_442_695_040_888_963_407);
-        let step = step_of(state >> 33, &seen, place);
-        see(&rt, alloc, &config, &mut session, &mut seen, place, step)?;
-    }
-    assert!(rt; !session.is_overflowed());
-    assert!(rt; seen.done > 10_000, "{} acknowledged", seen.done);
-    assert!(rt; seen.number > 1_000, "{} batches", seen.number);
+    see_steps(&rt, alloc, &mut Session::open(alloc, 7, true), &mut seen)?;
+    let (done, number) = (seen.done, seen.number);
+    same(&rt, done > 10_000, true, ("acknowledged", done));
+    same(&rt, number > 1_000, true, ("batches", number));
     Ok(())
 }

@@ -1,6 +1,7 @@
 //! Patterns put in force, found and taken out of force, alone and in crowds.
 ghost use Rattle.std.specs.Prelude.{◌<◌};
 
+use crate::same::same;
 use bx_names::{ChannelName, Pattern, matches};
 use bx_tree::Tree;
 use std::alloc::{AllocError, Global};
@@ -40,20 +41,35 @@ fn plant(alloc: Global, tree: &mut Tree) -> Result<(), Fail> {
 }
 
 // Names below `/a` and beside it, with the numbers that are found for them and the most lists that are reached.
+const FINDS: [(&str, &[u64], usize); 7] = [
+    ("/a/b", &[1, 2], 9),
+    ("/a/c", &[1], 9),
+    ("/a/b/c", &[1], 12),
+    ("/a/b/c/d", &[1], 15),
+    ("/a", &[], 6),
+    ("/b", &[], 6),
+    ("/ab/b", &[], 9),
+];
+
+// These numbers are found for a name, in no more lists than that.
+fn assert_find(
+    rt: &impl Abort,
+    alloc: Global,
+    tree: &Tree,
+    name: &str,
+    numbers: &[u64],
+    most: usize,
+) -> Result<(), Fail> {
+    let name = ChannelName::read(alloc, name)?;
+    let found = tree.nodes().find(alloc, &name)?;
+    same(rt, found.numbers.as_slice(), numbers, name.as_str());
+    same(rt, found.visited <= most, true, name.as_str());
+    Ok(())
+}
+
 fn assert_finds(rt: &impl Abort, alloc: Global, tree: &Tree) -> Result<(), Fail> {
-    let table: [(&str, &[u64], usize); 7] = [
-        ("/a/b", &[1, 2], 9),
-        ("/a/c", &[1], 9),
-        ("/a/b/c", &[1], 12),
-        ("/a/b/c/d", &[1], 15),
-        ("/a", &[], 6),
-        ("/b", &[], 6),
-        ("/ab/b", &[], 9),
-    ];
-    for (name, numbers, most) in table {
-        let found = tree.nodes().find(alloc, &ChannelName::read(alloc, name)?)?;
-        assert_eq!(rt; found.numbers.as_slice(), numbers, "{name}");
-        assert!(rt; found.visited <= most, "{name}");
+    for (name, numbers, most) in &FINDS {
+        assert_find(rt, alloc, tree, *name, *numbers, *most)?;
     }
     Ok(())
 }
@@ -69,30 +85,39 @@ fn remove(alloc: Global, tree: &mut Tree, text: &str, number: u64) -> Result<boo
     }
 }
 
+const REMOVES: [(&str, u64, bool, &str); 4] = [
+    ("/a/**", 2, false, "/a/* /a/** "),
+    ("/a/*", 1, true, "/a/** "),
+    ("/a/*", 1, false, "/a/** "),
+    ("/a/**", 1, true, ""),
+];
+
 // Takes patterns out one by one, and checks which of 1 are left.
 fn assert_removes(rt: &impl Abort, alloc: Global, tree: &mut Tree) -> Result<(), Fail> {
-    for (text, number, is_there, left) in [
-        ("/a/**", 2, false, "/a/* /a/** "),
-        ("/a/*", 1, true, "/a/** "),
-        ("/a/*", 1, false, "/a/** "),
-        ("/a/**", 1, true, ""),
-    ] {
-        let is_right = remove(alloc, tree, text, number)? == is_there;
-        assert!(rt;
-            is_right && has_texts(alloc, tree, 1, left)?,
-            "{text} of {number}"
-        );
+    for (text, number, is_there, left) in &REMOVES {
+        let was_there = remove(alloc, tree, *text, *number)?;
+        same(rt, was_there, *is_there, *text);
+        assert_texts(rt, alloc, tree, 1, *left)?;
     }
     Ok(())
+}
+
+// Adds a pattern for a number, which has one pattern then. Says whether it was added.
+fn add(alloc: Global, tree: &mut Tree, pattern: &Pattern, number: u64) -> Result<bool, Fail> {
+    let is_added = tree.add(alloc, pattern, number)?;
+    if tree.count(number) == 1 {
+        Ok(is_added)
+    } else {
+        Err(Fail::from("not one pattern"))
+    }
 }
 
 // Adds a pattern for those who have it and for one who has it not.
 fn assert_adds(rt: &impl Abort, alloc: Global, tree: &mut Tree) -> Result<(), Fail> {
     let pattern = Pattern::read(alloc, "/a/b")?;
-    for (number, is_added) in [(2, false), (1, true), (1, false)] {
-        let added = tree.add(alloc, &pattern, number)?;
-        assert!(rt; added == is_added && tree.count(number) == 1, "{number}");
-    }
+    same(rt, add(alloc, tree, &pattern, 2)?, false, "2");
+    same(rt, add(alloc, tree, &pattern, 1)?, true, "1");
+    same(rt, add(alloc, tree, &pattern, 1)?, false, "1 again");
     Ok(())
 }
 
@@ -110,30 +135,54 @@ fn patterns_come_and_go_one_by_one(rt: HostRuntime) -> Result<(), Fail> {
 }
 
 // Several patterns, one of them twice and one that 1 has already.
-fn assert_several_come(rt: &impl Abort, alloc: Global, tree: &mut Tree) -> Result<(), Fail> {
-    let several = read_all(alloc, &["/b", "/a/*", "/b", "/c/*"])?;
-    assert_eq!(rt; tree.add_all(alloc, several.as_slice(), 1)?, 2);
-    assert!(rt; has_texts(alloc, tree, 1, "/a/* /a/** /b /c/* ")?);
-    assert_eq!(rt; tree.remove_all(3), 0);
-    tree.copy(alloc, several.as_slice(), 3)?;
-    assert!(rt; has_texts(alloc, tree, 3, "/b /a/* /b /c/* ")?);
+const COMING: [&str; 4] = ["/b", "/a/*", "/b", "/c/*"];
+
+// Several patterns, one of them named twice and one that is not there.
+const GOING: [&str; 4] = ["/c/*", "/d", "/b", "/c/*"];
+
+// The patterns of a number have these texts, each with a blank behind it.
+fn assert_texts(
+    rt: &impl Abort,
+    alloc: Global,
+    tree: &Tree,
+    number: u64,
+    texts: &str,
+) -> Result<(), Fail> {
+    same(rt, has_texts(alloc, tree, number, texts)?, true, texts);
     Ok(())
 }
 
-// Several patterns, one of them named twice and one that is not there, and all of a number.
-fn assert_several_go(rt: &impl Abort, alloc: Global, tree: &mut Tree) -> Result<(), Fail> {
-    let several = read_all(alloc, &["/c/*", "/d", "/b", "/c/*"])?;
-    assert_eq!(rt; tree.remove_each(several.as_slice(), 1), 2);
-    assert!(rt; has_texts(alloc, tree, 1, "/a/* /a/** ")?);
-    assert_eq!(rt; tree.remove_all(3), 4);
-    assert_eq!(rt; tree.count(3), 0);
+fn assert_several_come(
+    rt: &impl Abort,
+    alloc: Global,
+    tree: &mut Tree,
+    coming: &[Pattern],
+) -> Result<(), Fail> {
+    same(rt, tree.add_all(alloc, coming, 1)?, 2, "added");
+    assert_texts(rt, alloc, tree, 1, "/a/* /a/** /b /c/* ")?;
+    same(rt, tree.remove_all(3), 0, "removed");
+    tree.copy(alloc, coming, 3)?;
+    assert_texts(rt, alloc, tree, 3, "/b /a/* /b /c/* ")
+}
+
+// They go, and then all of a number.
+fn assert_several_go(
+    rt: &impl Abort,
+    alloc: Global,
+    tree: &mut Tree,
+    going: &[Pattern],
+) -> Result<(), Fail> {
+    same(rt, tree.remove_each(going, 1), 2, "removed");
+    assert_texts(rt, alloc, tree, 1, "/a/* /a/** ")?;
+    same(rt, tree.remove_all(3), 4, "all removed");
+    same(rt, tree.count(3), 0, "left");
     Ok(())
 }
 
 fn assert_at_once(rt: &impl Abort, alloc: Global, tree: &mut Tree) -> Result<(), Fail> {
     plant(alloc, tree)?;
-    assert_several_come(rt, alloc, tree)?;
-    assert_several_go(rt, alloc, tree)?;
+    assert_several_come(rt, alloc, tree, &read_all(alloc, &COMING)?)?;
+    assert_several_go(rt, alloc, tree, &read_all(alloc, &GOING)?)?;
     assert_finds(rt, alloc, tree)
 }
 
@@ -154,13 +203,8 @@ fn crowd(alloc: Global, tree: &mut Tree) -> Result<(), Fail> {
 
 // Few lists are reached for a name of 32 segments.
 fn assert_finds_deep(rt: &impl Abort, alloc: Global, tree: &Tree) -> Result<(), Fail> {
-    let text = "/a".repeat(alloc, 32)?;
-    let found = tree
-        .nodes()
-        .find(alloc, &ChannelName::read(alloc, text.as_str())?)?;
-    assert_eq!(rt; found.numbers.as_slice(), [1].as_slice());
-    assert!(rt; found.visited <= 99);
-    Ok(())
+    let name = "/a".repeat(alloc, 32)?;
+    assert_find(rt, alloc, tree, name.as_str(), &[1], 99)
 }
 
 fn assert_few_visited(rt: &impl Abort, alloc: Global, tree: &mut Tree) -> Result<(), Fail> {
@@ -225,49 +269,78 @@ struct Both {
     pairs: Vec<(u64, Pattern)>,
 }
 
+impl Both {
+    fn is_listed(&self, number: u64, pattern: &Pattern) -> bool {
+        self.pairs
+            .iter()
+            .any(|pair| pair.0 == number && pair.1 == *pattern)
+    }
+
+    fn remove_all(&mut self, number: u64) {
+        self.tree.remove_all(number);
+        self.pairs.retain(|pair| pair.0 != number);
+    }
+
+    // Takes a pattern out, and says whether the tree says of it what the list does.
+    fn remove(&mut self, number: u64, pattern: &Pattern) -> bool {
+        let is_listed = self.is_listed(number, pattern);
+        let is_removed = self.tree.remove(pattern, number);
+        self.pairs
+            .retain(|pair| pair.0 != number || pair.1 != *pattern);
+        is_removed == is_listed
+    }
+
+    // Adds a pattern, and says whether the tree says of it what the list does.
+    fn add(&mut self, alloc: Global, number: u64, pattern: Pattern) -> Result<bool, Fail> {
+        let is_listed = self.is_listed(number, &pattern);
+        let is_added = self.tree.add(alloc, &pattern, number)?;
+        if !is_listed {
+            self.pairs.push((number, pattern))?;
+        }
+        Ok(is_added != is_listed)
+    }
+}
+
+// A drawn pattern.
+fn drawn_pattern(alloc: Global, state: &mut u64) -> Result<Pattern, Fail> {
+    let text = drawn_text(alloc, state, &["/*", "/**"])?;
+    Ok(Pattern::read(alloc, text.as_str())?)
+}
+
 // Does one drawn thing to both, and says whether the tree's answer is the list's.
 fn change(alloc: Global, state: &mut u64, both: &mut Both) -> Result<bool, Fail> {
     let number = draw(state, SESSIONS);
-    let text = drawn_text(alloc, state, &["/*", "/**"])?;
-    let pattern = Pattern::read(alloc, text.as_str())?;
-    let there = both
-        .pairs
-        .iter()
-        .any(|pair| pair.0 == number && pair.1 == pattern);
+    let pattern = drawn_pattern(alloc, state)?;
     let step = draw(state, 20);
     if step == 0 {
-        both.tree.remove_all(number);
-        both.pairs.retain(|pair| pair.0 != number);
+        both.remove_all(number);
         Ok(true)
     } else if step <= 8 {
-        let removed = both.tree.remove(&pattern, number);
-        both.pairs
-            .retain(|pair| pair.0 != number || pair.1 != pattern);
-        Ok(removed == there)
+        Ok(both.remove(number, &pattern))
     } else {
-        let added = both.tree.add(alloc, &pattern, number)?;
-        if !there {
-            both.pairs.push((number, pattern))?;
-        }
-        Ok(added != there)
+        both.add(alloc, number, pattern)
     }
+}
+
+// Whether both find the same for a name.
+fn agrees_on(alloc: Global, both: &Both, name: &ChannelName) -> Result<bool, Fail> {
+    let expected = plain_find(alloc, both.pairs.as_slice(), name)?;
+    let found = both.tree.nodes().find(alloc, name)?;
+    Ok(found.numbers.as_slice() == expected.as_slice() && found.visited <= 15)
 }
 
 // Whether both find the same for a drawn name.
 fn agrees(alloc: Global, state: &mut u64, both: &Both) -> Result<bool, Fail> {
     let text = drawn_text(alloc, state, &[])?;
-    let name = ChannelName::read(alloc, text.as_str())?;
-    let expected = plain_find(alloc, both.pairs.as_slice(), &name)?;
-    let found = both.tree.nodes().find(alloc, &name)?;
-    Ok(found.numbers.as_slice() == expected.as_slice() && found.visited <= 15)
+    agrees_on(alloc, both, &ChannelName::read(alloc, text.as_str())?)
 }
 
 // Tree and list agree all along 2,000 drawn steps.
 fn assert_agree(rt: &impl Abort, alloc: Global, both: &mut Both) -> Result<(), Fail> {
     let mut state = 20_260_101;
     for step in 0..2_000 {
-        assert!(rt; change(alloc, &mut state, both)?, "{step}");
-        assert!(rt; agrees(alloc, &mut state, both)?, "{step}");
+        same(rt, change(alloc, &mut state, both)?, true, step);
+        same(rt, agrees(alloc, &mut state, both)?, true, step);
     }
     Ok(())
 }
