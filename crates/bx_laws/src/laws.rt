@@ -4,6 +4,8 @@ ghost use Rattle.bx_theory.specs.Readings.{LiveReading, InForceReading, HeldRead
 ghost use Rattle.bx_theory.specs.Events.{EventsWerePublished, PublishesAreEvents, EventsRise, GivenWasPublished};
 ghost use Rattle.bx_theory.specs.Lines.{HeldComeLast, InputsGoOn, LinesGoOn};
 ghost use Rattle.bx_theory.specs.Outs.{OutsGrow};
+ghost use Rattle.bx_theory.specs.Opens.{OpenIsHeld, OpensGoOn, OutsAdd};
+ghost use Rattle.bx_theory.specs.Sole.{OpenAreSole, OpensAscend};
 ghost use Rattle.bx_entry.specs.Keeping.{KeptSteps, KeptRuns, KeptInBounds};
 ghost use Rattle.bx_laws.specs.ReadBack.{RepliesReadBack, EventsReadBack, BodiesReadBack};
 
@@ -156,6 +158,31 @@ pub fn events_read_back()
 /// The text of a response reads as the array of what its items read as.
 pub fn bodies_read_back()
     ensures { BodiesReadBack }
+{}
+
+/// One more input gives the outs of those inputs that it makes whole, in the order of their numbers, itself among them.
+pub fn outs_add()
+    ensures { OutsAdd }
+{}
+
+/// The others stay open.
+pub fn opens_go_on()
+    ensures { OpensGoOn }
+{}
+
+/// What is open is what is held.
+pub fn open_is_held()
+    ensures { OpenIsHeld }
+{}
+
+/// An input that is not whole is a held connect, its request's only message.
+pub fn open_are_sole()
+    ensures { OpenAreSole }
+{}
+
+/// The numbers of these inputs ascend, and so do the places of their connects.
+pub fn opens_ascend()
+    ensures { OpensAscend }
 {}
 
 /// One more line of a script puts its input, if it is one, behind those before it.

@@ -18,3 +18,8 @@ pub mod Kept
 pub mod Senders
 pub mod Closings
 pub mod Lines
+pub mod Below
+pub mod Opens
+pub mod AtOnce
+pub mod Sole
+pub mod Ascending

@@ -3,3 +3,5 @@ pub mod Readings
 pub mod Events
 pub mod Outs
 pub mod Lines
+pub mod Opens
+pub mod Sole

@@ -1,0 +1,26 @@
+-- An input that is not whole is a held connect, its request's only message.
+use Rattle.std.specs.Prelude.{ℕ, ◌<◌, ◌≡◌, List, [], ◌∷◌, map, slice_get, option_map, None, Some}
+use Rattle.std.specs.List.{AllByRecursion}
+use Rattle.std.specs.List.Sorted.{IsStrictlyIncreasing}
+use Rattle.bx_advice.specs.declared.config.Config.{Config}
+use Rattle.bx_entry.specs.Inputs.{ReadInput}
+use Rattle.bx_entry.specs.Listing.{Listed}
+use Rattle.bx_entry.specs.Registry.{Judged, Waiting, registry}
+use Rattle.bx_entry.specs.Runs.{places_of, taken_in}
+use Rattle.bx_theory.specs.Opens.{Numbered, open_after}
+
+-- the input is a request of one message, an accepted connect of this session
+pub record IsConnect (config : Config) (list : List Listed) (o : Numbered) : Type 0 where
+  pub session : ℕ
+  pub accepted : o.intake.refusal ≡ None
+  pub sole : places_of o.intake o.intake.input ≡ o.intake.first ∷ []
+  pub waits : option_map (λ (j : Judged). j.slot) (slice_get (registry config list).judged o.intake.first) ≡ Some (Waiting session)
+
+-- so is every input that is not whole: a connect that is not its request's only message is answered at once
+abbrev pub OpenAreSole : Type 0
+OpenAreSole = (config : Config) (inputs : List ReadInput) → 0 < config.limits.batch → AllByRecursion (IsConnect config (taken_in inputs).list) (open_after config inputs)
+
+-- their numbers and their places ascend
+abbrev pub OpensAscend : Type 0
+OpensAscend = (config : Config) (inputs : List ReadInput) → 0 < config.limits.batch →
+    IsStrictlyIncreasing (map (λ (o : Numbered). o.number) (open_after config inputs)) × IsStrictlyIncreasing (map (λ (o : Numbered). o.intake.first) (open_after config inputs))
