@@ -1,5 +1,5 @@
 -- A session as the program holds it, and what its calls answer, in the words of the definition.
-use Rattle.std.specs.Prelude.{ℕ, ◌+◌, ◌≤◌, ◌^◌, Bool, true, false, List, [], ◌∷◌, ◌++◌, nat_lt, if◌then◌else◌, Option, Some, None}
+use Rattle.std.specs.Prelude.{ℕ, ◌+◌, ◌≤◌, ◌^◌, ◌&&◌, is_some, Bool, true, false, List, [], ◌∷◌, ◌++◌, nat_lt, if◌then◌else◌, Option, Some, None}
 use Rattle.std.specs.Option.{option_to_list}
 use Rattle.bx_advice.specs.declared.config.Config.{Config}
 use Rattle.bx_advice.specs.declared.advice.Outcome.{Outcome}
@@ -24,6 +24,10 @@ pub record WithRoom : Type 0 where
 -- no more batches were formed than the list may have entries
 abbrev pub Countable : Kept → Type 0
 Countable k = k.num ≤ greatest_length
+
+-- an event that comes is both kept and given, where the session acknowledges and holds a connect
+abbrev pub wants_two : Kept → Bool
+wants_two k = k.ack && is_some k.held
 
 -- ---- a connect
 

@@ -1,14 +1,13 @@
 //! A connect until it is answered.
-ghost use Rattle.std.specs.Prelude.{◌≡◌, ◌==◌, IfOk, [], ◌∷◌, not, codes};
+ghost use Rattle.std.specs.Prelude.{◌≡◌, ◌==◌, IfOk, [], ◌∷◌, not};
 ghost use Rattle.std.specs.Option.{option_copied};
 ghost use Rattle.bx_advice.specs.declared.advice.Outcome.TheVariants.{Connected};
-ghost use Rattle.bx_message.specs.Replies.{connect_reply};
 ghost use Rattle.bx_entry.specs.Sessions.{ends_by};
 ghost use Rattle.bx_session.specs.Views.{answer_to, answered, deadline_of, pending};
 
 use crate::answered::Answered;
-use bx_advice::{Config, Outcome, advice_for};
-use bx_message::{AckReply, Answer, MessageKind, RawJson, Reply, Sequence, SharedEvent, Text};
+use bx_advice::{Config, Outcome};
+use bx_message::{AckReply, Answer, RawJson, Reply, Sequence, SharedEvent, Text, share_json};
 use std::alloc::{AllocError, Global};
 use std::marker::Model;
 
@@ -17,7 +16,6 @@ use std::marker::Model;
 #[derive(Drop)]
 pub struct PendingConnect {
     place: u64,
-    channel: Text,
     client: Text,
     id: Option<RawJson>,
     moment: u64,
@@ -27,7 +25,7 @@ pub struct PendingConnect {
 }
 
 impl Model for PendingConnect {
-    ghost use Rattle.std.specs.Prelude.{◌≡◌, ◌<◌, codes, []};
+    ghost use Rattle.std.specs.Prelude.{◌≡◌, ◌<◌, []};
     ghost use Rattle.std.specs.Vec.{vec_capacity, vec_len};
     ghost use Rattle.bx_entry.specs.Sessions.{Pending};
     ghost use Rattle.bx_session.specs.Views.{pending};
@@ -36,8 +34,7 @@ impl Model for PendingConnect {
 
     ghost view = { λ c. pending c.place c.client c.id c.moment c.hold };
 
-    ghost invariant = { λ c.
-        (c.channel ≡ codes "/meta/connect") × (c.room.items ≡ []) × (vec_len c.room < vec_capacity c.room) };
+    ghost invariant = { λ c. (c.room.items ≡ []) × (vec_len c.room < vec_capacity c.room) };
 }
 
 impl PendingConnect {
@@ -57,12 +54,8 @@ impl PendingConnect {
     {
         Ok(PendingConnect {
             place,
-            channel: Text::new(alloc, "/meta/connect")?,
             client: client.clone()?,
-            id: match id {
-                Some(id) => Some(id.clone()?),
-                None => None,
-            },
+            id: share_json(id)?,
             moment,
             hold,
             room: Vec::with_capacity(alloc, 1)?,
@@ -106,7 +99,6 @@ impl PendingConnect {
     {
         let PendingConnect {
             place,
-            channel,
             client,
             id,
             room,
@@ -115,7 +107,7 @@ impl PendingConnect {
         answer_of(
             place,
             room,
-            reply_of(config, channel, client, id, outcome, ack),
+            Reply::to_connect(config, client, id, outcome, ack),
         )
     }
 
@@ -125,7 +117,6 @@ impl PendingConnect {
     {
         let PendingConnect {
             place,
-            channel,
             client,
             id,
             mut room,
@@ -135,7 +126,7 @@ impl PendingConnect {
         answer_of(
             place,
             room,
-            reply_of(config, channel, client, id, Outcome::Connected, ack),
+            Reply::to_connect(config, client, id, Outcome::Connected, ack),
         )
     }
 
@@ -150,7 +141,6 @@ impl PendingConnect {
     {
         let PendingConnect {
             place,
-            channel,
             client,
             id,
             ..
@@ -158,7 +148,7 @@ impl PendingConnect {
         answer_of(
             place,
             events,
-            reply_of(config, channel, client, id, Outcome::Connected, ack),
+            Reply::to_connect(config, client, id, Outcome::Connected, ack),
         )
     }
 }
@@ -173,29 +163,5 @@ fn answer_of(place: u64, events: Vec<SharedEvent>, reply: Reply) -> Answered
             events: Sequence::from_vec(events),
             reply,
         },
-    }
-}
-
-// The reply to a connect, of what it repeats.
-fn reply_of(
-    config: &Config,
-    channel: Text,
-    client: Text,
-    id: Option<RawJson>,
-    outcome: Outcome,
-    ack: AckReply,
-) -> Reply
-    requires { channel ≡ codes "/meta/connect" }
-    ensures { result ≡ connect_reply config.now client id outcome ack }
-{
-    Reply {
-        message_kind: MessageKind::Connect,
-        channel,
-        client: Some(client),
-        id,
-        subscription: None,
-        outcome,
-        advice: advice_for(outcome, config),
-        ack,
     }
 }

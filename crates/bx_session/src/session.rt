@@ -1,5 +1,5 @@
 //! One session, entry by entry.
-ghost use Rattle.std.specs.Prelude.{◌≡◌, ◌<◌, ◌≤◌, ◌+◌, ◌&&◌, not, ℕ, [], IfOk, IsOk, OnOk, OnErr, true, false, length, map, take, drop, fold, nat_lt, is_some, Option, None, option_map};
+ghost use Rattle.std.specs.Prelude.{◌≡◌, ◌<◌, ◌≤◌, ◌+◌, ◌&&◌, not, ℕ, [], IfOk, IsOk, OnOk, OnErr, true, false, length, map, take, drop, fold, nat_lt, is_some, if◌then◌else◌, Option, None, Some, option_map};
 ghost use Rattle.std.specs.Option.{option_to_list};
 ghost use Rattle.std.specs.VecDeque.Iter.{deque_iter_rest};
 ghost use Rattle.bx_names.specs.InForce.{with_pattern, without_pattern};
@@ -7,7 +7,7 @@ ghost use Rattle.bx_advice.specs.declared.advice.Outcome.TheVariants.{Connected,
 ghost use Rattle.bx_entry.specs.Answers.{events_of};
 ghost use Rattle.bx_entry.specs.Keeping.{after, answers_of, kept, resumed};
 ghost use Rattle.bx_entry.specs.Sessions.{ack_given, acknowledged, admitted, answered_or_held, begun, connected, ends_by, expired, given, gives, overflowed, received, released, subscribed, unheld, unopened, unsubscribed};
-ghost use Rattle.bx_session.specs.Views.{Countable, answered_of, connection_answers, delivery_answers, is_overflow};
+ghost use Rattle.bx_session.specs.Views.{Countable, answered_of, connection_answers, delivery_answers, is_overflow, wants_two};
 
 use crate::answered::{Answered, Connection, Delivery};
 use crate::patterns::{with_all, without_all};
@@ -327,8 +327,20 @@ impl Session {
         self.settle(config, connect, events)
     }
 
-    /// An event of the session, of the publish at this place of the list, with two handles of it: one to keep and
-    /// one to give. It goes to the connect that is held: an acknowledging session keeps it as the next batch, a
+    /// A further handle of an event that is to come, where two are wanted, since the event is both kept and given: where the
+    /// session acknowledges and holds a connect.
+    pub fn further(&self, event: &SharedEvent) -> Result<Option<SharedEvent>, AllocError>
+        ensures { IfOk result (λ further. further ≡ (if wants_two self.now.kept then Some event.now else None)) }
+    {
+        if self.ack && self.held.is_some() {
+            Ok(Some(event.clone()?))
+        } else {
+            Ok(None)
+        }
+    }
+
+    /// An event of the session, of the publish at this place of the list, with a handle of it, and a further one where two
+    /// are wanted. It goes to the connect that is held: an acknowledging session keeps it as the next batch, a
     /// plain one forgets it. Where none is held it waits. Where as many events wait or are outstanding as may, the
     /// session overflows instead: its events are dropped, and all of its patterns are to be taken out. Takes
     /// no memory. (Bayeux 1.0, delivery of events; that a session overflows is this server's choice.)
@@ -336,16 +348,16 @@ impl Session {
         &mut self,
         config: &Config,
         place: u64,
-        keep: SharedEvent,
-        give: SharedEvent,
+        event: SharedEvent,
+        further: Option<SharedEvent>,
     ) -> Delivery
         requires room { 0 < self.old.spare }
         requires live { self.old.kept.overflow ≡ false }
-        requires same { give ≡ keep }
+        requires further { wants_two self.old.kept ≡ true → further ≡ Some event }
         requires countable { Countable self.old.kept }
-        ensures answer { delivery_answers result ≡ map answered_of (answers_of (received config.now (record { place = place; event = keep })) self.old.kept) }
+        ensures answer { delivery_answers result ≡ map answered_of (answers_of (received config.now (record { place = place; event = event })) self.old.kept) }
         ensures overflow { is_overflow result ≡ self.new.kept.overflow }
-        ensures kept { self.new.kept ≡ after (received config.now (record { place = place; event = keep })) self.old.kept }
+        ensures kept { self.new.kept ≡ after (received config.now (record { place = place; event = event })) self.old.kept }
     {
         if self.window.is_full(config.limits.events) {
             self.overflow();
@@ -354,14 +366,15 @@ impl Session {
         match self.held.take() {
             Some(held) => {
                 if self.ack {
+                    let Some(keep) = further else { unreachable!() };
                     self.window.push_reserved(place, keep);
                     self.window.give(config.limits.batch);
                 }
                 let ack = self.ack_for(Outcome::Connected);
-                Delivery::Given(held.answer_one(config, give, ack))
+                Delivery::Given(held.answer_one(config, event, ack))
             }
             None => {
-                self.window.push_reserved(place, keep);
+                self.window.push_reserved(place, event);
                 Delivery::Waits
             }
         }

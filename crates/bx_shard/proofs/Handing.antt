@@ -2,7 +2,8 @@
 use Rattle.std.proofs.Common.{zero, suc, not, ◌&&◌, slice_index, slice_index_or, IfSome, Contains, IsTrue, ◌↔◌, ◌≤◌, length, arith, ◌<◌, ◌+◌, ◌≡◌, ◌≢◌, ◌⊎◌, inl, inr, ℕ, nat_eq, Bool, true, false, cond, ◌||◌, Option, Some, None, option_map, is_none, List, [], ◌∷◌, map, refl, sym, ap, ◌∙◌, true≢false, subst}
 use Rattle.std.proofs.Math.Dec.{leb}
 use Rattle.std.proofs.lemmas.Bool.Decides.{leb_tells}
-use Rattle.std.specs.List.{list_any}
+use Rattle.std.specs.List.{All, list_any}
+use Rattle.std.proofs.lemmas.List.Elements.{All-head, All-tail}
 use Rattle.std.specs.List.Sorted.{IsStrictlyIncreasing}
 use Rattle.bx_names.specs.Kinds.{is_broadcast}
 use Rattle.std.specs.Option.{option_map_or}
@@ -17,14 +18,14 @@ use Rattle.bx_message.specs.declared.event.Event.{Event}
 use Rattle.bx_entry.specs.Keeping.{Kept, after, kept, resumed}
 use Rattle.bx_entry.specs.Sessions.{Session, Stage, is_hit, is_live, published, received}
 use Rattle.bx_session.specs.declared.answered.Answered.{Answered}
-use Rattle.bx_session.specs.Views.{Countable, answered_of, deadline_of}
+use Rattle.bx_session.specs.Views.{Countable, answered_of, deadline_of, wants_two}
 use Rattle.bx_connects.specs.declared.connects.ConnectState.{ConnectState}
 use Rattle.bx_connects.specs.declared.connects.ConnectState.TheVariants.{Filed}
 use Rattle.bx_connects.specs.Connects.{connect_at, filed_as, session_at}
 use Rattle.bx_shard.specs.declared.publish.Parcel.{Parcel}
 use Rattle.bx_shard.specs.declared.sessions.Sessions.{Sessions}
 use Rattle.bx_shard.specs.Effects.{answers_by, filing_each}
-use Rattle.bx_shard.specs.Publishing.{reaches, AllReady, IsReady, NoneFor, Turn, Turns, parcel, published_at}
+use Rattle.bx_shard.specs.Publishing.{reaches, AllReady, IsPacked, IsReady, NoneFor, Turn, Turns, numbers_of, published_at}
 use Rattle.bx_shard.specs.Sessions.{AreCountable, AreCounted, AreHeld, IsCounted, IsOwn, HasRoom, held_until, holds_until, kept_in, patterns_in}
 use Rattle.bx_shard.proofs.Ends.{From, received_e}
 use Rattle.bx_shard.proofs.Keeps.{filing_each_session, filed_known, held_session, unfiled}
@@ -37,13 +38,23 @@ pub ready_along : (s t : Sessions) (m : ℕ) (xs : List Parcel) → NoneFor m xs
 ready_along s t m [] none sessions room ready = ready
 ready_along s t m (x ∷ xs) none sessions room ready = (
   record {
-    same = ready.0.same;
     here = subst (λ o. IfSome o (λ (k : Kept). (k.overflow ≡ false) × Countable k)) (sym (sessions x.number none.0)) ready.0.here;
-    room = room x.number none.0 ready.0.room;
+    packed = record {
+      room = room x.number none.0 ready.0.packed.room;
+      further = subst (λ o. IfSome o (λ (k : Kept). wants_two k ≡ true → x.further ≡ Some x.event)) (sym (sessions x.number none.0)) ready.0.packed.further;
+    };
   },
   ready.1,
   ready_along s t m xs none.1 sessions room ready.2,
 )
+
+-- a parcel is packed by what its session wants
+pub packed-by : (s t : Sessions) (m : ℕ) (e : Event) (further : Option Event) → ((n : ℕ) → kept_in t n ≡ kept_in s n) → HasRoom t m → IfSome (kept_in s m) (λ (k : Kept). wants_two k ≡ true → further ≡ Some e)
+    → IsPacked t (record { number = m; event = e; further = further })
+packed-by s t m e further sessions room wants = record {
+  room = room;
+  further = subst (λ o. IfSome o (λ (k : Kept). wants_two k ≡ true → further ≡ Some e)) (sym (sessions m)) wants;
+}
 
 -- ---- who gets a parcel
 
@@ -65,7 +76,7 @@ AreApart (x ∷ xs) = NoneFor x.number xs × AreApart xs
 -- the event of all parcels
 abbrev pub AreOf : Event → List Parcel → Type 0
 AreOf e [] = Unit {0}
-AreOf e (x ∷ xs) = (x.keep ≡ e) × AreOf e xs
+AreOf e (x ∷ xs) = (x.event ≡ e) × AreOf e xs
 
 module _ (config : Config) (place : ℕ) (e : Event) where
   -- what the event does to a session that gets it
@@ -83,7 +94,7 @@ module _ (config : Config) (place : ℕ) (e : Event) where
       between : Sessions
       between = turns.0
 
-      by : (b : Bool) → b ≡ nat_eq x.number n → kept_in between n ≡ cond b (option_map (after (received config (published_at place x.keep))) (kept_in old x.number)) (kept_in old n)
+      by : (b : Bool) → b ≡ nat_eq x.number n → kept_in between n ≡ cond b (option_map (after (received config (published_at place x.event))) (kept_in old x.number)) (kept_in old n)
           → cond (is_for xs n) (option_map (after gets) (kept_in between n)) (kept_in between n)
           ≡ cond (b || is_for xs n) (option_map (after gets) (kept_in old n)) (kept_in old n)
       by true h one =
@@ -126,7 +137,7 @@ module _ (config : Config) (place : ℕ) (e : Event) where
 
   later_same : (x : Parcel) (xs : List Parcel) (old between : Sessions) → NoneFor x.number xs → Turn config place x old between → (n : ℕ) → is_for xs n ≡ true → kept_in between n ≡ kept_in old n
   later_same x xs old between apart turn n gets_one =
-      turn.sessions n ∙ ap (λ b. cond b (option_map (after (received config (published_at place x.keep))) (kept_in old x.number)) (kept_in old n)) (later_other x xs n apart gets_one)
+      turn.sessions n ∙ ap (λ b. cond b (option_map (after (received config (published_at place x.event))) (kept_in old x.number)) (kept_in old n)) (later_other x xs n apart gets_one)
 
   -- a session that gets the event answers its held connect with it
   pub record Gives (old : Sessions) (xs : List Parcel) (n : ℕ) (a : Answered) : Type 0 where
@@ -203,7 +214,7 @@ module _ (config : Config) (place : ℕ) (e : Event) where
   sessions_kept [] old new turns p = ap (λ s. session_at (connect_at s.connects p)) (sym turns)
   sessions_kept (x ∷ xs) old new turns p =
       sessions_kept xs turns.0 new turns.2 p ∙ ap session_at (turns.1.connects p)
-      ∙ filing_each_session place (answers_by (received config (published_at place x.keep)) (kept_in old x.number)) (connect_at old.connects) p
+      ∙ filing_each_session place (answers_by (received config (published_at place x.event)) (kept_in old x.number)) (connect_at old.connects) p
 
   pub held_after : (xs : List Parcel) (old new : Sessions) → AreHeld old → Turns config place xs old new → AreHeld new
   held_after [] old new held turns = subst AreHeld turns held
@@ -214,14 +225,6 @@ module _ (config : Config) (place : ℕ) (e : Event) where
   config_after (x ∷ xs) old new turns = config_after xs turns.0 new turns.2 ∙ turns.1.config_is
 
 -- ---- a list that is gone through
-
--- what is below the next is below this one or is this one
-pub below_or_at : (k i : ℕ) → k < i + 1 → (k < i) ⊎ (k ≡ i)
-below_or_at k i h = by (leb_tells i k)
-  where
-    by : ((leb i k ≡ true) × (i ≤ k)) ⊎ ((leb i k ≡ false) × (k < i)) → (k < i) ⊎ (k ≡ i)
-    by (inl told) = inr (omega (arith, told.1, h))
-    by (inr told) = inl told.1
 
 -- nothing is in an empty list
 pub none_there : (items : List ℕ) (n : ℕ) (b : Bool) → items ≡ [] → b ≡ false → Contains items n ↔ IsTrue b
@@ -261,34 +264,31 @@ rising_tail n ns rises i within =
     let next : suc i + 1 ≡ suc (i + 1) = omega arith in
     subst (λ j. slice_index (n ∷ ns) (suc i) < slice_index (n ∷ ns) j) next (rises (suc i) (omega (arith, within)))
 
-module _ (e : Event) where
-  pub are_of : (ns : List ℕ) → AreOf e (map (parcel e) ns)
-  are_of [] = tt
-  are_of (n ∷ ns) = (refl, are_of ns)
+pub are_of : (e : Event) (xs : List Parcel) → All (λ (x : Parcel). x.event ≡ e) xs → AreOf e xs
+are_of e [] all = tt
+are_of e (x ∷ xs) all = (All-head (λ (y : Parcel). y.event ≡ e) x xs all, are_of e xs (All-tail (λ (y : Parcel). y.event ≡ e) x xs all))
 
-  pub is_for_numbers : (ns : List ℕ) (n : ℕ) → is_for (map (parcel e) ns) n ≡ is_one_of ns n
-  is_for_numbers [] n = refl
-  is_for_numbers (m ∷ ms) n = ap (λ b. nat_eq m n || b) (is_for_numbers ms n)
+pub is_for_numbers : (xs : List Parcel) (n : ℕ) → is_for xs n ≡ is_one_of (numbers_of xs) n
+is_for_numbers [] n = refl
+is_for_numbers (x ∷ xs) n = ap (λ b. nat_eq x.number n || b) (is_for_numbers xs n)
 
-  none_above : (low m : ℕ) (ns : List ℕ) → low ≤ m → IsStrictlyIncreasing (m ∷ ns) → NoneFor low (map (parcel e) ns)
-  none_above low m [] below rises = tt
-  none_above low m (k ∷ ks) below rises =
-      let next : m < k = rises 0 (omega arith) in
-      (ne_eqb low k (λ same. absurd (omega (arith, below, next, same))), none_above low k ks (omega (arith, below, next)) (rising_tail m (k ∷ ks) rises))
+none_above : (low m : ℕ) (xs : List Parcel) → low ≤ m → IsStrictlyIncreasing (m ∷ numbers_of xs) → NoneFor low xs
+none_above low m [] below rises = tt
+none_above low m (x ∷ xs) below rises =
+    let next : m < x.number = rises 0 (omega arith) in
+    (ne_eqb low x.number (λ same. absurd (omega (arith, below, next, same))), none_above low x.number xs (omega (arith, below, next)) (rising_tail m (x.number ∷ numbers_of xs) rises))
 
-  pub are_apart : (ns : List ℕ) → IsStrictlyIncreasing ns → AreApart (map (parcel e) ns)
-  are_apart [] rises = tt
-  are_apart (n ∷ ns) rises = (none_above n n ns (omega arith) rises, are_apart ns (rising_tail n ns rises))
+pub are_apart : (xs : List Parcel) → IsStrictlyIncreasing (numbers_of xs) → AreApart xs
+are_apart [] rises = tt
+are_apart (x ∷ xs) rises = (none_above x.number x.number xs (omega arith) rises, are_apart xs (rising_tail x.number (numbers_of xs) rises))
 
-  pub all_ready : (s : Sessions) (ns : List ℕ) → AreApart (map (parcel e) ns) → ((n : ℕ) → Contains ns n → IsReady s (parcel e n)) → AllReady s (map (parcel e) ns)
-  all_ready s [] apart ready = tt
-  all_ready s (n ∷ ns) apart ready =
-      (ready n (zero, omega arith, refl), apart.0, all_ready s ns apart.1 (λ m there. ready m (suc there.0, omega (arith, there.1), there.2)))
-
-  pub number_at : (ns : List ℕ) (k d : ℕ) → k < length ns → (slice_index_or (map (parcel e) ns) k (parcel e d)).number ≡ slice_index_or ns k d
-  number_at [] k d within = absurd (omega (arith, within))
-  number_at (n ∷ ns) zero d within = refl
-  number_at (n ∷ ns) (suc k) d within = number_at ns k d (omega (arith, within))
+pub all_ready : (s : Sessions) (xs : List Parcel) → AreApart xs → All (IsPacked s) xs → ((x : Parcel) → Contains (numbers_of xs) x.number → IsPacked s x → IsReady s x) → AllReady s xs
+all_ready s [] apart packed ready = tt
+all_ready s (x ∷ xs) apart packed ready = (
+  ready x (zero, omega arith, refl) (All-head (IsPacked s) x xs packed),
+  apart.0,
+  all_ready s xs apart.1 (All-tail (IsPacked s) x xs packed) (λ y there one. ready y (suc there.0, omega (arith, there.1), there.2) one),
+)
 
 -- ---- who hears an event
 
@@ -318,23 +318,23 @@ hears_is e n k patterns own =
 
 -- ---- the whole publish
 
-module _ (config : Config) (place : ℕ) (e : Event) (s t new : Sessions) (ns : List ℕ) (counted : AreCounted s) (sessions : (n : ℕ) → kept_in t n ≡ kept_in s n)
-    (reached : (n : ℕ) → (Contains ns n ↔ IsTrue (reaches e (patterns_in s n)))) where
+module _ (config : Config) (place : ℕ) (e : Event) (s t new : Sessions) (xs : List Parcel) (counted : AreCounted s) (sessions : (n : ℕ) → kept_in t n ≡ kept_in s n)
+    (of : AreOf e xs) (reached : (n : ℕ) → (Contains (numbers_of xs) n ↔ IsTrue (reaches e (patterns_in s n)))) where
   -- what the publish does to a session
   abbrev hears : Session → Session
   hears = published config (published_at place e)
 
-  gets_if : (n : ℕ) → is_for (map (parcel e) ns) n ≡ reaches e (patterns_in s n)
-  gets_if n = is_for_numbers e ns n ∙ one_of_is ns n (reaches e (patterns_in s n)) (reached n)
+  gets_if : (n : ℕ) → is_for xs n ≡ reaches e (patterns_in s n)
+  gets_if n = is_for_numbers xs n ∙ one_of_is (numbers_of xs) n (reaches e (patterns_in s n)) (reached n)
 
-  hears_if : (n : ℕ) (k : Kept) → kept_in s n ≡ Some k → is_hit (resumed k) e ≡ is_for (map (parcel e) ns) n
+  hears_if : (n : ℕ) (k : Kept) → kept_in s n ≡ Some k → is_hit (resumed k) e ≡ is_for xs n
   hears_if n k here = hears_is e n k (patterns_in s n) (subst (λ o. IsCounted n o (patterns_in s n)) here (counted n)) ∙ sym (gets_if n)
 
   -- each session that hears the event gets it
-  pub all_hear : AreApart (map (parcel e) ns) → Turns config place (map (parcel e) ns) t new → (n : ℕ) → kept_in new n ≡ option_map (after hears) (kept_in s n)
+  pub all_hear : AreApart xs → Turns config place xs t new → (n : ℕ) → kept_in new n ≡ option_map (after hears) (kept_in s n)
   all_hear apart turns n =
-      sessions_turned config place e (map (parcel e) ns) t new (are_of e ns) apart turns n
-      ∙ ap (λ o. cond (is_for (map (parcel e) ns) n) (option_map (after (gets config place e)) o) o) (sessions n)
+      sessions_turned config place e xs t new of apart turns n
+      ∙ ap (λ o. cond (is_for xs n) (option_map (after (gets config place e)) o) o) (sessions n)
       ∙ by (kept_in s n) refl
     where
       none : (b : Bool) → cond {A = Option Kept} b None None ≡ None
@@ -347,26 +347,26 @@ module _ (config : Config) (place : ℕ) (e : Event) (s t new : Sessions) (ns : 
       some k true false h = absurd (true≢false (sym h))
       some k false true h = absurd (true≢false h)
 
-      by : (o : Option Kept) → kept_in s n ≡ o → cond (is_for (map (parcel e) ns) n) (option_map (after (gets config place e)) o) o ≡ option_map (after hears) o
-      by None h = none (is_for (map (parcel e) ns) n)
-      by (Some k) h = some k (is_for (map (parcel e) ns) n) (is_hit (resumed k) e) (hears_if n k h)
+      by : (o : Option Kept) → kept_in s n ≡ o → cond (is_for xs n) (option_map (after (gets config place e)) o) o ≡ option_map (after hears) o
+      by None h = none (is_for xs n)
+      by (Some k) h = some k (is_for xs n) (is_hit (resumed k) e) (hears_if n k h)
 
   -- what a session answers to the publish, it answers as one that gets the event
-  pub gives_if : (n : ℕ) (a : Answered) → Contains (answers_by hears (kept_in s n)) a → Gives config place e t (map (parcel e) ns) n a
+  pub gives_if : (n : ℕ) (a : Answered) → Contains (answers_by hears (kept_in s n)) a → Gives config place e t xs n a
   gives_if n a there = by (kept_in s n) refl there
     where
-      some : (k : Kept) (b c : Bool) → is_for (map (parcel e) ns) n ≡ b → c ≡ b → kept_in s n ≡ Some k → Contains (map answered_of (cond c (gets config place e (resumed k)) (resumed k)).answers) a → Gives config place e t (map (parcel e) ns) n a
+      some : (k : Kept) (b c : Bool) → is_for xs n ≡ b → c ≡ b → kept_in s n ≡ Some k → Contains (map answered_of (cond c (gets config place e (resumed k)) (resumed k)).answers) a → Gives config place e t xs n a
       some k true true f h here in_it = record { gets_one = f; given = subst (λ o. Contains (answers_by (gets config place e) o) a) (sym (sessions n ∙ here)) in_it }
       some k true false f h here in_it = absurd (true≢false (sym h))
       some k false true f h here in_it = absurd (true≢false h)
       some k false false f h here in_it = absurd (nowhere a in_it)
 
-      by : (o : Option Kept) → kept_in s n ≡ o → Contains (answers_by hears o) a → Gives config place e t (map (parcel e) ns) n a
+      by : (o : Option Kept) → kept_in s n ≡ o → Contains (answers_by hears o) a → Gives config place e t xs n a
       by None here in_it = absurd (nowhere a in_it)
-      by (Some k) here in_it = some k (is_for (map (parcel e) ns) n) (is_hit (resumed k) e) refl (hears_if n k here) here in_it
+      by (Some k) here in_it = some k (is_for xs n) (is_hit (resumed k) e) refl (hears_if n k here) here in_it
 
   -- and the other way round
-  pub if_gives : (n : ℕ) (a : Answered) → Gives config place e t (map (parcel e) ns) n a → Contains (answers_by hears (kept_in s n)) a
+  pub if_gives : (n : ℕ) (a : Answered) → Gives config place e t xs n a → Contains (answers_by hears (kept_in s n)) a
   if_gives n a g = by (kept_in s n) refl (subst (λ o. Contains (answers_by (gets config place e) o) a) (sessions n) g.given)
     where
       some : (k : Kept) (c : Bool) → c ≡ true → Contains (answers_by (gets config place e) (Some k)) a → Contains (map answered_of (cond c (gets config place e (resumed k)) (resumed k)).answers) a
@@ -378,20 +378,19 @@ module _ (config : Config) (place : ℕ) (e : Event) (s t new : Sessions) (ns : 
       by (Some k) here in_it = some k (is_hit (resumed k) e) (hears_if n k here ∙ g.gets_one) in_it
 
   -- who is ready for a parcel
-  pub are_ready : AreCountable s → AreApart (map (parcel e) ns) → ((k : ℕ) (d : Parcel) → k < length (map (parcel e) ns) → HasRoom t (slice_index_or (map (parcel e) ns) k d).number) → AllReady t (map (parcel e) ns)
-  are_ready countable apart room = all_ready e t ns apart ready
+  pub are_ready : AreCountable s → AreApart xs → All (IsPacked t) xs → AllReady t xs
+  are_ready countable apart packed = all_ready t xs apart packed ready
     where
-      ready : (n : ℕ) → Contains ns n → IsReady t (parcel e n)
-      ready n there = record {
-        same = refl;
-        here = subst (λ o. IfSome o (λ (k : Kept). (k.overflow ≡ false) × Countable k)) (sym (sessions n)) (by (kept_in s n) refl (counted n) (countable n));
-        room = subst (λ m. HasRoom t m) (number_at e ns there.0 n there.1 ∙ there.2) (room there.0 (parcel e n) (omega (arith, there.1, length-map ns (parcel e))));
+      ready : (x : Parcel) → Contains (numbers_of xs) x.number → IsPacked t x → IsReady t x
+      ready x there one = record {
+        here = subst (λ o. IfSome o (λ (k : Kept). (k.overflow ≡ false) × Countable k)) (sym (sessions x.number)) (by (kept_in s x.number) refl (counted x.number) (countable x.number));
+        packed = one;
       }
         where
-          by : (o : Option Kept) → kept_in s n ≡ o → IsCounted n o (patterns_in s n) → IfSome o Countable → IfSome o (λ (k : Kept). (k.overflow ≡ false) × Countable k)
+          by : (o : Option Kept) → kept_in s x.number ≡ o → IsCounted x.number o (patterns_in s x.number) → IfSome o Countable → IfSome o (λ (k : Kept). (k.overflow ≡ false) × Countable k)
           by None h c few = tt
           by (Some k) h c few = (live k.overflow refl, few)
             where
               live : (o : Bool) → k.overflow ≡ o → k.overflow ≡ false
               live false g = g
-              live true g = absurd (true≢false (sym ((reached n).0 there) ∙ silent e (patterns_in s n) (c.emptied g)))
+              live true g = absurd (true≢false (sym ((reached x.number).0 there) ∙ silent e (patterns_in s x.number) (c.emptied g)))

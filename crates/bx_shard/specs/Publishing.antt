@@ -1,5 +1,5 @@
 -- An event is handed to one session after another.
-use Rattle.std.specs.Prelude.{ℕ, ◌≡◌, ◌&&◌, nat_eq, false, List, [], ◌∷◌, Bool, option_map, IfSome, if◌then◌else◌}
+use Rattle.std.specs.Prelude.{ℕ, ◌≡◌, ◌&&◌, nat_eq, true, false, List, [], ◌∷◌, Bool, Some, map, option_map, IfSome, if◌then◌else◌}
 use Rattle.bx_names.specs.Globs.{Glob, any_matches}
 use Rattle.bx_names.specs.Segments.{segments}
 use Rattle.bx_names.specs.Kinds.{is_broadcast}
@@ -7,7 +7,7 @@ use Rattle.bx_advice.specs.declared.config.Config.{Config}
 use Rattle.bx_message.specs.declared.event.Event.{Event}
 use Rattle.bx_entry.specs.Keeping.{Kept, after}
 use Rattle.bx_entry.specs.Sessions.{Publication, received}
-use Rattle.bx_session.specs.Views.{Countable}
+use Rattle.bx_session.specs.Views.{Countable, wants_two}
 use Rattle.bx_connects.specs.Connects.{connect_at}
 use Rattle.bx_shard.specs.declared.publish.Parcel.{Parcel}
 use Rattle.bx_shard.specs.declared.sessions.Sessions.{Sessions}
@@ -22,15 +22,19 @@ published_at place e = record { place = place; event = e }
 abbrev pub reaches : Event → List Glob → Bool
 reaches e patterns = is_broadcast e.channel && any_matches patterns (segments e.channel)
 
--- the event for a session
-abbrev pub parcel : Event → ℕ → Parcel
-parcel e number = record { number = number; keep = e; give = e }
+-- for whom these parcels are
+abbrev pub numbers_of : List Parcel → List ℕ
+numbers_of xs = map (λ (x : Parcel). x.number) xs
+
+-- the session has room for the event, and two handles are there if it wants them
+pub record IsPacked (s : Sessions) (x : Parcel) : Type 0 where
+  pub room : HasRoom s x.number
+  pub further : IfSome (kept_in s x.number) (λ (k : Kept). wants_two k ≡ true → x.further ≡ Some x.event)
 
 -- the session can get what is in the parcel
 pub record IsReady (s : Sessions) (x : Parcel) : Type 0 where
-  pub same : x.give ≡ x.keep
   pub here : IfSome (kept_in s x.number) (λ (k : Kept). (k.overflow ≡ false) × Countable k)
-  pub room : HasRoom s x.number
+  pub packed : IsPacked s x
 
 -- none of these parcels is for this session
 abbrev pub NoneFor : ℕ → List Parcel → Type 0
@@ -44,8 +48,8 @@ AllReady s (x ∷ xs) = IsReady s x × NoneFor x.number xs × AllReady s xs
 
 -- one session got its parcel
 pub record Turn (config : Config) (place : ℕ) (x : Parcel) (old new : Sessions) : Type 0 where
-  pub sessions : (n : ℕ) → kept_in new n ≡ (if nat_eq x.number n then option_map (after (received config (published_at place x.keep))) (kept_in old x.number) else kept_in old n)
-  pub connects : (p : ℕ) → connect_at new.connects p ≡ filing_each place (answers_by (received config (published_at place x.keep)) (kept_in old x.number)) (connect_at old.connects) p
+  pub sessions : (n : ℕ) → kept_in new n ≡ (if nat_eq x.number n then option_map (after (received config (published_at place x.event))) (kept_in old x.number) else kept_in old n)
+  pub connects : (p : ℕ) → connect_at new.connects p ≡ filing_each place (answers_by (received config (published_at place x.event)) (kept_in old x.number)) (connect_at old.connects) p
   pub held : AreHeld new
   pub config_is : new.config ≡ old.config
 

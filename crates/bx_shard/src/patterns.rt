@@ -5,11 +5,11 @@ ghost use Rattle.bx_entry.specs.Sessions.{received, subscribed, unsubscribed};
 ghost use Rattle.bx_session.specs.Views.{Countable};
 ghost use Rattle.bx_connects.specs.Connects.{connect_at};
 ghost use Rattle.bx_shard.specs.Effects.{answers_by, filing_each};
-ghost use Rattle.bx_shard.specs.Publishing.{published_at};
+ghost use Rattle.bx_shard.specs.Publishing.{IsPacked, published_at};
 ghost use Rattle.bx_shard.specs.Sessions.{AreCounted, AreHeld, HasRoom, kept_in};
 
+use crate::publish::Parcel;
 use crate::sessions::Sessions;
-use bx_message::SharedEvent;
 use bx_names::Pattern;
 use bx_session::Delivery;
 use std::alloc::{AllocError, Global};
@@ -61,26 +61,30 @@ impl Sessions {
         session.unsubscribe(patterns, gone);
     }
 
-    /// An event of a session that is here and that has not overflowed, with two handles of it. Where the session overflows,
-    /// its patterns are in force no longer.
-    pub(crate) fn receive(&mut self, place: u64, number: u64, keep: SharedEvent, give: SharedEvent)
-        requires here { IfSome (kept_in self.old number) (λ (k : Kept). (k.overflow ≡ false) × Countable k) }
-        requires room { HasRoom self.old number }
-        requires same { give ≡ keep }
+    /// What is in a parcel for a session that is here and that has not overflowed. Where the session overflows, its patterns
+    /// are in force no longer.
+    pub(crate) fn receive(&mut self, place: u64, parcel: Parcel)
+        requires here { IfSome (kept_in self.old parcel.number) (λ (k : Kept). (k.overflow ≡ false) × Countable k) }
+        requires packed { IsPacked self.old parcel }
         ensures sessions { (n : ℕ) → kept_in self.new n
-            ≡ (if nat_eq number n then option_map (after (received self.old.config (published_at place keep))) (kept_in self.old number)
+            ≡ (if nat_eq parcel.number n then option_map (after (received self.old.config (published_at place parcel.event))) (kept_in self.old parcel.number)
             else kept_in self.old n) }
         ensures connects { (p : ℕ) → connect_at self.new.connects p
-            ≡ filing_each place (answers_by (received self.old.config (published_at place keep)) (kept_in self.old number)) (connect_at self.old.connects) p }
-        ensures room { (n : ℕ) → nat_eq number n ≡ false → HasRoom self.old n → HasRoom self.new n }
+            ≡ filing_each place (answers_by (received self.old.config (published_at place parcel.event)) (kept_in self.old parcel.number)) (connect_at self.old.connects) p }
+        ensures room { (n : ℕ) → nat_eq parcel.number n ≡ false → HasRoom self.old n → HasRoom self.new n }
         ensures config { self.new.config ≡ self.old.config }
         ensures counted { AreCounted self.old → AreCounted self.new }
         ensures held { AreHeld self.old → AreHeld self.new }
     {
+        let Parcel {
+            number,
+            event,
+            further,
+        } = parcel;
         let Some(session) = self.by_number.get_mut(&number) else {
             return;
         };
-        match session.deliver(&self.config, place, keep, give) {
+        match session.deliver(&self.config, place, event, further) {
             Delivery::Waits => {}
             Delivery::Given(answered) => self.connects.file(place, answered),
             Delivery::Overflowed => {

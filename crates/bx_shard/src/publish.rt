@@ -1,5 +1,5 @@
 //! A publish, as the sessions of a shard get it.
-ghost use Rattle.std.specs.Prelude.{◌≡◌, ◌≢◌, ◌↔◌, Some, option_map, ℕ, map, IsTrue, Contains, OnOk, OnErr, IfOk};
+ghost use Rattle.std.specs.Prelude.{◌≡◌, ◌≢◌, ◌↔◌, Some, option_map, ℕ, IsTrue, Contains, OnOk, OnErr, IfOk};
 ghost use Rattle.std.specs.List.{All};
 ghost use Rattle.std.specs.List.Sorted.{IsStrictlyIncreasing};
 ghost use Rattle.bx_names.specs.Kinds.{is_broadcast};
@@ -9,39 +9,20 @@ ghost use Rattle.bx_connects.specs.Connects.{connect_at, session_at};
 ghost use Rattle.bx_entry.specs.Keeping.{after};
 ghost use Rattle.bx_entry.specs.Sessions.{published};
 ghost use Rattle.bx_shard.specs.Effects.{answers_by};
-ghost use Rattle.bx_shard.specs.Publishing.{AllReady, Turns, parcel, published_at, reaches};
-ghost use Rattle.bx_shard.specs.Sessions.{AreCounted, AreCountable, AreHeld, HasRoom, kept_in, patterns_in};
+ghost use Rattle.bx_shard.specs.Publishing.{AllReady, IsPacked, Turns, numbers_of, published_at, reaches};
+ghost use Rattle.bx_shard.specs.Sessions.{AreCounted, AreCountable, AreHeld, kept_in, patterns_in};
 
 use crate::sessions::Sessions;
 use bx_message::SharedEvent;
 use bx_names::{ChannelKind, kind_of};
 use std::alloc::{AllocError, Global};
 
-/// An event for one session, with a handle to keep and one to give.
+/// An event for one session, with a further handle of it where the session wants two.
 #[derive(Drop)]
 pub(crate) struct Parcel {
-    number: u64,
-    keep: SharedEvent,
-    give: SharedEvent,
-}
-
-// A parcel for each of these sessions.
-fn parcels_for(
-    alloc: Global,
-    numbers: &[u64],
-    event: &SharedEvent,
-) -> Result<Vec<Parcel>, AllocError>
-    ensures { IfOk result (λ parcels. parcels.items ≡ map (parcel event.now) numbers.now) }
-{
-    let mut parcels = Vec::with_capacity(alloc, numbers.len())?;
-    for number in numbers {
-        parcels.push(Parcel {
-            number: *number,
-            keep: event.clone()?,
-            give: event.clone()?,
-        })?;
-    }
-    Ok(parcels)
+    pub(crate) number: u64,
+    pub(crate) event: SharedEvent,
+    pub(crate) further: Option<SharedEvent>,
 }
 
 // Whether a channel of this name is neither a meta nor a service channel.
@@ -71,16 +52,31 @@ impl Sessions {
         Ok(found.numbers)
     }
 
-    // Makes room for one event of each of these sessions.
-    fn reserve_all(&mut self, parcels: &[Parcel]) -> Result<(), AllocError>
+    // Makes room for one event of each of these sessions, and a parcel for each.
+    fn pack(
+        &mut self,
+        alloc: Global,
+        numbers: &[u64],
+        event: &SharedEvent,
+    ) -> Result<Vec<Parcel>, AllocError>
         ensures sessions { (n : ℕ) → kept_in self.new n ≡ kept_in self.old n }
-        ensures room { OnOk result (All (λ x. HasRoom self.new x.number) parcels.now) }
+        ensures numbers { IfOk result (λ parcels. numbers_of parcels.items ≡ numbers.now) }
+        ensures event { IfOk result (λ parcels. All (λ x. x.event ≡ event.now) parcels.items) }
+        ensures packed { IfOk result (λ parcels. All (IsPacked self.new) parcels.items) }
         ensures others { (self.new.config ≡ self.old.config) × (self.new.tree ≡ self.old.tree) × (self.new.connects ≡ self.old.connects) }
     {
-        for parcel in parcels {
-            self.reserve(parcel.number)?;
+        let mut parcels = Vec::with_capacity(alloc, numbers.len())?;
+        for number in numbers {
+            let further = self.reserve(*number, event)?;
+            let event = event.clone()?;
+            let parcel = Parcel {
+                number: *number,
+                event,
+                further,
+            };
+            parcels.push(parcel)?;
         }
-        Ok(())
+        Ok(parcels)
     }
 
     // Hands out the parcels in order.
@@ -92,8 +88,7 @@ impl Sessions {
         ensures counted { AreCounted self.new }
     {
         for parcel in parcels {
-            let Parcel { number, keep, give } = parcel;
-            self.receive(place, number, keep, give);
+            self.receive(place, parcel);
         }
     }
 
@@ -122,8 +117,7 @@ impl Sessions {
         ensures config { self.new.config ≡ self.old.config }
     {
         let numbers = self.receivers(alloc, event)?;
-        let parcels = parcels_for(alloc, numbers.as_slice(), event)?;
-        self.reserve_all(parcels.as_slice())?;
+        let parcels = self.pack(alloc, numbers.as_slice(), event)?;
         self.hand_out(place, parcels);
         Ok(())
     }

@@ -1,12 +1,12 @@
 //! The sessions that stand in a shard.
-ghost use Rattle.std.specs.Prelude.{◌≡◌, ◌<◌, ◌-◌, ℕ, nat_eq, Some, None, [], ◌∷◌, length, option_map, is_some, if◌then◌else◌, OnOk, OnErr, IfSome, true, false, Option, not, ◌&&◌, ◌||◌};
+ghost use Rattle.std.specs.Prelude.{◌≡◌, ◌<◌, ◌-◌, ℕ, nat_eq, Some, None, [], ◌∷◌, length, option_map, is_some, if◌then◌else◌, OnOk, OnErr, IfOk, IfSome, true, false, Option, not, ◌&&◌, ◌||◌};
 ghost use Rattle.std.specs.Map.{keys_of};
 ghost use Rattle.std.specs.Option.{option_or};
 ghost use Rattle.bx_tree.specs.Patterns.{patterns_of};
 ghost use Rattle.bx_advice.specs.declared.advice.Outcome.TheVariants.{Disconnected};
 ghost use Rattle.bx_entry.specs.Keeping.{Kept, after, kept};
 ghost use Rattle.bx_entry.specs.Sessions.{begun, connected, expired, released, unopened};
-ghost use Rattle.bx_session.specs.Views.{Countable};
+ghost use Rattle.bx_session.specs.Views.{Countable, wants_two};
 ghost use Rattle.bx_session.specs.declared.answered.Answered.{Answered};
 ghost use Rattle.futures.specs.declared.task.waker.Waker.{Waker};
 ghost use Rattle.bx_connects.specs.declared.connects.ConnectState.TheVariants.{Held};
@@ -16,6 +16,7 @@ ghost use Rattle.bx_shard.specs.Effects.{answers_by, connect_filing, filing_each
 
 use bx_advice::Config;
 use bx_connects::Connects;
+use bx_message::SharedEvent;
 use bx_names::Pattern;
 use bx_session::{Answered, Connection, PendingConnect, Session};
 use bx_tree::Tree;
@@ -113,17 +114,23 @@ impl Sessions {
         }
     }
 
-    /// Makes room for one event of a session.
-    pub(crate) fn reserve(&mut self, number: u64) -> Result<(), AllocError>
+    /// Makes room for one event of a session, and gives a further handle of it where the session wants two.
+    pub(crate) fn reserve(
+        &mut self,
+        number: u64,
+        event: &SharedEvent,
+    ) -> Result<Option<SharedEvent>, AllocError>
         ensures sessions { (n : ℕ) → kept_in self.new n ≡ kept_in self.old n }
         ensures room { OnOk result (HasRoom self.new number) }
+        ensures further { IfOk result (λ further. IfSome (kept_in self.old number) (λ k. wants_two k ≡ true → further ≡ Some event.now)) }
         ensures kept { (n : ℕ) → HasRoom self.old n → HasRoom self.new n }
         ensures others { (self.new.config ≡ self.old.config) × (self.new.tree ≡ self.old.tree) × (self.new.connects ≡ self.old.connects) }
     {
-        match self.by_number.get_mut(&number) {
-            Some(session) => session.reserve(),
-            None => Ok(()),
-        }
+        let Some(session) = self.by_number.get_mut(&number) else {
+            return Ok(None);
+        };
+        session.reserve()?;
+        session.further(event)
     }
 
     /// Ends the hold of a session where it ends at this moment or ended before.

@@ -122,7 +122,7 @@ impl Nodes {
         ensures whole { OnOk result (AreWhole name.now) }
     {
         let mut found = self.walk(alloc, name)?;
-        found.settle();
+        found.settle()?;
         Ok(found)
     }
 

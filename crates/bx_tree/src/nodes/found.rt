@@ -31,13 +31,14 @@ impl Found {
         Ok(())
     }
 
-    /// Puts the numbers in order, each once.
-    pub(super) fn settle(&mut self)
-        ensures ascending { IsStrictlyIncreasing self.new.numbers.items }
-        ensures same { (n : ℕ) → is_among self.new.numbers.items n ≡ is_among self.old.numbers.items n }
+    /// Puts the numbers in order, each once. They are a few rows that ascend, which a stable sort merges.
+    pub(super) fn settle(&mut self) -> Result<(), AllocError>
+        ensures ascending { OnOk result (IsStrictlyIncreasing self.new.numbers.items) }
+        ensures same { OnOk result ((n : ℕ) → is_among self.new.numbers.items n ≡ is_among self.old.numbers.items n) }
         ensures visited { self.new.visited ≡ self.old.visited }
     {
-        self.numbers.sort_unstable();
+        self.numbers.sort()?;
         self.numbers.dedup();
+        Ok(())
     }
 }

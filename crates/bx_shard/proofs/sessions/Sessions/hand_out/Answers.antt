@@ -19,10 +19,10 @@ loop-parcel-preserved c =
     let ready = subst (AllReady old) steps kept.0 in
     let one = c.receive.ensures in
     let others : (n : ℕ) → nat_eq x.number n ≡ false → kept_in new n ≡ kept_in old n =
-    (λ n other. one.sessions n ∙ ap (λ b. cond b (option_map (after (received old.config (published_at c.args.place x.keep))) (kept_in old x.number)) (kept_in old n)) other) in
+    (λ n other. one.sessions n ∙ ap (λ b. cond b (option_map (after (received old.config (published_at c.args.place x.event))) (kept_in old x.number)) (kept_in old n)) other) in
     let turn : Turn c.args.self.now.config c.args.place x old new = record {
-      sessions = λ n. one.sessions n ∙ ap (λ g. cond (nat_eq x.number n) (option_map (after (received g (published_at c.args.place x.keep))) (kept_in old x.number)) (kept_in old n)) kept.3;
-      connects = λ p. one.connects p ∙ ap (λ g. filing_each c.args.place (answers_by (received g (published_at c.args.place x.keep)) (kept_in old x.number)) (connect_at old.connects) p) kept.3;
+      sessions = λ n. one.sessions n ∙ ap (λ g. cond (nat_eq x.number n) (option_map (after (received g (published_at c.args.place x.event))) (kept_in old x.number)) (kept_in old n)) kept.3;
+      connects = λ p. one.connects p ∙ ap (λ g. filing_each c.args.place (answers_by (received g (published_at c.args.place x.event)) (kept_in old x.number)) (connect_at old.connects) p) kept.3;
       held = one.held kept.1;
       config_is = one.config;
     } in (

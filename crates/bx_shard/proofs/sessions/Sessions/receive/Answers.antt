@@ -11,7 +11,7 @@ pub returns-in-Given-clause-held : goal.returns-in-Given-clause-held
 returns-in-Given-clause-held c = λ held.
     let old = c.args.self.now in
     let k = c.in-Some.session.now.kept in
-    let change = received old.config (published_at c.args.place c.args.keep) in
-    let here : kept_in old c.args.number ≡ Some k = search rules in
-    filing_agrees _ _ (kept_in old) _ c.args.number (Some (after change k)) (answers_by change (Some k)) c.args.place
-    held (search rules) (search rules) (subst (λ o. Settles o (Some (after change k)) (answers_by change (Some k))) (sym here) (received_e old.config (published_at c.args.place c.args.keep) k))
+    let change = received old.config (published_at c.args.place c.args.parcel.event) in
+    let here : kept_in old c.args.parcel.number ≡ Some k = search rules in
+    filing_agrees _ _ (kept_in old) _ c.args.parcel.number (Some (after change k)) (answers_by change (Some k)) c.args.place
+    held (search rules) (search rules) (subst (λ o. Settles o (Some (after change k)) (answers_by change (Some k))) (sym here) (received_e old.config (published_at c.args.place c.args.parcel.event) k))
