@@ -8,3 +8,4 @@ pub mod Inputs
 pub mod Runs
 pub mod Requests
 pub mod Keeping
+pub mod Statuses

@@ -1,4 +1,8 @@
+ghost use Rattle.std.specs.Prelude.{◌≡◌};
+ghost use Rattle.bx_entry.specs.Statuses.{refusal_status};
+
 use bx_cut::Bodies;
+use bx_message::Status;
 
 /// A request as it came in.
 #[derive(Drop)]
@@ -43,4 +47,16 @@ pub enum Refusal {
     BadMoment,
     /// The list would pass the greatest length that it may have.
     Ended,
+}
+
+impl Refusal {
+    /// The status of a request that is not admitted for this. (This server's choice.)
+    pub fn status(self) -> Status
+        ensures { result ≡ refusal_status self }
+    {
+        match self {
+            Refusal::Body(_) | Refusal::BadMoment => Status::BadRequest,
+            Refusal::Ended => Status::Unavailable,
+        }
+    }
 }

@@ -6,6 +6,7 @@ ghost use Rattle.bx_message.specs.declared.read.MessageError.TheVariants.{Memory
 ghost use Rattle.bx_message.specs.Fields.{message_in, fields_of, text_field, id_field, listed_texts, subscribed_texts, is_listed, texts_among, is_text, nested_in, ack_field, number_of, begins, begins_text_or_number, is_array};
 
 use crate::message::{AckMember, Message, TextMember};
+use crate::number::number_of;
 use crate::sequence::Sequence;
 use crate::text::{RawJson, Text};
 use bx_cut::{Piece, elements_of, member_of, text_of};
@@ -166,7 +167,7 @@ fn ack_member(piece: &Piece<'_>) -> AckMember
 {
     match nested_member(piece, "ext", "ack") {
         Some("true") => AckMember::AckTrue,
-        Some(json) => match number_of(json) {
+        Some(json) => match number_of(json.as_bytes()) {
             Some(number) => AckMember::AckNumber(number),
             None => AckMember::NoAck,
         },
@@ -179,17 +180,7 @@ fn timeout_member(piece: &Piece<'_>) -> Option<u64>
     ensures { result ≡ option_and_then number_of
         (nested_in (codes "advice") (codes "timeout") piece.now.1) }
 {
-    number_of(nested_member(piece, "advice", "timeout")?)
-}
-
-// The number that digits alone say, at most 2^64-1; no sign, point or exponent counts.
-fn number_of(json: &str) -> Option<u64>
-    ensures { result ≡ number_of json.now }
-{
-    match json.as_bytes().first() {
-        Some(byte) if byte.is_ascii_digit() => json.parse().ok(),
-        _ => None,
-    }
+    number_of(nested_member(piece, "advice", "timeout")?.as_bytes())
 }
 
 impl From<AllocError> for MessageError {

@@ -8,7 +8,7 @@ use crate::message_kind::MessageKind;
 use crate::sequence::Sequence;
 use crate::text::{RawJson, Text};
 use bx_advice::{Advice, Config, Outcome, advice_for};
-use std::alloc::{AllocError, Global};
+use std::alloc::AllocError;
 
 /// What `ack` of a reply's `ext` carries. (The acknowledgement extension of CometD.)
 #[derive(Clone, Copy, Debug, PartialEq, Eq)]
@@ -67,28 +67,26 @@ impl Reply {
     }
 
     /// The reply to a connect, whenever it is answered: `client` is its session's id, and `id` the
-    /// connect's. (Bayeux 1.0, connect response.)
+    /// connect's. It takes no memory. (Bayeux 1.0, connect response.)
     pub fn to_connect(
-        alloc: Global,
         config: &Config,
-        client: &Text,
-        id: Option<&RawJson>,
+        client: Text,
+        id: Option<RawJson>,
         outcome: Outcome,
         ack: AckReply,
-    ) -> Result<Reply, AllocError>
-        ensures { IfOk result (λ r.
-            r ≡ connect_reply config.now client.now (option_copied id.entry) outcome ack) }
+    ) -> Reply
+        ensures { result ≡ connect_reply config.now client id outcome ack }
     {
-        Ok(Reply {
+        Reply {
             message_kind: MessageKind::Connect,
-            channel: Text::new(alloc, "/meta/connect")?,
-            client: Some(client.clone()?),
-            id: share_json(id)?,
+            channel: Text::fixed("/meta/connect"),
+            client: Some(client),
+            id,
             subscription: None,
             outcome,
             advice: advice_for(outcome, config),
             ack,
-        })
+        }
     }
 }
 

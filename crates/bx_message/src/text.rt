@@ -7,10 +7,19 @@ use std::alloc::{AllocError, Global};
 use std::marker::Model;
 use std::sync::ArcStr;
 
+// Where a text stands.
+#[derive(Drop)]
+enum Stored {
+    // In memory that its clones share.
+    Shared(ArcStr),
+    // In the program.
+    Fixed(&'static str),
+}
+
 /// A text. Contracts see it as its bytes, which are UTF-8. A clone shares them.
 #[derive(Drop)]
 pub struct Text {
-    text: ArcStr,
+    stored: Stored,
     // Whether JSON writes the text as it is, between quotation marks: an event's channel is written once
     // for each session that gets it.
     plain: bool,
@@ -19,14 +28,14 @@ pub struct Text {
 impl Model for Text {
     ghost use Rattle.std.specs.Prelude.{◌≡◌, List, ℕ};
     ghost use Rattle.std.specs.List.{list_all};
-    ghost use Rattle.std.specs.Arc.{arc_str_bytes};
     ghost use Rattle.json.specs.Run.{is_plain};
+    ghost use Rattle.bx_message.specs.Stored.{stored_bytes};
 
     ghost Value = { List ℕ };
 
-    ghost view = { λ t. arc_str_bytes t.text };
+    ghost view = { λ t. stored_bytes t.stored };
 
-    ghost invariant = { λ t. t.plain ≡ list_all is_plain (arc_str_bytes t.text) };
+    ghost invariant = { λ t. t.plain ≡ list_all is_plain (stored_bytes t.stored) };
 }
 
 impl Text {
@@ -36,7 +45,18 @@ impl Text {
     {
         let plain = needs_no_escape(text);
         let text = ArcStr::from_str(alloc, text)?;
-        Ok(Text { text, plain })
+        let stored = Stored::Shared(text);
+        Ok(Text { stored, plain })
+    }
+
+    /// A text of the program, which takes no memory.
+    pub fn fixed(text: &'static str) -> Text
+        ensures { result ≡ text.now }
+    {
+        Text {
+            stored: Stored::Fixed(text),
+            plain: needs_no_escape(text),
+        }
     }
 
     /// The text that `text` has, without a copy.
@@ -45,14 +65,18 @@ impl Text {
     {
         let plain = needs_no_escape(text.as_str());
         let text = ArcStr::from_string(text)?;
-        Ok(Text { text, plain })
+        let stored = Stored::Shared(text);
+        Ok(Text { stored, plain })
     }
 
     /// The text itself.
     pub fn as_str(&self) -> &str
         ensures { result.now ≡ self.now }
     {
-        self.text.as_str()
+        match &self.stored {
+            Stored::Shared(text) => text.as_str(),
+            Stored::Fixed(text) => *text,
+        }
     }
 
     // Whether JSON writes the text as it is.
@@ -76,9 +100,12 @@ impl Clone for Text {
     ghost is_clone = { λ old copy. copy ≡ old };
 
     fn clone(&self) -> Result<Text, AllocError> {
-        let text = self.text.clone()?;
+        let stored = match &self.stored {
+            Stored::Shared(text) => Stored::Shared(text.clone()?),
+            Stored::Fixed(text) => Stored::Fixed(*text),
+        };
         Ok(Text {
-            text,
+            stored,
             plain: self.plain,
         })
     }

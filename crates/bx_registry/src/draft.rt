@@ -23,7 +23,7 @@ pub(crate) struct Sender<'m> {
 #[derive(Drop)]
 pub(crate) struct Draft<'a> {
     table: &'a Table,
-    edits: Vec<Edit>,
+    edits: Sequence<Edit>,
     count: usize,
     opened: u64,
 }
@@ -33,9 +33,9 @@ impl<'a> Model for Draft<'a> {
 
     ghost Value = { Drafted };
 
-    ghost view = { λ d. record { base = d.table.now; edits = d.edits.items } };
+    ghost view = { λ d. record { base = d.table.now; edits = d.edits } };
 
-    ghost invariant = { λ d. IsDrafted d.table.now d.edits.items d.count d.opened };
+    ghost invariant = { λ d. IsDrafted d.table.now d.edits d.count d.opened };
 }
 
 impl<'a> Draft<'a> {
@@ -46,7 +46,7 @@ impl<'a> Draft<'a> {
         let (count, opened) = table.counts();
         Draft {
             table,
-            edits: Vec::new(alloc),
+            edits: Sequence::new(alloc),
             count,
             opened,
         }
@@ -136,7 +136,7 @@ impl<'a> Draft<'a> {
         ensures can { CanEditEach self.entry.base self.entry.edits }
     {
         let Draft { edits, .. } = self;
-        Sequence::from_vec(edits)
+        edits
     }
 }
 

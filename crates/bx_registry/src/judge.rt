@@ -10,7 +10,6 @@ ghost use Rattle.bx_advice.specs.declared.advice.Outcome.TheVariants as advice;
 ghost use Rattle.bx_advice.specs.Limits.{greatest_moment};
 ghost use Rattle.bx_message.specs.declared.reply.AckReply.TheVariants as replies;
 ghost use Rattle.bx_message.specs.declared.message_kind.MessageKind.TheVariants as message_kinds;
-ghost use Rattle.bx_message.specs.MessageKinds.{message_kind_of};
 ghost use Rattle.bx_message.specs.Replies.{reply_to};
 ghost use Rattle.bx_entry.specs.declared.entry.EntryKind.TheVariants as entries;
 ghost use Rattle.bx_entry.specs.Registry.{Registered, acked_by, client_id, event_of, hold_of, is_ack, kind_for, patterns_of, slot_for};
@@ -60,14 +59,13 @@ pub(crate) fn judge(
     ensures { IfOk result (λ j. IsVerdict (members_of draft.now) place
         (verdict config.now (members_of draft.now) moment (posted_of posted.entry)) j.edit j.kind j.slot) }
 {
-    let message_kind = MessageKind::of(posted.message.channel.as_str());
-    let sender = draft.named_by(message_kind, posted.message);
+    let sender = draft.named_by(posted.message_kind, posted.message);
     let (live, opened) = draft.counts();
-    match refusal(config, live, sender.is_some(), message_kind, posted) {
-        Some(error) => refuse(config, message_kind, posted.message, &sender, error),
+    match refusal(config, live, sender.is_some(), posted) {
+        Some(error) => refuse(config, posted.message_kind, posted.message, &sender, error),
         None => match &sender {
             None => open(alloc, config, moment, opened + 1, posted),
-            Some(sender) => serve(alloc, config, message_kind, moment, place, posted, sender),
+            Some(sender) => serve(alloc, config, moment, place, posted, sender),
         },
     }
 }
@@ -108,23 +106,22 @@ fn refuse(
 fn serve(
     alloc: Global,
     config: &Config,
-    message_kind: MessageKind,
     moment: u64,
     place: u64,
     posted: Posted<'_>,
     sender: &Sender<'_>,
 ) -> Result<Judgement, AllocError>
-    requires message_kind { message_kind ≡ message_kind_of posted.message.now.channel }
-    requires readable { AreReadable message_kind posted.message.now }
+    requires readable { AreReadable posted.message_kind posted.message.now }
     requires moment { moment ≤ greatest_moment }
-    ensures edit { IfOk result (λ j. j.edit ≡ Some (edit_for message_kind sender.now.number
+    ensures edit { IfOk result (λ j. j.edit ≡ Some (edit_for posted.entry.message_kind sender.now.number
         (moment + hold_of config.now (posted_of posted.entry) + config.now.max_interval))) }
     ensures kind { IfOk result (λ j. j.kind
-        ≡ kind_for message_kind (posted_of posted.entry) (named sender.now) (hold_of config.now (posted_of posted.entry))) }
+        ≡ kind_for posted.entry.message_kind (posted_of posted.entry) (named sender.now) (hold_of config.now (posted_of posted.entry))) }
     ensures slot { IfOk result (λ j. planned_at place
-        (slot_for config.now message_kind (posted_of posted.entry) (named sender.now)) ≡ Some j.slot) }
+        (slot_for config.now posted.entry.message_kind (posted_of posted.entry) (named sender.now)) ≡ Some j.slot) }
 {
-    let hold = hold_of(config, message_kind, posted);
+    let message_kind = posted.message_kind;
+    let hold = hold_of(config, posted);
     let due = due_after(config, moment, hold);
     Ok(Judgement {
         edit: Some(edit_for(message_kind, sender.number, due)),
@@ -277,12 +274,11 @@ fn is_ack(ack: AckMember) -> bool
 }
 
 // How long a connect may be held: only a request's sole message is.
-fn hold_of(config: &Config, message_kind: MessageKind, posted: Posted<'_>) -> u64
-    requires { message_kind ≡ message_kind_of posted.message.now.channel }
+fn hold_of(config: &Config, posted: Posted<'_>) -> u64
     ensures hold { result ≡ hold_of config.now (posted_of posted.entry) }
     ensures small { result < 2 ^ 32 }
 {
-    match message_kind {
+    match posted.message_kind {
         MessageKind::Connect if posted.sole => {
             let timeout = u64::from(config.timeout);
             timeout.min(posted.message.timeout.unwrap_or(timeout))

@@ -1,7 +1,8 @@
 //! The messages of a request, one after another.
 ghost use Rattle.std.specs.Prelude.{◌≡◌, ◌+◌, ◌<◌, ◌≤◌, ◌&&◌, ◌==◌, max, Some, List, length, IfOk};
 ghost use Rattle.bx_advice.specs.Limits.{greatest_length, greatest_moment};
-ghost use Rattle.bx_message.specs.MessageKinds.{is_handshake};
+ghost use Rattle.bx_message.specs.MessageKinds.{is_handshake, message_kind_of};
+ghost use Rattle.bx_message.specs.declared.message.Message.{Message};
 ghost use Rattle.bx_entry.specs.Listing.{request};
 ghost use Rattle.bx_entry.specs.declared.entry.Entry.{Entry};
 ghost use Rattle.bx_registry.specs.Rolls.{Roll, after, found, verdict};
@@ -16,7 +17,7 @@ use crate::plan::Planned;
 use crate::posted::Posted;
 use bx_advice::Config;
 use bx_entry::Entry;
-use bx_message::{Message, Sequence};
+use bx_message::{Message, MessageKind, Sequence};
 use std::alloc::{AllocError, AllocFailed, Global};
 
 /// What the messages of a request come to.
@@ -64,13 +65,11 @@ pub(crate) fn plan_all(
     let sole = messages.len() == 1;
     for message in messages {
         now = now.max(start.moment);
-        let handshake = is_handshake(message);
-        let second = seen & handshake;
-        let posted = posted_at(start, message, sole, second);
+        let posted = posted_at(start, message, sole, seen);
         let (entry, slot) = plan_next(alloc, config, draft, now, place, posted)?;
         entries.push(entry)?;
         slots.push(slot)?;
-        seen |= handshake;
+        seen |= is_handshake(posted.message_kind);
         place += 1;
     }
     Ok(Planning {
@@ -80,29 +79,33 @@ pub(crate) fn plan_all(
     })
 }
 
-// A message of the request that starts there.
-fn posted_at(start: Start, message: &Message, sole: bool, second: bool) -> Posted<'_>
+// A message of the request that starts there, of which it is said whether a handshake was seen.
+fn posted_at(start: Start, message: &Message, sole: bool, seen: bool) -> Posted<'_>
     ensures { posted_of result ≡ record {
       message = message.now;
       moment = start.moment;
       nonce = start.nonce;
       sole = sole;
-      second = second;
+      second = seen && is_handshake message.now;
     } }
 {
+    let message_kind = MessageKind::of(message.channel.as_str());
     Posted {
         message,
+        message_kind,
         moment: start.moment,
         nonce: start.nonce,
         sole,
-        second,
+        second: seen & is_handshake(message_kind),
     }
 }
 
-fn is_handshake(message: &Message) -> bool
-    ensures { result ≡ is_handshake message.now }
+// Whether a message of this kind asks for a new session.
+fn is_handshake(message_kind: MessageKind) -> bool
+    ensures { (message : Message) → message_kind ≡ message_kind_of message.channel
+        → result ≡ is_handshake message }
 {
-    message.channel.as_str() == "/meta/handshake"
+    matches!(message_kind, MessageKind::Handshake)
 }
 
 // Judges the message at this place, and takes down what it changes.

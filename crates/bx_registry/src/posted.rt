@@ -1,10 +1,15 @@
 //! A message as it stands in the list.
-use bx_message::Message;
+ghost use Rattle.std.specs.Prelude.{◌≡◌};
+ghost use Rattle.bx_message.specs.MessageKinds.{message_kind_of};
+
+use bx_message::{Message, MessageKind};
 
 /// A message with what was handed in with its request.
 #[derive(Clone, Copy)]
 pub(crate) struct Posted<'a> {
     pub(crate) message: &'a Message,
+    /// What it is for, by its channel.
+    pub(crate) message_kind: MessageKind,
     /// The request's moment, in milliseconds.
     pub(crate) moment: u64,
     pub(crate) nonce: u128,
@@ -12,4 +17,5 @@ pub(crate) struct Posted<'a> {
     pub(crate) sole: bool,
     /// Whether it is a handshake behind another one of its request.
     pub(crate) second: bool,
+    pub(crate) ghost by_channel: { message_kind ≡ message_kind_of message.now.channel },
 }

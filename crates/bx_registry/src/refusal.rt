@@ -3,7 +3,6 @@ ghost use Rattle.std.specs.Prelude.{◌≡◌, List, None, length, nat_lt, nat_l
 ghost use Rattle.std.specs.List.{list_any};
 ghost use Rattle.bx_names.specs.Faults.{name_fault, pattern_fault};
 ghost use Rattle.bx_names.specs.Kinds.{is_meta};
-ghost use Rattle.bx_message.specs.MessageKinds.{message_kind_of};
 ghost use Rattle.bx_entry.specs.Registry.{Registered, count_live, is_connection, is_polling, is_text, is_version, named_by, refusal};
 ghost use Rattle.bx_registry.specs.Judgements.{AreReadable};
 ghost use Rattle.bx_registry.specs.Postings.{posted_of};
@@ -13,23 +12,21 @@ use bx_advice::{Config, Error};
 use bx_message::{Message, MessageKind, Text, TextMember};
 use bx_names::{ChannelKind, kind_of, name_fault, pattern_fault};
 
-/// Why a message of this kind is refused, where so many sessions are live, and it is `known` whether it names one
+/// Why a message is refused, where so many sessions are live, and it is `known` whether it names one
 /// of them: the first line that holds. They stand in the order of the errors.
 pub(crate) fn refusal(
     config: &Config,
     live: usize,
     known: bool,
-    message_kind: MessageKind,
     posted: Posted<'_>,
 ) -> Option<Error>
-    requires { message_kind ≡ message_kind_of posted.message.now.channel }
     ensures table { (sessions : List Registered) → live ≡ count_live sessions
-        → known ≡ is_some (named_by sessions message_kind posted.entry.message.now)
+        → known ≡ is_some (named_by sessions posted.entry.message_kind posted.entry.message.now)
         → result ≡ refusal config.now sessions (posted_of posted.entry) }
-    ensures readable { result ≡ None → AreReadable message_kind posted.entry.message.now }
+    ensures readable { result ≡ None → AreReadable posted.entry.message_kind posted.entry.message.now }
 {
     let message = posted.message;
-    match message_kind {
+    match posted.message_kind {
         MessageKind::UnknownMeta => Some(Error::UnknownMetaChannel),
         MessageKind::Handshake if posted.second => Some(Error::SecondHandshake),
         MessageKind::Handshake if !is_version(&message.version) => Some(Error::UnsupportedVersion),

@@ -2,6 +2,5 @@ pub mod Keeping
 pub mod Cuts
 pub mod Parts
 pub mod Says
-pub mod Digits
 pub mod Script
 pub mod Fronts

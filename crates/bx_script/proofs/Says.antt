@@ -14,11 +14,14 @@ use Rattle.bx_message.specs.Fields.{number_of, is_digits}
 use Rattle.bx_script.specs.Replay.{is_space, Refused, body_taken, query_taken, Line, Bad, Accepted, command, line_by, line_of, resharded_by, handed_by}
 use Rattle.bx_script.specs.Kept.{without_zeros, kept_with, keep_byte}
 use Rattle.bx_script.specs.declared.kept.TheConstants.{KEPT_LIMIT}
-use Rattle.bx_script.proofs.Digits.{value_grows}
 use Rattle.bx_script.proofs.Keeping.{keeps_room, keeps_behind_zero, strips, IsStripped}
 use Rattle.bx_script.proofs.Cuts.{Lacks, lacks_taken, after_all, before_it, after_it, before_past, after_past, Parted, parted}
 
 -- ---- many digits
+
+value_grows : (n : ℕ) (ds : List ℕ) → n ≤ digits_value_after 10 n ds
+value_grows n [] = omega arith
+value_grows n (d ∷ ds) = omega (arith, value_grows (n * 10 + digit_value d) ds)
 
 -- n, with so many zeros behind it
 abbrev with_zeros : ℕ → ℕ → ℕ

@@ -1,4 +1,3 @@
-pub mod Digits
 pub mod Kept
 pub mod Lines
 pub mod Output

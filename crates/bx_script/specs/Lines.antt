@@ -1,8 +1,9 @@
 -- What a line says, and what is left of a script's reading.
-use Rattle.std.specs.Prelude.{ℕ, ◌≡◌, ◌≤◌, ⊤, List, [], ◌∷◌, Option, Some, None, string_bytes, option_map}
+use Rattle.std.specs.Prelude.{ℕ, ◌≡◌, List, [], ◌∷◌, Option, Some, None, string_bytes, option_map}
 use Rattle.bx_script.specs.Replay.{line_of, lines_of}
 use Rattle.bx_script.specs.Replay as replay
 use Rattle.bx_entry.specs.Requests.{read_input}
+use Rattle.bx_message.specs.Statuses.{code_of}
 use Rattle.bx_script.specs.Reading.{first_of, rest_of}
 use Rattle.bx_script.specs.Reads.{HasEnded, IsReadFault}
 use Rattle.bx_script.specs.declared.error.ScriptFault.{ScriptFault}
@@ -13,16 +14,9 @@ use Rattle.bx_script.specs.declared.lines.Lines.{Lines}
 -- what a line is read as, in the words of the replay
 abbrev pub said_by : Line → replay.Line
 said_by Bad = replay.Bad
-said_by (Rejected status) = replay.Rejected status
+said_by (Rejected status) = replay.Rejected (code_of status)
 said_by (Accepted callback input) = replay.Accepted (option_map string_bytes callback) (read_input input)
 said_by (Resharded shards) = replay.Resharded shards
-
--- a number of shards is 1 to 64
-abbrev pub InRange : Line → Type 0
-InRange Bad = ⊤
-InRange (Rejected status) = ⊤
-InRange (Accepted callback input) = ⊤
-InRange (Resharded shards) = (1 ≤ shards) × (shards ≤ 64)
 
 -- what is left of the script
 abbrev pub unread : {R : Type 0} → (R → Option (List ℕ)) → Lines R → Option (List ℕ)

@@ -6,14 +6,15 @@ use Rattle.bx_advice.specs.declared.config.Config.{Config}
 use Rattle.bx_advice.specs.declared.config.TheConstants.{BODY_LIMIT}
 use Rattle.bx_message.specs.declared.reply.Item.{Item}
 use Rattle.bx_message.specs.Fields.{number_of}
+use Rattle.bx_message.specs.Statuses.{code_of}
 use Rattle.bx_message.specs.Texts.{body_text, callback_text}
 use Rattle.bx_entry.specs.declared.input.Refusal.{Refusal}
-use Rattle.bx_entry.specs.declared.input.Refusal.TheVariants.{Body, BadMoment, Ended}
 use Rattle.bx_entry.specs.Inputs.{ReadInput, Request, Unread, Tick}
 use Rattle.bx_entry.specs.Requests.{request_messages, read_by}
+use Rattle.bx_entry.specs.Statuses.{refusal_status}
 use Rattle.bx_entry.specs.Runs.{Out, Whole, wholes, whole_at, held}
 use Rattle.bx_transport.specs.declared.error.TransportError.{TransportError}
-use Rattle.bx_transport.specs.declared.error.TransportError.TheVariants.{TooLarge, BadName, NoMessage, Memory}
+use Rattle.bx_transport.specs.Statuses.{transport_status}
 use Rattle.bx_transport.specs.Transports.{get_taken, post_taken}
 
 -- ---- lines
@@ -41,17 +42,14 @@ pub data Taken : Type 0 where
   Refused : (status : ℕ) → Taken
   Documents : (callback : Option (List ℕ)) → (documents : List (List ℕ)) → Taken
 
--- the status of what a transport doesn't take
-abbrev pub status_of : TransportError → ℕ
-status_of TooLarge = 413
-status_of BadName = 400
-status_of NoMessage = 400
-status_of Memory = 400
+-- what a transport doesn't take is refused with the number of its status
+abbrev pub not_taken : TransportError → Taken
+not_taken error = Refused (code_of (transport_status error))
 
 -- the documents of a body, which name no callback
 abbrev pub body_by : Result (List (List ℕ)) TransportError → Taken
 body_by (Ok documents) = Documents None documents
-body_by (Err error) = Refused (status_of error)
+body_by (Err error) = not_taken error
 
 -- how a body is taken: as that of a POST of no content type
 abbrev pub body_taken : List ℕ → Taken
@@ -60,7 +58,7 @@ body_taken body = body_by (post_taken None body)
 -- the documents of a query with the name of its callback
 abbrev pub query_by : Result (List ℕ × List (List ℕ)) TransportError → Taken
 query_by (Ok query) = Documents (Some query.0) query.1
-query_by (Err error) = Refused (status_of error)
+query_by (Err error) = not_taken error
 
 -- how a query is taken: as that of a GET
 abbrev pub query_taken : List ℕ → Taken
@@ -125,11 +123,6 @@ inputs_from number (Resharded shards ∷ ls) = inputs_from (number + 1) ls
 abbrev pub line_text : ℕ → List ℕ → List ℕ
 line_text number text = decimal number ++ (32 ∷ (text ++ 10 ∷ []))
 
-abbrev pub refusal_status : Refusal → ℕ
-refusal_status (Body fault) = 400
-refusal_status BadMoment = 400
-refusal_status Ended = 503
-
 -- a response's body: the array, or the callback that gets it
 abbrev pub response_text : Option (List ℕ) → List Item → List ℕ
 response_text None items = body_text items
@@ -137,7 +130,7 @@ response_text (Some name) items = callback_text name items
 
 -- what an input prints once it is whole; a tick that is taken prints nothing, and no request is taken that can't be read
 abbrev pub result_text : Numbered → ReadInput → Result (List Item) Refusal → List ℕ
-result_text n input (Err refusal) = line_text n.line (decimal (refusal_status refusal))
+result_text n input (Err refusal) = line_text n.line (decimal (code_of (refusal_status refusal)))
 result_text n (Request moment nonce ms) (Ok items) = line_text n.line (codes "200 " ++ response_text n.callback items)
 result_text n (Unread fault) (Ok items) = line_text n.line (codes "200 " ++ response_text n.callback items)
 result_text n (Tick moment) (Ok items) = []

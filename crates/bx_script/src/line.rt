@@ -2,13 +2,15 @@
 ghost use Rattle.std.specs.Prelude.{◌≡◌, ◌≢◌, IfOk, OnOk, option_map, position, string_bytes};
 ghost use Rattle.std.specs.List.{after_first, before_first};
 ghost use Rattle.bx_cut.specs.Bodies.{texts_of};
-ghost use Rattle.bx_script.specs.Replay.{Documents, Rejected, body_taken, command, handed_by, is_space, line_of, query_taken, resharded_by, reshards, status_of};
-ghost use Rattle.bx_script.specs.Lines.{InRange, said_by};
+ghost use Rattle.bx_message.specs.Statuses.{code_of};
+ghost use Rattle.bx_transport.specs.Statuses.{transport_status};
+ghost use Rattle.bx_script.specs.Replay.{Documents, Rejected, body_taken, command, handed_by, is_space, line_of, query_taken, resharded_by, reshards};
+ghost use Rattle.bx_script.specs.Lines.{said_by};
 
-use crate::number::number_of;
-use bx_advice::{BODY_LIMIT, MAX_SHARDS};
+use bx_advice::{BODY_LIMIT, ShardCount};
 use bx_cut::Bodies;
 use bx_entry::{Arrival, Input};
+use bx_message::{Status, number_of};
 use bx_transport::{TransportError, read_get, read_post};
 use std::alloc::{AllocError, Global};
 
@@ -19,16 +21,16 @@ pub enum Line {
     Bad,
     /// Its body or its query is not taken, with this status.
     Rejected {
-        status: u16,
+        status: Status,
     },
     /// A request, with the name of the callback that it asks for, or a tick.
     Accepted {
         callback: Option<String>,
         input: Input,
     },
-    /// From here on there are so many shards, 1 to 64.
+    /// From here on there are so many shards.
     Resharded {
-        shards: usize,
+        shards: ShardCount,
     },
 }
 
@@ -37,7 +39,6 @@ impl Line {
     /// space and a query, or `S` with a space and a number of shards. A body is copied once.
     pub fn read(alloc: Global, text: &[u8]) -> Result<Line, AllocError>
         ensures said { IfOk result (λ line. said_by line ≡ line_of text.now) }
-        ensures shards { IfOk result InRange }
     {
         let (digits, rest) = cut_at_space(text);
         match number_of(digits) {
@@ -91,7 +92,7 @@ fn read_command(alloc: Global, moment: u64, rest: &[u8]) -> Result<Line, AllocEr
 fn read_body(alloc: Global, moment: u64, body: &[u8]) -> Result<Line, AllocError>
     ensures { IfOk result (λ line. said_by line ≡ handed_by moment (body_taken body.now)) }
 {
-    match read_post(alloc, None, body) {
+    match read_post(alloc, None, Vec::from_slice(alloc, body)?) {
         Ok(bodies) => Ok(request(moment, None, bodies)),
         Err(error) => turned(error),
     }
@@ -109,13 +110,14 @@ fn read_query(alloc: Global, moment: u64, query: &[u8]) -> Result<Line, AllocErr
 
 // What a line comes to whose body or query is not taken for this.
 fn turned(error: TransportError) -> Result<Line, AllocError>
-    ensures status { IfOk result (λ line. said_by line ≡ Rejected (status_of error)) }
+    ensures status { IfOk result (λ line. said_by line ≡ Rejected (code_of (transport_status error))) }
     ensures reason { OnOk result (error ≢ TransportError.Memory) }
 {
     match error {
         TransportError::Memory => Err(AllocError),
-        TransportError::TooLarge => Ok(Line::Rejected { status: 413 }),
-        TransportError::BadName | TransportError::NoMessage => Ok(Line::Rejected { status: 400 }),
+        _ => Ok(Line::Rejected {
+            status: error.status(),
+        }),
     }
 }
 
@@ -148,11 +150,8 @@ fn read_shards(digits: &[u8]) -> Line
 fn shards_of(number: u64) -> Line
     ensures { said_by result ≡ reshards (Some number) }
 {
-    if number > 0 && number <= MAX_SHARDS as u64 {
-        Line::Resharded {
-            shards: number as usize,
-        }
-    } else {
-        Line::Bad
+    match ShardCount::new(number as usize) {
+        Some(shards) => Line::Resharded { shards },
+        None => Line::Bad,
     }
 }

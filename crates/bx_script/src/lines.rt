@@ -1,6 +1,6 @@
 //! The lines of a script, one after another.
 ghost use Rattle.std.specs.Prelude.{◌≡◌, ◌<◌, ◌^◌, IfErr, IfOk, IfSome, OnOk};
-ghost use Rattle.bx_script.specs.Lines.{CannotRead, InRange, IsFault, IsNext, reads_left, unread};
+ghost use Rattle.bx_script.specs.Lines.{CannotRead, IsFault, IsNext, reads_left, unread};
 
 use crate::error::ScriptFault;
 use crate::line::Line;
@@ -36,7 +36,6 @@ impl<R: BufRead> Lines<R> {
     pub fn next_line(&mut self, alloc: Global) -> Result<Option<Line>, ScriptFault>
         ensures next { IfOk result (λ next. IfSome (unread R.remaining self.old)
             (λ script. IsNext next script (unread R.remaining self.new))) }
-        ensures shards { IfOk result (λ next. IfSome next InRange) }
         ensures reads { OnOk result (reads_left self.new < reads_left self.old) }
         ensures fault { IfErr result (IsFault self.new) }
     {

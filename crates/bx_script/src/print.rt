@@ -2,14 +2,15 @@
 //! or, where a response is written, where memory was refused.
 ghost use Rattle.std.specs.Prelude.{◌≡◌, ◌≢◌, ◌++◌, IfErr, IfOk, OnErr, codes, decimal, option_map, string_bytes};
 ghost use Rattle.bx_entry.specs.Inputs.{ReadInput};
-ghost use Rattle.bx_script.specs.Replay.{line_text, refusal_status, response_text, result_text};
+ghost use Rattle.bx_message.specs.Statuses.{code_of};
+ghost use Rattle.bx_script.specs.Replay.{line_text, response_text, result_text};
 ghost use Rattle.bx_script.specs.Output.{HasFailed, IsWriteFault, written};
 ghost use Rattle.bx_script.specs.Printing.{Writes, is_tick, numbered};
 
 use crate::error::ScriptFault;
 use crate::output::Output;
 use bx_entry::Refusal;
-use bx_message::{Item, Sequence};
+use bx_message::{Item, Sequence, Status};
 use bx_transport::{callback_of, response_of};
 use itoa::Buffer;
 use std::alloc::{AllocError, Global};
@@ -39,15 +40,15 @@ pub fn write_held<W: Write>(writer: &mut Output<W>, number: u64) -> Result<(), S
 pub fn write_status<W: Write>(
     writer: &mut Output<W>,
     number: u64,
-    status: u16,
+    status: Status,
 ) -> Result<(), ScriptFault>
     ensures text { Writes (written W.contents writer.old) (written W.contents writer.new) result
-        (line_text number (decimal status)) }
+        (line_text number (decimal (code_of status))) }
     ensures fault { IfErr result (λ e. e ≢ ScriptFault.Read) }
     ensures failed { OnErr result (HasFailed writer.new) }
 {
     let mut buffer = Buffer::new();
-    write_line(writer, number, b"", buffer.format(status).as_bytes())
+    write_line(writer, number, b"", buffer.format(status.code()).as_bytes())
 }
 
 /// Writes what the input in the line of this number comes to: the status of its refusal, or 200 and the response, an
@@ -66,7 +67,7 @@ pub fn write_result<W: Write>(
     ensures fault { IfErr result (IsWriteFault writer.new) }
 {
     match answer {
-        Err(refusal) => write_status(writer, number, status_of(*refusal)),
+        Err(refusal) => write_status(writer, number, refusal.status()),
         Ok(_) if tick => Ok(()),
         Ok(items) => write_response(alloc, writer, number, callback, items.as_slice()),
     }
@@ -95,16 +96,6 @@ fn body_of(alloc: Global, callback: &Option<String>, items: &[Item]) -> Result<V
     match callback {
         Some(name) => callback_of(alloc, name.as_str(), items),
         None => response_of(alloc, items),
-    }
-}
-
-// (This server's choice.)
-fn status_of(refusal: Refusal) -> u16
-    ensures { result ≡ refusal_status refusal }
-{
-    match refusal {
-        Refusal::Body(_) | Refusal::BadMoment => 400,
-        Refusal::Ended => 503,
     }
 }
 

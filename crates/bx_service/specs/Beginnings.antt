@@ -10,7 +10,7 @@ use Rattle.bx_service.specs.declared.exchange.State.{State}
 use Rattle.bx_service.specs.declared.exchange.State.TheVariants.{Collecting, Asked, Held, Refused}
 use Rattle.bx_service.specs.declared.route.Route.{Route}
 use Rattle.bx_service.specs.declared.route.Route.TheVariants as routes
-use Rattle.bx_service.specs.declared.status.Status.TheVariants.{TooLarge, Unavailable}
+use Rattle.bx_message.specs.declared.status.Status.TheVariants.{TooLarge, Unavailable}
 use Rattle.bx_service.specs.Statuses.{route_of}
 
 -- what the fields say of the body

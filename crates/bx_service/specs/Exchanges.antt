@@ -15,10 +15,11 @@ use Rattle.bx_transport.specs.declared.error.TransportError.{TransportError}
 use Rattle.bx_service.specs.declared.backend.Unanswered.{Unanswered}
 use Rattle.bx_service.specs.declared.exchange.State.{State}
 use Rattle.bx_service.specs.declared.exchange.State.TheVariants.{Collecting, Asked, Held, Refused}
-use Rattle.bx_service.specs.declared.status.Status.{Status}
-use Rattle.bx_service.specs.declared.status.Status.TheVariants.{Unavailable}
+use Rattle.bx_message.specs.declared.status.Status.{Status}
+use Rattle.bx_message.specs.declared.status.Status.TheVariants.{Unavailable}
 use Rattle.bx_service.specs.Responses.{IsAnswer, IsRefusal}
-use Rattle.bx_service.specs.Statuses.{body_status, transport_status}
+use Rattle.bx_transport.specs.Statuses.{transport_status}
+use Rattle.bx_service.specs.Statuses.{body_status}
 
 -- a response as it is sent
 abbrev pub Sent : Type 0

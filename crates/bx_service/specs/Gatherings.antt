@@ -17,7 +17,7 @@ use Rattle.bx_message.specs.declared.reply.Item.TheVariants.{EventItem, ReplyIte
 use Rattle.bx_shard.specs.Shards.{Setup}
 use Rattle.bx_window.specs.declared.law.Step.{Step}
 use Rattle.bx_service.specs.Statuses.{post_status}
-use Rattle.bx_service.specs.declared.status.Status.{Status}
+use Rattle.bx_message.specs.declared.status.Status.{Status}
 
 -- a connect that waits stands below this place
 abbrev pub IsBelow : ℕ → Slot → Type 0

@@ -7,9 +7,9 @@ use Rattle.http_header.specs.FieldValue.{FieldValue, plain_value}
 use Rattle.http_header.specs.HeaderMap.{Entries, insert}
 use Rattle.bx_message.specs.Texts.{body_text, callback_text}
 use Rattle.bx_message.specs.declared.reply.Item.{Item}
-use Rattle.bx_service.specs.declared.status.Status.{Status}
-use Rattle.bx_service.specs.declared.status.Status.TheVariants.{Ok, BadRequest, NotFound, MethodNotAllowed, TooLarge, Unavailable}
-use Rattle.bx_service.specs.Statuses.{number_of}
+use Rattle.bx_message.specs.declared.status.Status.{Status}
+use Rattle.bx_message.specs.declared.status.Status.TheVariants.{Ok, BadRequest, NotFound, MethodNotAllowed, TooLarge, Unavailable}
+use Rattle.bx_message.specs.Statuses.{code_of}
 
 -- the fields of a response without a body: where the method is not allowed, those that are
 abbrev pub refusal_fields : Status → Entries FieldValue
@@ -22,7 +22,7 @@ refusal_fields Unavailable = []
 
 -- it has this status, and no body
 pub record IsRefusal (status : Status) (response : Response (Full (List ℕ))) : Type 0 where
-  pub number : (head_of response).status ≡ number_of status
+  pub number : (head_of response).status ≡ code_of status
   pub fields : (head_of response).headers ≡ refusal_fields status
   pub empty : (body_of response).buf ≡ None
 

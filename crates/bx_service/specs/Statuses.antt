@@ -4,23 +4,14 @@ use Rattle.std.specs.List.{starts_with}
 use Rattle.std.specs.Str.{bytes_eq}
 use Rattle.bx_body.specs.declared.collect.BodyFault.{BodyFault}
 use Rattle.bx_body.specs.declared.collect.BodyFault.TheVariants as bodies
+use Rattle.bx_entry.specs.Statuses.{refusal_status}
+use Rattle.bx_entry.specs.declared.input.Refusal.TheVariants as refusals
 use Rattle.bx_hub.specs.declared.fault.PostFault.{PostFault}
 use Rattle.bx_hub.specs.declared.fault.PostFault.TheVariants as posts
-use Rattle.bx_transport.specs.declared.error.TransportError.{TransportError}
-use Rattle.bx_transport.specs.declared.error.TransportError.TheVariants as transports
+use Rattle.bx_message.specs.declared.status.Status.{Status}
+use Rattle.bx_message.specs.declared.status.Status.TheVariants.{BadRequest, NotFound, MethodNotAllowed, TooLarge, Unavailable}
 use Rattle.bx_service.specs.declared.route.Route.{Route}
 use Rattle.bx_service.specs.declared.route.Route.TheVariants as routes
-use Rattle.bx_service.specs.declared.status.Status.{Status}
-use Rattle.bx_service.specs.declared.status.Status.TheVariants.{Ok, BadRequest, NotFound, MethodNotAllowed, TooLarge, Unavailable}
-
--- the number of a status
-abbrev pub number_of : Status → ℕ
-number_of Ok = 200
-number_of BadRequest = 400
-number_of NotFound = 404
-number_of MethodNotAllowed = 405
-number_of TooLarge = 413
-number_of Unavailable = 503
 
 -- whether a path is served: `/cometd`, or one below it
 abbrev pub is_served : List ℕ → Bool
@@ -38,19 +29,12 @@ body_status bodies.TooLarge = TooLarge
 body_status bodies.Failed = BadRequest
 body_status bodies.Memory = Unavailable
 
--- of a body or a query that carries no documents
-abbrev pub transport_status : TransportError → Status
-transport_status transports.TooLarge = TooLarge
-transport_status transports.BadName = BadRequest
-transport_status transports.NoMessage = BadRequest
-transport_status transports.Memory = Unavailable
-
--- of what the hub refuses
+-- of what the hub refuses; of what is not admitted that of its refusal
 abbrev pub post_status : PostFault → Status
-post_status (posts.Body fault) = BadRequest
+post_status (posts.Body fault) = refusal_status (refusals.Body fault)
 post_status posts.Closed = Unavailable
-post_status posts.BadMoment = BadRequest
-post_status posts.Ended = Unavailable
+post_status posts.BadMoment = refusal_status refusals.BadMoment
+post_status posts.Ended = refusal_status refusals.Ended
 post_status (posts.Behind first) = Unavailable
 post_status (posts.Overrun shard place) = Unavailable
 post_status posts.Memory = Unavailable

@@ -4,17 +4,17 @@ ghost use Rattle.std.specs.Vec.Iter.{into_iter_items};
 ghost use Rattle.bx_admission.specs.Slots.{placed_by};
 ghost use Rattle.bx_cut.specs.Bodies.{texts_of};
 ghost use Rattle.bx_service.specs.Gatherings.{AreSlotsFor, IsRefusedWith};
-ghost use Rattle.bx_service.specs.declared.status.Status.TheVariants.{Unavailable};
+ghost use Rattle.bx_message.specs.declared.status.Status.TheVariants.{Unavailable};
 ghost use Rattle.bx_cut.specs.declared.bodies.Bodies.{Bodies};
-ghost use Rattle.bx_service.specs.declared.status.Status.{Status};
+ghost use Rattle.bx_message.specs.declared.status.Status.{Status};
 
 use crate::gathering::Gathering;
-use crate::status::Status;
+use crate::status::post_status;
 use bx_cut::Bodies;
 use bx_entry::{Arrival, Placing};
 use bx_held::HeldFault;
 use bx_hub::{Gate, Hub};
-use bx_message::Item;
+use bx_message::{Item, Status};
 use bx_window::Naming;
 use futures::Future;
 use std::alloc::{AllocError, Global};
@@ -119,7 +119,7 @@ where
         let mut pass = self.hub.pass();
         let posted = match self.hub.post(&self.rt, self.alloc, &mut pass, &arrival) {
             Ok(posted) => posted,
-            Err(fault) => return Err(Status::of_post(fault)),
+            Err(fault) => return Err(post_status(fault)),
         };
         match Arc::try_clone(&self.hub) {
             Ok(hub) => Ok(Gathering::new(self.rt, self.alloc, hub, pass, posted.slots)),

@@ -13,11 +13,11 @@ use crate::backend::{Backend, Unanswered};
 use crate::response::{answer, refusal};
 use crate::route::Route;
 use crate::service::ServiceFault;
-use crate::status::Status;
+use crate::status::body_status;
 use bx_advice::BODY_LIMIT;
 use bx_body::{BodyFault, Collect};
 use bx_cut::Bodies;
-use bx_message::Item;
+use bx_message::{Item, Status};
 use bx_transport::{read_get, read_post};
 use bytes::{Buf, Bytes};
 use futures::Future;
@@ -175,11 +175,11 @@ where
 {
     let body = match collected {
         Ok(body) => body,
-        Err(fault) => return State::Refused(Status::of_body(fault)),
+        Err(fault) => return State::Refused(body_status(fault)),
     };
-    match read_post(alloc, content_type, body.as_slice()) {
+    match read_post(alloc, content_type, body) {
         Ok(bodies) => admitted(backend, None, bodies),
-        Err(error) => State::Refused(Status::of_transport(error)),
+        Err(error) => State::Refused(error.status()),
     }
 }
 
@@ -196,7 +196,7 @@ where
 {
     match read_get(alloc, query) {
         Ok((name, bodies)) => admitted(backend, Some(name), bodies),
-        Err(error) => State::Refused(Status::of_transport(error)),
+        Err(error) => State::Refused(error.status()),
     }
 }
 

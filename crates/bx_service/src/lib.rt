@@ -13,4 +13,3 @@ pub use backend::{Backend, Clock, HubBackend, Nonces, Unanswered};
 pub use exchange::Exchange;
 pub use gathering::Gathering;
 pub use service::{BayeuxService, ServiceFault};
-pub use status::Status;

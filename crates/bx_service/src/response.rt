@@ -2,8 +2,8 @@
 ghost use Rattle.std.specs.Prelude.{◌≡◌, IfOk, option_map};
 ghost use Rattle.bx_service.specs.Responses.{IsAnswer, IsRefusal};
 
-use crate::status::Status;
-use bx_message::Item;
+use crate::status::code_of;
+use bx_message::{Item, Status};
 use bx_transport::{callback_of, response_of};
 use bytes::Bytes;
 use http::Response;
@@ -16,7 +16,7 @@ pub(crate) fn refusal(alloc: Global, status: Status) -> Result<Response<Full<Byt
     ensures { IfOk result (IsRefusal status) }
 {
     let mut response = Response::new(alloc, Full::new(Bytes::from_static(b"")));
-    *response.status_mut() = status.code();
+    *response.status_mut() = code_of(status);
     if status == Status::MethodNotAllowed {
         let methods = HeaderValue::from_static("GET, POST");
         if response.headers_mut().insert(ALLOW, methods).is_err() {

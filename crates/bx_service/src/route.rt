@@ -2,7 +2,7 @@
 ghost use Rattle.std.specs.Prelude.{◌≡◌};
 ghost use Rattle.bx_service.specs.Statuses.{is_served, route_of};
 
-use crate::status::Status;
+use bx_message::Status;
 use http::Method;
 
 /// How the documents of a request come.

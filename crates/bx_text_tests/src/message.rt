@@ -259,7 +259,7 @@ fn connected(alloc: Global) -> Result<Item, Fail> {
     let client = Text::new(alloc, "Z1")?;
     let id = RawJson::new(alloc, "12")?;
     let (outcome, ack) = (Outcome::Connected, AckReply::AckNumber(1));
-    let reply = Reply::to_connect(alloc, &config()?, &client, Some(&id), outcome, ack)?;
+    let reply = Reply::to_connect(&config()?, client, Some(id), outcome, ack);
     Ok(Item::ReplyItem(reply))
 }
 

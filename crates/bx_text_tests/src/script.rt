@@ -2,9 +2,9 @@
 use crate::same::same;
 use bx_advice::BODY_LIMIT;
 use bx_entry::{Input, Refusal};
-use bx_message::Sequence;
+use bx_message::{Sequence, Status, number_of};
 use bx_script::{
-    Line, Lines, Output, ScriptFault, number_of, write_bad, write_held, write_result, write_status,
+    Line, Lines, Output, ScriptFault, write_bad, write_held, write_result, write_status,
 };
 use std::alloc::{AllocError, Global};
 use std::io;
@@ -16,8 +16,8 @@ use std::test::Fail;
 fn told(alloc: Global, line: &Line) -> Result<String, AllocError> {
     match line {
         Line::Bad => String::from_str(alloc, "bad"),
-        Line::Rejected { status } => format!(in alloc; "turned {status}"),
-        Line::Resharded { shards } => format!(in alloc; "shards {shards}"),
+        Line::Rejected { status } => format!(in alloc; "turned {}", status.code()),
+        Line::Resharded { shards } => format!(in alloc; "shards {}", shards.get()),
         Line::Accepted { callback, input } => {
             let name = match callback {
                 Some(name) => name.as_str(),
@@ -193,7 +193,7 @@ fn long_lines_say_what_they_say(rt: HostRuntime) -> Result<(), Fail> {
 // Writes what a script's lines are answered, to eight lines.
 fn write_all(alloc: Global, out: &mut Output<&mut Vec<u8>>) -> Result<(), ScriptFault> {
     write_bad(out, 1)?;
-    write_status(out, 2, 413)?;
+    write_status(out, 2, Status::TooLarge)?;
     write_results(alloc, out)?;
     write_held(out, u64::MAX)
 }

@@ -25,7 +25,11 @@ fn listed(alloc: Global, bodies: &Bodies) -> Result<String, AllocError> {
 // What is taken of a body: the documents, or why there are none.
 fn post(alloc: Global, content_type: Option<&str>, body: &str) -> Result<String, TransportError> {
     let content_type = content_type.map(str::as_bytes);
-    let bodies = read_post(alloc, content_type, body.as_bytes())?;
+    let bodies = read_post(
+        alloc,
+        content_type,
+        Vec::from_slice(alloc, body.as_bytes())?,
+    )?;
     Ok(listed(alloc, &bodies)?)
 }
 
@@ -206,7 +210,7 @@ fn connected(alloc: Global) -> Result<Item, Fail> {
     let client = Text::new(alloc, "Z1")?;
     let id = RawJson::new(alloc, "\"\u{2029}\u{2027}\"")?;
     let (outcome, ack) = (Outcome::Connected, AckReply::NoAck);
-    let reply = Reply::to_connect(alloc, &config, &client, Some(&id), outcome, ack)?;
+    let reply = Reply::to_connect(&config, client, Some(id), outcome, ack);
     Ok(Item::ReplyItem(reply))
 }
 

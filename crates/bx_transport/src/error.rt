@@ -1,6 +1,8 @@
 ghost use Rattle.std.specs.Prelude.{◌≡◌};
+ghost use Rattle.bx_transport.specs.Statuses.{transport_status};
 ghost use Rattle.bx_transport.specs.declared.error.TransportError.TheVariants.{Memory};
 
+use bx_message::Status;
 use std::alloc::{AllocError, AllocFailed};
 use std::error::Error;
 use std::fmt;
@@ -16,6 +18,19 @@ pub enum TransportError {
     NoMessage,
     /// An allocation was refused.
     Memory,
+}
+
+impl TransportError {
+    /// The status of a request whose body or query is not taken for this. (This server's choice.)
+    pub fn status(self) -> Status
+        ensures { result ≡ transport_status self }
+    {
+        match self {
+            TransportError::TooLarge => Status::TooLarge,
+            TransportError::BadName | TransportError::NoMessage => Status::BadRequest,
+            TransportError::Memory => Status::Unavailable,
+        }
+    }
 }
 
 impl fmt::Display for TransportError {

@@ -11,26 +11,26 @@ use bx_cut::Bodies;
 use std::alloc::Global;
 
 /// The documents of a POST: those of a form, in the parameters `message`, where the media type before any
-/// parameters is `application/x-www-form-urlencoded` in whatever case; else the body is one. It answers
+/// parameters is `application/x-www-form-urlencoded` in whatever case; else the body itself is one. It answers
 /// `TooLarge`, or `NoMessage` where a form has none. (Bayeux 1.0, long-polling; the media types are this
 /// server's choice.)
 pub fn read_post(
     alloc: Global,
     content_type: Option<&[u8]>,
-    body: &[u8],
+    body: Vec<u8>,
 ) -> Result<Bodies, TransportError>
     ensures ok { IfOk result (λ bodies.
-        post_taken (option_map (λ t. t.now) content_type.entry) body.now ≡ Ok (texts_of bodies)) }
+        post_taken (option_map (λ t. t.now) content_type.entry) body.items ≡ Ok (texts_of bodies)) }
     ensures fault { IfErr result (λ e. e ≢ TransportError.Memory
-        → post_taken (option_map (λ t. t.now) content_type.entry) body.now ≡ Err e) }
+        → post_taken (option_map (λ t. t.now) content_type.entry) body.items ≡ Err e) }
 {
     if body.len() > BODY_LIMIT {
         return Err(TransportError::TooLarge);
     }
     if !is_form(content_type) {
-        return Ok(Bodies::Whole(Vec::from_slice(alloc, body)?));
+        return Ok(Bodies::Whole(body));
     }
-    let Parameters { documents, .. } = read_parameters(alloc, body)?;
+    let Parameters { documents, .. } = read_parameters(alloc, body.as_slice())?;
     if documents.is_empty() {
         return Err(TransportError::NoMessage);
     }

@@ -23,9 +23,9 @@ returns-in-Some c =
     let ms : Members = members_of c.args.draft.now in
     let p : Posted = posted_of c.args.posted in
     let o : Option Sender = c.named_by-sender.result in
-    let col : c.of-message_kind.result ≡ message_kind_of p.message.channel = c.of-message_kind.ensures ∙ ap message_kind_of c.as_str.ensures in
+    let col : c.args.posted.message_kind ≡ message_kind_of p.message.channel = c.args.posted.by_channel in
     let found : IsFound o (named_by ms.live (message_kind_of p.message.channel) p.message) = subst (λ (message_kind : MessageKind). IsFound o (named_by ms.live message_kind p.message)) col c.named_by-sender.ensures in
-    let known : c.is_some.result ≡ is_some (named_by ms.live c.of-message_kind.result p.message) = c.is_some.ensures ∙ found-known o (named_by ms.live c.of-message_kind.result p.message) c.named_by-sender.ensures in
+    let known : c.is_some.result ≡ is_some (named_by ms.live c.args.posted.message_kind p.message) = c.is_some.ensures ∙ found-known o (named_by ms.live c.args.posted.message_kind p.message) c.named_by-sender.ensures in
     let fault = sym (c.in-Some.ensures.table ms.live c.counts-live.ensures.live known) in
     all_three c.refuse.result _ _ _ _ (λ j e f g.
     refused-verdict config ms c.args.moment c.args.place p c.in-Some.error j.edit j.kind j.slot (option_map (λ (s : Sender). s.client.now) o) fault
@@ -39,9 +39,9 @@ returns-in-None-sender c =
     let ms : Members = members_of c.args.draft.now in
     let p : Posted = posted_of c.args.posted in
     let o : Option Sender = c.named_by-sender.result in
-    let col : c.of-message_kind.result ≡ message_kind_of p.message.channel = c.of-message_kind.ensures ∙ ap message_kind_of c.as_str.ensures in
+    let col : c.args.posted.message_kind ≡ message_kind_of p.message.channel = c.args.posted.by_channel in
     let found : IsFound o (named_by ms.live (message_kind_of p.message.channel) p.message) = subst (λ (message_kind : MessageKind). IsFound o (named_by ms.live message_kind p.message)) col c.named_by-sender.ensures in
-    let known : c.is_some.result ≡ is_some (named_by ms.live c.of-message_kind.result p.message) = c.is_some.ensures ∙ found-known o (named_by ms.live c.of-message_kind.result p.message) c.named_by-sender.ensures in
+    let known : c.is_some.result ≡ is_some (named_by ms.live c.args.posted.message_kind p.message) = c.is_some.ensures ∙ found-known o (named_by ms.live c.args.posted.message_kind p.message) c.named_by-sender.ensures in
     let fault = sym (c.in-None.ensures.table ms.live c.counts-live.ensures.live known) in
     let none : named_by ms.live (message_kind_of p.message.channel) p.message ≡ None = subst (λ (s : Option Sender). IsFound s (named_by ms.live (message_kind_of p.message.channel) p.message)) c.in-None-sender.is found in
     all_three c.open.result _ _ _ _ (λ j e f g.
@@ -55,9 +55,9 @@ returns-in-Some-sender c =
     let ms : Members = members_of c.args.draft.now in
     let p : Posted = posted_of c.args.posted in
     let o : Option Sender = c.named_by-sender.result in
-    let col : c.of-message_kind.result ≡ message_kind_of p.message.channel = c.of-message_kind.ensures ∙ ap message_kind_of c.as_str.ensures in
+    let col : c.args.posted.message_kind ≡ message_kind_of p.message.channel = c.args.posted.by_channel in
     let found : IsFound o (named_by ms.live (message_kind_of p.message.channel) p.message) = subst (λ (message_kind : MessageKind). IsFound o (named_by ms.live message_kind p.message)) col c.named_by-sender.ensures in
-    let known : c.is_some.result ≡ is_some (named_by ms.live c.of-message_kind.result p.message) = c.is_some.ensures ∙ found-known o (named_by ms.live c.of-message_kind.result p.message) c.named_by-sender.ensures in
+    let known : c.is_some.result ≡ is_some (named_by ms.live c.args.posted.message_kind p.message) = c.is_some.ensures ∙ found-known o (named_by ms.live c.args.posted.message_kind p.message) c.named_by-sender.ensures in
     let fault = sym (c.in-None.ensures.table ms.live c.counts-live.ensures.live known) in
     let s : Sender = c.in-Some-sender.sender in
     let who = subst (λ (x : Option Sender). IsFound x (named_by ms.live (message_kind_of p.message.channel) p.message)) c.in-Some-sender.is found in

@@ -3,7 +3,7 @@ use Rattle.std.specs.Prelude.{◌&&◌, ◌||◌, ◌==◌, max}
 use Rattle.std.proofs.lemmas.List.{drop_more}
 use Rattle.bx_advice.specs.Limits.{greatest_moment}
 use Rattle.bx_message.specs.declared.message.Message.{Message}
-use Rattle.bx_message.specs.MessageKinds.{is_handshake}
+use Rattle.bx_message.specs.MessageKinds.{is_handshake, message_kind_of}
 use Rattle.bx_entry.specs.Listing.{Listed, Posted, listed_from, request}
 use Rattle.bx_registry.specs.Rolls.{verdict}
 use Rattle.bx_registry.specs.Planners.{IsFoundAt}
@@ -40,10 +40,11 @@ loop-message-preserved c =
     let so : SoFar config (members_of c.args.draft.now) c.args.draft.now.base c.args.start.clock c.args.start.place list (listed_from moment nonce sole seen (x ∷ drop (i + 1) ms)) d now place c.loop-message.entries c.loop-message.slots =
     subst (λ (ys : List Message). SoFar config (members_of c.args.draft.now) c.args.draft.now.base c.args.start.clock c.args.start.place list (listed_from moment nonce sole seen ys) d now place c.loop-message.entries c.loop-message.slots) rest c.loop-message.invariant in
     let found : IsFoundAt place (max now moment) (verdict config (members_of d) (max now moment) p) (members_of c.plan_next.new.draft) c.in_ok-entry.entry c.in_ok-entry.slot =
-    subst (λ (h : Bool). IsFoundAt place (max now moment) (verdict config (members_of d) (max now moment) (record p { second = seen && h })) (members_of c.plan_next.new.draft) c.in_ok-entry.entry c.in_ok-entry.slot) c.is_handshake-handshake.ensures
-    (subst (λ (k : ℕ). IsFoundAt place k (verdict config (members_of d) k (record p { second = seen && c.is_handshake-handshake.result })) (members_of c.plan_next.new.draft) c.in_ok-entry.entry c.in_ok-entry.slot) c.max-now.ensures
-    (subst (λ (q : Posted). IsFoundAt place c.max-now.result (verdict config (members_of d) c.max-now.result q) (members_of c.plan_next.new.draft) c.in_ok-entry.entry c.in_ok-entry.slot) c.posted_at-posted.ensures c.in_ok-entry.ensures.found)) in
+    subst (λ (k : ℕ). IsFoundAt place k (verdict config (members_of d) k p) (members_of c.plan_next.new.draft) c.in_ok-entry.entry c.in_ok-entry.slot) c.max-now.ensures
+    (subst (λ (q : Posted). IsFoundAt place c.max-now.result (verdict config (members_of d) c.max-now.result q) (members_of c.plan_next.new.draft) c.in_ok-entry.entry c.in_ok-entry.slot) c.posted_at-posted.ensures c.in_ok-entry.ensures.found) in
+    let handshake : c.is_handshake-seen.result ≡ is_handshake x =
+    c.is_handshake-seen.ensures x (c.posted_at-posted.result.by_channel ∙ ap (λ (q : Posted). message_kind_of q.message.channel) c.posted_at-posted.ensures) in
     let le : max now moment ≤ greatest_moment = omega (arith, c.loop-message.invariant.moment, c.requires.moment) in
-    rw (c.in_ok-push.ensures.ok, c.in_ok-push-2.ensures.ok, c.is_handshake-handshake.ensures, c.max-now.ensures)
+    rw (c.in_ok-push.ensures.ok, c.in_ok-push-2.ensures.ok, handshake, c.max-now.ensures)
     (one_next config (members_of c.args.draft.now) c.args.draft.now.base c.args.start.clock c.args.start.place list (listed_from moment nonce sole (seen || is_handshake x) (drop (i + 1) ms)) d c.plan_next.new.draft now place
     c.loop-message.entries c.loop-message.slots p c.in_ok-entry.entry c.in_ok-entry.slot so le c.in_ok-entry.ensures.base found)

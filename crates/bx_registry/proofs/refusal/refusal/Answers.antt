@@ -13,7 +13,7 @@ pub returns-in_default-3-2 : goal.returns-in_default-3-2
 returns-in_default-3-2 c =
     let message = c.args.posted.message.now in
     let named : is_some (name_fault message.channel) ≡ false = is_not (is_some (name_fault message.channel)) c.if-not-is_name.ensures in
-    let is : c.args.message_kind ≡ MessageKind.Publish = search rules in
+    let is : c.args.posted.message_kind ≡ MessageKind.Publish = search rules in
     record {
       table = λ sessions live known. search rules;
       readable = λ none. subst (λ (message_kind : MessageKind). AreReadable message_kind message) (sym is) named;

@@ -11,9 +11,9 @@ pub returns : goal.returns
 returns c =
     let n = c.args.number in
     let base : Members = c.self.inside.table.now in
-    let es : List Edit = c.self.inside.edits.items in
+    let es : List Edit = c.self.inside.edits in
     let all = client_at-all n base es c.self.invariant.start c.self.invariant.can in
-    let whole = take_all c.loop-edit.edit-index c.as_slice-edit-items.result.now c.loop-edit-test.false ∙ c.as_slice-edit-items.ensures.value in
+    let whole = take_all c.loop-edit.edit-index c.as_slice-edit-items.result.now c.loop-edit-test.false ∙ c.as_slice-edit-items.ensures in
     c.loop-edit.invariant
     ∙ ap (fold (client_after n) (client_at n c.args.self.now.base.live)) whole
     ∙ ap (λ (d : Drafted). fold (client_after n) (client_at n d.base.live) es) (sym c.self.view_is)

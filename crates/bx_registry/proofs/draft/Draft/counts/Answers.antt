@@ -7,5 +7,5 @@ use Rattle.bx_registry.proofs.draft.Draft.counts.Goals as goal
 
 pub returns-clause-live : goal.returns-clause-live
 returns-clause-live c =
-    let ms = fold edited c.self.inside.table.now c.self.inside.edits.items in
+    let ms = fold edited c.self.inside.table.now c.self.inside.edits in
     c.self.invariant.counted ∙ sym (ap length (live_in-all ms.live c.self.invariant.all)) ∙ ap (λ (d : Drafted). count_live (members_of d).live) c.self.view_is

@@ -11,21 +11,21 @@ use Rattle.bx_registry.proofs.draft.Draft.push.Goals as goal
 pub overflow_add-count : goal.overflow_add-count
 overflow_add-count c =
     let next : IsNext (members_of c.args.self.now) c.in-Open.session = subst (λ (e : Edit). CanEdit (members_of c.args.self.now) e) c.in-Open.is c.requires in
-    let room : length (fold edited c.self.inside.table.now c.self.inside.edits.items).live < (fold edited c.self.inside.table.now c.self.inside.edits.items).limit =
+    let room : length (fold edited c.self.inside.table.now c.self.inside.edits).live < (fold edited c.self.inside.table.now c.self.inside.edits).limit =
     subst (λ (d : Drafted). length (members_of d).live < (members_of d).limit) (sym c.self.view_is) next.room in
-    omega (arith, room, c.self.invariant.counted, c.self.invariant.limit, limit-same c.self.inside.table.now c.self.inside.edits.items)
+    omega (arith, room, c.self.invariant.counted, c.self.invariant.limit, limit-same c.self.inside.table.now c.self.inside.edits)
 
 pub invariant_of-self-2 : goal.invariant_of-self-2
 invariant_of-self-2 c =
     let base : Members = c.self.inside.table.now in
-    let es : List Edit = c.self.inside.edits.items in
+    let es : List Edit = c.self.inside.edits in
     let can : CanEdit (fold edited base es) c.args.edit = subst (λ (d : Drafted). CanEdit (members_of d) c.args.edit) (sym c.self.view_is) c.requires in
-    let items = c.in_ok-push.ensures.items in
-    elim c.match-edit.branch as (λ _. IsDrafted base c.push.new.self.items c.match-edit.count.0 c.match-edit.count.1) [
-      | in-Open w ↦ pushed-open base es c.push.new.self.items c.args.edit w.in-Open.session c.match-edit.count.0 c.match-edit.count.1 c.self.invariant items w.in-Open.is can
+    let items = c.in_ok-push.ensures.ok in
+    elim c.match-edit.branch as (λ _. IsDrafted base c.push.new.self c.match-edit.count.0 c.match-edit.count.1) [
+      | in-Open w ↦ pushed-open base es c.push.new.self c.args.edit w.in-Open.session c.match-edit.count.0 c.match-edit.count.1 c.self.invariant items w.in-Open.is can
           (ap (λ (p : ℕ × ℕ). p.0) w.count-is) (ap (λ (p : ℕ × ℕ). p.1) w.count-is ∙ ap (λ (r : Registered). r.number) w.session.view_is)
-      | in-Extend w ↦ pushed-extend base es c.push.new.self.items c.args.edit w.in-Extend.number w.in-Extend.due c.match-edit.count.0 c.match-edit.count.1 c.self.invariant items w.in-Extend.is
+      | in-Extend w ↦ pushed-extend base es c.push.new.self c.args.edit w.in-Extend.number w.in-Extend.due c.match-edit.count.0 c.match-edit.count.1 c.self.invariant items w.in-Extend.is
           (ap (λ (p : ℕ × ℕ). p.0) w.count-is) (ap (λ (p : ℕ × ℕ). p.1) w.count-is)
-      | in-Close w ↦ pushed-close base es c.push.new.self.items c.args.edit w.in-Close.number c.match-edit.count.0 c.match-edit.count.1 c.self.invariant items w.in-Close.is can
+      | in-Close w ↦ pushed-close base es c.push.new.self c.args.edit w.in-Close.number c.match-edit.count.0 c.match-edit.count.1 c.self.invariant items w.in-Close.is can
           (ap (λ (p : ℕ × ℕ). p.0) w.count-is) (ap (λ (p : ℕ × ℕ). p.1) w.count-is)
     ]
