@@ -2,6 +2,7 @@
 ghost use Rattle.std.specs.Prelude.{◌<◌, IfSome};
 
 use bx_advice::Config;
+use bx_message::number_of;
 use std::net::SocketAddr;
 
 /// How the server is run.
@@ -32,36 +33,32 @@ impl Arguments {
             return None;
         };
         let config = config_of(
-            shards.as_str(),
-            timeout.as_str(),
-            interval.as_str(),
-            max_interval.as_str(),
+            shards.as_bytes(),
+            timeout.as_bytes(),
+            interval.as_bytes(),
+            max_interval.as_bytes(),
         )?;
         Some(Arguments {
             address: address.as_str().parse().ok()?,
             config,
             seed: seed_of(seed.as_str())?,
-            connections: number_of(connections.as_str())?,
+            connections: number_of(connections.as_bytes())?,
         })
     }
 }
 
-fn config_of(shards: &str, timeout: &str, interval: &str, max_interval: &str) -> Option<Config> {
+fn config_of(
+    shards: &[u8],
+    timeout: &[u8],
+    interval: &[u8],
+    max_interval: &[u8],
+) -> Option<Config> {
     Config::new(
         usize::try_from(number_of(shards)?).ok()?,
         u32::try_from(number_of(timeout)?).ok()?,
         u32::try_from(number_of(interval)?).ok()?,
         u32::try_from(number_of(max_interval)?).ok()?,
     )
-}
-
-// A number in decimal digits alone.
-fn number_of(digits: &str) -> Option<u64> {
-    if digits.bytes().all(|byte| byte.is_ascii_digit()) {
-        digits.parse().ok()
-    } else {
-        None
-    }
 }
 
 // 64 hexadecimal digits, the upper one of each byte first.

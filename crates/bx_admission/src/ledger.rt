@@ -11,7 +11,7 @@ ghost use Rattle.bx_admission.specs.Slots.{admitted_slots, placed_by};
 
 use crate::plan::Plan;
 use crate::slots::placed;
-use bx_advice::Config;
+use bx_advice::{Config, ShardCount};
 use bx_entry::{Batch, Placing};
 use bx_listing::Listing;
 use bx_message::{Message, Sequence};
@@ -134,11 +134,10 @@ impl Ledger {
     }
 
     /// Places the sessions among so many shards from here on.
-    pub fn reshard(&mut self, shards: usize)
-        requires some_shard { 1 ≤ shards }
-        requires shards_in_range { shards ≤ 64 }
-        ensures { self.new ≡ record self.old { shards = shards } }
+    pub fn reshard(&mut self, shards: ShardCount)
+        ensures shards { self.new ≡ record self.old { shards = shards } }
+        ensures in_range { (1 ≤ self.new.shards) × (self.new.shards ≤ 64) }
     {
-        self.shards = shards;
+        self.shards = shards.get();
     }
 }

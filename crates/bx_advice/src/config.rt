@@ -1,5 +1,7 @@
 ghost use Rattle.std.specs.Prelude.{◌≤◌};
 
+use std::marker::Model;
+
 /// The most bytes that the body of a request, or its query, may have.
 pub const BODY_LIMIT: usize = 1_048_576;
 
@@ -53,6 +55,48 @@ pub struct Config {
     pub ghost shards_in_range: { shards ≤ 64 },
 }
 
+/// Among how many shards sessions are placed: 1 to [`MAX_SHARDS`]. Contracts see the number.
+#[derive(Clone, Copy, Debug, PartialEq, Eq)]
+pub struct ShardCount {
+    count: usize,
+}
+
+impl Model for ShardCount {
+    ghost use Rattle.std.specs.Prelude.{ℕ, ◌≤◌};
+
+    ghost Value = { ℕ };
+
+    ghost view = { λ s. s.count };
+
+    ghost invariant = { λ s. (1 ≤ s.count) × (s.count ≤ 64) };
+
+    ghost inverse = { λ n. record { count = n } };
+}
+
+impl ShardCount {
+    ghost use Rattle.std.specs.Prelude.{◌≡◌, ◌≤◌, ◌↔◌, IsSome, IfSome};
+
+    /// So many shards; none where they are not 1 to [`MAX_SHARDS`].
+    pub fn new(count: usize) -> Option<ShardCount>
+        ensures valid { IsSome result ↔ ((1 ≤ count) × (count ≤ 64)) }
+        ensures count { IfSome result (λ s. s ≡ count) }
+    {
+        if count < 1 || count > MAX_SHARDS {
+            return None;
+        }
+        Some(ShardCount { count })
+    }
+
+    /// The number.
+    pub fn get(self) -> usize
+        ensures same { result ≡ self }
+        ensures some { 1 ≤ result }
+        ensures in_range { result ≤ 64 }
+    {
+        self.count
+    }
+}
+
 impl Config {
     ghost use Rattle.std.specs.Prelude.{◌≡◌, ◌≤◌, ◌↔◌, IsSome, IfSome};
     ghost use Rattle.bx_advice.specs.Limits.{IsStandard};
@@ -66,11 +110,9 @@ impl Config {
             (c.timeout ≡ timeout) × (c.interval ≡ interval) × (c.max_interval ≡ max_interval)) }
         ensures limits { IfSome result (λ c. IsStandard c.limits) }
     {
-        if shards == 0 || shards > MAX_SHARDS {
-            return None;
-        }
+        let shards = ShardCount::new(shards)?;
         Some(Config {
-            shards,
+            shards: shards.get(),
             timeout,
             interval,
             max_interval,

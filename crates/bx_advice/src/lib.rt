@@ -7,5 +7,7 @@ mod config;
 mod error;
 
 pub use advice::{Advice, Outcome, Reconnect, advice_for};
-pub use config::{BODY_LIMIT, Config, Limits, MAX_LENGTH, MAX_MOMENT, MAX_SHARDS, STANDARD_LIMITS};
+pub use config::{
+    BODY_LIMIT, Config, Limits, MAX_LENGTH, MAX_MOMENT, MAX_SHARDS, STANDARD_LIMITS, ShardCount,
+};
 pub use error::Error;

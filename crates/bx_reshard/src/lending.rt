@@ -7,7 +7,7 @@ ghost use Rattle.bx_reshard.specs.Heirs.{AreAllClean, AreLent, SameConnects, Sam
 ghost use Rattle.bx_shard.specs.Sessions.{patterns_in, kept_in};
 
 use crate::heirs::Heirs;
-use bx_advice::Config;
+use bx_advice::{Config, ShardCount};
 use bx_connects::Connects;
 use bx_entry::Placing;
 use bx_shard::{Sessions, Shard};
@@ -20,10 +20,8 @@ pub(crate) fn lend_sessions<P: Placing>(
     old: &Sessions,
     numbers: &[u64],
     placing: &P,
-    count: usize,
+    count: ShardCount,
 ) -> Result<(), AllocError>
-    requires some_shard { 1 ≤ count }
-    requires shards_in_range { count ≤ 64 }
     requires many { length heirs.old.shards.items ≡ count }
     requires clean { AreAllClean heirs.old.shards.items }
     ensures sessions { OnOk result ((k n : ℕ) → is_some (kept_of heirs.new.shards.items k n)
@@ -36,7 +34,7 @@ pub(crate) fn lend_sessions<P: Placing>(
     ensures connects { OnOk result (SameConnects heirs.old.shards.items heirs.new.shards.items) }
 {
     for number in numbers {
-        let slot = placing.place(*number, count);
+        let slot = placing.place(*number, count.get());
         heirs.lend_session(alloc, slot, *number, old.patterns(*number))?;
     }
     Ok(())
@@ -48,10 +46,8 @@ pub(crate) fn lend_connects<P: Placing>(
     old: &Connects,
     places: &[u64],
     placing: &P,
-    count: usize,
+    count: ShardCount,
 ) -> Result<(), AllocError>
-    requires some_shard { 1 ≤ count }
-    requires shards_in_range { count ≤ 64 }
     requires many { length heirs.old.shards.items ≡ count }
     ensures connects { OnOk result ((k p : ℕ) → connect_of heirs.new.shards.items k p
         ≡ (if list_any (nat_eq p) places.now
@@ -61,7 +57,7 @@ pub(crate) fn lend_connects<P: Placing>(
 {
     for place in places {
         if let Some((session, deadline)) = old.known(*place) {
-            let slot = placing.place(session, count);
+            let slot = placing.place(session, count.get());
             heirs.lend_connect(slot, *place, session, deadline)?;
         }
     }
@@ -74,10 +70,8 @@ pub(crate) fn lend_from<P: Placing>(
     heirs: &mut Heirs,
     old: &Sessions,
     placing: &P,
-    count: usize,
+    count: ShardCount,
 ) -> Result<(), AllocError>
-    requires some_shard { 1 ≤ count }
-    requires shards_in_range { count ≤ 64 }
     requires many { length heirs.old.shards.items ≡ count }
     requires clean { AreAllClean heirs.old.shards.items }
     ensures sessions { OnOk result ((k n : ℕ) → is_some (kept_of heirs.new.shards.items k n)
@@ -105,13 +99,11 @@ pub(crate) fn lend_all<P: Placing>(
     config: Config,
     shards: &[Shard<P>],
     placing: &P,
-    count: usize,
+    count: ShardCount,
 ) -> Result<Heirs, AllocError>
-    requires some_shard { 1 ≤ count }
-    requires shards_in_range { count ≤ 64 }
     ensures { IfOk result (λ heirs. AreLent (P.place_of placing.now) count (map (λ s. s.sessions) shards.now) config heirs.shards.items) }
 {
-    let mut heirs = Heirs::new(alloc, config, count)?;
+    let mut heirs = Heirs::new(alloc, config, count.get())?;
     for shard in shards {
         lend_from(alloc, &mut heirs, shard.sessions(), placing, count)?;
     }

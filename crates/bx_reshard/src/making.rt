@@ -6,6 +6,7 @@ ghost use Rattle.bx_reshard.specs.Making.{AreHandlesOf, AreMadeWith};
 ghost use Rattle.bx_shard.specs.Sessions.{Fits};
 
 use crate::heirs::Heirs;
+use bx_advice::ShardCount;
 use bx_entry::Placing;
 use bx_shard::Shard;
 use std::alloc::{AllocError, Global};
@@ -40,9 +41,7 @@ pub(crate) fn copy_handle<P: Drop>(
 }
 
 /// The shards of those sessions, in their order. It takes no memory.
-pub(crate) fn finish<P: Placing + Drop>(room: Room<P>, count: usize) -> Vec<Shard<P>>
-    requires some_shard { 1 ≤ count }
-    requires shards_in_range { count ≤ 64 }
+pub(crate) fn finish<P: Placing + Drop>(room: Room<P>, count: ShardCount) -> Vec<Shard<P>>
     requires empty { room.shards.items ≡ [] }
     requires capacity { length room.heirs.shards.items ≤ vec_capacity room.shards }
     requires many { length room.handles.items ≡ length room.heirs.shards.items }
@@ -62,7 +61,7 @@ pub(crate) fn finish<P: Placing + Drop>(room: Room<P>, count: usize) -> Vec<Shar
             return shards;
         };
         let index = shards.len();
-        let shard = Shard::resume(placing, index, count, place, is_shut, sessions);
+        let shard = Shard::resume(placing, index, count.get(), place, is_shut, sessions);
         shards.push_reserved(shard);
     }
     shards

@@ -4,6 +4,7 @@ ghost use Rattle.bx_connects.specs.Connects.{filing_at};
 ghost use Rattle.bx_reshard.specs.Heirs.{AreMoved, SameConnects, SameSessions, answered_with, connect_of, patterns_at, kept_by, kept_of, settled};
 
 use crate::heirs::Heirs;
+use bx_advice::ShardCount;
 use bx_connects::{Connects, FiledAnswer};
 use bx_entry::Placing;
 use bx_session::{Answered, Session};
@@ -15,10 +16,8 @@ pub(crate) fn move_sessions<P: Placing>(
     heirs: &mut Heirs,
     mut by_number: IndexMap<u64, Session>,
     placing: &P,
-    count: usize,
+    count: ShardCount,
 )
-    requires some_shard { 1 ≤ count }
-    requires shards_in_range { count ≤ 64 }
     requires many { length heirs.old.shards.items ≡ count }
     ensures sessions { (k n : ℕ) → kept_of heirs.new.shards.items k n
         ≡ settled (P.place_of placing.now) count k n (kept_by by_number.entries n) (kept_of heirs.old.shards.items k n) }
@@ -26,7 +25,7 @@ pub(crate) fn move_sessions<P: Placing>(
     ensures connects { SameConnects heirs.old.shards.items heirs.new.shards.items }
 {
     while let Some((number, session)) = by_number.pop() {
-        heirs.settle(placing.place(number, count), number, session);
+        heirs.settle(placing.place(number, count.get()), number, session);
     }
 }
 
@@ -35,10 +34,8 @@ pub(crate) fn move_answers<P: Placing>(
     heirs: &mut Heirs,
     mut connects: Connects,
     placing: &P,
-    count: usize,
+    count: ShardCount,
 )
-    requires some_shard { 1 ≤ count }
-    requires shards_in_range { count ≤ 64 }
     requires many { length heirs.old.shards.items ≡ count }
     ensures connects { (k p : ℕ) → connect_of heirs.new.shards.items k p
         ≡ answered_with (P.place_of placing.now) count k (filing_at connects.filed p) (connect_of heirs.old.shards.items k p) }
@@ -54,7 +51,7 @@ pub(crate) fn move_answers<P: Placing>(
             place: connect,
             answer,
         };
-        heirs.file(placing.place(session, count), place, answered);
+        heirs.file(placing.place(session, count.get()), place, answered);
     }
 }
 
@@ -63,10 +60,8 @@ pub(crate) fn move_all<P: Placing + Drop>(
     heirs: &mut Heirs,
     shards: Vec<Shard<P>>,
     placing: &P,
-    count: usize,
+    count: ShardCount,
 )
-    requires some_shard { 1 ≤ count }
-    requires shards_in_range { count ≤ 64 }
     requires many { length heirs.old.shards.items ≡ count }
     ensures { AreMoved (P.place_of placing.now) count (map (λ s. s.sessions) shards.items) heirs.old.shards.items heirs.new.shards.items }
 {

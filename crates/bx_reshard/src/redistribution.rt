@@ -8,6 +8,7 @@ ghost use Rattle.bx_shard.specs.Seen.{state};
 use crate::lending::lend_all;
 use crate::making::{Room, copy_handle, finish};
 use crate::moving::move_all;
+use bx_advice::ShardCount;
 use bx_entry::Placing;
 use bx_shard::Shard;
 use std::alloc::{AllocError, Global};
@@ -19,11 +20,9 @@ use std::sync::Arc;
 pub fn redistribute<P: Placing + Drop>(
     alloc: Global,
     shards: Vec<Shard<P>>,
-    count: usize,
+    count: ShardCount,
     placing: Arc<P>,
 ) -> Result<Vec<Shard<P>>, (Vec<Shard<P>>, AllocError)>
-    requires some_shard { 1 ≤ count }
-    requires shards_in_range { count ≤ 64 }
     requires some { 1 ≤ length shards.items }
     requires alike { AreAlike (map (state P.place_of) shards.items) }
     requires apart { AreApart (map (state P.place_of) shards.items) }
@@ -40,18 +39,16 @@ pub fn redistribute<P: Placing + Drop>(
 fn make_room<P: Placing + Drop>(
     alloc: Global,
     shards: &[Shard<P>],
-    count: usize,
+    count: ShardCount,
     placing: &Arc<P>,
 ) -> Result<Room<P>, AllocError>
-    requires some_shard { 1 ≤ count }
-    requires shards_in_range { count ≤ 64 }
     requires some { 1 ≤ length shards.now }
     ensures { IfOk result (IsReady P.place_of (arc_value placing.now) count shards.now) }
 {
     let first = &shards[0];
     let heirs = lend_all(alloc, first.sessions().config(), shards, &**placing, count)?;
-    let handles = copy_handle(alloc, placing, count)?;
-    let made = Vec::with_capacity(alloc, count)?;
+    let handles = copy_handle(alloc, placing, count.get())?;
+    let made = Vec::with_capacity(alloc, count.get())?;
     Ok(Room {
         heirs,
         handles,
@@ -65,11 +62,9 @@ fn make_room<P: Placing + Drop>(
 fn move_in<P: Placing + Drop>(
     mut room: Room<P>,
     shards: Vec<Shard<P>>,
-    count: usize,
+    count: ShardCount,
     placing: &P,
 ) -> Vec<Shard<P>>
-    requires some_shard { 1 ≤ count }
-    requires shards_in_range { count ≤ 64 }
     requires ready { IsReady P.place_of placing.now count shards.items room }
     requires alike { AreAlike (map (state P.place_of) shards.items) }
     requires apart { AreApart (map (state P.place_of) shards.items) }

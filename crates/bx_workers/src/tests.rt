@@ -1,8 +1,8 @@
 //! Shards that workers bring up to the end of four entries.
-ghost use Rattle.std.specs.Prelude.{◌≡◌, ◌≤◌, length, IfOk};
+ghost use Rattle.std.specs.Prelude.{◌≡◌, length, IfOk};
 ghost use Rattle.bx_workers.specs.Numbered.{AreFresh, AreNumbered};
 
-use crate::{Gate, OpenGate, bring_up};
+use crate::{Gate, OpenGate, WorkerCount, bring_up};
 use bx_advice::Config;
 use bx_entry::{ByRemainder, Entry, EntryKind, Ticket};
 use bx_message::{Event, RawJson, Sequence, SharedEvent, Text};
@@ -95,9 +95,8 @@ fn brought_up<R: Threads + Sync, G: Gate + Sync>(
     gate: &G,
     workers: usize,
     count: usize,
-) -> Result<(Vec<Shard<ByRemainder>>, usize), Fail>
-    requires { (1 ≤ workers) × (workers ≤ 16) }
-{
+) -> Result<(Vec<Shard<ByRemainder>>, usize), Fail> {
+    let workers = WorkerCount::new(workers).ok_or("no such number of workers")?;
     let entries = entries(alloc)?;
     let mut shards = shards(alloc, count)?;
     let behind = bring_up(rt, alloc, gate, workers, &mut shards, &entries);

@@ -3,6 +3,7 @@ ghost use Rattle.std.specs.Prelude.{◌≡◌, ◌≤◌, ◌<◌, ◌-◌, drop
 ghost use Rattle.bx_advice.specs.Limits.{greatest_length};
 ghost use Rattle.bx_workers.specs.Upward.{AreConsecutive, AreWithin, BroughtUp, IsWithin, WentOn, count_behind, end_of, first_of, is_behind};
 
+use crate::count::WorkerCount;
 use crate::gate::Gate;
 use bx_entry::{Entry, Placing};
 use bx_shard::Shard;
@@ -21,19 +22,17 @@ pub fn bring_up<R: Threads + Sync, G: Gate + Sync, P: Placing + Send + Sync>(
     rt: &R,
     alloc: Global,
     gate: &G,
-    workers: usize,
+    workers: WorkerCount,
     shards: &mut [Shard<P>],
     entries: &[Entry],
 ) -> usize
-    requires some_worker { 1 ≤ workers }
-    requires workers_in_range { workers ≤ 16 }
     requires consecutive { AreConsecutive entries.now }
     requires end { end_of entries.now ≤ greatest_length }
     requires within { AreWithin entries.now shards.old }
     ensures brought { BroughtUp P.place_of entries.now shards.old shards.new }
     ensures count { result ≡ count_behind entries.now shards.new }
 {
-    let size = shards.len().div_ceil(workers).max(1);
+    let size = shards.len().div_ceil(workers.get()).max(1);
     thread::for_each_chunk_mut(
         rt,
         shards,

@@ -69,14 +69,17 @@ still_slowest {P} xs i old new first there h ahead =
     let here : get_or places i 0 ≡ old.place = number_there (λ (s : Shard P). s.place) xs i old there in
     ap (among first) (map-set (λ (s : Shard P). s.place) xs i new) ∙ among_set places i new.place first h (λ e. absurd (omega (arith, e, here, ahead)))
 
+-- each of their places is at least where all stand
+pub places_from : {P : Type 0} (xs : List (Shard P)) (first : ℕ) → StandFrom first xs → (k n : ℕ) → slice_get (map (λ (s : Shard P). s.place) xs) k ≡ Some n → first ≤ n
+places_from {P} xs first from k n e = from_place (slice_get xs k) refl (sym (slice_get-map (λ (s : Shard P). s.place) xs k) ∙ e)
+  where
+    from_place : (o : Option (Shard P)) → slice_get xs k ≡ o → option_map (λ (s : Shard P). s.place) o ≡ Some n → first ≤ n
+    from_place None e g = absurd (cc)
+    from_place (Some s) e g = let same : s.place ≡ n = cc in subst (λ (m : ℕ). first ≤ m) same (from k s e)
+
 -- where some shard stands is not below where all do
 pub not_below : {P : Type 0} (xs : List (Shard P)) (first p : ℕ) → StandFrom first xs → some_stands_at p xs ≡ true → first ≤ p
-not_below {P} xs first p from h =
-    among_from (map (λ (s : Shard P). s.place) xs) first p (λ k n e. from_place k n (slice_get xs k) refl (sym (slice_get-map (λ (s : Shard P). s.place) xs k) ∙ e)) h
-  where
-    from_place : (k n : ℕ) (o : Option (Shard P)) → slice_get xs k ≡ o → option_map (λ (s : Shard P). s.place) o ≡ Some n → first ≤ n
-    from_place k n None e g = absurd (cc)
-    from_place k n (Some s) e g = let same : s.place ≡ n = cc in subst (λ (m : ℕ). first ≤ m) same (from k s e)
+not_below {P} xs first p from h = among_from (map (λ (s : Shard P). s.place) xs) first p (places_from xs first from) h
 
 -- nor above where all do
 pub not_above : {P : Type 0} (xs : List (Shard P)) (end p : ℕ) → StandWithin end xs → some_stands_at p xs ≡ true → p ≤ end

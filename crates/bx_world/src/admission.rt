@@ -14,10 +14,10 @@ ghost use Rattle.bx_world.specs.declared.step.AdmissionFault.TheVariants.{Refuse
 use crate::backlog::Backlog;
 use crate::step::{AdmissionFault, Admitted};
 use bx_admission::{Ledger, Plan};
-use bx_advice::Config;
+use bx_advice::{Config, ShardCount};
 use bx_entry::{Arrival, Entry, Placing, read_messages};
 use bx_shard::Shard;
-use bx_workers::Gate;
+use bx_workers::{Gate, WorkerCount};
 use std::alloc::{AllocError, Global};
 use std::marker::Model;
 use std::thread::Threads;
@@ -106,6 +106,13 @@ impl Admission {
         })
     }
 
+    /// How long the list is.
+    pub(crate) fn entries(&self) -> u64
+        ensures { result ≡ length self.now.list }
+    {
+        self.ledger.entries()
+    }
+
     /// How many sessions are live.
     pub(crate) fn sessions(&self) -> usize
         ensures { result ≡ count_live (registry self.now.config self.now.list) }
@@ -137,10 +144,9 @@ impl Admission {
     }
 
     /// Places the sessions among so many shards from here on.
-    pub(crate) fn reshard(&mut self, shards: usize)
-        requires some_shard { 1 ≤ shards }
-        requires shards_in_range { shards ≤ 64 }
-        ensures { self.new ≡ record self.old { shards = shards } }
+    pub(crate) fn reshard(&mut self, shards: ShardCount)
+        ensures shards { self.new ≡ record self.old { shards = shards } }
+        ensures in_range { (1 ≤ self.new.shards) × (self.new.shards ≤ 64) }
     {
         self.ledger.reshard(shards);
     }
@@ -151,11 +157,9 @@ impl Admission {
         rt: &R,
         alloc: Global,
         gate: &G,
-        workers: usize,
+        workers: WorkerCount,
         shards: &mut [Shard<P>],
     ) -> usize
-        requires some_worker { 1 ≤ workers }
-        requires workers_in_range { workers ≤ 16 }
         requires end { length self.old.list ≤ greatest_length }
         requires first { StandFrom self.old.first shards.old }
         requires within { StandWithin (length self.old.list) shards.old }

@@ -8,7 +8,7 @@ use bx_entry::{Entry, Placing};
 use bx_history::History;
 use bx_message::Sequence;
 use bx_shard::Shard;
-use bx_workers::Gate;
+use bx_workers::{Gate, WorkerCount};
 use std::alloc::{AllocError, Global};
 use std::collections::VecDeque;
 use std::marker::Model;
@@ -110,11 +110,9 @@ impl Backlog {
         rt: &R,
         alloc: Global,
         gate: &G,
-        workers: usize,
+        workers: WorkerCount,
         shards: &mut [Shard<P>],
     ) -> usize
-        requires some_worker { 1 ≤ workers }
-        requires workers_in_range { workers ≤ 16 }
         requires consecutive { AreConsecutive (kept_in self.old.contents) }
         requires end { end_of (kept_in self.old.contents) ≤ greatest_length }
         requires within { AreWithin (kept_in self.old.contents) shards.old }

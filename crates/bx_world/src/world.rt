@@ -10,13 +10,13 @@ ghost use Rattle.bx_shard.specs.Props.{holds_props};
 
 use crate::admission::Admission;
 use crate::step::{AdmissionFault, Admitted, Applied, Step, StepOut};
-use bx_advice::Config;
+use bx_advice::{Config, ShardCount};
 use bx_entry::{Arrival, Input, Placing, Ticket};
 use bx_history::History;
 use bx_message::Answer;
 use bx_reshard::redistribute;
 use bx_shard::{Filing, Shard};
-use bx_workers::Gate;
+use bx_workers::{Gate, WorkerCount};
 use std::alloc::{AllocError, Global};
 use std::sync::Arc;
 use std::thread::Threads;
@@ -42,7 +42,8 @@ pub struct World<P: Placing> {
 }
 
 impl<P: Placing> World<P> {
-    ghost use Rattle.std.specs.Prelude.{ℕ, None, Some, false, slice_get, count_by, nat_lt, replicate, Err, IfOk, IfErr, IfSome, IfNone};
+    ghost use Rattle.std.specs.List.{list_any};
+    ghost use Rattle.std.specs.Prelude.{ℕ, ◌+◌, ◌-◌, ◌==◌, None, Some, false, slice_get, count_by, nat_lt, replicate, Err, IfOk, IfErr, IfSome, IfNone};
     ghost use Rattle.bx_entry.specs.Inputs.{refusal_of};
     ghost use Rattle.bx_entry.specs.Requests.{read_input};
     ghost use Rattle.bx_entry.specs.declared.entry.Entry.{Entry};
@@ -123,12 +124,10 @@ impl<P: Placing> World<P> {
         rt: &R,
         alloc: Global,
         gate: &G,
-        workers: usize,
+        workers: WorkerCount,
     ) -> usize
     where
         P: Send + Sync,
-        requires some_worker { 1 ≤ workers }
-        requires workers_in_range { workers ≤ 16 }
         ensures list { (world_of self.new).list ≡ (world_of self.old).list }
         ensures taken { (world_of self.new).taken ≡ (world_of self.old).taken }
         ensures setup { setup_of self.new ≡ setup_of self.old }
@@ -148,6 +147,31 @@ impl<P: Placing> World<P> {
             .bring_up(rt, alloc, gate, workers, &mut self.shards);
         forget_applied(&mut self.admission, &self.shards, first);
         behind
+    }
+
+    /// How many shards there are.
+    pub fn shards(&self) -> usize
+        ensures { result ≡ (setup_of self.now).shards }
+    {
+        self.shards.len()
+    }
+
+    /// How long the list is.
+    pub fn entries(&self) -> u64
+        ensures { result ≡ length (world_of self.now).list }
+    {
+        self.admission.entries()
+    }
+
+    /// How many entries of the list the shard that has applied the fewest lacks.
+    pub fn lacking(&self) -> u64
+        ensures most { (k n : ℕ) → slice_get (world_of self.now).applied k ≡ Some n → length (world_of self.now).list ≤ n + result }
+        ensures in_list { result ≤ length (world_of self.now).list }
+        ensures some { list_any (λ n. n == length (world_of self.now).list - result) (world_of self.now).applied ≡ true }
+    {
+        self.admission
+            .entries()
+            .saturating_sub(self.admission.first())
     }
 
     /// How many sessions are live.
@@ -175,13 +199,11 @@ impl<P: Placing> World<P> {
     pub fn reshard(
         self,
         alloc: Global,
-        shards: usize,
+        shards: ShardCount,
         placing: Arc<P>,
     ) -> Result<World<P>, (World<P>, AllocError)>
     where
         P: Drop,
-        requires some_shard { 1 ≤ shards }
-        requires shards_in_range { shards ≤ 64 }
         requires level { (k n : ℕ) → slice_get (world_of self).applied k ≡ Some n → length (world_of self).list ≤ n }
         ensures world { IfOk result (λ w. world_of w ≡ record (world_of self) { applied = replicate shards (length (world_of self).list) }) }
         ensures setup { IfOk result (λ w. setup_of w ≡ record (setup_of self) { shards = shards; placing = P.place_of (arc_value placing) }) }

@@ -6,7 +6,7 @@ use Rattle.bx_reshard.proofs.lending.lend_all.Goals as goal
 
 pub loop-shard-init : goal.loop-shard-init
 loop-shard-init g c = record {
-  lent = lent_none (g.P.Placing.place_of c.args.placing.now) c.args.count c.args.config c.in_ok-heirs.heirs.shards.items c.in_ok-heirs.ensures.many c.in_ok-heirs.ensures.empty;
+  lent = lent_none (g.P.Placing.place_of c.args.placing.now) c.args.count c.args.config c.in_ok-heirs.heirs.shards.items (c.in_ok-heirs.ensures.many ∙ c.get.ensures.same) c.in_ok-heirs.ensures.empty;
   clean = clean_none c.args.config c.in_ok-heirs.heirs.shards.items c.in_ok-heirs.ensures.empty;
 }
 

@@ -27,8 +27,8 @@ pub resume-shard-requires : goal.resume-shard-requires
 resume-shard-requires g c =
     let fit : All (Fits c.args.room.place) (c.in-Some.sessions ∷ c.next.new.self.rest.items) = subst (All (Fits c.args.room.place)) c.in-Some.ensures.steps.0 c.loop-sessions.invariant.fit in
     record {
-      some_shard = c.requires.some_shard;
-      shards_in_range = c.requires.shards_in_range;
+      some_shard = c.get.ensures.some;
+      shards_in_range = c.get.ensures.in_range;
       fit = fit 0 c.in-Some.sessions (omega arith);
     }
 
@@ -62,7 +62,7 @@ loop-sessions-preserved g c =
             placing_is = ap (λ h. arc_value h) c.resume-shard.ensures.placing
                 ∙ last_of_all (λ h. arc_value h ≡ placing) c.pop.new.self.items c.in-Some-pop.placing (subst (AreHandlesOf placing) popped (loop.invariant.same placing all));
             index_is = c.resume-shard.ensures.index.0 ∙ place;
-            shards_is = c.resume-shard.ensures.index.1;
+            shards_is = c.resume-shard.ensures.index.1 ∙ c.get.ensures.same;
             place_is = c.resume-shard.ensures.place.0;
             shut_is = c.resume-shard.ensures.place.1;
           }));

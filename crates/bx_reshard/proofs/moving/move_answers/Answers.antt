@@ -13,7 +13,7 @@ loop-connect-preserved g c =
     record {
       connects = λ k p.
           filing_moved place_of c.args.count k p es c.in-Some.connect c.place.result c.in-Some.filed (connect_of loop.heirs.shards.items k p) (connect_of c.file.new.self.shards.items k p)
-          c.place.ensures.same c.in-Some.ensures.once (one.connects k p)
+          (c.place.ensures.same ∙ ap (λ n. place_of c.in-Some.filed.session n) c.get.ensures.same) c.in-Some.ensures.once (one.connects k p)
           ∙ ap (λ xs. answered_with place_of c.args.count k (filing_at xs p) (connect_of loop.heirs.shards.items k p)) (sym c.in-Some.ensures.filed)
           ∙ loop.invariant.connects k p;
       sessions = record {

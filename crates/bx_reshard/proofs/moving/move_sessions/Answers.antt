@@ -12,7 +12,7 @@ loop-number-preserved g c =
     record {
       sessions = λ k n.
           session_moved place_of c.args.count k n es c.in-Some.number c.place.result c.in-Some.session (kept_of loop.heirs.shards.items k n) (kept_of c.settle.new.self.shards.items k n)
-          c.place.ensures.same (one.sessions k n)
+          (c.place.ensures.same ∙ ap (λ m. place_of c.in-Some.number m) c.get.ensures.same) (one.sessions k n)
           ∙ ap (λ xs. settled place_of c.args.count k n (kept_by xs n) (kept_of loop.heirs.shards.items k n)) (sym c.in-Some.ensures.entries)
           ∙ loop.invariant.sessions k n;
       patterns = λ k n. one.patterns k n ∙ loop.invariant.patterns k n;

@@ -15,9 +15,9 @@ returns g c =
           (c.config.ensures ∙ ap (λ s. s.config) c.sessions.ensures)
           (subst (λ placing. AreLent (g.P.Placing.place_of placing) c.args.count (map (λ s. s.sessions) olds) c.config.result c.in_ok-heirs.heirs.shards.items) c.deref.ensures c.in_ok-heirs.ensures);
       handles = c.in_ok-handles.ensures.same;
-      many = c.in_ok-handles.ensures.many;
+      many = c.in_ok-handles.ensures.many ∙ c.get.ensures.same;
       empty = c.in_ok-made.ensures.items;
-      capacity = c.in_ok-made.ensures.capacity;
+      capacity = omega (arith, c.in_ok-made.ensures.capacity, c.get-2.ensures.same);
       place_is = c.place.ensures.place;
       shut_is = c.is_shut.ensures;
     }

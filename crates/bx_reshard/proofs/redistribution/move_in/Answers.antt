@@ -7,8 +7,6 @@ use Rattle.bx_reshard.proofs.redistribution.move_in.Goals as goal
 
 pub move_all-requires : goal.move_all-requires
 move_all-requires g c = record {
-  some_shard = c.requires.some_shard;
-  shards_in_range = c.requires.shards_in_range;
   many = c.requires.ready.lent.many;
 }
 
@@ -18,8 +16,6 @@ finish-requires g c =
     let last = c.move_all.new.heirs.shards.items in
     let moved = c.move_all.ensures in
     record {
-      some_shard = c.requires.some_shard;
-      shards_in_range = c.requires.shards_in_range;
       empty = r.empty;
       capacity = omega (arith, moved.many, r.lent.many, r.capacity);
       many = r.many ∙ sym (moved.many ∙ r.lent.many);
