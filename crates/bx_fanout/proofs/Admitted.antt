@@ -18,11 +18,11 @@ use Rattle.bx_world.specs.Worlds.{IsOutput, WorldState, after, output_admit}
 use Rattle.bx_world.specs.declared.step.Step.TheVariants.{Admit}
 use Rattle.bx_world.specs.declared.step.StepOut.TheVariants.{Admitted, NotAdmitted, OutOfMemory}
 use Rattle.bx_world.proofs.Replies.{replies_are_answers}
-use Rattle.bx_fanout.specs.Desks.{Row, outs_of, waits}
-use Rattle.bx_fanout.specs.Newests.{AreAnswers, NoneTakenFrom, next_place}
-use Rattle.bx_fanout.specs.Opens.{intake_as, open_after}
+use Rattle.bx_fanout.specs.HeldInputs.{Row, outs_of, waits}
+use Rattle.bx_fanout.specs.CurrentInputs.{AreAnswers, NoneTakenFrom, next_place}
+use Rattle.bx_theory.specs.Opens.{intake_as, open_after}
 use Rattle.bx_fanout.specs.Stages.{AllUntaken, IsCollecting, IsTakenIn, IsGiving, seen_out}
-use Rattle.bx_fanout.specs.declared.newest.Newest.{Newest}
+use Rattle.bx_fanout.specs.declared.current_input.CurrentInput.{CurrentInput}
 use Rattle.bx_fanout.proofs.TakingIn.{none-left, taken-one}
 use Rattle.bx_fanout.proofs.Stages.{length-numbers}
 
@@ -67,15 +67,15 @@ refused setup w i refusal (inr (may, e)) = let no : NotAdmitted refusal ≡ OutO
 -- ---- the input is taken in
 
 -- nothing is left to be added
-pub all-added : (setup : Setup) (inputs : List ReadInput) (w : WorldState) (rows : List Row) (added : List runs.Out) → IsGiving setup inputs w rows None added → rows ≡ filter waits rows → added ≡ outs setup.config inputs
+pub all-added : (setup : Setup) (inputs : List ReadInput) (w : WorldState) (rows : List Row) (added : List runs.Out) → IsGiving setup inputs w rows [] added → rows ≡ filter waits rows → added ≡ outs setup.config inputs
 all-added setup inputs w rows added g settled =
     sym (append-nil added) ∙ ap (λ (os : List runs.Out). added ++ os) (sym (ap (map seen_out) (none-left rows rows settled))) ∙ sym (append-nil (added ++ map seen_out (outs_of rows))) ∙ g.left
 
 list-after : (inputs : List ReadInput) (input : ReadInput) (o : Option Refusal) → refusal_of (length (taken_in inputs).list) input ≡ o → (taken_in (inputs ++ input ∷ [])).list ≡ (taken_as (taken_in inputs) input o).list
 list-after inputs input o e = ap (λ (t : Taking). t.list) (taken-one inputs input) ∙ ap (λ (p : Option Refusal). (taken_as (taken_in inputs) input p).list) e
 
-pub intake-admitted : (setup : Setup) (inputs : List ReadInput) (i : Input) (old new : WorldState) (rows : List Row) (n : Newest) (added : List runs.Out) (first : ℕ) (slots : List Slot) → 0 < setup.config.limits.batch →
-    IsGiving setup inputs old rows None added → rows ≡ filter waits rows → IsOutput setup old (Admit i) (Admitted first slots) → new ≡ after old (Admit i) (Admitted first slots) →
+pub intake-admitted : (setup : Setup) (inputs : List ReadInput) (i : Input) (old new : WorldState) (rows : List Row) (n : CurrentInput) (added : List runs.Out) (first : ℕ) (slots : List Slot) → 0 < setup.config.limits.batch →
+    IsGiving setup inputs old rows [] added → rows ≡ filter waits rows → IsOutput setup old (Admit i) (Admitted first slots) → new ≡ after old (Admit i) (Admitted first slots) →
     n.number ≡ length inputs → n.first ≡ first → n.refusal ≡ None → n.items.items ≡ [] → n.answers.items ≡ [] → n.slots.items ≡ slots → IsCollecting setup inputs (read_input i) new rows n added
 intake-admitted setup inputs i old new rows n added first slots batch g settled output step number at none items answers are =
     let input : ReadInput = read_input i in
@@ -109,8 +109,8 @@ intake-admitted setup inputs i old new rows n added first slots batch g settled 
       outs_before = all-added setup inputs old rows added g settled;
     }
 
-pub intake-refused : (setup : Setup) (inputs : List ReadInput) (i : Input) (old new : WorldState) (rows : List Row) (n : Newest) (added : List runs.Out) (refusal : Refusal) →
-    IsGiving setup inputs old rows None added → rows ≡ filter waits rows → IsOutput setup old (Admit i) (NotAdmitted refusal) → new ≡ old →
+pub intake-refused : (setup : Setup) (inputs : List ReadInput) (i : Input) (old new : WorldState) (rows : List Row) (n : CurrentInput) (added : List runs.Out) (refusal : Refusal) →
+    IsGiving setup inputs old rows [] added → rows ≡ filter waits rows → IsOutput setup old (Admit i) (NotAdmitted refusal) → new ≡ old →
     n.number ≡ length inputs → n.first ≡ length old.list → n.refusal ≡ Some refusal → n.items.items ≡ [] → n.answers.items ≡ [] → n.slots.items ≡ [] → IsCollecting setup inputs (read_input i) new rows n added
 intake-refused setup inputs i old new rows n added refusal g settled output step number at none items answers are =
     let input : ReadInput = read_input i in
@@ -139,7 +139,7 @@ intake-refused setup inputs i old new rows n added refusal g settled output step
       outs_before = all-added setup inputs old rows added g settled;
     }
 
-pub intake-of : (s setup : Setup) (inputs earlier : List ReadInput) (last : ReadInput) (w : WorldState) (rows : List Row) (n : Newest) (added : List runs.Out) → s ≡ setup → inputs ≡ earlier ++ last ∷ [] → IsCollecting setup earlier last w rows n added →
+pub intake-of : (s setup : Setup) (inputs earlier : List ReadInput) (last : ReadInput) (w : WorldState) (rows : List Row) (n : CurrentInput) (added : List runs.Out) → s ≡ setup → inputs ≡ earlier ++ last ∷ [] → IsCollecting setup earlier last w rows n added →
     IsTakenIn s inputs w rows n added
 intake-of s setup inputs earlier last w rows n added same are c =
     subst (λ (t : Setup). IsTakenIn t inputs w rows n added) (sym same) (record { earlier = earlier; last = last; are = are; collecting = c })

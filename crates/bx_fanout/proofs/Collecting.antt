@@ -19,10 +19,10 @@ use Rattle.bx_world.proofs.Files.{answers_can_be_taken}
 use Rattle.bx_world.proofs.Takes.{takes_are_answers}
 use Rattle.bx_advice.specs.declared.config.Config.{Config}
 use Rattle.bx_entry.specs.Listing.{Listed}
-use Rattle.bx_fanout.specs.Newests.{AreAnswers, IsCollected, IsLevel, Keeps, Next, NextBy, NoneTakenFrom, given_at, next_place}
-use Rattle.bx_fanout.specs.declared.newest.Newest.{Newest}
+use Rattle.bx_fanout.specs.CurrentInputs.{AreAnswers, IsCollected, IsLevel, Keeps, Next, NextBy, NoneTakenFrom, given_at, next_place}
+use Rattle.bx_fanout.specs.declared.current_input.CurrentInput.{CurrentInput}
 use Rattle.std.proofs.lemmas.List.{length_push}
-use Rattle.bx_fanout.proofs.Below.{answer_below}
+use Rattle.bx_theory.proofs.Below.{answer_below}
 
 -- each session stands in a shard of the world
 abbrev pub AllPlaced : Setup → WorldState → Type 0
@@ -110,7 +110,7 @@ level-kept old new list applied level k n found =
 pub level-next : (setup : Setup) (old new : WorldState) (place : ℕ) (before after : List Slot) (a : Answer) → NextBy setup old place before after new (Some a) → IsLevel old → IsLevel new
 level-next setup old new place before after a next level = level-kept old new next.4.list next.4.applied level
 
-pub collected-more : (setup : Setup) (old new : WorldState) (n m : Newest) (a : Answer) → IsCollected setup old n → NextBy setup old (next_place n) n.slots.items m.slots.items new (Some a) →
+pub collected-more : (setup : Setup) (old new : WorldState) (n m : CurrentInput) (a : Answer) → IsCollected setup old n → NextBy setup old (next_place n) n.slots.items m.slots.items new (Some a) →
     m.first ≡ n.first → m.answers.items ≡ n.answers.items ++ a ∷ [] → IsCollected setup new m
 collected-more setup old new n m a so_far next first answers =
     let len : length m.answers.items ≡ length n.answers.items + 1 = ap (λ (items : List Answer). length items) answers ∙ length_push n.answers.items a in

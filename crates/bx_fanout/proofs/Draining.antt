@@ -18,9 +18,9 @@ use Rattle.bx_world.specs.Worlds.{IsOutput, WorldState, after, filed_under}
 use Rattle.bx_shard.specs.Refining.{given_of}
 use Rattle.bx_world.specs.declared.step.Step.TheVariants.{Take}
 use Rattle.bx_world.specs.declared.step.StepOut.TheVariants.{Taken}
-use Rattle.bx_fanout.specs.Desks.{Row, answered_at, waits_there, with_answer}
+use Rattle.bx_fanout.specs.HeldInputs.{Row, answered_at, waits_there, with_answer}
 use Rattle.bx_fanout.specs.Draining.{CanDrain, Drained, Draining, IsEmptied, Waits, count_filed, filled, put_if}
-use Rattle.bx_fanout.specs.Newests.{IsLevel, NoneTakenFrom, given_at}
+use Rattle.bx_fanout.specs.CurrentInputs.{IsLevel, NoneTakenFrom, given_at}
 use Rattle.bx_fanout.proofs.Collecting.{AllPlaced, take-gives, take-is-answer, taken-more}
 use Rattle.bx_shard.proofs.Taking.{untaken, taken_own}
 

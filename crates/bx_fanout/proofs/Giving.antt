@@ -16,15 +16,11 @@ use Rattle.std.proofs.lemmas.Map.Keys.{IsStrictlyIncreasing-dedup, sorted_from_s
 use Rattle.bx_lists.proofs.Tests.{less-from-cmp}
 use Rattle.bx_lists.proofs.Ascending.{dedup-has, AllAbove, Ascends, same-ascends, ascends-sorted}
 use Rattle.bx_message.specs.declared.reply.Answer.{Answer}
-use Rattle.bx_fanout.specs.declared.desk.Held.{Held}
+use Rattle.bx_fanout.specs.declared.held_inputs.HeldInput.{HeldInput}
 use Rattle.bx_fanout.specs.declared.out.Out.{Out}
 use Rattle.bx_lists.specs.Members.{has}
-use Rattle.bx_fanout.specs.Desks.{Gives, Row, answered_places, is_answered, items_of, out_by, outs_of, waits}
-use Rattle.bx_fanout.proofs.Desks.{at-is}
-
--- ---- ascending lists with the same numbers are the same
-
--- a lower number at the front is missing
+use Rattle.bx_fanout.specs.HeldInputs.{Gives, Row, answered_places, is_answered, items_of, out_by, outs_of, waits}
+use Rattle.bx_fanout.proofs.HeldInputs.{at-is}
 
 -- ---- the places of those that are answered
 
@@ -70,7 +66,7 @@ pub record First (rows : List Row) (place : ℕ) (places : List ℕ) : Type 0 wh
   pub others : filter waits (remove_entry (is_at (nat_cmp place)) rows) ≡ filter waits rows
 
 -- the same with a test for the first row
-abbrev found-at : Row → List Row → ℕ → Bool → Option Held
+abbrev found-at : Row → List Row → ℕ → Bool → Option HeldInput
 found-at row rows place b = cond b (Some row.1) (lookup (is_at (nat_cmp place)) rows)
 
 abbrev left-at : Row → List Row → ℕ → Bool → List Row

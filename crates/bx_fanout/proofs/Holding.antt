@@ -8,13 +8,16 @@ use Rattle.bx_entry.specs.Runs as runs
 use Rattle.bx_entry.specs.Runs.{held, outs}
 use Rattle.bx_shard.specs.Shards.{Setup}
 use Rattle.bx_world.specs.Worlds.{WorldState}
-use Rattle.bx_fanout.specs.Desks.{Row, numbers, waits}
-use Rattle.bx_fanout.specs.Opens.{Numbered, is_whole, newest, open_after, registry_after, waiting_at}
-use Rattle.bx_fanout.specs.Opens as opens
+use Rattle.bx_fanout.specs.HeldInputs.{Row, numbers, waits}
+use Rattle.bx_theory.specs.Opens.{Numbered, is_whole, newest, open_after, registry_after, waiting_at}
+use Rattle.bx_theory.specs.Opens as opens
 use Rattle.bx_fanout.specs.Runs.{AreHeldBefore}
-use Rattle.bx_fanout.specs.Stages.{IsCollecting, IsGiving, IsStaged, bare}
-use Rattle.bx_fanout.specs.declared.newest.Newest.{Newest}
-use Rattle.bx_fanout.proofs.Opens.{open_is_held, opens_go_on, outs_add}
+use Rattle.bx_fanout.specs.Stages.{IsCollecting, IsGiving, IsStaged, bare, is_collecting, own, seen_out}
+use Rattle.bx_fanout.specs.declared.stage.Stage.{Stage}
+use Rattle.bx_fanout.specs.declared.stage.Stage.TheVariants.{Collecting}
+use Rattle.bx_fanout.proofs.Finishing.{giving-at, intake-at}
+use Rattle.bx_fanout.specs.declared.current_input.CurrentInput.{CurrentInput}
+use Rattle.bx_theory.proofs.Opens.{open_is_held, opens_go_on, outs_add}
 
 -- ---- lists
 
@@ -46,21 +49,21 @@ waits-bare (o ∷ os) = ap (λ (rows : List Row). bare o ∷ rows) (waits-bare o
 
 -- ---- no answer is collected
 
-held-giving : (setup : Setup) (inputs : List ReadInput) (w : WorldState) (rows : List Row) (whole : Option Newest) (added : List runs.Out) → 0 < setup.config.limits.batch →
-    IsGiving setup inputs w rows whole added → numbers (filter waits rows) ≡ held setup.config inputs
-held-giving setup inputs w rows whole added batch g =
+held-giving : (setup : Setup) (inputs : List ReadInput) (w : WorldState) (rows : List Row) (left : List runs.Out) (added : List runs.Out) → 0 < setup.config.limits.batch →
+    IsGiving setup inputs w rows left added → numbers (filter waits rows) ≡ held setup.config inputs
+held-giving setup inputs w rows left added batch g =
     ap numbers g.rest ∙ numbers-bare (open_after setup.config inputs) ∙ sym (open_is_held setup.config inputs batch)
 
 -- ---- answers are collected
 
-waiting-collecting : (setup : Setup) (inputs : List ReadInput) (input : ReadInput) (w : WorldState) (rows : List Row) (n : Newest) (added : List runs.Out) →
+waiting-collecting : (setup : Setup) (inputs : List ReadInput) (input : ReadInput) (w : WorldState) (rows : List Row) (n : CurrentInput) (added : List runs.Out) →
     IsCollecting setup inputs input w rows n added → numbers (filter waits rows) ≡ map (λ (o : Numbered). o.number) (open_after setup.config inputs)
 waiting-collecting setup inputs input w rows n added c =
     let opens : List Numbered = open_after setup.config inputs in
     ap (λ (rs : List Row). numbers (filter waits rs)) c.held ∙ ap numbers (waits-bare opens) ∙ numbers-bare opens
 
 -- the inputs before the last are held, and all outs were added
-held-collecting : (setup : Setup) (inputs : List ReadInput) (input : ReadInput) (w : WorldState) (rows : List Row) (n : Newest) (added : List runs.Out) → 0 < setup.config.limits.batch →
+held-collecting : (setup : Setup) (inputs : List ReadInput) (input : ReadInput) (w : WorldState) (rows : List Row) (n : CurrentInput) (added : List runs.Out) → 0 < setup.config.limits.batch →
     IsCollecting setup inputs input w rows n added → added ≡ outs setup.config (inputs ++ input ∷ []) → numbers (filter waits rows) ++ n.number ∷ [] ≡ held setup.config (inputs ++ input ∷ [])
 held-collecting setup inputs input w rows n added batch c all =
     let config : Config = setup.config in
@@ -81,35 +84,28 @@ held-collecting setup inputs input w rows n added batch c all =
 -- ---- a round
 
 -- where no input is being collected
-pub held-none : (setup : Setup) (inputs : List ReadInput) (w : WorldState) (rows : List Row) (last whole : Option Newest) (added : List runs.Out) → 0 < setup.config.limits.batch → last ≡ None →
-    IsStaged setup inputs w rows last whole added → numbers (filter waits rows) ≡ held setup.config inputs
-held-none setup inputs w rows None whole added batch is i = held-giving setup inputs w rows whole added batch i
-held-none setup inputs w rows (Some n) whole added batch is i = cc
+pub held-none : (setup : Setup) (inputs : List ReadInput) (w : WorldState) (rows : List Row) (stage : Stage) (added : List runs.Out) → 0 < setup.config.limits.batch → is_collecting stage ≡ false →
+    IsStaged setup inputs w rows stage added → numbers (filter waits rows) ≡ held setup.config inputs
+held-none setup inputs w rows stage added batch none i = held-giving setup inputs w rows (map seen_out (own stage)) added batch (giving-at setup inputs w rows stage added none i)
 
 -- where one is
-pub held-before : (setup : Setup) (inputs : List ReadInput) (w : WorldState) (rows : List Row) (last whole : Option Newest) (n : Newest) (added : List runs.Out) → 0 < setup.config.limits.batch → last ≡ Some n →
-    IsStaged setup inputs w rows last whole added → AreHeldBefore setup.config inputs (numbers (filter waits rows) ++ n.number ∷ [])
-held-before setup inputs w rows None whole n added batch is i = let no : None ≡ Some n = is in cc
-held-before setup inputs w rows (Some m) whole n added batch is i =
-    let d = i.0 in
-    let same : m ≡ n = cc in
-    let number : n.number ≡ length d.earlier = ap (λ (k : Newest). k.number) (sym same) ∙ d.collecting.number in
+pub held-before : (setup : Setup) (inputs : List ReadInput) (w : WorldState) (rows : List Row) (stage : Stage) (n : CurrentInput) (added : List runs.Out) → 0 < setup.config.limits.batch → stage ≡ Collecting n →
+    IsStaged setup inputs w rows stage added → AreHeldBefore setup.config inputs (numbers (filter waits rows) ++ n.number ∷ [])
+held-before setup inputs w rows stage n added batch is i =
+    let d = intake-at setup inputs w rows stage n added is i in
     record {
       earlier = d.earlier;
       last = d.last;
       are = d.are;
       numbers_are =
-          ap (λ (ns : List ℕ). ns ++ n.number ∷ []) (waiting-collecting setup d.earlier d.last w rows m added d.collecting ∙ sym (open_is_held setup.config d.earlier batch))
-          ∙ ap (λ (k : ℕ). held setup.config d.earlier ++ k ∷ []) number;
+          ap (λ (ns : List ℕ). ns ++ n.number ∷ []) (waiting-collecting setup d.earlier d.last w rows n added d.collecting ∙ sym (open_is_held setup.config d.earlier batch))
+          ∙ ap (λ (k : ℕ). held setup.config d.earlier ++ k ∷ []) d.collecting.number;
     }
 
 -- where all outs were added too
-pub held-some : (setup : Setup) (inputs : List ReadInput) (w : WorldState) (rows : List Row) (last whole : Option Newest) (n : Newest) (added : List runs.Out) → 0 < setup.config.limits.batch → last ≡ Some n →
-    IsStaged setup inputs w rows last whole added → added ≡ outs setup.config inputs → numbers (filter waits rows) ++ n.number ∷ [] ≡ held setup.config inputs
-held-some setup inputs w rows None whole n added batch is i all = let no : None ≡ Some n = is in cc
-held-some setup inputs w rows (Some m) whole n added batch is i all =
-    let d = i.0 in
-    let same : m ≡ n = cc in
-    ap (λ (k : Newest). numbers (filter waits rows) ++ k.number ∷ []) (sym same)
-    ∙ held-collecting setup d.earlier d.last w rows m added batch d.collecting (all ∙ ap (outs setup.config) d.are)
+pub held-some : (setup : Setup) (inputs : List ReadInput) (w : WorldState) (rows : List Row) (stage : Stage) (n : CurrentInput) (added : List runs.Out) → 0 < setup.config.limits.batch → stage ≡ Collecting n →
+    IsStaged setup inputs w rows stage added → added ≡ outs setup.config inputs → numbers (filter waits rows) ++ n.number ∷ [] ≡ held setup.config inputs
+held-some setup inputs w rows stage n added batch is i all =
+    let d = intake-at setup inputs w rows stage n added is i in
+    held-collecting setup d.earlier d.last w rows n added batch d.collecting (all ∙ ap (outs setup.config) d.are)
     ∙ ap (held setup.config) (sym d.are)

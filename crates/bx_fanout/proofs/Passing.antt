@@ -12,12 +12,13 @@ use Rattle.bx_world.specs.Headline.{EachSlot}
 use Rattle.bx_world.specs.Seen.{setup_of, world_of}
 use Rattle.bx_world.specs.Worlds.{WorldState}
 use Rattle.bx_shard.specs.Refining.{given_of}
-use Rattle.bx_fanout.specs.Desks.{Row}
-use Rattle.bx_fanout.specs.Newests.{Collects, IsCollected, NextBy, NextReady, NoneTakenFrom, next_place}
-use Rattle.bx_fanout.specs.Parts.{Stands}
-use Rattle.bx_fanout.specs.Stages.{IsCollecting, IsTakenIn, IsGiving, IsStaged, seen_out}
-use Rattle.bx_fanout.specs.declared.newest.Newest.{Newest}
-use Rattle.bx_fanout.specs.declared.parts.Parts.{Parts}
+use Rattle.bx_fanout.specs.HeldInputs.{Row}
+use Rattle.bx_fanout.specs.CurrentInputs.{Collects, IsCollected, NextBy, NextReady, NoneTakenFrom, next_place, out_of}
+use Rattle.bx_fanout.specs.RoundStates.{Stands}
+use Rattle.bx_fanout.specs.Stages.{IsCollecting, IsTakenIn, IsGiving, seen_out}
+use Rattle.bx_fanout.specs.declared.stage.Stage.TheVariants.{Collecting, Complete}
+use Rattle.bx_fanout.specs.declared.current_input.CurrentInput.{CurrentInput}
+use Rattle.bx_fanout.specs.declared.round_state.RoundState.{RoundState}
 use Rattle.bx_fanout.proofs.Collecting.{collected-more}
 use Rattle.bx_fanout.proofs.TakingIn.{collected-intake, fresh-behind}
 use Rattle.bx_fanout.proofs.Finishing.{intake-at}
@@ -36,60 +37,45 @@ next-at-once setup w place before after a each fresh next =
     )
 
 -- one more reply
-pub collected-ready : (setup : Setup) (w : WorldState) (n m : Newest) (a : Answer) → IsCollected setup w n → NextReady n.slots.items m.slots.items (Some a) → m.first ≡ n.first → m.answers.items ≡ n.answers.items ++ a ∷ [] → IsCollected setup w m
+pub collected-ready : (setup : Setup) (w : WorldState) (n m : CurrentInput) (a : Answer) → IsCollected setup w n → NextReady n.slots.items m.slots.items (Some a) → m.first ≡ n.first → m.answers.items ≡ n.answers.items ++ a ∷ [] → IsCollected setup w m
 collected-ready setup w n m a so_far next first answers =
     collected-more setup w w n m a so_far (next-at-once setup w (next_place n) n.slots.items m.slots.items a so_far.slots so_far.fresh next) first answers
 
 -- more replies were collected
-pub intake-ready : (setup : Setup) (inputs : List ReadInput) (w : WorldState) (rows : List Row) (n m : Newest) (added : List runs.Out) → 0 < setup.config.limits.batch → IsTakenIn setup inputs w rows n added →
+pub intake-ready : (setup : Setup) (inputs : List ReadInput) (w : WorldState) (rows : List Row) (n m : CurrentInput) (added : List runs.Out) → 0 < setup.config.limits.batch → IsTakenIn setup inputs w rows n added →
     (IsCollected setup w n → IsCollected setup w m) → Collects n m → IsTakenIn setup inputs w rows m added
 intake-ready setup inputs w rows n m added batch d so_far collects =
     collected-intake setup setup inputs w w rows n m added batch refl d (so_far d.collecting.collected) (record { list = refl; applied = refl; earlier = λ p less. refl }) collects
 
-giving-alone : (setup : Setup) (inputs : List ReadInput) (input : ReadInput) (w : WorldState) (rows : List Row) (n : Newest) (added : List runs.Out) → 0 < setup.config.limits.batch → rows ≡ [] → IsCollecting setup inputs input w rows n added →
-    n.slots.items ≡ [] → IsGiving setup (inputs ++ input ∷ []) w rows (Some n) added
+giving-alone : (setup : Setup) (inputs : List ReadInput) (input : ReadInput) (w : WorldState) (rows : List Row) (n : CurrentInput) (added : List runs.Out) → 0 < setup.config.limits.batch → rows ≡ [] → IsCollecting setup inputs input w rows n added →
+    n.slots.items ≡ [] → IsGiving setup (inputs ++ input ∷ []) w rows (seen_out (out_of n) ∷ []) added
 giving-alone setup inputs input w [] n added batch bare c none =
     giving-whole setup inputs input w w [] [] n added batch c none (record { list = refl; applied = refl; rows = refl; untaken = tt; fresh = fresh-behind setup inputs input w [] n added c })
 giving-alone setup inputs input w (row ∷ rows) n added batch bare c none = cc
 
 -- where no connect is held and all are replies, the input is whole
-pub giving-at-once : (setup : Setup) (inputs : List ReadInput) (w : WorldState) (rows : List Row) (n : Newest) (added : List runs.Out) → 0 < setup.config.limits.batch → rows ≡ [] → IsTakenIn setup inputs w rows n added →
-    n.slots.items ≡ [] → IsGiving setup inputs w rows (Some n) added
+pub giving-at-once : (setup : Setup) (inputs : List ReadInput) (w : WorldState) (rows : List Row) (n : CurrentInput) (added : List runs.Out) → 0 < setup.config.limits.batch → rows ≡ [] → IsTakenIn setup inputs w rows n added →
+    n.slots.items ≡ [] → IsGiving setup inputs w rows (seen_out (out_of n) ∷ []) added
 giving-at-once setup inputs w rows n added batch bare d none =
-    subst (λ (is : List ReadInput). IsGiving setup is w rows (Some n) added) (sym d.are) (giving-alone setup d.earlier d.last w rows n added batch bare d.collecting none)
+    subst (λ (is : List ReadInput). IsGiving setup is w rows (seen_out (out_of n) ∷ []) added) (sym d.are) (giving-alone setup d.earlier d.last w rows n added batch bare d.collecting none)
 
 module _ {P : Type 0} {g : Ghosts P} where
-  -- what stands of the parts stands where more replies were collected
-  pub stands-ready : (p : Parts P g) (n m : Newest) → p.newest ≡ Some n → ((setup : Setup) (w : WorldState) → IsCollected setup w n → IsCollected setup w m) → Collects n m → Stands p → Stands (record p { newest = Some m })
+  -- what stands of the state stands where more replies were collected
+  pub stands-ready : (p : RoundState P g) (n m : CurrentInput) → p.stage ≡ Collecting n → ((setup : Setup) (w : WorldState) → IsCollected setup w n → IsCollected setup w m) → Collects n m → Stands p → Stands (record p { stage = Collecting m })
   stands-ready p n m is so_far collects i =
       let inputs : List ReadInput = map read_input p.inputs in
-      let staged : IsStaged (setup_of p.world) inputs (world_of p.world) p.desk (Some n) p.whole (map seen_out p.added) =
-      subst (λ (o : Option Newest). IsStaged (setup_of p.world) inputs (world_of p.world) p.desk o p.whole (map seen_out p.added)) is i.staged in
+      let intake : IsTakenIn (setup_of p.world) inputs (world_of p.world) p.held n (map seen_out p.added) = intake-at (setup_of p.world) inputs (world_of p.world) p.held p.stage n (map seen_out p.added) is i.staged in
       record {
-        shards = i.shards;
         counted = i.counted;
-        ended = i.ended;
-        staged = (
-          intake-ready (setup_of p.world) inputs (world_of p.world) p.desk n m (map seen_out p.added) p.world.admission.config.limits.some_batch staged.0 (so_far (setup_of p.world) (world_of p.world)) collects,
-          staged.1,
-        );
+        staged = intake-ready (setup_of p.world) inputs (world_of p.world) p.held n m (map seen_out p.added) p.world.admission.config.limits.some_batch intake (so_far (setup_of p.world) (world_of p.world)) collects;
       }
 
   -- and where the input is whole with them, and no connect is held
-  pub stands-whole : (p : Parts P g) (n m : Newest) (last : Option Newest) (reached : ℕ) → p.newest ≡ Some n → last ≡ None → p.desk ≡ [] → ((setup : Setup) (w : WorldState) → IsCollected setup w n → IsCollected setup w m) → Collects n m →
-      m.slots.items ≡ [] → Stands p → Stands (record p { newest = last; whole = Some m; reached = reached })
-  stands-whole p n m last reached is gone bare so_far collects none i =
-      let inputs : List ReadInput = map read_input p.inputs in
-      let added : List runs.Out = map seen_out p.added in
-      let batch = p.world.admission.config.limits.some_batch in
-      let intake : IsTakenIn (setup_of p.world) inputs (world_of p.world) p.desk n added = intake-at (setup_of p.world) inputs (world_of p.world) p.desk p.newest n p.whole added is i.staged in
-      let more : IsTakenIn (setup_of p.world) inputs (world_of p.world) p.desk m added =
-      intake-ready (setup_of p.world) inputs (world_of p.world) p.desk n m added batch intake (so_far (setup_of p.world) (world_of p.world)) collects in
+  pub stands-whole : (p : RoundState P g) (n m : CurrentInput) → p.stage ≡ Collecting n → p.held ≡ [] → ((setup : Setup) (w : WorldState) → IsCollected setup w n → IsCollected setup w m) → Collects n m →
+      m.slots.items ≡ [] → Stands p → Stands (record p { stage = Complete m })
+  stands-whole p n m is bare so_far collects none i =
+      let more = stands-ready p n m is so_far collects i in
       record {
-        shards = i.shards;
         counted = i.counted;
-        ended = i.ended;
-        staged =
-            subst (λ (o : Option Newest). IsStaged (setup_of p.world) inputs (world_of p.world) p.desk o (Some m) added) (sym gone)
-            (giving-at-once (setup_of p.world) inputs (world_of p.world) p.desk m added batch bare more none);
+        staged = giving-at-once (setup_of p.world) (map read_input p.inputs) (world_of p.world) p.held m (map seen_out p.added) p.world.admission.config.limits.some_batch bare more.staged none;
       }

@@ -1,5 +1,5 @@
 -- What a run comes to, in the words of the definitions.
-use Rattle.std.proofs.Common.{◌≡◌, ℕ, ◌<◌, ◌≤◌, List, [], ◌∷◌, ◌++◌, length, map, take, filter, sym, ap, subst, ◌∙◌, arith, Option, Some, None, Result, Ok, Err, append_assoc}
+use Rattle.std.proofs.Common.{◌≡◌, ℕ, ◌<◌, ◌≤◌, List, [], ◌∷◌, ◌++◌, length, map, take, filter, sym, ap, subst, ◌∙◌, arith, Result, Ok, Err, append_assoc}
 use Rattle.std.proofs.lemmas.List.{map-append}
 use Rattle.bx_entry.specs.Inputs.{ReadInput}
 use Rattle.bx_entry.specs.Requests.{read_input}
@@ -10,45 +10,49 @@ use Rattle.bx_entry.specs.declared.input.Input.{Input}
 use Rattle.bx_shard.specs.Shards.{Setup}
 use Rattle.bx_world.specs.Seen.{setup_of, world_of}
 use Rattle.bx_world.specs.Worlds.{WorldState}
-use Rattle.bx_fanout.specs.Desks.{Row, outs_of}
-use Rattle.bx_fanout.specs.Opens.{is_whole, out_of, registry_after, waiting_at}
-use Rattle.bx_fanout.specs.Parts.{AddsOuts, IsSettled, Stands}
+use Rattle.bx_fanout.specs.HeldInputs.{Row, outs_of}
+use Rattle.bx_theory.specs.Opens.{is_whole, out_of, registry_after, waiting_at}
+use Rattle.bx_fanout.specs.RoundStates.{AddsOuts, IsSettled, Stands}
 use Rattle.bx_fanout.specs.Runs.{Adds, IsLevel, IsRun, Runs, added_by, inputs_of}
-use Rattle.bx_fanout.specs.Stages.{IsGiving, IsStaged, own_out, seen_out}
-use Rattle.bx_fanout.specs.declared.newest.Newest.{Newest}
+use Rattle.bx_fanout.specs.Stages.{IsGiving, IsStaged, seen_out}
+use Rattle.bx_fanout.specs.CurrentInputs as current
+use Rattle.bx_fanout.specs.declared.stage.Stage.{Stage}
+use Rattle.bx_fanout.specs.declared.stage.Stage.TheVariants.{Collecting, Complete, Idle}
 use Rattle.bx_fanout.specs.declared.out.Out.{Out}
 use Rattle.bx_fanout.specs.declared.out.RoundFault.{RoundFault}
 use Rattle.bx_fanout.specs.declared.out.RoundFault.TheVariants.{Memory}
-use Rattle.bx_fanout.specs.declared.parts.Parts.{Parts}
+use Rattle.bx_fanout.specs.declared.round_state.RoundState.{RoundState}
 use Rattle.bx_fanout.proofs.Admitted.{all-added}
-use Rattle.bx_fanout.proofs.Finishing.{giving-at}
-use Rattle.bx_fanout.proofs.Opens.{outs_add}
+use Rattle.bx_theory.proofs.Opens.{outs_add}
 
 record Front (setup : Setup) (inputs : List ReadInput) (added : List runs.Out) : Type 0 where
   rest : List runs.Out
   front : outs setup.config inputs ≡ added ++ rest
 
-front-by : (setup : Setup) (inputs : List ReadInput) (w : WorldState) (rows : List Row) (last whole : Option Newest) (added : List runs.Out) → 0 < setup.config.limits.batch → IsStaged setup inputs w rows last whole added → Front setup inputs added
-front-by setup inputs w rows None whole added batch i = record {
-  rest = map seen_out (outs_of rows) ++ own_out whole;
-  front = sym i.left ∙ append_assoc added (map seen_out (outs_of rows)) (own_out whole);
+front-giving : (setup : Setup) (inputs : List ReadInput) (w : WorldState) (rows : List Row) (left added : List runs.Out) → IsGiving setup inputs w rows left added → Front setup inputs added
+front-giving setup inputs w rows left added i = record {
+  rest = map seen_out (outs_of rows) ++ left;
+  front = sym i.left ∙ append_assoc added (map seen_out (outs_of rows)) left;
 }
-front-by setup inputs w rows (Some n) whole added batch i =
-    let d = i.0 in
+
+front-by : (setup : Setup) (inputs : List ReadInput) (w : WorldState) (rows : List Row) (stage : Stage) (added : List runs.Out) → 0 < setup.config.limits.batch → IsStaged setup inputs w rows stage added → Front setup inputs added
+front-by setup inputs w rows Idle added batch i = front-giving setup inputs w rows [] added i
+front-by setup inputs w rows (Collecting n) added batch d =
     let r = registry_after setup.config (d.earlier ++ d.last ∷ []) in
     let more : List runs.Out = map (out_of setup.config r) (filter (is_whole setup.config r) (waiting_at setup.config d.earlier d.last)) in
     record {
       rest = more;
       front = ap (outs setup.config) d.are ∙ outs_add setup.config d.earlier d.last batch ∙ ap (λ (os : List runs.Out). os ++ more) (sym d.collecting.outs_before);
     }
+front-by setup inputs w rows (Complete n) added batch i = front-giving setup inputs w rows (seen_out (current.out_of n) ∷ []) added i
 
 at-end : (m n : ℕ) → m ≤ n → n ≤ m → n ≡ m
 at-end m n low high = omega arith
 
 module _ {P : Type 0} {g : Ghosts P} where
-  adds-of : (old new : Parts P g) (before after : List Out) → 0 < (setup_of new.world).config.limits.batch → Stands new → AddsOuts old before after new → Adds old before after new
+  adds-of : (old new : RoundState P g) (before after : List Out) → 0 < (setup_of new.world).config.limits.batch → Stands new → AddsOuts old before after new → Adds old before after new
   adds-of old new before after batch s a =
-      let f = front-by (setup_of new.world) (inputs_of new) (world_of new.world) new.desk new.newest new.whole (added_by new) batch s.staged in
+      let f = front-by (setup_of new.world) (inputs_of new) (world_of new.world) new.held new.stage (added_by new) batch s.staged in
       record {
         more = a.more;
         behind = a.behind;
@@ -58,23 +62,21 @@ module _ {P : Type 0} {g : Ghosts P} where
         setup = a.setup;
       }
 
-  giving-settled : (new : Parts P g) → Stands new → IsSettled new → IsGiving (setup_of new.world) (inputs_of new) (world_of new.world) new.desk None (added_by new)
-  giving-settled new s settled =
-      subst (λ (o : Option Newest). IsGiving (setup_of new.world) (inputs_of new) (world_of new.world) new.desk o (added_by new)) settled.calm.whole
-      (giving-at (setup_of new.world) (inputs_of new) (world_of new.world) new.desk new.newest new.whole (added_by new) settled.calm.none s.staged)
+  giving-settled : (new : RoundState P g) → Stands new → IsSettled new → IsGiving (setup_of new.world) (inputs_of new) (world_of new.world) new.held [] (added_by new)
+  giving-settled new s settled = subst (λ (stage : Stage). IsStaged (setup_of new.world) (inputs_of new) (world_of new.world) new.held stage (added_by new)) settled.calm.idle s.staged
 
-  level-of : (new : Parts P g) → Stands new → IsSettled new → IsLevel new
+  level-of : (new : RoundState P g) → Stands new → IsSettled new → IsLevel new
   level-of new s settled = record {
     list = (giving-settled new s settled).list;
     level = λ k n found. at-end (length (world_of new.world).list) n (settled.level k n found) (settled.within k n found);
     holds = λ k s found. (new.world.holding k s found).holds;
   }
 
-  pub run-is : (old new : Parts P g) (inputs : List Input) (before after : List Out) (r : Result (Unit {0}) RoundFault) → 0 < (setup_of new.world).config.limits.batch → Stands new → Runs old inputs before after new r → IsRun old inputs before after new r
+  pub run-is : (old new : RoundState P g) (inputs : List Input) (before after : List Out) (r : Result (Unit {0}) RoundFault) → 0 < (setup_of new.world).config.limits.batch → Stands new → Runs old inputs before after new r → IsRun old inputs before after new r
   run-is old new inputs before after (Ok tt) batch s runs = (
     adds-of old new before after batch s runs.0,
     ap (map read_input) runs.1 ∙ map-append read_input old.inputs inputs,
-    all-added (setup_of new.world) (inputs_of new) (world_of new.world) new.desk (added_by new) (giving-settled new s runs.2) runs.2.calm.held,
+    all-added (setup_of new.world) (inputs_of new) (world_of new.world) new.held (added_by new) (giving-settled new s runs.2) runs.2.calm.held,
     level-of new s runs.2,
   )
   run-is old new inputs before after (Err (Memory admitted)) batch s runs = (

@@ -18,16 +18,16 @@ use Rattle.bx_message.specs.declared.reply.Item.{Item}
 use Rattle.bx_shard.specs.Shards.{Setup, is_taken}
 use Rattle.bx_world.specs.Worlds.{WorldState}
 use Rattle.bx_shard.specs.Refining.{given_of}
-use Rattle.bx_fanout.specs.Desks.{Row, items_of, outs_of, waits}
+use Rattle.bx_fanout.specs.HeldInputs.{Row, items_of, outs_of, waits}
 use Rattle.bx_fanout.specs.Draining.{Drained, filled}
-use Rattle.bx_fanout.specs.Newests.{AreAnswers, IsCollected, IsWhole, NoneTakenFrom, given_at, next_place, response_of}
-use Rattle.bx_fanout.specs.Newests as newests
-use Rattle.bx_fanout.specs.Opens.{Numbered, answers_to, intake_as, is_whole, newest, open_after, out_of, waiting_at}
-use Rattle.bx_fanout.specs.Sole.{IsConnect}
-use Rattle.bx_fanout.specs.Stages.{AllUntaken, IsCollecting, IsGiving, bare, own_out, seen_out}
-use Rattle.bx_fanout.specs.declared.newest.Newest.{Newest}
-use Rattle.bx_fanout.proofs.Opens.{opens_go_on, outs_add}
-use Rattle.bx_fanout.proofs.Sole.{open_are_sole}
+use Rattle.bx_fanout.specs.CurrentInputs.{AreAnswers, IsCollected, IsWhole, NoneTakenFrom, given_at, next_place, response_of}
+use Rattle.bx_fanout.specs.CurrentInputs as current
+use Rattle.bx_theory.specs.Opens.{Numbered, answers_to, intake_as, is_whole, newest, open_after, out_of, waiting_at}
+use Rattle.bx_theory.specs.Sole.{IsConnect}
+use Rattle.bx_fanout.specs.Stages.{AllUntaken, IsCollecting, IsGiving, bare, seen_out}
+use Rattle.bx_fanout.specs.declared.current_input.CurrentInput.{CurrentInput}
+use Rattle.bx_theory.proofs.Opens.{opens_go_on, outs_add}
+use Rattle.bx_theory.proofs.Sole.{open_are_sole}
 
 -- an input of one message that was not refused
 pub record IsSole (o : Numbered) : Type 0 where
@@ -174,16 +174,16 @@ answers-newest config r inputs input n e =
     ∙ ap (map (answer_in config r)) (places-are d input n e)
     ∙ ap (λ (p : ℕ). map (answer_in config r) (numbers_from p n)) (intake-first len input (refusal_of len input))
 
-result-same : (answers : List (Option PlacedAnswer)) (items : List Item) (o : Option Refusal) → answered_items answers ≡ items → result_by answers o ≡ newests.result_of items o
+result-same : (answers : List (Option PlacedAnswer)) (items : List Item) (o : Option Refusal) → answered_items answers ≡ items → result_by answers o ≡ current.result_of items o
 result-same answers items None e = ap (λ (is : List Item). Ok is) e
 result-same answers items (Some refusal) e = refl
 
 -- it is whole, and this is its out
-record Newly (config : Config) (r : Registry) (inputs : List ReadInput) (input : ReadInput) (n : Newest) : Type 0 where
+record Newly (config : Config) (r : Registry) (inputs : List ReadInput) (input : ReadInput) (n : CurrentInput) : Type 0 where
   whole : is_whole config r (newest inputs input) ≡ true
-  out : seen_out (newests.out_of n) ≡ out_of config r (newest inputs input)
+  out : seen_out (current.out_of n) ≡ out_of config r (newest inputs input)
 
-newest-whole : (setup : Setup) (inputs : List ReadInput) (input : ReadInput) (w : WorldState) (rows : List Row) (n : Newest) (added : List runs.Out) → IsCollecting setup inputs input w rows n added → n.slots.items ≡ [] →
+newest-whole : (setup : Setup) (inputs : List ReadInput) (input : ReadInput) (w : WorldState) (rows : List Row) (n : CurrentInput) (added : List runs.Out) → IsCollecting setup inputs input w rows n added → n.slots.items ≡ [] →
     Newly setup.config (registry setup.config w.list) inputs input n
 newest-whole setup inputs input w rows n added c none =
     let config : Config = setup.config in
@@ -198,8 +198,8 @@ newest-whole setup inputs input w rows n added c none =
     record {
       whole = ap (λ (os : List (Option PlacedAnswer)). is_some (latest 0 os)) answers ∙ all-there config w.list len 0 n.answers.items are;
       out =
-          let result : newests.result_of (response_of n) n.refusal ≡ result_by (answers_to config r (newest inputs input)) (newest inputs input).intake.refusal =
-          ap (newests.result_of (response_of n)) c.refusal ∙ sym (result-same (answers_to config r (newest inputs input)) (response_of n) (newest inputs input).intake.refusal items) in
+          let result : current.result_of (response_of n) n.refusal ≡ result_by (answers_to config r (newest inputs input)) (newest inputs input).intake.refusal =
+          ap (current.result_of (response_of n)) c.refusal ∙ sym (result-same (answers_to config r (newest inputs input)) (response_of n) (newest inputs input).intake.refusal items) in
           ap (λ (res : Result (List Item) Refusal). record { input = n.number; result = res }) result
           ∙ ap (λ (k : ℕ). record { input = k; result = result_by (answers_to config r (newest inputs input)) (newest inputs input).intake.refusal }) c.number;
     }
@@ -235,8 +235,8 @@ leaves setup inputs input list batch same =
     (sym same) (opens_go_on setup.config inputs input batch)
 
 -- the last input is whole: its out comes behind those of the held ones
-pub giving-whole : (setup : Setup) (inputs : List ReadInput) (input : ReadInput) (old w : WorldState) (rows after : List Row) (n : Newest) (added : List runs.Out) → 0 < setup.config.limits.batch →
-    IsCollecting setup inputs input old rows n added → n.slots.items ≡ [] → Drained setup old rows w after → IsGiving setup (inputs ++ input ∷ []) w after (Some n) added
+pub giving-whole : (setup : Setup) (inputs : List ReadInput) (input : ReadInput) (old w : WorldState) (rows after : List Row) (n : CurrentInput) (added : List runs.Out) → 0 < setup.config.limits.batch →
+    IsCollecting setup inputs input old rows n added → n.slots.items ≡ [] → Drained setup old rows w after → IsGiving setup (inputs ++ input ∷ []) w after (seen_out (current.out_of n) ∷ []) added
 giving-whole setup inputs input old w rows after n added batch c none d =
     let config : Config = setup.config in
     let r : Registry = registry config old.list in
@@ -254,9 +254,9 @@ giving-whole setup inputs input old w rows after n added batch c none d =
           subst (AllUntaken w.taken) (sym opened) (untaken-sole config old.list w.taken opens sole held);
       fresh = subst (λ (ls : List Listed). NoneTakenFrom (length ls) w.taken) (sym d.list) d.fresh;
       left =
-          ap (λ (os : List runs.Out). os ++ map seen_out (outs_of after) ++ own_out (Some n)) c.outs_before
-          ∙ ap (λ (rs : List Row). outs config inputs ++ map seen_out (outs_of rs) ++ own_out (Some n)) put
-          ∙ ap (λ (os : List runs.Out). outs config inputs ++ os ++ own_out (Some n)) (outs-sole config old.list opens sole)
+          ap (λ (os : List runs.Out). os ++ map seen_out (outs_of after) ++ (seen_out (current.out_of n) ∷ [])) c.outs_before
+          ∙ ap (λ (rs : List Row). outs config inputs ++ map seen_out (outs_of rs) ++ (seen_out (current.out_of n) ∷ [])) put
+          ∙ ap (λ (os : List runs.Out). outs config inputs ++ os ++ (seen_out (current.out_of n) ∷ [])) (outs-sole config old.list opens sole)
           ∙ ap (λ (x : runs.Out). outs config inputs ++ map (out_of config r) (filter (is_whole config r) opens) ++ x ∷ []) own.out
           ∙ append_assoc (outs config inputs) (map (out_of config r) (filter (is_whole config r) opens)) (out_of config r (newest inputs input) ∷ [])
           ∙ ap (λ (os : List runs.Out). outs config inputs ++ os) (sym (map-append (out_of config r) (filter (is_whole config r) opens) (newest inputs input ∷ [])))
@@ -274,7 +274,7 @@ more-than : (a b : ℕ) → 0 < b → (m : ℕ) × (a + b ≡ a + suc m)
 more-than a zero some = absurd (omega arith)
 more-than a (suc m) some = (m, refl)
 
-newest-missing : (setup : Setup) (inputs : List ReadInput) (input : ReadInput) (w : WorldState) (rows : List Row) (n : Newest) (added : List runs.Out) → IsCollecting setup inputs input w rows n added →
+newest-missing : (setup : Setup) (inputs : List ReadInput) (input : ReadInput) (w : WorldState) (rows : List Row) (n : CurrentInput) (added : List runs.Out) → IsCollecting setup inputs input w rows n added →
     0 < length n.slots.items → given_at setup.config w.list (next_place n) ≡ None → is_whole setup.config (registry setup.config w.list) (newest inputs input) ≡ false
 newest-missing setup inputs input w rows n added c some missing =
     let config : Config = setup.config in
@@ -287,7 +287,7 @@ newest-missing setup inputs input w rows n added c some missing =
     ∙ one-missing config w.list len 0 m.0 n.answers.items are none
 
 -- it is a connect, its request's only message
-pub newest-sole : (setup : Setup) (inputs : List ReadInput) (input : ReadInput) (w : WorldState) (rows : List Row) (n : Newest) (added : List runs.Out) → 0 < setup.config.limits.batch → IsCollecting setup inputs input w rows n added →
+pub newest-sole : (setup : Setup) (inputs : List ReadInput) (input : ReadInput) (w : WorldState) (rows : List Row) (n : CurrentInput) (added : List runs.Out) → 0 < setup.config.limits.batch → IsCollecting setup inputs input w rows n added →
     0 < length n.slots.items → given_at setup.config w.list (next_place n) ≡ None → IsConnect setup.config w.list (newest inputs input)
 newest-sole setup inputs input w rows n added batch c some missing =
     let config : Config = setup.config in
@@ -302,9 +302,9 @@ newest-sole setup inputs input w rows n added batch c some missing =
     subst (λ (ls : List Listed). IsConnect config ls (newest inputs input)) (sym c.list) (last-of config (taken_in (inputs ++ input ∷ [])).list (filter (λ (o : Numbered). not (is_whole config r o)) opens) (newest inputs input) all)
 
 -- it stands behind the others
-pub giving-held : (setup : Setup) (inputs : List ReadInput) (input : ReadInput) (old w : WorldState) (rows after : List Row) (n : Newest) (added : List runs.Out) → 0 < setup.config.limits.batch →
+pub giving-held : (setup : Setup) (inputs : List ReadInput) (input : ReadInput) (old w : WorldState) (rows after : List Row) (n : CurrentInput) (added : List runs.Out) → 0 < setup.config.limits.batch →
     IsCollecting setup inputs input old rows n added → 0 < length n.slots.items → given_at setup.config old.list (next_place n) ≡ None →
-    Drained setup old (rows ++ (n.first, record { number = n.number; answer = None }) ∷ []) w after → IsGiving setup (inputs ++ input ∷ []) w after None added
+    Drained setup old (rows ++ (n.first, record { number = n.number; answer = None }) ∷ []) w after → IsGiving setup (inputs ++ input ∷ []) w after [] added
 giving-held setup inputs input old w rows after n added batch c some missing d =
     let config : Config = setup.config in
     let r : Registry = registry config old.list in

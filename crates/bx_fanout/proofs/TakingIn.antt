@@ -18,16 +18,17 @@ use Rattle.bx_message.specs.declared.reply.Answer.{Answer}
 use Rattle.bx_shard.specs.Shards.{Setup, is_taken}
 use Rattle.bx_world.specs.Headline.{EachSlot, slot_at}
 use Rattle.bx_world.specs.Worlds.{WorldState}
-use Rattle.bx_fanout.specs.Desks.{AllBelow, Gives, Row, is_answered, out_of, outs_of, waits}
+use Rattle.bx_fanout.specs.HeldInputs.{AllBelow, Gives, Row, is_answered, out_of, outs_of, waits}
 use Rattle.bx_fanout.specs.Draining.{CanDrain, Waits}
-use Rattle.bx_fanout.specs.Newests.{AreAnswers, Collects, IsCollected, IsLevel, Keeps, NoneTakenFrom, given_at, next_place}
-use Rattle.bx_fanout.specs.Opens.{Numbered, newest, open_after}
-use Rattle.bx_fanout.specs.Sole.{IsConnect}
-use Rattle.bx_fanout.specs.Stages.{AllUntaken, GivesOut, IsCollecting, IsTakenIn, IsGiving, bare, own, own_out, seen_out}
-use Rattle.bx_fanout.specs.declared.newest.Newest.{Newest}
+use Rattle.bx_fanout.specs.CurrentInputs.{AreAnswers, Collects, IsCollected, IsLevel, Keeps, NoneTakenFrom, given_at, next_place}
+use Rattle.bx_theory.specs.Opens.{Numbered, newest, open_after}
+use Rattle.bx_theory.specs.Sole.{IsConnect}
+use Rattle.bx_fanout.specs.Stages.{AllUntaken, GivesOut, IsCollecting, IsTakenIn, IsGiving, bare, is_collecting, own, seen_out}
+use Rattle.bx_fanout.specs.declared.current_input.CurrentInput.{CurrentInput}
 use Rattle.bx_fanout.specs.declared.out.Out.{Out}
+use Rattle.bx_fanout.specs.declared.stage.Stage.{Stage}
 use Rattle.bx_fanout.proofs.Draining.{inside}
-use Rattle.bx_fanout.proofs.Sole.{open_are_sole}
+use Rattle.bx_theory.proofs.Sole.{open_are_sole}
 use Rattle.bx_fanout.proofs.Stages.{intake-first, intake-input, newest-sole}
 
 -- ---- the list
@@ -67,7 +68,7 @@ below-all config list [] all = tt
 below-all config list (o ∷ os) all = (slot-within config list o.intake.first (Waiting all.0.session) all.0.waits, below-all config list os all.1)
 
 -- the last input's connect stands behind them
-pub held-below : (setup : Setup) (inputs : List ReadInput) (input : ReadInput) (w : WorldState) (rows : List Row) (n : Newest) (added : List runs.Out) → 0 < setup.config.limits.batch → IsCollecting setup inputs input w rows n added → AllBelow n.first rows
+pub held-below : (setup : Setup) (inputs : List ReadInput) (input : ReadInput) (w : WorldState) (rows : List Row) (n : CurrentInput) (added : List runs.Out) → 0 < setup.config.limits.batch → IsCollecting setup inputs input w rows n added → AllBelow n.first rows
 held-below setup inputs input w rows n added batch c =
     let config : Config = setup.config in
     let below : AllBelow (length (taken_in inputs).list) (map bare (open_after config inputs)) = below-all config (taken_in inputs).list (open_after config inputs) (open_are_sole config inputs batch) in
@@ -86,7 +87,7 @@ wait-all setup w before more (o ∷ os) list all untaken = (
   wait-all setup w before more os list all.1 untaken.1,
 )
 
-waits-held : (setup : Setup) (inputs : List ReadInput) (input : ReadInput) (w : WorldState) (rows : List Row) (n : Newest) (added : List runs.Out) → 0 < setup.config.limits.batch → IsCollecting setup inputs input w rows n added → AllByRecursion (Waits setup w) rows
+waits-held : (setup : Setup) (inputs : List ReadInput) (input : ReadInput) (w : WorldState) (rows : List Row) (n : CurrentInput) (added : List runs.Out) → 0 < setup.config.limits.batch → IsCollecting setup inputs input w rows n added → AllByRecursion (Waits setup w) rows
 waits-held setup inputs input w rows n added batch c =
     let g = grows inputs input in
     subst (AllByRecursion (Waits setup w)) (sym c.held)
@@ -101,7 +102,7 @@ reach config list place (a ∷ answers) are le =
     let rest : place + 1 + length answers ≤ length list = reach config list (place + 1) answers are.1 (omega arith) in
     omega (arith, add-one (length answers))
 
-pub fresh-behind : (setup : Setup) (inputs : List ReadInput) (input : ReadInput) (w : WorldState) (rows : List Row) (n : Newest) (added : List runs.Out) → IsCollecting setup inputs input w rows n added → NoneTakenFrom (length w.list) w.taken
+pub fresh-behind : (setup : Setup) (inputs : List ReadInput) (input : ReadInput) (w : WorldState) (rows : List Row) (n : CurrentInput) (added : List runs.Out) → IsCollecting setup inputs input w rows n added → NoneTakenFrom (length w.list) w.taken
 fresh-behind setup inputs input w rows n added c = λ p le.
     let g = grows inputs input in
     let len : length w.list ≡ length (taken_in inputs).list + length g.0 = ap (λ (ls : List Listed). length ls) (c.list ∙ g.1) ∙ length-append (taken_in inputs).list g.0 in
@@ -111,7 +112,7 @@ fresh-behind setup inputs input w rows n added c = λ p le.
 
 -- ---- answers can be put
 
-pub can-drain : (setup : Setup) (inputs : List ReadInput) (input : ReadInput) (w : WorldState) (rows : List Row) (n : Newest) (added : List runs.Out) → 0 < setup.config.limits.batch → IsCollecting setup inputs input w rows n added → IsLevel w → CanDrain setup w rows
+pub can-drain : (setup : Setup) (inputs : List ReadInput) (input : ReadInput) (w : WorldState) (rows : List Row) (n : CurrentInput) (added : List runs.Out) → 0 < setup.config.limits.batch → IsCollecting setup inputs input w rows n added → IsLevel w → CanDrain setup w rows
 can-drain setup inputs input w rows n added batch c level = record {
   level = level;
   each = waits-held setup inputs input w rows n added batch c;
@@ -123,7 +124,7 @@ all-behind P [] row all here = (here, tt)
 all-behind P (r ∷ rows) row all here = (all.0, all-behind P rows row all.1 here)
 
 -- the same where the last input is held
-pub can-drain-held : (setup : Setup) (inputs : List ReadInput) (input : ReadInput) (w : WorldState) (rows : List Row) (n : Newest) (added : List runs.Out) → 0 < setup.config.limits.batch → IsCollecting setup inputs input w rows n added → IsLevel w →
+pub can-drain-held : (setup : Setup) (inputs : List ReadInput) (input : ReadInput) (w : WorldState) (rows : List Row) (n : CurrentInput) (added : List runs.Out) → 0 < setup.config.limits.batch → IsCollecting setup inputs input w rows n added → IsLevel w →
     0 < length n.slots.items → given_at setup.config w.list (next_place n) ≡ None → CanDrain setup w (rows ++ (n.first, record { number = n.number; answer = None }) ∷ [])
 can-drain-held setup inputs input w rows n added batch c level some missing =
     let connect = newest-sole setup inputs input w rows n added batch c some missing in
@@ -144,20 +145,6 @@ can-drain-held setup inputs input w rows n added batch c level some missing =
       fresh = fresh-behind setup inputs input w rows n added c;
     }
 
--- ---- outs are given
-
-pub giving-on : (setup : Setup) (inputs : List ReadInput) (w : WorldState) (rows after : List Row) (own : Option Newest) (before outs' : List Out) (added : List runs.Out) → IsGiving setup inputs w rows own added → (g : Gives rows before outs' after) →
-    IsGiving setup inputs w after own (added ++ map seen_out g.more)
-giving-on setup inputs w rows after own before outs' added i g = record {
-  list = i.list;
-  rest = g.others ∙ i.rest;
-  untaken = i.untaken;
-  fresh = i.fresh;
-  left =
-      let parts : map seen_out (outs_of rows) ≡ map seen_out g.more ++ map seen_out (outs_of after) = ap (map seen_out) g.given ∙ map-append seen_out g.more (outs_of after) in
-      ap (λ (os : List runs.Out). os ++ own_out own) (append_assoc added (map seen_out g.more) (map seen_out (outs_of after)) ∙ ap (λ (os : List runs.Out). added ++ os) (sym parts)) ∙ i.left;
-}
-
 -- ---- answers were collected
 
 untaken-on : (config : Config) (list : List Listed) (place : ℕ) (before after : List ℕ) (os : List Numbered) → length list ≤ place → ((p : ℕ) → p < place → is_taken after p ≡ is_taken before p) → AllByRecursion (IsConnect config list) os →
@@ -167,7 +154,7 @@ untaken-on config list place before after (o ∷ os) le same all untaken =
     let less : o.intake.first < length list = slot-within config list o.intake.first (Waiting all.0.session) all.0.waits in
     (same o.intake.first (omega arith) ∙ untaken.0, untaken-on config list place before after os le same all.1 untaken.1)
 
-pub collecting-on : (setup : Setup) (inputs : List ReadInput) (input : ReadInput) (old new : WorldState) (rows : List Row) (n m : Newest) (added : List runs.Out) → 0 < setup.config.limits.batch → IsCollecting setup inputs input old rows n added →
+pub collecting-on : (setup : Setup) (inputs : List ReadInput) (input : ReadInput) (old new : WorldState) (rows : List Row) (n m : CurrentInput) (added : List runs.Out) → 0 < setup.config.limits.batch → IsCollecting setup inputs input old rows n added →
     IsCollected setup new m → Keeps n.first old new → Collects n m → IsCollecting setup inputs input new rows m added
 collecting-on setup inputs input old new rows n m added batch c so_far keeps collects =
     let first = c.first in
@@ -184,7 +171,7 @@ collecting-on setup inputs input old new rows n m added batch c so_far keeps col
       outs_before = c.outs_before;
     }
 
-pub collected-intake : (s setup : Setup) (inputs : List ReadInput) (old new : WorldState) (rows : List Row) (n m : Newest) (added : List runs.Out) → 0 < setup.config.limits.batch → s ≡ setup → IsTakenIn setup inputs old rows n added →
+pub collected-intake : (s setup : Setup) (inputs : List ReadInput) (old new : WorldState) (rows : List Row) (n m : CurrentInput) (added : List runs.Out) → 0 < setup.config.limits.batch → s ≡ setup → IsTakenIn setup inputs old rows n added →
     IsCollected s new m → Keeps n.first old new → Collects n m → IsTakenIn s inputs new rows m added
 collected-intake s setup inputs old new rows n m added batch same d so_far keeps collects =
     subst (λ (t : Setup). IsTakenIn t inputs new rows m added) (sym same) (record {
@@ -199,7 +186,7 @@ on-err (Ok x) p = tt
 on-err (Err e) p = p
 
 -- what was given, of the same world
-pub giving-of : (s setup : Setup) (inputs xs : List ReadInput) (w : WorldState) (rows : List Row) (own : Option Newest) (added : List runs.Out) → s ≡ setup → inputs ≡ xs → IsGiving setup xs w rows own added → IsGiving s inputs w rows own added
+pub giving-of : (s setup : Setup) (inputs xs : List ReadInput) (w : WorldState) (rows : List Row) (own : List runs.Out) (added : List runs.Out) → s ≡ setup → inputs ≡ xs → IsGiving setup xs w rows own added → IsGiving s inputs w rows own added
 giving-of s setup inputs xs w rows own added same are g =
     subst (λ (t : Setup). IsGiving t inputs w rows own added) (sym same) (subst (λ (ys : List ReadInput). IsGiving setup ys w rows own added) (sym are) g)
 
@@ -216,31 +203,39 @@ none-answered (row ∷ rows) = none-by row rows (none-answered rows) row.1.answe
 pub none-left : (rows after : List Row) → after ≡ filter waits rows → outs_of after ≡ []
 none-left rows after is = ap outs_of is ∙ ap (map out_of) (none-answered rows)
 
-pub gives-own : {T E : Type 0} (rows after : List Row) (whole whole' : Option Newest) (before middle outs' : List Out) (r : Result T E) → Gives rows before middle after → after ≡ filter waits rows → OnOk r (whole' ≡ None) → OnOk r (outs' ≡ middle ++ own whole) →
-    OnErr r (own whole' ≡ own whole) → OnErr r (outs' ≡ middle) → GivesOut rows whole before outs' after whole'
-gives-own rows after whole whole' before middle outs' (Ok x) g held none added left same = record {
-  more = g.more ++ own whole;
-  behind = added ∙ ap (λ (os : List Out). os ++ own whole) g.behind ∙ append_assoc before g.more (own whole);
+pub gives-own : {T E : Type 0} (rows after : List Row) (stage stage' : Stage) (before middle outs' : List Out) (r : Result T E) → Gives rows before middle after → after ≡ filter waits rows → OnOk r (own stage' ≡ []) → OnOk r (outs' ≡ middle ++ own stage) →
+    OnErr r (own stage' ≡ own stage) → OnErr r (outs' ≡ middle) → is_collecting stage' ≡ is_collecting stage → GivesOut rows stage before outs' after stage'
+gives-own rows after stage stage' before middle outs' (Ok x) g held none added left same collecting = record {
+  more = g.more ++ own stage;
+  behind = added ∙ ap (λ (os : List Out). os ++ own stage) g.behind ∙ append_assoc before g.more (own stage);
   given =
-      let empty : outs_of after ++ own whole' ≡ [] = ap (λ (os : List Out). os ++ own whole') (none-left rows after held) ∙ ap own none in
+      let empty : outs_of after ++ own stage' ≡ [] = ap (λ (os : List Out). os ++ own stage') (none-left rows after held) ∙ none in
       let given : outs_of rows ≡ g.more = g.given ∙ ap (λ (os : List Out). g.more ++ os) (none-left rows after held) ∙ append-nil g.more in
-      ap (λ (os : List Out). os ++ own whole) given ∙ sym (append-nil (g.more ++ own whole)) ∙ ap (λ (os : List Out). (g.more ++ own whole) ++ os) (sym empty);
+      ap (λ (os : List Out). os ++ own stage) given ∙ sym (append-nil (g.more ++ own stage)) ∙ ap (λ (os : List Out). (g.more ++ own stage) ++ os) (sym empty);
   others = g.others;
+  collecting = collecting;
 }
-gives-own rows after whole whole' before middle outs' (Err e) g held none added left same = record {
+gives-own rows after stage stage' before middle outs' (Err e) g held none added left same collecting = record {
   more = g.more;
   behind = same ∙ g.behind;
-  given = ap (λ (os : List Out). os ++ own whole) g.given ∙ append_assoc g.more (outs_of after) (own whole) ∙ ap (λ (os : List Out). g.more ++ (outs_of after ++ os)) (sym left);
+  given = ap (λ (os : List Out). os ++ own stage) g.given ∙ append_assoc g.more (outs_of after) (own stage) ∙ ap (λ (os : List Out). g.more ++ (outs_of after ++ os)) (sym left);
   others = g.others;
+  collecting = collecting;
 }
 
-seen-own : (whole : Option Newest) → own_out whole ≡ map seen_out (own whole)
-seen-own None = refl
-seen-own (Some n) = refl
+-- nothing but the held connects' outs was given
+pub gives-held : (rows after : List Row) (stage : Stage) (before middle : List Out) → Gives rows before middle after → GivesOut rows stage before middle after stage
+gives-held rows after stage before middle g = record {
+  more = g.more;
+  behind = g.behind;
+  given = ap (λ (os : List Out). os ++ own stage) g.given ∙ append_assoc g.more (outs_of after) (own stage);
+  others = g.others;
+  collecting = refl;
+}
 
-pub giving-out : (setup : Setup) (inputs : List ReadInput) (w : WorldState) (rows after : List Row) (whole whole' : Option Newest) (before outs' : List Out) (added : List runs.Out) → IsGiving setup inputs w rows whole added →
-    (g : GivesOut rows whole before outs' after whole') → IsGiving setup inputs w after whole' (added ++ map seen_out g.more)
-giving-out setup inputs w rows after whole whole' before outs' added i g = record {
+pub giving-out : (setup : Setup) (inputs : List ReadInput) (w : WorldState) (rows after : List Row) (stage stage' : Stage) (before outs' : List Out) (added : List runs.Out) → IsGiving setup inputs w rows (map seen_out (own stage)) added →
+    (g : GivesOut rows stage before outs' after stage') → IsGiving setup inputs w after (map seen_out (own stage')) (added ++ map seen_out g.more)
+giving-out setup inputs w rows after stage stage' before outs' added i g = record {
   list = i.list;
   rest = g.others ∙ i.rest;
   untaken = i.untaken;
@@ -248,14 +243,14 @@ giving-out setup inputs w rows after whole whole' before outs' added i g = recor
   left =
       let more : List runs.Out = map seen_out g.more in
       let mine : List runs.Out = map seen_out (outs_of after) in
-      let all : map seen_out (outs_of rows) ++ own_out whole ≡ more ++ (mine ++ own_out whole') =
-      ap (λ (os : List runs.Out). map seen_out (outs_of rows) ++ os) (seen-own whole) ∙ sym (map-append seen_out (outs_of rows) (own whole)) ∙ ap (map seen_out) g.given
-      ∙ map-append seen_out g.more (outs_of after ++ own whole') ∙ ap (λ (os : List runs.Out). more ++ os) (map-append seen_out (outs_of after) (own whole'))
-      ∙ ap (λ (os : List runs.Out). more ++ (mine ++ os)) (sym (seen-own whole')) in
-      ap (λ (os : List runs.Out). os ++ own_out whole') (append_assoc added more mine)
-      ∙ append_assoc added (more ++ mine) (own_out whole')
-      ∙ ap (λ (os : List runs.Out). added ++ os) (append_assoc more mine (own_out whole') ∙ sym all)
-      ∙ sym (append_assoc added (map seen_out (outs_of rows)) (own_out whole))
+      let own' : List runs.Out = map seen_out (own stage') in
+      let all : map seen_out (outs_of rows) ++ map seen_out (own stage) ≡ more ++ (mine ++ own') =
+      sym (map-append seen_out (outs_of rows) (own stage)) ∙ ap (map seen_out) g.given ∙ map-append seen_out g.more (outs_of after ++ own stage')
+      ∙ ap (λ (os : List runs.Out). more ++ os) (map-append seen_out (outs_of after) (own stage')) in
+      ap (λ (os : List runs.Out). os ++ own') (append_assoc added more mine)
+      ∙ append_assoc added (more ++ mine) own'
+      ∙ ap (λ (os : List runs.Out). added ++ os) (append_assoc more mine own' ∙ sym all)
+      ∙ sym (append_assoc added (map seen_out (outs_of rows)) (map seen_out (own stage)))
       ∙ i.left;
 }
 
@@ -278,7 +273,7 @@ level-all len (x ∷ xs) none k n found =
     level-by len x xs (level-all len xs rest) (nat_lt x len) refl here k n found
 
 -- what is collected stands on the list and on what was taken alone
-pub collecting-same : (setup : Setup) (inputs : List ReadInput) (input : ReadInput) (old new : WorldState) (rows : List Row) (n : Newest) (added : List runs.Out) → new.list ≡ old.list → new.taken ≡ old.taken →
+pub collecting-same : (setup : Setup) (inputs : List ReadInput) (input : ReadInput) (old new : WorldState) (rows : List Row) (n : CurrentInput) (added : List runs.Out) → new.list ≡ old.list → new.taken ≡ old.taken →
     IsCollecting setup inputs input old rows n added → IsCollecting setup inputs input new rows n added
 collecting-same setup inputs input old new rows n added list taken c = record {
   list = list ∙ c.list;
@@ -297,7 +292,7 @@ collecting-same setup inputs input old new rows n added list taken c = record {
   outs_before = c.outs_before;
 }
 
-pub intake-same : (s setup : Setup) (inputs : List ReadInput) (old new : WorldState) (rows : List Row) (n : Newest) (added : List runs.Out) → s ≡ setup → new.list ≡ old.list → new.taken ≡ old.taken →
+pub intake-same : (s setup : Setup) (inputs : List ReadInput) (old new : WorldState) (rows : List Row) (n : CurrentInput) (added : List runs.Out) → s ≡ setup → new.list ≡ old.list → new.taken ≡ old.taken →
     IsTakenIn setup inputs old rows n added → IsTakenIn s inputs new rows n added
 intake-same s setup inputs old new rows n added same list taken d =
     subst (λ (t : Setup). IsTakenIn t inputs new rows n added) (sym same)

@@ -7,8 +7,8 @@ use Rattle.bx_entry.specs.Registry.{Waiting}
 use Rattle.bx_shard.specs.Shards.{Setup, is_taken, shard_at}
 use Rattle.bx_world.specs.Headline.{slot_at}
 use Rattle.bx_world.specs.Worlds.{WorldState}
-use Rattle.bx_fanout.specs.Desks.{Row}
-use Rattle.bx_fanout.specs.Newests.{IsLevel, NoneTakenFrom, given_at}
+use Rattle.bx_fanout.specs.HeldInputs.{Row}
+use Rattle.bx_fanout.specs.CurrentInputs.{IsLevel, NoneTakenFrom, given_at}
 
 -- a connect that waits here, whose answer was not taken
 pub record Waits (setup : Setup) (w : WorldState) (row : Row) : Type 0 where

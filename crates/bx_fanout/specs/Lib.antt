@@ -1,10 +1,8 @@
-pub mod Desks
+pub mod HeldInputs
 pub mod Draining
-pub mod Newests
-pub mod Opens
-pub mod Parts
+pub mod CurrentInputs
+pub mod RoundStates
 pub mod Props
 pub mod Rounds
 pub mod Runs
-pub mod Sole
 pub mod Stages

@@ -1,5 +1,5 @@
--- What stands of a round's parts is a fact: what else it speaks of is determined by them.
-use Rattle.std.specs.Prelude.{ℕ, ◌+◌, ◌≡◌, List, [], ◌∷◌, ◌++◌, Option, Some, None}
+-- What stands of a round's state is a fact: what else it speaks of is determined by them.
+use Rattle.std.specs.Prelude.{ℕ, ◌+◌, ◌≡◌, List, [], ◌∷◌, ◌++◌, Some}
 use Rattle.std.specs.Coded.{×_prop, Unit-prop}
 use Rattle.std.proofs.Common.{refl, sym, ap, ◌∙◌}
 use Rattle.std.proofs.Props.{props}
@@ -18,12 +18,14 @@ use Rattle.bx_message.specs.declared.reply.Answer.{Answer}
 use Rattle.bx_shard.specs.Shards.{Setup}
 use Rattle.bx_world.specs.Headline.{EachSlot, IsSlot, IsTicket, slot_at}
 use Rattle.bx_world.specs.Worlds.{WorldState}
-use Rattle.bx_fanout.specs.Desks.{Row}
-use Rattle.bx_fanout.specs.Newests.{AreAnswers}
-use Rattle.bx_fanout.specs.Parts.{Stands}
+use Rattle.bx_fanout.specs.HeldInputs.{Row}
+use Rattle.bx_fanout.specs.CurrentInputs.{AreAnswers}
+use Rattle.bx_fanout.specs.RoundStates.{Stands}
 use Rattle.bx_fanout.specs.Stages.{IsCollecting, IsTakenIn, IsStaged}
-use Rattle.bx_fanout.specs.declared.newest.Newest.{Newest}
-use Rattle.bx_fanout.specs.declared.parts.Parts.{Parts}
+use Rattle.bx_fanout.specs.declared.current_input.CurrentInput.{CurrentInput}
+use Rattle.bx_fanout.specs.declared.stage.Stage.{Stage}
+use Rattle.bx_fanout.specs.declared.stage.Stage.TheVariants.{Collecting, Complete, Idle}
+use Rattle.bx_fanout.specs.declared.round_state.RoundState.{RoundState}
 
 -- ---- facts of what is determined
 
@@ -69,13 +71,13 @@ slots-prop setup list place (slot ∷ slots) = ×_prop (slot-prop setup list pla
 same-ends : (xs ys : List ReadInput) (x y : ReadInput) → xs ++ x ∷ [] ≡ ys ++ y ∷ [] → ◌≡◌ {A = List ReadInput × ReadInput} (xs, x) (ys, y)
 same-ends xs ys x y e = let same = same_from_push xs ys x y e in λ i. (same.0 i, same.1 i)
 
-collecting-prop : (setup : Setup) (inputs : List ReadInput) (input : ReadInput) (w : WorldState) (rows : List Row) (n : Newest) (added : List runs.Out) → IsProp (IsCollecting setup inputs input w rows n added)
+collecting-prop : (setup : Setup) (inputs : List ReadInput) (input : ReadInput) (w : WorldState) (rows : List Row) (n : CurrentInput) (added : List runs.Out) → IsProp (IsCollecting setup inputs input w rows n added)
 collecting-prop setup inputs input w rows n added = hlevel (answers-prop, slots-prop, props)
 
-abbrev TakesIn : Setup → List ReadInput → WorldState → List Row → Newest → List runs.Out → List ReadInput × ReadInput → Type 0
+abbrev TakesIn : Setup → List ReadInput → WorldState → List Row → CurrentInput → List runs.Out → List ReadInput × ReadInput → Type 0
 TakesIn setup inputs w rows n added ends = (inputs ≡ ends.0 ++ ends.1 ∷ []) × IsCollecting setup ends.0 ends.1 w rows n added
 
-intake-prop : (setup : Setup) (inputs : List ReadInput) (w : WorldState) (rows : List Row) (n : Newest) (added : List runs.Out) → IsProp (IsTakenIn setup inputs w rows n added)
+intake-prop : (setup : Setup) (inputs : List ReadInput) (w : WorldState) (rows : List Row) (n : CurrentInput) (added : List runs.Out) → IsProp (IsTakenIn setup inputs w rows n added)
 intake-prop setup inputs w rows n added = back-prop {B = (ends : List ReadInput × ReadInput) × TakesIn setup inputs w rows n added ends}
     (λ d. ((d.earlier, d.last), (d.are, d.collecting)))
     (λ p. record { earlier = p.0.0; last = p.0.1; are = p.1.0; collecting = p.1.1 })
@@ -86,9 +88,10 @@ intake-prop setup inputs w rows n added = back-prop {B = (ends : List ReadInput 
 
 -- ---- all that stands
 
-staged-prop : (setup : Setup) (inputs : List ReadInput) (w : WorldState) (rows : List Row) (newest whole : Option Newest) (added : List runs.Out) → IsProp (IsStaged setup inputs w rows newest whole added)
-staged-prop setup inputs w rows None whole added = hlevel props
-staged-prop setup inputs w rows (Some n) whole added = hlevel (intake-prop, props)
+staged-prop : (setup : Setup) (inputs : List ReadInput) (w : WorldState) (rows : List Row) (stage : Stage) (added : List runs.Out) → IsProp (IsStaged setup inputs w rows stage added)
+staged-prop setup inputs w rows Idle added = hlevel props
+staged-prop setup inputs w rows (Collecting n) added = intake-prop setup inputs w rows n added
+staged-prop setup inputs w rows (Complete n) added = hlevel props
 
-pub stands-prop : {P : Type 0} {g : Ghosts P} (p : Parts P g) → IsProp (Stands p)
+pub stands-prop : {P : Type 0} {g : Ghosts P} (p : RoundState P g) → IsProp (Stands p)
 stands-prop p = hlevel (staged-prop, props)

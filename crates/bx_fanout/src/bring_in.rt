@@ -1,13 +1,13 @@
 //! The answers that the last input brings.
-ghost use Rattle.std.specs.Prelude.{◌≡◌, map, if◌then◌else◌, IfOk, OnErr};
+ghost use Rattle.std.specs.Prelude.{◌≡◌, [], ◌∷◌, map, if◌then◌else◌, IfOk, OnErr};
 ghost use Rattle.bx_entry.specs.Requests.{read_input};
-ghost use Rattle.bx_fanout.specs.Newests.{IsLevel};
+ghost use Rattle.bx_fanout.specs.CurrentInputs.{IsLevel, out_of};
 ghost use Rattle.bx_fanout.specs.Stages.{IsTakenIn, IsGiving, seen_out};
 ghost use Rattle.bx_world.specs.Seen.{setup_of, world_of};
 
-use crate::desk::Desk;
+use crate::current_input::CurrentInput;
 use crate::drain::drain;
-use crate::newest::Newest;
+use crate::held_inputs::HeldInputs;
 use crate::out::Out;
 use bx_entry::{Input, Placing};
 use bx_history::History;
@@ -19,27 +19,25 @@ use std::alloc::{AllocError, Global};
 pub(crate) fn bring_in<P: Placing>(
     alloc: Global,
     world: &mut World<P>,
-    shards: usize,
-    desk: &mut Desk,
-    newest: &mut Newest,
+    held: &mut HeldInputs,
+    current: &mut CurrentInput,
     inputs: &History<Input>,
     added: &History<Out>,
 ) -> Result<bool, AllocError>
-    requires shards { shards ≡ (setup_of world.old).shards }
     requires level { IsLevel (world_of world.old) }
-    requires intake { IsTakenIn (setup_of world.old) (map read_input inputs.now) (world_of world.old) desk.old newest.old (map seen_out added.now) }
-    ensures giving { IfOk result (λ whole. IsGiving (setup_of world.new) (map read_input inputs.now) (world_of world.new) desk.new
-        (if whole then Some newest.new else None) (map seen_out added.now)) }
-    ensures intake { OnErr result (IsTakenIn (setup_of world.new) (map read_input inputs.now) (world_of world.new) desk.new newest.new (map seen_out added.now)) }
+    requires intake { IsTakenIn (setup_of world.old) (map read_input inputs.now) (world_of world.old) held.old current.old (map seen_out added.now) }
+    ensures giving { IfOk result (λ whole. IsGiving (setup_of world.new) (map read_input inputs.now) (world_of world.new) held.new
+        (if whole then seen_out (out_of current.new) ∷ [] else []) (map seen_out added.now)) }
+    ensures intake { OnErr result (IsTakenIn (setup_of world.new) (map read_input inputs.now) (world_of world.new) held.new current.new (map seen_out added.now)) }
     ensures list { (world_of world.new).list ≡ (world_of world.old).list }
     ensures applied { (world_of world.new).applied ≡ (world_of world.old).applied }
     ensures setup { setup_of world.new ≡ setup_of world.old }
 {
-    if newest.collect(alloc, world)? {
-        drain(world, shards, desk);
+    if current.collect(alloc, world)? {
+        drain(world, held);
         return Ok(true);
     }
-    desk.hold(newest.first, newest.number)?;
-    drain(world, shards, desk);
+    held.hold(current.first, current.number)?;
+    drain(world, held);
     Ok(false)
 }

@@ -1,34 +1,33 @@
 //! The answers that the shards have filed, put to the connects that wait for them.
 ghost use Rattle.std.specs.Prelude.{◌≡◌, ◌+◌, List};
-ghost use Rattle.bx_fanout.specs.Desks.{Row};
+ghost use Rattle.bx_fanout.specs.HeldInputs.{Row};
 ghost use Rattle.bx_fanout.specs.Draining.{CanDrain, Drained, Draining};
 ghost use Rattle.bx_world.specs.Seen.{setup_of, world_of};
 
-use crate::desk::Desk;
+use crate::held_inputs::HeldInputs;
 use bx_entry::Placing;
 use bx_world::World;
 
-/// Puts to each connect that waits its answer, where one is filed. There are so many shards.
-pub(crate) fn drain<P: Placing>(world: &mut World<P>, shards: usize, desk: &mut Desk)
-    requires shards { shards ≡ (setup_of world.old).shards }
-    requires can { CanDrain (setup_of world.old) (world_of world.old) desk.old }
-    ensures drained { Drained (setup_of world.old) (world_of world.old) desk.old (world_of world.new) desk.new }
+/// Puts to each connect that waits its answer, where one is filed.
+pub(crate) fn drain<P: Placing>(world: &mut World<P>, held: &mut HeldInputs)
+    requires can { CanDrain (setup_of world.old) (world_of world.old) held.old }
+    ensures drained { Drained (setup_of world.old) (world_of world.old) held.old (world_of world.new) held.new }
     ensures setup { setup_of world.new ≡ setup_of world.old }
 {
-    for shard in 0..shards {
-        drain_shard(world, shard, desk);
+    for shard in 0..world.shards() {
+        drain_shard(world, shard, held);
     }
 }
 
 // The same of one shard.
-fn drain_shard<P: Placing>(world: &mut World<P>, shard: usize, desk: &mut Desk)
-    ensures draining { (before : List Row) → Draining (setup_of world.old) before (world_of world.old) desk.old shard
-        → Draining (setup_of world.old) before (world_of world.new) desk.new (shard + 1) }
+fn drain_shard<P: Placing>(world: &mut World<P>, shard: usize, held: &mut HeldInputs)
+    ensures draining { (before : List Row) → Draining (setup_of world.old) before (world_of world.old) held.old shard
+        → Draining (setup_of world.old) before (world_of world.new) held.new (shard + 1) }
     ensures list { (world_of world.new).list ≡ (world_of world.old).list }
     ensures applied { (world_of world.new).applied ≡ (world_of world.old).applied }
     ensures setup { setup_of world.new ≡ setup_of world.old }
 {
     while let Some(filing) = world.take_any(shard) {
-        desk.answer(filing.connect, filing.answer);
+        held.answer(filing.connect, filing.answer);
     }
 }

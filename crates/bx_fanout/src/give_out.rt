@@ -1,43 +1,44 @@
 //! The outs that are left to be added.
-ghost use Rattle.std.specs.Prelude.{◌≡◌, ◌++◌, None, filter, IfOk, OnErr};
-ghost use Rattle.bx_fanout.specs.Desks.{waits};
-ghost use Rattle.bx_fanout.specs.Stages.{GivesOut, own};
+ghost use Rattle.std.specs.Prelude.{◌≡◌, ◌++◌, [], filter, IfOk, OnErr};
+ghost use Rattle.bx_fanout.specs.HeldInputs.{waits};
+ghost use Rattle.bx_fanout.specs.Stages.{GivesOut, is_collecting, own};
 
-use crate::desk::Desk;
-use crate::newest::Newest;
+use crate::held_inputs::HeldInputs;
 use crate::out::Out;
+use crate::stage::Stage;
 use std::alloc::{AllocError, Global};
 
 /// Adds the outs of the held connects that are answered, and then that of the input that is whole. Where memory is
 /// refused the first of them are added, and the next call goes on.
 pub(crate) fn give_out(
     alloc: Global,
-    desk: &mut Desk,
-    whole: &mut Option<Newest>,
+    held: &mut HeldInputs,
+    stage: &mut Stage,
     outs: &mut Vec<Out>,
 ) -> Result<(), AllocError>
-    ensures gives { GivesOut desk.old whole.old outs.old.items outs.new.items desk.new whole.new }
-    ensures held { IfOk result (λ _. desk.new ≡ filter waits desk.old) }
-    ensures all { IfOk result (λ _. whole.new ≡ None) }
+    ensures gives { GivesOut held.old stage.old outs.old.items outs.new.items held.new stage.new }
+    ensures held { IfOk result (λ _. held.new ≡ filter waits held.old) }
+    ensures all { IfOk result (λ _. own stage.new ≡ []) }
 {
-    desk.give(alloc, outs)?;
-    give_own(whole, outs)
+    held.give(alloc, outs)?;
+    give_own(stage, outs)
 }
 
 // Adds the out of the input that is whole.
-fn give_own(whole: &mut Option<Newest>, outs: &mut Vec<Out>) -> Result<(), AllocError>
-    ensures all { IfOk result (λ _. whole.new ≡ None) }
-    ensures added { IfOk result (λ _. outs.new.items ≡ outs.old.items ++ own whole.old) }
-    ensures left { OnErr result (own whole.new ≡ own whole.old) }
+fn give_own(stage: &mut Stage, outs: &mut Vec<Out>) -> Result<(), AllocError>
+    ensures all { IfOk result (λ _. own stage.new ≡ []) }
+    ensures added { IfOk result (λ _. outs.new.items ≡ outs.old.items ++ own stage.old) }
+    ensures left { OnErr result (own stage.new ≡ own stage.old) }
     ensures same { OnErr result (outs.new.items ≡ outs.old.items) }
+    ensures collecting { is_collecting stage.new ≡ is_collecting stage.old }
 {
-    let Some(newest) = whole else {
+    let Stage::Complete(current) = stage else {
         return Ok(());
     };
-    newest.write()?;
+    current.write()?;
     outs.reserve(1)?;
-    if let Some(newest) = whole.take() {
-        outs.push_reserved(newest.into_out());
+    if let Some(current) = stage.take_complete() {
+        outs.push_reserved(current.into_out());
     }
     Ok(())
 }

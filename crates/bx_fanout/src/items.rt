@@ -1,6 +1,6 @@
 //! The items of a response.
 ghost use Rattle.std.specs.Prelude.{◌≡◌, ◌+◌, ◌++◌, ◌≤◌, length, vec_capacity, vec_len};
-ghost use Rattle.bx_fanout.specs.Desks.{items_of};
+ghost use Rattle.bx_fanout.specs.HeldInputs.{items_of};
 
 use bx_message::{Answer, Item};
 

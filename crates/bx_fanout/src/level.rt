@@ -1,10 +1,10 @@
 //! Every shard at the end of the list.
 ghost use Rattle.std.specs.Prelude.{ℕ, ◌≡◌, ◌≤◌, length, slice_get, IfOk, Some};
-ghost use Rattle.bx_fanout.specs.Newests.{IsLevel};
+ghost use Rattle.bx_fanout.specs.CurrentInputs.{IsLevel};
 ghost use Rattle.bx_world.specs.Seen.{setup_of, world_of};
 
 use bx_entry::Placing;
-use bx_workers::Gate;
+use bx_workers::{Gate, WorkerCount};
 use bx_world::World;
 use std::alloc::{AllocError, Global};
 use std::thread::Threads;
@@ -14,11 +14,9 @@ pub(crate) fn level<R: Threads + Sync, G: Gate + Sync, P: Placing + Send + Sync>
     rt: &R,
     alloc: Global,
     gate: &G,
-    workers: usize,
+    workers: WorkerCount,
     world: &mut World<P>,
 ) -> Result<(), AllocError>
-    requires some_worker { 1 ≤ workers }
-    requires workers_in_range { workers ≤ 16 }
     ensures level { IfOk result (λ _. IsLevel (world_of world.new)) }
     ensures within { (k n : ℕ) → slice_get (world_of world.new).applied k ≡ Some n → n ≤ length (world_of world.new).list }
     ensures list { (world_of world.new).list ≡ (world_of world.old).list }

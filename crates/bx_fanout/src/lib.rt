@@ -2,22 +2,21 @@
 #![tactic(auto)]
 
 mod bring_in;
-mod desk;
+mod current_input;
 mod drain;
 mod give_out;
+mod held_inputs;
 mod items;
-mod laws;
 mod level;
-mod newest;
 mod out;
-mod parts;
 mod pass_over;
 mod ready;
 mod resharding;
 mod round;
+mod round_state;
 mod run;
+mod stage;
 mod take_in;
 
-pub use laws::{open_are_sole, open_is_held, opens_ascend, opens_go_on, outs_add};
 pub use out::{Out, RoundFault};
-pub use round::{MAX_WORKERS, Round};
+pub use round::Round;

@@ -1,13 +1,15 @@
 //! Inputs that are whole at once, while the shards stay behind.
-ghost use Rattle.std.specs.Prelude.{◌≡◌, ◌≤◌, IsTrue, None, IfOk};
-ghost use Rattle.bx_fanout.specs.Parts.{IsCalm, IsSettled, Stands};
+ghost use Rattle.std.specs.Prelude.{◌≡◌, IsTrue, false, IfOk};
+ghost use Rattle.bx_fanout.specs.RoundStates.{IsCalm, IsSettled, Stands};
+ghost use Rattle.bx_fanout.specs.Stages.{is_collecting};
 ghost use Rattle.bx_world.specs.Seen.{setup_of};
 
 use crate::level::level;
-use crate::parts::{Parts, lacking, workers_for};
 use crate::ready::collect_ready;
+use crate::round_state::{RoundState, workers_for};
+use crate::stage::Stage;
 use bx_entry::Placing;
-use bx_workers::Gate;
+use bx_workers::{Gate, WorkerCount};
 use std::alloc::{AllocError, Global};
 use std::thread::Threads;
 
@@ -17,32 +19,35 @@ const DEFERRED_LIMIT: u64 = 1_024;
 /// Brings the last input to its end where no connect is held, the shards lack few entries, and all its messages are
 /// answered at once, and says whether nothing is left to be collected. The shards stay as they are: nobody waits for what
 /// they would file.
-pub(crate) fn pass_over<P: Placing>(alloc: Global, parts: &mut Parts<P>) -> Result<bool, AllocError>
-    requires stands { Stands parts.old }
-    ensures stands { Stands parts.new }
-    ensures done { IfOk result (λ done. IsTrue done → parts.new.newest ≡ None) }
-    ensures inputs { parts.new.inputs ≡ parts.old.inputs }
-    ensures added { parts.new.added ≡ parts.old.added }
-    ensures setup { setup_of parts.new.world ≡ setup_of parts.old.world }
+pub(crate) fn pass_over<P: Placing>(
+    alloc: Global,
+    state: &mut RoundState<P>,
+) -> Result<bool, AllocError>
+    requires stands { Stands state.old }
+    ensures stands { Stands state.new }
+    ensures done { IfOk result (λ done. IsTrue done → is_collecting state.new.stage ≡ false) }
+    ensures inputs { state.new.inputs ≡ state.old.inputs }
+    ensures added { state.new.added ≡ state.old.added }
+    ensures setup { setup_of state.new.world ≡ setup_of state.old.world }
 {
-    let Some(mut newest) = parts.newest.take() else {
+    let Some(mut current) = state.stage.take_collecting() else {
         return Ok(true);
     };
-    if lacking(parts) > DEFERRED_LIMIT || !parts.desk.is_empty() {
-        parts.newest = Some(newest);
+    if state.world.lacking() > DEFERRED_LIMIT || !state.held.is_empty() {
+        state.stage = Stage::Collecting(current);
         return Ok(false);
     }
-    match collect_ready(alloc, &mut newest) {
+    match collect_ready(alloc, &mut current) {
         Ok(true) => {
-            parts.whole = Some(newest);
+            state.stage = Stage::Complete(current);
             Ok(true)
         }
         Ok(false) => {
-            parts.newest = Some(newest);
+            state.stage = Stage::Collecting(current);
             Ok(false)
         }
         Err(fault) => {
-            parts.newest = Some(newest);
+            state.stage = Stage::Collecting(current);
             Err(fault)
         }
     }
@@ -53,21 +58,17 @@ pub(crate) fn catch_up<R: Threads + Sync, G: Gate + Sync, P: Placing + Send + Sy
     rt: &R,
     alloc: Global,
     gate: &G,
-    workers: usize,
-    parts: &mut Parts<P>,
+    workers: WorkerCount,
+    state: &mut RoundState<P>,
 ) -> Result<(), AllocError>
-    requires some_worker { 1 ≤ workers }
-    requires workers_in_range { workers ≤ 16 }
-    requires stands { Stands parts.old }
-    requires calm { IsCalm parts.old }
-    ensures stands { Stands parts.new }
-    ensures settled { IfOk result (λ _. IsSettled parts.new) }
-    ensures inputs { parts.new.inputs ≡ parts.old.inputs }
-    ensures added { parts.new.added ≡ parts.old.added }
-    ensures setup { setup_of parts.new.world ≡ setup_of parts.old.world }
+    requires stands { Stands state.old }
+    requires calm { IsCalm state.old }
+    ensures stands { Stands state.new }
+    ensures settled { IfOk result (λ _. IsSettled state.new) }
+    ensures inputs { state.new.inputs ≡ state.old.inputs }
+    ensures added { state.new.added ≡ state.old.added }
+    ensures setup { setup_of state.new.world ≡ setup_of state.old.world }
 {
-    let workers = workers_for(parts, workers);
-    level(rt, alloc, gate, workers, &mut parts.world)?;
-    parts.reached = parts.end;
-    Ok(())
+    let workers = workers_for(state, workers);
+    level(rt, alloc, gate, workers, &mut state.world)
 }

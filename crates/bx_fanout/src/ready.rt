@@ -1,10 +1,10 @@
 //! The replies that an input has at once.
 ghost use Rattle.std.specs.Prelude.{◌≡◌, [], IsTrue, IfOk};
-ghost use Rattle.bx_fanout.specs.Newests.{Collects, IsCollected, NextReady};
+ghost use Rattle.bx_fanout.specs.CurrentInputs.{Collects, IsCollected, NextReady};
 ghost use Rattle.bx_shard.specs.Shards.{Setup};
 ghost use Rattle.bx_world.specs.Worlds.{WorldState};
 
-use crate::newest::Newest;
+use crate::current_input::CurrentInput;
 use bx_entry::Slot;
 use bx_message::{Answer, Sequence};
 use std::alloc::{AllocError, Global};
@@ -12,17 +12,17 @@ use std::collections::VecDeque;
 
 /// Takes the replies that stand before the first connect that waits, and says whether all messages are answered with
 /// them. No shard is needed for that. What was taken is kept where memory is refused.
-pub(crate) fn collect_ready(alloc: Global, newest: &mut Newest) -> Result<bool, AllocError>
-    ensures so_far { (setup : Setup) (w : WorldState) → IsCollected setup w newest.old → IsCollected setup w newest.new }
-    ensures collects { Collects newest.old newest.new }
-    ensures whole { IfOk result (λ whole. IsTrue whole → newest.new.slots.items ≡ []) }
+pub(crate) fn collect_ready(alloc: Global, current: &mut CurrentInput) -> Result<bool, AllocError>
+    ensures so_far { (setup : Setup) (w : WorldState) → IsCollected setup w current.old → IsCollected setup w current.new }
+    ensures collects { Collects current.old current.new }
+    ensures whole { IfOk result (λ whole. IsTrue whole → current.new.slots.items ≡ []) }
 {
-    while !newest.slots.is_empty() {
-        newest.answers.reserve(1)?;
-        let Some(answer) = next_ready(alloc, &mut newest.slots) else {
+    while !current.slots.is_empty() {
+        current.answers.reserve(1)?;
+        let Some(answer) = next_ready(alloc, &mut current.slots) else {
             return Ok(false);
         };
-        newest.answers.push_back_reserved(answer);
+        current.answers.push_back_reserved(answer);
     }
     Ok(true)
 }

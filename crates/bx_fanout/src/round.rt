@@ -1,21 +1,17 @@
 //! Inputs that are taken in, in order, over several runs.
-ghost use Rattle.std.specs.Prelude.{◌≤◌};
-ghost use Rattle.bx_fanout.specs.Parts.{Stands};
+ghost use Rattle.bx_fanout.specs.RoundStates.{Stands};
 ghost use Rattle.bx_fanout.specs.Props.{stands-prop};
 
 use crate::out::{Out, RoundFault};
-use crate::parts::{Parts, new_parts};
-use crate::resharding::reshard;
-use crate::run::run_all;
-use bx_advice::Config;
+use crate::resharding::redistribute;
+use crate::round_state::{RoundState, finish, new_state};
+use crate::run::run;
+use bx_advice::{Config, ShardCount};
 use bx_entry::{Input, Placing};
-use bx_workers::Gate;
+use bx_workers::{Gate, OpenGate, WorkerCount};
 use std::alloc::{AllocError, Global};
 use std::sync::Arc;
 use std::thread::Threads;
-
-/// How many workers a round can have.
-pub const MAX_WORKERS: usize = 16;
 
 /// Inputs that are taken in, in order, each answered as one thread would answer it, by many workers.
 ///
@@ -23,41 +19,35 @@ pub const MAX_WORKERS: usize = 16;
 /// outs that all runs added.
 #[derive(Drop)]
 pub struct Round<P: Placing> {
-    parts: Parts<P>,
-    workers: usize,
-    ghost stands: { Stands parts } by { stands-prop parts },
-    ghost some_worker: { 1 ≤ workers },
-    ghost workers_in_range: { workers ≤ 16 },
+    state: RoundState<P>,
+    workers: WorkerCount,
+    ghost stands: { Stands state } by { stands-prop state },
 }
 
 impl<P: Placing> Round<P> {
-    ghost use Rattle.std.specs.Prelude.{◌≡◌, ◌+◌, ◌^◌, ◌&&◌, [], false, true, is_some, length, nat_le, IfOk, IfSome, MatchResult};
+    ghost use Rattle.std.specs.Prelude.{◌≡◌, ◌≤◌, ◌+◌, ◌^◌, [], false, true, length, IfOk, MatchResult};
     ghost use Rattle.std.specs.Arc.{arc_value};
     ghost use Rattle.bx_entry.specs.Runs as runs;
     ghost use Rattle.bx_fanout.specs.Rounds.{IsLevel, IsRun, added_by, inputs_of, is_collecting, setup_in, workers_in};
     ghost use Rattle.bx_fanout.specs.Runs.{AreHeldBefore};
     ghost use Rattle.bx_admission.specs.Slots.{placed_by};
 
-    /// A round with so many workers, 1 to 16, that has taken in no input. None where the workers are not so many.
+    /// A round with so many workers that has taken in no input.
     pub fn new(
         alloc: Global,
         config: Config,
         placing: Arc<P>,
-        workers: usize,
-    ) -> Result<Option<Round<P>>, AllocError>
+        workers: WorkerCount,
+    ) -> Result<Round<P>, AllocError>
     where
         P: Drop,
-        ensures some { IfOk result (λ round. is_some round ≡ (nat_le 1 workers && nat_le workers 16)) }
-        ensures workers { IfOk result (λ round. IfSome round (λ r. workers_in r ≡ workers)) }
-        ensures inputs { IfOk result (λ round. IfSome round (λ r. inputs_of r ≡ [])) }
-        ensures added { IfOk result (λ round. IfSome round (λ r. added_by r ≡ [])) }
-        ensures setup { IfOk result (λ round. IfSome round (λ r. setup_in r ≡ placed_by config config.shards (P.place_of (arc_value placing)))) }
+        ensures workers { IfOk result (λ r. workers_in r ≡ workers) }
+        ensures inputs { IfOk result (λ r. inputs_of r ≡ []) }
+        ensures added { IfOk result (λ r. added_by r ≡ []) }
+        ensures setup { IfOk result (λ r. setup_in r ≡ placed_by config config.shards (P.place_of (arc_value placing))) }
     {
-        if workers < 1 || workers > MAX_WORKERS {
-            return Ok(None);
-        }
-        let parts = new_parts(alloc, config, placing)?;
-        Ok(Some(Round { parts, workers }))
+        let state = new_state(alloc, config, placing)?;
+        Ok(Round { state, workers })
     }
 
     /// Takes these inputs in, in order. Each is brought to its end before the next one is taken in, and the outs of
@@ -84,22 +74,21 @@ impl<P: Placing> Round<P> {
         ensures run { IsRun self.old inputs.now outs.old.items outs.new.items self.new result }
         ensures workers { workers_in self.new ≡ workers_in self.old }
     {
-        run_all(rt, alloc, gate, self.workers, &mut self.parts, inputs, outs)
+        run(rt, alloc, gate, self.workers, &mut self.state, inputs, outs)
     }
 
-    /// Redistributes the sessions among so many shards, 1 to 64, by this placing. First every shard is brought up to the end
-    /// of the list. What was taken in and what was added stay. Where memory is refused, the round comes back with the
-    /// same shards and placing.
-    pub fn reshard(
+    /// Redistributes the sessions among so many shards, by this placing. First every shard is brought up to the end of the
+    /// list, by the thread that calls and with no gate. What was taken in and what was added stay. Where memory is refused,
+    /// the round comes back with the same shards and placing.
+    pub fn reshard<R: Threads + Sync>(
         self,
+        rt: &R,
         alloc: Global,
-        shards: usize,
+        shards: ShardCount,
         placing: Arc<P>,
     ) -> Result<Round<P>, (Round<P>, AllocError)>
     where
-        P: Drop,
-        requires some_shard { 1 ≤ shards }
-        requires shards_in_range { shards ≤ 64 }
+        P: Send + Sync + Drop,
         ensures inputs { MatchResult result (λ r. inputs_of r ≡ inputs_of self) (λ e. inputs_of e.0 ≡ inputs_of self) }
         ensures added { MatchResult result (λ r. added_by r ≡ added_by self) (λ e. added_by e.0 ≡ added_by self) }
         ensures setup { MatchResult result
@@ -108,10 +97,13 @@ impl<P: Placing> Round<P> {
         ensures workers { MatchResult result (λ r. workers_in r ≡ workers_in self) (λ e. workers_in e.0 ≡ workers_in self) }
         ensures level { IfOk result (λ r. IsLevel r) }
     {
-        let Round { parts, workers } = self;
-        match reshard(alloc, parts, shards, placing) {
-            Ok(parts) => Ok(Round { parts, workers }),
-            Err((parts, error)) => Err((Round { parts, workers }, error)),
+        let Round { mut state, workers } = self;
+        if let Err(error) = finish(rt, alloc, &OpenGate, WorkerCount::one(), &mut state) {
+            return Err((Round { state, workers }, error));
+        }
+        match redistribute(alloc, state, shards, placing) {
+            Ok(state) => Ok(Round { state, workers }),
+            Err((state, error)) => Err((Round { state, workers }, error)),
         }
     }
 
@@ -119,7 +111,7 @@ impl<P: Placing> Round<P> {
     pub fn intake(&self) -> usize
         ensures { result ≡ length (inputs_of self.now) }
     {
-        self.parts.intake
+        self.state.intake
     }
 
     /// The numbers of the inputs that are not whole, ascending. Such an input is a connect that is held. So it is after
@@ -135,9 +127,9 @@ impl<P: Placing> Round<P> {
         ensures settled { IfOk result (λ numbers. added_by self.now ≡ runs.outs (setup_in self.now).config (inputs_of self.now)
             → numbers.items ≡ runs.held (setup_in self.now).config (inputs_of self.now)) }
     {
-        let mut numbers = self.parts.desk.waiting(alloc)?;
-        if let Some(newest) = &self.parts.newest {
-            numbers.push(newest.number)?;
+        let mut numbers = self.state.held.waiting(alloc)?;
+        if let Some(current) = self.state.stage.collecting() {
+            numbers.push(current.number)?;
         }
         Ok(numbers)
     }

@@ -1,15 +1,14 @@
 //! An input is taken in.
-ghost use Rattle.std.specs.Prelude.{◌≡◌, ◌+◌, ◌++◌, [], ◌∷◌, None, filter, length, map, IfOk, OnErr};
+ghost use Rattle.std.specs.Prelude.{◌≡◌, ◌++◌, [], ◌∷◌, filter, length, map, IfOk, OnErr};
 ghost use Rattle.bx_entry.specs.Requests.{read_input};
-ghost use Rattle.bx_fanout.specs.Desks.{waits};
-ghost use Rattle.bx_fanout.specs.Parts.{count_by};
+ghost use Rattle.bx_fanout.specs.HeldInputs.{waits};
 ghost use Rattle.bx_fanout.specs.Stages.{IsTakenIn, IsGiving, seen_out};
 ghost use Rattle.bx_world.specs.Outputs.{admission};
 ghost use Rattle.bx_world.specs.Seen.{Steps, setup_of, world_of};
 ghost use Rattle.bx_world.specs.declared.step.Step.TheVariants.{Admit};
 
-use crate::desk::Desk;
-use crate::newest::Newest;
+use crate::current_input::CurrentInput;
+use crate::held_inputs::HeldInputs;
 use crate::out::Out;
 use bx_entry::{Input, Placing, Refusal, Slot};
 use bx_history::History;
@@ -18,31 +17,29 @@ use bx_world::{AdmissionFault, Admitted, World};
 use std::alloc::{AllocError, Global};
 use std::collections::VecDeque;
 
-/// Takes an input into the list, or finds its refusal. The list has `end` entries, so many inputs were taken in, and
-/// all outs that those owe were added.
+/// Takes an input into the list, or finds its refusal. So many inputs were taken in, and all outs that those owe were
+/// added.
 pub(crate) fn take_in<P: Placing>(
     alloc: Global,
     world: &mut World<P>,
-    end: u64,
     number: usize,
     input: &Input,
-    desk: &Desk,
+    held: &HeldInputs,
     inputs: &History<Input>,
     added: &History<Out>,
-) -> Result<Newest, AllocError>
-    requires end { end ≡ length (world_of world.old).list }
+) -> Result<CurrentInput, AllocError>
     requires number { number ≡ length inputs.now }
-    requires giving { IsGiving (setup_of world.old) (map read_input inputs.now) (world_of world.old) desk.now None (map seen_out added.now) }
-    requires settled { desk.now ≡ filter waits desk.now }
-    ensures intake { IfOk result (λ n. IsTakenIn (setup_of world.new) (map read_input (inputs.now ++ input.now ∷ [])) (world_of world.new) desk.now n
+    requires giving { IsGiving (setup_of world.old) (map read_input inputs.now) (world_of world.old) held.now [] (map seen_out added.now) }
+    requires settled { held.now ≡ filter waits held.now }
+    ensures intake { IfOk result (λ n. IsTakenIn (setup_of world.new) (map read_input (inputs.now ++ input.now ∷ [])) (world_of world.new) held.now n
         (map seen_out added.now)) }
-    ensures end { IfOk result (λ n. length (world_of world.new).list ≡ length (world_of world.old).list + count_by input.now n) }
     ensures same { OnErr result (world_of world.new ≡ world_of world.old) }
     ensures setup { setup_of world.new ≡ setup_of world.old }
 {
+    let end = world.entries();
     match admit(alloc, world, input) {
-        Ok(Admitted { first, slots }) => Ok(newest_of(alloc, number, first, None, slots)),
-        Err(AdmissionFault::Refused(refusal)) => Ok(newest_of(
+        Ok(Admitted { first, slots }) => Ok(current_of(alloc, number, first, None, slots)),
+        Err(AdmissionFault::Refused(refusal)) => Ok(current_of(
             alloc,
             number,
             end,
@@ -67,13 +64,13 @@ fn admit<P: Placing>(
 }
 
 // An input of which no answer is collected.
-fn newest_of(
+fn current_of(
     alloc: Global,
     number: usize,
     first: u64,
     refusal: Option<Refusal>,
     slots: Sequence<Slot>,
-) -> Newest
+) -> CurrentInput
     ensures number { result.number ≡ number }
     ensures first { result.first ≡ first }
     ensures refusal { result.refusal ≡ refusal }
@@ -81,7 +78,7 @@ fn newest_of(
     ensures answers { result.answers.items ≡ [] }
     ensures slots { result.slots.items ≡ slots }
 {
-    Newest {
+    CurrentInput {
         number,
         first,
         refusal,

@@ -7,7 +7,7 @@ use Rattle.bx_fanout.proofs.drain.drain.Goals as goal
 
 pub loop-shard-init : goal.loop-shard-init
 loop-shard-init g c = record {
-  draining = draining-first (setup_of c.args.world.now) (world_of c.args.world.now) c.args.desk.now c.requires.can;
+  draining = draining-first (setup_of c.args.world.now) (world_of c.args.world.now) c.args.held.now c.requires.can;
   list = refl;
   applied = refl;
   setup = refl;
@@ -17,8 +17,8 @@ pub returns-clause-drained : goal.returns-clause-drained
 returns-clause-drained g c =
     let inv = c.loop-shard.invariant in
     let w = c.args.world.now in
-    let all : c.loop-shard.shard ≡ w.admission.shards = omega (arith, c.requires.shards) in
-    draining-last (setup_of w) (world_of w) (world_of c.loop-shard.world) c.args.desk.now c.loop-shard.desk inv.list inv.applied
+    let all : c.loop-shard.shard ≡ w.admission.shards = omega (arith, c.shards-shard-end.ensures) in
+    draining-last (setup_of w) (world_of w) (world_of c.loop-shard.world) c.args.held.now c.loop-shard.held inv.list inv.applied
     (λ session. g.met.P.Placing.is_below (arc_value w.placing) session w.admission.shards w.some_shard w.shards_in_range)
     c.requires.can
-    (subst (Draining (setup_of w) c.args.desk.now (world_of c.loop-shard.world) c.loop-shard.desk) all inv.draining)
+    (subst (Draining (setup_of w) c.args.held.now (world_of c.loop-shard.world) c.loop-shard.held) all inv.draining)

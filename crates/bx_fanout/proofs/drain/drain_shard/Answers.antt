@@ -20,7 +20,7 @@ loop-filing-preserved g c =
     let v = c.take_any.new.self in
     record {
       draining = λ before d.
-          draining-more (setup_of c.args.world.now) before (world_of w) (world_of v) c.loop-filing.desk c.answer.new.self c.args.shard (record { place = c.in-Some.filing.connect; shard = c.args.shard }) c.in-Some.filing.answer
+          draining-more (setup_of c.args.world.now) before (world_of w) (world_of v) c.loop-filing.held c.answer.new.self c.args.shard (record { place = c.in-Some.filing.connect; shard = c.args.shard }) c.in-Some.filing.answer
           c.args.world.now.admission.config.limits.some_batch
           (subst (λ (s : Setup). IsOutput s (world_of w) (Take (record { place = c.in-Some.filing.connect; shard = c.args.shard })) (Taken (Some c.in-Some.filing.answer))) inv.setup steps.output)
           steps.world c.answer.ensures (inv.draining before d);
@@ -43,8 +43,8 @@ returns-clause-draining g c = λ before d.
     let placed : AllPlaced (setup_of w) (world_of w) = λ session.
     let below : g.P.Placing.place_of (arc_value w.placing) session w.admission.shards < w.admission.shards = g.met.P.Placing.is_below (arc_value w.placing) session w.admission.shards w.some_shard w.shards_in_range in
     omega arith in
-    let next = draining-next (setup_of c.args.world.now) before (world_of w) c.loop-filing.desk c.args.shard c.args.world.now.admission.config.limits.some_batch
+    let next = draining-next (setup_of c.args.world.now) before (world_of w) c.loop-filing.held c.args.shard c.args.world.now.admission.config.limits.some_batch
     (subst (λ (s : Setup). AllPlaced s (world_of w)) inv.setup placed)
     (subst (λ (s : Setup). (place : ℕ) → filed_under s (world_of w) (record { place = place; shard = c.args.shard }) ≡ None) inv.setup none.0)
     (inv.draining before d) in
-    subst (λ (x : WorldState). Draining (setup_of c.args.world.now) before x c.loop-filing.desk (c.args.shard + 1)) (sym none.1) next
+    subst (λ (x : WorldState). Draining (setup_of c.args.world.now) before x c.loop-filing.held (c.args.shard + 1)) (sym none.1) next

@@ -7,7 +7,7 @@ use Rattle.bx_fanout.proofs.ready.collect_ready.Goals as goal
 
 pub loop-alloc-preserved : goal.loop-alloc-preserved
 loop-alloc-preserved c =
-    let n = c.loop-alloc.newest in
+    let n = c.loop-alloc.current in
     let m = record n { answers = c.push_back_reserved.new.self; slots = c.next_ready.new.slots } in
     let inv = c.loop-alloc.invariant in
     let next = c.in-Some.ensures in

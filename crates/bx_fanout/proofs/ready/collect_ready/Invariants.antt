@@ -1,14 +1,14 @@
 use Rattle.std.proofs.Common.{length}
-use Rattle.bx_fanout.specs.Newests.{Collects, IsCollected}
+use Rattle.bx_fanout.specs.CurrentInputs.{Collects, IsCollected}
 use Rattle.bx_shard.specs.Shards.{Setup}
 use Rattle.bx_world.specs.Worlds.{WorldState}
 use Rattle.bx_fanout.proofs.ready.collect_ready.Given as goal
 
 abbrev pub invariant-loop-alloc : goal.invariant-loop-alloc
 invariant-loop-alloc l = record {
-  so_far : (setup : Setup) (w : WorldState) → IsCollected setup w l.fn.newest → IsCollected setup w l.newest;
-  collects : Collects l.fn.newest l.newest;
+  so_far : (setup : Setup) (w : WorldState) → IsCollected setup w l.fn.current → IsCollected setup w l.current;
+  collects : Collects l.fn.current l.current;
 }
 
 abbrev pub decreases-loop-alloc : goal.decreases-loop-alloc
-decreases-loop-alloc l = length l.newest.slots.items
+decreases-loop-alloc l = length l.current.slots.items

@@ -1,0 +1,90 @@
+-- The held connects, and the answers that came for them.
+use Rattle.std.specs.Prelude.{ℕ, ◌+◌, ◌==◌, ◌&&◌, ◌<◌, ◌≤◌, ◌≡◌, Bool, List, [], ◌∷◌, ◌++◌, filter, map, length, count_by, is_none, is_some, option_map, if◌then◌else◌, Option, Some, None, Ok}
+use Rattle.std.specs.List.{AllByRecursion}
+use Rattle.std.specs.List.Sorted.{IsStrictlySortedBy}
+use Rattle.std.specs.Map.{keys_of}
+use Rattle.std.specs.Ordering.{nat_cmp}
+use Rattle.bx_lists.specs.Members.{has}
+use Rattle.bx_fanout.specs.declared.held_inputs.HeldInput.{HeldInput}
+use Rattle.bx_fanout.specs.declared.out.Out.{Out}
+use Rattle.bx_message.specs.declared.reply.Answer.{Answer}
+use Rattle.bx_message.specs.declared.reply.Item.{Item}
+use Rattle.bx_message.specs.declared.reply.Item.TheVariants.{EventItem, ReplyItem}
+
+-- the place of a connect, and what is held of it
+abbrev pub Row : Type 0
+Row = ℕ × HeldInput
+
+abbrev pub is_answered : Row → Bool
+is_answered row = is_some row.1.answer
+
+abbrev pub waits : Row → Bool
+waits row = is_none row.1.answer
+
+-- each connect stands below this place
+abbrev pub AllBelow : ℕ → List Row → Type 0
+AllBelow place rows = AllByRecursion (λ (row : Row). row.0 < place) rows
+
+-- ---- an answer came
+
+-- whether this row is a connect of this place that waits
+abbrev pub waits_there : ℕ → Row → Bool
+waits_there place row = (row.0 == place) && waits row
+
+-- the row with this answer
+abbrev pub with_answer : Answer → Row → Row
+with_answer answer row = (row.0, record row.1 { answer = Some answer })
+
+-- the connect that waits at this place gets this answer
+abbrev pub answered_at : ℕ → Answer → List Row → List Row
+answered_at place answer rows = map (λ (row : Row). if waits_there place row then with_answer answer row else row) rows
+
+-- ---- what is given
+
+-- what the client gets: the events, and then the reply
+abbrev pub items_of : Answer → List Item
+items_of a = map EventItem a.events ++ ReplyItem a.reply ∷ []
+
+abbrev pub items_by : Option Answer → List Item
+items_by None = []
+items_by (Some a) = items_of a
+
+abbrev pub out_of : Row → Out
+out_of row = record { input = row.1.number; result = Ok (items_by row.1.answer) }
+
+-- the outs of those that are answered, in order
+abbrev pub outs_of : List Row → List Out
+outs_of rows = map out_of (filter is_answered rows)
+
+-- the out of what is held of a connect, where its answer came
+abbrev pub out_by : Option HeldInput → Option Out
+out_by None = None
+out_by (Some h) = option_map (λ (a : Answer). record { input = h.number; result = Ok (items_of a) }) h.answer
+
+-- how many items that has
+abbrev pub room_by : Option HeldInput → ℕ
+room_by None = 0
+room_by (Some h) = elim h.answer [ None ↦ 0 | Some a ↦ length a.events + 1 ]
+
+-- the numbers of the inputs
+abbrev pub numbers : List Row → List ℕ
+numbers rows = map (λ (row : Row). row.1.number) rows
+
+-- The first of these outs were added, and nothing else changed.
+pub record Gives (old : List Row) (before after : List Out) (new : List Row) : Type 0 where
+  pub more : List Out
+  pub behind : after ≡ before ++ more
+  pub given : outs_of old ≡ more ++ outs_of new
+  pub others : filter waits new ≡ filter waits old
+
+-- ---- what is kept beside the held connects
+
+-- the places of those that are answered, ascending
+abbrev pub answered_places : List Row → List ℕ
+answered_places rows = map (λ (row : Row). row.0) (filter is_answered rows)
+
+-- the places ascend, those of the answered connects are marked, in any order, and there is room for the others
+pub record IsMarked (rows : List Row) (answered : List ℕ) (capacity : ℕ) : Type 0 where
+  pub ordered : IsStrictlySortedBy nat_cmp (keys_of rows)
+  pub marked : (n : ℕ) → has n answered ≡ has n (answered_places rows)
+  pub room : length answered + count_by waits rows ≤ capacity

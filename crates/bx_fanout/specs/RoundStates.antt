@@ -1,0 +1,41 @@
+-- What stands of a round's state between two calls.
+use Rattle.std.specs.Prelude.{ℕ, ◌≡◌, ◌≤◌, List, ◌++◌, false, filter, length, map, slice_get, Some}
+use Rattle.bx_entry.specs.declared.Placing.{Ghosts}
+use Rattle.bx_entry.specs.Requests.{read_input}
+use Rattle.bx_world.specs.Seen.{setup_of, world_of}
+use Rattle.bx_fanout.specs.HeldInputs.{waits}
+use Rattle.bx_fanout.specs.CurrentInputs.{IsLevel}
+use Rattle.bx_fanout.specs.Stages.{IsStaged, is_collecting, seen_out}
+use Rattle.bx_fanout.specs.declared.out.Out.{Out}
+use Rattle.bx_fanout.specs.declared.stage.Stage.TheVariants.{Idle}
+use Rattle.bx_fanout.specs.declared.round_state.RoundState.{RoundState}
+
+module _ {P : Type 0} {g : Ghosts P} where
+  -- how many inputs there are, and how far the last one has come
+  pub record Stands (p : RoundState P g) : Type 0 where
+    pub counted : p.intake ≡ length p.inputs
+    pub staged : IsStaged (setup_of p.world) (map read_input p.inputs) (world_of p.world) p.held p.stage (map seen_out p.added)
+
+  -- all answers to the last input are collected, and every shard is at the end of the list
+  pub record IsDone (p : RoundState P g) : Type 0 where
+    pub none : is_collecting p.stage ≡ false
+    pub level : IsLevel (world_of p.world)
+    pub within : (k n : ℕ) → slice_get (world_of p.world).applied k ≡ Some n → n ≤ length (world_of p.world).list
+
+  -- nothing is collected, and no out is left to be added; the shards may be behind
+  pub record IsCalm (p : RoundState P g) : Type 0 where
+    pub idle : p.stage ≡ Idle
+    pub held : p.held ≡ filter waits p.held
+
+  -- so it is, and every shard is at the end of the list
+  pub record IsSettled (p : RoundState P g) : Type 0 where
+    pub calm : IsCalm p
+    pub level : IsLevel (world_of p.world)
+    pub within : (k n : ℕ) → slice_get (world_of p.world).applied k ≡ Some n → n ≤ length (world_of p.world).list
+
+  -- outs were added behind those that were there
+  pub record AddsOuts (old : RoundState P g) (before after : List Out) (new : RoundState P g) : Type 0 where
+    pub more : List Out
+    pub behind : after ≡ before ++ more
+    pub added : new.added ≡ old.added ++ more
+    pub setup : setup_of new.world ≡ setup_of old.world

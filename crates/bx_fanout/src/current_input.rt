@@ -1,0 +1,115 @@
+//! The last input that was taken in.
+ghost use Rattle.std.specs.Prelude.{◌≡◌, [], IfOk};
+ghost use Rattle.bx_fanout.specs.CurrentInputs.{Collects, IsCollected, IsLevel, IsWhole, Keeps, Next, OthersStay, out_of, response_of};
+ghost use Rattle.bx_world.specs.Seen.{setup_of, world_of};
+
+use crate::items::add_items;
+use crate::out::Out;
+use bx_entry::{Placing, Refusal, Slot};
+use bx_message::{Answer, Item, Sequence};
+use bx_world::World;
+use std::alloc::{AllocError, Global};
+use std::collections::VecDeque;
+
+/// An input whose response is not given yet, and that is not held.
+#[derive(Drop)]
+pub(crate) struct CurrentInput {
+    /// Its number.
+    pub(crate) number: usize,
+    /// The place of its first message.
+    pub(crate) first: u64,
+    /// Why it was refused.
+    pub(crate) refusal: Option<Refusal>,
+    /// The first items of its response.
+    pub(crate) items: Vec<Item>,
+    /// The answers from which the next items come, in order.
+    pub(crate) answers: VecDeque<Answer>,
+    /// How the other messages are answered.
+    pub(crate) slots: VecDeque<Slot>,
+}
+
+impl CurrentInput {
+    /// Takes the answers to its messages, in order, up to the first one that is not there, and says whether all are. What
+    /// was taken is kept where memory is refused.
+    pub(crate) fn collect<P: Placing>(
+        &mut self,
+        alloc: Global,
+        world: &mut World<P>,
+    ) -> Result<bool, AllocError>
+        requires level { IsLevel (world_of world.old) }
+        requires so_far { IsCollected (setup_of world.old) (world_of world.old) self.old }
+        ensures so_far { IsCollected (setup_of world.new) (world_of world.new) self.new }
+        ensures setup { setup_of world.new ≡ setup_of world.old }
+        ensures world { Keeps self.old.first (world_of world.old) (world_of world.new) }
+        ensures collects { Collects self.old self.new }
+        ensures whole { IfOk result (λ whole. IsWhole (setup_of world.new).config (world_of world.new).list self.new whole) }
+    {
+        while !self.slots.is_empty() {
+            self.answers.reserve(1)?;
+            let Some(answer) = next_answer(alloc, &mut self.slots, world) else {
+                return Ok(false);
+            };
+            self.answers.push_back_reserved(answer);
+        }
+        Ok(true)
+    }
+
+    /// Makes the answers that are here items of the response. Where memory is refused the first of them are, and the next
+    /// call goes on.
+    pub(crate) fn write(&mut self) -> Result<(), AllocError>
+        ensures items { response_of self.new ≡ response_of self.old }
+        ensures all { IfOk result (λ _. self.new.answers.items ≡ []) }
+        ensures others { OthersStay self.old self.new }
+    {
+        while let Some(answer) = self.answers.front() {
+            self.items.reserve(answer.events.as_slice().len() + 1)?;
+            if let Some(answer) = self.answers.pop_front() {
+                add_items(&mut self.items, answer);
+            }
+        }
+        Ok(())
+    }
+
+    /// Its out, once all items of its response are there.
+    pub(crate) fn into_out(self) -> Out
+        requires { self.answers.items ≡ [] }
+        ensures { result ≡ out_of self }
+    {
+        let CurrentInput {
+            number,
+            refusal,
+            items,
+            ..
+        } = self;
+        Out {
+            input: number,
+            result: match refusal {
+                Some(refusal) => Err(refusal),
+                None => Ok(Sequence::from_vec(items)),
+            },
+        }
+    }
+}
+
+// Takes the answer to the message of the first slot, where it is there, and drops the slot.
+fn next_answer<P: Placing>(
+    alloc: Global,
+    slots: &mut VecDeque<Slot>,
+    world: &mut World<P>,
+) -> Option<Answer>
+    ensures next { Next (setup_of world.old) (world_of world.old) slots.old.items slots.new.items (world_of world.new) result }
+    ensures setup { setup_of world.new ≡ setup_of world.old }
+{
+    if let Some(Slot::Waiting(ticket)) = slots.front() {
+        let answer = world.take(*ticket)?;
+        slots.pop_front();
+        return Some(answer);
+    }
+    match slots.pop_front() {
+        Some(Slot::Ready(reply)) => Some(Answer {
+            events: Sequence::new(alloc),
+            reply,
+        }),
+        _ => None,
+    }
+}

@@ -1,0 +1,220 @@
+//! What a round has of its inputs, and its steps.
+ghost use Rattle.std.specs.Prelude.{ℕ, ◌≡◌, ◌+◌, ◌++◌, ◌≤◌, ◌<◌, ◌^◌, ◌⊎◌, [], ◌∷◌, false, length, slice_get, IsTrue, Some, IfOk, OnErr, OnOk};
+ghost use Rattle.bx_fanout.specs.CurrentInputs.{IsLevel};
+ghost use Rattle.bx_fanout.specs.RoundStates.{AddsOuts, IsCalm, IsDone, Stands};
+ghost use Rattle.bx_fanout.specs.Stages.{is_collecting};
+ghost use Rattle.std.specs.Arc.{arc_value};
+ghost use Rattle.bx_admission.specs.Slots.{placed_by};
+ghost use Rattle.bx_world.specs.Seen.{setup_of, world_of};
+
+use crate::bring_in::bring_in;
+use crate::current_input::CurrentInput;
+use crate::give_out::give_out;
+use crate::held_inputs::HeldInputs;
+use crate::level::level;
+use crate::out::Out;
+use crate::pass_over::pass_over;
+use crate::stage::Stage;
+use crate::take_in::take_in;
+use bx_advice::Config;
+use bx_entry::{Input, Placing, Slot};
+use bx_history::History;
+use bx_workers::{Gate, WorkerCount};
+use bx_world::World;
+use std::alloc::{AllocError, Global};
+use std::sync::Arc;
+use std::thread::Threads;
+
+/// What a round has of the inputs that were taken in.
+#[derive(Drop)]
+pub(crate) struct RoundState<P: Placing> {
+    pub(crate) world: World<P>,
+    pub(crate) held: HeldInputs,
+    /// How far the last input has come.
+    pub(crate) stage: Stage,
+    /// How many inputs were taken in.
+    pub(crate) intake: usize,
+    pub(crate) inputs: History<Input>,
+    pub(crate) added: History<Out>,
+}
+
+/// No input was taken in.
+pub(crate) fn new_state<P: Placing + Drop>(
+    alloc: Global,
+    config: Config,
+    placing: Arc<P>,
+) -> Result<RoundState<P>, AllocError>
+    ensures stands { IfOk result (λ p. Stands p) }
+    ensures inputs { IfOk result (λ p. p.inputs ≡ []) }
+    ensures added { IfOk result (λ p. p.added ≡ []) }
+    ensures setup { IfOk result (λ p. setup_of p.world ≡ placed_by config config.shards (P.place_of (arc_value placing))) }
+{
+    Ok(RoundState {
+        world: World::new(alloc, config, placing)?,
+        held: HeldInputs::new(alloc),
+        stage: Stage::Idle,
+        intake: 0,
+        inputs: History::new(),
+        added: History::new(),
+    })
+}
+
+/// Brings every shard up to the end of the list, and collects the answers that the last input brings.
+pub(crate) fn finish<R: Threads + Sync, G: Gate + Sync, P: Placing + Send + Sync>(
+    rt: &R,
+    alloc: Global,
+    gate: &G,
+    workers: WorkerCount,
+    state: &mut RoundState<P>,
+) -> Result<(), AllocError>
+    requires stands { Stands state.old }
+    ensures stands { Stands state.new }
+    ensures done { IfOk result (λ _. IsDone state.new) }
+    ensures inputs { state.new.inputs ≡ state.old.inputs }
+    ensures added { state.new.added ≡ state.old.added }
+    ensures setup { setup_of state.new.world ≡ setup_of state.old.world }
+{
+    let workers = workers_for(state, workers);
+    level(rt, alloc, gate, workers, &mut state.world)?;
+    collect_last(alloc, state)
+}
+
+/// How many events make it worth to start and join threads, which takes as long as some hundred deliveries.
+const SHARED_WORK: u64 = 1_024;
+
+/// How many of these workers bring the shards up. A connect reaches its own session alone, and any other entry gives
+/// each session one event at the most: one worker does where few events can come of the entries that shards lack.
+pub(crate) fn workers_for<P: Placing>(state: &RoundState<P>, workers: WorkerCount) -> WorkerCount
+    ensures { (result ≡ 1) ⊎ (result ≡ workers) }
+{
+    let sessions = state.world.sessions() as u64;
+    let lacking = state.world.lacking();
+    let entries = match state.stage.collecting() {
+        Some(current) if waits_alone(current) => lacking.saturating_sub(1),
+        _ => lacking,
+    };
+    if entries.saturating_mul(sessions) < SHARED_WORK {
+        WorkerCount::one()
+    } else {
+        workers
+    }
+}
+
+// Whether its only message is a connect, the answer to which is not here.
+fn waits_alone(current: &CurrentInput) -> bool
+    ensures none { IsTrue result → current.now.answers.items ≡ [] }
+    ensures one { IsTrue result → length current.now.slots.items ≡ 1 }
+{
+    match current.slots.front() {
+        Some(Slot::Waiting(_)) => current.answers.is_empty() && current.slots.len() == 1,
+        _ => false,
+    }
+}
+
+/// Collects the answers that the last input brings, where every shard has come to the end of the list.
+pub(crate) fn collect_last<P: Placing>(
+    alloc: Global,
+    state: &mut RoundState<P>,
+) -> Result<(), AllocError>
+    requires stands { Stands state.old }
+    requires level { IsLevel (world_of state.old.world) }
+    requires within { (k n : ℕ) → slice_get (world_of state.old.world).applied k ≡ Some n → n ≤ length (world_of state.old.world).list }
+    ensures stands { Stands state.new }
+    ensures done { IfOk result (λ _. IsDone state.new) }
+    ensures inputs { state.new.inputs ≡ state.old.inputs }
+    ensures added { state.new.added ≡ state.old.added }
+    ensures setup { setup_of state.new.world ≡ setup_of state.old.world }
+{
+    let Some(mut current) = state.stage.take_collecting() else {
+        return Ok(());
+    };
+    match bring_in(
+        alloc,
+        &mut state.world,
+        &mut state.held,
+        &mut current,
+        &state.inputs,
+        &state.added,
+    ) {
+        Ok(true) => {
+            state.stage = Stage::Complete(current);
+            Ok(())
+        }
+        Ok(false) => Ok(()),
+        Err(fault) => {
+            state.stage = Stage::Collecting(current);
+            Err(fault)
+        }
+    }
+}
+
+/// Adds the outs that are left.
+pub(crate) fn add_outs<P: Placing>(
+    alloc: Global,
+    state: &mut RoundState<P>,
+    outs: &mut Vec<Out>,
+) -> Result<(), AllocError>
+    requires stands { Stands state.old }
+    requires done { is_collecting state.old.stage ≡ false }
+    ensures stands { Stands state.new }
+    ensures calm { IfOk result (λ _. IsCalm state.new) }
+    ensures adds { AddsOuts state.old outs.old.items outs.new.items state.new }
+    ensures inputs { state.new.inputs ≡ state.old.inputs }
+{
+    let count = outs.len();
+    let given = give_out(alloc, &mut state.held, &mut state.stage, outs);
+    state.added.append(&outs[count..]);
+    given
+}
+
+/// Brings the last input to its end, with no shard where none is needed for that. Where memory is refused, the next call
+/// goes on.
+pub(crate) fn settle<R: Threads + Sync, G: Gate + Sync, P: Placing + Send + Sync>(
+    rt: &R,
+    alloc: Global,
+    gate: &G,
+    workers: WorkerCount,
+    state: &mut RoundState<P>,
+    outs: &mut Vec<Out>,
+) -> Result<(), AllocError>
+    requires stands { Stands state.old }
+    ensures stands { Stands state.new }
+    ensures calm { IfOk result (λ _. IsCalm state.new) }
+    ensures adds { AddsOuts state.old outs.old.items outs.new.items state.new }
+    ensures inputs { state.new.inputs ≡ state.old.inputs }
+{
+    if !pass_over(alloc, state)? {
+        finish(rt, alloc, gate, workers, state)?;
+    }
+    add_outs(alloc, state, outs)
+}
+
+/// Takes one more input in, where the last one came to its end.
+pub(crate) fn take_in_next<P: Placing>(
+    alloc: Global,
+    state: &mut RoundState<P>,
+    input: &Input,
+) -> Result<(), AllocError>
+    requires stands { Stands state.old }
+    requires calm { IsCalm state.old }
+    requires few { length state.old.inputs < 2 ^ 62 }
+    ensures stands { Stands state.new }
+    ensures inputs { OnOk result (state.new.inputs ≡ state.old.inputs ++ input.now ∷ []) }
+    ensures same { OnErr result (state.new.inputs ≡ state.old.inputs) }
+    ensures added { state.new.added ≡ state.old.added }
+    ensures setup { setup_of state.new.world ≡ setup_of state.old.world }
+{
+    let current = take_in(
+        alloc,
+        &mut state.world,
+        state.intake,
+        input,
+        &state.held,
+        &state.inputs,
+        &state.added,
+    )?;
+    state.intake += 1;
+    state.stage = Stage::Collecting(current);
+    state.inputs.push(input);
+    Ok(())
+}
