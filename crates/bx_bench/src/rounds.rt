@@ -5,7 +5,7 @@ use anyhow::{Result, anyhow};
 use bx_advice::Config;
 use bx_entry::{ByRemainder, Input};
 use bx_fanout::{Out, Round};
-use bx_workers::OpenGate;
+use bx_workers::{OpenGate, WorkerCount};
 use std::alloc::Global;
 use std::mem;
 use std::sync::Arc;
@@ -99,7 +99,8 @@ fn serve<R: Threads + Sync>(
 fn new_round(alloc: Global, workers: usize) -> Result<Round<ByRemainder>> {
     let config = Config::new(SHARDS, 30_000, 0, 10_000).ok_or(anyhow!("no configuration"))?;
     let placing = Arc::new(alloc, ByRemainder)?;
-    Round::new(alloc, config, placing, workers)?.ok_or(anyhow!("no such number of workers"))
+    let workers = WorkerCount::new(workers).ok_or(anyhow!("no such number of workers"))?;
+    Ok(Round::new(alloc, config, placing, workers)?)
 }
 
 /// 10,000 sessions are opened, each subscribed to one of ten rooms by two patterns.

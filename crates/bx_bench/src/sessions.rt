@@ -54,12 +54,12 @@ impl Setting {
     // How many events the held connect is given.
     fn deliver(&self, session: &mut Session, place: u64) -> Result<u64> {
         session.reserve()?;
-        let keep = self.event.clone()?;
-        let give = self.event.clone()?;
+        let event = self.event.clone()?;
+        let further = session.further(&event)?;
         if session.is_overflowed() || session.last_batch() > MANY {
             return Err(anyhow!("overflow"));
         }
-        match session.deliver(&self.config, place, keep, give) {
+        match session.deliver(&self.config, place, event, further) {
             Delivery::Given(answered) => Ok(answered.answer.events.len() as u64),
             Delivery::Waits | Delivery::Overflowed => Ok(0),
         }

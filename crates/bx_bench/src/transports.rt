@@ -27,7 +27,8 @@ pub fn plain(alloc: Global) -> Result<usize> {
 fn take(alloc: Global, content_type: Option<&[u8]>, body: &[u8]) -> Result<usize> {
     let mut total = 0usize;
     for _ in 0..RUNS {
-        let bodies = read_post(alloc, content_type, body).map_err(|_| anyhow!("not taken"))?;
+        let owned = Vec::from_slice(alloc, body)?;
+        let bodies = read_post(alloc, content_type, owned).map_err(|_| anyhow!("not taken"))?;
         if bodies.len() > 0 {
             let document = Document::read(alloc, bodies.get(0)).map_err(|_| anyhow!("not cut"))?;
             total = total.saturating_add(document.pieces().len());

@@ -89,7 +89,7 @@ fn items(alloc: Global) -> Result<Vec<Item>> {
     for _ in 0..1_000 {
         items.push(Item::EventItem(event.clone()?))?;
         let ack = AckReply::AckNumber(7);
-        let reply = Reply::to_connect(alloc, &config, &client, None, Outcome::Connected, ack)?;
+        let reply = Reply::to_connect(&config, client.clone()?, None, Outcome::Connected, ack);
         items.push(Item::ReplyItem(reply))?;
     }
     Ok(items)

@@ -1,14 +1,14 @@
 //! A round of two shards and one worker.
-ghost use Rattle.std.specs.Prelude.{◌≤◌};
 
 use crate::requests::{
     ACK_HANDSHAKE, CONNECT, HANDSHAKE, HOLD_NONE, PUBLISH, SUBSCRIBE, add_line, arrival_at, config,
     response,
 };
 use crate::unlike::Unlike;
+use bx_advice::ShardCount;
 use bx_entry::{ByRemainder, Input};
 use bx_fanout::{Out, Round, RoundFault};
-use bx_workers::OpenGate;
+use bx_workers::{OpenGate, WorkerCount};
 use std::alloc::Global;
 use std::sync::Arc;
 use std::thread::Threads;
@@ -170,10 +170,10 @@ fn first<R: Threads + Sync>(
     let round = dealt(rt, alloc, worked.first, outs)?;
     match worked.shards {
         None => Ok(round),
-        Some(shards) if shards >= 1 && shards <= 64 => dealt_anew(
-            alloc, round, shards, once, again,
-        ),
-        Some(_) => Err(Unlike::Wrong("too many shards")),
+        Some(shards) => match ShardCount::new(shards) {
+            Some(shards) => dealt_anew(rt, alloc, round, shards, once, again),
+            None => Err(Unlike::Wrong("too many shards")),
+        },
     }
 }
 
@@ -184,8 +184,7 @@ fn dealt<R: Threads + Sync>(
     requests: Requests,
     outs: &mut Vec<Out>,
 ) -> Result<Round<ByRemainder>, Unlike> {
-    let round = Round::new(alloc, config(2)?, placing(alloc)?, 1)?;
-    let mut round = round.ok_or(Unlike::Wrong("no round"))?;
+    let mut round = Round::new(alloc, config(2)?, placing(alloc)?, WorkerCount::one())?;
     deal(rt, alloc, &mut round, requests, outs)?;
     Ok(round)
 }
@@ -195,30 +194,28 @@ fn placing(alloc: Global) -> Result<Arc<ByRemainder>, Unlike> {
 }
 
 // The round with its sessions among so many shards. Where memory was refused, the round that came back is dealt anew.
-fn dealt_anew(
+fn dealt_anew<R: Threads + Sync>(
+    rt: &R,
     alloc: Global,
     round: Round<ByRemainder>,
-    shards: usize,
+    shards: ShardCount,
     once: Arc<ByRemainder>,
     again: Arc<ByRemainder>,
-) -> Result<Round<ByRemainder>, Unlike>
-    requires { (1 ≤ shards) × (shards ≤ 64) }
-{
-    match round.reshard(alloc, shards, once) {
+) -> Result<Round<ByRemainder>, Unlike> {
+    match round.reshard(rt, alloc, shards, once) {
         Ok(round) => Ok(round),
-        Err((round, _)) => dealt_again(alloc, round, shards, again),
+        Err((round, _)) => dealt_again(rt, alloc, round, shards, again),
     }
 }
 
-fn dealt_again(
+fn dealt_again<R: Threads + Sync>(
+    rt: &R,
     alloc: Global,
     round: Round<ByRemainder>,
-    shards: usize,
+    shards: ShardCount,
     placing: Arc<ByRemainder>,
-) -> Result<Round<ByRemainder>, Unlike>
-    requires { (1 ≤ shards) × (shards ≤ 64) }
-{
-    match round.reshard(alloc, shards, placing) {
+) -> Result<Round<ByRemainder>, Unlike> {
+    match round.reshard(rt, alloc, shards, placing) {
         Ok(round) => Ok(round),
         Err(_) => Err(Unlike::Wrong("not dealt anew")),
     }

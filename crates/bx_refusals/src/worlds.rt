@@ -3,7 +3,7 @@ use crate::requests::{CONNECT, HANDSHAKE, PUBLISH, SUBSCRIBE, arrival, config, t
 use crate::unlike::Unlike;
 use bx_entry::{ByRemainder, Slot, Ticket};
 use bx_message::Answer;
-use bx_workers::OpenGate;
+use bx_workers::{OpenGate, WorkerCount};
 use bx_world::{AdmissionFault, Admitted, Applied, World};
 use std::alloc::Global;
 use std::sync::Arc;
@@ -60,7 +60,7 @@ fn bring_up<R: Threads + Sync>(
     alloc: Global,
     world: &mut World<ByRemainder>,
 ) -> Result<(), Unlike> {
-    if world.bring_up(rt, alloc, &OpenGate, 1) == 0 {
+    if world.bring_up(rt, alloc, &OpenGate, WorkerCount::one()) == 0 {
         return Ok(());
     }
     let mut level = 0usize;
@@ -69,7 +69,7 @@ fn bring_up<R: Threads + Sync>(
             level = level.saturating_add(1);
         }
     }
-    if level == 1 && world.bring_up(rt, alloc, &OpenGate, 1) == 0 {
+    if level == 1 && world.bring_up(rt, alloc, &OpenGate, WorkerCount::one()) == 0 {
         return Ok(());
     }
     Err(Unlike::Wrong("shards stay behind"))

@@ -14,12 +14,12 @@ use Rattle.bx_entry.specs.Inputs.{ReadInput}
 use Rattle.bx_entry.specs.Registry.{Registry}
 use Rattle.bx_script.specs.Replay.{Numbered}
 use Rattle.bx_entry.specs.Runs.{Out, held, outs}
-use Rattle.bx_fanout.specs.Opens as opens
-use Rattle.bx_fanout.specs.Opens.{is_whole, newest, open_after, out_of, registry_after, waiting_at}
+use Rattle.bx_theory.specs.Opens as opens
+use Rattle.bx_theory.specs.Opens.{is_whole, newest, open_after, out_of, registry_after, waiting_at}
 use Rattle.bx_fanout.specs.Stages.{seen_out}
 use Rattle.bx_fanout.specs.declared.out.Out as fanout
-use Rattle.bx_fanout.proofs.Opens.{open_is_held, opens_go_on, outs_add}
-use Rattle.bx_fanout.proofs.Desks.{at-is}
+use Rattle.bx_theory.proofs.Opens.{open_is_held, opens_go_on, outs_add}
+use Rattle.bx_fanout.proofs.HeldInputs.{at-is}
 
 -- ---- each once
 

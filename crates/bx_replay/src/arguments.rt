@@ -4,17 +4,14 @@ ghost use Rattle.bx_advice.specs.Limits.{IsStandard};
 ghost use Rattle.bx_replay.specs.Settings.{count_in, settings_in, settings_of, time_in};
 
 use bx_advice::{Config, MAX_SHARDS};
-use bx_fanout::MAX_WORKERS;
-use bx_script::number_of;
+use bx_message::number_of;
+use bx_workers::{MAX_WORKERS, WorkerCount};
 
 /// How the server is run.
 #[derive(Clone, Copy)]
 pub struct Arguments {
     pub config: Config,
-    /// 1 to 16.
-    pub workers: usize,
-    pub ghost some_worker: { 1 ≤ workers },
-    pub ghost workers_in_range: { workers ≤ 16 },
+    pub workers: WorkerCount,
 }
 
 impl Arguments {
@@ -51,7 +48,9 @@ impl Arguments {
         ensures limits { IfSome result (λ arguments. IsStandard arguments.config.limits) }
     {
         let shards = count_in(shards, MAX_SHARDS)?;
-        let workers = count_in(workers, MAX_WORKERS)?;
+        let Some(workers) = WorkerCount::new(count_in(workers, MAX_WORKERS)?) else {
+            unreachable!()
+        };
         let timeout = time_in(timeout)?;
         let interval = time_in(interval)?;
         let max_interval = time_in(max_interval)?;

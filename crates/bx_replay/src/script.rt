@@ -1,5 +1,5 @@
 //! A run of the server over a script.
-ghost use Rattle.std.specs.Prelude.{◌≡◌, ◌≤◌, [], IfErr, IfOk, IfSome, OnErr};
+ghost use Rattle.std.specs.Prelude.{◌≡◌, [], IfErr, IfOk, IfSome, OnErr};
 ghost use Rattle.bx_replay.specs.Serving.{IsAll, Prints, Serves, held_lines};
 ghost use Rattle.bx_script.specs.Replay.{replay_text};
 ghost use Rattle.bx_fanout.specs.Rounds.{setup_in};
@@ -13,6 +13,7 @@ use crate::server::{Server, answer, new_server};
 use bx_advice::Config;
 use bx_entry::Placing;
 use bx_script::{Lines, Output, ScriptFault};
+use bx_workers::WorkerCount;
 use std::alloc::Global;
 use std::io::{BufRead, Write};
 use std::sync::Arc;
@@ -28,12 +29,10 @@ pub fn replay<T: Threads + Sync, P: Placing + Drop + Send + Sync, R: BufRead, W:
     alloc: Global,
     config: Config,
     placing: Arc<P>,
-    workers: usize,
+    workers: WorkerCount,
     lines: &mut Lines<R>,
     writer: &mut Output<W>,
 ) -> Result<(), ScriptFault>
-    requires some_worker { 1 ≤ workers }
-    requires workers_in_range { workers ≤ 16 }
     ensures text { IfSome (unread R.remaining lines.old)
         (λ script. Writes (written W.contents writer.old) (written W.contents writer.new) result (replay_text config script)) }
     ensures reason { IfErr result (IsReplayFault lines.new writer.new) }

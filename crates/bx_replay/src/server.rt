@@ -7,17 +7,16 @@ ghost use Rattle.bx_replay.specs.Serving.{Hands, HandsFront, Prints, PrintsFront
 ghost use Rattle.bx_entry.specs.Requests.{read_input};
 ghost use Rattle.bx_entry.specs.Runs.{held, outs};
 ghost use Rattle.bx_fanout.specs.Rounds.{added_by, inputs_of, setup_in};
-ghost use Rattle.bx_script.specs.Lines.{InRange};
 ghost use Rattle.bx_script.specs.Output.{IsWriteFault, written};
 ghost use Rattle.bx_script.specs.Printing.{is_tick, numbered};
 
 use crate::kept::{PendingLine, print_outs};
-use bx_advice::Config;
+use bx_advice::{Config, ShardCount};
 use bx_entry::{Input, Placing};
 use bx_fanout::{Round, RoundFault};
 use bx_history::History;
 use bx_script::{Line, Output, ScriptFault, write_bad, write_status};
-use bx_workers::OpenGate;
+use bx_workers::{OpenGate, WorkerCount};
 use std::alloc::Global;
 use std::collections::BTreeMap;
 use std::io::Write;
@@ -41,18 +40,14 @@ pub fn new_server<P: Placing + Drop>(
     alloc: Global,
     config: Config,
     placing: Arc<P>,
-    workers: usize,
+    workers: WorkerCount,
 ) -> Result<Server<P>, ScriptFault>
-    requires some_worker { 1 ≤ workers }
-    requires workers_in_range { workers ≤ 16 }
     ensures serves { IfOk result (λ s. Serves s) }
     ensures lines { IfOk result (λ s. s.lines ≡ []) }
     ensures config { IfOk result (λ s. (setup_in s.round).config ≡ config) }
     ensures reason { IfErr result (λ e. e ≡ ScriptFault.Memory) }
 {
-    let Some(round) = Round::new(alloc, config, placing, workers)? else {
-        unreachable!()
-    };
+    let round = Round::new(alloc, config, placing, workers)?;
     Ok(Server {
         round,
         kept: BTreeMap::new(alloc),
@@ -72,7 +67,6 @@ pub fn answer<T: Threads + Sync, P: Placing + Drop + Send + Sync, W: Write>(
 ) -> Result<Server<P>, ScriptFault>
     requires serves { Serves server }
     requires few { server.number < 2 ^ 62 }
-    requires in_range { InRange line }
     ensures serves { IfOk result (λ s. Serves s) }
     ensures lines { IfOk result (λ s. s.lines ≡ server.lines ++ line ∷ []) }
     ensures config { IfOk result (λ s. (setup_in s.round).config ≡ (setup_in server.round).config) }
@@ -94,9 +88,20 @@ pub fn answer<T: Threads + Sync, P: Placing + Drop + Send + Sync, W: Write>(
             Ok(server)
         }
         Line::Accepted { callback, input } => {
-            let (round, kept) = (&mut server.round, &mut server.kept);
-            hand(rt, alloc, round, kept, number, callback, input, writer)?;
-            Ok(server)
+            let Server {
+                mut round,
+                mut kept,
+                lines,
+                ..
+            } = server;
+            let (open, waiting) = (&mut round, &mut kept);
+            hand(rt, alloc, open, waiting, number, callback, input, writer)?;
+            Ok(Server {
+                round,
+                kept,
+                number,
+                lines,
+            })
         }
         Line::Resharded { shards } => {
             let Server {
@@ -105,7 +110,7 @@ pub fn answer<T: Threads + Sync, P: Placing + Drop + Send + Sync, W: Write>(
                 lines,
                 ..
             } = server;
-            let round = reshard(alloc, round, shards, placing)?;
+            let round = reshard(rt, alloc, round, shards, placing)?;
             Ok(Server {
                 round,
                 kept,
@@ -158,21 +163,20 @@ fn ticks(input: &Input) -> bool
 }
 
 // The server goes on with so many shards, among which sessions are placed as before.
-fn reshard<P: Placing + Drop>(
+fn reshard<T: Threads + Sync, P: Placing + Drop + Send + Sync>(
+    rt: &T,
     alloc: Global,
     round: Round<P>,
-    shards: usize,
+    shards: ShardCount,
     placing: &Arc<P>,
 ) -> Result<Round<P>, ScriptFault>
-    requires some_shard { 1 ≤ shards }
-    requires shards_in_range { shards ≤ 64 }
     ensures inputs { IfOk result (λ r. inputs_of r ≡ inputs_of round) }
     ensures added { IfOk result (λ r. added_by r ≡ added_by round) }
     ensures config { IfOk result (λ r. (setup_in r).config ≡ (setup_in round).config) }
     ensures shards { IfOk result (λ r. (setup_in r).shards ≡ shards) }
     ensures reason { IfErr result (λ e. e ≡ ScriptFault.Memory) }
 {
-    match round.reshard(alloc, shards, placing.clone()?) {
+    match round.reshard(rt, alloc, shards, placing.clone()?) {
         Ok(round) => Ok(round),
         Err(_) => Err(ScriptFault::Memory),
     }

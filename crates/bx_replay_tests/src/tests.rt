@@ -4,6 +4,7 @@ use bx_advice::Config;
 use bx_entry::{AllFirst, ByRemainder, ByTable, Placing};
 use bx_replay::replay;
 use bx_script::{Lines, Output, ScriptFault};
+use bx_workers::WorkerCount;
 use std::alloc::Global;
 use std::io;
 use std::io::{BufRead, BufReader, ErrorKind, Read, Write};
@@ -98,8 +99,9 @@ where
     W: Write,
 {
     let config = Config::new(3, 30_000, 0, 10_000).ok_or("no configuration")?;
+    let workers = WorkerCount::new(2).ok_or("no such number of workers")?;
     let placing = Arc::new(alloc, placing)?;
-    Ok(replay(rt, alloc, config, placing, 2, lines, output))
+    Ok(replay(rt, alloc, config, placing, workers, lines, output))
 }
 
 // A script prints this by this placing.

@@ -2,11 +2,11 @@
 ghost use Rattle.std.specs.Prelude.{◌≤◌};
 
 use crate::requests::request;
-use bx_advice::Config;
+use bx_advice::{Config, ShardCount};
 use bx_entry::{ByTable, Input};
 use bx_fanout::{Out, Round};
 use bx_message::body_text;
-use bx_workers::{Gate, OpenGate};
+use bx_workers::{Gate, OpenGate, WorkerCount};
 use std::alloc::{AllocError, Global};
 use std::hint;
 use std::process::Abort;
@@ -108,10 +108,8 @@ fn round(
 ) -> Result<Round<ByTable>, Fail> {
     let config = Config::new(shards, 30_000, 0, 10_000).ok_or("no configuration")?;
     let placing = Arc::new(alloc, ByTable::new(alloc, table)?)?;
-    match Round::new(alloc, config, placing, workers)? {
-        Some(round) => Ok(round),
-        None => Err(Fail::from("no round")),
-    }
+    let workers = WorkerCount::new(workers).ok_or("no such number of workers")?;
+    Ok(Round::new(alloc, config, placing, workers)?)
 }
 
 // Deals with these inputs, as one run.
@@ -270,7 +268,8 @@ fn dealt_anew<R: Threads + Sync, G: Gate + Sync>(
 ) -> Result<Round<ByTable>, Fail> {
     let placing = Arc::new(alloc, ByTable::new(alloc, &[3, 62, 17, 40, 9])?)?;
     let round = with_a_held_connect(rt, alloc, gate, outs)?;
-    match round.reshard(alloc, 64, placing) {
+    let shards = ShardCount::new(64).ok_or("no such number of shards")?;
+    match round.reshard(rt, alloc, shards, placing) {
         Ok(round) => Ok(round),
         Err(_) => Err(Fail::from("no memory")),
     }

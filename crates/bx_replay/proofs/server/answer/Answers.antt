@@ -2,6 +2,7 @@ use Rattle.std.proofs.Common.{◌+◌, [], ℕ, codes, decimal, refl, ap, arith,
 use Rattle.std.specs.BTreeMap.{get}
 use Rattle.std.specs.Ordering.{nat_cmp}
 use Rattle.bx_replay.specs.Serving.{seen_lines, shards_after}
+use Rattle.bx_message.specs.Statuses.{code_of}
 use Rattle.bx_script.specs.Replay.{line_text}
 use Rattle.bx_fanout.specs.Rounds.{added_by, inputs_of, setup_in}
 use Rattle.bx_script.specs.declared.line.Line.{Line}
@@ -51,8 +52,8 @@ pub returns-in_ok-write_status-in-Rejected-clause-prints :
     goal.returns-in_ok-write_status-in-Rejected-clause-prints
 returns-in_ok-write_status-in-Rejected-clause-prints g c =
     let s = c.args.server in
-    prints_bare (setup_in s.round).config s.lines c.push.new.self c.args.line (Line.Rejected c.in-Rejected.status) [] (line_text (s.number + 1) (decimal c.in-Rejected.status)) (written g.W.Write.contents c.args.writer.now) (written g.W.Write.contents c.write_status.new.writer)
-    (setup_in s.round).config.limits.some_batch c.push.ensures c.in-Rejected.is tt (ap (λ (n : ℕ). line_text (n + 1) (decimal c.in-Rejected.status)) c.requires.serves.number_is) c.in_ok-write_status-in-Rejected.ensures.text
+    prints_bare (setup_in s.round).config s.lines c.push.new.self c.args.line (Line.Rejected c.in-Rejected.status) [] (line_text (s.number + 1) (decimal (code_of c.in-Rejected.status))) (written g.W.Write.contents c.args.writer.now) (written g.W.Write.contents c.write_status.new.writer)
+    (setup_in s.round).config.limits.some_batch c.push.ensures c.in-Rejected.is tt (ap (λ (n : ℕ). line_text (n + 1) (decimal (code_of c.in-Rejected.status))) c.requires.serves.number_is) c.in_ok-write_status-in-Rejected.ensures.text
 
 pub returns-in_ok-hand-in-Accepted-clause-serves : goal.returns-in_ok-hand-in-Accepted-clause-serves
 returns-in_ok-hand-in-Accepted-clause-serves g c =
@@ -112,8 +113,8 @@ pub returns-in_err-write_status-in-Rejected-clause-fault :
 returns-in_err-write_status-in-Rejected-clause-fault g c =
     let s = c.args.server in
     on-err c.from_residual-in_err-write_status-in-Rejected.result
-    (front_line (setup_in s.round).config s.lines c.args.line (Line.Rejected c.in-Rejected.status) [] (line_text (s.number + 1) (decimal c.in-Rejected.status)) (written g.W.Write.contents c.args.writer.now) (written g.W.Write.contents c.write_status.new.writer)
-    (setup_in s.round).config.limits.some_batch c.in-Rejected.is tt (ap (λ (n : ℕ). line_text (n + 1) (decimal c.in-Rejected.status)) c.requires.serves.number_is) c.in_err-write_status-in-Rejected.ensures.text)
+    (front_line (setup_in s.round).config s.lines c.args.line (Line.Rejected c.in-Rejected.status) [] (line_text (s.number + 1) (decimal (code_of c.in-Rejected.status))) (written g.W.Write.contents c.args.writer.now) (written g.W.Write.contents c.write_status.new.writer)
+    (setup_in s.round).config.limits.some_batch c.in-Rejected.is tt (ap (λ (n : ℕ). line_text (n + 1) (decimal (code_of c.in-Rejected.status))) c.requires.serves.number_is) c.in_err-write_status-in-Rejected.ensures.text)
 
 pub returns-in_err-hand-in-Accepted-clause-fault : goal.returns-in_err-hand-in-Accepted-clause-fault
 returns-in_err-hand-in-Accepted-clause-fault g c =
