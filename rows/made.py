@@ -24,6 +24,25 @@ REFUSED = (
     "2 2 4294967296 0 10000",
     "2 2 30000 4294967296 10000",
     "2 2 30000 0 18446744073709551616",
+    "2 2 30000 0 10000 ",
+    "2 2 30000 0 10000 x",
+    "2 2 30000 0 10000 A",
+    "2 2 30000 0 10000 aa",
+    "2 2 30000 0 10000 -a",
+    "2 2 30000 0 10000 r",
+    "2 2 30000 0 10000 ra",
+    "2 2 30000 0 10000 2",
+    "2 2 30000 0 10000 2 -",
+    "2 2 30000 0 10000 x 2",
+    "2 2 30000 0 10000 - ",
+    "2 2 30000 0 10000 - 0",
+    "2 2 30000 0 10000 - 65537",
+    "2 2 30000 0 10000 - +5",
+    "2 2 30000 0 10000 - 5s",
+    "2 2 30000 0 10000 a a",
+    "2 2 30000 0 10000 - 4294967298",
+    "2 2 30000 0 10000 - 18446744073709551618",
+    "2 2 30000 0 10000 - 2 2",
 )
 
 
@@ -125,11 +144,29 @@ def overflows():
         members = '<meta subscribe 1>,"subscription":[%s]' % ",".join(f'"/{line}/{index}"' for index in range(64))
         script += f"0 P [{{{members}}}]\n"
         expected += f'{line} 200 [{{{members},"successful":true}}]\n'
-    yield (
-        "one pattern too many",
-        f"{script}0 P [<subscribe 1 /a>]\n29999 T\n30000 T\n30000 P [<poll 1>]\n",
-        f"{expected}19 200 [<subscribed 1 /a>]\n2 200 [<connected 1>]\n22 200 [<overflowed 1>]\n",
-    )
+    for limit in (1_024, 1, 65_536):
+        yield (
+            "one pattern too many",
+            f"{script}0 P [<subscribe 1 /a>]\n29999 T\n30000 T\n30000 P [<poll 1>]\n",
+            f"{expected}19 200 [<subscribed 1 /a>]\n2 200 [<connected 1>]\n22 200 [<overflowed 1>]\n",
+            f".. - {limit}",
+        )
+
+
+def limits():
+    """Yields two sessions for which as many events wait as may: one more overflows that which has fetched none."""
+    for limit in (1_025, 65_536):
+        script = "0 P [<handshake>]\n0 P [<handshake>]\n0 P [<subscribe 1 /a/b>,<subscribe 2 /a/b>]\n"
+        expected = "1 200 [<opened 1>]\n2 200 [<opened 2>]\n3 200 [<subscribed 1 /a/b>,<subscribed 2 /a/b>]\n"
+        line = 4
+        for count in [256] * (limit // 256) + [limit % 256]:
+            script += f"0 P [{listed('<publish 1 /a/b 1>', count)}]\n"
+            expected += f"{line} 200 [{listed('<published /a/b>', count)}]\n"
+            line += 1
+        events = listed("<event /a/b 1>", 256)
+        script += "0 P [<poll 1>]\n0 P [<publish 1 /a/b 2>]\n0 P [<poll 2>]\n0 P [<poll 1>]\n"
+        expected += f"{line} 200 [{events},<connected 1>]\n{line + 1} 200 [<published /a/b>]\n{line + 2} 200 [<overflowed 2>]\n"
+        yield f"{limit} events may wait", script, f"{expected}{line + 3} 200 [{events},<connected 1>]\n", f".. - {limit}"
 
 
 def crowds():
@@ -154,6 +191,6 @@ def crowds():
 
 
 def made():
-    """Yields the name of each row, its script and what it must print, in words."""
-    for part in (ends, long_lines, thousands_of_lines, fronts, nested, messages, patterns, overflows, crowds):
+    """Yields the name of each row, its script and what it must print, in words, and then its arguments where it names some."""
+    for part in (ends, long_lines, thousands_of_lines, fronts, nested, messages, patterns, overflows, limits, crowds):
         yield from part()

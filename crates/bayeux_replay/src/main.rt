@@ -11,7 +11,8 @@ use std::thread::Threads;
 use std::{env, io};
 
 /// What standard error says of bad arguments.
-const USAGE: &str = "usage: bayeux_replay shards workers timeout interval max_interval";
+const USAGE: &str =
+    "usage: bayeux_replay shards workers timeout interval max_interval [options [limit]]";
 
 fn main(rt: HostRuntime) -> ExitCode {
     let arguments = match arguments(&rt) {

@@ -18,7 +18,9 @@ pub struct Arguments {
 
 impl Arguments {
     /// What these words say; none where they are not an address, five numbers in their ranges and, before the last one, a
-    /// seed of 64 hexadecimal digits. The times are in milliseconds.
+    /// seed of 64 hexadecimal digits, and then at most options and a limit. The times are in milliseconds. The options are
+    /// `a` where publishes of no session are accepted, else `-`, and `-` where there are none. The limit says how many
+    /// events may wait for each session, 1 to 65,536, and is 1,024 where there is none.
     pub fn read(words: &[String]) -> Option<Arguments> {
         let [
             address,
@@ -28,6 +30,7 @@ impl Arguments {
             max_interval,
             seed,
             connections,
+            more @ ..,
         ] = words
         else {
             return None;
@@ -40,7 +43,7 @@ impl Arguments {
         )?;
         Some(Arguments {
             address: address.as_str().parse().ok()?,
-            config,
+            config: with_more(config, more)?,
             seed: seed_of(seed.as_str())?,
             connections: number_of(connections.as_bytes())?,
         })
@@ -59,6 +62,28 @@ fn config_of(
         u32::try_from(number_of(interval)?).ok()?,
         u32::try_from(number_of(max_interval)?).ok()?,
     )
+}
+
+// The configuration with what the words behind the others say.
+fn with_more(config: Config, words: &[String]) -> Option<Config> {
+    match words {
+        [] => Some(config),
+        [options] => with_options(config, options.as_bytes()),
+        [options, limit] => {
+            let limit = u32::try_from(number_of(limit.as_bytes())?).ok()?;
+            with_options(config, options.as_bytes())?.with_limit(limit)
+        }
+        _ => None,
+    }
+}
+
+// The configuration with these options.
+fn with_options(config: Config, options: &[u8]) -> Option<Config> {
+    match options {
+        b"-" => Some(config.with_anonymous(false)),
+        b"a" => Some(config.with_anonymous(true)),
+        _ => None,
+    }
 }
 
 // 64 hexadecimal digits, the upper one of each byte first.

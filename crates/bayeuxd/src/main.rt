@@ -11,7 +11,8 @@ use std::process::ExitCode;
 use std::{env, io};
 
 /// What standard error says of bad arguments.
-const USAGE: &str = "usage: bayeuxd address shards timeout interval max_interval seed connections";
+const USAGE: &str =
+    "usage: bayeuxd address shards timeout interval max_interval seed connections [options [limit]]";
 
 fn main(rt: HostRuntime) -> ExitCode {
     let end = match words(&rt) {

@@ -14,6 +14,9 @@ pub const MAX_MOMENT: u64 = 4_611_686_018_427_387_904;
 /// The most entries that the list of entries may have: 2^62.
 pub const MAX_LENGTH: u64 = 4_611_686_018_427_387_904;
 
+/// The most waiting events of a session that a configuration may allow.
+pub const MAX_EVENTS: u32 = 65_536;
+
 /// The server's limits, which [`STANDARD_LIMITS`] sets.
 #[derive(Clone, Copy, Debug)]
 pub struct Limits {
@@ -51,6 +54,8 @@ pub struct Config {
     /// How long a session lives after its last accepted message and that message's hold.
     pub max_interval: u32,
     pub limits: Limits,
+    /// Whether a publish that has no client id is accepted, as a message of no session.
+    pub anonymous: bool,
     pub ghost some_shard: { 1 ≤ shards },
     pub ghost shards_in_range: { shards ≤ 64 },
 }
@@ -98,17 +103,18 @@ impl ShardCount {
 }
 
 impl Config {
-    ghost use Rattle.std.specs.Prelude.{◌≡◌, ◌≤◌, ◌↔◌, IsSome, IfSome};
+    ghost use Rattle.std.specs.Prelude.{◌≡◌, ◌≤◌, ◌↔◌, IsSome, IfSome, false};
     ghost use Rattle.bx_advice.specs.Limits.{IsStandard};
 
-    /// The configuration with these settings and the standard limits; none where `shards` is not 1
-    /// to [`MAX_SHARDS`].
+    /// The configuration with these settings and the standard limits, in which a publish needs a
+    /// client id; none where `shards` is not 1 to [`MAX_SHARDS`].
     pub fn new(shards: usize, timeout: u32, interval: u32, max_interval: u32) -> Option<Config>
         ensures valid { IsSome result ↔ ((1 ≤ shards) × (shards ≤ 64)) }
         ensures shards { IfSome result (λ c. c.shards ≡ shards) }
         ensures times { IfSome result (λ c.
             (c.timeout ≡ timeout) × (c.interval ≡ interval) × (c.max_interval ≡ max_interval)) }
         ensures limits { IfSome result (λ c. IsStandard c.limits) }
+        ensures anonymous { IfSome result (λ c. c.anonymous ≡ false) }
     {
         let shards = ShardCount::new(shards)?;
         Some(Config {
@@ -117,7 +123,31 @@ impl Config {
             interval,
             max_interval,
             limits: STANDARD_LIMITS,
+            anonymous: false,
         })
+    }
+
+    /// The same, with this said of publishes that have no client id.
+    pub fn with_anonymous(self, anonymous: bool) -> Config
+        ensures { result ≡ record self { anonymous = anonymous } }
+    {
+        let mut config = self;
+        config.anonymous = anonymous;
+        config
+    }
+
+    /// The same, with so many events that may wait for each session; none where they are not 1 to
+    /// [`MAX_EVENTS`].
+    pub fn with_limit(self, events: u32) -> Option<Config>
+        ensures valid { IsSome result ↔ ((1 ≤ events) × (events ≤ 65536)) }
+        ensures limit { IfSome result (λ c. c ≡ record self { limits = record self.limits { events = events } }) }
+    {
+        if events < 1 || events > MAX_EVENTS {
+            return None;
+        }
+        let mut config = self;
+        config.limits.events = events as usize;
+        Some(config)
     }
 }
 

@@ -8,6 +8,7 @@ mod error;
 
 pub use advice::{Advice, Outcome, Reconnect, advice_for};
 pub use config::{
-    BODY_LIMIT, Config, Limits, MAX_LENGTH, MAX_MOMENT, MAX_SHARDS, STANDARD_LIMITS, ShardCount,
+    BODY_LIMIT, Config, Limits, MAX_EVENTS, MAX_LENGTH, MAX_MOMENT, MAX_SHARDS, STANDARD_LIMITS,
+    ShardCount,
 };
 pub use error::Error;

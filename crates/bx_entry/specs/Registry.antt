@@ -13,7 +13,7 @@ use Rattle.bx_message.specs.declared.message.TextMember.TheVariants.{Absent, Not
 use Rattle.bx_message.specs.declared.message.AckMember.{AckMember}
 use Rattle.bx_message.specs.declared.message.AckMember.TheVariants.{NoAck, AckTrue, AckNumber}
 use Rattle.bx_message.specs.declared.message_kind.MessageKind.{MessageKind}
-use Rattle.bx_message.specs.MessageKinds.{message_kind_of, is_connect}
+use Rattle.bx_message.specs.MessageKinds.{message_kind_of, is_connect, is_handshake}
 use Rattle.bx_entry.specs.Listing.{Posted, Listed, Post}
 use Rattle.bx_entry.specs.Listing as messages
 use Rattle.bx_advice.specs.declared.error.Error.{Error}
@@ -121,11 +121,17 @@ handshake_cases config sessions p =
     ∷ (nat_le config.limits.sessions (count_live sessions), TooManySessions)
     ∷ []
 
--- what refuses any other message, but for one to an unknown meta channel, by its sender
-abbrev pub client_cases : List Registered → Message → List (Bool × Error)
-client_cases sessions m =
-    (not (is_text m.client), NoClientId)
-    ∷ (is_none (sender_of sessions m.client), UnknownClient)
+-- whether a publish with this client id has to be of a session: where it has none, the configuration says so
+abbrev pub needs_session : Config → TextMember → Bool
+needs_session config Absent = not config.anonymous
+needs_session config NotText = true
+needs_session config (Text client) = true
+
+-- what refuses any other message, but for one to an unknown meta channel, by its sender, where it needs one
+abbrev pub client_cases : Bool → List Registered → Message → List (Bool × Error)
+client_cases needed sessions m =
+    (needed && not (is_text m.client), NoClientId)
+    ∷ (needed && is_none (sender_of sessions m.client), UnknownClient)
     ∷ []
 
 -- what else refuses a connect
@@ -151,11 +157,11 @@ publish_cases m =
 -- the cases that can hold for a message of this kind, in the order of the errors
 abbrev pub cases_of : Config → List Registered → Posted → MessageKind → List (Bool × Error)
 cases_of config sessions p MessageKind.Handshake = handshake_cases config sessions p
-cases_of config sessions p MessageKind.Connect = client_cases sessions p.message ++ connect_cases p.message
-cases_of config sessions p MessageKind.Subscribe = client_cases sessions p.message ++ subscription_cases config p.message
-cases_of config sessions p MessageKind.Unsubscribe = client_cases sessions p.message ++ subscription_cases config p.message
-cases_of config sessions p MessageKind.Disconnect = client_cases sessions p.message
-cases_of config sessions p MessageKind.Publish = client_cases sessions p.message ++ publish_cases p.message
+cases_of config sessions p MessageKind.Connect = client_cases true sessions p.message ++ connect_cases p.message
+cases_of config sessions p MessageKind.Subscribe = client_cases true sessions p.message ++ subscription_cases config p.message
+cases_of config sessions p MessageKind.Unsubscribe = client_cases true sessions p.message ++ subscription_cases config p.message
+cases_of config sessions p MessageKind.Disconnect = client_cases true sessions p.message
+cases_of config sessions p MessageKind.Publish = client_cases (needs_session config p.message.client) sessions p.message ++ publish_cases p.message
 cases_of config sessions p MessageKind.UnknownMeta = (true, UnknownMetaChannel) ∷ []
 
 -- the first case that holds refuses the message
@@ -270,9 +276,30 @@ served config r moment p message_kind s hold =
     (kind_for message_kind p s hold) (Some s.number) hold
     (slot_for config message_kind p s)
 
--- an accepted message: a handshake has no session yet, every other has one
+-- the entry's kind for an accepted message of no session (no such message is any but a publish)
+abbrev pub sessionless_kind : MessageKind → Message → EntryKind
+sessionless_kind MessageKind.Handshake m = Refused
+sessionless_kind MessageKind.Connect m = Refused
+sessionless_kind MessageKind.Subscribe m = Refused
+sessionless_kind MessageKind.Unsubscribe m = Refused
+sessionless_kind MessageKind.Disconnect m = Refused
+sessionless_kind MessageKind.Publish m = Publish (event_of m)
+sessionless_kind MessageKind.UnknownMeta m = Refused
+
+-- an accepted message of no session changes no session, and has its success at once
+abbrev pub sessionless : Config → Registry → ℕ → Posted → MessageKind → Registry
+sessionless config r moment p message_kind =
+    noted r moment r.sessions (sessionless_kind message_kind p.message) None 0
+    (Ready (reply_to config message_kind p.message None Done replies.NoAck))
+
+-- an accepted message that names no session: a handshake opens one, any other is a message of none
+abbrev pub unnamed : Config → Registry → ℕ → Posted → Bool → Registry
+unnamed config r moment p true = opened config r moment p (length r.sessions + 1) (is_ack p.message.ack)
+unnamed config r moment p false = sessionless config r moment p (message_kind_of p.message.channel)
+
+-- an accepted message, by the session that it names
 abbrev pub accepted : Config → Registry → ℕ → Posted → Option Registered → Registry
-accepted config r moment p None = opened config r moment p (length r.sessions + 1) (is_ack p.message.ack)
+accepted config r moment p None = unnamed config r moment p (is_handshake p.message)
 accepted config r moment p (Some s) = served config r moment p (message_kind_of p.message.channel) s (hold_of config p)
 
 -- a message is refused or accepted

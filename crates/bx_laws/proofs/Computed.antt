@@ -2,7 +2,7 @@
 use Rattle.std.specs.Prelude.{refl}
 use Rattle.std.specs.Fmt.{digits}
 use Rattle.json.specs.Print.{escape_byte}
-use Rattle.bx_laws.specs.Worked.{NamesRead, PatternsRead, StarsMatch, DoubleStarsMatch, AllMatch, PlainMatch, RefusedHandshake, HeldThenGiven, HandshakeWithId, NothingPosted, NoNumber, BatchesRepeat, GreatNumber, MatchedTwice, HoldRunsOut, SessionExpires, GoneWithinARequest, NotSole, Superseded, SupersededHeld, MomentsRise, TwoHandshakes, HoldEndsWithSession, EventIsBatch, EventIsBatchHeld, FullQueue, QueueWithRoom, FullWithBatch, HeldThroughOverflow, LengthsRead, EachRefusal, ServicePublish, HoldExtends, OverflowAt1025, FourFullBatches, HandshakeText, RefusedText, BatchText, CallbackExample, EmptyCallback, Unreadable, SenderBytes, UnknownType, ManyPatterns, DeliveryText, GoneText, SupersededText, OverflowText, SecondText, EndedText, RefusalsText, RefusedMovesClock, EmptyKeepsClock, RefusedKeepsDue, HoldBeforeEnd, EndedWithNumber, SupersededWithoutNumber, MixedArrays, FullServer, OverflowOutlivesPatterns, ServicePatternsAside, ScriptLines, LineForms, ScriptPrinted}
+use Rattle.bx_laws.specs.Worked.{SessionlessPublish, SessionlessRefused, NamesRead, PatternsRead, StarsMatch, DoubleStarsMatch, AllMatch, PlainMatch, RefusedHandshake, HeldThenGiven, HandshakeWithId, NothingPosted, NoNumber, BatchesRepeat, GreatNumber, MatchedTwice, HoldRunsOut, SessionExpires, GoneWithinARequest, NotSole, Superseded, SupersededHeld, MomentsRise, TwoHandshakes, HoldEndsWithSession, EventIsBatch, EventIsBatchHeld, FullQueue, QueueWithRoom, FullWithBatch, HeldThroughOverflow, LengthsRead, EachRefusal, ServicePublish, HoldExtends, OverflowAt1025, FourFullBatches, HandshakeText, RefusedText, BatchText, CallbackExample, EmptyCallback, Unreadable, SenderBytes, UnknownType, ManyPatterns, DeliveryText, GoneText, SupersededText, OverflowText, SecondText, EndedText, RefusalsText, RefusedMovesClock, EmptyKeepsClock, RefusedKeepsDue, HoldBeforeEnd, EndedWithNumber, SupersededWithoutNumber, MixedArrays, FullServer, OverflowOutlivesPatterns, ServicePatternsAside, ScriptLines, LineForms, ScriptPrinted}
 
 pub names_read : NamesRead
 names_read = refl
@@ -102,6 +102,12 @@ unknown_type = refl
 
 pub many_patterns : ManyPatterns
 many_patterns = refl
+
+pub sessionless_publish : SessionlessPublish
+sessionless_publish = refl
+
+pub sessionless_refused : SessionlessRefused
+sessionless_refused = refl
 
 pub full_queue : FullQueue
 full_queue = refl

@@ -1,16 +1,16 @@
 -- What an answer gives is the event of an accepted publish of the list, which the session got.
-use Rattle.std.proofs.Common.{◌≡◌, ℕ, ◌+◌, ◌<◌, max, Option, Some, None, List, [], ◌∷◌, ◌++◌, length, drop, map, find, fold, option_map, slice_get, ◌==◌, refl, sym, ap, ◌∙◌, subst, arith, append-nil, append_assoc}
+use Rattle.std.proofs.Common.{◌≡◌, ℕ, ◌+◌, ◌<◌, max, Option, Some, None, List, [], ◌∷◌, ◌++◌, length, drop, map, find, fold, option_map, slice_get, ◌==◌, refl, sym, ap, ◌∙◌, subst, arith, append-nil, append_assoc, Bool, true, false}
 use Rattle.bx_advice.specs.declared.config.Config.{Config}
 use Rattle.bx_advice.specs.declared.error.Error.{Error}
 use Rattle.bx_message.specs.declared.event.Event.{Event}
 use Rattle.bx_message.specs.declared.message_kind.MessageKind.{MessageKind}
-use Rattle.bx_message.specs.MessageKinds.{message_kind_of}
+use Rattle.bx_message.specs.MessageKinds.{message_kind_of, is_handshake}
 use Rattle.bx_entry.specs.Listing.{Listed, Post, Posted}
 use Rattle.bx_entry.specs.Listing as messages
 use Rattle.bx_entry.specs.declared.entry.Entry.{Entry}
 use Rattle.bx_entry.specs.declared.entry.EntryKind.{EntryKind}
 use Rattle.bx_entry.specs.declared.entry.EntryKind.TheVariants.{Publish}
-use Rattle.bx_entry.specs.Registry.{Registry, Registered, Judged, PlaceSlot, Ready, Waiting, NoSlot, event_of, kind_for, judge, judged_by, named_by, refusal, hold_of, registry, empty_registry, entries_of}
+use Rattle.bx_entry.specs.Registry.{Registry, Registered, Judged, PlaceSlot, Ready, Waiting, NoSlot, event_of, kind_for, judge, judged_by, named_by, refusal, hold_of, registry, empty_registry, entries_of, unnamed, sessionless_kind}
 use Rattle.bx_entry.specs.Sessions.{Publication, Filed, session, unopened}
 use Rattle.bx_entry.specs.Answers.{PlacedAnswer, answer_of, events_of, answer_by, answer_at}
 use Rattle.bx_theory.specs.Laws.{Each, EachOf, Slice, PlacesFrom}
@@ -49,14 +49,27 @@ kind_of_post MessageKind.Disconnect p s hold h = λ e k. cc
 kind_of_post MessageKind.Publish p s hold h = λ e k. record { message = p; posted = refl; message_kind = h; event = (let same : event_of p.message ≡ e = cc in sym same) }
 kind_of_post MessageKind.UnknownMeta p s hold h = λ e k. cc
 
+sessionless_of_post : (c : MessageKind) (p : Posted) → message_kind_of p.message.channel ≡ c → OfPost (Post p) (sessionless_kind c p.message)
+sessionless_of_post MessageKind.Handshake p h = λ e k. cc
+sessionless_of_post MessageKind.Connect p h = λ e k. cc
+sessionless_of_post MessageKind.Subscribe p h = λ e k. cc
+sessionless_of_post MessageKind.Unsubscribe p h = λ e k. cc
+sessionless_of_post MessageKind.Disconnect p h = λ e k. cc
+sessionless_of_post MessageKind.Publish p h = λ e k. record { message = p; posted = refl; message_kind = h; event = (let same : event_of p.message ≡ e = cc in sym same) }
+sessionless_of_post MessageKind.UnknownMeta p h = λ e k. cc
+
 record JudgedFrom (r t : Registry) (x : Listed) : Type 0 where
   found : Judged
   judged : t.judged ≡ r.judged ++ found ∷ []
   post : OfPost x found.entry.kind
 
+unnamed_post : (config : Config) (r : Registry) (moment : ℕ) (p : Posted) (b : Bool) → JudgedFrom r (unnamed config r moment p b) (Post p)
+unnamed_post config r moment p true = record { found = _; judged = refl; post = λ e k. cc }
+unnamed_post config r moment p false = record { found = _; judged = refl; post = sessionless_of_post (message_kind_of p.message.channel) p refl }
+
 judged_by_post : (config : Config) (r : Registry) (moment : ℕ) (p : Posted) (sender : Option Registered) (error : Option Error) → JudgedFrom r (judged_by config r moment p sender error) (Post p)
 judged_by_post config r moment p sender (Some error) = record { found = _; judged = refl; post = λ e k. cc }
-judged_by_post config r moment p None None = record { found = _; judged = refl; post = λ e k. cc }
+judged_by_post config r moment p None None = unnamed_post config r moment p (is_handshake p.message)
 judged_by_post config r moment p (Some s) None = record { found = _; judged = refl; post = kind_of_post (message_kind_of p.message.channel) p s (hold_of config p) refl }
 
 judge_post : (config : Config) (r : Registry) (x : Listed) → JudgedFrom r (judge config r x) x

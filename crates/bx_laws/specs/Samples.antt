@@ -86,7 +86,7 @@ post moment ms = Request moment 0 ms
 -- ---- replies
 
 abbrev pub standard : Config
-standard = record { shards = 2; timeout = 30000; interval = 0; max_interval = 10000; limits = standard_limits; some_shard = lit≤ tt; shards_in_range = lit≤ tt }
+standard = record { shards = 2; timeout = 30000; interval = 0; max_interval = 10000; limits = standard_limits; anonymous = false; some_shard = lit≤ tt; shards_in_range = lit≤ tt }
 
 abbrev pub reply : MessageKind → List ℕ → Option (List ℕ) → Outcome → AckReply → Reply
 reply message_kind channel client outcome ack = record { message_kind = message_kind; channel = channel; client = client; id = None; subscription = None; outcome = outcome; advice = advice_of standard outcome; ack = ack }
@@ -191,6 +191,14 @@ mixed text = record (subscribe 1 text) { listed = false }
 
 abbrev pub mixed_failed : List ℕ → Error → Item
 mixed_failed text error = ReplyItem (record (reply MessageKind.Subscribe (codes "/meta/subscribe") (Some (id_of 1)) (Failed error) AckReply.NoAck) { subscription = Some (in_quotes text) })
+
+-- a configuration that takes publishes of no session
+abbrev pub open_to_all : Config
+open_to_all = record standard { anonymous = true }
+
+-- a publish without a client id
+abbrev pub anonymous : List ℕ → List ℕ → Message
+anonymous channel payload = record (blank channel) { payload = Some payload }
 
 -- a configuration with room for so many sessions
 abbrev pub crowded : ℕ → Config

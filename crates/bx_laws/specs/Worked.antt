@@ -18,7 +18,7 @@ use Rattle.bx_entry.specs.Inputs.{Unread}
 use Rattle.bx_advice.specs.declared.error.Error.TheVariants.{UnknownConnectionType, InvalidPattern, TooManyPatterns}
 use Rattle.bx_message.specs.Texts.{callback_text}
 use Rattle.bx_entry.specs.Runs.{outs, held}
-use Rattle.bx_laws.specs.Samples.{ack_connect, blank, id_of, versioned, handshake, ack_handshake, connect, connect_now, ack_connect_now, in_quotes, subscribe, unsubscribe, disconnect, publish, post, standard, reply, handshaken, ack_handshaken, connected_as, connected, ack_connected, subscribed, unsubscribed, disconnected, published, unknown_client, event, out, subscribe_all, subscribed_all, match_all, two_connects, held_with_ack, small, failed, four_batches, full_batch, texts, refused_messages, mixed, mixed_failed, crowded}
+use Rattle.bx_laws.specs.Samples.{ack_connect, blank, id_of, versioned, handshake, ack_handshake, connect, connect_now, ack_connect_now, in_quotes, subscribe, unsubscribe, disconnect, publish, post, standard, reply, handshaken, ack_handshaken, connected_as, connected, ack_connected, subscribed, unsubscribed, disconnected, published, unknown_client, event, out, subscribe_all, subscribed_all, match_all, two_connects, held_with_ack, small, failed, four_batches, full_batch, texts, refused_messages, mixed, mixed_failed, crowded, anonymous, open_to_all}
 use Rattle.bx_advice.specs.declared.error.Error.TheVariants.{TooManySessions}
 use Rattle.std.specs.Prelude.{◌++◌, map}
 use Rattle.bx_script.specs.Replay.{lines_of, line_of, Bad, Rejected, Accepted, Resharded, inputs_from, printed}
@@ -99,6 +99,17 @@ HeldThenGiven =
     ∷ post 10 (connect 1 ∷ []) ∷ post 20 (publish 2 (codes "/a/b") (codes "7") ∷ []) ∷ [])
     ≡ out 0 (handshaken 1 ∷ []) ∷ out 1 (handshaken 2 ∷ []) ∷ out 2 (subscribed 1 (codes "/a/*") ∷ [])
     ∷ out 3 (event (codes "/a/b") (codes "7") ∷ connected 1 ∷ []) ∷ out 4 (published (codes "/a/b") ∷ []) ∷ []
+
+-- a publish of no session ends a hold, where the configuration takes such publishes
+abbrev pub SessionlessPublish : Type 0
+SessionlessPublish =
+    outs open_to_all (post 0 (handshake ∷ []) ∷ post 0 (subscribe 1 (codes "/a/*") ∷ []) ∷ post 10 (connect 1 ∷ []) ∷ post 20 (anonymous (codes "/a/b") (codes "7") ∷ []) ∷ [])
+    ≡ out 0 (handshaken 1 ∷ []) ∷ out 1 (subscribed 1 (codes "/a/*") ∷ []) ∷ out 2 (event (codes "/a/b") (codes "7") ∷ connected 1 ∷ []) ∷ out 3 (published (codes "/a/b") ∷ []) ∷ []
+
+-- and is refused where it takes none
+abbrev pub SessionlessRefused : Type 0
+SessionlessRefused =
+    outs standard (post 0 (anonymous (codes "/a/b") (codes "7") ∷ []) ∷ []) ≡ out 0 (failed MessageKind.Publish (codes "/a/b") None NoClientId ∷ []) ∷ []
 
 -- two patterns that match one name give the event once; `/a/**` doesn't match `/a`
 abbrev pub MatchedTwice : Type 0

@@ -1,6 +1,6 @@
 //! Laws that hold for every configuration and every list.
 ghost use Rattle.bx_theory.specs.Laws.{DoneNeverFalls, CountsAgree, EntriesInOrder, AnswersStay, BatchRepeats, NeverGivenAgain, NoEventTwice, GivenOnce};
-ghost use Rattle.bx_theory.specs.Readings.{LiveReading, InForceReading, HeldReading, EndingReading, OverflowReading, QueueBounded, DueReading, ClockReading, SameLive, AcceptedWhileLive, ClosedIsOver};
+ghost use Rattle.bx_theory.specs.Readings.{LiveReading, InForceReading, HeldReading, EndingReading, OverflowReading, QueueBounded, DueReading, ClockReading, SameLive, AcceptedWhileLive, PublishesOfNone, ClosedIsOver};
 ghost use Rattle.bx_theory.specs.Events.{EventsWerePublished, PublishesAreEvents, EventsRise, GivenWasPublished};
 ghost use Rattle.bx_theory.specs.Lines.{HeldComeLast, InputsGoOn, LinesGoOn};
 ghost use Rattle.bx_theory.specs.Outs.{OutsGrow};
@@ -132,6 +132,12 @@ pub fn kept_runs()
 /// An accepted message, but for a handshake, stands where its session is live.
 pub fn accepted_while_live()
     ensures { AcceptedWhileLive }
+{}
+
+/// A publish without a client id is of no session: it moves no due moment, and is accepted where the configuration says
+/// so, its channel is a name and it has data.
+pub fn publishes_of_none()
+    ensures { PublishesOfNone }
 {}
 
 /// What is kept stays within its limits, and a held connect's queue is empty.

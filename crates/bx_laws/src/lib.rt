@@ -12,7 +12,7 @@ pub use laws::{
     held_come_last, held_reading, in_force_reading, inputs_go_on, kept_in_bounds, kept_runs,
     kept_steps, lines_go_on, live_reading, never_given_again, no_event_twice, open_are_sole,
     open_is_held, opens_ascend, opens_go_on, outs_add, outs_grow, overflow_reading,
-    publishes_are_events, queue_bounded, replies_read_back, same_live,
+    publishes_are_events, publishes_of_none, queue_bounded, replies_read_back, same_live,
 };
 pub use worked::{
     acknowledgements, channels, deliveries, endings, handshakes, held_connects, overflows,

@@ -1,12 +1,12 @@
 -- What a message comes to, by the edit, the entry and the slot that are made for it.
-use Rattle.std.proofs.Common.{◌≡◌, ℕ, ◌+◌, ◌<◌, ◌^◌, Bool, true, false, List, [], ◌∷◌, length, refl, sym, ap, ◌∙◌, cond, arith, Result, Ok, Err, eq-eqb}
+use Rattle.std.proofs.Common.{◌≡◌, ℕ, ◌+◌, ◌<◌, ◌^◌, Bool, true, false, List, [], ◌∷◌, length, refl, sym, ap, subst, ◌∙◌, cond, arith, Result, Ok, Err, eq-eqb}
 use Rattle.std.specs.Prelude.{◌&&◌, ◌==◌, not, nat_le, max, Option, Some, None, IsSome, IfOk, MatchOption, is_some, is_none, option_map, if◌then◌else◌}
 use Rattle.std.specs.Str.{bytes_eq}
-use Rattle.std.proofs.lemmas.Bool.{leb-false}
+use Rattle.std.proofs.lemmas.Bool.{cond-true, leb-false}
 use Rattle.bx_names.specs.Faults.{first_case}
 use Rattle.bx_advice.specs.declared.config.Config.{Config}
 use Rattle.bx_advice.specs.declared.error.Error.{Error}
-use Rattle.bx_advice.specs.declared.error.Error.TheVariants.{SecondHandshake, UnsupportedVersion, NoSupportedConnectionType, TooManySessions, NoClientId, UnknownClient}
+use Rattle.bx_advice.specs.declared.error.Error.TheVariants.{SecondHandshake, UnsupportedVersion, NoSupportedConnectionType, TooManySessions}
 use Rattle.std.specs.List.{list_any}
 use Rattle.bx_registry.specs.declared.draft.Sender.{Sender}
 use Rattle.bx_registry.specs.Drafts.{named}
@@ -18,19 +18,19 @@ use Rattle.bx_message.specs.declared.message.Message.{Message}
 use Rattle.bx_message.specs.declared.message.TextMember.{TextMember}
 use Rattle.bx_message.specs.declared.message.TextMember.TheVariants.{Absent, NotText, Text}
 use Rattle.bx_message.specs.declared.reply.AckReply.TheVariants as replies
-use Rattle.bx_message.specs.MessageKinds.{message_kind_of}
+use Rattle.bx_message.specs.MessageKinds.{message_kind_of, is_handshake}
 use Rattle.bx_message.specs.Replies.{reply_to}
 use Rattle.bx_entry.specs.Listing.{Posted}
 use Rattle.bx_entry.specs.declared.entry.EntryKind.{EntryKind}
 use Rattle.bx_entry.specs.declared.entry.EntryKind.TheVariants as entries
-use Rattle.bx_entry.specs.Registry.{Registered, is_version, is_polling, is_text, connect_cases, subscription_cases, publish_cases, cases_of, client_id, closed, count_live, extended, hold_of, is_ack, kind_for, left_by, live_with_id, named_by, refusal, sender_of, slot_for}
+use Rattle.bx_entry.specs.Registry.{Registered, is_version, is_polling, cases_of, client_id, closed, count_live, extended, hold_of, is_ack, kind_for, left_by, live_with_id, named_by, refusal, sender_of, slot_for}
 use Rattle.bx_roster.specs.Live.{Members, live_in, with_live}
 use Rattle.bx_roster.specs.Tables.{client_at, AllLive}
 use Rattle.bx_roster.specs.Edits.{edited, CanEdit}
 use Rattle.bx_roster.specs.declared.edit.Edit.{Edit}
 use Rattle.bx_roster.specs.declared.edit.Edit.TheVariants.{Open}
 use Rattle.bx_roster.proofs.Slots.{live_in-all}
-use Rattle.bx_registry.specs.Rolls.{newcomer, verdict, judged_by}
+use Rattle.bx_registry.specs.Rolls.{newcomer, verdict, judged_by, unnamed}
 use Rattle.bx_registry.specs.Drafts.{IsSender}
 use Rattle.bx_registry.specs.Plans.{planned_at}
 use Rattle.bx_registry.specs.Judgements.{edit_for, IsVerdict}
@@ -64,37 +64,29 @@ last-outcome false false true b4 e1 e2 e3 e4 h = cc
 last-outcome false false false true e1 e2 e3 e4 h = cc
 last-outcome false false false false e1 e2 e3 e4 h = refl
 
-second-outcome : {E : Type 0} (b : Bool) (o : Option Registered) (e1 e2 : E) (rest : List (Bool × E)) → first_case ((b, e1) ∷ (is_none o, e2) ∷ rest) ≡ None → o ≡ None → ⊥
-second-outcome true o e1 e2 rest h e = cc
-second-outcome false None e1 e2 rest h e = cc
-second-outcome false (Some r) e1 e2 rest h e = cc
+-- where nothing refuses a handshake, there is room for one more session
+room : (config : Config) (live : List Registered) (p : Posted) → first_case (cases_of config live p Handshake) ≡ None → nat_le config.limits.sessions (count_live live) ≡ false
+room config live p h = last-outcome p.second (not (is_version p.message.version)) (not (list_any is_polling p.message.supported)) (nat_le config.limits.sessions (count_live live)) SecondHandshake UnsupportedVersion NoSupportedConnectionType TooManySessions h
 
--- where nothing refuses a message that names no session, there is room for one more
-room-by : (config : Config) (live : List Registered) (p : Posted) (message_kind : MessageKind) → first_case (cases_of config live p message_kind) ≡ None → named_by live message_kind p.message ≡ None →
-    nat_le config.limits.sessions (count_live live) ≡ false
-room-by config live p Handshake h e = last-outcome p.second (not (is_version p.message.version)) (not (list_any is_polling p.message.supported)) (nat_le config.limits.sessions (count_live live)) SecondHandshake UnsupportedVersion NoSupportedConnectionType TooManySessions h
-room-by config live p Connect h e = absurd (second-outcome (not (is_text p.message.client)) (sender_of live p.message.client) NoClientId UnknownClient (connect_cases p.message) h e)
-room-by config live p Subscribe h e = absurd (second-outcome (not (is_text p.message.client)) (sender_of live p.message.client) NoClientId UnknownClient (subscription_cases config p.message) h e)
-room-by config live p Unsubscribe h e = absurd (second-outcome (not (is_text p.message.client)) (sender_of live p.message.client) NoClientId UnknownClient (subscription_cases config p.message) h e)
-room-by config live p Disconnect h e = absurd (second-outcome (not (is_text p.message.client)) (sender_of live p.message.client) NoClientId UnknownClient [] h e)
-room-by config live p Publish h e = absurd (second-outcome (not (is_text p.message.client)) (sender_of live p.message.client) NoClientId UnknownClient (publish_cases p.message) h e)
-room-by config live p UnknownMeta h e = cc
+handshake-kind : (m : Message) → is_handshake m ≡ true → message_kind_of m.channel ≡ Handshake
+handshake-kind m h = cond-true (is_handshake m) Handshake _ h
 
 pub opened-verdict : (config : Config) (ms : Members) (moment place n : ℕ) (p : Posted) (edit : Option Edit) (kind : EntryKind) (slot : Planned) →
-    AllLive ms.live → ms.limit ≡ config.limits.sessions → n ≡ ms.opened + 1 → n < 2 ^ 64 →
+    AllLive ms.live → ms.limit ≡ config.limits.sessions → n ≡ ms.opened + 1 → n < 2 ^ 64 → is_handshake p.message ≡ true →
     refusal config ms.live p ≡ None → named_by ms.live (message_kind_of p.message.channel) p.message ≡ None →
     edit ≡ Some (Open (newcomer config moment p n)) → kind ≡ entries.Opened n (is_ack p.message.ack) →
     slot ≡ Ready (reply_to config Handshake p.message (Some (client_id p.nonce n)) advice.Opened (if is_ack p.message.ack then replies.AckTrue else replies.NoAck)) →
     IsVerdict ms place (verdict config ms moment p) edit kind slot
-opened-verdict config ms moment place n p edit kind slot all limit number small is who e f g =
-    let full = room-by config ms.live p (message_kind_of p.message.channel) is who in
-    let room : length ms.live < ms.limit = omega (arith, leb-false config.limits.sessions (count_live ms.live) full, limit, ap length (live_in-all ms.live all)) in
-    rw (is, who, e, f, g, number) record {
+opened-verdict config ms moment place n p edit kind slot all limit number small opens is who e f g =
+    let full = room config ms.live p (subst (λ (k : MessageKind). first_case (cases_of config ms.live p k) ≡ None) (handshake-kind p.message opens) is) in
+    let free : length ms.live < ms.limit = omega (arith, leb-false config.limits.sessions (count_live ms.live) full, limit, ap length (live_in-all ms.live all)) in
+    let one : IsVerdict ms place (unnamed config ms moment p true) edit kind slot = rw (e, f, g, number) record {
       members = refl;
-      can = (record { room = room; number = refl; small = rw (← number) small; named = drop-client_id p.nonce (ms.opened + 1); live = refl }, tt);
+      can = (record { room = free; number = refl; small = rw (← number) small; named = drop-client_id p.nonce (ms.opened + 1); live = refl }, tt);
       what = refl;
       answer = refl;
-    }
+    } in
+    rw (is, who) (subst (λ (b : Bool). IsVerdict ms place (unnamed config ms moment p b) edit kind slot) (sym opens) one)
 
 -- ---- the session that is named
 

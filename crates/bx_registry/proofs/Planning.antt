@@ -10,7 +10,7 @@ use Rattle.bx_entry.specs.Listing.{Posted, Listed, Post, listed_from}
 use Rattle.bx_entry.specs.declared.entry.Entry.{Entry}
 use Rattle.bx_entry.specs.Registry.{Registered, named_by, refusal}
 use Rattle.bx_roster.specs.Live.{Members}
-use Rattle.bx_registry.specs.Rolls.{Verdict, Roll, after, found, next, step, verdict, judged_by}
+use Rattle.bx_registry.specs.Rolls.{Verdict, Roll, after, found, next, step, verdict, judged_by, unnamed}
 use Rattle.bx_registry.specs.Drafts.{Drafted, members_of}
 use Rattle.std.proofs.lemmas.Bool.{ltb-false}
 use Rattle.bx_roster.specs.Edits.{CanEditEach, edited, edited_by}
@@ -24,14 +24,22 @@ use Rattle.bx_registry.specs.Plans.{checked, fault_of, entries_in, slots_in}
 use Rattle.bx_registry.specs.Planners.{IsFoundAt, IsPlannedBy, roll_with}
 use Rattle.bx_registry.specs.declared.plan.Planned.{Planned}
 
+unnamed-limit : (config : Config) (ms : Members) (moment : ℕ) (p : Posted) (b : Bool) → (unnamed config ms moment p b).members.limit ≡ ms.limit
+unnamed-limit config ms moment p true = refl
+unnamed-limit config ms moment p false = refl
+
 judged-limit : (config : Config) (ms : Members) (moment : ℕ) (p : Posted) (sender : Option Registered) (fault : Option Error) → (judged_by config ms moment p sender fault).members.limit ≡ ms.limit
 judged-limit config ms moment p sender (Some error) = refl
-judged-limit config ms moment p None None = refl
+judged-limit config ms moment p None None = unnamed-limit config ms moment p (is_handshake p.message)
 judged-limit config ms moment p (Some s) None = refl
+
+unnamed-opened : (config : Config) (ms : Members) (moment : ℕ) (p : Posted) (b : Bool) → (unnamed config ms moment p b).members.opened ≤ ms.opened + 1
+unnamed-opened config ms moment p true = omega arith
+unnamed-opened config ms moment p false = omega arith
 
 judged-opened : (config : Config) (ms : Members) (moment : ℕ) (p : Posted) (sender : Option Registered) (fault : Option Error) → (judged_by config ms moment p sender fault).members.opened ≤ ms.opened + 1
 judged-opened config ms moment p sender (Some error) = omega arith
-judged-opened config ms moment p None None = omega arith
+judged-opened config ms moment p None None = unnamed-opened config ms moment p (is_handshake p.message)
 judged-opened config ms moment p (Some s) None = omega arith
 
 -- what was planned so far, and what is left of the list

@@ -1,5 +1,5 @@
 -- What is judged by the sessions is judged by the live ones.
-use Rattle.std.proofs.Common.{◌≡◌, ℕ, ◌+◌, Bool, List, [], ◌∷◌, ◌++◌, length, map, refl, sym, ap, ◌∙◌, fold, append_assoc, append-nil, length-append}
+use Rattle.std.proofs.Common.{◌≡◌, ℕ, ◌+◌, Bool, true, false, List, [], ◌∷◌, ◌++◌, length, map, refl, sym, ap, ◌∙◌, fold, append_assoc, append-nil, length-append}
 use Rattle.std.specs.Prelude.{max, Option, Some, None}
 use Rattle.std.proofs.lemmas.List.{length-map}
 use Rattle.std.proofs.lemmas.List.Elements.{filter-append}
@@ -11,10 +11,10 @@ use Rattle.bx_message.specs.declared.message_kind.MessageKind.TheVariants.{Hands
 use Rattle.bx_message.specs.declared.message.Message.{Message}
 use Rattle.bx_message.specs.declared.message.TextMember.{TextMember}
 use Rattle.bx_message.specs.declared.message.TextMember.TheVariants.{Absent, NotText, Text}
-use Rattle.bx_message.specs.MessageKinds.{message_kind_of}
+use Rattle.bx_message.specs.MessageKinds.{message_kind_of, is_handshake}
 use Rattle.bx_entry.specs.Listing.{Posted, Listed, Post}
 use Rattle.bx_entry.specs.Listing as messages
-use Rattle.bx_entry.specs.Registry.{Registered, Registry, Judged, judge, judged_by, refusal, cases_of, sender_of, named_by, count_live, extended, closed, left_by, overdue, hold_of}
+use Rattle.bx_entry.specs.Registry.{Registered, Registry, Judged, judge, judged_by, refusal, cases_of, sender_of, named_by, count_live, extended, closed, left_by, overdue, hold_of, unnamed}
 use Rattle.bx_roster.specs.Live.{live_in}
 use Rattle.bx_registry.specs.Rolls.{Roll, roll_of, step, next, after, found, noted, verdict, Verdict, tick_verdict}
 use Rattle.bx_registry.specs.Rolls as rolls
@@ -91,13 +91,17 @@ pub record Went (config : Config) (r : Registry) (moment : ℕ) (o : Verdict) (s
   pub roll : (noted (roll_of config r) moment o).roll ≡ roll_of config s
   pub judged : s.judged ≡ r.judged ++ (noted (roll_of config r) moment o).found ∷ []
 
-goes-by : (config : Config) (r : Registry) (moment : ℕ) (p : Posted) (sender : Option Registered) (fault : Option Error) →
-    Went config r moment (rolls.judged_by config (roll_of config r).members moment p sender fault) (judged_by config r moment p sender fault)
-goes-by config r moment p sender (Some error) = record { roll = same_roll config config.limits.sessions moment refl refl (sym (one_more r.judged _)); judged = refl }
-goes-by config r moment p None None = record {
+goes-unnamed : (config : Config) (r : Registry) (moment : ℕ) (p : Posted) (b : Bool) → Went config r moment (rolls.unnamed config (roll_of config r).members moment p b) (unnamed config r moment p b)
+goes-unnamed config r moment p true = record {
   roll = same_roll config config.limits.sessions moment (sym (length-append r.sessions (_ ∷ []))) (sym (filter-append is_live r.sessions (_ ∷ []))) (sym (one_more r.judged _));
   judged = refl;
 }
+goes-unnamed config r moment p false = record { roll = same_roll config config.limits.sessions moment refl refl (sym (one_more r.judged _)); judged = refl }
+
+goes-by : (config : Config) (r : Registry) (moment : ℕ) (p : Posted) (sender : Option Registered) (fault : Option Error) →
+    Went config r moment (rolls.judged_by config (roll_of config r).members moment p sender fault) (judged_by config r moment p sender fault)
+goes-by config r moment p sender (Some error) = record { roll = same_roll config config.limits.sessions moment refl refl (sym (one_more r.judged _)); judged = refl }
+goes-by config r moment p None None = goes-unnamed config r moment p (is_handshake p.message)
 goes-by config r moment p (Some s) None = record {
   roll = same_roll config config.limits.sessions moment
       (sym (length-left_by (message_kind_of p.message.channel) s.number (moment + hold_of config p + config.max_interval) r.sessions))

@@ -1,11 +1,14 @@
 -- What the judging of a message hands on.
-use Rattle.std.specs.Prelude.{ℕ, ◌≡◌, ⊤, Bool, false, List, fold, is_some, option_to_list, Option, Some}
+use Rattle.std.specs.Prelude.{ℕ, ◌≡◌, ⊤, Bool, true, false, List, fold, is_some, option_to_list, Option, Some}
 use Rattle.std.specs.List.{list_any}
 use Rattle.bx_names.specs.Faults.{name_fault, pattern_fault}
+use Rattle.bx_advice.specs.declared.config.Config.{Config}
 use Rattle.bx_message.specs.declared.message.Message.{Message}
+use Rattle.bx_message.specs.declared.message.TextMember.{TextMember}
 use Rattle.bx_message.specs.declared.message_kind.MessageKind.{MessageKind}
 use Rattle.bx_message.specs.declared.message_kind.MessageKind.TheVariants as message_kinds
 use Rattle.bx_entry.specs.declared.entry.EntryKind.{EntryKind}
+use Rattle.bx_entry.specs.Registry.{needs_session}
 use Rattle.bx_roster.specs.Live.{Members}
 use Rattle.bx_roster.specs.Edits.{edited, CanEditEach}
 use Rattle.bx_roster.specs.declared.edit.Edit.{Edit}
@@ -23,6 +26,16 @@ edit_for message_kinds.Unsubscribe number due = Extend number due
 edit_for message_kinds.Disconnect number due = Close number
 edit_for message_kinds.Publish number due = Extend number due
 edit_for message_kinds.UnknownMeta number due = Extend number due
+
+-- whether a message of this kind, with this client id, has to be of a session, where it is no handshake
+abbrev pub is_needed : Config → MessageKind → TextMember → Bool
+is_needed config message_kinds.Handshake client = true
+is_needed config message_kinds.Connect client = true
+is_needed config message_kinds.Subscribe client = true
+is_needed config message_kinds.Unsubscribe client = true
+is_needed config message_kinds.Disconnect client = true
+is_needed config message_kinds.Publish client = needs_session config client
+is_needed config message_kinds.UnknownMeta client = true
 
 -- the edit, if there is one, the kind of the entry and the slot are those of the outcome at this place
 pub record IsVerdict (ms : Members) (place : ℕ) (o : Verdict) (edit : Option Edit) (kind : EntryKind) (slot : Planned) : Type 0 where

@@ -1,19 +1,19 @@
 -- The registry without what is over: of the sessions the live ones, of the list its length. Which message is refused and why, and what an
 -- accepted one comes to, is said by the words of the registry itself.
-use Rattle.std.specs.Prelude.{ℕ, ◌+◌, max, Bool, List, [], ◌∷◌, ◌++◌, length, fold, if◌then◌else◌, Option, Some, None, option_map}
+use Rattle.std.specs.Prelude.{ℕ, ◌+◌, max, Bool, true, false, List, [], ◌∷◌, ◌++◌, length, fold, if◌then◌else◌, Option, Some, None, option_map}
 use Rattle.bx_advice.specs.declared.config.Config.{Config}
-use Rattle.bx_advice.specs.declared.advice.Outcome.TheVariants.{Failed}
+use Rattle.bx_advice.specs.declared.advice.Outcome.TheVariants.{Done, Failed}
 use Rattle.bx_advice.specs.declared.advice.Outcome.TheVariants as advice
 use Rattle.bx_advice.specs.declared.error.Error.{Error}
 use Rattle.bx_message.specs.declared.message_kind.MessageKind.{MessageKind}
 use Rattle.bx_message.specs.declared.reply.AckReply.TheVariants as replies
-use Rattle.bx_message.specs.MessageKinds.{message_kind_of}
+use Rattle.bx_message.specs.MessageKinds.{message_kind_of, is_handshake}
 use Rattle.bx_message.specs.Replies.{reply_to}
 use Rattle.bx_entry.specs.declared.entry.EntryKind.{EntryKind}
 use Rattle.bx_entry.specs.declared.entry.EntryKind.TheVariants as entries
 use Rattle.bx_entry.specs.Listing.{Posted, Listed, Post}
 use Rattle.bx_entry.specs.Listing as messages
-use Rattle.bx_entry.specs.Registry.{Registered, Registry, Judged, PlaceSlot, Ready, NoSlot, client_id, extended, hold_of, is_ack, kind_for, left_by, named_by, overdue, refusal, slot_for, swept}
+use Rattle.bx_entry.specs.Registry.{Registered, Registry, Judged, PlaceSlot, Ready, NoSlot, client_id, extended, hold_of, is_ack, kind_for, left_by, named_by, overdue, refusal, sessionless_kind, slot_for, swept}
 use Rattle.bx_roster.specs.Live.{Members, live_in, with_live}
 
 -- ---- the state
@@ -57,7 +57,7 @@ refused config ms p error sender = record {
 -- a session as it is opened
 abbrev pub newcomer : Config → ℕ → Posted → ℕ → Registered
 newcomer config moment p number =
-    record { number = number; client = client_id p.nonce number; ack = is_ack p.message.ack; due = moment + config.max_interval; live = Bool.true }
+    record { number = number; client = client_id p.nonce number; ack = is_ack p.message.ack; due = moment + config.max_interval; live = true }
 
 -- a new session, under the next number
 abbrev pub opened : Config → Members → ℕ → Posted → ℕ → Verdict
@@ -79,9 +79,24 @@ served config ms moment p message_kind s hold = record {
   slot = slot_for config message_kind p s;
 }
 
--- an accepted message: a handshake has no session yet, every other has one
+-- an accepted message of no session changes no session, and has its success at once
+abbrev pub sessionless : Config → Members → Posted → MessageKind → Verdict
+sessionless config ms p message_kind = record {
+  members = ms;
+  kind = sessionless_kind message_kind p.message;
+  sender = None;
+  hold = 0;
+  slot = Ready (reply_to config message_kind p.message None Done replies.NoAck);
+}
+
+-- an accepted message that names no session: a handshake opens one, any other is a message of none
+abbrev pub unnamed : Config → Members → ℕ → Posted → Bool → Verdict
+unnamed config ms moment p true = opened config ms moment p (ms.opened + 1)
+unnamed config ms moment p false = sessionless config ms p (message_kind_of p.message.channel)
+
+-- an accepted message, by the session that it names
 abbrev pub accepted : Config → Members → ℕ → Posted → Option Registered → Verdict
-accepted config ms moment p None = opened config ms moment p (ms.opened + 1)
+accepted config ms moment p None = unnamed config ms moment p (is_handshake p.message)
 accepted config ms moment p (Some s) = served config ms moment p (message_kind_of p.message.channel) s (hold_of config p)
 
 -- a message is refused or accepted

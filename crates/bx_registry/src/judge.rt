@@ -12,7 +12,7 @@ ghost use Rattle.bx_message.specs.declared.reply.AckReply.TheVariants as replies
 ghost use Rattle.bx_message.specs.declared.message_kind.MessageKind.TheVariants as message_kinds;
 ghost use Rattle.bx_message.specs.Replies.{reply_to};
 ghost use Rattle.bx_entry.specs.declared.entry.EntryKind.TheVariants as entries;
-ghost use Rattle.bx_entry.specs.Registry.{Registered, acked_by, client_id, event_of, hold_of, is_ack, kind_for, patterns_of, slot_for};
+ghost use Rattle.bx_entry.specs.Registry.{Registered, acked_by, client_id, event_of, hold_of, is_ack, kind_for, patterns_of, sessionless_kind, slot_for};
 ghost use Rattle.bx_roster.specs.declared.edit.Edit.TheVariants as edits;
 ghost use Rattle.bx_registry.specs.Postings.{posted_of};
 ghost use Rattle.bx_registry.specs.Rolls.{newcomer, verdict};
@@ -24,7 +24,7 @@ ghost use Rattle.bx_registry.specs.Judgements.{AreReadable, IsVerdict, edit_for,
 use crate::draft::{Draft, Sender};
 use crate::id::client_id;
 use crate::plan::Planned;
-use crate::posted::Posted;
+use crate::posted::{Posted, is_handshake};
 use crate::refusal::refusal;
 use bx_advice::{Config, Error, Outcome};
 use bx_entry::EntryKind;
@@ -64,7 +64,14 @@ pub(crate) fn judge(
     match refusal(config, live, sender.is_some(), posted) {
         Some(error) => refuse(config, posted.message_kind, posted.message, &sender, error),
         None => match &sender {
-            None => open(alloc, config, moment, opened + 1, posted),
+            None if is_handshake(posted.message_kind) => open(
+                alloc,
+                config,
+                moment,
+                opened + 1,
+                posted,
+            ),
+            None => note(alloc, config, posted),
             Some(sender) => serve(alloc, config, moment, place, posted, sender),
         },
     }
@@ -99,6 +106,46 @@ fn refuse(
         edit: None,
         kind: EntryKind::Refused,
         slot: Planned::Ready(reply),
+    })
+}
+
+// An accepted message of no session, which only a publish is: it changes no session, and has its success at once.
+fn note(alloc: Global, config: &Config, posted: Posted<'_>) -> Result<Judgement, AllocError>
+    requires { AreReadable posted.message_kind posted.message.now }
+    ensures edit { IfOk result (λ j. j.edit ≡ None) }
+    ensures kind { IfOk result (λ j. j.kind ≡ sessionless_kind posted.entry.message_kind posted.entry.message.now) }
+    ensures slot { IfOk result (λ j. j.slot ≡ Planned.Ready (reply_to config.now posted.entry.message_kind
+        posted.entry.message.now None advice.Done replies.NoAck)) }
+{
+    let edit = None;
+    let kind = sessionless_kind(alloc, posted.message_kind, posted.message)?;
+    let reply = Reply::to_message(
+        config,
+        posted.message_kind,
+        posted.message,
+        None,
+        Outcome::Done,
+        AckReply::NoAck,
+    )?;
+    Ok(Judgement {
+        edit,
+        kind,
+        slot: Planned::Ready(reply),
+    })
+}
+
+// The entry's kind for an accepted message of no session.
+fn sessionless_kind(
+    alloc: Global,
+    message_kind: MessageKind,
+    message: &Message,
+) -> Result<EntryKind, AllocError>
+    requires { AreReadable message_kind message.now }
+    ensures { IfOk result (λ kind. kind ≡ sessionless_kind message_kind message.now) }
+{
+    Ok(match message_kind {
+        MessageKind::Publish => EntryKind::Publish(event_of(alloc, message)?),
+        _ => EntryKind::Refused,
     })
 }
 

@@ -1,8 +1,7 @@
 //! The messages of a request, one after another.
 ghost use Rattle.std.specs.Prelude.{◌≡◌, ◌+◌, ◌<◌, ◌≤◌, ◌&&◌, ◌==◌, max, Some, List, length, IfOk};
 ghost use Rattle.bx_advice.specs.Limits.{greatest_length, greatest_moment};
-ghost use Rattle.bx_message.specs.MessageKinds.{is_handshake, message_kind_of};
-ghost use Rattle.bx_message.specs.declared.message.Message.{Message};
+ghost use Rattle.bx_message.specs.MessageKinds.{is_handshake};
 ghost use Rattle.bx_entry.specs.Listing.{request};
 ghost use Rattle.bx_entry.specs.declared.entry.Entry.{Entry};
 ghost use Rattle.bx_registry.specs.Rolls.{Roll, after, found, verdict};
@@ -14,7 +13,7 @@ ghost use Rattle.bx_registry.specs.Planners.{IsFoundAt, IsPlannedBy};
 use crate::draft::Draft;
 use crate::judge::{Judgement, judge};
 use crate::plan::Planned;
-use crate::posted::Posted;
+use crate::posted::{Posted, is_handshake};
 use bx_advice::Config;
 use bx_entry::Entry;
 use bx_message::{Message, MessageKind, Sequence};
@@ -98,14 +97,6 @@ fn posted_at(start: Start, message: &Message, sole: bool, seen: bool) -> Posted<
         sole,
         second: seen & is_handshake(message_kind),
     }
-}
-
-// Whether a message of this kind asks for a new session.
-fn is_handshake(message_kind: MessageKind) -> bool
-    ensures { (message : Message) → message_kind ≡ message_kind_of message.channel
-        → result ≡ is_handshake message }
-{
-    matches!(message_kind, MessageKind::Handshake)
 }
 
 // Judges the message at this place, and takes down what it changes.

@@ -1,6 +1,7 @@
 //! A message as it stands in the list.
 ghost use Rattle.std.specs.Prelude.{◌≡◌};
-ghost use Rattle.bx_message.specs.MessageKinds.{message_kind_of};
+ghost use Rattle.bx_message.specs.MessageKinds.{is_handshake, message_kind_of};
+ghost use Rattle.bx_message.specs.declared.message.Message.{Message};
 
 use bx_message::{Message, MessageKind};
 
@@ -18,4 +19,12 @@ pub(crate) struct Posted<'a> {
     /// Whether it is a handshake behind another one of its request.
     pub(crate) second: bool,
     pub(crate) ghost by_channel: { message_kind ≡ message_kind_of message.now.channel },
+}
+
+/// Whether a message of this kind asks for a new session.
+pub(crate) fn is_handshake(message_kind: MessageKind) -> bool
+    ensures { (message : Message) → message_kind ≡ message_kind_of message.channel
+        → result ≡ is_handshake message }
+{
+    matches!(message_kind, MessageKind::Handshake)
 }

@@ -4,7 +4,7 @@ ghost use Rattle.std.specs.List.{list_any};
 ghost use Rattle.bx_names.specs.Faults.{name_fault, pattern_fault};
 ghost use Rattle.bx_names.specs.Kinds.{is_meta};
 ghost use Rattle.bx_entry.specs.Registry.{Registered, count_live, is_connection, is_polling, is_text, is_version, named_by, refusal};
-ghost use Rattle.bx_registry.specs.Judgements.{AreReadable};
+ghost use Rattle.bx_registry.specs.Judgements.{AreReadable, is_needed};
 ghost use Rattle.bx_registry.specs.Postings.{posted_of};
 
 use crate::posted::Posted;
@@ -26,6 +26,7 @@ pub(crate) fn refusal(
     ensures readable { result ≡ None → AreReadable posted.entry.message_kind posted.entry.message.now }
 {
     let message = posted.message;
+    let needed = is_needed(config, posted.message_kind, &message.client);
     match posted.message_kind {
         MessageKind::UnknownMeta => Some(Error::UnknownMetaChannel),
         MessageKind::Handshake if posted.second => Some(Error::SecondHandshake),
@@ -33,8 +34,8 @@ pub(crate) fn refusal(
         MessageKind::Handshake if !has_polling(message) => Some(Error::NoSupportedConnectionType),
         MessageKind::Handshake if live >= config.limits.sessions => Some(Error::TooManySessions),
         MessageKind::Handshake => None,
-        _ if !is_text(&message.client) => Some(Error::NoClientId),
-        _ if !known => Some(Error::UnknownClient),
+        _ if needed & !is_text(&message.client) => Some(Error::NoClientId),
+        _ if needed & !known => Some(Error::UnknownClient),
         MessageKind::Connect if !is_connection(&message.connection) => Some(
             Error::UnknownConnectionType,
         ),
@@ -52,6 +53,19 @@ pub(crate) fn refusal(
         ),
         MessageKind::Publish if message.payload.is_none() => Some(Error::MissingData),
         _ => None,
+    }
+}
+
+// Whether a message has to be of a session: a publish without a client id may be of none.
+fn is_needed(config: &Config, message_kind: MessageKind, client: &TextMember) -> bool
+    ensures { result ≡ is_needed config.now message_kind client.now }
+{
+    match message_kind {
+        MessageKind::Publish => match client {
+            TextMember::Absent => !config.anonymous,
+            _ => true,
+        },
+        _ => true,
     }
 }
 

@@ -2,3 +2,4 @@ pub mod Keeping
 pub mod Steps
 pub mod Ready
 pub mod Fronts
+mod Words

@@ -1,4 +1,5 @@
 -- What the arguments of the program come to.
+use Rattle.bx_advice.specs.Limits.{standard_limits, IsStandard}
 use Rattle.bx_replay.specs.Settings.{Settings}
 use Rattle.bx_replay.specs.declared.arguments.Arguments.{Arguments}
 
@@ -10,4 +11,10 @@ run_by arguments = record {
   timeout = arguments.config.timeout;
   interval = arguments.config.interval;
   max_interval = arguments.config.max_interval;
+  anonymous = arguments.config.anonymous;
+  limit = arguments.config.limits.events;
 }
+
+-- but for how many events may wait for a session, the limits are those of this server
+abbrev pub HasStandardLimits : Arguments → Type 0
+HasStandardLimits arguments = IsStandard (record arguments.config.limits { events = standard_limits.events })

@@ -1,14 +1,17 @@
 -- How a server is run, and which words say so.
-use Rattle.std.specs.Prelude.{ℕ, ◌&&◌, ◌^◌, nat_le, nat_lt, if◌then◌else◌, List, [], ◌∷◌, Option, Some, None, option_and_then}
+use Rattle.std.specs.Prelude.{ℕ, ◌&&◌, ◌^◌, nat_le, nat_lt, if◌then◌else◌, Bool, true, false, List, [], ◌∷◌, codes, Option, Some, None, option_and_then}
+use Rattle.std.specs.Str.{bytes_eq}
 use Rattle.bx_message.specs.Fields.{number_of}
 
--- times are in milliseconds
+-- times are in milliseconds; `anonymous`: publishes of no session are accepted; `limit`: so many events may wait for each session
 pub record Settings : Type 0 where
   pub shards : ℕ
   pub workers : ℕ
   pub timeout : ℕ
   pub interval : ℕ
   pub max_interval : ℕ
+  pub anonymous : Bool
+  pub limit : ℕ
 
 infixl 10 ◌>>=◌
 abbrev pub ◌>>=◌ : {A B : Type 0} → Option A → (A → Option B) → Option B
@@ -22,17 +25,25 @@ count_in limit digits = option_and_then (λ n. if nat_le 1 n && nat_le n limit t
 abbrev pub time_in : List ℕ → Option ℕ
 time_in digits = option_and_then (λ n. if nat_lt n (2 ^ 32) then Some n else None) (number_of digits)
 
--- what five words say
-abbrev pub settings_of : List ℕ → List ℕ → List ℕ → List ℕ → List ℕ → Option Settings
-settings_of shards workers timeout interval max_interval = do
+-- `a`: publishes of no session are accepted; `-`: they are not
+abbrev pub anonymous_in : List ℕ → Option Bool
+anonymous_in options = if bytes_eq options (codes "-") then Some false else (if bytes_eq options (codes "a") then Some true else None)
+
+-- what seven words say
+abbrev pub settings_of : List ℕ → List ℕ → List ℕ → List ℕ → List ℕ → List ℕ → List ℕ → Option Settings
+settings_of shards workers timeout interval max_interval options limit = do
   s ← count_in 64 shards
   w ← count_in 16 workers
   t ← time_in timeout
   i ← time_in interval
   m ← time_in max_interval
-  Some (record { shards = s; workers = w; timeout = t; interval = i; max_interval = m })
+  a ← anonymous_in options
+  l ← count_in 65536 limit
+  Some (record { shards = s; workers = w; timeout = t; interval = i; max_interval = m; anonymous = a; limit = l })
 
--- five words say it, and no other number of words
+-- five, six or seven words say it, and no other number of words
 abbrev pub settings_in : List (List ℕ) → Option Settings
-settings_in (shards ∷ workers ∷ timeout ∷ interval ∷ max_interval ∷ []) = settings_of shards workers timeout interval max_interval
+settings_in (shards ∷ workers ∷ timeout ∷ interval ∷ max_interval ∷ []) = settings_of shards workers timeout interval max_interval (codes "-") (codes "1024")
+settings_in (shards ∷ workers ∷ timeout ∷ interval ∷ max_interval ∷ options ∷ []) = settings_of shards workers timeout interval max_interval options (codes "1024")
+settings_in (shards ∷ workers ∷ timeout ∷ interval ∷ max_interval ∷ options ∷ limit ∷ []) = settings_of shards workers timeout interval max_interval options limit
 settings_in words = None

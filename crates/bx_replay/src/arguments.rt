@@ -1,11 +1,12 @@
 //! The arguments of the program.
-ghost use Rattle.std.specs.Prelude.{◌≡◌, ◌≤◌, ◌<◌, IfSome, map, option_map, string_bytes};
+ghost use Rattle.std.specs.Prelude.{◌≡◌, ◌≤◌, ◌<◌, IfSome, Option, option_map, map, string_bytes};
 ghost use Rattle.bx_advice.specs.Limits.{IsStandard};
-ghost use Rattle.bx_replay.specs.Settings.{count_in, settings_in, settings_of, time_in};
+ghost use Rattle.bx_message.specs.Fields.{number_of};
+ghost use Rattle.bx_replay.specs.Settings.{anonymous_in, count_in, settings_in, settings_of, time_in};
 
-use bx_advice::{Config, MAX_SHARDS};
+use bx_advice::Config;
 use bx_message::number_of;
-use bx_workers::{MAX_WORKERS, WorkerCount};
+use bx_workers::WorkerCount;
 
 /// How the server is run.
 #[derive(Clone, Copy)]
@@ -15,64 +16,121 @@ pub struct Arguments {
 }
 
 impl Arguments {
-    ghost use Rattle.bx_replay.specs.Arguments.{run_by};
+    ghost use Rattle.bx_replay.specs.Arguments.{HasStandardLimits, run_by};
 
-    /// What these words say, each by digits alone: how many shards there are, 1 to 64, how many workers, 1 to 16, and in
-    /// milliseconds the timeout, the interval and the longest interval, each of 32 bits. None where they are not these
-    /// five.
+    /// What these words say. Five of them do it by digits alone: how many shards there are, 1 to 64, how many workers, 1
+    /// to 16, and in milliseconds the timeout, the interval and the longest interval, each of 32 bits. A sixth is `a`
+    /// where publishes of no session are accepted, else `-`, and `-` where there is none. A seventh says by digits alone
+    /// how many events may wait for each session, 1 to 65,536, and 1,024 where there is none. None where they are not
+    /// these.
     pub fn read(words: &[String]) -> Option<Arguments>
         ensures said { option_map run_by result ≡ settings_in (map string_bytes words.now) }
-        ensures limits { IfSome result (λ arguments. IsStandard arguments.config.limits) }
+        ensures limits { IfSome result (λ arguments. HasStandardLimits arguments) }
     {
         match words {
             [shards, workers, timeout, interval, max_interval] => Arguments::of_words(
-                shards.as_bytes(),
-                workers.as_bytes(),
-                timeout.as_bytes(),
-                interval.as_bytes(),
-                max_interval.as_bytes(),
+                shards,
+                workers,
+                timeout,
+                interval,
+                max_interval,
+                b"-",
+                b"1024",
+            ),
+            [shards, workers, timeout, interval, max_interval, options] => Arguments::of_words(
+                shards,
+                workers,
+                timeout,
+                interval,
+                max_interval,
+                options.as_bytes(),
+                b"1024",
+            ),
+            [
+                shards,
+                workers,
+                timeout,
+                interval,
+                max_interval,
+                options,
+                limit,
+            ] => Arguments::of_words(
+                shards,
+                workers,
+                timeout,
+                interval,
+                max_interval,
+                options.as_bytes(),
+                limit.as_bytes(),
             ),
             _ => None,
         }
     }
 
     fn of_words(
-        shards: &[u8],
-        workers: &[u8],
-        timeout: &[u8],
-        interval: &[u8],
-        max_interval: &[u8],
+        shards: &String,
+        workers: &String,
+        timeout: &String,
+        interval: &String,
+        max_interval: &String,
+        options: &[u8],
+        limit: &[u8],
     ) -> Option<Arguments>
-        ensures said { option_map run_by result
-            ≡ settings_of shards.now workers.now timeout.now interval.now max_interval.now }
-        ensures limits { IfSome result (λ arguments. IsStandard arguments.config.limits) }
+        ensures said { option_map run_by result ≡ settings_of (string_bytes shards.now) (string_bytes workers.now)
+            (string_bytes timeout.now) (string_bytes interval.now) (string_bytes max_interval.now) options.now limit.now }
+        ensures limits { IfSome result (λ arguments. HasStandardLimits arguments) }
     {
-        let shards = count_in(shards, MAX_SHARDS)?;
-        let Some(workers) = WorkerCount::new(count_in(workers, MAX_WORKERS)?) else {
-            unreachable!()
-        };
-        let timeout = time_in(timeout)?;
-        let interval = time_in(interval)?;
-        let max_interval = time_in(max_interval)?;
-        let Some(config) = Config::new(shards, timeout, interval, max_interval) else {
-            unreachable!()
-        };
+        let timeout = time_in(timeout.as_bytes())?;
+        let interval = time_in(interval.as_bytes())?;
+        let max_interval = time_in(max_interval.as_bytes())?;
+        let config = config_of(shards.as_bytes(), timeout, interval, max_interval)?;
+        let config = with_limit(config.with_anonymous(anonymous_in(options)?), limit)?;
+        let workers = workers_in(workers.as_bytes())?;
         Some(Arguments { config, workers })
     }
 }
 
-// The number from 1 to a limit that these digits say.
-fn count_in(digits: &[u8], limit: usize) -> Option<usize>
-    ensures said { result ≡ count_in limit digits.now }
-    ensures some { IfSome result (λ n. 1 ≤ n) }
-    ensures in_range { IfSome result (λ n. n ≤ limit) }
+// The configuration with so many shards as these digits say.
+fn config_of(shards: &[u8], timeout: u32, interval: u32, max_interval: u32) -> Option<Config>
+    ensures shards { option_map (λ c. c.shards) result ≡ count_in 64 shards.now }
+    ensures times { IfSome result (λ c.
+        (c.timeout ≡ timeout) × (c.interval ≡ interval) × (c.max_interval ≡ max_interval)) }
+    ensures limits { IfSome result (λ c. IsStandard c.limits) }
 {
-    let number = usize::try_from(number_of(digits)?).ok()?;
-    if number >= 1 && number <= limit {
-        Some(number)
-    } else {
-        None
+    Config::new(size_in(shards)?, timeout, interval, max_interval)
+}
+
+// The configuration with so many waiting events as these digits say.
+fn with_limit(config: Config, limit: &[u8]) -> Option<Config>
+    ensures { result
+        ≡ option_map (λ n. record config { limits = record config.limits { events = n } }) (count_in 65536 limit.now) }
+{
+    config.with_limit(time_in(limit)?)
+}
+
+// So many workers as these digits say.
+fn workers_in(digits: &[u8]) -> Option<WorkerCount>
+    ensures { result ≡ count_in 16 digits.now }
+{
+    WorkerCount::new(size_in(digits)?)
+}
+
+// Whether the options say that publishes of no session are accepted.
+fn anonymous_in(options: &[u8]) -> Option<bool>
+    ensures { result ≡ anonymous_in options.now }
+{
+    match options {
+        b"-" => Some(false),
+        b"a" => Some(true),
+        _ => None,
     }
+}
+
+// The number of 64 bits that these digits say.
+fn size_in(digits: &[u8]) -> Option<usize>
+    ensures { result ≡ number_of digits.now }
+{
+    usize::try_from(number_of(digits)?).ok()
 }
 
 // The number of 32 bits that these digits say.

@@ -8,13 +8,14 @@ use Rattle.bx_lists.proofs.Tests.{either}
 use Rattle.bx_advice.specs.declared.config.Config.{Config}
 use Rattle.bx_advice.specs.declared.error.Error.{Error}
 use Rattle.bx_message.specs.declared.message_kind.MessageKind.{MessageKind}
-use Rattle.bx_message.specs.MessageKinds.{message_kind_of}
+use Rattle.bx_message.specs.MessageKinds.{message_kind_of, is_handshake}
+use Rattle.bx_message.specs.declared.message.Message.{Message}
 use Rattle.bx_entry.specs.Listing.{Listed, Post, Posted}
 use Rattle.bx_entry.specs.Listing as messages
 use Rattle.bx_entry.specs.declared.entry.Entry.{Entry}
 use Rattle.bx_entry.specs.declared.entry.EntryKind.{EntryKind}
 use Rattle.bx_entry.specs.declared.entry.EntryKind.TheVariants.{Opened, Connect, Subscribe, Unsubscribe, Publish, Disconnect, Refused, Tick}
-use Rattle.bx_entry.specs.Registry.{Registry, Registered, Judged, judge, judged_by, kind_for, left_by, extended, swept, overdue, is_overdue, named_by, refusal, hold_of, registry, empty_registry, entries_of, entries}
+use Rattle.bx_entry.specs.Registry.{Registry, Registered, Judged, judge, judged_by, kind_for, left_by, extended, swept, overdue, is_overdue, named_by, refusal, hold_of, registry, empty_registry, entries_of, entries, unnamed, sessionless_kind}
 use Rattle.bx_entry.specs.Sessions.{Session, ended, step_by, step, unopened, session}
 use Rattle.bx_theory.specs.Readings.{opens_by}
 use Rattle.bx_theory.proofs.Dues.{numbered_below, named_session}
@@ -99,10 +100,37 @@ served_fresh config place moment MessageKind.Disconnect p q hold n h = cond-fals
 served_fresh config place moment MessageKind.Publish p q hold n h = refl
 served_fresh config place moment MessageKind.UnknownMeta p q hold n h = refl
 
-judged_by_adds : (config : Config) (r : Registry) (moment : ℕ) (p : Posted) (sender : Option Registered) (error : Option Error) → ((q : Registered) → sender ≡ Some q → q.number < 1 + length r.sessions) → Adds config r (judged_by config r moment p sender error)
-judged_by_adds config r moment p sender (Some error) h = record { found = _; judged = refl; sessions = sym (append-nil (numbers r.sessions)); new = λ n l. refl; fresh = λ n l. refl; longer = omega arith }
-judged_by_adds config r moment p None None h =
-    let many : length (judged_by config r moment p None None).sessions ≡ length r.sessions + 1 = length_push r.sessions _ in
+-- a message of no session opens none
+sessionless_none : (c : MessageKind) (m : Message) → opened_numbers (sessionless_kind c m) ≡ []
+sessionless_none MessageKind.Handshake m = refl
+sessionless_none MessageKind.Connect m = refl
+sessionless_none MessageKind.Subscribe m = refl
+sessionless_none MessageKind.Unsubscribe m = refl
+sessionless_none MessageKind.Disconnect m = refl
+sessionless_none MessageKind.Publish m = refl
+sessionless_none MessageKind.UnknownMeta m = refl
+
+sessionless_new : (n : ℕ) (c : MessageKind) (m : Message) → opens_by n (sessionless_kind c m) ≡ false
+sessionless_new n MessageKind.Handshake m = refl
+sessionless_new n MessageKind.Connect m = refl
+sessionless_new n MessageKind.Subscribe m = refl
+sessionless_new n MessageKind.Unsubscribe m = refl
+sessionless_new n MessageKind.Disconnect m = refl
+sessionless_new n MessageKind.Publish m = refl
+sessionless_new n MessageKind.UnknownMeta m = refl
+
+sessionless_fresh : (config : Config) (place moment : ℕ) (c : MessageKind) (m : Message) (n : ℕ) → step_by config place moment (unopened n) (sessionless_kind c m) ≡ unopened n
+sessionless_fresh config place moment MessageKind.Handshake m n = refl
+sessionless_fresh config place moment MessageKind.Connect m n = refl
+sessionless_fresh config place moment MessageKind.Subscribe m n = refl
+sessionless_fresh config place moment MessageKind.Unsubscribe m n = refl
+sessionless_fresh config place moment MessageKind.Disconnect m n = refl
+sessionless_fresh config place moment MessageKind.Publish m n = refl
+sessionless_fresh config place moment MessageKind.UnknownMeta m n = refl
+
+unnamed_adds : (config : Config) (r : Registry) (moment : ℕ) (p : Posted) (b : Bool) → Adds config r (unnamed config r moment p b)
+unnamed_adds config r moment p true =
+    let many : length (unnamed config r moment p true).sessions ≡ length r.sessions + 1 = length_push r.sessions _ in
     record {
       found = _;
       judged = refl;
@@ -111,6 +139,20 @@ judged_by_adds config r moment p None None h =
       fresh = λ n l. cond-false (length r.sessions + 1 == n) _ (unopened n) (ne_eqb (length r.sessions + 1) n (λ e. let f : length r.sessions + 1 ≡ n = e in omega (arith, l, many)));
       longer = omega (arith, many);
     }
+unnamed_adds config r moment p false =
+    let c : MessageKind = message_kind_of p.message.channel in
+    record {
+      found = _;
+      judged = refl;
+      sessions = sym (append-nil (numbers r.sessions)) ∙ ap (λ (ns : List ℕ). numbers r.sessions ++ ns) (sym (sessionless_none c p.message));
+      new = λ n l. sessionless_new n c p.message;
+      fresh = λ n l. sessionless_fresh config (length r.judged) moment c p.message n;
+      longer = omega arith;
+    }
+
+judged_by_adds : (config : Config) (r : Registry) (moment : ℕ) (p : Posted) (sender : Option Registered) (error : Option Error) → ((q : Registered) → sender ≡ Some q → q.number < 1 + length r.sessions) → Adds config r (judged_by config r moment p sender error)
+judged_by_adds config r moment p sender (Some error) h = record { found = _; judged = refl; sessions = sym (append-nil (numbers r.sessions)); new = λ n l. refl; fresh = λ n l. refl; longer = omega arith }
+judged_by_adds config r moment p None None h = unnamed_adds config r moment p (is_handshake p.message)
 judged_by_adds config r moment p (Some q) None h =
     let c : MessageKind = message_kind_of p.message.channel in
     let t : Registry = judged_by config r moment p (Some q) None in

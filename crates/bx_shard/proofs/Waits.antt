@@ -1,17 +1,19 @@
 -- A session answers a connect only where the connect's slot waits for it.
-use Rattle.std.proofs.Common.{◌≡◌, ℕ, zero, suc, max, Option, Some, None, List, [], ◌∷◌, ◌++◌, length, map, fold, option_map, slice_get, refl, sym, ap, ◌∙◌, subst, eqb-true, append_assoc}
+use Rattle.std.proofs.Common.{◌≡◌, ℕ, zero, suc, max, Option, Some, None, List, [], ◌∷◌, ◌++◌, length, map, fold, option_map, slice_get, refl, sym, ap, ◌∙◌, subst, eqb-true, append_assoc, Bool, true, false}
 use Rattle.std.proofs.lemmas.List.{length_push}
 use Rattle.bx_advice.specs.declared.config.Config.{Config}
 use Rattle.bx_advice.specs.declared.error.Error.{Error}
 use Rattle.bx_message.specs.declared.message_kind.MessageKind.{MessageKind}
+use Rattle.bx_message.specs.declared.message.Message.{Message}
+use Rattle.bx_message.specs.declared.reply.Reply.{Reply}
 use Rattle.bx_entry.specs.Listing.{Listed, Post, Posted}
-use Rattle.bx_message.specs.MessageKinds.{message_kind_of}
+use Rattle.bx_message.specs.MessageKinds.{message_kind_of, is_handshake}
 use Rattle.bx_entry.specs.Listing as messages
 use Rattle.bx_entry.specs.declared.entry.Entry.{Entry}
 use Rattle.bx_entry.specs.declared.entry.EntryKind.{EntryKind}
 use Rattle.bx_entry.specs.declared.entry.EntryKind.TheVariants.{Opened, Connect, Subscribe, Unsubscribe, Publish, Disconnect, Refused}
 use Rattle.bx_entry.specs.declared.entry.EntryKind.TheVariants as entries
-use Rattle.bx_entry.specs.Registry.{Registry, Registered, Judged, PlaceSlot, Waiting, judge, judged_by, kind_for, slot_for, named_by, refusal, hold_of, registry, empty_registry, entries_of}
+use Rattle.bx_entry.specs.Registry.{Registry, Registered, Judged, PlaceSlot, Waiting, judge, judged_by, kind_for, slot_for, named_by, refusal, hold_of, registry, empty_registry, entries_of, unnamed, sessionless_kind, Ready}
 use Rattle.bx_entry.specs.Sessions.{session, unopened}
 use Rattle.bx_shard.specs.States.{connecting}
 use Rattle.bx_theory.specs.Laws.{PlacesFrom}
@@ -46,9 +48,22 @@ served_waits config MessageKind.Disconnect p s hold = tt
 served_waits config MessageKind.Publish p s hold = tt
 served_waits config MessageKind.UnknownMeta p s hold = tt
 
+sessionless_waits : (reply : Reply) (c : MessageKind) (m : Message) → WaitsBy (Ready reply) (sessionless_kind c m)
+sessionless_waits reply MessageKind.Handshake m = tt
+sessionless_waits reply MessageKind.Connect m = tt
+sessionless_waits reply MessageKind.Subscribe m = tt
+sessionless_waits reply MessageKind.Unsubscribe m = tt
+sessionless_waits reply MessageKind.Disconnect m = tt
+sessionless_waits reply MessageKind.Publish m = tt
+sessionless_waits reply MessageKind.UnknownMeta m = tt
+
+unnamed_waits : (config : Config) (r : Registry) (moment : ℕ) (p : Posted) (b : Bool) → EachWaits r.judged → EachWaits (unnamed config r moment p b).judged
+unnamed_waits config r moment p true d = waits_push r.judged _ d tt
+unnamed_waits config r moment p false d = waits_push r.judged _ d (sessionless_waits _ (message_kind_of p.message.channel) p.message)
+
 judged_by_waits : (config : Config) (r : Registry) (moment : ℕ) (p : Posted) (sender : Option Registered) (error : Option Error) → EachWaits r.judged → EachWaits (judged_by config r moment p sender error).judged
 judged_by_waits config r moment p sender (Some error) d = waits_push r.judged _ d tt
-judged_by_waits config r moment p None None d = waits_push r.judged _ d tt
+judged_by_waits config r moment p None None d = unnamed_waits config r moment p (is_handshake p.message) d
 judged_by_waits config r moment p (Some s) None d = waits_push r.judged _ d (served_waits config (message_kind_of p.message.channel) p s (hold_of config p))
 
 judge_waits : (config : Config) (r : Registry) (x : Listed) → EachWaits r.judged → EachWaits (judge config r x).judged

@@ -46,6 +46,7 @@ fn config(sessions: usize) -> Config {
             sessions,
             texts: 2,
         },
+        anonymous: false,
     }
 }
 

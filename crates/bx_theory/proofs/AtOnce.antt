@@ -15,7 +15,7 @@ use Rattle.bx_message.specs.MessageKinds.{message_kind_of, is_connect, is_handsh
 use Rattle.bx_entry.specs.Listing.{Listed, Post, Posted, listed_from}
 use Rattle.bx_entry.specs.declared.entry.Entry.{Entry}
 use Rattle.bx_entry.specs.declared.entry.EntryKind.TheVariants.{Connect}
-use Rattle.bx_entry.specs.Registry.{Registry, Registered, Judged, judge, judged_by, served, slot_for, named_by, refusal, hold_of, acked_by, registry, empty_registry, entries_of}
+use Rattle.bx_entry.specs.Registry.{Registry, Registered, Judged, judge, judged_by, served, slot_for, named_by, refusal, hold_of, acked_by, registry, empty_registry, entries_of, unnamed}
 use Rattle.bx_entry.specs.Sessions.{Session, Publication, Pending, Filed, filing, answered, released, acknowledged, given, gives, holding, idle, answered_or_held, connected, step, session, unopened}
 use Rattle.bx_entry.specs.Answers.{PlacedAnswer, answer_of, filed_for, answer_by, answer_at, answer_in, answer}
 use Rattle.bx_entry.specs.Runs.{latest, numbers_from}
@@ -106,9 +106,13 @@ accepted_there config r moment p s hold h =
     subst (λ (n : ℕ). There (answer_in config (served config r moment p (message_kind_of p.message.channel) s n) (length r.judged))) (sym h)
     (last_there config r (served config r moment p c s 0) _ refl (served_there config r moment p c s))
 
+unnamed_there : (config : Config) (r : Registry) (moment : ℕ) (p : Posted) (b : Bool) → There (answer_in config (unnamed config r moment p b) (length r.judged))
+unnamed_there config r moment p true = last_there config r (unnamed config r moment p true) _ refl (record { answer = _; is = refl })
+unnamed_there config r moment p false = last_there config r (unnamed config r moment p false) _ refl (record { answer = _; is = refl })
+
 judged_by_there : (config : Config) (r : Registry) (moment : ℕ) (p : Posted) (sender : Option Registered) (error : Option Error) → p.sole ≡ false → There (answer_in config (judged_by config r moment p sender error) (length r.judged))
 judged_by_there config r moment p sender (Some error) h = last_there config r (judged_by config r moment p sender (Some error)) _ refl (record { answer = _; is = refl })
-judged_by_there config r moment p None None h = last_there config r (judged_by config r moment p None None) _ refl (record { answer = _; is = refl })
+judged_by_there config r moment p None None h = unnamed_there config r moment p (is_handshake p.message)
 judged_by_there config r moment p (Some s) None h = accepted_there config r moment p s (hold_of config p) (cond-false (p.sole && is_connect p.message) _ 0 (ap (λ (b : Bool). b && is_connect p.message) h))
 
 -- a message that is not sole is answered at its own place

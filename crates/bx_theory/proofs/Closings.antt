@@ -12,11 +12,12 @@ use Rattle.bx_advice.specs.declared.error.Error.{Error}
 use Rattle.bx_advice.specs.declared.error.Error.TheVariants.{SupersededConnect, QueueOverflow}
 use Rattle.bx_advice.specs.declared.advice.Outcome.TheVariants.{Connected, Disconnected, Failed}
 use Rattle.bx_message.specs.declared.message_kind.MessageKind.{MessageKind}
-use Rattle.bx_message.specs.MessageKinds.{message_kind_of}
+use Rattle.bx_message.specs.MessageKinds.{message_kind_of, is_handshake}
+use Rattle.bx_message.specs.declared.message.Message.{Message}
 use Rattle.bx_entry.specs.Listing.{Listed, Post, Posted}
 use Rattle.bx_entry.specs.Listing as messages
 use Rattle.bx_entry.specs.declared.entry.Entry.{Entry}
-use Rattle.bx_entry.specs.Registry.{Registry, Registered, judge, judged_by, kind_for, left_by, extended, swept, overdue, is_overdue, named_by, refusal, hold_of, is_ack, acked_by, patterns_of, event_of, opened, registry, empty_registry, entries_of}
+use Rattle.bx_entry.specs.Registry.{Registry, Registered, judge, judged_by, kind_for, left_by, extended, swept, overdue, is_overdue, named_by, refusal, hold_of, is_ack, acked_by, patterns_of, event_of, opened, registry, empty_registry, entries_of, unnamed, sessionless_kind}
 use Rattle.bx_entry.specs.Sessions.{Session, Publication, Pending, Stage, Unopened, Live, Closed, is_live, stage_after, answered, unheld, released, acknowledged, with_batch, formed, forgotten, gives, given, portion, holding, idle, answered_or_held, connected, subscribed, unsubscribed, gives_one, with_event, delivered_to, delivered, overflowed, is_hit, has_room, published, expired_from, expired, ended, closed_by, disconnected, begun, step_by, step, unopened, session}
 use Rattle.bx_theory.specs.Readings.{unclosed, EachSession, NothingMore, ClosedIsOver}
 use Rattle.bx_theory.proofs.Counts.{subscribed_by, acknowledged_held, released_from_held}
@@ -296,10 +297,51 @@ opened_goes config number s r moment p same fresh h =
       idle = λ c none. cond_both (length r.sessions + 1 == s.number) (begun (is_ack p.message.ack) s s.stage) s (λ (v : Session). v.answers ≡ s.answers) (λ g. begun_idle (is_ack p.message.ack) s s.stage) (λ g. refl);
     }
 
+-- a message of no session
+sessionless_holding : (config : Config) (place moment : ℕ) (c : MessageKind) (m : Message) (number : ℕ) (s : Session) (rs : List Registered) → Holding number s rs → Holding number (step_by config place moment s (sessionless_kind c m)) rs
+sessionless_holding config place moment MessageKind.Handshake m number s rs h = h
+sessionless_holding config place moment MessageKind.Connect m number s rs h = h
+sessionless_holding config place moment MessageKind.Subscribe m number s rs h = h
+sessionless_holding config place moment MessageKind.Unsubscribe m number s rs h = h
+sessionless_holding config place moment MessageKind.Disconnect m number s rs h = h
+sessionless_holding config place moment MessageKind.Publish m number s rs h =
+    let e : Publication = record { place = place; event = event_of m } in
+    still number s (published config e s) rs rs (published_still config e s h.live) (λ b g. g) h
+sessionless_holding config place moment MessageKind.UnknownMeta m number s rs h = h
+
+sessionless_over : (config : Config) (place moment : ℕ) (c : MessageKind) (m : Message) (s : Session) → s.stage ≡ Closed → s.held ≡ None → NothingMore s (step_by config place moment s (sessionless_kind c m))
+sessionless_over config place moment MessageKind.Handshake m s c n = over_same s c n
+sessionless_over config place moment MessageKind.Connect m s c n = over_same s c n
+sessionless_over config place moment MessageKind.Subscribe m s c n = over_same s c n
+sessionless_over config place moment MessageKind.Unsubscribe m s c n = over_same s c n
+sessionless_over config place moment MessageKind.Disconnect m s c n = over_same s c n
+sessionless_over config place moment MessageKind.Publish m s c n = published_over config (record { place = place; event = event_of m }) s c n
+sessionless_over config place moment MessageKind.UnknownMeta m s c n = over_same s c n
+
+sessionless_idle : (config : Config) (place moment : ℕ) (c : MessageKind) (m : Message) (s : Session) → is_live s.stage ≡ false → (step_by config place moment s (sessionless_kind c m)).answers ≡ s.answers
+sessionless_idle config place moment MessageKind.Handshake m s c = refl
+sessionless_idle config place moment MessageKind.Connect m s c = refl
+sessionless_idle config place moment MessageKind.Subscribe m s c = refl
+sessionless_idle config place moment MessageKind.Unsubscribe m s c = refl
+sessionless_idle config place moment MessageKind.Disconnect m s c = refl
+sessionless_idle config place moment MessageKind.Publish m s c = published_idle config (record { place = place; event = event_of m }) s c
+sessionless_idle config place moment MessageKind.UnknownMeta m s c = refl
+
+unnamed_goes : (config : Config) (number : ℕ) (s : Session) (r : Registry) (moment : ℕ) (p : Posted) (b : Bool) → s.number ≡ number → (length r.sessions < number → is_live s.stage ≡ false) → Holding number s r.sessions →
+    Goes config number s r (unnamed config r moment p b)
+unnamed_goes config number s r moment p true same fresh h = opened_goes config number s r moment p same fresh h
+unnamed_goes config number s r moment p false same fresh h = record {
+  entry = _;
+  more = entries_push r (unnamed config r moment p false) _ refl;
+  holding = sessionless_holding config (length r.judged) moment (message_kind_of p.message.channel) p.message number s r.sessions h;
+  over = λ c n. sessionless_over config (length r.judged) moment (message_kind_of p.message.channel) p.message s c n;
+  idle = λ c n. sessionless_idle config (length r.judged) moment (message_kind_of p.message.channel) p.message s c;
+}
+
 judged_by_goes : (config : Config) (number : ℕ) (s : Session) (r : Registry) (moment : ℕ) (p : Posted) (sender : Option Registered) (error : Option Error) → s.number ≡ number → (length r.sessions < number → is_live s.stage ≡ false) →
     ((q : Registered) → sender ≡ Some q → (q.number == s.number) ≡ true → s.stage ≡ Live) → Holding number s r.sessions → Goes config number s r (judged_by config r moment p sender error)
 judged_by_goes config number s r moment p sender (Some error) same fresh live h = record { entry = _; more = entries_push r (judged_by config r moment p sender (Some error)) _ refl; holding = h; over = λ c n. over_same s c n; idle = λ c n. refl }
-judged_by_goes config number s r moment p None None same fresh live h = opened_goes config number s r moment p same fresh h
+judged_by_goes config number s r moment p None None same fresh live h = unnamed_goes config number s r moment p (is_handshake p.message) same fresh h
 judged_by_goes config number s r moment p (Some q) None same fresh live h = record {
   entry = _;
   more = entries_push r (judged_by config r moment p (Some q) None) _ refl;

@@ -10,16 +10,20 @@ use Rattle.bx_message.specs.declared.message.TextMember.{TextMember}
 use Rattle.bx_message.specs.declared.message.TextMember.TheVariants.{Absent, NotText, Text}
 use Rattle.bx_message.specs.declared.message_kind.MessageKind.{MessageKind}
 use Rattle.bx_entry.specs.Listing.{Listed, Post, Posted}
-use Rattle.bx_message.specs.MessageKinds.{message_kind_of}
+use Rattle.bx_message.specs.MessageKinds.{message_kind_of, is_handshake}
 use Rattle.bx_entry.specs.Listing as messages
-use Rattle.bx_entry.specs.Registry.{Registry, Registered, Judged, judge, judged_by, refused, opened, served, left_by, is_overdue, named_by, sender_of, refusal, hold_of, is_ack, client_id, empty_registry}
+use Rattle.bx_entry.specs.Registry.{Registry, Registered, Judged, judge, judged_by, refused, opened, served, left_by, is_overdue, named_by, sender_of, refusal, hold_of, is_ack, client_id, empty_registry, unnamed, sessionless}
 use Rattle.bx_theory.specs.Readings.{is_from, given_moments, EachSession, DueReading, moment_of, ClockReading}
 
 -- ---- the clock
 
+unnamed_clock : (config : Config) (r : Registry) (moment : ℕ) (p : Posted) (b : Bool) → (unnamed config r moment p b).clock ≡ moment
+unnamed_clock config r moment p true = refl
+unnamed_clock config r moment p false = refl
+
 judged_by_clock : (config : Config) (r : Registry) (moment : ℕ) (p : Posted) (sender : Option Registered) (error : Option Error) → (judged_by config r moment p sender error).clock ≡ moment
 judged_by_clock config r moment p sender (Some error) = refl
-judged_by_clock config r moment p None None = refl
+judged_by_clock config r moment p None None = unnamed_clock config r moment p (is_handshake p.message)
 judged_by_clock config r moment p (Some s) None = refl
 
 judge_clock : (config : Config) (r : Registry) (x : Listed) → (judge config r x).clock ≡ max r.clock (moment_of x)
@@ -176,6 +180,10 @@ same_all (r ∷ rs) = ap (λ (qs : List Registered). r ∷ qs) (same_all rs)
 refused_due : (config : Config) (r : Registry) (moment : ℕ) (p : Posted) (error : Error) (sender : Option Registered) → Due config r → Due config (refused config r moment p error sender)
 refused_due config r moment p error sender d = due_without config r (λ s. s) _ (refused config r moment p error sender) (λ s. refl) (λ s. refl) refl (same_all r.sessions) refl d
 
+-- a message of no session
+sessionless_due : (config : Config) (r : Registry) (moment : ℕ) (p : Posted) (c : MessageKind) → Due config r → Due config (sessionless config r moment p c)
+sessionless_due config r moment p c d = due_without config r (λ s. s) _ (sessionless config r moment p c) (λ s. refl) (λ s. refl) refl (same_all r.sessions) refl d
+
 tick_due : (config : Config) (r : Registry) (moment : ℕ) → Due config r → Due config (judge config r (messages.Tick moment))
 tick_due config r moment d = due_without config r (λ s. cond (is_overdue (max r.clock moment) s) (record s { live = false }) s) _ (judge config r (messages.Tick moment)) (swept_number (max r.clock moment)) (swept_due (max r.clock moment)) refl refl refl d
 
@@ -250,9 +258,13 @@ served_due config r moment p c s hold below d =
       due = left_each (λ q. q.due ≡ greatest config q.number t.judged) c s.number (map f r.sessions) (λ q h. h) (each_session_through (λ q. q.due ≡ greatest config q.number r.judged) (λ q. q.due ≡ greatest config q.number t.judged) f r.sessions step d.due);
     }
 
+unnamed_due : (config : Config) (r : Registry) (moment : ℕ) (p : Posted) (b : Bool) → Due config r → Due config (unnamed config r moment p b)
+unnamed_due config r moment p true d = opened_due config r moment p d
+unnamed_due config r moment p false d = sessionless_due config r moment p (message_kind_of p.message.channel) d
+
 judged_by_due : (config : Config) (r : Registry) (moment : ℕ) (p : Posted) (sender : Option Registered) (error : Option Error) → ((s : Registered) → sender ≡ Some s → s.number < 1 + length r.sessions) → Due config r → Due config (judged_by config r moment p sender error)
 judged_by_due config r moment p sender (Some error) h d = refused_due config r moment p error sender d
-judged_by_due config r moment p None None h d = opened_due config r moment p d
+judged_by_due config r moment p None None h d = unnamed_due config r moment p (is_handshake p.message) d
 judged_by_due config r moment p (Some s) None h d = served_due config r moment p (message_kind_of p.message.channel) s (hold_of config p) (h s refl) d
 
 judge_due : (config : Config) (r : Registry) (x : Listed) → Due config r → Due config (judge config r x)

@@ -16,6 +16,7 @@ pub mod Gained
 pub mod Wholes
 pub mod Kept
 pub mod Senders
+pub mod Sessionless
 pub mod Closings
 pub mod Lines
 pub mod Below

@@ -1,5 +1,5 @@
 -- The registry's list grows with the list, and an answer stays.
-use Rattle.std.proofs.Common.{◌≡◌, ℕ, zero, suc, ◌+◌, ◌<◌, ◌≤◌, max, ⊎_elim, Bool, true, Option, Some, None, List, [], ◌∷◌, ◌++◌, length, take, drop, map, find, fold, option_map, slice_get, ◌==◌, refl, sym, ap, ◌∙◌, subst, arith, eqb-true, append-nil, append_assoc, length-take, take-append-drop, take_all}
+use Rattle.std.proofs.Common.{◌≡◌, ℕ, zero, suc, ◌+◌, ◌<◌, ◌≤◌, max, ⊎_elim, Bool, true, Option, Some, None, List, [], ◌∷◌, ◌++◌, length, take, drop, map, find, fold, option_map, slice_get, ◌==◌, refl, sym, ap, ◌∙◌, subst, arith, eqb-true, append-nil, append_assoc, length-take, take-append-drop, take_all, false}
 use Rattle.std.proofs.lemmas.Bool.{cond-true, cond-false, cases_lt}
 use Rattle.std.proofs.lemmas.List.{map-append, length-map, length_push}
 use Rattle.std.proofs.lemmas.List.Sums.{fold-append}
@@ -9,10 +9,10 @@ use Rattle.bx_lists.proofs.Tests.{either}
 use Rattle.bx_advice.specs.declared.config.Config.{Config}
 use Rattle.bx_advice.specs.declared.error.Error.{Error}
 use Rattle.bx_entry.specs.Listing.{Listed, Post, Posted}
-use Rattle.bx_message.specs.MessageKinds.{message_kind_of}
+use Rattle.bx_message.specs.MessageKinds.{message_kind_of, is_handshake}
 use Rattle.bx_entry.specs.Listing as messages
 use Rattle.bx_entry.specs.declared.entry.Entry.{Entry}
-use Rattle.bx_entry.specs.Registry.{Registry, Registered, Judged, PlaceSlot, Ready, Waiting, NoSlot, judge, judged_by, named_by, refusal, registry, empty_registry, entries_of}
+use Rattle.bx_entry.specs.Registry.{Registry, Registered, Judged, PlaceSlot, Ready, Waiting, NoSlot, judge, judged_by, named_by, refusal, registry, empty_registry, entries_of, unnamed}
 use Rattle.bx_entry.specs.Sessions.{Filed, step, session, unopened}
 use Rattle.bx_entry.specs.Answers.{PlacedAnswer, answer_of, filed_for, answer_by, answer_at, answer}
 use Rattle.bx_theory.specs.Laws.{Each, AnswersStay, PlacesFrom, EntriesInOrder}
@@ -28,9 +28,13 @@ record Notes (r t : Registry) : Type 0 where
   judged : t.judged ≡ r.judged ++ found ∷ []
   place : found.entry.place ≡ length r.judged
 
+unnamed_notes : (config : Config) (r : Registry) (moment : ℕ) (p : Posted) (b : Bool) → Notes r (unnamed config r moment p b)
+unnamed_notes config r moment p true = record { found = _; judged = refl; place = refl }
+unnamed_notes config r moment p false = record { found = _; judged = refl; place = refl }
+
 judged_by_notes : (config : Config) (r : Registry) (moment : ℕ) (p : Posted) (sender : Option Registered) (error : Option Error) → Notes r (judged_by config r moment p sender error)
 judged_by_notes config r moment p sender (Some error) = record { found = _; judged = refl; place = refl }
-judged_by_notes config r moment p None None = record { found = _; judged = refl; place = refl }
+judged_by_notes config r moment p None None = unnamed_notes config r moment p (is_handshake p.message)
 judged_by_notes config r moment p (Some s) None = record { found = _; judged = refl; place = refl }
 
 judge_notes : (config : Config) (r : Registry) (x : Listed) → Notes r (judge config r x)

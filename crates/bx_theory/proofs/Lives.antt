@@ -6,15 +6,16 @@ use Rattle.std.proofs.lemmas.List.Folds.{list_any-append}
 use Rattle.std.specs.List.{list_any}
 use Rattle.bx_lists.proofs.Tests.{eqb_sym}
 use Rattle.bx_advice.specs.declared.config.Config.{Config}
-use Rattle.bx_advice.specs.declared.advice.Outcome.TheVariants.{Failed}
+use Rattle.bx_advice.specs.declared.advice.Outcome.TheVariants.{Done, Failed}
 use Rattle.bx_advice.specs.declared.error.Error.{Error}
 use Rattle.bx_message.specs.declared.message_kind.MessageKind.{MessageKind}
+use Rattle.bx_message.specs.declared.message.Message.{Message}
 use Rattle.bx_entry.specs.Listing.{Listed, Post, Posted}
-use Rattle.bx_message.specs.MessageKinds.{message_kind_of}
+use Rattle.bx_message.specs.MessageKinds.{message_kind_of, is_handshake}
 use Rattle.bx_entry.specs.Listing as messages
 use Rattle.bx_entry.specs.declared.entry.Entry.{Entry}
 use Rattle.bx_entry.specs.declared.entry.EntryKind.TheVariants.{Opened, Refused, Tick}
-use Rattle.bx_entry.specs.Registry.{Registry, Registered, Judged, PlaceSlot, Ready, NoSlot, found_at, slot_for, judge, judged_by, refused, opened, served, extended, closed, overdue, is_overdue, named_by, refusal, hold_of, is_ack, client_id, kind_for, empty_registry, entries_of, registry}
+use Rattle.bx_entry.specs.Registry.{Registry, Registered, Judged, PlaceSlot, Ready, NoSlot, found_at, slot_for, judge, judged_by, refused, opened, served, extended, closed, overdue, is_overdue, named_by, refusal, hold_of, is_ack, client_id, kind_for, empty_registry, entries_of, registry, unnamed, sessionless, sessionless_kind}
 use Rattle.bx_message.specs.Replies.{reply_to}
 use Rattle.bx_message.specs.declared.reply.AckReply.TheVariants as replies
 use Rattle.bx_theory.specs.Readings.{opens_by, closes, since_opening, unclosed, EachSession, SameLive}
@@ -219,9 +220,40 @@ served_agrees config r moment p MessageKind.Disconnect s hold a = served_close r
 served_agrees config r moment p MessageKind.Publish s hold a = served_stay r s.number (moment + hold + config.max_interval) (found_at r moment (kind_for MessageKind.Publish p s hold) (Some s.number) hold (slot_for config MessageKind.Publish p s)) (served config r moment p MessageKind.Publish s hold) (λ n. refl) (λ n. refl) refl refl a
 served_agrees config r moment p MessageKind.UnknownMeta s hold a = served_stay r s.number (moment + hold + config.max_interval) (found_at r moment (kind_for MessageKind.UnknownMeta p s hold) (Some s.number) hold (slot_for config MessageKind.UnknownMeta p s)) (served config r moment p MessageKind.UnknownMeta s hold) (λ n. refl) (λ n. refl) refl refl a
 
+-- ---- a message of no session
+
+-- it neither opens a session nor closes one
+none_opened : (c : MessageKind) (m : Message) (n : ℕ) → opens_by n (sessionless_kind c m) ≡ false
+none_opened MessageKind.Handshake m n = refl
+none_opened MessageKind.Connect m n = refl
+none_opened MessageKind.Subscribe m n = refl
+none_opened MessageKind.Unsubscribe m n = refl
+none_opened MessageKind.Disconnect m n = refl
+none_opened MessageKind.Publish m n = refl
+none_opened MessageKind.UnknownMeta m n = refl
+
+none_closed : (c : MessageKind) (m : Message) (place moment n : ℕ) → closes n (record { place = place; moment = moment; kind = sessionless_kind c m }) ≡ false
+none_closed MessageKind.Handshake m place moment n = refl
+none_closed MessageKind.Connect m place moment n = refl
+none_closed MessageKind.Subscribe m place moment n = refl
+none_closed MessageKind.Unsubscribe m place moment n = refl
+none_closed MessageKind.Disconnect m place moment n = refl
+none_closed MessageKind.Publish m place moment n = refl
+none_closed MessageKind.UnknownMeta m place moment n = refl
+
+sessionless_agrees : (config : Config) (r : Registry) (moment : ℕ) (p : Posted) (c : MessageKind) → Agrees r → Agrees (sessionless config r moment p c)
+sessionless_agrees config r moment p c a =
+    let e : Entry = record { place = length r.judged; moment = moment; kind = sessionless_kind c p.message } in
+    agrees_without r (λ s. s) (found_at r moment (sessionless_kind c p.message) None 0 (Ready (reply_to config c p.message None Done replies.NoAck))) (sessionless config r moment p c) (λ s. refl) (none_opened c p.message) (same_all r.sessions) refl
+    (all_stay (λ s. s) e r.sessions (λ s. refl) (none_closed c p.message (length r.judged) moment)) a
+
+unnamed_agrees : (config : Config) (r : Registry) (moment : ℕ) (p : Posted) (b : Bool) → Agrees r → Agrees (unnamed config r moment p b)
+unnamed_agrees config r moment p true a = opened_agrees config r moment p a
+unnamed_agrees config r moment p false a = sessionless_agrees config r moment p (message_kind_of p.message.channel) a
+
 judged_by_agrees : (config : Config) (r : Registry) (moment : ℕ) (p : Posted) (sender : Option Registered) (error : Option Error) → Agrees r → Agrees (judged_by config r moment p sender error)
 judged_by_agrees config r moment p sender (Some error) a = refused_agrees config r moment p error sender a
-judged_by_agrees config r moment p None None a = opened_agrees config r moment p a
+judged_by_agrees config r moment p None None a = unnamed_agrees config r moment p (is_handshake p.message) a
 judged_by_agrees config r moment p (Some s) None a = served_agrees config r moment p (message_kind_of p.message.channel) s (hold_of config p) a
 
 judge_agrees : (config : Config) (r : Registry) (x : Listed) → Agrees r → Agrees (judge config r x)

@@ -7,11 +7,11 @@ use Rattle.bx_advice.specs.declared.config.Config.{Config}
 use Rattle.bx_advice.specs.declared.error.Error.{Error}
 use Rattle.bx_message.specs.declared.message.Message.{Message}
 use Rattle.bx_message.specs.declared.message_kind.MessageKind.{MessageKind}
-use Rattle.bx_message.specs.MessageKinds.{message_kind_of}
+use Rattle.bx_message.specs.MessageKinds.{message_kind_of, is_handshake}
 use Rattle.bx_entry.specs.Listing.{Listed, Post, Posted, listed_from}
 use Rattle.bx_entry.specs.Inputs.{ReadInput, Request, Unread, Tick, refusal_of, added_by}
 use Rattle.bx_entry.specs.declared.input.Refusal.{Refusal}
-use Rattle.bx_entry.specs.Registry.{Registry, Registered, Judged, PlaceSlot, Ready, Waiting, NoSlot, judge, judged_by, slot_for, named_by, refusal, registry, empty_registry, entries_of}
+use Rattle.bx_entry.specs.Registry.{Registry, Registered, Judged, PlaceSlot, Ready, Waiting, NoSlot, judge, judged_by, slot_for, named_by, refusal, registry, empty_registry, entries_of, unnamed}
 use Rattle.bx_entry.specs.Answers.{answer_by, answer_at, answer_in}
 use Rattle.bx_entry.specs.Runs.{Intake, Taking, taken_as, take_in, taken_in, numbers_from, places_of, latest}
 use Rattle.bx_theory.specs.Opens.{Numbered, numbered_from, is_whole}
@@ -87,9 +87,13 @@ slot_for_is config MessageKind.Disconnect p s = tt
 slot_for_is config MessageKind.Publish p s = tt
 slot_for_is config MessageKind.UnknownMeta p s = tt
 
+unnamed_adds : (config : Config) (r : Registry) (moment : ℕ) (p : Posted) (b : Bool) → Adds r (unnamed config r moment p b)
+unnamed_adds config r moment p true = record { found = _; judged = refl; slot = tt }
+unnamed_adds config r moment p false = record { found = _; judged = refl; slot = tt }
+
 judged_by_adds : (config : Config) (r : Registry) (moment : ℕ) (p : Posted) (sender : Option Registered) (error : Option Error) → Adds r (judged_by config r moment p sender error)
 judged_by_adds config r moment p sender (Some error) = record { found = _; judged = refl; slot = tt }
-judged_by_adds config r moment p None None = record { found = _; judged = refl; slot = tt }
+judged_by_adds config r moment p None None = unnamed_adds config r moment p (is_handshake p.message)
 judged_by_adds config r moment p (Some s) None = record { found = _; judged = refl; slot = slot_for_is config (message_kind_of p.message.channel) p s }
 
 -- a message is answered by what was found at its place

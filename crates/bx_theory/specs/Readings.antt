@@ -1,14 +1,19 @@
 -- What the words of a session mean, said of the whole list instead of step by step.
-use Rattle.std.specs.Prelude.{ℕ, ◌+◌, ◌≡◌, ◌≤◌, ◌==◌, ◌&&◌, ◌||◌, not, max, Bool, true, false, List, [], ◌∷◌, ◌++◌, length, map, filter, filter_map, fold, nat_le, nat_lt, if◌then◌else◌, Option, Some, None, ⊤}
+use Rattle.std.specs.Prelude.{ℕ, ◌+◌, ◌≡◌, ◌≤◌, ◌==◌, ◌&&◌, ◌||◌, not, max, is_some, is_none, Bool, true, false, List, [], ◌∷◌, ◌++◌, length, map, filter, filter_map, fold, nat_le, nat_lt, if◌then◌else◌, Option, Some, None, ⊤}
 use Rattle.std.specs.List.{list_any}
+use Rattle.bx_names.specs.Faults.{name_fault}
 use Rattle.bx_names.specs.Globs.{Glob}
 use Rattle.bx_advice.specs.declared.config.Config.{Config}
-use Rattle.bx_entry.specs.Listing.{Listed}
+use Rattle.bx_message.specs.declared.message.Message.{Message}
+use Rattle.bx_message.specs.declared.message.TextMember.TheVariants.{Absent}
+use Rattle.bx_message.specs.declared.message_kind.MessageKind.{MessageKind}
+use Rattle.bx_message.specs.MessageKinds.{message_kind_of}
+use Rattle.bx_entry.specs.Listing.{Listed, Post, Posted}
 use Rattle.bx_entry.specs.Listing as messages
 use Rattle.bx_entry.specs.declared.entry.Entry.{Entry}
 use Rattle.bx_entry.specs.declared.entry.EntryKind.{EntryKind}
 use Rattle.bx_entry.specs.declared.entry.EntryKind.TheVariants.{Opened, Connect, Subscribe, Unsubscribe, Publish, Disconnect, Refused, Tick}
-use Rattle.bx_entry.specs.Registry.{Registered, Judged, registry, entries_of, entries}
+use Rattle.bx_entry.specs.Registry.{Registered, Registry, Judged, event_of, registry, entries_of, entries}
 use Rattle.bx_names.specs.InForce.{in_force, with_pattern}
 use Rattle.bx_entry.specs.Sessions.{Session, Pending, Filed, is_live, is_hit, has_room, pending_count, step, session, Closed}
 
@@ -167,11 +172,28 @@ abbrev pub SameLive : Type 0
 SameLive = (config : Config) (list : List Listed) → EachSession (λ r. r.live ≡ unclosed r.number (since_opening r.number (entries_of (registry config list)))) (registry config list).sessions
 
 -- An accepted message of a session, other than the handshake that opens it, stands where the session is live: by the entries before it
--- the session was opened and not closed since. So a publish is accepted from a live session only.
+-- the session was opened and not closed since. So a publish that names a session is accepted from a live one only.
 abbrev pub AcceptedWhileLive : Type 0
 AcceptedWhileLive = (config : Config) (list : List Listed) (before : List Judged) (j : Judged) (behind : List Judged) (number : ℕ) →
     (registry config list).judged ≡ before ++ j ∷ behind → j.sender ≡ Some number → opens_by number j.entry.kind ≡ false →
     unclosed number (since_opening number (map (λ (i : Judged). i.entry) before)) ≡ true
+
+-- the entry of a publish without a client id: it is taken where the configuration says so, its channel reads as a name and it has data
+abbrev pub entry_without_client : Config → Message → EntryKind
+entry_without_client config m = if config.anonymous && (not (is_some (name_fault m.channel)) && not (is_none m.payload)) then Publish (event_of m) else Refused
+
+-- what is found of a publish of no session: the sessions stay as they were, with their due moments, and the message is none of theirs
+pub record IsOfNone (config : Config) (m : Message) (r t : Registry) : Type 0 where
+  pub found : Judged
+  pub judged : t.judged ≡ r.judged ++ found ∷ []
+  pub kind : found.entry.kind ≡ entry_without_client config m
+  pub sender : found.sender ≡ None
+  pub sessions : t.sessions ≡ r.sessions
+
+-- a publish without a client id is of no session, whether it is accepted or refused
+abbrev pub PublishesOfNone : Type 0
+PublishesOfNone = (config : Config) (list : List Listed) (p : Posted) → message_kind_of p.message.channel ≡ MessageKind.Publish → p.message.client ≡ Absent →
+    IsOfNone config p.message (registry config list) (registry config (list ++ Post p ∷ []))
 
 -- nothing more comes of a session: no connect of it is held, and its events and answers are as they were
 pub record NothingMore (s t : Session) : Type 0 where

@@ -10,9 +10,9 @@ use Rattle.bx_message.specs.declared.reply.Answer.{Answer}
 use Rattle.bx_advice.specs.declared.error.Error.{Error}
 use Rattle.bx_message.specs.declared.message_kind.MessageKind.{MessageKind}
 use Rattle.bx_entry.specs.Listing.{Listed, Post, Posted}
-use Rattle.bx_message.specs.MessageKinds.{message_kind_of}
+use Rattle.bx_message.specs.MessageKinds.{message_kind_of, is_handshake}
 use Rattle.bx_entry.specs.Listing as messages
-use Rattle.bx_entry.specs.Registry.{Registry, Registered, Judged, PlaceSlot, Ready, Waiting, NoSlot, judge, judged_by, served, opened, slot_for, left_by, extended, swept, is_overdue, named_by, refusal, hold_of, is_ack, registry, empty_registry, entries_of}
+use Rattle.bx_entry.specs.Registry.{Registry, Registered, Judged, PlaceSlot, Ready, Waiting, NoSlot, judge, judged_by, served, opened, slot_for, left_by, extended, swept, is_overdue, named_by, refusal, hold_of, is_ack, registry, empty_registry, entries_of, unnamed}
 use Rattle.bx_entry.specs.declared.input.Input.{Input}
 use Rattle.bx_entry.specs.Sessions.{Session, Filed, session}
 use Rattle.bx_entry.specs.Answers.{PlacedAnswer, answer_of, answer_by, answer_at}
@@ -100,9 +100,13 @@ served_waiters config r moment p c s hold here w =
     λ n h. left_has c s.number n (extended s.number due r.sessions) ∙ extended_has s.number due n r.sessions ∙ h in
     waiters_push r ts _ same (slot_served config c p s ts (same s.number here)) w
 
+unnamed_waiters : (config : Config) (r : Registry) (moment : ℕ) (p : Posted) (b : Bool) → Waiters r → Waiters (unnamed config r moment p b)
+unnamed_waiters config r moment p true w = waiters_push r (unnamed config r moment p true).sessions _ (λ n g. has_push n r.sessions _ g) tt w
+unnamed_waiters config r moment p false w = waiters_push r r.sessions _ (λ n g. g) tt w
+
 judged_by_waiters : (config : Config) (r : Registry) (moment : ℕ) (p : Posted) (sender : Option Registered) (error : Option Error) → ((s : Registered) → sender ≡ Some s → has s.number r.sessions ≡ true) → Waiters r → Waiters (judged_by config r moment p sender error)
 judged_by_waiters config r moment p sender (Some error) h w = waiters_push r r.sessions _ (λ n g. g) tt w
-judged_by_waiters config r moment p None None h w = waiters_push r (opened config r moment p (length r.sessions + 1) (is_ack p.message.ack)).sessions _ (λ n g. has_push n r.sessions _ g) tt w
+judged_by_waiters config r moment p None None h w = unnamed_waiters config r moment p (is_handshake p.message) w
 judged_by_waiters config r moment p (Some s) None h w = served_waiters config r moment p (message_kind_of p.message.channel) s (hold_of config p) (h s refl) w
 
 judge_waiters : (config : Config) (r : Registry) (x : Listed) → Waiters r → Waiters (judge config r x)

@@ -1,9 +1,9 @@
-use Rattle.std.proofs.Common.{◌≡◌, ◌+◌, ℕ, sym, ap, subst, ◌∙◌}
+use Rattle.std.proofs.Common.{◌≡◌, ◌+◌, ℕ, true, sym, ap, subst, ◌∙◌}
 use Rattle.std.specs.Prelude.{Option, Some, None, is_some, option_map}
 use Rattle.bx_advice.specs.declared.advice.Outcome.TheVariants.{Failed}
 use Rattle.bx_message.specs.declared.message_kind.MessageKind.{MessageKind}
 use Rattle.bx_message.specs.declared.reply.AckReply.TheVariants as replies
-use Rattle.bx_message.specs.MessageKinds.{message_kind_of}
+use Rattle.bx_message.specs.MessageKinds.{message_kind_of, is_handshake}
 use Rattle.bx_message.specs.Replies.{reply_to}
 use Rattle.bx_entry.specs.Listing.{Posted}
 use Rattle.bx_entry.specs.Registry.{named_by, kind_for, slot_for, hold_of}
@@ -44,9 +44,10 @@ returns-in-None-sender c =
     let known : c.is_some.result ≡ is_some (named_by ms.live c.args.posted.message_kind p.message) = c.is_some.ensures ∙ found-known o (named_by ms.live c.args.posted.message_kind p.message) c.named_by-sender.ensures in
     let fault = sym (c.in-None.ensures.table ms.live c.counts-live.ensures.live known) in
     let none : named_by ms.live (message_kind_of p.message.channel) p.message ≡ None = subst (λ (s : Option Sender). IsFound s (named_by ms.live (message_kind_of p.message.channel) p.message)) c.in-None-sender.is found in
+    let opens : is_handshake p.message ≡ true = sym (c.is_handshake.ensures p.message col) ∙ c.if-is_handshake.true in
     all_three c.open.result _ _ _ _ (λ j e f g.
     opened-verdict config ms c.args.moment c.args.place (c.counts-live.result.1 + 1) p j.edit j.kind j.slot c.counts-live.ensures.all c.requires.limit
-    (ap (λ (n : ℕ). n + 1) c.counts-live.ensures.opened) (rw c.counts-live.ensures.opened c.requires.number) fault none e f g)
+    (ap (λ (n : ℕ). n + 1) c.counts-live.ensures.opened) (rw c.counts-live.ensures.opened c.requires.number) opens fault none e f g)
     c.open.ensures.edit c.open.ensures.kind c.open.ensures.slot
 
 pub returns-in-Some-sender : goal.returns-in-Some-sender
