@@ -1,6 +1,6 @@
 -- What a message comes to, by the edit, the entry and the slot that are made for it.
 use Rattle.std.proofs.Common.{◌≡◌, ℕ, ◌+◌, ◌<◌, ◌^◌, Bool, true, false, List, [], ◌∷◌, length, refl, sym, ap, subst, ◌∙◌, cond, arith, Result, Ok, Err, eq-eqb}
-use Rattle.std.specs.Prelude.{◌&&◌, ◌==◌, not, nat_le, max, Option, Some, None, IsSome, IfOk, MatchOption, is_some, is_none, option_map, if◌then◌else◌}
+use Rattle.std.specs.Prelude.{◌&&◌, ◌==◌, not, nat_le, max, Option, Some, None, IsSome, IfOk, MatchOption, is_some, option_map, if◌then◌else◌}
 use Rattle.std.specs.Str.{bytes_eq}
 use Rattle.std.proofs.lemmas.Bool.{cond-true, leb-false}
 use Rattle.bx_names.specs.Faults.{first_case}

@@ -1,7 +1,7 @@
 -- Fewer words than five, and more than seven, say nothing.
 use Rattle.std.proofs.Common.{◌≡◌, ℕ, ◌<◌, ◌≤◌, List, [], ◌∷◌, length, refl, arith}
-use Rattle.std.specs.Prelude.{Option, None}
-use Rattle.bx_replay.specs.Settings.{Settings, settings_in}
+use Rattle.std.specs.Prelude.{None}
+use Rattle.bx_replay.specs.Settings.{settings_in}
 
 pub few : (words : List (List ℕ)) → length words < 5 → None ≡ settings_in words
 few [] short = refl

@@ -1,5 +1,5 @@
 //! The arguments of the program.
-ghost use Rattle.std.specs.Prelude.{◌≡◌, ◌≤◌, ◌<◌, IfSome, Option, option_map, map, string_bytes};
+ghost use Rattle.std.specs.Prelude.{◌≡◌, ◌<◌, IfSome, Option, option_map, map, string_bytes};
 ghost use Rattle.bx_advice.specs.Limits.{IsStandard};
 ghost use Rattle.bx_message.specs.Fields.{number_of};
 ghost use Rattle.bx_replay.specs.Settings.{anonymous_in, count_in, settings_in, settings_of, time_in};

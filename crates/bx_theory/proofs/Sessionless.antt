@@ -1,5 +1,5 @@
 -- A publish without a client id is of no session.
-use Rattle.std.proofs.Common.{◌≡◌, ℕ, max, Bool, true, false, cond, not, ◌&&◌, is_some, is_none, Option, Some, None, List, [], ◌∷◌, ◌++◌, refl, sym, ap, ◌∙◌, subst}
+use Rattle.std.proofs.Common.{◌≡◌, ℕ, max, Bool, true, false, cond, not, ◌&&◌, is_some, is_none, Option, None, [], ◌∷◌, ◌++◌, refl, sym, ap, ◌∙◌, subst}
 use Rattle.std.proofs.lemmas.List.Sums.{fold-append}
 use Rattle.bx_names.specs.Faults.{first_case, name_fault}
 use Rattle.bx_advice.specs.declared.config.Config.{Config}
@@ -10,7 +10,7 @@ use Rattle.bx_message.specs.declared.message.TextMember.{TextMember}
 use Rattle.bx_message.specs.declared.message.TextMember.TheVariants.{Absent}
 use Rattle.bx_message.specs.declared.message_kind.MessageKind.{MessageKind}
 use Rattle.bx_message.specs.MessageKinds.{message_kind_of, is_handshake}
-use Rattle.bx_entry.specs.Listing.{Listed, Post, Posted}
+use Rattle.bx_entry.specs.Listing.{Post, Posted}
 use Rattle.bx_entry.specs.declared.entry.EntryKind.TheVariants.{Publish, Refused}
 use Rattle.bx_entry.specs.Registry.{Registry, Registered, Judged, cases_of, event_of, is_text, judge, judged_by, named_by, needs_session, publish_cases, refusal, sender_of, sessionless_kind, unnamed, registry, empty_registry}
 use Rattle.bx_theory.specs.Readings.{PublishesOfNone, IsOfNone}
@@ -46,10 +46,6 @@ no_handshake m h = opens_not (is_handshake m) _ h
 judged_of_none : (config : Config) (r : Registry) (p : Posted) → message_kind_of p.message.channel ≡ MessageKind.Publish → p.message.client ≡ Absent →
     IsOf config.anonymous (is_some (name_fault p.message.channel)) (is_none p.message.payload) p.message r (judge config r (Post p))
 judged_of_none config r p is absent =
-    let m : Message = p.message in
-    let taken : Bool = config.anonymous in
-    let faulty : Bool = is_some (name_fault p.message.channel) in
-    let empty : Bool = is_none p.message.payload in
     let named : named_by r.sessions (message_kind_of p.message.channel) p.message ≡ None = ap (λ (c : MessageKind). named_by r.sessions c p.message) is ∙ ap (sender_of r.sessions) absent in
     let refused : refusal config r.sessions p ≡ fault_by config.anonymous (is_some (name_fault p.message.channel)) (is_none p.message.payload) =
     ap (λ (c : MessageKind). first_case (cases_of config r.sessions p c)) is

@@ -12,7 +12,7 @@ use Rattle.bx_message.specs.declared.message_kind.MessageKind.{MessageKind}
 use Rattle.bx_entry.specs.Listing.{Listed, Post, Posted}
 use Rattle.bx_message.specs.MessageKinds.{message_kind_of, is_handshake}
 use Rattle.bx_entry.specs.Listing as messages
-use Rattle.bx_entry.specs.Registry.{Registry, Registered, Judged, PlaceSlot, Ready, Waiting, NoSlot, judge, judged_by, served, opened, slot_for, left_by, extended, swept, is_overdue, named_by, refusal, hold_of, is_ack, registry, empty_registry, entries_of, unnamed}
+use Rattle.bx_entry.specs.Registry.{Registry, Registered, Judged, PlaceSlot, Ready, Waiting, NoSlot, judge, judged_by, served, slot_for, left_by, extended, swept, is_overdue, named_by, refusal, hold_of, registry, empty_registry, entries_of, unnamed}
 use Rattle.bx_entry.specs.declared.input.Input.{Input}
 use Rattle.bx_entry.specs.Sessions.{Session, Filed, session}
 use Rattle.bx_entry.specs.Answers.{PlacedAnswer, answer_of, answer_by, answer_at}
