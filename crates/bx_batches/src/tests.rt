@@ -86,6 +86,20 @@ fn a_full_window_refuses(rt: HostRuntime) -> Result<(), Fail> {
 }
 
 #[test]
+fn a_window_takes_as_many_events_as_its_limit(rt: HostRuntime) -> Result<(), Fail> {
+    let alloc = rt.alloc();
+    let mut window = Window::new(alloc);
+    for place in 0..65_536 {
+        let pushed = window.push(place, event(alloc, place)?, 65_536);
+        pushed.map_err(|_| "the window is full")?;
+    }
+    let refused = window.push(65_536, event(alloc, 65_536)?, 65_536);
+    assert_eq!(rt; refused, Err(PushError::Overflow));
+    assert_eq!(rt; window.len(), 65_536);
+    Ok(())
+}
+
+#[test]
 fn events_without_batches_are_forgotten(rt: HostRuntime) -> Result<(), Fail> {
     let alloc = rt.alloc();
     let mut window = Window::new(alloc);
