@@ -6,14 +6,12 @@ mod bench;
 #[cfg(test)]
 mod connects;
 #[cfg(test)]
-mod held;
-#[cfg(test)]
-mod lost;
+mod exchanges;
 #[cfg(test)]
 mod pieces;
 #[cfg(test)]
-mod statuses;
+mod requests;
 #[cfg(test)]
-mod tests;
+mod runs;
 #[cfg(test)]
 mod texts;

@@ -1,8 +1,8 @@
-//! A hub with two tasks, of which one or the other waits.
+//! A hub with two tasks, of which one or the other waits for a connect.
 use crate::bench::TestHub;
-use crate::texts::{CONNECT, HANDSHAKE, PUBLISH, SUBSCRIBE};
+use crate::texts::{CONNECT, HANDSHAKE, SUBSCRIBE};
 use bx_cut::Bodies;
-use bx_entry::{Arrival, ByRemainder, Slot, Ticket};
+use bx_entry::{Arrival, ByRemainder, Ticket};
 use bx_held::{HeldConnect, HeldFault};
 use bx_hub::{OpenGate, Pass};
 use bx_message::{Answer, event_text, reply_text};
@@ -10,38 +10,66 @@ use bx_window::Naming;
 use futures::task::Poll;
 use futures::test::MockTask;
 use std::alloc::{AllocError, Global};
+use std::process::Abort;
 use std::sync::{Arc, Wait};
 use std::test::*;
 
-/// A held connect of it.
+/// A held connect of the hub.
 pub type TestHeld<J, H, R> = HeldConnect<J, ByRemainder, OpenGate, H, R>;
 
-/// What a poll gave.
-#[derive(Clone, Copy, Debug, PartialEq, Eq)]
-pub enum Polled {
+/// Where the answer to the connect of the first session is filed, which the bench opens.
+pub const TICKET: Ticket = Ticket { place: 2, shard: 1 };
+
+/// One of the two tasks.
+#[derive(Clone, Copy, Debug)]
+pub enum Task {
+    First,
+    Second,
+}
+
+/// What a poll must give.
+#[derive(Clone, Copy, Debug)]
+pub enum Want {
     Pending,
-    /// How many events the answer has.
-    Events(usize),
+    /// An answer of these events and this reply, as an array.
+    Answer(&'static str),
     Fault(HeldFault),
 }
 
-/// What a poll gave, by its output.
-pub fn summary_of(poll: &Poll<Result<Answer, HeldFault>>) -> Polled {
-    match poll {
-        Poll::Pending => Polled::Pending,
-        Poll::Ready(Ok(answer)) => Polled::Events(answer.events.len()),
-        Poll::Ready(Err(fault)) => Polled::Fault(*fault),
-    }
-}
-
-/// The texts of an answer's events and of its reply.
-pub fn text_of(alloc: Global, answer: &Answer) -> Result<Vec<u8>, AllocError> {
-    let mut text = Vec::new(alloc);
+// An answer's events and its reply as an array.
+fn array_of(alloc: Global, answer: &Answer) -> Result<Vec<u8>, AllocError> {
+    let mut text = b"[".to_vec(alloc)?;
     for event in answer.events.as_slice() {
         text.extend_from_slice(&event_text(alloc, event.event())?)?;
+        text.push(b',')?;
     }
     text.extend_from_slice(&reply_text(alloc, &answer.reply)?)?;
+    text.push(b']')?;
     Ok(text)
+}
+
+/// A poll gave what it must give.
+pub fn check_poll<A: Abort>(
+    rt: &A,
+    alloc: Global,
+    poll: &Poll<Result<Answer, HeldFault>>,
+    want: Want,
+) -> Result<(), Fail> {
+    match (poll, want) {
+        (Poll::Pending, Want::Pending) => Ok(()),
+        (Poll::Ready(Ok(answer)), Want::Answer(text)) => {
+            assert!(rt;
+                array_of(alloc, answer)?.as_slice() == text.as_bytes(),
+                "another answer than {text}"
+            );
+            Ok(())
+        }
+        (Poll::Ready(Err(fault)), Want::Fault(other)) => {
+            assert_eq!(rt; *fault, other);
+            Ok(())
+        }
+        _ => Err(Fail::from("a poll gave something else")),
+    }
 }
 
 /// A hub, what its caller has seen, and two tasks that were not woken.
@@ -56,36 +84,32 @@ pub struct Bench<J: Naming, H: Wait + Drop, R: Wait + Copy + Drop> {
 }
 
 impl<J: Naming, H: Wait + Drop, R: Wait + Copy + Drop> Bench<J, H, R> {
-    /// Posts a body at moment 0, and gives the ticket of its first connect.
-    pub fn post(&mut self, body: &str) -> Result<Option<Ticket>, Fail> {
+    /// One of its tasks.
+    pub fn task(&self, task: Task) -> &MockTask {
+        match task {
+            Task::First => &self.first,
+            Task::Second => &self.second,
+        }
+    }
+
+    /// Posts a body at moment 0.
+    pub fn post(&mut self, body: &str) -> Result<(), Fail> {
         let arrival = Arrival {
             moment: 0,
             nonce: 0,
             bodies: Bodies::Whole(body.as_bytes().to_vec(self.alloc)?),
         };
-        let posted = self
-            .hub
+        self.hub
             .post(&self.rt, self.alloc, &mut self.pass, &arrival)
             .map_err(|_| "refused")?;
-        for slot in posted.slots.into_vec() {
-            if let Slot::Waiting(ticket) = slot {
-                return Ok(Some(ticket));
-            }
+        Ok(())
+    }
+
+    /// Opens the first session, subscribes it, and posts its connect, which is held.
+    pub fn hold(&mut self) -> Result<(), Fail> {
+        for body in [HANDSHAKE, SUBSCRIBE, CONNECT] {
+            self.post(body)?;
         }
-        Ok(None)
-    }
-
-    /// Opens the first session, subscribes it, and gives the ticket of its connect, which is held. It stands at place 2.
-    pub fn hold(&mut self) -> Result<Ticket, Fail> {
-        self.post(HANDSHAKE)?;
-        self.post(SUBSCRIBE)?;
-        Ok(self.post(CONNECT)?.ok_or("no ticket")?)
-    }
-
-    /// Opens the second session, which publishes an event at place 4 that the first one gets.
-    pub fn publish(&mut self) -> Result<(), Fail> {
-        self.post(HANDSHAKE)?;
-        self.post(PUBLISH)?;
         Ok(())
     }
 
@@ -97,7 +121,7 @@ impl<J: Naming, H: Wait + Drop, R: Wait + Copy + Drop> Bench<J, H, R> {
         Ok(())
     }
 
-    /// Who waits under the ticket, and has seen what the caller has.
+    /// Who waits under a ticket, and has seen what the caller has.
     pub fn wait(&self, ticket: Ticket) -> Result<TestHeld<J, H, R>, Fail> {
         let pass = Pass::of(self.pass.note());
         if ticket.place >= pass.seen() {

@@ -1,6 +1,0 @@
-use Rattle.bx_entry.specs.Placings.{by_remainder}
-use Rattle.bx_service_tests.proofs.tests.exchanges.Given as goal
-
--- the book that was just opened, with its configuration and placing
-abbrev pub ghosts-check_hub : goal.ghosts-check_hub
-ghosts-check_hub g a = record { book = a.opened.seen.book; config = a.config; placing = by_remainder }
