@@ -2,8 +2,6 @@
 #![tactic(auto)]
 
 mod publication;
-#[cfg(test)]
-mod tests;
 mod window;
 
 pub use publication::Publication;

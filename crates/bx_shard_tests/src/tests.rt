@@ -14,13 +14,13 @@ use std::test::Fail;
 // More entries than any test has.
 const MOST_ENTRIES: u64 = 100;
 
-// What an entry of the list says.
+/// What an entry of the list says.
 #[derive(Clone, Copy, Debug)]
-enum Deed {
+pub enum Deed {
     Open(u64),
     Subscribe(u64, &'static str),
     Connect(u64),
-    // A channel; the data is 7.
+    /// A channel; the data is 7.
     Publish(&'static str),
 }
 
@@ -81,7 +81,8 @@ fn publish(alloc: Global, channel: &str) -> Result<EntryKind, Fail> {
     Ok(EntryKind::Publish(SharedEvent::new(alloc, event, name)?))
 }
 
-fn kind(alloc: Global, deed: Deed) -> Result<EntryKind, Fail> {
+/// The kind of the entry.
+pub fn kind(alloc: Global, deed: Deed) -> Result<EntryKind, Fail> {
     match deed {
         Deed::Open(session) => Ok(EntryKind::Opened {
             session,

@@ -12,3 +12,5 @@ mod same;
 mod session;
 #[cfg(test)]
 mod tree;
+#[cfg(test)]
+mod window;

@@ -35,7 +35,8 @@ fn json(alloc: Global, number: u64) -> Result<RawJson, AllocError> {
     RawJson::new(alloc, text.as_str())
 }
 
-fn event(alloc: Global, number: u64) -> Result<SharedEvent, Fail> {
+/// An event with this number as its data.
+pub fn event(alloc: Global, number: u64) -> Result<SharedEvent, Fail> {
     let name = ChannelName::read(alloc, "/a/b")?;
     let channel = Text::new(alloc, "/a/b")?;
     let payload = json(alloc, number)?;
@@ -80,8 +81,8 @@ fn push_ack(alloc: Global, ack: AckReply, text: &mut String) -> Result<(), Alloc
     }
 }
 
-// How many numbers there are, and the first and the last of them.
-fn push_numbers(alloc: Global, numbers: &[u64], text: &mut String) -> Result<(), AllocError> {
+/// Writes how many numbers there are, and the first and the last of them.
+pub fn push_numbers(alloc: Global, numbers: &[u64], text: &mut String) -> Result<(), AllocError> {
     let count = numbers.len();
     match numbers {
         [] => text.push_str("0: none;"),

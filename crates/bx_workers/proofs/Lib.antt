@@ -1,3 +1,2 @@
 mod Going
-mod Numbered
 mod Parts

@@ -3,8 +3,6 @@
 
 mod count;
 mod gate;
-#[cfg(test)]
-mod tests;
 mod upward;
 
 pub use count::{MAX_WORKERS, WorkerCount};

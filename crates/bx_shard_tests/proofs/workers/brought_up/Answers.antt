@@ -1,10 +1,10 @@
 use Rattle.std.proofs.Common.{List, arith, sym, subst}
 use Rattle.bx_entry.specs.declared.placing.ByRemainder.{ByRemainder}
 use Rattle.bx_shard.specs.declared.shard.Shard.{Shard}
-use Rattle.bx_workers.specs.Numbered.{AreFresh, AreNumbered}
-use Rattle.bx_workers.proofs.Numbered.{first_is_0, fresh_within, numbered_consecutive}
-use Rattle.bx_workers.proofs.tests.brought_up.Goals as goal
-use Rattle.bx_workers.proofs.tests.brought_up.Goals.{After-deref}
+use Rattle.bx_shard_tests.specs.Numbered.{AreFresh, AreNumbered}
+use Rattle.bx_shard_tests.proofs.Numbered.{first_is_0, fresh_within, numbered_consecutive}
+use Rattle.bx_shard_tests.proofs.workers.brought_up.Goals as goal
+use Rattle.bx_shard_tests.proofs.workers.brought_up.Goals.{After-deref}
 
 numbered : (g : _) (c : After-deref g) → AreNumbered c.deref.result.now
 numbered g c = subst AreNumbered (sym c.deref.ensures.value) c.in_ok-entries.ensures

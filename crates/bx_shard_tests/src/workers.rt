@@ -1,13 +1,12 @@
 //! Shards that workers bring up to the end of four entries.
 ghost use Rattle.std.specs.Prelude.{◌≡◌, length, IfOk};
-ghost use Rattle.bx_workers.specs.Numbered.{AreFresh, AreNumbered};
+ghost use Rattle.bx_shard_tests.specs.Numbered.{AreFresh, AreNumbered};
 
-use crate::{Gate, OpenGate, WorkerCount, bring_up};
+use crate::tests::{Deed, kind};
 use bx_advice::Config;
 use bx_entry::{ByRemainder, Entry, EntryKind, Ticket};
-use bx_message::{Event, RawJson, Sequence, SharedEvent, Text};
-use bx_names::{ChannelName, Pattern};
 use bx_shard::Shard;
+use bx_workers::{Gate, OpenGate, WorkerCount, bring_up};
 use std::alloc::{AllocError, Global};
 use std::hint;
 use std::sync::Arc;
@@ -35,43 +34,15 @@ fn add(entries: &mut Vec<Entry>, kind: EntryKind) -> Result<(), AllocError>
     Ok(())
 }
 
-fn subscribe(alloc: Global, session: u64, pattern: &str) -> Result<EntryKind, Fail> {
-    let pattern = Pattern::read(alloc, pattern).map_err(|_| "no pattern")?;
-    let mut patterns = Sequence::new(alloc);
-    patterns.push(pattern)?;
-    Ok(EntryKind::Subscribe { session, patterns })
-}
-
-fn connect(alloc: Global, session: u64) -> Result<EntryKind, AllocError> {
-    Ok(EntryKind::Connect {
-        session,
-        client: Text::new(alloc, "Z1")?,
-        id: None,
-        acked: None,
-        hold: 30_000,
-    })
-}
-
-fn publish(alloc: Global, channel: &str) -> Result<EntryKind, Fail> {
-    let event = Event {
-        channel: Text::new(alloc, channel)?,
-        payload: RawJson::new(alloc, "7")?,
-        id: None,
-    };
-    let name = ChannelName::read(alloc, channel)?;
-    Ok(EntryKind::Publish(SharedEvent::new(alloc, event, name)?))
-}
-
 // A handshake of session 1, its subscription and connect, and a publish that answers the connect.
 fn entries(alloc: Global) -> Result<Vec<Entry>, Fail>
     ensures { IfOk result (λ es. AreNumbered es.items) }
 {
     let mut entries = Vec::new(alloc);
-    let (session, ack) = (1, false);
-    add(&mut entries, EntryKind::Opened { session, ack })?;
-    add(&mut entries, subscribe(alloc, session, "/a/*")?)?;
-    add(&mut entries, connect(alloc, session)?)?;
-    add(&mut entries, publish(alloc, "/a/b")?)?;
+    add(&mut entries, kind(alloc, Deed::Open(1))?)?;
+    add(&mut entries, kind(alloc, Deed::Subscribe(1, "/a/*"))?)?;
+    add(&mut entries, kind(alloc, Deed::Connect(1))?)?;
+    add(&mut entries, kind(alloc, Deed::Publish("/a/b"))?)?;
     Ok(entries)
 }
 
