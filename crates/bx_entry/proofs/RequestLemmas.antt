@@ -1,9 +1,11 @@
--- Reading on, a message or a document at a time.
-use Rattle.std.proofs.Common.{◌≡◌, ℕ, ◌+◌, List, [], ◌∷◌, ◌++◌, Option, Some, None, option_map, option_and_then, drop, refl, sym, ap, ◌∙◌}
+-- Reading on, a message or a document at a time, and what a request adds to the list.
+use Rattle.std.proofs.Common.{◌≡◌, ℕ, ◌+◌, ◌||◌, Bool, List, [], ◌∷◌, ◌++◌, length, Option, Some, None, option_map, option_and_then, drop, refl, sym, ap, arith, ◌∙◌}
 use Rattle.std.proofs.lemmas.List.{append_assoc}
 use Rattle.bx_cut.specs.Pieces.{Object}
 use Rattle.bx_message.specs.declared.message.Message.{Message}
 use Rattle.bx_message.specs.Fields.{message_in}
+use Rattle.bx_message.specs.MessageKinds.{is_handshake}
+use Rattle.bx_entry.specs.Listing.{listed_from}
 use Rattle.bx_entry.specs.Requests.{Cut, objects_in, objects_of, all_messages}
 
 -- these messages, and those that are still to be read
@@ -80,3 +82,10 @@ pub cut_none : (cs : List Cut) (i : ℕ) (x : Cut) (old : List Message) → drop
     → joined old (all_messages (objects_of (drop i cs))) ≡ None
 cut_none cs i x old e none =
     ap (λ (l : List Cut). joined old (all_messages (objects_of l))) e ∙ ap (joined old) (no_document (objects_in x) (objects_of (drop (i + 1) cs)) none)
+
+-- ---- what a request adds to the list
+
+-- as many elements as it has messages
+pub length-listed : (moment nonce : ℕ) (sole seen : Bool) (ms : List Message) → length (listed_from moment nonce sole seen ms) ≡ length ms
+length-listed moment nonce sole seen [] = refl
+length-listed moment nonce sole seen (m ∷ ms) = omega (arith, length-listed moment nonce sole (seen || is_handshake m) ms)

@@ -28,12 +28,8 @@ use Rattle.bx_fanout.proofs.Stages.{length-numbers}
 
 -- ---- how many messages are answered
 
-pub length-listed : (moment nonce : ℕ) (sole : Bool) (ms : List Message) (seen : Bool) → length (listed_from moment nonce sole seen ms) ≡ length ms
-length-listed moment nonce sole [] seen = refl
-length-listed moment nonce sole (m ∷ ms) seen = ap (λ (n : ℕ). suc n) (length-listed moment nonce sole ms (seen || is_handshake m))
-
 asked : (len : ℕ) (input : ReadInput) → length (places_of (intake_as len input None) input) ≡ asked_by input
-asked len (Request moment nonce ms) = length-numbers len (length (request moment nonce ms)) ∙ length-listed moment nonce (length ms == 1) ms false
+asked len (Request moment nonce ms) = length-numbers len (length (request moment nonce ms)) ∙ length-listed moment nonce (length ms == 1) false ms
 asked len (Unread fault) = refl
 asked len (Tick moment) = refl
 

@@ -84,10 +84,6 @@ one_next config before base clock first list rest d e now place es ss p entry sl
       end = omega (arith, so.end);
     }
 
-pub length-listed : (moment nonce : ℕ) (sole seen : Bool) (ms : List Message) → length (listed_from moment nonce sole seen ms) ≡ length ms
-length-listed moment nonce sole seen [] = refl
-length-listed moment nonce sole seen (m ∷ ms) = omega (arith, length-listed moment nonce sole (seen || is_handshake m) ms)
-
 -- ---- what is planned at a registry
 
 admitted-by : (b c : Bool) (x : Unit {0}) → Ok x ≡ checked (if b then Some BadMoment else (if c then Some Ended else None)) → (b ≡ false) × (c ≡ false)

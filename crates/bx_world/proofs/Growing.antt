@@ -6,7 +6,7 @@ use Rattle.bx_entry.specs.Inputs.{ReadInput, Request, Unread, Tick, added_by, re
 use Rattle.bx_entry.specs.Requests.{read_input}
 use Rattle.bx_entry.specs.declared.input.Input.{Input}
 use Rattle.bx_entry.specs.declared.input.Refusal.TheVariants.{BadMoment, Ended}
-use Rattle.bx_registry.proofs.Planning.{length-listed}
+use Rattle.bx_entry.proofs.RequestLemmas.{length-listed}
 use Rattle.bx_shard.specs.Shards.{Setup}
 use Rattle.bx_shard.specs.declared.shard.Shard.{Shard}
 use Rattle.bx_shard.proofs.Holding.{refines_longer}

@@ -8,7 +8,8 @@ use Rattle.bx_entry.specs.Listing.{Listed, Posted, listed_from, request}
 use Rattle.bx_registry.specs.Rolls.{verdict}
 use Rattle.bx_registry.specs.Planners.{IsFoundAt}
 use Rattle.bx_registry.specs.Drafts.{members_of}
-use Rattle.bx_registry.proofs.Planning.{SoFar, one_next, length-listed}
+use Rattle.bx_entry.proofs.RequestLemmas.{length-listed}
+use Rattle.bx_registry.proofs.Planning.{SoFar, one_next}
 use Rattle.bx_registry.proofs.planner.plan_all.Goals as goal
 
 pub plan_next-requires-clause-opened : goal.plan_next-requires-clause-opened

@@ -4,7 +4,7 @@ use Rattle.bx_admission.proofs.Faults.{planned_taken}
 use Rattle.bx_admission.specs.Slots.{placed_by}
 use Rattle.bx_entry.specs.Inputs.{ReadInput, Request, added_by}
 use Rattle.bx_entry.specs.Listing.{Listed}
-use Rattle.bx_registry.proofs.Planning.{length-listed}
+use Rattle.bx_entry.proofs.RequestLemmas.{length-listed}
 use Rattle.bx_window.specs.Steps.{list_of}
 use Rattle.bx_hub.specs.Posts.{AreSlotsAt, IsAdmittedAt}
 use Rattle.bx_hub.specs.declared.admission.Admitted.{Admitted}

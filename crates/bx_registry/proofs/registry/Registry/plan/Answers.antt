@@ -3,7 +3,8 @@ use Rattle.std.specs.Prelude.{◌==◌}
 use Rattle.bx_advice.specs.Limits.{greatest_length}
 use Rattle.bx_entry.specs.Listing.{Listed, request}
 use Rattle.bx_registry.specs.Rolls.{Roll}
-use Rattle.bx_registry.proofs.Planning.{admitted, length-listed, planned-at, planned-after}
+use Rattle.bx_entry.proofs.RequestLemmas.{length-listed}
+use Rattle.bx_registry.proofs.Planning.{admitted, planned-at, planned-after}
 use Rattle.bx_registry.proofs.registry.Registry.plan.Goals as goal
 
 pub returns-clause-planned : goal.returns-clause-planned
