@@ -1,8 +1,8 @@
 -- The content of a string, a part at a time.
-use Rattle.std.proofs.Common.{◌≡◌, ℕ, suc, ◌+◌, ◌<◌, ◌≤◌, Bool, true, false, cond, ◌&&◌, ◌==◌, nat_lt, List, [], ◌∷◌, ◌++◌, length, take, drop, get_or, Option, Some, None, option_and_then, refl, sym, ap, ◌∙◌, subst, arith}
+use Rattle.std.proofs.Common.{◌≡◌, ◌≢◌, ℕ, suc, ◌+◌, ◌<◌, ◌≤◌, Bool, true, false, cond, ◌&&◌, ◌==◌, nat_lt, List, [], ◌∷◌, ◌++◌, length, take, drop, get_or, Option, Some, None, option_and_then, refl, sym, ap, ◌∙◌, subst, arith}
 use Rattle.std.proofs.lemmas.List.{append_assoc, append-nil, length-append}
 use Rattle.std.proofs.lemmas.Bool.{or_parts, not-true, eqb-true, false≢true, ne_eqb}
-use Rattle.std.specs.Prelude.{not, ◌||◌, IsTrue}
+use Rattle.std.specs.Prelude.{not, ◌||◌, IsTrue, slice_get}
 use Rattle.std.specs.List.{prefix_len}
 use Rattle.std.specs.Char.{encode_utf8}
 use Rattle.json.specs.Text.{code_unit, short_escape, is_high_surrogate, is_low_surrogate, surrogate_pair, plain, after_backslash, after_u, after_high, prepend, content}
@@ -145,6 +145,31 @@ pub after-fault : (front text : List ℕ) (o : Option (List ℕ)) → content pl
 after-fault front text o e h = h ∙ ap (prepend front) e
 
 -- ---- beside a text that is wanted
+
+abbrev first_of : Option (List ℕ) → ℕ
+first_of None = 0
+first_of (Some []) = 0
+first_of (Some (x ∷ xs)) = x
+
+-- a byte that is no backslash, and not the first one that is wanted, begins another text
+differs : (x y : ℕ) (xs ys : List ℕ) → x ≢ y → (x == 92) ≡ false → content plain (x ∷ xs) ≡ Some (y ∷ ys) → ⊥
+unfolding content
+differs x y xs ys other plainly e = by_tests (x == 34) (x == 92) (nat_lt x 32) plainly (content plain xs) e
+  where
+    by_tests : (q b c : Bool) → b ≡ false → (rest : Option (List ℕ)) → cond q (Some []) (cond b (content after_backslash xs) (cond c None (prepend (x ∷ []) rest))) ≡ Some (y ∷ ys) → ⊥
+    by_tests true b c is rest e = cc
+    by_tests false true c is rest e = cc
+    by_tests false false true is rest e = cc
+    by_tests false false false is None e = cc
+    by_tests false false false is (Some s) e = other (ap first_of e)
+
+pub differs-at-once : (t w : List ℕ) (x y : ℕ) → Some x ≡ slice_get t 0 → Some y ≡ slice_get w 0 → x ≢ y → (x == 92) ≡ false → content plain t ≡ Some w → ⊥
+differs-at-once [] w x y at beside other plainly e = cc
+differs-at-once (u ∷ t) [] x y at beside other plainly e = cc
+differs-at-once (u ∷ t) (v ∷ w) x y at beside other plainly e =
+    let first : x ≡ u = cc in
+    let second : y ≡ v = cc in
+    differs u v t w (λ same. other (first ∙ same ∙ sym second)) (ap (λ (n : ℕ). n == 92) (sym first) ∙ plainly) e
 
 abbrev pub wanted_of : Option (List ℕ) → List ℕ
 wanted_of None = []

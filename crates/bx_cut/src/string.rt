@@ -130,6 +130,16 @@ fn without<'a>(text: &'a [u8], front: &[u8]) -> Option<&'a [u8]>
     }
 }
 
+// Whether the rest of a string spells another text, as its first byte tells; one that begins with an escape tells nothing.
+fn differs_at_once(rest: &str, text: &str) -> bool
+    ensures { IsTrue result → content plain rest.now ≢ Some text.now }
+{
+    match (rest.as_bytes().first(), text.as_bytes().first()) {
+        (Some(next), Some(wanted)) => *next != *wanted && *next != b'\\',
+        _ => false,
+    }
+}
+
 /// Whether the JSON value is the string that spells `text`. It takes no memory.
 pub fn spells(value: &str, text: &str) -> bool
     ensures value { IsTrue result ↔ (spelled value.now ≡ Some text.now) }
@@ -139,6 +149,9 @@ pub fn spells(value: &str, text: &str) -> bool
     let Some(mut rest) = after_first(value, b'"') else {
         return false;
     };
+    if differs_at_once(rest, text) {
+        return false;
+    }
     let mut wanted = text.as_bytes();
     loop {
         let (run, after) = rest.split_at(plain_len(rest));

@@ -93,3 +93,11 @@ pub returns-in_default-clause-reads : goal.returns-in_default-clause-reads
 returns-in_default-clause-reads c d r bare =
     let none : spelled c.args.value.now ≡ None = ap (option_and_then (content plain)) (sym c.in_default.ensures.value) in
     spells_reads c.args.value.now d r bare c.args.text.now false (fault-not-spelled c.args.text.now (spelled c.args.value.now) none)
+
+pub returns-then-differs_at_once-clause-value : goal.returns-then-differs_at_once-clause-value
+returns-then-differs_at_once-clause-value c =
+    let begun : spelled c.args.value.now ≡ content plain c.in-Some.rest.now = ap (option_and_then (content plain)) (sym c.in-Some.ensures.value) in
+    never (λ e. c.differs_at_once.ensures c.if-differs_at_once.true (sym begun ∙ e))
+
+pub returns-then-differs_at_once-clause-reads : goal.returns-then-differs_at_once-clause-reads
+returns-then-differs_at_once-clause-reads c d r bare = spells_reads c.args.value.now d r bare c.args.text.now false (returns-then-differs_at_once-clause-value c)
