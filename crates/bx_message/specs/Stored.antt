@@ -1,9 +1,9 @@
 -- What a text is, wherever it stands.
-use Rattle.std.specs.Prelude.{ℕ, List}
+use Rattle.std.specs.Prelude.{ℕ, List, codes}
 use Rattle.std.specs.Arc.{arc_str_bytes}
 use Rattle.bx_message.specs.declared.text.Stored.{Stored}
-use Rattle.bx_message.specs.declared.text.Stored.TheVariants.{Shared, Fixed}
+use Rattle.bx_message.specs.declared.text.Stored.TheVariants.{Shared, Connect}
 
 abbrev pub stored_bytes : Stored → List ℕ
 stored_bytes (Shared text) = arc_str_bytes text
-stored_bytes (Fixed text) = text.now
+stored_bytes Connect = codes "/meta/connect"

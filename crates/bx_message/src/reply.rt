@@ -79,7 +79,7 @@ impl Reply {
     {
         Reply {
             message_kind: MessageKind::Connect,
-            channel: Text::fixed("/meta/connect"),
+            channel: Text::connect_channel(),
             client: Some(client),
             id,
             subscription: None,

@@ -1,5 +1,5 @@
 //! Texts that messages, events and replies share.
-ghost use Rattle.std.specs.Prelude.{◌≡◌, IfOk, string_bytes};
+ghost use Rattle.std.specs.Prelude.{◌≡◌, IfOk, codes, string_bytes};
 ghost use Rattle.std.specs.List.{list_all};
 ghost use Rattle.json.specs.Run.{is_plain};
 
@@ -12,8 +12,8 @@ use std::sync::ArcStr;
 enum Stored {
     // In memory that its clones share.
     Shared(ArcStr),
-    // In the program.
-    Fixed(&'static str),
+    // In the program: the channel of connects.
+    Connect,
 }
 
 /// A text. Contracts see it as its bytes, which are UTF-8. A clone shares them.
@@ -49,13 +49,13 @@ impl Text {
         Ok(Text { stored, plain })
     }
 
-    /// A text of the program, which takes no memory.
-    pub fn fixed(text: &'static str) -> Text
-        ensures { result ≡ text.now }
+    /// The channel of connects, which takes no memory. (Bayeux 1.0, the channel of connects.)
+    pub fn connect_channel() -> Text
+        ensures { result ≡ codes "/meta/connect" }
     {
         Text {
-            stored: Stored::Fixed(text),
-            plain: needs_no_escape(text),
+            stored: Stored::Connect,
+            plain: true,
         }
     }
 
@@ -75,7 +75,7 @@ impl Text {
     {
         match &self.stored {
             Stored::Shared(text) => text.as_str(),
-            Stored::Fixed(text) => *text,
+            Stored::Connect => "/meta/connect",
         }
     }
 
@@ -102,7 +102,7 @@ impl Clone for Text {
     fn clone(&self) -> Result<Text, AllocError> {
         let stored = match &self.stored {
             Stored::Shared(text) => Stored::Shared(text.clone()?),
-            Stored::Fixed(text) => Stored::Fixed(*text),
+            Stored::Connect => Stored::Connect,
         };
         Ok(Text {
             stored,

@@ -88,20 +88,9 @@ pub fn answer<T: Threads + Sync, P: Placing + Drop + Send + Sync, W: Write>(
             Ok(server)
         }
         Line::Accepted { callback, input } => {
-            let Server {
-                mut round,
-                mut kept,
-                lines,
-                ..
-            } = server;
-            let (open, waiting) = (&mut round, &mut kept);
-            hand(rt, alloc, open, waiting, number, callback, input, writer)?;
-            Ok(Server {
-                round,
-                kept,
-                number,
-                lines,
-            })
+            let (round, kept) = (&mut server.round, &mut server.kept);
+            hand(rt, alloc, round, kept, number, callback, input, writer)?;
+            Ok(server)
         }
         Line::Resharded { shards } => {
             let Server {

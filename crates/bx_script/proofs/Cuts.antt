@@ -1,6 +1,9 @@
 -- A list, cut at the first byte of a value.
-use Rattle.std.proofs.Common.{◌≡◌, ℕ, suc, ◌+◌, ◌<◌, ◌≤◌, Bool, true, false, eqb, cond, not, List, [], ◌∷◌, ◌++◌, length, take, drop, refl, sym, ap, ◌∙◌, arith, position, Some, None, ltb, eqb-true, eq-eqb, append-nil, zero, ◌⊎◌, inl, inr}
-use Rattle.std.proofs.lemmas.Bool.{ltb-false}
+use Rattle.std.proofs.Common.{◌≡◌, ℕ, suc, ◌+◌, ◌<◌, ◌≤◌, Bool, true, false, eqb, cond, not, List, [], ◌∷◌, ◌++◌, length, take, drop, refl, sym, ap, ◌∙◌, arith, position, Option, Some, None, ltb, eqb-true, eq-eqb, append-nil, zero, ◌⊎◌, inl, inr}
+use Rattle.std.proofs.lemmas.Bool.{ltb-false, le-ltb, lt-ltb}
+use Rattle.std.proofs.lemmas.List.Sums.{position_or_len_is}
+use Rattle.memchr.specs.Find.{IsFirstByte, is_byte}
+use Rattle.bx_script.specs.Replay.{is_newline}
 use Rattle.std.specs.List.{before_first, after_first, position_or_len, slice_split, onto_first}
 
 module _ (c : ℕ) where
@@ -130,3 +133,18 @@ split_some p (x ∷ xs) = next (p x) (split_some p xs)
     next : (b : Bool) → ((a : List ℕ) × (b : List (List ℕ)) × (slice_split p xs ≡ a ∷ b)) → (a : List ℕ) × (d : List (List ℕ)) × (cond b ([] ∷ slice_split p xs) (onto_first x (slice_split p xs)) ≡ a ∷ d)
     next true rest = ([], slice_split p xs, refl)
     next false rest = (x ∷ rest.0, rest.1, ap (onto_first x) rest.2)
+
+is_false : (b : Bool) → (b ≡ true → ⊥) → b ≡ false
+is_false true never = absurd (never refl)
+is_false false never = refl
+
+-- the first place of a newline, as a search tells it
+pub newline_found : (text : List ℕ) (r : Option ℕ) → IsFirstByte (is_byte 10) text r → r ≡ position is_newline text
+newline_found text None none =
+    let at : position_or_len is_newline text ≡ length text =
+        position_or_len_is is_newline text (length text) 0 (omega arith) (λ k below. is_false _ (none k (omega arith) below)) (λ below. absurd (let no : ⊥ = omega (arith, below) in no)) in
+    sym (ap (λ b. cond b (Some (position_or_len is_newline text)) None) (le-ltb (position_or_len is_newline text) (length text) (omega (arith, at))))
+newline_found text (Some k) found =
+    let at : position_or_len is_newline text ≡ k =
+        position_or_len_is is_newline text k 0 (omega (arith, found.0.high)) (λ j below. is_false _ (found.0.before j (omega arith) below)) (λ below. found.1) in
+    ap Some (sym at) ∙ sym (ap (λ b. cond b (Some (position_or_len is_newline text)) None) (lt-ltb (position_or_len is_newline text) (length text) (omega (arith, at, found.0.high))))

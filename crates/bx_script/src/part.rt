@@ -5,6 +5,7 @@ ghost use Rattle.bx_script.specs.Replay.{is_newline};
 
 use crate::error::ScriptFault;
 use crate::kept::keep;
+use memchr::memchr;
 use std::io::{BufRead, ErrorKind};
 
 // What one read of a part of a line came to.
@@ -114,5 +115,5 @@ fn cut(shown: &[u8]) -> (usize, usize, Step)
 fn newline_in(shown: &[u8]) -> Option<usize>
     ensures { result ≡ position is_newline shown.now }
 {
-    shown.iter().position(|byte| *byte == b'\n')
+    memchr(b'\n', shown)
 }
