@@ -3,7 +3,7 @@ use Rattle.std.proofs.Common.{◌≡◌, ◌≢◌, ℕ, suc, ◌+◌, ◌<◌, 
 use Rattle.std.proofs.lemmas.List.{append_assoc, append-nil, length-append}
 use Rattle.std.proofs.lemmas.Bool.{or_parts, not-true, eqb-true, false≢true, ne_eqb}
 use Rattle.std.specs.Prelude.{not, ◌||◌, IsTrue, slice_get}
-use Rattle.std.specs.List.{prefix_len}
+use Rattle.std.specs.List.{list_all, prefix_len}
 use Rattle.std.specs.Char.{encode_utf8}
 use Rattle.json.specs.Text.{code_unit, short_escape, is_high_surrogate, is_low_surrogate, surrogate_pair, plain, after_backslash, after_u, after_high, prepend, content}
 use Rattle.json.specs.Run.{is_plain}
@@ -88,6 +88,17 @@ content-run (x ∷ xs) = by_test (is_plain x) refl (content-run xs)
         let tests = or_parts (x == 34) (x == 92) none.0 in
         (λ i. cond (tests.0 i) (Some []) (cond (tests.1 i) (content after_backslash xs) (cond (none.1 i) None (prepend (x ∷ []) (ih i)))))
         ∙ prepend-prepend (x ∷ []) (take n xs) (content plain (drop n xs)) ∙ ap (λ k. prepend (take k (x ∷ xs)) (content plain (drop k (x ∷ xs)))) next
+
+-- each of the plain bytes is one
+pub run-plain : (t : List ℕ) → list_all is_plain (take (prefix_len is_plain t) t) ≡ true
+run-plain [] = refl
+run-plain (x ∷ xs) = by_test (is_plain x) refl (run-plain xs)
+  where
+    by_test : (p : Bool) → is_plain x ≡ p → list_all is_plain (take (prefix_len is_plain xs) xs) ≡ true → list_all is_plain (take (cond p (1 + prefix_len is_plain xs) 0) (x ∷ xs)) ≡ true
+    by_test false e ih = refl
+    by_test true e ih =
+        let next : suc (prefix_len is_plain xs) ≡ 1 + prefix_len is_plain xs = omega arith in
+        subst (λ (k : ℕ). list_all is_plain (take k (x ∷ xs)) ≡ true) next (rw e ih)
 
 -- what stands after the plain bytes is none
 pub plain-none : (t : List ℕ) → prefix_len is_plain (drop (prefix_len is_plain t) t) ≡ 0

@@ -13,4 +13,4 @@ pub use bodies::Bodies;
 pub use document::{Document, MAX_MESSAGES, Piece};
 pub use error::CutError;
 pub use split::{Elements, elements_of, member_of};
-pub use string::{spells, text_of};
+pub use string::{plain_text_of, spells, text_of};

@@ -1,6 +1,6 @@
 // What a JSON string spells.
-ghost use Rattle.std.specs.Prelude.{◌≡◌, ◌≢◌, ◌↔◌, ℕ, ◌+◌, ◌<◌, ◌≤◌, List, ◌++◌, length, drop, slice_index, Some, None, option_map, string_bytes, IsTrue, IfOk, IfSome, SomeIff, MatchOption};
-ghost use Rattle.std.specs.List.{prefix_len};
+ghost use Rattle.std.specs.Prelude.{◌≡◌, ◌≢◌, ◌↔◌, ℕ, ◌+◌, ◌<◌, ◌≤◌, List, ◌++◌, length, drop, slice_index, Some, None, option_map, string_bytes, IsTrue, IfOk, IfSome, SomeIff, MatchOption, true};
+ghost use Rattle.std.specs.List.{list_all, prefix_len};
 ghost use Rattle.std.specs.Char.{digit_value, encode_utf8};
 ghost use Rattle.json.specs.Text.{code_unit, short_escape, content, plain, prepend, after_backslash, after_high};
 ghost use Rattle.json.specs.Run.{is_plain};
@@ -170,6 +170,20 @@ pub fn spells(value: &str, text: &str) -> bool
             }
             Part::Fault => return false,
         }
+    }
+}
+
+/// The text of a JSON value that is a string without an escape, as it stands there; none of any other value.
+pub fn plain_text_of(value: &str) -> Option<&str>
+    ensures value { IfSome result (λ text. spelled value.now ≡ Some text.now) }
+    ensures plain { IfSome result (λ text. list_all is_plain text.now ≡ true) }
+{
+    let rest = after_first(value, b'"')?;
+    let (run, after) = rest.split_at(plain_len(rest));
+    if begins_with(after, b'"') {
+        Some(run)
+    } else {
+        None
     }
 }
 

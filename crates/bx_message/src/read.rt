@@ -9,7 +9,7 @@ use crate::message::{AckMember, Message, TextMember};
 use crate::number::number_of;
 use crate::sequence::Sequence;
 use crate::text::{RawJson, Text};
-use bx_cut::{Piece, elements_of, member_of, text_of};
+use bx_cut::{Piece, elements_of, member_of, plain_text_of, text_of};
 use std::alloc::{AllocError, AllocFailed, Global};
 
 /// Why a piece is no message.
@@ -71,6 +71,9 @@ fn text_member(alloc: Global, piece: &Piece<'_>, name: &str) -> Result<TextMembe
     let Some(json) = piece.member(name) else {
         return Ok(TextMember::Absent);
     };
+    if let Some(text) = plain_text_of(json) {
+        return Ok(TextMember::Text(Text::plain(alloc, text)?));
+    }
     match text_of(alloc, json)? {
         Some(text) => Ok(TextMember::Text(Text::from_string(text)?)),
         None => Ok(TextMember::NotText),

@@ -1,5 +1,5 @@
 //! Texts that messages, events and replies share.
-ghost use Rattle.std.specs.Prelude.{◌≡◌, IfOk, codes, string_bytes};
+ghost use Rattle.std.specs.Prelude.{◌≡◌, IfOk, codes, string_bytes, true};
 ghost use Rattle.std.specs.List.{list_all};
 ghost use Rattle.json.specs.Run.{is_plain};
 
@@ -47,6 +47,19 @@ impl Text {
         let text = ArcStr::from_str(alloc, text)?;
         let stored = Stored::Shared(text);
         Ok(Text { stored, plain })
+    }
+
+    // A copy of `text`, which JSON writes as it is.
+    pub(crate) fn plain(alloc: Global, text: &str) -> Result<Text, AllocError>
+        requires { list_all is_plain text.now ≡ true }
+        ensures { IfOk result (λ t. t ≡ text.now) }
+    {
+        let text = ArcStr::from_str(alloc, text)?;
+        let stored = Stored::Shared(text);
+        Ok(Text {
+            stored,
+            plain: true,
+        })
     }
 
     /// The channel of connects, which takes no memory. (Bayeux 1.0, the channel of connects.)
