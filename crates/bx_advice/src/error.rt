@@ -19,7 +19,7 @@ pub enum Error {
     NoSupportedConnectionType,
     /// A handshake while as many sessions are live as the server takes.
     TooManySessions,
-    /// `clientId` is absent or no text.
+    /// `clientId` is no text, or absent where the message needs one.
     NoClientId,
     /// `clientId` is not the id of a live session.
     UnknownClient,

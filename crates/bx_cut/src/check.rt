@@ -11,7 +11,6 @@ use crate::document::MAX_MESSAGES;
 use crate::error::CutError;
 use fast_float::Numeral;
 use json::{Invalid, Reader, Scratch, Token};
-use std::alloc::Global;
 
 // How deep `serde_json` lets arrays and objects nest.
 const MAX_DEPTH: usize = 127;
@@ -31,13 +30,12 @@ const OTHER: Seen = Seen {
 };
 
 // Whether the text is a value that may be cut.
-pub(crate) fn check(alloc: Global, text: &str) -> Result<(), CutError>
+pub(crate) fn check(scratch: &mut Scratch, text: &str) -> Result<(), CutError>
     ensures ok { OnOk result (value_fault (read_text text.now) ≡ None) }
     ensures fault { IfErr result (λ e. e ≢ CutError.Memory
         → value_fault (read_text text.now) ≡ Some e) }
 {
-    let mut scratch = Scratch::new(alloc);
-    let mut reader = Reader::new(text, &mut scratch)?;
+    let mut reader = Reader::new(text, scratch)?;
     let Ok(seen) = read(&mut reader, MAX_DEPTH) else {
         return Err(CutError::NotJson);
     };

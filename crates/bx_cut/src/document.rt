@@ -12,6 +12,7 @@ use crate::error::CutError;
 use crate::scan::after_first;
 use crate::split::{Member, past, past_blank, split_member};
 use crate::string::spells;
+use json::Scratch;
 use std::alloc::{AllocError, Global};
 use std::marker::Model;
 
@@ -52,8 +53,12 @@ impl<'a> Model for Document<'a> {
 
 impl<'a> Document<'a> {
     /// Cuts a body into its one object, or into the objects of its array. `NotJson` comes before
-    /// `NotObject`, and that before `TooMany`.
-    pub fn read(alloc: Global, body: &'a [u8]) -> Result<Document<'a>, CutError>
+    /// `NotObject`, and that before `TooMany`. The scratch is for the tokens; one serves for any bodies.
+    pub fn read(
+        alloc: Global,
+        scratch: &mut Scratch,
+        body: &'a [u8],
+    ) -> Result<Document<'a>, CutError>
         ensures ok { OnOk result (fault body.now ≡ None) }
         ensures fault { IfErr result (λ e. e ≢ CutError.Memory → fault body.now ≡ Some e) }
         ensures pieces { IfOk result (λ document. document ≡ pieces body.now) }
@@ -66,7 +71,7 @@ impl<'a> Document<'a> {
         let Ok(text) = std::str::from_utf8(body) else {
             return Err(CutError::NotJson);
         };
-        check(alloc, text)?;
+        check(scratch, text)?;
         Ok(Document {
             pieces: cut(alloc, text)?,
         })

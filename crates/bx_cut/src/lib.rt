@@ -12,5 +12,6 @@ mod string;
 pub use bodies::Bodies;
 pub use document::{Document, MAX_MESSAGES, Piece};
 pub use error::CutError;
+pub use json::Scratch;
 pub use split::{Elements, elements_of, member_of};
 pub use string::{plain_text_of, spells, text_of};

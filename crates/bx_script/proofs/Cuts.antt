@@ -142,9 +142,9 @@ is_false false never = refl
 pub newline_found : (text : List ℕ) (r : Option ℕ) → IsFirstByte (is_byte 10) text r → r ≡ position is_newline text
 newline_found text None none =
     let at : position_or_len is_newline text ≡ length text =
-        position_or_len_is is_newline text (length text) 0 (omega arith) (λ k below. is_false _ (none k (omega arith) below)) (λ below. absurd (let no : ⊥ = omega (arith, below) in no)) in
+    position_or_len_is is_newline text (length text) 0 (omega arith) (λ k below. is_false _ (none k (omega arith) below)) (λ below. absurd (let no : ⊥ = omega (arith, below) in no)) in
     sym (ap (λ b. cond b (Some (position_or_len is_newline text)) None) (le-ltb (position_or_len is_newline text) (length text) (omega (arith, at))))
 newline_found text (Some k) found =
     let at : position_or_len is_newline text ≡ k =
-        position_or_len_is is_newline text k 0 (omega (arith, found.0.high)) (λ j below. is_false _ (found.0.before j (omega arith) below)) (λ below. found.1) in
+    position_or_len_is is_newline text k 0 (omega (arith, found.0.high)) (λ j below. is_false _ (found.0.before j (omega arith) below)) (λ below. found.1) in
     ap Some (sym at) ∙ sym (ap (λ b. cond b (Some (position_or_len is_newline text)) None) (lt-ltb (position_or_len is_newline text) (length text) (omega (arith, at, found.0.high))))

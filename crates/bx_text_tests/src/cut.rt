@@ -1,13 +1,20 @@
 //! Bodies cut into messages, and what is found in them.
 use crate::same::same;
-use bx_cut::{Bodies, CutError, Document, MAX_MESSAGES, elements_of, member_of, spells, text_of};
+use bx_cut::{
+    Bodies, CutError, Document, MAX_MESSAGES, Scratch, elements_of, member_of, plain_text_of,
+    spells, text_of,
+};
 use std::alloc::{AllocError, Global};
 use std::process::Abort;
 use std::test::Fail;
 
 // How many messages a body has, or why it has none.
 fn count_of(alloc: Global, body: &[u8]) -> Result<usize, CutError> {
-    Ok(Document::read(alloc, body)?.pieces().len())
+    Ok(
+        Document::read(alloc, &mut Scratch::new(alloc), body)?
+            .pieces()
+            .len(),
+    )
 }
 
 // The body has so many messages, or none for this reason.
@@ -22,7 +29,7 @@ fn check_pieces(
     body: &str,
     wanted: &[&str],
 ) -> Result<(), CutError> {
-    let document = Document::read(alloc, body.as_bytes())?;
+    let document = Document::read(alloc, &mut Scratch::new(alloc), body.as_bytes())?;
     let pieces = document.pieces();
     same(rt, pieces.len(), wanted.len(), body);
     for (piece, want) in pieces.iter().zip(wanted) {
@@ -66,7 +73,7 @@ fn check_member(
     name: &str,
     wanted: Option<&str>,
 ) -> Result<(), CutError> {
-    let document = Document::read(alloc, body.as_bytes())?;
+    let document = Document::read(alloc, &mut Scratch::new(alloc), body.as_bytes())?;
     let pieces = document.pieces();
     same(rt, pieces.len(), 1, body);
     for piece in pieces {
@@ -212,7 +219,7 @@ fn limits_are_exact(rt: HostRuntime) -> Result<(), Fail> {
 
 // How long the member `a` of a body's only message is.
 fn length_of_a(alloc: Global, body: &str) -> Result<usize, Fail> {
-    let document = Document::read(alloc, body.as_bytes())?;
+    let document = Document::read(alloc, &mut Scratch::new(alloc), body.as_bytes())?;
     match document.pieces() {
         [piece] => Ok(piece.member("a").map_or(0, str::len)),
         _ => Err(Fail::from("not one message")),
@@ -470,6 +477,22 @@ fn strings_are_unescaped(rt: HostRuntime) -> Result<(), Fail> {
         check_text(&rt, rt.alloc(), value, None)?;
     }
     Ok(())
+}
+
+#[test]
+fn strings_without_escapes_stand_as_they_are(rt: HostRuntime) {
+    let table: [(&str, Option<&str>); 7] = [
+        (r#""""#, Some("")),
+        (r#""é b""#, Some("é b")),
+        (r#""a\u0062""#, None),
+        (r#""a"#, None),
+        ("\"\n\"", None),
+        ("1", None),
+        ("", None),
+    ];
+    for (value, wanted) in &table {
+        same(&rt, plain_text_of(*value), *wanted, *value);
+    }
 }
 
 fn check_bodies(rt: &impl Abort, bodies: &Bodies, wanted: &[&[u8]]) {
