@@ -1,16 +1,15 @@
 -- An input that was taken in.
-use Rattle.std.proofs.Common.{◌≡◌, ℕ, ◌+◌, ◌<◌, Bool, false, List, [], ◌∷◌, ◌++◌, length, map, filter, refl, sym, ap, subst, ◌∙◌, inl, inr, Option, Some, None, append-nil, suc, add-zero, zero-add}
-use Rattle.std.specs.Prelude.{◌==◌, ◌||◌}
+use Rattle.std.proofs.Common.{◌≡◌, ℕ, ◌+◌, ◌<◌, Bool, false, List, [], ◌∷◌, ◌++◌, length, map, filter, refl, sym, ap, subst, ◌∙◌, inl, inr, Option, Some, None, append-nil, add-zero, zero-add}
+use Rattle.std.specs.Prelude.{◌==◌}
+use Rattle.bx_entry.proofs.RequestLemmas.{length-listed}
 use Rattle.bx_entry.specs.Inputs.{ReadInput, Request, Tick, Unread, added_by, refusal_of}
-use Rattle.bx_entry.specs.Listing.{Listed, listed_from, request}
+use Rattle.bx_entry.specs.Listing.{Listed, request}
 use Rattle.bx_entry.specs.Requests.{read_input}
 use Rattle.bx_entry.specs.Runs as runs
 use Rattle.bx_entry.specs.Runs.{Taking, numbers_from, outs, places_of, taken_as, taken_in}
 use Rattle.bx_entry.specs.declared.entry.Slot.{Slot}
 use Rattle.bx_entry.specs.declared.input.Input.{Input}
 use Rattle.bx_entry.specs.declared.input.Refusal.{Refusal}
-use Rattle.bx_message.specs.MessageKinds.{is_handshake}
-use Rattle.bx_message.specs.declared.message.Message.{Message}
 use Rattle.bx_message.specs.declared.reply.Answer.{Answer}
 use Rattle.bx_shard.specs.Shards.{Setup}
 use Rattle.bx_world.specs.Headline.{EachSlot, asked_by}

@@ -1,4 +1,6 @@
 //! A window by what a connect sees of it.
+ghost use Rattle.std.specs.Prelude.{◌≡◌};
+
 use crate::same::same;
 use crate::session::{event, push_numbers};
 use bx_advice::MAX_EVENTS;
