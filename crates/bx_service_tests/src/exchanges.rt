@@ -4,7 +4,7 @@ ghost use Rattle.bx_entry.specs.Placings.{by_remainder};
 
 use crate::bench::{Bench, Still, Zeros};
 use crate::requests::{Ask, Content, Given, POST, Want, check_given, check_pending};
-use crate::runs::{Held, RUNS, Run, Step};
+use crate::runs::{Held, RUNS, Step};
 use bx_advice::Config;
 use bx_entry::ByRemainder;
 use bx_hub::{Hub, OpenGate};
@@ -184,7 +184,8 @@ where
     watch(rt, bench, &mut exchange, held)
 }
 
-fn run<J, S, I, H, R>(rt: &R, bench: &mut Bench<J, S, H>, run: &Run) -> Result<(), Fail>
+// The run of this number.
+fn run<J, S, I, H, R>(rt: &R, bench: &mut Bench<J, S, H>, number: usize) -> Result<(), Fail>
 where
     J: Naming,
     S: Backend<Items = I> + Drop,
@@ -192,6 +193,7 @@ where
     H: Wait + Drop,
     R: Abort + Wait,
 {
+    let run = RUNS.get(number).ok_or("no such run")?;
     take_all(rt, bench, run.first)?;
     if let Some(held) = &run.held {
         hold(rt, bench, held)?;
@@ -206,7 +208,7 @@ fn run_in_hub<J: Naming, R: Wait + Abort>(
     config: Config,
     placing: Arc<ByRemainder, Global>,
     tasks: (MockTask, MockTask),
-    steps: &Run,
+    number: usize,
 ) -> Result<(), Fail>
     requires book { opened.seen.book ≡ J.book }
     requires config { config ≡ J.config }
@@ -235,20 +237,20 @@ fn run_in_hub<J: Naming, R: Wait + Abort>(
         first,
         second,
     };
-    run(rt, &mut bench, steps)
+    run(rt, &mut bench, number)
 }
 
 #[test]
 fn exchanges(rt: HostRuntime) -> Result<(), Fail> {
     let alloc = rt.alloc();
     let config = Config::new(2, 30_000, 0, 10_000).ok_or("no configuration")?;
-    for steps in &RUNS {
+    for number in 0..RUNS.len() {
         let placing = Arc::new(alloc, ByRemainder)?;
         let tasks = (MockTask::new(&rt)?, MockTask::new(&rt)?);
         // A task is woken from the first on, until it is polled.
         tasks.0.enter(|_cx| ());
         tasks.1.enter(|_cx| ());
-        run_in_hub::<Brand, _>(&rt, alloc, Opened::new(), config, placing, tasks, steps)?;
+        run_in_hub::<Brand, _>(&rt, alloc, Opened::new(), config, placing, tasks, number)?;
     }
     Ok(())
 }
