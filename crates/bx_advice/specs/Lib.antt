@@ -1,3 +1,4 @@
 pub mod Errors
 pub mod Limits
 pub mod Advice
+pub mod Options

@@ -1,5 +1,6 @@
 ghost use Rattle.std.specs.Prelude.{◌≤◌};
 
+use crate::options::Options;
 use std::marker::Model;
 
 /// The most bytes that the body of a request, or its query, may have.
@@ -54,6 +55,9 @@ pub struct Config {
     /// How long a session lives after its last accepted message and that message's hold.
     pub max_interval: u32,
     pub limits: Limits,
+    /// Whether the waiting events of a session that does not acknowledge go out with the reply to the last message of
+    /// a request that is of this session alone.
+    pub ride: bool,
     /// Whether a publish that has no client id is accepted, as a message of no session.
     pub anonymous: bool,
     pub ghost some_shard: { 1 ≤ shards },
@@ -106,15 +110,16 @@ impl Config {
     ghost use Rattle.std.specs.Prelude.{◌≡◌, ◌≤◌, ◌↔◌, IsSome, IfSome, false};
     ghost use Rattle.bx_advice.specs.Limits.{IsStandard};
 
-    /// The configuration with these settings and the standard limits, in which a publish needs a
-    /// client id; none where `shards` is not 1 to [`MAX_SHARDS`].
+    /// The configuration with these settings and the standard limits, in which events go out with
+    /// connects alone and a publish needs a client id; none where `shards` is not 1 to
+    /// [`MAX_SHARDS`].
     pub fn new(shards: usize, timeout: u32, interval: u32, max_interval: u32) -> Option<Config>
         ensures valid { IsSome result ↔ ((1 ≤ shards) × (shards ≤ 64)) }
         ensures shards { IfSome result (λ c. c.shards ≡ shards) }
         ensures times { IfSome result (λ c.
             (c.timeout ≡ timeout) × (c.interval ≡ interval) × (c.max_interval ≡ max_interval)) }
         ensures limits { IfSome result (λ c. IsStandard c.limits) }
-        ensures anonymous { IfSome result (λ c. c.anonymous ≡ false) }
+        ensures options { IfSome result (λ c. (c.ride ≡ false) × (c.anonymous ≡ false)) }
     {
         let shards = ShardCount::new(shards)?;
         Some(Config {
@@ -123,16 +128,18 @@ impl Config {
             interval,
             max_interval,
             limits: STANDARD_LIMITS,
+            ride: false,
             anonymous: false,
         })
     }
 
-    /// The same, with this said of publishes that have no client id.
-    pub fn with_anonymous(self, anonymous: bool) -> Config
-        ensures { result ≡ record self { anonymous = anonymous } }
+    /// The same, with these options.
+    pub fn with(self, options: Options) -> Config
+        ensures { result ≡ record self { ride = options.ride; anonymous = options.anonymous } }
     {
         let mut config = self;
-        config.anonymous = anonymous;
+        config.ride = options.ride;
+        config.anonymous = options.anonymous;
         config
     }
 

@@ -1,10 +1,11 @@
-//! The server's limits and configuration, the errors that a reply can carry, and the advice that
+//! The server's limits and configuration with its options, the errors that a reply can carry, and the advice that
 //! goes with each outcome.
 #![tactic(auto)]
 
 mod advice;
 mod config;
 mod error;
+mod options;
 
 pub use advice::{Advice, Outcome, Reconnect, advice_for};
 pub use config::{
@@ -12,3 +13,4 @@ pub use config::{
     ShardCount,
 };
 pub use error::Error;
+pub use options::Options;

@@ -8,10 +8,13 @@ use Rattle.bx_advice.specs.declared.advice.Outcome.{Outcome}
 use Rattle.bx_advice.specs.declared.advice.Outcome.TheVariants.{Connected, Disconnected, Failed}
 use Rattle.bx_advice.specs.declared.error.Error.TheVariants.{SupersededConnect, QueueOverflow}
 use Rattle.bx_message.specs.Replies.{connect_reply}
+use Rattle.bx_message.specs.declared.reply.Reply.{Reply}
+use Rattle.bx_entry.specs.declared.entry.Entry.{Entry}
 use Rattle.bx_entry.specs.declared.entry.EntryKind.{EntryKind}
 use Rattle.bx_entry.specs.declared.entry.EntryKind.TheVariants.{Connect, Subscribe, Unsubscribe, Publish, Disconnect, Refused, Tick}
 use Rattle.bx_entry.specs.declared.entry.EntryKind.TheVariants as entries
-use Rattle.bx_entry.specs.Sessions.{Session, Publication, Pending, Filed, Stage, Unopened, Live, Closed, ack_given, answered, unheld, released_from, released, cleared, acknowledged, portion, with_batch, formed, forgotten, gives, given, holding, idle, answered_or_held, admitted, connected, overflowed, with_patterns, subscribed, unsubscribed, gives_one, with_event, delivered_to, delivered, is_hit, has_room, received, published, expired_from, expired, ended, closed_by, disconnected, begun, step_by}
+use Rattle.bx_entry.specs.declared.entry.Rider.{Rider}
+use Rattle.bx_entry.specs.Sessions.{Session, Publication, Pending, Filed, Stage, Unopened, Live, Closed, ack_given, answered, unheld, released_from, released, cleared, acknowledged, portion, with_batch, formed, forgotten, gives, given, holding, idle, answered_or_held, admitted, connected, overflowed, with_patterns, subscribed, unsubscribed, gives_one, with_event, delivered_to, delivered, is_hit, has_room, received, published, expired_from, expired, ended, closed_by, disconnected, begun, step_by, ridden, is_riding, ridden_by, rider_of, step}
 use Rattle.bx_entry.specs.Keeping.{Kept, kept, resumed}
 
 -- What is kept of a session settles what is kept after this change of it, and the answers that it adds.
@@ -168,7 +171,7 @@ begun_s ack = by_stage (begun ack) by
     by Live = nothing
     by Closed = nothing
 
--- ---- an entry
+-- ---- an entry of a kind
 
 pub own : (n : ℕ) (f : Session → Session) → Settled f → Settled (λ s. cond (n == s.number) (f s) s)
 own n f a = chosen (λ s. n == s.number) f (λ s. s) (λ s. refl) a nothing
@@ -184,3 +187,19 @@ step_by_s config place moment (Disconnect n) = own n (disconnected config place)
 step_by_s config place moment Refused = nothing
 step_by_s config place moment (Tick numbers) = in_turn (expired config place moment) (closed_by numbers) (expired_s config place moment)
     (chosen (λ s. list_any (λ n. n == s.number) numbers) ended (λ s. s) (λ s. refl) ended_s nothing)
+
+-- ---- a rider
+
+ridden_s : (config : Config) (place : ℕ) (reply : Reply) → Settled (ridden config place reply)
+ridden_s config place reply = record { state = λ s. refl; answers = λ s. refl }
+
+pub ridden_by_s : (config : Config) (place : ℕ) (rides : Option Rider) → Settled (λ s. ridden_by config place s rides)
+ridden_by_s config place None = nothing
+ridden_by_s config place (Some rider) = chosen (is_riding rider) (ridden config place rider.reply) (λ s. s) (λ s. refl) (ridden_s config place rider.reply) nothing
+
+-- ---- an entry
+
+pub step_s : (config : Config) (e : Entry) → Settled (λ s. step config s e)
+step_s config e =
+    let rides : Option Rider = rider_of e.kind e.rides in
+    in_turn (λ s. step_by config e.place e.moment s e.kind) (λ s. ridden_by config e.place s rides) (step_by_s config e.place e.moment e.kind) (ridden_by_s config e.place rides)

@@ -3,13 +3,14 @@ use Rattle.std.specs.Prelude.{ℕ, ◌==◌, ◌&&◌, ◌||◌, Bool, false, Li
 use Rattle.bx_message.specs.declared.message.Message.{Message}
 use Rattle.bx_message.specs.MessageKinds.{is_handshake}
 
--- a message as it stands in the list: with what was handed in with its request, whether it is its request's sole message,
+-- a message as it stands in the list: with what was handed in with its request, whether it is its request's sole message, whether it is the last one,
 -- and whether it is a handshake that another handshake of its request stands before
 pub record Posted : Type 0 where
   pub message : Message
   pub moment : ℕ
   pub nonce : ℕ
   pub sole : Bool
+  pub last : Bool
   pub second : Bool
 
 -- an element of the list
@@ -21,7 +22,7 @@ pub data Listed : Type 0 where
 abbrev pub listed_from : ℕ → ℕ → Bool → Bool → List Message → List Listed
 listed_from moment nonce sole seen [] = []
 listed_from moment nonce sole seen (m ∷ ms) =
-    Post (record { message = m; moment = moment; nonce = nonce; sole = sole; second = seen && is_handshake m })
+    Post (record { message = m; moment = moment; nonce = nonce; sole = sole; last = length ms == 0; second = seen && is_handshake m })
     ∷ listed_from moment nonce sole (seen || is_handshake m) ms
 
 -- what a request adds to the list

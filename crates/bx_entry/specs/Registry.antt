@@ -28,6 +28,9 @@ use Rattle.bx_message.specs.declared.reply.AckReply.TheVariants as replies
 use Rattle.bx_entry.specs.declared.entry.Entry.{Entry}
 use Rattle.bx_entry.specs.declared.entry.EntryKind.{EntryKind}
 use Rattle.bx_entry.specs.declared.entry.EntryKind.TheVariants.{Opened, Connect, Subscribe, Unsubscribe, Publish, Disconnect, Refused, Tick}
+use Rattle.bx_entry.specs.declared.entry.Rider.{Rider}
+use Rattle.bx_entry.specs.declared.senders.Senders.{Senders}
+use Rattle.bx_entry.specs.declared.senders.Senders.TheVariants.{NoneYet, Only, Mixed}
 
 -- ---- the state
 
@@ -39,7 +42,7 @@ pub record Registered : Type 0 where
   pub due : ℕ
   pub live : Bool
 
--- how the element at a place is answered: at once by this reply, later as a connect of this session, or not at all
+-- how the element at a place is answered: at once by this reply, as a connect or a rider of this session, or not at all
 pub data PlaceSlot : Type 0 where
   Ready : (reply : Reply) → PlaceSlot
   Waiting : (session : ℕ) → PlaceSlot
@@ -52,15 +55,17 @@ pub record Judged : Type 0 where
   pub hold : ℕ
   pub slot : PlaceSlot
 
--- the greatest moment so far, the sessions that were ever opened in the order of their numbers, and what was found at each place
+-- the greatest moment so far, the sessions that were ever opened in the order of their numbers, whose the messages so far of the request at hand are,
+-- and what was found at each place
 pub record Registry : Type 0 where
   pub clock : ℕ
   pub sessions : List Registered
+  pub senders : Senders
   pub judged : List Judged
 
 -- nothing was opened and nothing found
 abbrev pub empty_registry : Registry
-empty_registry = record { clock = 0; sessions = []; judged = [] }
+empty_registry = record { clock = 0; sessions = []; senders = NoneYet; judged = [] }
 
 -- ---- ids
 
@@ -214,29 +219,75 @@ patterns_of m = map (λ text. glob_of (segments text)) (filter (λ text. not (is
 abbrev pub event_of : Message → Event
 event_of m = record { channel = m.channel; payload = unwrap_or m.payload []; id = m.id }
 
+-- ---- riders
+
+-- whose the messages of a request are with one more, which is an accepted one of this session
+abbrev pub joined : Senders → ℕ → Senders
+joined NoneYet number = Only number
+joined (Only other) number = if other == number then Only other else Mixed
+joined Mixed number = Mixed
+
+-- once its last message was judged, the next request is at hand
+abbrev pub senders_behind : Posted → Senders → Senders
+senders_behind p senders = if p.last then NoneYet else senders
+
+-- whether they are all of one session
+abbrev pub is_one : Senders → Bool
+is_one NoneYet = false
+is_one (Only number) = true
+is_one Mixed = false
+
+-- what a session's waiting events may go out before: the reply of any message but a connect or a disconnect (a handshake is of no session yet)
+abbrev pub may_ride : MessageKind → Bool
+may_ride MessageKind.Handshake = false
+may_ride MessageKind.Connect = false
+may_ride MessageKind.Subscribe = true
+may_ride MessageKind.Unsubscribe = true
+may_ride MessageKind.Disconnect = false
+may_ride MessageKind.Publish = true
+may_ride MessageKind.UnknownMeta = false
+
+-- whether an accepted message is a rider: its request's last, where all of them are accepted ones of this session, which does not acknowledge
+abbrev pub is_rider : Config → Senders → MessageKind → Posted → Registered → Bool
+is_rider config senders message_kind p s = config.ride && (p.last && (not s.ack && (is_one (joined senders s.number) && may_ride message_kind)))
+
+-- the rider that a message is which would be answered so
+abbrev pub rider_for : Bool → ℕ → PlaceSlot → Option Rider
+rider_for true number (Ready reply) = Some (record { session = number; reply = reply })
+rider_for true number (Waiting session) = None
+rider_for true number NoSlot = None
+rider_for false number slot = None
+
+-- a rider is answered by its session
+abbrev pub slot_with : Option Rider → PlaceSlot → PlaceSlot
+slot_with None slot = slot
+slot_with (Some rider) slot = Waiting rider.session
+
 -- ---- one element after another
 
 -- this found at the next place
-abbrev pub found_at : Registry → ℕ → EntryKind → Option ℕ → ℕ → PlaceSlot → Judged
-found_at r moment kind sender hold slot = record { entry = record { place = length r.judged; moment = moment; kind = kind }; sender = sender; hold = hold; slot = slot }
+abbrev pub found_at : Registry → ℕ → EntryKind → Option Rider → Option ℕ → ℕ → PlaceSlot → Judged
+found_at r moment kind rides sender hold slot =
+    record { entry = record { place = length r.judged; moment = moment; kind = kind; rides = rides }; sender = sender; hold = hold; slot = slot_with rides slot }
 
 -- the registry with one more place
-abbrev pub noted : Registry → ℕ → List Registered → EntryKind → Option ℕ → ℕ → PlaceSlot → Registry
-noted r moment sessions kind sender hold slot = record { clock = moment; sessions = sessions; judged = r.judged ++ found_at r moment kind sender hold slot ∷ [] }
+abbrev pub noted : Registry → ℕ → List Registered → Senders → Judged → Registry
+noted r moment sessions senders found = record { clock = moment; sessions = sessions; senders = senders; judged = r.judged ++ found ∷ [] }
 
 -- a refused message changes nothing but the list
 abbrev pub refused : Config → Registry → ℕ → Posted → Error → Option Registered → Registry
 refused config r moment p error sender =
-    noted r moment r.sessions Refused None 0
-    (Ready (reply_to config (message_kind_of p.message.channel) p.message (option_map (λ (s : Registered). s.client) sender) (Failed error) replies.NoAck))
+    noted r moment r.sessions (senders_behind p Mixed) (found_at r moment Refused None None 0
+    (Ready (reply_to config (message_kind_of p.message.channel) p.message (option_map (λ (s : Registered). s.client) sender) (Failed error) replies.NoAck)))
 
 -- a new session, under the next number
 abbrev pub opened : Config → Registry → ℕ → Posted → ℕ → Bool → Registry
 opened config r moment p number ack =
     noted r moment
     (r.sessions ++ record { number = number; client = client_id p.nonce number; ack = ack; due = moment + config.max_interval; live = true } ∷ [])
-    (Opened number ack) (Some number) 0
-    (Ready (reply_to config MessageKind.Handshake p.message (Some (client_id p.nonce number)) advice.Opened (if ack then replies.AckTrue else replies.NoAck)))
+    (senders_behind p Mixed)
+    (found_at r moment (Opened number ack) None (Some number) 0
+    (Ready (reply_to config MessageKind.Handshake p.message (Some (client_id p.nonce number)) advice.Opened (if ack then replies.AckTrue else replies.NoAck))))
 
 -- the entry's kind for an accepted message of a live session (no such message is a handshake or to an unknown meta channel)
 abbrev pub kind_for : MessageKind → Posted → Registered → ℕ → EntryKind
@@ -248,7 +299,7 @@ kind_for MessageKind.Disconnect p s hold = Disconnect s.number
 kind_for MessageKind.Publish p s hold = Publish (event_of p.message)
 kind_for MessageKind.UnknownMeta p s hold = Refused
 
--- connects wait for their answer, every other message has its success at once
+-- connects wait for their answer, every other message has its success at once, unless it is a rider
 abbrev pub slot_for : Config → MessageKind → Posted → Registered → PlaceSlot
 slot_for config MessageKind.Connect p s = Waiting s.number
 slot_for config MessageKind.Handshake p s = Ready (reply_to config MessageKind.Handshake p.message (Some s.client) Done replies.NoAck)
@@ -273,8 +324,9 @@ abbrev pub served : Config → Registry → ℕ → Posted → MessageKind → R
 served config r moment p message_kind s hold =
     noted r moment
     (left_by message_kind s.number (extended s.number (moment + hold + config.max_interval) r.sessions))
-    (kind_for message_kind p s hold) (Some s.number) hold
-    (slot_for config message_kind p s)
+    (senders_behind p (joined r.senders s.number))
+    (found_at r moment (kind_for message_kind p s hold) (rider_for (is_rider config r.senders message_kind p s) s.number (slot_for config message_kind p s)) (Some s.number) hold
+    (slot_for config message_kind p s))
 
 -- the entry's kind for an accepted message of no session (no such message is any but a publish)
 abbrev pub sessionless_kind : MessageKind → Message → EntryKind
@@ -289,8 +341,8 @@ sessionless_kind MessageKind.UnknownMeta m = Refused
 -- an accepted message of no session changes no session, and has its success at once
 abbrev pub sessionless : Config → Registry → ℕ → Posted → MessageKind → Registry
 sessionless config r moment p message_kind =
-    noted r moment r.sessions (sessionless_kind message_kind p.message) None 0
-    (Ready (reply_to config message_kind p.message None Done replies.NoAck))
+    noted r moment r.sessions (senders_behind p Mixed) (found_at r moment (sessionless_kind message_kind p.message) None None 0
+    (Ready (reply_to config message_kind p.message None Done replies.NoAck)))
 
 -- an accepted message that names no session: a handshake opens one, any other is a message of none
 abbrev pub unnamed : Config → Registry → ℕ → Posted → Bool → Registry
@@ -323,7 +375,7 @@ judge config r (Post p) =
     judged_by config r (max r.clock p.moment) p (named_by r.sessions (message_kind_of p.message.channel) p.message) (refusal config r.sessions p)
 judge config r (messages.Tick moment) =
     let now = max r.clock moment in
-    noted r now (swept now r.sessions) (Tick (overdue now r.sessions)) None 0 NoSlot
+    noted r now (swept now r.sessions) r.senders (found_at r now (Tick (overdue now r.sessions)) None None 0 NoSlot)
 
 -- the registry after the whole list
 abbrev pub registry : Config → List Listed → Registry

@@ -16,6 +16,7 @@ use Rattle.bx_message.specs.declared.reply.AckReply.TheVariants.{NoAck, AckNumbe
 use Rattle.bx_message.specs.Replies.{connect_reply}
 use Rattle.bx_entry.specs.declared.entry.Entry.{Entry}
 use Rattle.bx_entry.specs.declared.entry.EntryKind.{EntryKind}
+use Rattle.bx_entry.specs.declared.entry.Rider.{Rider}
 use Rattle.bx_entry.specs.declared.entry.EntryKind.TheVariants.{Connect, Subscribe, Unsubscribe, Publish, Disconnect, Refused, Tick}
 use Rattle.bx_entry.specs.declared.entry.EntryKind.TheVariants as entries
 use Rattle.bx_entry.specs.Windows as windows
@@ -32,7 +33,7 @@ pub record Pending : Type 0 where
   pub moment : ℕ
   pub hold : ℕ
 
--- the answer to the connect that stands at `connect`, given at `place`
+-- the answer to the connect, or to the rider, that stands at `connect`, given at `place`
 pub record Filed : Type 0 where
   pub connect : ℕ
   pub place : ℕ
@@ -284,6 +285,40 @@ begun ack s Unopened = record s { stage = Live; ack = ack }
 begun ack s Live = s
 begun ack s Closed = s
 
+-- ---- riders
+
+-- How many events a rider is given: all that wait, but at most so many as a connect. An acknowledging session's events travel with its connects alone.
+abbrev pub ride_portion : Config → Session → ℕ
+ride_portion config s = if s.ack then 0 else portion config s
+
+-- the answer to the rider at this place
+abbrev pub ride_filing : Config → ℕ → Reply → Session → Filed
+ride_filing config place reply s = record { connect = place; place = place; publications = take (ride_portion config s) s.queue; reply = reply }
+
+-- the rider at this place is answered with the events that wait, which are forgotten
+abbrev pub ridden : Config → ℕ → Reply → Session → Session
+ridden config place reply s = record (forgotten (ride_portion config s) s) { answers = s.answers ++ ride_filing config place reply s ∷ [] }
+
+-- whether a rider is one of this session, which is live
+abbrev pub is_riding : Rider → Session → Bool
+is_riding rider s = (rider.session == s.number) && is_live s.stage
+
+-- if there is a rider, its session gives what waits
+abbrev pub ridden_by : Config → ℕ → Session → Option Rider → Session
+ridden_by config place s None = s
+ridden_by config place s (Some rider) = if is_riding rider s then ridden config place rider.reply s else s
+
+-- the rider of an entry of this kind, which is a subscription, an unsubscription or a publish
+abbrev pub rider_of : EntryKind → Option Rider → Option Rider
+rider_of (entries.Opened n ack) rides = None
+rider_of (Connect n client id acked hold) rides = None
+rider_of (Subscribe n ps) rides = rides
+rider_of (Unsubscribe n ps) rides = rides
+rider_of (Publish e) rides = rides
+rider_of (Disconnect n) rides = None
+rider_of Refused rides = None
+rider_of (Tick numbers) rides = None
+
 -- ---- one entry after another
 
 -- what an entry of this kind does to the session
@@ -298,9 +333,9 @@ step_by config place moment s (Disconnect n) = if n == s.number then disconnecte
 step_by config place moment s Refused = s
 step_by config place moment s (Tick numbers) = closed_by numbers (expired config place moment s)
 
--- what an entry does to the session
+-- what an entry does to the session; a rider is answered behind its own effect
 abbrev pub step : Config → Session → Entry → Session
-step config s e = step_by config e.place e.moment s e.kind
+step config s e = ridden_by config e.place (step_by config e.place e.moment s e.kind) (rider_of e.kind e.rides)
 
 -- the session of this number after the entries
 abbrev pub session : Config → ℕ → List Entry → Session

@@ -40,6 +40,14 @@ pub enum EntryKind {
     Tick(Sequence<u64>),
 }
 
+/// A message with whose reply the waiting events of its session go out: the last of a request that is of this session alone.
+#[derive(Drop)]
+pub struct Rider {
+    pub session: u64,
+    /// The reply behind the events.
+    pub reply: Reply,
+}
+
 /// An element of the list that orders everything.
 #[derive(Drop)]
 pub struct Entry {
@@ -48,6 +56,8 @@ pub struct Entry {
     /// The greatest moment that was handed in so far, in milliseconds.
     pub moment: u64,
     pub kind: EntryKind,
+    /// The rider that its message is, if it is one. Its events go out behind what the entry itself does.
+    pub rides: Option<Rider>,
 }
 
 /// The entries of one admission.
@@ -58,11 +68,11 @@ pub struct Batch {
     pub entries: Sequence<Entry>,
 }
 
-/// Where the answer to a connect is filed: under its place, in this shard. It is good for as long as the sessions are intake
+/// Where the answer to a connect or a rider is filed: under its place, in this shard. It is good for as long as the sessions are intake
 /// among the shards as they are: once they are redistributed, the answer may stand in another shard.
 #[derive(Clone, Copy, Debug, PartialEq, Eq)]
 pub struct Ticket {
-    /// The connect's place in the list.
+    /// The message's place in the list.
     pub place: u64,
     /// The shard of its session.
     pub shard: usize,
@@ -73,6 +83,6 @@ pub struct Ticket {
 pub enum Slot {
     /// At once, by this reply.
     Ready(Reply),
-    /// A connect, whose answer is filed under this ticket.
+    /// A connect or a rider, whose answer is filed under this ticket.
     Waiting(Ticket),
 }

@@ -5,8 +5,10 @@ mod entry;
 mod input;
 mod placing;
 mod read;
+mod senders;
 
-pub use entry::{Batch, Entry, EntryKind, Slot, Ticket};
+pub use entry::{Batch, Entry, EntryKind, Rider, Slot, Ticket};
 pub use input::{Arrival, BodyFault, Input, Refusal};
 pub use placing::{AllFirst, ByRemainder, ByTable, Placing};
 pub use read::{ReadFault, read_messages};
+pub use senders::Senders;
