@@ -9,10 +9,11 @@ use Rattle.bx_advice.specs.declared.error.Error.TheVariants.{SupersededConnect}
 use Rattle.bx_entry.specs.declared.entry.EntryKind.{EntryKind}
 use Rattle.bx_entry.specs.declared.entry.EntryKind.TheVariants.{Connect, Subscribe, Unsubscribe, Publish, Disconnect, Refused, Tick}
 use Rattle.bx_entry.specs.declared.entry.EntryKind.TheVariants as entries
-use Rattle.bx_entry.specs.Sessions.{Session, Publication, Pending, Filed, Stage, Unopened, Live, Closed, filing, unheld, released_from, released, connected, subscribed, unsubscribed, with_batch, forgotten, gives_one, with_event, delivered_to, delivered, overflowed, is_hit, has_room, published, expired_from, expired, ended, closed_by, disconnected, begun, step_by, step}
+use Rattle.bx_entry.specs.declared.entry.Rider.{Rider}
+use Rattle.bx_entry.specs.Sessions.{Session, Publication, Pending, Filed, Stage, Unopened, Live, Closed, filing, unheld, released_from, released, connected, subscribed, unsubscribed, with_batch, forgotten, gives_one, with_event, delivered_to, delivered, overflowed, is_hit, has_room, published, expired_from, expired, ended, closed_by, disconnected, begun, step_by, step, ridden_by, rider_of}
 use Rattle.bx_theory.specs.Readings.{ends_by, AnsweredAt, HeldReading, EndingReading}
-use Rattle.bx_theory.proofs.Counts.{subscribed_by}
-use Rattle.bx_theory.proofs.Keeps.{Keeps, freed_k}
+use Rattle.bx_theory.proofs.Counts.{subscribed_by, ride_both}
+use Rattle.bx_theory.proofs.Keeps.{Keeps, freed_k, ride_k}
 use Rattle.bx_theory.proofs.Closings.{closed_by_held}
 
 -- ---- what doesn't end it
@@ -49,9 +50,13 @@ step_by_held config place moment s p (Disconnect n) h e = not_taken (n == s.numb
 step_by_held config place moment s p Refused h e = h
 step_by_held config place moment s p (Tick numbers) h e = closed_by_held numbers (expired config place moment s) ∙ expired_held config place moment s p e h
 
+-- a rider leaves it
+ride_held : (config : Config) (place : ℕ) (s : Session) (rides : Option Rider) (p : Option Pending) → s.held ≡ p → (ridden_by config place s rides).held ≡ p
+ride_held config place s rides p h = ride_both config place s rides (λ (u : Session). u.held ≡ p) h (λ rider g. h)
+
 pub held_reading : HeldReading
 held_reading config s p [] h n = h
-held_reading config s p (e ∷ es) h n = held_reading config (step config s e) p es (step_by_held config e.place e.moment s p e.kind h n.0) n.1
+held_reading config s p (e ∷ es) h n = held_reading config (step config s e) p es (ride_held config e.place (step_by config e.place e.moment s e.kind) (rider_of e.kind e.rides) (Some p) (step_by_held config e.place e.moment s p e.kind h n.0)) n.1
 
 -- ---- what ends it
 
@@ -118,4 +123,7 @@ step_by_here config place moment s p Refused h e = cc
 step_by_here config place moment s p (Tick numbers) h e = closed_by_here p place numbers s (expired config place moment s) (expired_here config place moment s p h e)
 
 pub ending_reading : EndingReading
-ending_reading config s p es e h n d = step_by_here config e.place e.moment (fold (step config) s es) p e.kind (held_reading config s p es h n) d
+ending_reading config s p es e h n d =
+    let t : Session = fold (step config) s es in
+    let u : Session = step_by config e.place e.moment t e.kind in
+    answered_then p e.place t u (ridden_by config e.place u (rider_of e.kind e.rides)) (step_by_here config e.place e.moment t p e.kind (held_reading config s p es h n) d) (ride_k config e.place u (rider_of e.kind e.rides))

@@ -86,7 +86,7 @@ post moment ms = Request moment 0 ms
 -- ---- replies
 
 abbrev pub standard : Config
-standard = record { shards = 2; timeout = 30000; interval = 0; max_interval = 10000; limits = standard_limits; anonymous = false; some_shard = lit≤ tt; shards_in_range = lit≤ tt }
+standard = record { shards = 2; timeout = 30000; interval = 0; max_interval = 10000; limits = standard_limits; ride = false; anonymous = false; some_shard = lit≤ tt; shards_in_range = lit≤ tt }
 
 abbrev pub reply : MessageKind → List ℕ → Option (List ℕ) → Outcome → AckReply → Reply
 reply message_kind channel client outcome ack = record { message_kind = message_kind; channel = channel; client = client; id = None; subscription = None; outcome = outcome; advice = advice_of standard outcome; ack = ack }
@@ -200,6 +200,24 @@ open_to_all = record standard { anonymous = true }
 abbrev pub anonymous : List ℕ → List ℕ → Message
 anonymous channel payload = record (blank channel) { payload = Some payload }
 
+-- a configuration in which events ride with the replies of any message, and that takes publishes of no session
+abbrev pub riding : Config
+riding = record standard { ride = true; anonymous = true }
+
 -- a configuration with room for so many sessions
 abbrev pub crowded : ℕ → Config
 crowded room = record standard { limits = record standard_limits { sessions = room } }
+
+-- publishes of two sessions and of none, where the first session subscribes
+abbrev pub ridden_publishes : List ReadInput
+ridden_publishes =
+    post 0 (handshake ∷ []) ∷ post 0 (handshake ∷ []) ∷ post 0 (subscribe 1 (codes "/a/*") ∷ []) ∷ post 0 (publish 2 (codes "/a/x") (codes "1") ∷ [])
+    ∷ post 0 (publish 1 (codes "/b") (codes "2") ∷ []) ∷ post 0 (publish 1 (codes "/a/y") (codes "3") ∷ publish 1 (codes "/b") (codes "4") ∷ [])
+    ∷ post 0 (publish 1 (codes "/a/z") (codes "5") ∷ publish 2 (codes "/b") (codes "6") ∷ []) ∷ post 0 (anonymous (codes "/a/w") (codes "8") ∷ [])
+    ∷ post 0 (connect_now 1 ∷ []) ∷ post 0 (disconnect 1 ∷ []) ∷ []
+
+-- two publishes of a session whose connect is held
+abbrev pub ridden_hold : List ReadInput
+ridden_hold =
+    post 0 (handshake ∷ []) ∷ post 0 (subscribe 1 (codes "/a/*") ∷ []) ∷ post 0 (connect 1 ∷ [])
+    ∷ post 0 (publish 1 (codes "/a/x") (codes "1") ∷ publish 1 (codes "/a/y") (codes "2") ∷ []) ∷ []

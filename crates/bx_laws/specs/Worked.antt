@@ -18,7 +18,7 @@ use Rattle.bx_entry.specs.Inputs.{Unread}
 use Rattle.bx_advice.specs.declared.error.Error.TheVariants.{UnknownConnectionType, InvalidPattern, TooManyPatterns}
 use Rattle.bx_message.specs.Texts.{callback_text}
 use Rattle.bx_entry.specs.Runs.{outs, held}
-use Rattle.bx_laws.specs.Samples.{ack_connect, blank, id_of, versioned, handshake, ack_handshake, connect, connect_now, ack_connect_now, in_quotes, subscribe, unsubscribe, disconnect, publish, post, standard, reply, handshaken, ack_handshaken, connected_as, connected, ack_connected, subscribed, unsubscribed, disconnected, published, unknown_client, event, out, subscribe_all, subscribed_all, match_all, two_connects, held_with_ack, small, failed, four_batches, full_batch, texts, refused_messages, mixed, mixed_failed, crowded, anonymous, open_to_all}
+use Rattle.bx_laws.specs.Samples.{ack_connect, blank, id_of, versioned, handshake, ack_handshake, connect, connect_now, ack_connect_now, in_quotes, subscribe, unsubscribe, disconnect, publish, post, standard, reply, handshaken, ack_handshaken, connected_as, connected, ack_connected, subscribed, unsubscribed, disconnected, published, unknown_client, event, out, subscribe_all, subscribed_all, match_all, two_connects, held_with_ack, small, failed, four_batches, full_batch, texts, refused_messages, mixed, mixed_failed, crowded, anonymous, open_to_all, ridden_publishes, ridden_hold, riding}
 use Rattle.bx_advice.specs.declared.error.Error.TheVariants.{TooManySessions}
 use Rattle.std.specs.Prelude.{◌++◌, map}
 use Rattle.bx_script.specs.Replay.{lines_of, line_of, Bad, Rejected, Accepted, Resharded, inputs_from, printed}
@@ -135,6 +135,40 @@ SenderBytes =
     ≡ out 0 (handshaken 1 ∷ []) ∷ out 1 (subscribed 1 (codes "/a/b") ∷ [])
     ∷ out 2 (ReplyItem (record (reply MessageKind.Publish (codes "/a/b") None Done AckReply.NoAck) { id = Some (codes "\"q\"") }) ∷ [])
     ∷ out 3 (EventItem (record { channel = codes "/a/b"; payload = codes "{\"a\" : 1.50}"; id = Some (codes "\"q\"") }) ∷ connected 1 ∷ []) ∷ []
+
+-- ---- riders
+
+-- waiting events go out before the reply of a request's last message where all of its messages are of their session; else they wait on
+abbrev pub EventsRide : Type 0
+EventsRide =
+    outs riding ridden_publishes
+    ≡ out 0 (handshaken 1 ∷ []) ∷ out 1 (handshaken 2 ∷ []) ∷ out 2 (subscribed 1 (codes "/a/*") ∷ []) ∷ out 3 (published (codes "/a/x") ∷ [])
+    ∷ out 4 (event (codes "/a/x") (codes "1") ∷ published (codes "/b") ∷ [])
+    ∷ out 5 (published (codes "/a/y") ∷ event (codes "/a/y") (codes "3") ∷ published (codes "/b") ∷ [])
+    ∷ out 6 (published (codes "/a/z") ∷ published (codes "/b") ∷ [])
+    ∷ out 7 (published (codes "/a/w") ∷ [])
+    ∷ out 8 (event (codes "/a/z") (codes "5") ∷ event (codes "/a/w") (codes "8") ∷ connected 1 ∷ [])
+    ∷ out 9 (disconnected 1 ∷ []) ∷ []
+
+-- an event that ends a hold goes out with it, and the next one with the rider
+abbrev pub RideBehindHold : Type 0
+RideBehindHold =
+    outs riding ridden_hold
+    ≡ out 0 (handshaken 1 ∷ []) ∷ out 1 (subscribed 1 (codes "/a/*") ∷ [])
+    ∷ out 2 (event (codes "/a/x") (codes "1") ∷ connected 1 ∷ [])
+    ∷ out 3 (published (codes "/a/x") ∷ event (codes "/a/y") (codes "2") ∷ published (codes "/a/y") ∷ []) ∷ []
+
+-- where the configuration has no riders, events wait for a connect
+abbrev pub NothingRides : Type 0
+NothingRides =
+    outs open_to_all ridden_publishes
+    ≡ out 0 (handshaken 1 ∷ []) ∷ out 1 (handshaken 2 ∷ []) ∷ out 2 (subscribed 1 (codes "/a/*") ∷ []) ∷ out 3 (published (codes "/a/x") ∷ [])
+    ∷ out 4 (published (codes "/b") ∷ [])
+    ∷ out 5 (published (codes "/a/y") ∷ published (codes "/b") ∷ [])
+    ∷ out 6 (published (codes "/a/z") ∷ published (codes "/b") ∷ [])
+    ∷ out 7 (published (codes "/a/w") ∷ [])
+    ∷ out 8 (event (codes "/a/x") (codes "1") ∷ event (codes "/a/y") (codes "3") ∷ event (codes "/a/z") (codes "5") ∷ event (codes "/a/w") (codes "8") ∷ connected 1 ∷ [])
+    ∷ out 9 (disconnected 1 ∷ []) ∷ []
 
 -- ---- batches, until they are acknowledged
 

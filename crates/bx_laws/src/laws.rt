@@ -1,5 +1,5 @@
 //! Laws that hold for every configuration and every list.
-ghost use Rattle.bx_theory.specs.Laws.{DoneNeverFalls, CountsAgree, EntriesInOrder, AnswersStay, BatchRepeats, NeverGivenAgain, NoEventTwice, GivenOnce};
+ghost use Rattle.bx_theory.specs.Laws.{DoneNeverFalls, CountsAgree, EntriesInOrder, AnswersStay, BatchRepeats, NeverGivenAgain, NoEventTwice, GivenOnce, NoRidersUnasked, RidersArePlain};
 ghost use Rattle.bx_theory.specs.Readings.{LiveReading, InForceReading, HeldReading, EndingReading, OverflowReading, QueueBounded, DueReading, ClockReading, SameLive, AcceptedWhileLive, PublishesOfNone, ClosedIsOver};
 ghost use Rattle.bx_theory.specs.Events.{EventsWerePublished, PublishesAreEvents, EventsRise, GivenWasPublished};
 ghost use Rattle.bx_theory.specs.Lines.{HeldComeLast, InputsGoOn, LinesGoOn};
@@ -44,9 +44,19 @@ pub fn no_event_twice()
     ensures { NoEventTwice }
 {}
 
-/// A plain session gives its events in order, each once.
+/// A plain session gives its events in order, each once, with its connects and its riders.
 pub fn given_once()
     ensures { GivenOnce }
+{}
+
+/// Where the configuration has no riders, no entry has one.
+pub fn no_riders_unasked()
+    ensures { NoRidersUnasked }
+{}
+
+/// A rider is of a session that does not acknowledge.
+pub fn riders_are_plain()
+    ensures { RidersArePlain }
 {}
 
 /// A session is live from its opening to the first entry that closes it.
@@ -181,7 +191,7 @@ pub fn open_is_held()
     ensures { OpenIsHeld }
 {}
 
-/// An input that is not whole is a held connect, its request's only message.
+/// An input that is not whole is a held connect, its request's only message, and no rider.
 pub fn open_are_sole()
     ensures { OpenAreSole }
 {}

@@ -1,5 +1,5 @@
--- A message that is not its request's only one is answered at once.
-use Rattle.std.proofs.Common.{◌≡◌, ℕ, ◌<◌, max, Bool, true, false, cond, ◌&&◌, ◌||◌, is_some, Option, Some, None, List, [], ◌∷◌, ◌++◌, length, map, find, option_map, slice_get, ◌==◌, refl, sym, ap, ◌∙◌, subst, append_assoc, eq-eqb}
+-- A message that is not its request's only one is answered at once, and so is a rider.
+use Rattle.std.proofs.Common.{◌≡◌, ℕ, ◌<◌, max, Bool, true, false, cond, not, ◌&&◌, ◌||◌, is_some, Option, Some, None, List, [], ◌∷◌, ◌++◌, length, map, find, option_map, slice_get, ◌==◌, refl, sym, ap, ◌∙◌, subst, append_assoc, eq-eqb}
 use Rattle.std.proofs.lemmas.Bool.{cond_both, cond-true, cond-false, both_ways}
 use Rattle.std.proofs.lemmas.List.{map-append, length_push}
 use Rattle.std.proofs.lemmas.List.Sums.{fold-append}
@@ -10,17 +10,24 @@ use Rattle.bx_advice.specs.declared.advice.Outcome.TheVariants.{Connected, Faile
 use Rattle.bx_advice.specs.declared.error.Error.{Error}
 use Rattle.bx_advice.specs.declared.error.Error.TheVariants.{SupersededConnect, QueueOverflow}
 use Rattle.bx_message.specs.declared.message.Message.{Message}
+use Rattle.bx_message.specs.declared.reply.Reply.{Reply}
 use Rattle.bx_message.specs.declared.message_kind.MessageKind.{MessageKind}
 use Rattle.bx_message.specs.MessageKinds.{message_kind_of, is_connect, is_handshake}
 use Rattle.bx_entry.specs.Listing.{Listed, Post, Posted, listed_from}
 use Rattle.bx_entry.specs.declared.entry.Entry.{Entry}
 use Rattle.bx_entry.specs.declared.entry.EntryKind.TheVariants.{Connect}
-use Rattle.bx_entry.specs.Registry.{Registry, Registered, Judged, judge, judged_by, served, slot_for, named_by, refusal, hold_of, acked_by, registry, empty_registry, entries_of, unnamed}
-use Rattle.bx_entry.specs.Sessions.{Session, Publication, Pending, Filed, filing, answered, released, acknowledged, given, gives, holding, idle, answered_or_held, connected, step, session, unopened}
+use Rattle.bx_entry.specs.Registry.{Registry, Registered, Judged, PlaceSlot, Ready, Waiting, judge, judged_by, served, slot_for, slot_with, rider_for, is_rider, is_one, joined, may_ride, kind_for, named_by, refusal, hold_of, acked_by, registry, empty_registry, entries_of, unnamed}
+use Rattle.bx_entry.specs.declared.entry.Rider.{Rider}
+use Rattle.bx_entry.specs.declared.entry.EntryKind.{EntryKind}
+use Rattle.bx_entry.specs.Sessions.{Session, Publication, Pending, Filed, filing, answered, released, acknowledged, given, gives, holding, idle, answered_or_held, connected, step, session, unopened, is_live, is_riding, ridden, ridden_by, ride_filing, step_by, rider_of}
 use Rattle.bx_entry.specs.Answers.{PlacedAnswer, answer_of, filed_for, answer_by, answer_at, answer_in, answer}
 use Rattle.bx_entry.specs.Runs.{latest, numbers_from}
 use Rattle.bx_theory.proofs.Lists.{answer_more, judged_length}
 use Rattle.bx_theory.proofs.Closings.{run_number}
+use Rattle.bx_theory.proofs.Counts.{ride_both}
+use Rattle.bx_theory.proofs.Stages.{step_by_next, live_reading}
+use Rattle.bx_theory.proofs.Senders.{sender_reads}
+use Rattle.bx_theory.proofs.Lives.{found_of}
 
 -- an answer that is there
 pub record There (o : Option PlacedAnswer) : Type 0 where
@@ -62,15 +69,33 @@ step_there : (config : Config) (s : Session) (e : Entry) (number : ℕ) (client 
     There (filed_for e.place (step config s e).answers)
 step_there config s e number client id acked n k =
     let p : Pending = record { place = e.place; client = client; id = id; moment = e.moment; hold = 0 } in
-    let same : step config s e ≡ cond (number == s.number) (connected config p acked s) s = ap (λ kind. (step config s (record e { kind = kind }))) k in
-    let taken : step config s e ≡ connected config p acked s = same ∙ cond-true (number == s.number) (connected config p acked s) s (eq-eqb number s.number (sym n)) in
-    subst (λ (u : Session). There (filed_for e.place u.answers)) (sym taken) (connected_there config p acked s refl)
+    let same : step_by config e.place e.moment s e.kind ≡ cond (number == s.number) (connected config p acked s) s = ap (step_by config e.place e.moment s) k in
+    let taken : step_by config e.place e.moment s e.kind ≡ connected config p acked s = same ∙ cond-true (number == s.number) (connected config p acked s) s (eq-eqb number s.number (sym n)) in
+    let u : Session = step_by config e.place e.moment s e.kind in
+    ride_both config e.place u (rider_of e.kind e.rides) (λ (v : Session). There (filed_for e.place v.answers))
+    (subst (λ (v : Session). There (filed_for e.place v.answers)) (sym taken) (connected_there config p acked s refl))
+    (λ rider h. filed_last e.place u.answers (ride_filing config e.place rider.reply (step_by config e.place e.moment s e.kind)) refl)
 
 session_there : (config : Config) (es : List Entry) (e : Entry) (number : ℕ) (client : List ℕ) (id : Option (List ℕ)) (acked : Option ℕ) → e.kind ≡ Connect number client id acked 0 →
     There (filed_for e.place (session config number (es ++ e ∷ [])).answers)
 session_there config es e number client id acked k =
     subst (λ (u : Session). There (filed_for e.place u.answers)) (sym (fold-append (step config) (unopened number) es (e ∷ [])))
     (step_there config (session config number es) e number client id acked (run_number config (unopened number) es) k)
+
+-- a rider is answered at its own place, where its session is live behind its own entry
+rider_there : (config : Config) (es : List Entry) (e : Entry) (number : ℕ) (reply : Reply) → rider_of e.kind e.rides ≡ Some (record { session = number; reply = reply }) →
+    (step_by config e.place e.moment (session config number es) e.kind).stage ≡ (session config number es).stage → is_live (session config number es).stage ≡ true →
+    There (filed_for e.place (session config number (es ++ e ∷ [])).answers)
+rider_there config es e number reply rides same live =
+    let s : Session = session config number es in
+    let u : Session = step_by config e.place e.moment (session config number es) e.kind in
+    let rider : Rider = record { session = number; reply = reply } in
+    let own : u.number ≡ number = (step_by_next config e.place e.moment (session config number es) e.kind).number ∙ run_number config (unopened number) es in
+    let riding : ((number == u.number) && is_live u.stage) ≡ true = ap (λ (b : Bool). b && is_live u.stage) (eq-eqb number u.number (sym own)) ∙ ap is_live same ∙ live in
+    let taken : step config (session config number es) e ≡ ridden config e.place reply u =
+    ap (ridden_by config e.place u) rides ∙ cond-true ((number == u.number) && is_live u.stage) (ridden config e.place reply u) u riding in
+    subst (λ (v : Session). There (filed_for e.place v.answers)) (sym (fold-append (step config) (unopened number) es (e ∷ []) ∙ taken))
+    (filed_last e.place u.answers (ride_filing config e.place reply u) refl)
 
 -- ---- one more message
 
@@ -86,34 +111,92 @@ last_there config r t j e a = record {
   is = ap (answer_at config (entries_of t) (length r.judged)) (ap (λ (js : List Judged). slice_get js (length r.judged)) e ∙ got_last r.judged j) ∙ a.is;
 }
 
-served_there : (config : Config) (r : Registry) (moment : ℕ) (p : Posted) (c : MessageKind) (s : Registered) →
-    There (answer_by config (entries_of (served config r moment p c s 0)) (length r.judged) (slot_for config c p s))
-served_there config r moment p MessageKind.Connect s =
-    let e : Entry = record { place = length r.judged; moment = moment; kind = Connect s.number s.client p.message.id (acked_by p.message.ack) 0 } in
-    let es : entries_of (served config r moment p MessageKind.Connect s 0) ≡ entries_of r ++ e ∷ [] = map-append (λ (j : Judged). j.entry) r.judged _ in
-    subst (λ (xs : List Entry). There (filed_for (length r.judged) (session config s.number xs).answers)) (sym es)
-    (session_there config (entries_of r) e s.number s.client p.message.id (acked_by p.message.ack) refl)
-served_there config r moment p MessageKind.Handshake s = record { answer = _; is = refl }
-served_there config r moment p MessageKind.Subscribe s = record { answer = _; is = refl }
-served_there config r moment p MessageKind.Unsubscribe s = record { answer = _; is = refl }
-served_there config r moment p MessageKind.Disconnect s = record { answer = _; is = refl }
-served_there config r moment p MessageKind.Publish s = record { answer = _; is = refl }
-served_there config r moment p MessageKind.UnknownMeta s = record { answer = _; is = refl }
+-- the entry of an accepted message at a place
+abbrev entry_with : ℕ → ℕ → EntryKind → Option Rider → Entry
+entry_with place moment kind rides = record { place = place; moment = moment; kind = kind; rides = rides }
 
-accepted_there : (config : Config) (r : Registry) (moment : ℕ) (p : Posted) (s : Registered) (hold : ℕ) → hold ≡ 0 → There (answer_in config (served config r moment p (message_kind_of p.message.channel) s hold) (length r.judged))
-accepted_there config r moment p s hold h =
+-- a message that is no connect is answered at once, as a rider too
+ready_there : (config : Config) (es : List Entry) (place moment number : ℕ) (kind : EntryKind) (reply : Reply) (b : Bool) →
+    (b ≡ true → (rider : Rider) → (rider_of kind (Some rider) ≡ Some rider) × ((step_by config place moment (session config number es) kind).stage ≡ (session config number es).stage)) → is_live (session config number es).stage ≡ true →
+    There (answer_by config (es ++ entry_with place moment kind (rider_for b number (Ready reply)) ∷ []) place (slot_with (rider_for b number (Ready reply)) (Ready reply)))
+ready_there config es place moment number kind reply true same live =
+    let rider : Rider = record { session = number; reply = reply } in
+    rider_there config es (entry_with place moment kind (Some rider)) number reply (same refl rider).0 (same refl rider).1 live
+ready_there config es place moment number kind reply false same live = record { answer = _; is = refl }
+
+-- so is a connect that may not be held
+connect_there : (config : Config) (es : List Entry) (place moment number : ℕ) (client : List ℕ) (id : Option (List ℕ)) (acked : Option ℕ) (b : Bool) →
+    There (answer_by config (es ++ entry_with place moment (Connect number client id acked 0) (rider_for b number (Waiting number)) ∷ []) place (slot_with (rider_for b number (Waiting number)) (Waiting number)))
+connect_there config es place moment number client id acked true = session_there config es (entry_with place moment (Connect number client id acked 0) None) number client id acked refl
+connect_there config es place moment number client id acked false = session_there config es (entry_with place moment (Connect number client id acked 0) None) number client id acked refl
+
+-- no disconnect is a rider
+leaves_unridden : (a b c d : Bool) → (a && (b && (c && (d && false)))) ≡ false
+leaves_unridden true true true true = refl
+leaves_unridden true true true false = refl
+leaves_unridden true true false d = refl
+leaves_unridden true false c d = refl
+leaves_unridden false b c d = refl
+
+served_slot : (config : Config) (es : List Entry) (place moment : ℕ) (p : Posted) (c : MessageKind) (s : Registered) (b : Bool) → (may_ride c ≡ false → b ≡ false) → is_live (session config s.number es).stage ≡ true →
+    There (answer_by config (es ++ entry_with place moment (kind_for c p s 0) (rider_for b s.number (slot_for config c p s)) ∷ []) place (slot_with (rider_for b s.number (slot_for config c p s)) (slot_for config c p s)))
+served_slot config es place moment p MessageKind.Handshake s b still live = ready_there config es place moment s.number _ _ b (λ h rider. absurd (both_ways b (still refl) h)) live
+served_slot config es place moment p MessageKind.Connect s b still live = connect_there config es place moment s.number s.client p.message.id (acked_by p.message.ack) b
+served_slot config es place moment p MessageKind.Subscribe s b still live = ready_there config es place moment s.number _ _ b (λ h rider. (refl, (step_by_next config place moment (session config s.number es) (kind_for MessageKind.Subscribe p s 0)).stage)) live
+served_slot config es place moment p MessageKind.Unsubscribe s b still live = ready_there config es place moment s.number _ _ b (λ h rider. (refl, (step_by_next config place moment (session config s.number es) (kind_for MessageKind.Unsubscribe p s 0)).stage)) live
+served_slot config es place moment p MessageKind.Disconnect s b still live = ready_there config es place moment s.number _ _ b (λ h rider. absurd (both_ways b (still refl) h)) live
+served_slot config es place moment p MessageKind.Publish s b still live = ready_there config es place moment s.number _ _ b (λ h rider. (refl, (step_by_next config place moment (session config s.number es) (kind_for MessageKind.Publish p s 0)).stage)) live
+served_slot config es place moment p MessageKind.UnknownMeta s b still live = ready_there config es place moment s.number _ _ b (λ h rider. absurd (both_ways b (still refl) h)) live
+
+no_waiting : {A : Type 0} (b : Bool) (n m : ℕ) (rider : Rider) → rider_for b n (Waiting m) ≡ Some rider → A
+no_waiting true n m rider e = cc
+no_waiting false n m rider e = cc
+
+-- a rider is, whether or not it is sole
+rider_slot : (config : Config) (es : List Entry) (place moment : ℕ) (p : Posted) (c : MessageKind) (s : Registered) (hold : ℕ) (b : Bool) → (may_ride c ≡ false → b ≡ false) → is_live (session config s.number es).stage ≡ true →
+    (rider : Rider) → rider_for b s.number (slot_for config c p s) ≡ Some rider →
+    There (answer_by config (es ++ entry_with place moment (kind_for c p s hold) (rider_for b s.number (slot_for config c p s)) ∷ []) place (slot_with (rider_for b s.number (slot_for config c p s)) (slot_for config c p s)))
+rider_slot config es place moment p MessageKind.Handshake s hold b still live rider e = served_slot config es place moment p MessageKind.Handshake s b still live
+rider_slot config es place moment p MessageKind.Connect s hold b still live rider e = no_waiting b s.number s.number rider e
+rider_slot config es place moment p MessageKind.Subscribe s hold b still live rider e = served_slot config es place moment p MessageKind.Subscribe s b still live
+rider_slot config es place moment p MessageKind.Unsubscribe s hold b still live rider e = served_slot config es place moment p MessageKind.Unsubscribe s b still live
+rider_slot config es place moment p MessageKind.Disconnect s hold b still live rider e = served_slot config es place moment p MessageKind.Disconnect s b still live
+rider_slot config es place moment p MessageKind.Publish s hold b still live rider e = served_slot config es place moment p MessageKind.Publish s b still live
+rider_slot config es place moment p MessageKind.UnknownMeta s hold b still live rider e = served_slot config es place moment p MessageKind.UnknownMeta s b still live
+
+may_not : (config : Config) (r : Registry) (p : Posted) (c : MessageKind) (s : Registered) → may_ride c ≡ false → is_rider config r.senders c p s ≡ false
+may_not config r p c s h = ap (λ (b : Bool). config.ride && (p.last && (not s.ack && (is_one (joined r.senders s.number) && b)))) h ∙ leaves_unridden config.ride p.last (not s.ack) (is_one (joined r.senders s.number))
+
+pub rider_served : (config : Config) (r : Registry) (moment : ℕ) (p : Posted) (c : MessageKind) (s : Registered) (hold : ℕ) → is_live (session config s.number (entries_of r)).stage ≡ true →
+    (rider : Rider) → (found_of config r moment p c s hold).entry.rides ≡ Some rider → There (answer_in config (served config r moment p c s hold) (length r.judged))
+rider_served config r moment p c s hold live rider e =
+    let j : Judged = found_of config r moment p c s hold in
+    let es : entries_of (served config r moment p c s hold) ≡ entries_of r ++ (found_of config r moment p c s hold).entry ∷ [] = map-append (λ (j : Judged). j.entry) r.judged (found_of config r moment p c s hold ∷ []) in
+    last_there config r (served config r moment p c s hold) (found_of config r moment p c s hold) refl
+    (subst (λ (xs : List Entry). There (answer_by config xs (length r.judged) (found_of config r moment p c s hold).slot)) (sym es)
+    (rider_slot config (entries_of r) (length r.judged) moment p c s hold (is_rider config r.senders c p s) (may_not config r p c s) live rider e))
+
+served_there : (config : Config) (r : Registry) (moment : ℕ) (p : Posted) (c : MessageKind) (s : Registered) → is_live (session config s.number (entries_of r)).stage ≡ true →
+    There (answer_by config (entries_of (served config r moment p c s 0)) (length r.judged) (found_of config r moment p c s 0).slot)
+served_there config r moment p c s live =
+    let es : entries_of (served config r moment p c s 0) ≡ entries_of r ++ (found_of config r moment p c s 0).entry ∷ [] = map-append (λ (j : Judged). j.entry) r.judged (found_of config r moment p c s 0 ∷ []) in
+    subst (λ (xs : List Entry). There (answer_by config xs (length r.judged) (found_of config r moment p c s 0).slot)) (sym es)
+    (served_slot config (entries_of r) (length r.judged) moment p c s (is_rider config r.senders c p s) (may_not config r p c s) live)
+
+accepted_there : (config : Config) (r : Registry) (moment : ℕ) (p : Posted) (s : Registered) (hold : ℕ) → hold ≡ 0 → is_live (session config s.number (entries_of r)).stage ≡ true → There (answer_in config (served config r moment p (message_kind_of p.message.channel) s hold) (length r.judged))
+accepted_there config r moment p s hold h live =
     let c : MessageKind = message_kind_of p.message.channel in
     subst (λ (n : ℕ). There (answer_in config (served config r moment p (message_kind_of p.message.channel) s n) (length r.judged))) (sym h)
-    (last_there config r (served config r moment p c s 0) _ refl (served_there config r moment p c s))
+    (last_there config r (served config r moment p c s 0) _ refl (served_there config r moment p c s live))
 
 unnamed_there : (config : Config) (r : Registry) (moment : ℕ) (p : Posted) (b : Bool) → There (answer_in config (unnamed config r moment p b) (length r.judged))
 unnamed_there config r moment p true = last_there config r (unnamed config r moment p true) _ refl (record { answer = _; is = refl })
 unnamed_there config r moment p false = last_there config r (unnamed config r moment p false) _ refl (record { answer = _; is = refl })
 
-judged_by_there : (config : Config) (r : Registry) (moment : ℕ) (p : Posted) (sender : Option Registered) (error : Option Error) → p.sole ≡ false → There (answer_in config (judged_by config r moment p sender error) (length r.judged))
-judged_by_there config r moment p sender (Some error) h = last_there config r (judged_by config r moment p sender (Some error)) _ refl (record { answer = _; is = refl })
-judged_by_there config r moment p None None h = unnamed_there config r moment p (is_handshake p.message)
-judged_by_there config r moment p (Some s) None h = accepted_there config r moment p s (hold_of config p) (cond-false (p.sole && is_connect p.message) _ 0 (ap (λ (b : Bool). b && is_connect p.message) h))
+judged_by_there : (config : Config) (r : Registry) (moment : ℕ) (p : Posted) (sender : Option Registered) (error : Option Error) → p.sole ≡ false → ((s : Registered) → sender ≡ Some s → is_live (session config s.number (entries_of r)).stage ≡ true) → There (answer_in config (judged_by config r moment p sender error) (length r.judged))
+judged_by_there config r moment p sender (Some error) h live = last_there config r (judged_by config r moment p sender (Some error)) _ refl (record { answer = _; is = refl })
+judged_by_there config r moment p None None h live = unnamed_there config r moment p (is_handshake p.message)
+judged_by_there config r moment p (Some s) None h live = accepted_there config r moment p s (hold_of config p) (cond-false (p.sole && is_connect p.message) _ 0 (ap (λ (b : Bool). b && is_connect p.message) h)) (live s refl)
 
 -- a message that is not sole is answered at its own place
 message_there : (config : Config) (xs : List Listed) (p : Posted) → p.sole ≡ false → There (answer config (xs ++ Post p ∷ []) (length xs))
@@ -122,7 +205,8 @@ message_there config xs p h =
     let next : registry config (xs ++ Post p ∷ []) ≡ judge config (registry config xs) (Post p) = fold-append (judge config) empty_registry xs (Post p ∷ []) in
     subst (λ (t : Registry). There (answer_in config t (length xs))) (sym next)
     (subst (λ (n : ℕ). There (answer_in config (judge config (registry config xs) (Post p)) n)) (judged_length config xs)
-    (judged_by_there config r (max r.clock p.moment) p (named_by r.sessions (message_kind_of p.message.channel) p.message) (refusal config r.sessions p) h))
+    (judged_by_there config r (max r.clock p.moment) p (named_by r.sessions (message_kind_of p.message.channel) p.message) (refusal config r.sessions p) h
+    (λ s e. live_reading config s.number (entries_of r) ∙ sender_reads config xs p s e)))
 
 -- and over a longer list too
 message_stays : (config : Config) (list xs ys : List Listed) (p : Posted) → 0 < config.limits.batch → p.sole ≡ false → xs ++ (Post p ∷ ys) ≡ list → There (answer_in config (registry config list) (length xs))
@@ -149,7 +233,7 @@ pub messages_there : (config : Config) (list xs ys : List Listed) (moment nonce 
     AllThere (map (answer_in config (registry config list)) (numbers_from (length xs) (length (listed_from moment nonce false seen ms))))
 messages_there config list xs ys moment nonce seen [] room e = tt
 messages_there config list xs ys moment nonce seen (m ∷ ms) room e =
-    let p : Posted = record { message = m; moment = moment; nonce = nonce; sole = false; second = seen && is_handshake m } in
+    let p : Posted = record { message = m; moment = moment; nonce = nonce; sole = false; last = length ms == 0; second = seen && is_handshake m } in
     let rest : List Listed = listed_from moment nonce false (seen || is_handshake m) ms in (
       message_stays config list xs (rest ++ ys) p room refl e,
       subst (λ (n : ℕ). AllThere (map (answer_in config (registry config list)) (numbers_from n (length rest)))) (length_push xs (Post p))

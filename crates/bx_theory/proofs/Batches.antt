@@ -1,6 +1,6 @@
 -- A batch is given again until it is acknowledged.
-use Rattle.std.proofs.Common.{◌≡◌, ℕ, ◌+◌, ◌-◌, ◌<◌, ◌≤◌, min, ◌⊎◌, inl, inr, ⊎_elim, true, false, cond, ◌&&◌, is_some, Option, Some, None, List, [], ◌∷◌, ◌++◌, length, take, drop, fold, nat_lt, nat_le, ◌==◌, refl, sym, ap, ◌∙◌, subst, arith, length-take, length-drop, eq-eqb, eq-zero-or-pos}
-use Rattle.std.proofs.lemmas.Bool.{cond_both, cond-true, cond-false, and_right, lt-leb, ne_eqb, and_left, cases_lt}
+use Rattle.std.proofs.Common.{◌≡◌, ℕ, ◌+◌, ◌-◌, ◌<◌, ◌≤◌, min, ◌⊎◌, inl, inr, ⊎_elim, true, false, cond, ◌&&◌, is_some, Option, Some, None, List, [], ◌∷◌, ◌++◌, length, take, drop, fold, nat_lt, nat_le, ◌==◌, refl, sym, ap, ◌∙◌, subst, arith, true≢false, append_assoc, length-take, length-drop, eq-eqb, eq-zero-or-pos}
+use Rattle.std.proofs.lemmas.Bool.{cond_both, and_parts, both_ways, cond-true, cond-false, and_right, lt-leb, ne_eqb, and_left, cases_lt}
 use Rattle.std.proofs.lemmas.List.{drop-append-le, take-append-le, drop_all}
 use Rattle.std.proofs.lemmas.List.Sums.{fold-append}
 use Rattle.bx_lists.proofs.Tests.{either}
@@ -13,9 +13,11 @@ use Rattle.bx_entry.specs.declared.entry.Entry.{Entry}
 use Rattle.bx_entry.specs.declared.entry.EntryKind.{EntryKind}
 use Rattle.bx_entry.specs.declared.entry.EntryKind.TheVariants.{Connect, Subscribe, Unsubscribe, Publish, Disconnect, Refused, Tick}
 use Rattle.bx_entry.specs.declared.entry.EntryKind.TheVariants as entries
-use Rattle.bx_entry.specs.Sessions.{Session, Publication, Pending, Filed, filing, answered, unheld, released_from, released, acknowledged, cleared, portion, batch, with_batch, formed, forgotten, gives, given, idle, answered_or_held, connected, gives_one, with_event, delivered_to, delivered, overflowed, is_hit, has_room, published, begun, expired, step_by, step, session, unopened}
-use Rattle.bx_theory.specs.Laws.{InStep, Repeats, LastAnswer, SameBatch, Repetition, BatchRepeats}
-use Rattle.bx_theory.proofs.Counts.{hit_full, stays_in_step, all_in_step, unopened_in_step, queue_is, released_in, released_from_full, acknowledged_full}
+use Rattle.bx_entry.specs.declared.entry.Rider.{Rider}
+use Rattle.bx_message.specs.declared.reply.Reply.{Reply}
+use Rattle.bx_entry.specs.Sessions.{Session, Publication, Pending, Filed, filing, answered, unheld, released_from, released, acknowledged, cleared, portion, batch, with_batch, formed, forgotten, gives, given, idle, answered_or_held, connected, gives_one, with_event, delivered_to, delivered, overflowed, is_hit, has_room, published, begun, expired, step_by, step, session, unopened, ridden, is_riding, ridden_by, is_live, rider_of}
+use Rattle.bx_theory.specs.Laws.{InStep, Repeats, LastAnswer, LastGiven, rides_for, SameBatch, Repetition, BatchRepeats}
+use Rattle.bx_theory.proofs.Counts.{rode, ridden_both, ride_both, step_by_in, hit_full, stays_in_step, all_in_step, unopened_in_step, queue_is, released_in, released_from_full, acknowledged_full}
 use Rattle.bx_theory.proofs.Moves.{Quiet, idle_quiet, acknowledged_quiet, released_quiet, quiet_after, expired_from_quiet, closed_by_quiet, subscribed_quiet, begun_quiet}
 use Rattle.bx_theory.proofs.Runs.{Grown, run_grown, all_places}
 use Rattle.bx_theory.proofs.Once.{formed_acks}
@@ -28,6 +30,7 @@ record Formed (num : ℕ) (u : Session) : Type 0 where
   same : first.publications ≡ batch u
   number : first.reply.ack ≡ AckNumber u.num
   full : u.overflow ≡ false
+  acks : u.ack ≡ true
 
 abbrev Forms : ℕ → Session → Type 0
 Forms num u = (u.num ≡ num) ⊎ Formed num u
@@ -49,6 +52,7 @@ gave config p num u next acks full = record {
   same = refl;
   number = cond-true u.ack (AckNumber u.num) NoAck acks;
   full = full;
+  acks = acks;
 }
 
 given_forms : (config : Config) (p : Pending) (s : Session) → s.overflow ≡ false → Forms s.num (answered config p p.place (given config s) Connected (gives config s))
@@ -86,6 +90,7 @@ one_forms config p e s full done i =
       same = sym (ap (take 1) (ap (λ (q : List Publication). q ++ e ∷ []) (queue_is config s i full ∙ drop_all s.done s.events done)));
       number = cond-true s.ack (AckNumber (s.num + 1)) NoAck h;
       full = full;
+      acks = h;
     }))
     (λ h. inl refl)
 
@@ -113,9 +118,66 @@ step_by_forms config place moment s Refused i = inl refl
 step_by_forms config place moment s (Tick numbers) i =
     inl ((closed_by_quiet place numbers (expired config place moment s)).num ∙ (expired_from_quiet config place moment s s.held).num)
 
+-- ---- a rider behind it
+
+ride_num : (config : Config) (place : ℕ) (s : Session) (rides : Option Rider) → (ridden_by config place s rides).num ≡ s.num
+ride_num config place s rides = ride_both config place s rides (λ (u : Session). u.num ≡ s.num) refl (λ rider h. refl)
+
+step_num : (config : Config) (s : Session) (e : Entry) → (step config s e).num ≡ (step_by config e.place e.moment s e.kind).num
+step_num config s e = ride_num config e.place (step_by config e.place e.moment s e.kind) (rider_of e.kind e.rides)
+
+-- an acknowledging session's last answer is followed by none that has events
+ride_last : (config : Config) (place : ℕ) (s : Session) (rides : Option Rider) (f : Filed) → s.ack ≡ true → LastAnswer s f → LastGiven rides (ridden_by config place s rides) f
+ride_last config place s None f acks l = record { rest = l.0; behind = []; answers = l.1; empty = tt; last = λ h. refl }
+ride_last config place s (Some rider) f acks l =
+    cond_both (is_riding rider s) (ridden config place rider.reply s) s (λ (u : Session). LastGiven (Some rider) u f)
+    (λ h. ridden_both config place rider.reply s (λ (u : Session). LastGiven (Some rider) u f)
+    (λ a. record {
+      rest = l.0;
+      behind = record { connect = place; place = place; publications = []; reply = rider.reply } ∷ [];
+      answers = ap (λ (fs : List Filed). fs ++ record { connect = place; place = place; publications = []; reply = rider.reply } ∷ []) l.1
+          ∙ append_assoc l.0 (f ∷ []) (record { connect = place; place = place; publications = []; reply = rider.reply } ∷ []);
+      empty = (refl, tt);
+      last = λ o. absurd (both_ways (rider.session == s.number) o (and_parts (rider.session == s.number) (is_live s.stage) h).0);
+    })
+    (λ a. absurd (true≢false (sym acks ∙ a))))
+    (λ h. record { rest = l.0; behind = []; answers = l.1; empty = tt; last = λ o. refl })
+
+-- a session whose last answer, but for that to a rider, gave its outstanding batch
+record FormedBy (rides : Option Rider) (num : ℕ) (u : Session) : Type 0 where
+  next : u.num ≤ num + 1
+  first : Filed
+  last : LastGiven rides u first
+  same : first.publications ≡ batch u
+  number : first.reply.ack ≡ AckNumber u.num
+  full : u.overflow ≡ false
+
+-- what an answer to a rider leaves of an acknowledging session
+record Leaves (s u : Session) : Type 0 where
+  num : u.num ≡ s.num
+  overflow : u.overflow ≡ s.overflow
+  same : batch u ≡ batch s
+
+ride_leaves : (config : Config) (place : ℕ) (s : Session) (rides : Option Rider) → s.ack ≡ true → Leaves s (ridden_by config place s rides)
+ride_leaves config place s rides acks = ride_both config place s rides (Leaves s) (record { num = refl; overflow = refl; same = refl })
+    (λ rider h. ridden_both config place rider.reply s (Leaves s) (λ a. record { num = refl; overflow = refl; same = refl }) (λ a. absurd (true≢false (sym acks ∙ a))))
+
+ride_formed : (config : Config) (place num : ℕ) (s : Session) (rides : Option Rider) → Formed num s → FormedBy rides num (ridden_by config place s rides)
+ride_formed config place num s rides f =
+    let l : Leaves s (ridden_by config place s rides) = ride_leaves config place s rides f.acks in
+    record {
+      next = omega (arith, l.num, f.next);
+      first = f.first;
+      last = ride_last config place s rides f.first f.acks f.last;
+      same = f.same ∙ sym l.same;
+      number = f.number ∙ ap AckNumber (sym l.num);
+      full = l.overflow ∙ f.full;
+    }
+
 -- an entry after which the number has grown has formed a batch
-grown_formed : (config : Config) (s : Session) (e : Entry) → InStep config s → (step config s e).num ≡ s.num + 1 → Formed s.num (step config s e)
-grown_formed config s e i n = ⊎_elim (λ h. absurd (let g : (step config s e).num ≡ s.num = h in omega arith)) (λ f. f) (step_by_forms config e.place e.moment s e.kind i)
+grown_formed : (config : Config) (s : Session) (e : Entry) → InStep config s → (step config s e).num ≡ s.num + 1 → FormedBy (rider_of e.kind e.rides) s.num (step config s e)
+grown_formed config s e i n = ⊎_elim (λ h. absurd (let g : (step_by config e.place e.moment s e.kind).num ≡ s.num = h in omega (arith, step_num config s e, n)))
+    (λ f. ride_formed config e.place s.num (step_by config e.place e.moment s e.kind) (rider_of e.kind e.rides) f) (step_by_forms config e.place e.moment s e.kind i)
 
 -- ---- a connect that acknowledges nothing new
 
@@ -170,7 +232,7 @@ connected_again config p acked s acks full out r i =
 
 -- ---- the law
 
-acks_with_batch : (config : Config) (s : Session) → InStep config s → 0 < s.out → s.ack ≡ true
+pub acks_with_batch : (config : Config) (s : Session) → InStep config s → 0 < s.out → s.ack ≡ true
 acks_with_batch config s i out = either s.ack (s.ack ≡ true) (λ h. h) (λ h. absurd (let z : s.out ≡ 0 = i.plain h in omega arith))
 
 same_batch : (config : Config) (s t : Session) → InStep config s → InStep config t → Grown 0 s t → s.overflow ≡ false → t.overflow ≡ false → t.out ≡ s.out → t.done ≡ s.done → batch t ≡ batch s
@@ -184,14 +246,14 @@ same_batch config s t i j g full full' out done =
     ∙ take-append-le s.out (drop s.done s.events) g.later (omega (arith, i.few, length-drop s.done s.events))
     ∙ sym (ap (take s.out) (queue_is config s i full))
 
-repeated_at : (config : Config) (num0 : ℕ) (s t : Session) (p : Pending) (acked : Option ℕ) → InStep config s → InStep config t → Formed num0 s → Grown 0 s t →
-    t.num ≡ s.num → 0 < t.out → t.overflow ≡ false → Repeats t.num acked → SameBatch s p.place (connected config p acked t)
-repeated_at config num0 s t p acked i j f g num out full r =
+repeated_at : (config : Config) (num0 : ℕ) (former : Entry) (s t : Session) (p : Pending) (acked : Option ℕ) → InStep config s → InStep config t → FormedBy (rider_of former.kind former.rides) num0 s → Grown 0 s t →
+    t.num ≡ s.num → 0 < t.out → t.overflow ≡ false → Repeats t.num acked → SameBatch former s p.place (connected config p acked t)
+repeated_at config num0 former s t p acked i j f g num out full r =
     let free = released config p.place (Failed SupersededConnect) t in
     let c : SameCounts t free = released_from_same config p.place (Failed SupersededConnect) t t.held in
     let acks : t.ack ≡ true = acks_with_batch config t j out in
     let st = g.still num out in
-    subst (SameBatch s p.place) (sym (connected_again config p acked t acks full out r j)) (record {
+    subst (SameBatch former s p.place) (sym (connected_again config p acked t acks full out r j)) (record {
       first = f.first;
       again = filing config p p.place (batch free) Connected free;
       formed = f.last;
@@ -205,7 +267,8 @@ repeated_at config num0 s t p acked i j f g num out full r =
 
 -- an entry raises the number by one at most
 next_num : (config : Config) (s : Session) (e : Entry) → InStep config s → (step config s e).num ≤ s.num + 1
-next_num config s e i = ⊎_elim (λ h. let g : (step config s e).num ≡ s.num = h in omega arith) (λ f. f.next) (step_by_forms config e.place e.moment s e.kind i)
+next_num config s e i = ⊎_elim (λ h. let g : (step_by config e.place e.moment s e.kind).num ≡ s.num = h in omega (arith, step_num config s e)) (λ f. omega (arith, step_num config s e, f.next))
+    (step_by_forms config e.place e.moment s e.kind i)
 
 -- where the number has grown over a run, some entry formed the batch of that number
 record Forming (config : Config) (s : Session) (es : List Entry) : Type 0 where
@@ -257,9 +320,9 @@ repetition config number es e p acked room here out full r is =
       split = f.split;
       grew = f.grew;
       current = f.current;
-      same = subst (SameBatch s1 e.place) (sym is)
-          (subst (λ (n : ℕ). SameBatch s1 n (connected config p acked (session config number es))) here
-          (repeated_at config s0.num s1 (fold (step config) s es) p acked i1 (all_in_step config s es room i) (grown_formed config s0 f.forming i0 f.grew) g (sym f.current) out full r));
+      same = subst (SameBatch f.forming s1 e.place) (sym is)
+          (subst (λ (n : ℕ). SameBatch f.forming s1 n (connected config p acked (session config number es))) here
+          (repeated_at config s0.num f.forming s1 (fold (step config) s es) p acked i1 (all_in_step config s es room i) (grown_formed config s0 f.forming i0 f.grew) g (sym f.current) out full r));
     }
 
 pub batch_repeats : BatchRepeats
@@ -268,4 +331,4 @@ batch_repeats config number es e client id acked hold room out full kind r =
     let p : Pending = record { place = e.place; client = client; id = id; moment = e.moment; hold = hold } in
     let g : Grown 0 (unopened number) s = run_grown config 0 (unopened number) es room (unopened_in_step config number) (all_places es) in
     repetition config number es e p acked room refl out full r
-    (ap (step_by config e.place e.moment s) kind ∙ cond-true (number == s.number) (connected config p acked s) s (eq-eqb number s.number (sym g.number)))
+    (ap (λ (k : EntryKind). ridden_by config e.place (step_by config e.place e.moment s k) (rider_of k e.rides)) kind ∙ cond-true (number == s.number) (connected config p acked s) s (eq-eqb number s.number (sym g.number)))

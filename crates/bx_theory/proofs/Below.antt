@@ -29,7 +29,7 @@ step_below config bound s e m l b =
 run_below : (config : Config) (bound : ℕ) (s : Session) (es : List Entry) → 0 < config.limits.batch → InStep config s → EachEntry (λ e. e.place < bound) es →
     Each (λ f. f.place < bound) s.answers → Each (λ f. f.place < bound) (fold (step config) s es).answers
 run_below config bound s [] room i d b = b
-run_below config bound s (e ∷ es) room i d b = run_below config bound (step config s e) es room (stays_in_step config s e room i) d.1 (step_below config bound s e (step_moved config s e i) d.0 b)
+run_below config bound s (e ∷ es) room i d b = run_below config bound (step config s e) es room (stays_in_step config s e room i) d.1 (step_below config bound s e (step_moved config s e room i) d.0 b)
 
 filed_below : (config : Config) (xs : List Listed) (number place : ℕ) (a : PlacedAnswer) → 0 < config.limits.batch →
     filed_for place (session config number (entries_of (registry config xs))).answers ≡ Some a → a.place < length xs

@@ -17,12 +17,14 @@ use Rattle.bx_message.specs.declared.message.Message.{Message}
 use Rattle.bx_entry.specs.Listing.{Listed, Post, Posted}
 use Rattle.bx_entry.specs.Listing as messages
 use Rattle.bx_entry.specs.declared.entry.Entry.{Entry}
-use Rattle.bx_entry.specs.Registry.{Registry, Registered, judge, judged_by, kind_for, left_by, extended, swept, overdue, is_overdue, named_by, refusal, hold_of, is_ack, acked_by, patterns_of, event_of, opened, registry, empty_registry, entries_of, unnamed, sessionless_kind}
-use Rattle.bx_entry.specs.Sessions.{Session, Publication, Pending, Stage, Unopened, Live, Closed, is_live, stage_after, answered, unheld, released, acknowledged, with_batch, formed, forgotten, gives, given, portion, holding, idle, answered_or_held, connected, subscribed, unsubscribed, gives_one, with_event, delivered_to, delivered, overflowed, is_hit, has_room, published, expired_from, expired, ended, closed_by, disconnected, begun, step_by, step, unopened, session}
+use Rattle.bx_entry.specs.Registry.{Registry, Registered, PlaceSlot, Ready, Waiting, NoSlot, slot_for, rider_for, is_rider, judge, judged_by, kind_for, left_by, extended, swept, overdue, is_overdue, named_by, refusal, hold_of, is_ack, acked_by, patterns_of, event_of, opened, registry, empty_registry, entries_of, unnamed, sessionless_kind}
+use Rattle.bx_entry.specs.declared.entry.Rider.{Rider}
+use Rattle.bx_entry.specs.declared.entry.EntryKind.{EntryKind}
+use Rattle.bx_entry.specs.Sessions.{Session, Publication, Pending, Stage, Unopened, Live, Closed, is_live, stage_after, answered, unheld, released, acknowledged, with_batch, formed, forgotten, gives, given, portion, holding, idle, answered_or_held, connected, subscribed, unsubscribed, gives_one, with_event, delivered_to, delivered, overflowed, is_hit, has_room, published, expired_from, expired, ended, closed_by, disconnected, begun, step_by, step, unopened, session, ridden, is_riding, ridden_by, rider_of}
 use Rattle.bx_theory.specs.Readings.{unclosed, EachSession, NothingMore, ClosedIsOver}
-use Rattle.bx_theory.proofs.Counts.{subscribed_by, acknowledged_held, released_from_held}
+use Rattle.bx_theory.proofs.Counts.{subscribed_by, ride_both, rider_of_both, acknowledged_held, released_from_held}
 use Rattle.bx_theory.proofs.Keeps.{connected_k}
-use Rattle.bx_theory.proofs.Stages.{live_reading, step_number}
+use Rattle.bx_theory.proofs.Stages.{live_reading, step_number, step_by_next}
 use Rattle.bx_theory.proofs.Dues.{each_session_push, each_session_through, left_each}
 use Rattle.bx_theory.proofs.Lives.{opened_later, entries_push}
 use Rattle.bx_theory.proofs.Senders.{live_by, sender_reads}
@@ -327,15 +329,49 @@ sessionless_idle config place moment MessageKind.Disconnect m s c = refl
 sessionless_idle config place moment MessageKind.Publish m s c = published_idle config (record { place = place; event = event_of m }) s c
 sessionless_idle config place moment MessageKind.UnknownMeta m s c = refl
 
+-- ---- a rider
+
+-- it changes neither what is held nor the stage
+ride_holding : (config : Config) (place number : ℕ) (s : Session) (rs : List Registered) (rides : Option Rider) → Holding number s rs → Holding number (ridden_by config place s rides) rs
+ride_holding config place number s rs rides h = ride_both config place s rides (λ (u : Session). Holding number u rs) h (λ rider g. record { live = h.live; due = h.due })
+
+-- a closed session has none
+ride_over : (config : Config) (place : ℕ) (s u : Session) (rides : Option Rider) → NothingMore s u → NothingMore s (ridden_by config place u rides)
+ride_over config place s u rides n = ride_both config place u rides (NothingMore s) n
+    (λ rider h. absurd (let no : Closed ≡ Live = sym n.stage ∙ live_stage u.stage (and_parts (rider.session == u.number) (is_live u.stage) h).1 in cc))
+
+-- and a message that stands where its session is live is no rider of one that isn't
+no_rider_idle : (config : Config) (place : ℕ) (b : Bool) (n : ℕ) (slot : PlaceSlot) (s u : Session) → u.number ≡ s.number → is_live s.stage ≡ false → ((n == s.number) ≡ true → s.stage ≡ Live) → u.answers ≡ s.answers →
+    (ridden_by config place u (rider_for b n slot)).answers ≡ s.answers
+no_rider_idle config place true n (Ready reply) s u same c live e =
+    let rider : Rider = record { session = n; reply = reply } in
+    cond_both (is_riding rider u) (ridden config place reply u) u (λ (v : Session). v.answers ≡ s.answers)
+    (λ h. absurd (let here : (n == s.number) ≡ true = subst (λ (k : ℕ). (n == k) ≡ true) same (and_parts (n == u.number) (is_live u.stage) h).0 in
+    let no : false ≡ true = sym c ∙ ap is_live (live here) in cc))
+    (λ h. e)
+no_rider_idle config place true n (Waiting number) s u same c live e = e
+no_rider_idle config place true n NoSlot s u same c live e = e
+no_rider_idle config place false n slot s u same c live e = e
+
+ride_idle : (config : Config) (place : ℕ) (k : EntryKind) (b : Bool) (n : ℕ) (slot : PlaceSlot) (s u : Session) → u.number ≡ s.number → is_live s.stage ≡ false → ((n == s.number) ≡ true → s.stage ≡ Live) → u.answers ≡ s.answers →
+    (ridden_by config place u (rider_of k (rider_for b n slot))).answers ≡ s.answers
+ride_idle config place k b n slot s u same c live e =
+    rider_of_both k (rider_for b n slot) (λ (rides : Option Rider). (ridden_by config place u rides).answers ≡ s.answers) e (no_rider_idle config place b n slot s u same c live e)
+
+-- ---- a message
+
 unnamed_goes : (config : Config) (number : ℕ) (s : Session) (r : Registry) (moment : ℕ) (p : Posted) (b : Bool) → s.number ≡ number → (length r.sessions < number → is_live s.stage ≡ false) → Holding number s r.sessions →
     Goes config number s r (unnamed config r moment p b)
 unnamed_goes config number s r moment p true same fresh h = opened_goes config number s r moment p same fresh h
 unnamed_goes config number s r moment p false same fresh h = record {
   entry = _;
   more = entries_push r (unnamed config r moment p false) _ refl;
-  holding = sessionless_holding config (length r.judged) moment (message_kind_of p.message.channel) p.message number s r.sessions h;
-  over = λ c n. sessionless_over config (length r.judged) moment (message_kind_of p.message.channel) p.message s c n;
-  idle = λ c n. sessionless_idle config (length r.judged) moment (message_kind_of p.message.channel) p.message s c;
+  holding = ride_holding config (length r.judged) number _ _ _ (sessionless_holding config (length r.judged) moment (message_kind_of p.message.channel) p.message number s r.sessions h);
+  over = λ c n. ride_over config (length r.judged) s _ _ (sessionless_over config (length r.judged) moment (message_kind_of p.message.channel) p.message s c n);
+  idle = λ c n. (let e : (step_by config (length r.judged) moment s (sessionless_kind (message_kind_of p.message.channel) p.message)).answers ≡ s.answers =
+      sessionless_idle config (length r.judged) moment (message_kind_of p.message.channel) p.message s c in
+      rider_of_both (sessionless_kind (message_kind_of p.message.channel) p.message) None
+      (λ (rides : Option Rider). (ridden_by config (length r.judged) (step_by config (length r.judged) moment s (sessionless_kind (message_kind_of p.message.channel) p.message)) rides).answers ≡ s.answers) e e);
 }
 
 judged_by_goes : (config : Config) (number : ℕ) (s : Session) (r : Registry) (moment : ℕ) (p : Posted) (sender : Option Registered) (error : Option Error) → s.number ≡ number → (length r.sessions < number → is_live s.stage ≡ false) →
@@ -345,9 +381,12 @@ judged_by_goes config number s r moment p None None same fresh live h = unnamed_
 judged_by_goes config number s r moment p (Some q) None same fresh live h = record {
   entry = _;
   more = entries_push r (judged_by config r moment p (Some q) None) _ refl;
-  holding = served_holding config (length r.judged) moment (message_kind_of p.message.channel) p q (hold_of config p) number s r.sessions same (live q refl) h;
-  over = λ c n. served_over config (length r.judged) moment (message_kind_of p.message.channel) p q (hold_of config p) s (live q refl) c n;
-  idle = λ c n. served_idle config (length r.judged) moment (message_kind_of p.message.channel) p q (hold_of config p) s (live q refl) c;
+  holding = ride_holding config (length r.judged) number _ _ _ (served_holding config (length r.judged) moment (message_kind_of p.message.channel) p q (hold_of config p) number s r.sessions same (live q refl) h);
+  over = λ c n. ride_over config (length r.judged) s _ _ (served_over config (length r.judged) moment (message_kind_of p.message.channel) p q (hold_of config p) s (live q refl) c n);
+  idle = λ c n. ride_idle config (length r.judged) (kind_for (message_kind_of p.message.channel) p q (hold_of config p)) (is_rider config r.senders (message_kind_of p.message.channel) p q) q.number (slot_for config (message_kind_of p.message.channel) p q) s
+      (step_by config (length r.judged) moment s (kind_for (message_kind_of p.message.channel) p q (hold_of config p)))
+      (step_by_next config (length r.judged) moment s (kind_for (message_kind_of p.message.channel) p q (hold_of config p))).number c (live q refl)
+      (served_idle config (length r.judged) moment (message_kind_of p.message.channel) p q (hold_of config p) s (live q refl) c);
 }
 
 abbrev at : Config → ℕ → List Listed → Session

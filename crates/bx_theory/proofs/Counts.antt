@@ -16,7 +16,9 @@ use Rattle.bx_entry.specs.declared.entry.Entry.{Entry}
 use Rattle.bx_entry.specs.declared.entry.EntryKind.{EntryKind}
 use Rattle.bx_entry.specs.declared.entry.EntryKind.TheVariants.{Connect, Subscribe, Unsubscribe, Publish, Disconnect, Refused, Tick}
 use Rattle.bx_entry.specs.declared.entry.EntryKind.TheVariants as entries
-use Rattle.bx_entry.specs.Sessions.{Session, Publication, Pending, Stage, Unopened, Live, Closed, answered, unheld, released_from, released, cleared, acknowledged, portion, batch, with_batch, formed, forgotten, gives, given, holding, idle, answered_or_held, connected, overflowed, with_patterns, subscribed, unsubscribed, gives_one, with_event, delivered_to, delivered, is_live, is_hit, has_room, published, expired_from, expired, stage_after, ended, closed_by, disconnected, begun, step_by, step, unopened}
+use Rattle.bx_entry.specs.declared.entry.Rider.{Rider}
+use Rattle.bx_message.specs.declared.reply.Reply.{Reply}
+use Rattle.bx_entry.specs.Sessions.{Session, Publication, Pending, Stage, Unopened, Live, Closed, answered, unheld, released_from, released, cleared, acknowledged, portion, batch, with_batch, formed, forgotten, gives, given, holding, idle, answered_or_held, connected, overflowed, with_patterns, subscribed, unsubscribed, gives_one, with_event, delivered_to, delivered, is_live, is_hit, has_room, published, expired_from, expired, stage_after, ended, closed_by, disconnected, begun, step_by, step, unopened, ridden, is_riding, ridden_by, rider_of}
 use Rattle.bx_theory.specs.Laws.{InStep, CountsAgree}
 
 pub no_hold : {A : Type 0} → false ≡ true → A
@@ -269,7 +271,7 @@ begun_in config ack s Unopened h i = record { queue = i.queue; emptied = i.empti
 begun_in config ack s Live h i = i
 begun_in config ack s Closed h i = i
 
-step_by_in : (config : Config) (place moment : ℕ) (s : Session) (k : EntryKind) → 0 < config.limits.batch → InStep config s → InStep config (step_by config place moment s k)
+pub step_by_in : (config : Config) (place moment : ℕ) (s : Session) (k : EntryKind) → 0 < config.limits.batch → InStep config s → InStep config (step_by config place moment s k)
 step_by_in config place moment s (entries.Opened n ack) room i = cond_both (n == s.number) (begun ack s s.stage) s (InStep config) (λ h. begun_in config ack s s.stage refl i) (λ h. i)
 step_by_in config place moment s (Connect n client id acked hold) room i =
     let p : Pending = record { place = place; client = client; id = id; moment = moment; hold = hold } in
@@ -282,8 +284,56 @@ step_by_in config place moment s (Disconnect n) room i = cond_both (n == s.numbe
 step_by_in config place moment s Refused room i = i
 step_by_in config place moment s (Tick numbers) room i = closed_by_in config numbers (expired config place moment s) (expired_from_in config place moment s s.held i)
 
+-- ---- a rider
+
+-- a rider is answered with so many events
+abbrev pub rode : ℕ → ℕ → Reply → Session → Session
+rode count place reply s = record (forgotten count s) { answers = s.answers ++ record { connect = place; place = place; publications = take count s.queue; reply = reply } ∷ [] }
+
+-- an acknowledging session gives a rider no events, a plain one those that wait
+pub ridden_both : (config : Config) (place : ℕ) (reply : Reply) (s : Session) (P : Session → Type 0) → (s.ack ≡ true → P (rode 0 place reply s)) → (s.ack ≡ false → P (rode (portion config s) place reply s)) → P (ridden config place reply s)
+ridden_both config place reply s P acks plain = cond_both s.ack 0 (portion config s) (λ (k : ℕ). P (rode k place reply s)) acks plain
+
+-- a session is as it was, or answers a rider of its own
+pub ride_both : (config : Config) (place : ℕ) (s : Session) (rides : Option Rider) (P : Session → Type 0) → P s → ((rider : Rider) → is_riding rider s ≡ true → P (ridden config place rider.reply s)) → P (ridden_by config place s rides)
+ride_both config place s None P same rides = same
+ride_both config place s (Some rider) P same rides = cond_both (is_riding rider s) (ridden config place rider.reply s) s P (λ h. rides rider h) (λ h. same)
+
+-- an entry has its rider or none, by its kind
+pub rider_of_both : (k : EntryKind) (rides : Option Rider) (P : Option Rider → Type 0) → P None → P rides → P (rider_of k rides)
+rider_of_both (entries.Opened n ack) rides P none some = none
+rider_of_both (Connect n client id acked hold) rides P none some = none
+rider_of_both (Subscribe n ps) rides P none some = some
+rider_of_both (Unsubscribe n ps) rides P none some = some
+rider_of_both (Publish e) rides P none some = some
+rider_of_both (Disconnect n) rides P none some = none
+rider_of_both Refused rides P none some = none
+rider_of_both (Tick numbers) rides P none some = none
+
+rode_in : (config : Config) (count place : ℕ) (reply : Reply) (s : Session) → s.done + count + s.out ≤ length s.events → count + s.out ≤ length s.queue → InStep config s → InStep config (rode count place reply s)
+rode_in config count place reply s few front i = record {
+  queue = ap (drop count) i.queue ∙ dropped s.overflow count s.done s.events;
+  emptied = i.emptied;
+  front = omega (arith, front, length-drop count s.queue);
+  few = few;
+  small = i.small;
+  plain = i.plain;
+  fresh = i.fresh;
+  idle = λ h. (omega (arith, (i.idle h).0), (i.idle h).1);
+}
+
+ridden_in : (config : Config) (place : ℕ) (reply : Reply) (s : Session) → InStep config s → InStep config (ridden config place reply s)
+ridden_in config place reply s i = ridden_both config place reply s (InStep config)
+    (λ h. rode_in config 0 place reply s (omega (arith, i.few)) (omega (arith, i.front)) i)
+    (λ h. rode_in config (portion config s) place reply s (omega (arith, few_wait config s i, i.plain h)) (omega (arith, i.plain h)) i)
+
+pub ride_in : (config : Config) (place : ℕ) (s : Session) (rides : Option Rider) → InStep config s → InStep config (ridden_by config place s rides)
+ride_in config place s rides i = ride_both config place s rides (InStep config) i (λ rider h. ridden_in config place rider.reply s i)
+
+-- ---- an entry
+
 pub stays_in_step : (config : Config) (s : Session) (e : Entry) → 0 < config.limits.batch → InStep config s → InStep config (step config s e)
-stays_in_step config s e room i = step_by_in config e.place e.moment s e.kind room i
+stays_in_step config s e room i = ride_in config e.place (step_by config e.place e.moment s e.kind) (rider_of e.kind e.rides) (step_by_in config e.place e.moment s e.kind room i)
 
 all_in : (config : Config) (s : Session) (es : List Entry) → 0 < config.limits.batch → InStep config s → InStep config (fold (step config) s es)
 all_in config s [] room i = i

@@ -1,14 +1,22 @@
 -- What was given for good stays given for good.
-use Rattle.std.proofs.Common.{◌≤◌, List, [], ◌∷◌, fold, arith, subst, sym}
+use Rattle.std.proofs.Common.{◌≤◌, ℕ, List, [], ◌∷◌, fold, arith, subst, sym}
 use Rattle.std.proofs.lemmas.List.Sums.{fold-append}
 use Rattle.std.proofs.lemmas.Grind.{common_steps}
 use Rattle.bx_advice.specs.declared.config.Config.{Config}
 use Rattle.bx_entry.specs.declared.entry.Entry.{Entry}
-use Rattle.bx_entry.specs.Sessions.{Session, step, session, unopened}
+use Rattle.bx_entry.specs.declared.entry.EntryKind.{EntryKind}
+use Rattle.bx_entry.specs.Sessions.{Session, step_by, step, session, unopened, rider_of}
 use Rattle.bx_theory.specs.Laws.{DoneNeverFalls}
+use Rattle.bx_theory.proofs.Counts.{ride_both}
+
+done_by : (config : Config) (place moment : ℕ) (s : Session) (k : EntryKind) → s.done ≤ (step_by config place moment s k).done
+done_by config place moment s k = grind (arith, common_steps)
 
 done_step : (config : Config) (s : Session) (e : Entry) → s.done ≤ (step config s e).done
-done_step config s e = grind (arith, common_steps)
+done_step config s e =
+    let u : Session = step_by config e.place e.moment s e.kind in
+    ride_both config e.place u (rider_of e.kind e.rides) (λ (v : Session). s.done ≤ v.done) (done_by config e.place e.moment s e.kind)
+    (λ rider h. let l : s.done ≤ (step_by config e.place e.moment s e.kind).done = done_by config e.place e.moment s e.kind in omega (arith, l))
 
 done_run : (config : Config) (s : Session) (es : List Entry) → s.done ≤ (fold (step config) s es).done
 done_run config s [] = omega arith

@@ -12,9 +12,10 @@ use Rattle.bx_entry.specs.declared.entry.EntryKind.{EntryKind}
 use Rattle.bx_entry.specs.declared.entry.EntryKind.TheVariants.{Connect, Subscribe, Unsubscribe, Publish, Disconnect, Refused, Tick}
 use Rattle.bx_entry.specs.declared.entry.EntryKind.TheVariants as entries
 use Rattle.bx_names.specs.InForce.{in_force, with_pattern, without_pattern}
-use Rattle.bx_entry.specs.Sessions.{Session, Publication, Pending, Stage, Unopened, Live, Closed, connected, with_patterns, subscribed, unsubscribed, with_event, delivered, overflowed, is_hit, has_room, published, expired, ended, closed_by, released, disconnected, begun, step_by, step, unopened}
+use Rattle.bx_entry.specs.declared.entry.Rider.{Rider}
+use Rattle.bx_entry.specs.Sessions.{Session, Publication, Pending, Stage, Unopened, Live, Closed, connected, with_patterns, subscribed, unsubscribed, with_event, delivered, overflowed, is_hit, has_room, published, expired, ended, closed_by, released, disconnected, begun, step_by, step, unopened, ridden_by, rider_of}
 use Rattle.bx_theory.specs.Readings.{mention_by, last_of, InForceReading}
-use Rattle.bx_theory.proofs.Keeps.{Keeps, connected_k, delivered_to_k, released_from_k, expired_from_k, or_false, or_true}
+use Rattle.bx_theory.proofs.Keeps.{Keeps, connected_k, delivered_to_k, released_from_k, expired_from_k, ride_k, or_false, or_true}
 use Rattle.bx_theory.proofs.Stages.{step_number}
 use Rattle.bx_names.specs.Equality.{same_glob-decides}
 
@@ -139,6 +140,11 @@ step_by_says config place moment s p b (Tick numbers) h =
     let k : Keeps s (expired config place moment s) = expired_from_k config place moment s s.held in
     closed_by_says numbers (expired config place moment s) p b (kept_says s (expired config place moment s) p b k.patterns k.overflow h)
 
+ride_says : (config : Config) (place : ℕ) (s : Session) (p : Glob) (b : Bool) (rides : Option Rider) → Says p b s → Says p b (ridden_by config place s rides)
+ride_says config place s p b rides h =
+    let k : Keeps s (ridden_by config place s rides) = ride_k config place s rides in
+    kept_says s (ridden_by config place s rides) p b k.patterns k.overflow h
+
 last_next : (b : Bool) (o : Option Bool) (h : Entry → Option Bool) (e : Entry) (es : List Entry) → h e ≡ o → last_of (next b o) (filter_map h es) ≡ last_of b (filter_map h (e ∷ es))
 last_next b None h e es g = sym (ap (λ (o : Option Bool). last_of b (cons_option o (filter_map h es))) g)
 last_next b (Some c) h e es g = sym (ap (λ (o : Option Bool). last_of b (cons_option o (filter_map h es))) g)
@@ -148,7 +154,7 @@ run_says config s [] p b h = h
 run_says config s (e ∷ es) p b h =
     let t : Session = fold (step config) (step config s e) es in
     let now : Bool = next b (mention_by s.number p e.kind) in
-    run_says config (step config s e) es p now (step_by_says config e.place e.moment s p b e.kind h)
+    run_says config (step config s e) es p now (ride_says config e.place (step_by config e.place e.moment s e.kind) p now (rider_of e.kind e.rides) (step_by_says config e.place e.moment s p b e.kind h))
     ∙ ap (λ (n : ℕ). not t.overflow && last_of now (filter_map (λ (x : Entry). mention_by n p x.kind) es)) (step_number config s e)
     ∙ ap (λ (q : Bool). not t.overflow && q) (last_next b (mention_by s.number p e.kind) (λ (x : Entry). mention_by s.number p x.kind) e es refl)
 

@@ -16,13 +16,13 @@ use Rattle.bx_entry.specs.declared.entry.EntryKind.{EntryKind}
 use Rattle.bx_entry.specs.declared.entry.EntryKind.TheVariants.{Connect, Subscribe, Unsubscribe, Publish, Disconnect, Refused, Tick}
 use Rattle.bx_entry.specs.declared.entry.EntryKind.TheVariants as entries
 use Rattle.bx_names.specs.InForce.{in_force}
-use Rattle.bx_entry.specs.Sessions.{Session, Publication, Pending, Stage, Unopened, Live, Closed, connected, subscribed, unsubscribed, with_event, delivered, overflowed, is_live, is_hit, has_room, pending_count, published, expired, ended, closed_by, disconnected, begun, step_by, step, unopened, session}
+use Rattle.bx_entry.specs.Sessions.{Session, Publication, Pending, Stage, Unopened, Live, Closed, connected, subscribed, unsubscribed, with_event, delivered, overflowed, is_live, is_hit, has_room, pending_count, published, expired, ended, closed_by, disconnected, begun, step_by, step, unopened, session, rider_of}
 use Rattle.bx_theory.specs.Readings.{mention_by, last_of}
 use Rattle.bx_theory.specs.Laws.{EachOf, PlacesFrom}
 use Rattle.bx_theory.specs.Events.{IsEvent, GetsPublish, Rising, EventsWerePublished, PublishesAreEvents, EventsRise}
 use Rattle.bx_theory.proofs.Moves.{LaterAt}
 use Rattle.bx_theory.proofs.Counts.{subscribed_by}
-use Rattle.bx_theory.proofs.Keeps.{connected_k, delivered_to_k, released_from_k, expired_from_k, overflow_reading}
+use Rattle.bx_theory.proofs.Keeps.{connected_k, delivered_to_k, released_from_k, expired_from_k, ride_k, overflow_reading}
 use Rattle.bx_theory.proofs.Rising.{RisingBelow, rising_later}
 use Rattle.bx_theory.proofs.Stages.{live_reading}
 use Rattle.bx_theory.proofs.Forces.{in_force_reading}
@@ -81,7 +81,7 @@ step_by_gains config place moment s (Tick numbers) = closed_by_events numbers (e
 
 step_gains : (config : Config) (s : Session) (e : Entry) → (step config s e).events ≡ s.events ++ gains config s e
 unfolding gains
-step_gains config s e = step_by_gains config e.place e.moment s e.kind
+step_gains config s e = (ride_k config e.place (step_by config e.place e.moment s e.kind) (rider_of e.kind e.rides)).events ∙ step_by_gains config e.place e.moment s e.kind
 
 -- ---- many entries
 

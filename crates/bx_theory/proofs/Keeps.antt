@@ -14,9 +14,11 @@ use Rattle.bx_entry.specs.declared.entry.EntryKind.{EntryKind}
 use Rattle.bx_entry.specs.declared.entry.EntryKind.TheVariants.{Connect, Subscribe, Unsubscribe, Publish, Disconnect, Refused, Tick}
 use Rattle.bx_entry.specs.declared.entry.EntryKind.TheVariants as entries
 use Rattle.bx_names.specs.InForce.{with_pattern}
-use Rattle.bx_entry.specs.Sessions.{Session, Publication, Pending, Filed, Stage, Unopened, Live, Closed, filing, answered, unheld, released_from, released, cleared, acknowledged, portion, pending_count, with_batch, formed, forgotten, gives, given, holding, idle, answered_or_held, connected, with_patterns, subscribed, unsubscribed, gives_one, with_event, delivered_to, delivered, overflowed, is_hit, has_room, published, expired_from, expired, ended, closed_by, disconnected, begun, step_by, step, unopened}
+use Rattle.bx_entry.specs.declared.entry.Rider.{Rider}
+use Rattle.bx_message.specs.declared.reply.Reply.{Reply}
+use Rattle.bx_entry.specs.Sessions.{Session, Publication, Pending, Filed, Stage, Unopened, Live, Closed, filing, answered, unheld, released_from, released, cleared, acknowledged, portion, pending_count, with_batch, formed, forgotten, gives, given, holding, idle, answered_or_held, connected, with_patterns, subscribed, unsubscribed, gives_one, with_event, delivered_to, delivered, overflowed, is_hit, has_room, published, expired_from, expired, ended, closed_by, disconnected, begun, step_by, step, unopened, ride_portion, ride_filing, ridden, is_riding, ridden_by, rider_of}
 use Rattle.bx_theory.specs.Readings.{overfills_by, some_overfills, OverflowReading, QueueBounded}
-use Rattle.bx_theory.proofs.Counts.{subscribed_by}
+use Rattle.bx_theory.proofs.Counts.{subscribed_by, ride_both}
 
 pub record Keeps (s t : Session) : Type 0 where
   pub number : t.number ≡ s.number
@@ -102,6 +104,14 @@ pub expired_from_k : (config : Config) (place moment : ℕ) (s : Session) (held 
 expired_from_k config place moment s None = keeps_same s
 expired_from_k config place moment s (Some p) = cond_both (nat_le (p.moment + p.hold) moment) (released config place Connected s) s (Keeps s) (λ h. released_from_k config place Connected s s.held) (λ h. keeps_same s)
 
+-- ---- a rider
+
+pub ridden_k : (config : Config) (place : ℕ) (reply : Reply) (s : Session) → Keeps s (ridden config place reply s)
+ridden_k config place reply s = record { number = refl; stage = refl; overflow = refl; patterns = refl; events = refl; shorter = omega (arith, length-drop (ride_portion config s) s.queue); more = ride_filing config place reply s ∷ []; answers = refl }
+
+pub ride_k : (config : Config) (place : ℕ) (s : Session) (rides : Option Rider) → Keeps s (ridden_by config place s rides)
+ride_k config place s rides = ride_both config place s rides (Keeps s) (keeps_same s) (λ rider h. ridden_k config place rider.reply s)
+
 -- ---- overflow
 
 pub or_false : (b : Bool) → b ≡ (b || false)
@@ -165,7 +175,7 @@ step_by_overflow config place moment s (Tick numbers) = closed_by_overflow numbe
 pub overflow_reading : OverflowReading
 overflow_reading config s [] = or_false s.overflow
 overflow_reading config s (e ∷ es) = overflow_reading config (step config s e) es
-    ∙ ap (λ (b : Bool). b || some_overfills config (step config s e) es) (step_by_overflow config e.place e.moment s e.kind)
+    ∙ ap (λ (b : Bool). b || some_overfills config (step config s e) es) ((ride_k config e.place (step_by config e.place e.moment s e.kind) (rider_of e.kind e.rides)).overflow ∙ step_by_overflow config e.place e.moment s e.kind)
     ∙ or_assoc s.overflow (overfills_by config s e.kind) (some_overfills config (step config s e) es)
 
 -- ---- the queue's bound
@@ -206,7 +216,7 @@ step_by_bound config place moment s (Tick numbers) b = closed_by_bound config nu
 
 run_bound : (config : Config) (s : Session) (es : List Entry) → Bounded config s → Bounded config (fold (step config) s es)
 run_bound config s [] b = b
-run_bound config s (e ∷ es) b = run_bound config (step config s e) es (step_by_bound config e.place e.moment s e.kind b)
+run_bound config s (e ∷ es) b = run_bound config (step config s e) es (kept_bound config (step_by config e.place e.moment s e.kind) (step config s e) (ride_k config e.place (step_by config e.place e.moment s e.kind) (rider_of e.kind e.rides)) (step_by_bound config e.place e.moment s e.kind b))
 
 pub queue_bounded : QueueBounded
 queue_bounded config number es = run_bound config (unopened number) es (omega arith)

@@ -4,15 +4,15 @@ use Rattle.std.proofs.lemmas.Bool.{cond_both}
 use Rattle.std.proofs.lemmas.List.{drop_all}
 use Rattle.bx_advice.specs.declared.config.Config.{Config}
 use Rattle.bx_entry.specs.declared.entry.Entry.{Entry}
-use Rattle.bx_entry.specs.Sessions.{Session, Publication, step_by, step, unopened, session}
+use Rattle.bx_entry.specs.Sessions.{Session, Publication, step, unopened, session}
 use Rattle.bx_entry.specs.Keeping.{Kept, kept, resumed, kept_step, KeptSteps, kept_run, KeptRuns, KeptInBounds}
-use Rattle.bx_entry.proofs.Settled.{Settled, step_by_s}
+use Rattle.bx_entry.proofs.Settled.{Settled, step_s}
 use Rattle.bx_theory.specs.Laws.{InStep}
 use Rattle.bx_theory.proofs.Keeps.{queue_bounded}
 use Rattle.bx_theory.proofs.Counts.{all_in_step, unopened_in_step}
 
 pub kept_steps : KeptSteps
-kept_steps config s e = let a : Settled (λ (t : Session). step_by config e.place e.moment t e.kind) = step_by_s config e.place e.moment e.kind in record { state = a.state s; answers = a.answers s }
+kept_steps config s e = let a : Settled (λ (t : Session). step config t e) = step_s config e in record { state = a.state s; answers = a.answers s }
 
 run_kept : (config : Config) (s : Session) (k : Kept) (es : List Entry) → kept s ≡ k → kept (fold (step config) s es) ≡ fold (kept_step config) k es
 run_kept config s k [] h = h

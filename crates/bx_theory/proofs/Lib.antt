@@ -24,3 +24,4 @@ pub mod Opens
 pub mod AtOnce
 pub mod Sole
 pub mod Ascending
+pub mod Riders

@@ -2,6 +2,7 @@
 use Rattle.std.proofs.Common.{◌≡◌, ℕ, zero, suc, ◌+◌, ◌<◌, ◌≤◌, max, ⊎_elim, Bool, true, Option, Some, None, List, [], ◌∷◌, ◌++◌, length, take, drop, map, find, fold, option_map, slice_get, ◌==◌, refl, sym, ap, ◌∙◌, subst, arith, eqb-true, append-nil, append_assoc, length-take, take-append-drop, take_all, false}
 use Rattle.std.proofs.lemmas.Bool.{cond-true, cond-false, cases_lt}
 use Rattle.std.proofs.lemmas.List.{map-append, length-map, length_push}
+use Rattle.std.proofs.Math.Seq.{take-append_seam}
 use Rattle.std.proofs.lemmas.List.Sums.{fold-append}
 use Rattle.std.proofs.lemmas.List.Folds.{find-append}
 use Rattle.std.specs.Option.{option_or}
@@ -147,6 +148,20 @@ places_above first n (e ∷ es) h d = (omega (arith, d.0), places_above first (n
 
 pub judged_length : (config : Config) (xs : List Listed) → length (registry config xs).judged ≡ length xs
 judged_length config xs = let j : Judges (length xs) empty_registry (registry config xs) = judges config empty_registry xs in ap length j.judged ∙ j.many
+
+-- the first entries are those of the first elements
+pub entries_within : (config : Config) (list : List Listed) (n : ℕ) → n ≤ length list → entries_of (registry config (take n list)) ≡ take n (entries_of (registry config list))
+entries_within config list n h =
+    let xs : List Listed = take n list in
+    let ys : List Listed = drop n list in
+    let r : Registry = registry config (take n list) in
+    let j : Judges (length (drop n list)) (registry config (take n list)) (registry config (take n list ++ drop n list)) =
+    subst (Judges (length (drop n list)) (registry config (take n list))) (sym (fold-append (judge config) empty_registry xs ys)) (judges config r ys) in
+    let count : length (entries_of (registry config (take n list))) ≡ n = omega (arith, length-map r.judged entry_of, judged_length config xs, length-take n list) in
+    sym (ap (λ (zs : List Listed). take n (entries_of (registry config zs))) (sym (take-append-drop n list))
+    ∙ ap (take n) (entries_more r (registry config (take n list ++ drop n list)) j.more j.judged)
+    ∙ ap (λ (k : ℕ). take k (entries_of r ++ map entry_of j.more)) (sym count)
+    ∙ take-append_seam (entries_of r) (map entry_of j.more))
 
 pub entries_length : (config : Config) (xs : List Listed) → length (entries_of (registry config xs)) ≡ length xs
 entries_length config xs = length-map (registry config xs).judged entry_of ∙ judged_length config xs

@@ -15,7 +15,7 @@ use Rattle.bx_message.specs.MessageKinds.{message_kind_of, is_handshake}
 use Rattle.bx_entry.specs.Listing as messages
 use Rattle.bx_entry.specs.declared.entry.Entry.{Entry}
 use Rattle.bx_entry.specs.declared.entry.EntryKind.TheVariants.{Opened, Refused, Tick}
-use Rattle.bx_entry.specs.Registry.{Registry, Registered, Judged, PlaceSlot, Ready, NoSlot, found_at, slot_for, judge, judged_by, refused, opened, served, extended, closed, overdue, is_overdue, named_by, refusal, hold_of, is_ack, client_id, kind_for, empty_registry, entries_of, registry, unnamed, sessionless, sessionless_kind}
+use Rattle.bx_entry.specs.Registry.{Registry, Registered, Judged, PlaceSlot, Ready, NoSlot, found_at, slot_for, rider_for, is_rider, judge, judged_by, refused, opened, served, extended, closed, overdue, is_overdue, named_by, refusal, hold_of, is_ack, client_id, kind_for, empty_registry, entries_of, registry, unnamed, sessionless, sessionless_kind}
 use Rattle.bx_message.specs.Replies.{reply_to}
 use Rattle.bx_message.specs.declared.reply.AckReply.TheVariants as replies
 use Rattle.bx_theory.specs.Readings.{opens_by, closes, since_opening, unclosed, EachSession, SameLive}
@@ -88,9 +88,9 @@ all_stay f e (s ∷ rs) h c = (h s ∙ sym (ap (λ b. s.live && not b) (c s.numb
 refused_agrees : (config : Config) (r : Registry) (moment : ℕ) (p : Posted) (error : Error) (sender : Option Registered) → Agrees r → Agrees (refused config r moment p error sender)
 refused_agrees config r moment p error sender a =
     let t : Registry = refused config r moment p error sender in
-    let e : Entry = record { place = length r.judged; moment = moment; kind = Refused } in
+    let e : Entry = record { place = length r.judged; moment = moment; kind = Refused; rides = None } in
     let s : PlaceSlot = Ready (reply_to config (message_kind_of p.message.channel) p.message (option_map (λ (s : Registered). s.client) sender) (Failed error) replies.NoAck) in
-    agrees_without r (λ s. s) (found_at r moment Refused None 0 s) t (λ s. refl) (λ n. refl) (same_all r.sessions) refl (all_stay (λ s. s) e r.sessions (λ s. refl) (λ n. refl)) a
+    agrees_without r (λ s. s) (found_at r moment Refused None None 0 s) t (λ s. refl) (λ n. refl) (same_all r.sessions) refl (all_stay (λ s. s) e r.sessions (λ s. refl) (λ n. refl)) a
 
 -- ---- a tick
 
@@ -130,10 +130,10 @@ tick_agrees : (config : Config) (r : Registry) (moment : ℕ) → Agrees r → A
 tick_agrees config r moment a =
     let now : ℕ = max r.clock moment in
     let t : Registry = judge config r (messages.Tick moment) in
-    let e : Entry = record { place = length r.judged; moment = now; kind = Tick (overdue now r.sessions) } in
+    let e : Entry = record { place = length r.judged; moment = now; kind = Tick (overdue now r.sessions); rides = None } in
     let one : (s : Registered) → list_any (λ m. m == s.number) (overdue now r.sessions) ≡ is_overdue now s → (cond (is_overdue now s) (record s { live = false }) s).live ≡ (s.live && not (closes s.number e)) =
     λ s h. swept_live now s ∙ ap (λ b. s.live && not b) (sym h) in
-    agrees_without r (λ s. cond (is_overdue now s) (record s { live = false }) s) (found_at r now (Tick (overdue now r.sessions)) None 0 NoSlot) t (swept_number now) (λ n. refl) refl refl
+    agrees_without r (λ s. cond (is_overdue now s) (record s { live = false }) s) (found_at r now (Tick (overdue now r.sessions)) None None 0 NoSlot) t (swept_number now) (λ n. refl) refl refl
     (each_session_map (λ s. list_any (λ m. m == s.number) (overdue now r.sessions) ≡ is_overdue now s) (λ s. (cond (is_overdue now s) (record s { live = false }) s).live ≡ (s.live && not (closes s.number e))) r.sessions one (named_overdue now 1 r.sessions a.numbers)) a
 
 -- ---- a new session
@@ -151,7 +151,7 @@ opened_agrees config r moment p a =
     let number : ℕ = length r.sessions + 1 in
     let t : Registry = opened config r moment p number (is_ack p.message.ack) in
     let new : Registered = record { number = number; client = client_id p.nonce number; ack = is_ack p.message.ack; due = moment + config.max_interval; live = true } in
-    let e : Entry = record { place = length r.judged; moment = moment; kind = Opened number (is_ack p.message.ack) } in
+    let e : Entry = record { place = length r.judged; moment = moment; kind = Opened number (is_ack p.message.ack); rides = None } in
     let more : entries_of t ≡ entries_of r ++ e ∷ [] = map-append (λ (k : Judged). k.entry) r.judged _ in
     let old : (s : Registered) → s.number < 1 + length r.sessions → s.live ≡ reading s.number (entries_of r) → s.live ≡ reading s.number (entries_of t) =
     λ s l h. h ∙ sym (reading_same s.number (entries_of r) e (ne_eqb number s.number (λ g. let f : length r.sessions + 1 ≡ s.number = g in omega arith)) refl) ∙ ap (reading s.number) (sym more) in
@@ -211,14 +211,18 @@ served_close r number due j t opens shuts sessions judged a =
     everyone [] h = tt
     everyone {P = P} (s ∷ rs) h = (h s, everyone {P = P} rs h)
 
+-- what is found of it
+abbrev pub found_of : Config → Registry → ℕ → Posted → MessageKind → Registered → ℕ → Judged
+found_of config r moment p c s hold = found_at r moment (kind_for c p s hold) (rider_for (is_rider config r.senders c p s) s.number (slot_for config c p s)) (Some s.number) hold (slot_for config c p s)
+
 served_agrees : (config : Config) (r : Registry) (moment : ℕ) (p : Posted) (c : MessageKind) (s : Registered) (hold : ℕ) → Agrees r → Agrees (served config r moment p c s hold)
-served_agrees config r moment p MessageKind.Handshake s hold a = served_stay r s.number (moment + hold + config.max_interval) (found_at r moment (kind_for MessageKind.Handshake p s hold) (Some s.number) hold (slot_for config MessageKind.Handshake p s)) (served config r moment p MessageKind.Handshake s hold) (λ n. refl) (λ n. refl) refl refl a
-served_agrees config r moment p MessageKind.Connect s hold a = served_stay r s.number (moment + hold + config.max_interval) (found_at r moment (kind_for MessageKind.Connect p s hold) (Some s.number) hold (slot_for config MessageKind.Connect p s)) (served config r moment p MessageKind.Connect s hold) (λ n. refl) (λ n. refl) refl refl a
-served_agrees config r moment p MessageKind.Subscribe s hold a = served_stay r s.number (moment + hold + config.max_interval) (found_at r moment (kind_for MessageKind.Subscribe p s hold) (Some s.number) hold (slot_for config MessageKind.Subscribe p s)) (served config r moment p MessageKind.Subscribe s hold) (λ n. refl) (λ n. refl) refl refl a
-served_agrees config r moment p MessageKind.Unsubscribe s hold a = served_stay r s.number (moment + hold + config.max_interval) (found_at r moment (kind_for MessageKind.Unsubscribe p s hold) (Some s.number) hold (slot_for config MessageKind.Unsubscribe p s)) (served config r moment p MessageKind.Unsubscribe s hold) (λ n. refl) (λ n. refl) refl refl a
-served_agrees config r moment p MessageKind.Disconnect s hold a = served_close r s.number (moment + hold + config.max_interval) (found_at r moment (kind_for MessageKind.Disconnect p s hold) (Some s.number) hold (slot_for config MessageKind.Disconnect p s)) (served config r moment p MessageKind.Disconnect s hold) (λ n. refl) (λ n. refl) refl refl a
-served_agrees config r moment p MessageKind.Publish s hold a = served_stay r s.number (moment + hold + config.max_interval) (found_at r moment (kind_for MessageKind.Publish p s hold) (Some s.number) hold (slot_for config MessageKind.Publish p s)) (served config r moment p MessageKind.Publish s hold) (λ n. refl) (λ n. refl) refl refl a
-served_agrees config r moment p MessageKind.UnknownMeta s hold a = served_stay r s.number (moment + hold + config.max_interval) (found_at r moment (kind_for MessageKind.UnknownMeta p s hold) (Some s.number) hold (slot_for config MessageKind.UnknownMeta p s)) (served config r moment p MessageKind.UnknownMeta s hold) (λ n. refl) (λ n. refl) refl refl a
+served_agrees config r moment p MessageKind.Handshake s hold a = served_stay r s.number (moment + hold + config.max_interval) (found_of config r moment p MessageKind.Handshake s hold) (served config r moment p MessageKind.Handshake s hold) (λ n. refl) (λ n. refl) refl refl a
+served_agrees config r moment p MessageKind.Connect s hold a = served_stay r s.number (moment + hold + config.max_interval) (found_of config r moment p MessageKind.Connect s hold) (served config r moment p MessageKind.Connect s hold) (λ n. refl) (λ n. refl) refl refl a
+served_agrees config r moment p MessageKind.Subscribe s hold a = served_stay r s.number (moment + hold + config.max_interval) (found_of config r moment p MessageKind.Subscribe s hold) (served config r moment p MessageKind.Subscribe s hold) (λ n. refl) (λ n. refl) refl refl a
+served_agrees config r moment p MessageKind.Unsubscribe s hold a = served_stay r s.number (moment + hold + config.max_interval) (found_of config r moment p MessageKind.Unsubscribe s hold) (served config r moment p MessageKind.Unsubscribe s hold) (λ n. refl) (λ n. refl) refl refl a
+served_agrees config r moment p MessageKind.Disconnect s hold a = served_close r s.number (moment + hold + config.max_interval) (found_of config r moment p MessageKind.Disconnect s hold) (served config r moment p MessageKind.Disconnect s hold) (λ n. refl) (λ n. refl) refl refl a
+served_agrees config r moment p MessageKind.Publish s hold a = served_stay r s.number (moment + hold + config.max_interval) (found_of config r moment p MessageKind.Publish s hold) (served config r moment p MessageKind.Publish s hold) (λ n. refl) (λ n. refl) refl refl a
+served_agrees config r moment p MessageKind.UnknownMeta s hold a = served_stay r s.number (moment + hold + config.max_interval) (found_of config r moment p MessageKind.UnknownMeta s hold) (served config r moment p MessageKind.UnknownMeta s hold) (λ n. refl) (λ n. refl) refl refl a
 
 -- ---- a message of no session
 
@@ -232,7 +236,7 @@ none_opened MessageKind.Disconnect m n = refl
 none_opened MessageKind.Publish m n = refl
 none_opened MessageKind.UnknownMeta m n = refl
 
-none_closed : (c : MessageKind) (m : Message) (place moment n : ℕ) → closes n (record { place = place; moment = moment; kind = sessionless_kind c m }) ≡ false
+none_closed : (c : MessageKind) (m : Message) (place moment n : ℕ) → closes n (record { place = place; moment = moment; kind = sessionless_kind c m; rides = None }) ≡ false
 none_closed MessageKind.Handshake m place moment n = refl
 none_closed MessageKind.Connect m place moment n = refl
 none_closed MessageKind.Subscribe m place moment n = refl
@@ -243,8 +247,8 @@ none_closed MessageKind.UnknownMeta m place moment n = refl
 
 sessionless_agrees : (config : Config) (r : Registry) (moment : ℕ) (p : Posted) (c : MessageKind) → Agrees r → Agrees (sessionless config r moment p c)
 sessionless_agrees config r moment p c a =
-    let e : Entry = record { place = length r.judged; moment = moment; kind = sessionless_kind c p.message } in
-    agrees_without r (λ s. s) (found_at r moment (sessionless_kind c p.message) None 0 (Ready (reply_to config c p.message None Done replies.NoAck))) (sessionless config r moment p c) (λ s. refl) (none_opened c p.message) (same_all r.sessions) refl
+    let e : Entry = record { place = length r.judged; moment = moment; kind = sessionless_kind c p.message; rides = None } in
+    agrees_without r (λ s. s) (found_at r moment (sessionless_kind c p.message) None None 0 (Ready (reply_to config c p.message None Done replies.NoAck))) (sessionless config r moment p c) (λ s. refl) (none_opened c p.message) (same_all r.sessions) refl
     (all_stay (λ s. s) e r.sessions (λ s. refl) (none_closed c p.message (length r.judged) moment)) a
 
 unnamed_agrees : (config : Config) (r : Registry) (moment : ℕ) (p : Posted) (b : Bool) → Agrees r → Agrees (unnamed config r moment p b)

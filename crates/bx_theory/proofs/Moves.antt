@@ -1,5 +1,5 @@
 -- What one entry changes of a session, and what many do: events and answers are added at the end, counts go up, and answers have slices of the events.
-use Rattle.std.proofs.Common.{◌≡◌, ℕ, ◌+◌, ◌<◌, ◌≤◌, Bool, true, false, cond, ◌&&◌, is_some, Option, Some, None, List, [], ◌∷◌, ◌++◌, length, take, drop, nat_lt, nat_le, ◌==◌, refl, sym, ap, ◌∙◌, subst, arith, length-append, length-drop, append-nil, append_assoc}
+use Rattle.std.proofs.Common.{◌≡◌, ℕ, zero, suc, ◌+◌, ◌<◌, ◌≤◌, Bool, true, false, true≢false, cond, ◌&&◌, is_some, Option, Some, None, List, [], ◌∷◌, ◌++◌, length, take, drop, nat_lt, nat_le, ◌==◌, refl, sym, ap, ◌∙◌, subst, arith, length-append, length-drop, append-nil, append_assoc}
 use Rattle.std.proofs.lemmas.Bool.{cond_both, cond-true, cond-false}
 use Rattle.std.proofs.lemmas.List.{drop-append-le, take-append-le, drop_at, length_push}
 use Rattle.std.specs.List.{list_any}
@@ -13,9 +13,11 @@ use Rattle.bx_entry.specs.declared.entry.Entry.{Entry}
 use Rattle.bx_entry.specs.declared.entry.EntryKind.{EntryKind}
 use Rattle.bx_entry.specs.declared.entry.EntryKind.TheVariants.{Connect, Subscribe, Unsubscribe, Publish, Disconnect, Refused, Tick}
 use Rattle.bx_entry.specs.declared.entry.EntryKind.TheVariants as entries
-use Rattle.bx_entry.specs.Sessions.{Session, Publication, Pending, Filed, Stage, Unopened, Live, Closed, filing, answered, unheld, released_from, released, cleared, acknowledged, portion, batch, with_batch, formed, forgotten, gives, given, holding, idle, answered_or_held, connected, overflowed, subscribed, unsubscribed, gives_one, with_event, delivered_to, delivered, is_hit, has_room, published, expired_from, expired, ended, closed_by, disconnected, begun, step_by, step}
+use Rattle.bx_entry.specs.declared.entry.Rider.{Rider}
+use Rattle.bx_message.specs.declared.reply.Reply.{Reply}
+use Rattle.bx_entry.specs.Sessions.{Session, Publication, Pending, Filed, Stage, Unopened, Live, Closed, filing, answered, unheld, released_from, released, cleared, acknowledged, portion, batch, with_batch, formed, forgotten, gives, given, holding, idle, answered_or_held, connected, overflowed, subscribed, unsubscribed, gives_one, with_event, delivered_to, delivered, is_hit, has_room, published, expired_from, expired, ended, closed_by, disconnected, begun, step_by, step, ridden, is_riding, ridden_by, rider_of}
 use Rattle.bx_theory.specs.Laws.{InStep, Each, Slice}
-use Rattle.bx_theory.proofs.Counts.{subscribed_by, few_wait, queue_is, released_in, acknowledged_in, released_from_full, acknowledged_full}
+use Rattle.bx_theory.proofs.Counts.{subscribed_by, rode, ridden_both, ride_both, step_by_in, few_wait, queue_is, released_in, acknowledged_in, released_from_full, acknowledged_full}
 
 -- the batch that is outstanding is the one that was, unless a new one was formed
 abbrev pub Still : Session → Session → Type 0
@@ -340,5 +342,49 @@ step_by_moved config place moment s Refused i = same_moved place s
 step_by_moved config place moment s (Tick numbers) i =
     quiet_moved place s _ (quiet_after place s (expired config place moment s) _ (expired_from_quiet config place moment s s.held) (closed_by_quiet place numbers (expired config place moment s)))
 
-pub step_moved : (config : Config) (s : Session) (e : Entry) → InStep config s → Moved e.place s (step config s e)
-step_moved config s e i = step_by_moved config e.place e.moment s e.kind i
+-- ---- a rider behind it
+
+take_none : (n : ℕ) (ps : List Publication) → ps ≡ [] → take n ps ≡ []
+take_none zero ps h = refl
+take_none (suc n) [] h = refl
+take_none (suc n) (p ∷ ps) h = cc
+
+-- a session that doesn't acknowledge gives a rider what waits
+plain_slice : (config : Config) (t : Session) (low : ℕ) → InStep config t → low ≤ t.done → Slice t.events low (take (portion config t) t.queue)
+plain_slice config t low i h = either t.overflow (Slice t.events low (take (portion config t) t.queue))
+    (λ o. subst (Slice t.events low) (sym (take_none (portion config t) t.queue (i.queue ∙ cond-true t.overflow [] (drop t.done t.events) o))) (empty_slice t.events low))
+    (λ o. record { from = t.done; count = portion config t; above = λ c. h; within = few_wait config t i; is = ap (take (portion config t)) (queue_is config t i o) })
+
+rode_moved : (place count : ℕ) (reply : Reply) (s t : Session) → (t.ack ≡ true → count ≡ 0) → ((low : ℕ) → (t.ack ≡ false → low ≤ t.done) → Slice t.events low (take count t.queue)) → Still s (rode count place reply t) →
+    Moved place s t → Moved place s (rode count place reply t)
+rode_moved place count reply s t acks slice still m =
+    let f : Filed = record { connect = place; place = place; publications = take count t.queue; reply = reply } in
+    record {
+      number = m.number;
+      done = omega (arith, m.done);
+      num = m.num;
+      later = m.later;
+      events = m.events;
+      new = m.new;
+      filed = m.filed ++ f ∷ [];
+      answers = ap (λ (fs : List Filed). fs ++ f ∷ []) m.answers ∙ append_assoc s.answers m.filed (f ∷ []);
+      here = each_append (λ g. g.place ≡ place) m.filed (f ∷ []) m.here (refl, tt);
+      slices = λ low a b. each_append (λ g. Slice t.events low g.publications) m.filed (f ∷ [])
+          (m.slices low (λ h. let l : low ≤ t.done + count = a h in omega (arith, l, acks h)) b)
+          (slice low (λ h. let l : low ≤ s.done = b h in omega (arith, l, m.done)), tt);
+      still = still;
+    }
+
+ridden_moved : (config : Config) (place : ℕ) (reply : Reply) (s t : Session) → InStep config t → Moved place s t → Moved place s (ridden config place reply t)
+ridden_moved config place reply s t i m = ridden_both config place reply t (Moved place s)
+    (λ h. rode_moved place 0 reply s t (λ a. refl) (λ low b. empty_slice t.events low)
+    (λ n o. let k = m.still n o in (k.0, omega (arith, k.1))) m)
+    (λ h. rode_moved place (portion config t) reply s t (λ a. absurd (true≢false (sym a ∙ h))) (λ low b. plain_slice config t low i (b h))
+    (λ n o. absurd (let l : 0 < t.out = o in omega (arith, i.plain h))) m)
+
+-- a move, and the answer to a rider behind it
+pub ride_moved : (config : Config) (place : ℕ) (s t : Session) (rides : Option Rider) → InStep config t → Moved place s t → Moved place s (ridden_by config place t rides)
+ride_moved config place s t rides i m = ride_both config place t rides (Moved place s) m (λ rider h. ridden_moved config place rider.reply s t i m)
+
+pub step_moved : (config : Config) (s : Session) (e : Entry) → 0 < config.limits.batch → InStep config s → Moved e.place s (step config s e)
+step_moved config s e room i = ride_moved config e.place s (step_by config e.place e.moment s e.kind) (rider_of e.kind e.rides) (step_by_in config e.place e.moment s e.kind room i) (step_by_moved config e.place e.moment s e.kind i)

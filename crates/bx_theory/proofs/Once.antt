@@ -1,5 +1,5 @@
 -- The events of a plain session's answers, one answer after another, are its first `done` events.
-use Rattle.std.proofs.Common.{◌≡◌, ℕ, ◌+◌, ◌<◌, ◌≤◌, Bool, false, cond, ◌&&◌, is_some, Option, Some, None, List, [], ◌∷◌, ◌++◌, length, take, fold, nat_lt, nat_le, ◌==◌, refl, sym, ap, ◌∙◌, subst, true≢false, arith, append-nil}
+use Rattle.std.proofs.Common.{◌≡◌, ℕ, ◌+◌, ◌<◌, ◌≤◌, Bool, false, cond, ◌&&◌, is_some, Option, Some, None, List, [], ◌∷◌, ◌++◌, length, take, drop, fold, nat_lt, nat_le, ◌==◌, refl, sym, ap, ◌∙◌, subst, true≢false, arith, append-nil}
 use Rattle.std.proofs.lemmas.Bool.{cond_both, cond-true, cond-false, and_parts}
 use Rattle.std.proofs.lemmas.List.{take-append-le, drop_at}
 use Rattle.std.proofs.lemmas.Grind.{flat_map-append}
@@ -14,9 +14,11 @@ use Rattle.bx_entry.specs.declared.entry.Entry.{Entry}
 use Rattle.bx_entry.specs.declared.entry.EntryKind.{EntryKind}
 use Rattle.bx_entry.specs.declared.entry.EntryKind.TheVariants.{Connect, Subscribe, Unsubscribe, Publish, Disconnect, Refused, Tick}
 use Rattle.bx_entry.specs.declared.entry.EntryKind.TheVariants as entries
-use Rattle.bx_entry.specs.Sessions.{Session, Publication, Pending, Filed, Stage, Unopened, Live, Closed, filing, answered, unheld, released_from, released, cleared, acknowledged, portion, batch, with_batch, formed, forgotten, gives, given, holding, idle, answered_or_held, connected, subscribed, unsubscribed, gives_one, with_event, delivered_to, delivered, overflowed, is_hit, has_room, published, expired_from, expired, ended, closed_by, disconnected, begun, step_by, step, unopened}
+use Rattle.bx_entry.specs.declared.entry.Rider.{Rider}
+use Rattle.bx_message.specs.declared.reply.Reply.{Reply}
+use Rattle.bx_entry.specs.Sessions.{Session, Publication, Pending, Filed, Stage, Unopened, Live, Closed, filing, answered, unheld, released_from, released, cleared, acknowledged, portion, batch, with_batch, formed, forgotten, gives, given, holding, idle, answered_or_held, connected, subscribed, unsubscribed, gives_one, with_event, delivered_to, delivered, overflowed, is_hit, has_room, published, expired_from, expired, ended, closed_by, disconnected, begun, step_by, step, unopened, ridden, ridden_by, rider_of}
 use Rattle.bx_theory.specs.Laws.{InStep, given_in, GivenOnce}
-use Rattle.bx_theory.proofs.Counts.{subscribed_by, acknowledged_in, released_in, stays_in_step, unopened_in_step, queue_is, released_from_full, acknowledged_full}
+use Rattle.bx_theory.proofs.Counts.{subscribed_by, rode, ridden_both, ride_both, step_by_in, acknowledged_in, released_in, stays_in_step, unopened_in_step, queue_is, released_from_full, acknowledged_full}
 
 abbrev Once : Session → Type 0
 Once s = s.ack ≡ false → given_in s.answers ≡ take s.done s.events
@@ -114,9 +116,31 @@ step_by_o config place moment s (Disconnect n) i o = cond_both (n == s.number) (
 step_by_o config place moment s Refused i o = o
 step_by_o config place moment s (Tick numbers) i o = closed_by_o numbers (expired config place moment s) (expired_from_o config place moment s s.held o)
 
+-- a rider is given what waits behind the first `done` events
+ridden_o : (config : Config) (place : ℕ) (reply : Reply) (s : Session) → InStep config s → Once s → Once (ridden config place reply s)
+ridden_o config place reply s i o = ridden_both config place reply s Once
+    (λ h a. absurd (true≢false (sym h ∙ a)))
+    (λ h. either s.overflow (Once (rode (portion config s) place reply s))
+    (λ f.
+    let empty : s.queue ≡ [] = i.queue ∙ cond-true s.overflow [] (drop s.done s.events) f in
+    let nothing : portion config s ≡ 0 = omega (arith, ap length empty) in
+    subst (λ (n : ℕ). Once (rode n place reply s)) (sym nothing)
+    (λ a. given_push s.answers _ ∙ append-nil (given_in s.answers) ∙ o h ∙ ap (λ (n : ℕ). take n s.events) (let e : s.done ≡ s.done + 0 = omega arith in e)))
+    (λ f a. given_push s.answers _
+    ∙ ap (λ (ps : List Publication). ps ++ take (portion config s) s.queue) (o h)
+    ∙ ap (λ (ps : List Publication). take s.done s.events ++ take (portion config s) ps) (queue_is config s i f)
+    ∙ sym (take-add s.done (portion config s) s.events)))
+
+step_o : (config : Config) (s : Session) (e : Entry) → 0 < config.limits.batch → InStep config s → Once s → Once (step config s e)
+step_o config s e room i o =
+    let u : Session = step_by config e.place e.moment s e.kind in
+    let j : InStep config (step_by config e.place e.moment s e.kind) = step_by_in config e.place e.moment s e.kind room i in
+    let q : Once (step_by config e.place e.moment s e.kind) = step_by_o config e.place e.moment s e.kind i o in
+    ride_both config e.place u (rider_of e.kind e.rides) Once q (λ rider h. ridden_o config e.place rider.reply (step_by config e.place e.moment s e.kind) j q)
+
 run_o : (config : Config) (s : Session) (es : List Entry) → 0 < config.limits.batch → InStep config s → Once s → Once (fold (step config) s es)
 run_o config s [] room i o = o
-run_o config s (e ∷ es) room i o = run_o config (step config s e) es room (stays_in_step config s e room i) (step_by_o config e.place e.moment s e.kind i o)
+run_o config s (e ∷ es) room i o = run_o config (step config s e) es room (stays_in_step config s e room i) (step_o config s e room i o)
 
 pub given_once : GivenOnce
 given_once config number es room = run_o config (unopened number) es room (unopened_in_step config number) (λ a. refl)

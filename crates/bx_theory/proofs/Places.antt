@@ -1,6 +1,6 @@
--- An answer is one to a connect that was there.
+-- An answer is one to a connect or a rider that was there.
 use Rattle.std.proofs.Common.{◌≡◌, sym, ◌∙◌, true, ◌≤◌, ℕ, ◌+◌, ◌<◌, Bool, cond, ◌&&◌, Option, Some, None, List, [], ◌∷◌, length, fold, nat_lt, nat_le, ◌==◌, subst, arith}
-use Rattle.std.proofs.lemmas.Bool.{cond_both}
+use Rattle.std.proofs.lemmas.Bool.{cond_both, and_parts}
 use Rattle.std.specs.List.{list_any}
 use Rattle.bx_advice.specs.declared.config.Config.{Config}
 use Rattle.bx_advice.specs.declared.advice.Outcome.{Outcome}
@@ -10,12 +10,13 @@ use Rattle.bx_entry.specs.declared.entry.Entry.{Entry}
 use Rattle.bx_entry.specs.declared.entry.EntryKind.{EntryKind}
 use Rattle.bx_entry.specs.declared.entry.EntryKind.TheVariants.{Connect, Subscribe, Unsubscribe, Publish, Disconnect, Refused, Tick}
 use Rattle.bx_entry.specs.declared.entry.EntryKind.TheVariants as entries
-use Rattle.bx_entry.specs.Sessions.{Session, Publication, Pending, Stage, Unopened, Live, Closed, filing, answered, unheld, released_from, released, cleared, acknowledged, portion, with_batch, formed, forgotten, gives, given, holding, idle, answered_or_held, connected, subscribed, unsubscribed, gives_one, with_event, delivered_to, delivered, overflowed, is_hit, has_room, published, expired_from, expired, ended, closed_by, disconnected, begun, step_by, step, unopened}
+use Rattle.bx_entry.specs.declared.entry.Rider.{Rider}
+use Rattle.bx_entry.specs.Sessions.{Session, Publication, Pending, Stage, Unopened, Live, Closed, filing, answered, unheld, released_from, released, cleared, acknowledged, portion, with_batch, formed, forgotten, gives, given, holding, idle, answered_or_held, connected, subscribed, unsubscribed, gives_one, with_event, delivered_to, delivered, overflowed, is_hit, has_room, published, expired_from, expired, ended, closed_by, disconnected, begun, step_by, step, unopened, ridden_by, ride_filing, ridden, is_riding, is_live, rider_of}
 use Rattle.bx_theory.specs.Laws.{Each, PlacesFrom}
-use Rattle.bx_theory.proofs.Counts.{subscribed_by}
+use Rattle.bx_theory.proofs.Counts.{subscribed_by, rider_of_both}
 use Rattle.bx_theory.proofs.Moves.{each_append}
 use Rattle.bx_theory.proofs.Runs.{EachEntry}
-use Rattle.bx_theory.proofs.Stages.{step_number}
+use Rattle.bx_theory.proofs.Stages.{step_number, step_by_next}
 
 abbrev HeldOnly : (ℕ → Type 0) → Option Pending → Type 0
 HeldOnly P None = Unit {0}
@@ -121,11 +122,24 @@ step_by_b P config place moment s (Disconnect m) l b = cond_both (m == s.number)
 step_by_b P config place moment s Refused l b = b
 step_by_b P config place moment s (Tick numbers) l b = closed_by_b P numbers (expired config place moment s) (expired_from_b P config place moment s s.held b)
 
-pub run_only : (config : Config) (P : ℕ → Type 0) (number : ℕ) (s : Session) (es : List Entry) → s.number ≡ number → EachEntry (λ e. Allowed P number e.place e.kind) es → Only P s → Only P (fold (step config) s es)
+-- and so has a rider of it
+abbrev pub AllowedRide : (ℕ → Type 0) → ℕ → ℕ → Option Rider → Type 0
+AllowedRide P number place None = Unit {0}
+AllowedRide P number place (Some rider) = (rider.session == number) ≡ true → P place
+
+ride_b : (P : ℕ → Type 0) (config : Config) (place : ℕ) (s : Session) (rides : Option Rider) → AllowedRide P s.number place rides → Only P s → Only P (ridden_by config place s rides)
+ride_b P config place s None l b = b
+ride_b P config place s (Some rider) l b = cond_both (is_riding rider s) (ridden config place rider.reply s) s (Only P)
+    (λ h. record { held = b.held; answers = each_append (λ f. P f.connect) s.answers (ride_filing config place rider.reply s ∷ []) b.answers (l (and_parts (rider.session == s.number) (is_live s.stage) h).0, tt) })
+    (λ h. b)
+
+pub run_only : (config : Config) (P : ℕ → Type 0) (number : ℕ) (s : Session) (es : List Entry) → s.number ≡ number → EachEntry (λ e. Allowed P number e.place e.kind × AllowedRide P number e.place e.rides) es → Only P s → Only P (fold (step config) s es)
 run_only config P number s [] h d b = b
 run_only config P number s (e ∷ es) h d b =
     run_only config P number (step config s e) es (step_number config s e ∙ h) d.1
-    (step_by_b P config e.place e.moment s e.kind (subst (λ (n : ℕ). Allowed P n e.place e.kind) (sym h) d.0) b)
+    (ride_b P config e.place (step_by config e.place e.moment s e.kind) (rider_of e.kind e.rides)
+    (subst (λ (n : ℕ). AllowedRide P n e.place (rider_of e.kind e.rides)) (sym ((step_by_next config e.place e.moment s e.kind).number ∙ h)) (rider_of_both e.kind e.rides (AllowedRide P number e.place) tt d.0.1))
+    (step_by_b P config e.place e.moment s e.kind (subst (λ (n : ℕ). Allowed P n e.place e.kind) (sym h) d.0.0) b))
 
 pub only_unopened : (P : ℕ → Type 0) (number : ℕ) → Only P (unopened number)
 only_unopened P number = record { held = tt; answers = tt }
@@ -141,6 +155,10 @@ below_allowed bound number place (Disconnect n) h = tt
 below_allowed bound number place Refused h = tt
 below_allowed bound number place (Tick numbers) h = tt
 
-pub all_allowed : (bound number n : ℕ) (es : List Entry) → n + length es ≤ bound → PlacesFrom n es → EachEntry (λ e. Allowed (λ k. k < bound) number e.place e.kind) es
+below_rides : (bound number place : ℕ) (rides : Option Rider) → place < bound → AllowedRide (λ n. n < bound) number place rides
+below_rides bound number place None h = tt
+below_rides bound number place (Some rider) h = λ e. h
+
+pub all_allowed : (bound number n : ℕ) (es : List Entry) → n + length es ≤ bound → PlacesFrom n es → EachEntry (λ e. Allowed (λ k. k < bound) number e.place e.kind × AllowedRide (λ k. k < bound) number e.place e.rides) es
 all_allowed bound number n [] h d = tt
-all_allowed bound number n (e ∷ es) h d = (below_allowed bound number e.place e.kind (omega (arith, h, d.0)), all_allowed bound number (n + 1) es (omega (arith, h)) d.1)
+all_allowed bound number n (e ∷ es) h d = ((below_allowed bound number e.place e.kind (omega (arith, h, d.0)), below_rides bound number e.place e.rides (omega (arith, h, d.0))), all_allowed bound number (n + 1) es (omega (arith, h)) d.1)

@@ -46,14 +46,14 @@ rising_later n events (e ∷ []) l r = record {
 }
 rising_later n events (e ∷ f ∷ fs) l r = absurd l
 
-rising_step : (config : Config) (n : ℕ) (s : Session) (e : Entry) → e.place ≡ n → InStep config s → RisingBelow n s.events → RisingBelow (n + 1) (step config s e).events
-rising_step config n s e h i r =
-    let m : Moved e.place s (step config s e) = step_moved config s e i in
+rising_step : (config : Config) (n : ℕ) (s : Session) (e : Entry) → e.place ≡ n → 0 < config.limits.batch → InStep config s → RisingBelow n s.events → RisingBelow (n + 1) (step config s e).events
+rising_step config n s e h room i r =
+    let m : Moved e.place s (step config s e) = step_moved config s e room i in
     subst (RisingBelow (n + 1)) (sym m.events) (rising_later n s.events m.later (subst (λ (k : ℕ). LaterAt k m.later) h m.new) r)
 
 rising_run : (config : Config) (n : ℕ) (s : Session) (es : List Entry) → 0 < config.limits.batch → PlacesFrom n es → InStep config s → RisingBelow n s.events → Rising (fold (step config) s es).events
 rising_run config n s [] room d i r = r.rising
-rising_run config n s (e ∷ es) room d i r = rising_run config (n + 1) (step config s e) es room d.1 (stays_in_step config s e room i) (rising_step config n s e d.0 i r)
+rising_run config n s (e ∷ es) room d i r = rising_run config (n + 1) (step config s e) es room d.1 (stays_in_step config s e room i) (rising_step config n s e d.0 room i r)
 
 -- ---- apart
 

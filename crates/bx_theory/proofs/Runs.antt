@@ -81,7 +81,7 @@ pub run_grown : (config : Config) (first : ℕ) (s : Session) (es : List Entry) 
 run_grown config first s [] room i d = grown_same first s
 run_grown config first s (e ∷ es) room i d =
     grown_after first s (step config s e) (fold (step config) (step config s e) es)
-    (moved_grown first e.place s (step config s e) d.0 (step_moved config s e i))
+    (moved_grown first e.place s (step config s e) d.0 (step_moved config s e room i))
     (run_grown config first (step config s e) es room (stays_in_step config s e room i) d.1)
 
 -- ---- never given again
@@ -104,5 +104,5 @@ never_given_again config number xs e ys room =
     let s = session config number xs in
     let i : InStep config s = all_in_step config (unopened number) xs room (unopened_in_step config number) in
     gives_from config e.place s (step config s e) (fold (step config) (step config s e) ys)
-    (step_moved config s e i)
+    (step_moved config s e room i)
     (run_grown config 0 (step config s e) ys room (stays_in_step config s e room i) (all_places ys))

@@ -11,13 +11,18 @@ use Rattle.bx_message.specs.MessageKinds.{message_kind_of, is_handshake}
 use Rattle.bx_entry.specs.Listing.{Listed, Post, Posted, listed_from}
 use Rattle.bx_entry.specs.Inputs.{ReadInput, Request, Unread, Tick, refusal_of, added_by}
 use Rattle.bx_entry.specs.declared.input.Refusal.{Refusal}
-use Rattle.bx_entry.specs.Registry.{Registry, Registered, Judged, PlaceSlot, Ready, Waiting, NoSlot, judge, judged_by, slot_for, named_by, refusal, registry, empty_registry, entries_of, unnamed}
-use Rattle.bx_entry.specs.Answers.{answer_by, answer_at, answer_in}
+use Rattle.bx_entry.specs.Registry.{Registry, Registered, Judged, PlaceSlot, Ready, Waiting, NoSlot, judge, judged_by, slot_for, slot_with, rider_for, is_rider, named_by, refusal, hold_of, registry, empty_registry, entries_of, unnamed}
+use Rattle.bx_entry.specs.Sessions.{is_live, session}
+use Rattle.bx_entry.specs.declared.entry.Rider.{Rider}
+use Rattle.bx_entry.specs.Answers.{answer_by, answer_at, answer_in, answer}
 use Rattle.bx_entry.specs.Runs.{Intake, Taking, taken_as, take_in, taken_in, numbers_from, places_of, latest}
 use Rattle.bx_theory.specs.Opens.{Numbered, numbered_from, is_whole}
 use Rattle.bx_theory.specs.Sole.{IsConnect, OpenAreSole}
-use Rattle.bx_theory.proofs.Lists.{judged_length, judged_more}
-use Rattle.bx_theory.proofs.AtOnce.{There, AllThere, got_last, latest_there, messages_there}
+use Rattle.bx_theory.proofs.Lists.{judged_length, judged_more, answer_more}
+use Rattle.bx_theory.proofs.AtOnce.{There, AllThere, got_last, latest_there, messages_there, rider_served}
+use Rattle.bx_theory.proofs.Lives.{found_of}
+use Rattle.bx_theory.proofs.Senders.{sender_reads}
+use Rattle.bx_theory.proofs.Stages.{live_reading}
 
 -- ---- where the messages of an input stand
 
@@ -73,10 +78,11 @@ IsSlot (Ready reply) = Unit {0}
 IsSlot (Waiting number) = Unit {0}
 IsSlot NoSlot = ⊥
 
-record Adds (r t : Registry) : Type 0 where
+record Adds (config : Config) (r t : Registry) : Type 0 where
   found : Judged
   judged : t.judged ≡ r.judged ++ found ∷ []
   slot : IsSlot found.slot
+  rider : (rider : Rider) → found.entry.rides ≡ Some rider → There (answer_in config t (length r.judged))
 
 slot_for_is : (config : Config) (c : MessageKind) (p : Posted) (s : Registered) → IsSlot (slot_for config c p s)
 slot_for_is config MessageKind.Handshake p s = tt
@@ -87,25 +93,41 @@ slot_for_is config MessageKind.Disconnect p s = tt
 slot_for_is config MessageKind.Publish p s = tt
 slot_for_is config MessageKind.UnknownMeta p s = tt
 
-unnamed_adds : (config : Config) (r : Registry) (moment : ℕ) (p : Posted) (b : Bool) → Adds r (unnamed config r moment p b)
-unnamed_adds config r moment p true = record { found = _; judged = refl; slot = tt }
-unnamed_adds config r moment p false = record { found = _; judged = refl; slot = tt }
+-- a rider waits for its session
+slot_with_is : (b : Bool) (n : ℕ) (slot : PlaceSlot) → IsSlot slot → IsSlot (slot_with (rider_for b n slot) slot)
+slot_with_is true n (Ready reply) h = tt
+slot_with_is true n (Waiting number) h = h
+slot_with_is true n NoSlot h = h
+slot_with_is false n slot h = h
 
-judged_by_adds : (config : Config) (r : Registry) (moment : ℕ) (p : Posted) (sender : Option Registered) (error : Option Error) → Adds r (judged_by config r moment p sender error)
-judged_by_adds config r moment p sender (Some error) = record { found = _; judged = refl; slot = tt }
-judged_by_adds config r moment p None None = unnamed_adds config r moment p (is_handshake p.message)
-judged_by_adds config r moment p (Some s) None = record { found = _; judged = refl; slot = slot_for_is config (message_kind_of p.message.channel) p s }
+unnamed_adds : (config : Config) (r : Registry) (moment : ℕ) (p : Posted) (b : Bool) → Adds config r (unnamed config r moment p b)
+unnamed_adds config r moment p true = record { found = _; judged = refl; slot = tt; rider = λ rider e. cc }
+unnamed_adds config r moment p false = record { found = _; judged = refl; slot = tt; rider = λ rider e. cc }
+
+judged_by_adds : (config : Config) (r : Registry) (moment : ℕ) (p : Posted) (sender : Option Registered) (error : Option Error) → ((s : Registered) → sender ≡ Some s → is_live (session config s.number (entries_of r)).stage ≡ true) → Adds config r (judged_by config r moment p sender error)
+judged_by_adds config r moment p sender (Some error) live = record { found = _; judged = refl; slot = tt; rider = λ rider e. cc }
+judged_by_adds config r moment p None None live = unnamed_adds config r moment p (is_handshake p.message)
+judged_by_adds config r moment p (Some s) None live = record {
+  found = found_of config r moment p (message_kind_of p.message.channel) s (hold_of config p);
+  judged = refl;
+  slot = slot_with_is (is_rider config r.senders (message_kind_of p.message.channel) p s) s.number (slot_for config (message_kind_of p.message.channel) p s) (slot_for_is config (message_kind_of p.message.channel) p s);
+  rider = λ rider e. rider_served config r moment p (message_kind_of p.message.channel) s (hold_of config p) (live s refl) rider e;
+}
 
 -- a message is answered by what was found at its place
 record FoundAt (config : Config) (list : List Listed) (place : ℕ) : Type 0 where
   found : Judged
   is : slice_get (registry config list).judged place ≡ Some found
   slot : IsSlot found.slot
+  rider : (rider : Rider) → found.entry.rides ≡ Some rider → There (answer_in config (registry config list) place)
 
-found_at : (config : Config) (list xs ys : List Listed) (p : Posted) → xs ++ (Post p ∷ ys) ≡ list → FoundAt config list (length xs)
-found_at config list xs ys p e =
+found_at : (config : Config) (list xs ys : List Listed) (p : Posted) → 0 < config.limits.batch → xs ++ (Post p ∷ ys) ≡ list → FoundAt config list (length xs)
+found_at config list xs ys p room e =
     let r : Registry = registry config xs in
-    let a : Adds (registry config xs) (judge config (registry config xs) (Post p)) = judged_by_adds config r (max r.clock p.moment) p (named_by r.sessions (message_kind_of p.message.channel) p.message) (refusal config r.sessions p) in
+    let a : Adds config (registry config xs) (judge config (registry config xs) (Post p)) =
+    judged_by_adds config r (max r.clock p.moment) p (named_by r.sessions (message_kind_of p.message.channel) p.message) (refusal config r.sessions p)
+    (λ s g. live_reading config s.number (entries_of r) ∙ sender_reads config xs p s g) in
+    let next : registry config (xs ++ Post p ∷ []) ≡ judge config (registry config xs) (Post p) = fold-append (judge config) empty_registry xs (Post p ∷ []) in
     let judged : (registry config (xs ++ Post p ∷ [])).judged ≡ r.judged ++ a.found ∷ [] = ap (λ (t : Registry). t.judged) (fold-append (judge config) empty_registry xs (Post p ∷ [])) ∙ a.judged in
     let here : slice_get (registry config (xs ++ Post p ∷ [])).judged (length xs) ≡ Some a.found =
     ap (λ (js : List Judged). slice_get js (length xs)) judged ∙ ap (slice_get (r.judged ++ a.found ∷ [])) (sym (judged_length config xs)) ∙ got_last r.judged a.found in
@@ -113,6 +135,15 @@ found_at config list xs ys p e =
       found = a.found;
       is = subst (λ (zs : List Listed). slice_get (registry config zs).judged (length xs) ≡ Some a.found) (append_assoc xs (Post p ∷ []) ys ∙ e) (judged_more config (xs ++ Post p ∷ []) ys (length xs) a.found here);
       slot = a.slot;
+      rider = λ rider g.
+          let t : There (answer_in config (judge config (registry config xs) (Post p)) (length (registry config xs).judged)) = a.rider rider g in
+          record {
+            answer = t.answer;
+            is = ap (λ (zs : List Listed). answer config zs (length xs)) (sym e ∙ sym (append_assoc xs (Post p ∷ []) ys))
+                ∙ answer_more config (xs ++ Post p ∷ []) ys (length xs) t.answer room
+                (ap (λ (u : Registry). answer_in config u (length xs)) next
+                ∙ ap (answer_in config (judge config (registry config xs) (Post p))) (sym (judged_length config xs)) ∙ t.is);
+          };
     }
 
 -- ---- an input that is not whole
@@ -127,22 +158,33 @@ not_there config list ps n d = both_ways (is_some (latest 0 (map (answer_in conf
 record Waits (config : Config) (list : List Listed) (place : ℕ) : Type 0 where
   session : ℕ
   waits : option_map (λ (j : Judged). j.slot) (slice_get (registry config list).judged place) ≡ Some (Waiting session)
+  unridden : option_map (λ (j : Judged). j.entry.rides) (slice_get (registry config list).judged place) ≡ Some None
 
-waits_by : (config : Config) (list : List Listed) (place : ℕ) (j : Judged) (slot : PlaceSlot) → slice_get (registry config list).judged place ≡ Some j → j.slot ≡ slot → IsSlot slot → NotWhole config list (place ∷ []) → Waits config list place
-waits_by config list place j (Ready reply) e s i n =
+-- a rider is answered
+not_ridden : (config : Config) (list : List Listed) (place : ℕ) (rides : Option Rider) → ((rider : Rider) → rides ≡ Some rider → There (answer_in config (registry config list) place)) → NotWhole config list (place ∷ []) → rides ≡ None
+not_ridden config list place None h n = refl
+not_ridden config list place (Some rider) h n = absurd (not_there config list (place ∷ []) n (h rider refl, tt))
+
+waits_by : (config : Config) (list : List Listed) (place : ℕ) (j : Judged) (slot : PlaceSlot) → slice_get (registry config list).judged place ≡ Some j → j.slot ≡ slot → IsSlot slot →
+    ((rider : Rider) → j.entry.rides ≡ Some rider → There (answer_in config (registry config list) place)) → NotWhole config list (place ∷ []) → Waits config list place
+waits_by config list place j (Ready reply) e s i h n =
     let there : There (answer_in config (registry config list) place) = record {
       answer = record { place = place; events = []; reply = reply };
       is = ap (answer_at config (entries_of (registry config list)) place) e ∙ ap (answer_by config (entries_of (registry config list)) place) s;
     } in
     absurd (not_there config list (place ∷ []) n (there, tt))
-waits_by config list place j (Waiting number) e s i n = record { session = number; waits = ap (option_map (λ (k : Judged). k.slot)) e ∙ ap Some s }
-waits_by config list place j NoSlot e s i n = absurd i
+waits_by config list place j (Waiting number) e s i h n = record {
+  session = number;
+  waits = ap (option_map (λ (k : Judged). k.slot)) e ∙ ap Some s;
+  unridden = ap (option_map (λ (k : Judged). k.entry.rides)) e ∙ ap Some (not_ridden config list place j.entry.rides h n);
+}
+waits_by config list place j NoSlot e s i h n = absurd i
 
 -- a request of one message
-one_waits : (config : Config) (list xs ys : List Listed) (p : Posted) → xs ++ (Post p ∷ ys) ≡ list → NotWhole config list (length xs ∷ []) → Waits config list (length xs)
-one_waits config list xs ys p e n =
-    let f : FoundAt config list (length xs) = found_at config list xs ys p e in
-    waits_by config list (length xs) f.found f.found.slot f.is refl f.slot n
+one_waits : (config : Config) (list xs ys : List Listed) (p : Posted) → 0 < config.limits.batch → xs ++ (Post p ∷ ys) ≡ list → NotWhole config list (length xs ∷ []) → Waits config list (length xs)
+one_waits config list xs ys p room e n =
+    let f : FoundAt config list (length xs) = found_at config list xs ys p room e in
+    waits_by config list (length xs) f.found f.found.slot f.is refl f.slot f.rider n
 
 -- what an input that is not whole is
 record Single (config : Config) (list : List Listed) (d : Intake) (input : ReadInput) : Type 0 where
@@ -157,7 +199,7 @@ request_single config list d moment nonce (m ∷ []) room s n =
     let here : NotWhole config list (length s.before ∷ []) = subst (λ (k : ℕ). NotWhole config list (k ∷ [])) s.first (subst (NotWhole config list) one n) in
     record {
       sole = one;
-      waits = subst (Waits config list) (sym s.first) (one_waits config list s.before s.behind _ s.whole here);
+      waits = subst (Waits config list) (sym s.first) (one_waits config list s.before s.behind _ room s.whole here);
     }
 request_single config list d moment nonce (m ∷ k ∷ ms) room s n =
     let many : (length (m ∷ k ∷ ms) == 1) ≡ false = ne_eqb (length (m ∷ k ∷ ms)) 1 (λ e. absurd (let l : suc (suc (length ms)) ≡ 1 = e in omega arith)) in
@@ -184,7 +226,7 @@ is_connect_by : (config : Config) (list : List Listed) (o : Numbered) (refusal :
     is_whole config (registry config list) o ≡ false → IsConnect config list o
 is_connect_by config list o None room e p n =
     let s : Single config list o.intake o.intake.input = stands_single config list o.intake o.intake.input room p n in
-    record { session = s.waits.session; accepted = e; sole = s.sole; waits = s.waits.waits }
+    record { session = s.waits.session; accepted = e; sole = s.sole; waits = s.waits.waits; unridden = s.waits.unridden }
 is_connect_by config list o (Some refusal) room e p n = absurd (both_ways (is_whole config (registry config list) o) n (none_missing config list o.intake o.intake.input p))
 
 opens_connect : (config : Config) (list : List Listed) (number : ℕ) (ds : List Intake) → 0 < config.limits.batch → EachPlaced list ds →

@@ -8,10 +8,10 @@ use Rattle.bx_entry.specs.declared.entry.Entry.{Entry}
 use Rattle.bx_entry.specs.declared.entry.EntryKind.{EntryKind}
 use Rattle.bx_entry.specs.declared.entry.EntryKind.TheVariants.{Connect, Subscribe, Unsubscribe, Publish, Disconnect, Refused, Tick}
 use Rattle.bx_entry.specs.declared.entry.EntryKind.TheVariants as entries
-use Rattle.bx_entry.specs.Sessions.{Session, Publication, Pending, Stage, Unopened, Live, Closed, released, connected, subscribed, unsubscribed, with_event, delivered, overflowed, is_live, is_hit, has_room, published, expired, stage_after, ended, disconnected, begun, step_by, step, unopened}
+use Rattle.bx_entry.specs.Sessions.{Session, Publication, Pending, Stage, Unopened, Live, Closed, released, connected, subscribed, unsubscribed, with_event, delivered, overflowed, is_live, is_hit, has_room, published, expired, stage_after, ended, disconnected, begun, step_by, step, unopened, rider_of}
 use Rattle.bx_theory.specs.Readings.{opens_by, closes_by, closes, since_opening, unclosed, LiveReading}
 use Rattle.bx_theory.proofs.Counts.{subscribed_by}
-use Rattle.bx_theory.proofs.Keeps.{Keeps, connected_k, delivered_to_k, released_from_k, expired_from_k}
+use Rattle.bx_theory.proofs.Keeps.{Keeps, connected_k, delivered_to_k, released_from_k, expired_from_k, ride_k}
 
 -- number and stage
 record Stays (s t : Session) : Type 0 where
@@ -93,8 +93,34 @@ step_by_next config place moment s (Tick numbers) =
       stage = closed_next t s.stage (list_any (λ n. n == t.number) numbers) k.stage ∙ ap (λ (m : ℕ). cond (list_any (λ n. n == m) numbers) (stage_after s.stage) s.stage) k.number;
     }
 
+-- a rider changes neither number nor stage
+pub step_next : (config : Config) (s : Session) (e : Entry) → Next s e.kind (step config s e)
+step_next config s e =
+    let n : Next s e.kind (step_by config e.place e.moment s e.kind) = step_by_next config e.place e.moment s e.kind in
+    let k : Keeps (step_by config e.place e.moment s e.kind) (step config s e) = ride_k config e.place (step_by config e.place e.moment s e.kind) (rider_of e.kind e.rides) in
+    record { number = k.number ∙ n.number; stage = k.stage ∙ n.stage }
+
 pub step_number : (config : Config) (s : Session) (e : Entry) → (step config s e).number ≡ s.number
-step_number config s e = (step_by_next config e.place e.moment s e.kind).number
+step_number config s e = (step_next config s e).number
+
+-- what was opened stays so
+pub next_opened : (stage : Stage) (opens shuts : Bool) → (stage ≡ Unopened → ⊥) → cond opens (stage_of_opening stage) (cond shuts (stage_after stage) stage) ≡ Unopened → ⊥
+unfolding stage_of_opening
+next_opened Unopened opens shuts w h = w refl
+next_opened Live true shuts w h = cc
+next_opened Live false true w h = cc
+next_opened Live false false w h = cc
+next_opened Closed true shuts w h = cc
+next_opened Closed false true w h = cc
+next_opened Closed false false w h = cc
+
+-- and what isn't is opened by an entry alone
+pub next_unopened : (stage : Stage) (opens shuts : Bool) → opens ≡ false → stage ≡ Unopened → cond opens (stage_of_opening stage) (cond shuts (stage_after stage) stage) ≡ Unopened
+next_unopened stage true shuts o h = cc
+next_unopened Unopened false true o h = refl
+next_unopened Unopened false false o h = refl
+next_unopened Live false shuts o h = cc
+next_unopened Closed false shuts o h = cc
 
 -- what the entries to come leave live
 abbrev reads : ℕ → Stage → List Entry → Bool
@@ -140,7 +166,7 @@ live_none number Closed = refl
 live_run : (config : Config) (s : Session) (es : List Entry) → is_live (fold (step config) s es).stage ≡ reads s.number s.stage es
 live_run config s [] = live_none s.number s.stage
 live_run config s (e ∷ es) =
-    let n = step_by_next config e.place e.moment s e.kind in
+    let n = step_next config s e in
     live_run config (step config s e) es
     ∙ ap (λ (m : ℕ). reads m (step config s e).stage es) n.number
     ∙ ap (λ (st : Stage). reads s.number st es) n.stage

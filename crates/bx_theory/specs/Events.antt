@@ -70,7 +70,7 @@ abbrev pub EachEvent : (Event → Type 0) → List Event → Type 0
 EachEvent P [] = ⊤
 EachEvent P (e ∷ es) = P e × EachEvent P es
 
--- Some accepted publish of the list has this event, byte for byte, and the session whose connect stands at `place` gets it there.
+-- Some accepted publish of the list has this event, byte for byte, and the session whose connect or rider stands at `place` gets it there.
 pub record WasPublished (config : Config) (list : List Listed) (place : ℕ) (e : Event) : Type 0 where
   pub number : ℕ
   pub asked : option_map (λ (j : Judged). j.slot) (slice_get (registry config list).judged place) ≡ Some (Waiting number)

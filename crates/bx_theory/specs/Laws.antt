@@ -1,11 +1,13 @@
 -- Laws over the definitions, each for every list.
-use Rattle.std.specs.Prelude.{ℕ, ◌+◌, ◌≡◌, ◌≤◌, ◌<◌, true, false, is_some, List, [], ◌∷◌, ◌++◌, length, take, drop, fold, flat_map, if◌then◌else◌, Option, Some, None, ⊤}
+use Rattle.std.specs.Prelude.{ℕ, ◌+◌, ◌≡◌, ◌≤◌, ◌<◌, ◌==◌, Bool, true, false, is_some, List, [], ◌∷◌, ◌++◌, length, take, drop, fold, flat_map, if◌then◌else◌, Option, Some, None, ⊤}
+use Rattle.std.specs.List.{AllByRecursion}
 use Rattle.bx_advice.specs.declared.config.Config.{Config}
 use Rattle.bx_entry.specs.Listing.{Listed}
 use Rattle.bx_message.specs.declared.reply.AckReply.TheVariants.{AckNumber}
 use Rattle.bx_entry.specs.declared.entry.Entry.{Entry}
 use Rattle.bx_entry.specs.declared.entry.EntryKind.TheVariants.{Connect}
-use Rattle.bx_entry.specs.Sessions.{Session, Publication, Filed, Unopened, step, session}
+use Rattle.bx_entry.specs.declared.entry.Rider.{Rider}
+use Rattle.bx_entry.specs.Sessions.{Session, Publication, Filed, Unopened, step, session, rider_of}
 use Rattle.bx_entry.specs.Registry.{entries}
 use Rattle.bx_entry.specs.Answers.{PlacedAnswer, answer}
 
@@ -94,7 +96,7 @@ NoEventTwice = (config : Config) (number : ℕ) (xs : List Entry) (e : Entry) (y
 abbrev pub EntriesInOrder : Type 0
 EntriesInOrder = (config : Config) (list : List Listed) → PlacesFrom 0 (entries config list)
 
--- the events of a plain session's answers, one answer after another, are its first `done` events, each once
+-- the events of a plain session's answers, to connects and to riders, one answer after another, are its first `done` events, each once
 abbrev pub given_in : List Filed → List Publication
 given_in answers = flat_map (λ (f : Filed). f.publications) answers
 
@@ -102,6 +104,21 @@ given_in answers = flat_map (λ (f : Filed). f.publications) answers
 abbrev pub GivenOnce : Type 0
 GivenOnce = (config : Config) (number : ℕ) (es : List Entry) → 0 < config.limits.batch →
     (session config number es).ack ≡ false → given_in (session config number es).answers ≡ take (session config number es).done (session config number es).events
+
+-- ---- riders
+
+-- where the configuration has none, no entry of any list has one
+abbrev pub NoRidersUnasked : Type 0
+NoRidersUnasked = (config : Config) (list : List Listed) → config.ride ≡ false → AllByRecursion (λ (e : Entry). e.rides ≡ None) (entries config list)
+
+-- a rider, if there is one, is of a session that does not acknowledge
+abbrev pub RidesPlain : Config → List Entry → Option Rider → Type 0
+RidesPlain config es None = ⊤
+RidesPlain config es (Some rider) = (session config rider.session es).ack ≡ false
+
+-- so is each rider of a list
+abbrev pub RidersArePlain : Type 0
+RidersArePlain = (config : Config) (list : List Listed) → AllByRecursion (λ (e : Entry). RidesPlain config (entries config list) e.rides) (entries config list)
 
 -- ---- a repeated acknowledgement
 
@@ -114,11 +131,24 @@ Repeats num (Some n) = n < num
 abbrev pub LastAnswer : Session → Filed → Type 0
 LastAnswer s f = (rest : List Filed) × (s.answers ≡ rest ++ f ∷ [])
 
--- the answer that formed the batch, and the one that gives it again
-pub record SameBatch (forming : Session) (now : ℕ) (after : Session) : Type 0 where
+-- whether a rider is one of the session of this number
+abbrev pub rides_for : ℕ → Option Rider → Bool
+rides_for number None = false
+rides_for number (Some rider) = rider.session == number
+
+-- The last answer that the session gave, but for that to a rider of the same entry: that one has no events, and is there only where there is such a rider.
+pub record LastGiven (rides : Option Rider) (s : Session) (f : Filed) : Type 0 where
+  pub rest : List Filed
+  pub behind : List Filed
+  pub answers : s.answers ≡ rest ++ f ∷ behind
+  pub empty : Each (λ g. g.publications ≡ []) behind
+  pub last : rides_for s.number rides ≡ false → behind ≡ []
+
+-- the answer of the entry that formed the batch, and the one that gives it again
+pub record SameBatch (former : Entry) (forming : Session) (now : ℕ) (after : Session) : Type 0 where
   pub first : Filed
   pub again : Filed
-  pub formed : LastAnswer forming first
+  pub formed : LastGiven (rider_of former.kind former.rides) forming first
   pub given : LastAnswer after again
   pub connect : again.connect ≡ now
   pub place : again.place ≡ now
@@ -134,7 +164,7 @@ pub record Repetition (config : Config) (number : ℕ) (es : List Entry) (e : En
   pub split : es ≡ before ++ forming ∷ between
   pub grew : (step config (session config number before) forming).num ≡ (session config number before).num + 1
   pub current : (step config (session config number before) forming).num ≡ (session config number es).num
-  pub same : SameBatch (step config (session config number before) forming) e.place (step config (session config number es) e)
+  pub same : SameBatch forming (step config (session config number before) forming) e.place (step config (session config number es) e)
 
 -- While a batch is outstanding, a connect that acknowledges nothing new is answered at once, with that batch's number and the very events
 -- of the answer that formed it.

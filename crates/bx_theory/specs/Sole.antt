@@ -9,14 +9,15 @@ use Rattle.bx_entry.specs.Registry.{Judged, Waiting, registry}
 use Rattle.bx_entry.specs.Runs.{places_of, taken_in}
 use Rattle.bx_theory.specs.Opens.{Numbered, open_after}
 
--- the input is a request of one message, an accepted connect of this session
+-- the input is a request of one message, an accepted connect of this session: what waits for its session, and is no rider
 pub record IsConnect (config : Config) (list : List Listed) (o : Numbered) : Type 0 where
   pub session : ℕ
   pub accepted : o.intake.refusal ≡ None
   pub sole : places_of o.intake o.intake.input ≡ o.intake.first ∷ []
   pub waits : option_map (λ (j : Judged). j.slot) (slice_get (registry config list).judged o.intake.first) ≡ Some (Waiting session)
+  pub unridden : option_map (λ (j : Judged). j.entry.rides) (slice_get (registry config list).judged o.intake.first) ≡ Some None
 
--- so is every input that is not whole: a connect that is not its request's only message is answered at once
+-- so is every input that is not whole: a connect that is not its request's only message is answered at once, and so is a rider
 abbrev pub OpenAreSole : Type 0
 OpenAreSole = (config : Config) (inputs : List ReadInput) → 0 < config.limits.batch → AllByRecursion (IsConnect config (taken_in inputs).list) (open_after config inputs)
 
