@@ -15,7 +15,7 @@ placed_by config shards placing = record { config = config; shards = shards; pla
 
 -- ---- by the definitions
 
--- what a slot gives to its sender, a message's reply or the ticket of a connect; a tick gives nothing
+-- what a slot gives to its sender, a message's reply or the ticket of a connect or a rider; a tick gives nothing
 abbrev pub given_by : Setup → ℕ → PlaceSlot → List Slot
 given_by setup place (Ready reply) = answers.Ready reply ∷ []
 given_by setup place (Waiting session) = answers.Waiting (record { place = place; shard = setup.placing session setup.shards }) ∷ []
@@ -36,7 +36,7 @@ admitted_slots setup list added = given_from setup (length list) (drop (length l
 
 -- ---- by the registry's plan
 
--- a message's answer, with the shard among so many in which a connect's session stands
+-- a message's answer, with the shard among so many in which a connect's or a rider's session stands
 abbrev pub placed_slot : (ℕ → ℕ → ℕ) → ℕ → Planned → Slot
 placed_slot placing shards (plans.Ready reply) = answers.Ready reply
 placed_slot placing shards (plans.Waiting place session) = answers.Waiting (record { place = place; shard = placing session shards })

@@ -7,7 +7,7 @@ use bx_message::Sequence;
 use bx_registry::Planned;
 use std::alloc::{AllocError, Global};
 
-/// How the messages are answered, with the shard of each connect.
+/// How the messages are answered, with the shard of each connect and rider.
 pub(crate) fn placed<P: Placing>(
     alloc: Global,
     placing: &P,

@@ -11,7 +11,7 @@ use Rattle.std.proofs.lemmas.Nat.{div-add-mod'}
 use Rattle.std.proofs.lemmas.List.Sums.{fold-append}
 use Rattle.std.proofs.lemmas.Bool.{eqb-false}
 use Rattle.bx_entry.specs.Registry.{Registered, hex_digits, client_id, live_with_id}
-use Rattle.bx_roster.specs.Tables.{IsNamed, IsTable, AllLive, client_at}
+use Rattle.bx_roster.specs.Tables.{IsNamed, IsTable, AllLive, known_of, known_at}
 use Rattle.bx_roster.proofs.Slots.{IsTable-bounds}
 use Rattle.bx_registry.specs.Ids.{digit_value, with_digit, hex_value, number_in}
 use Rattle.bx_registry.specs.Drafts.{IsSender}
@@ -63,11 +63,13 @@ number-of low high r rs text t small e =
 found-next : (r : Registered) (rest : Option Registered) (text : List ℕ) → r.live ≡ true → (b : Bool) → bytes_eq r.client text ≡ b → (if r.live && bytes_eq r.client text then Some r else rest) ≡ (if b then Some r else rest)
 found-next r rest text lives b e = ap (λ (c : Bool). if c && bytes_eq r.client text then Some r else rest) lives ∙ ap (λ (c : Bool). if c then Some r else rest) e
 
-not-same : (client text : List ℕ) → bytes_eq client text ≡ false → Some client ≡ Some text → ⊥
-not-same client text e known =
-    let same : client ≡ text = cc in
+not-same : (client text : List ℕ) → bytes_eq client text ≡ false → client ≡ text → ⊥
+not-same client text e same =
     let yes : bytes_eq client text ≡ true = (bytes_eq-Decides client text).1 same in
     cc
+
+of-some : (known k : List ℕ × Bool) → Some known ≡ Some k → known ≡ k
+of-some known k e = cc
 
 -- none of the sessions with greater numbers has the id
 none-by : (low high : ℕ) (r : Registered) (rs : List Registered) (text : List ℕ) → IsTable low high (r ∷ rs) → high < 2 ^ 64 → AllLive (r ∷ rs) → number_in text ≤ low →
@@ -81,32 +83,33 @@ found-none low high (r ∷ rs) text t small all le =
     none-by low high r rs text t small all le (found-none r.number high rs text t.2 small all.1 (omega (arith, t.0))) (bytes_eq r.client text) refl
 
 -- what the number at the end of an id finds, if it has that id
-abbrev pub Finds : List Registered → List ℕ → Option (List ℕ) → Type 0
-Finds rs text known = (known ≡ Some text → IsSender (live_with_id rs text) (number_in text) text) × ((known ≡ Some text → ⊥) → live_with_id rs text ≡ None)
+abbrev pub Finds : List Registered → List ℕ → Option (List ℕ × Bool) → Type 0
+Finds rs text known = ((k : List ℕ × Bool) → known ≡ Some k → k.0 ≡ text → IsSender (live_with_id rs text) (number_in text) text k.1)
+    × (((k : List ℕ × Bool) → known ≡ Some k → k.0 ≡ text → ⊥) → live_with_id rs text ≡ None)
 
 finds-by : (low high : ℕ) (r : Registered) (rs : List Registered) (text : List ℕ) → IsTable low high (r ∷ rs) → high < 2 ^ 64 → AllLive (r ∷ rs) →
-    Finds rs text (client_at (number_in text) rs) → (b : Bool) → bytes_eq r.client text ≡ b → (c : Bool) → (r.number == number_in text) ≡ c →
-    Finds (r ∷ rs) text (if c then Some r.client else client_at (number_in text) rs)
+    Finds rs text (known_at (number_in text) rs) → (b : Bool) → bytes_eq r.client text ≡ b → (c : Bool) → (r.number == number_in text) ≡ c →
+    Finds (r ∷ rs) text (if c then Some (known_of r) else known_at (number_in text) rs)
 finds-by low high r rs text t small all ih true e true f =
     let same : r.client ≡ text = (bytes_eq-Decides r.client text).0 e in
     let here : live_with_id (r ∷ rs) text ≡ Some r = found-next r (live_with_id rs text) text all.0 true e in (
-      (λ known. rw here (sym (number-of low high r rs text t small e), same)),
-      (λ other. absurd (other (ap (λ (x : List ℕ). Some x) same))),
+      (λ k known is. rw here (sym (number-of low high r rs text t small e), same, ap (λ (x : List ℕ × Bool). x.1) (of-some (known_of r) k known))),
+      (λ other. absurd (other (known_of r) refl same)),
     )
 finds-by low high r rs text t small all ih true e false f = absurd (eqb-false r.number (number_in text) f (sym (number-of low high r rs text t small e)))
 finds-by low high r rs text t small all ih false e true f =
     let past : live_with_id (r ∷ rs) text ≡ live_with_id rs text = found-next r (live_with_id rs text) text all.0 false e in
     let number : r.number ≡ number_in text = eqb-true r.number (number_in text) f in (
-      (λ known. absurd (not-same r.client text e known)),
+      (λ k known is. absurd (not-same r.client text e (ap (λ (x : List ℕ × Bool). x.0) (of-some (known_of r) k known) ∙ is))),
       (λ other. past ∙ found-none r.number high rs text t.2 small all.1 (omega (arith, number))),
     )
 finds-by low high r rs text t small all ih false e false f =
     let past : live_with_id (r ∷ rs) text ≡ live_with_id rs text = found-next r (live_with_id rs text) text all.0 false e in (
-      (λ known. rw past (ih.0 known)),
+      (λ k known is. rw past (ih.0 k known is)),
       (λ other. past ∙ ih.1 other),
     )
 
-pub finds : (low high : ℕ) (rs : List Registered) (text : List ℕ) → IsTable low high rs → high < 2 ^ 64 → AllLive rs → Finds rs text (client_at (number_in text) rs)
-finds low high [] text t small all = ((λ known. cc), (λ other. refl))
+pub finds : (low high : ℕ) (rs : List Registered) (text : List ℕ) → IsTable low high rs → high < 2 ^ 64 → AllLive rs → Finds rs text (known_at (number_in text) rs)
+finds low high [] text t small all = ((λ k known is. cc), (λ other. refl))
 finds low high (r ∷ rs) text t small all =
     finds-by low high r rs text t small all (finds r.number high rs text t.2 small all.1) (bytes_eq r.client text) refl (r.number == number_in text) refl

@@ -1,19 +1,19 @@
 -- The sessions behind the edits of a request.
 use Rattle.std.proofs.Common.{◌≡◌, ℕ, suc, ◌+◌, ◌-◌, Bool, true, false, List, [], ◌∷◌, ◌++◌, length, length-append, map, fold, refl, sym, ap, subst, ◌∙◌, cond, arith, eqb-true}
-use Rattle.std.specs.Prelude.{◌==◌, Option, Some, None, IsSome, if◌then◌else◌}
+use Rattle.std.specs.Prelude.{◌==◌, max, Option, Some, None, IsSome, if◌then◌else◌}
 use Rattle.std.specs.Option.{option_or}
 use Rattle.std.proofs.lemmas.List.{length-map}
 use Rattle.std.proofs.lemmas.List.Sums.{fold-append}
 use Rattle.std.proofs.lemmas.Bool.{eqb-false}
 use Rattle.bx_entry.specs.Registry.{Registered, extended, closed}
 use Rattle.bx_roster.specs.Live.{Members, live_in}
-use Rattle.bx_roster.specs.Tables.{IsTable, AllLive, client_at}
+use Rattle.bx_roster.specs.Tables.{IsTable, AllLive, known_of, known_at}
 use Rattle.bx_roster.specs.Edits.{edited, CanEdit, CanEditEach, IsNext}
 use Rattle.bx_roster.specs.declared.edit.Edit.{Edit}
 use Rattle.bx_roster.specs.declared.edit.Edit.TheVariants.{Open, Extend, Close}
 use Rattle.bx_roster.proofs.Live.{live_in-extended}
 use Rattle.bx_roster.proofs.Slots.{IsTable-filter, IsTable-map, IsTable-push, IsTable-absent, map-absent, live_in-all, AllLive-live, changed-number, changed-client, closing-number, closing-client}
-use Rattle.bx_registry.specs.Drafts.{IsDrafted, client_after}
+use Rattle.bx_registry.specs.Drafts.{IsDrafted, known_after}
 
 -- ---- each edit
 
@@ -29,7 +29,7 @@ extend-all : (n due : ℕ) (rs : List Registered) → AllLive rs → live_in (ex
 extend-all n due rs all = live_in-extended n due rs ∙ ap (extended n due) (live_in-all rs all)
 
 closed-count-by : (n : ℕ) (r : Registered) (rs : List Registered) (high : ℕ) → IsTable r.number high rs → r.live ≡ true → AllLive rs →
-    (IsSome (client_at n rs) → length (live_in (closed n rs)) + 1 ≡ length rs) → ((b : Bool) → (r.number == n) ≡ b → IsSome (if b then Some r.client else client_at n rs) →
+    (IsSome (known_at n rs) → length (live_in (closed n rs)) + 1 ≡ length rs) → ((b : Bool) → (r.number == n) ≡ b → IsSome (if b then Some (known_of r) else known_at n rs) →
     length (live_in ((if b then record r { live = false } else r) ∷ closed n rs)) + 1 ≡ suc (length rs))
 closed-count-by n r rs high t lives all more true e some =
     let here : r.number ≡ n = eqb-true r.number n e in
@@ -39,7 +39,7 @@ closed-count-by n r rs high t lives all more false e some =
     let kept : live_in (r ∷ closed n rs) ≡ r ∷ live_in (closed n rs) = ap (λ (b : Bool). cond b (r ∷ live_in (closed n rs)) (live_in (closed n rs))) lives in
     omega (arith, ap length kept, more some)
 
-pub closed-count : (n low high : ℕ) (rs : List Registered) → IsTable low high rs → AllLive rs → IsSome (client_at n rs) → length (live_in (closed n rs)) + 1 ≡ length rs
+pub closed-count : (n low high : ℕ) (rs : List Registered) → IsTable low high rs → AllLive rs → IsSome (known_at n rs) → length (live_in (closed n rs)) + 1 ≡ length rs
 closed-count n low high [] t all some = cc
 closed-count n low high (r ∷ rs) t all some = closed-count-by n r rs high t.2 all.0 all.1 (closed-count n r.number high rs t.2 all.1) (r.number == n) refl some
 
@@ -71,7 +71,7 @@ extended-drafted base es n due {count} {opened} d =
       all = rw now (AllLive-live (extended n due ms.live));
     }
 
-pub closed-drafted : (base : Members) (es : List Edit) (n : ℕ) {count opened : ℕ} → IsDrafted base es count opened → IsSome (client_at n (fold edited base es).live) → IsDrafted base (es ++ Close n ∷ []) (count - 1) opened
+pub closed-drafted : (base : Members) (es : List Edit) (n : ℕ) {count opened : ℕ} → IsDrafted base es count opened → IsSome (known_at n (fold edited base es).live) → IsDrafted base (es ++ Close n ∷ []) (count - 1) opened
 closed-drafted base es n {count} {opened} d some =
     let ms = fold edited base es in
     let now : fold edited base (es ++ Close n ∷ []) ≡ edited ms (Close n) = fold-append edited base es (Close n ∷ []) in record {
@@ -111,56 +111,60 @@ pub limit-same : (ms : Members) (es : List Edit) → (fold edited ms es).limit �
 limit-same ms [] = refl
 limit-same ms (e ∷ es) = limit-same (edited ms e) es ∙ limit-edited ms e
 
--- ---- the client id at a number
+-- ---- what is known of the session with a number
 
-client_at-push-by : (client : List ℕ) (more rest last : Option (List ℕ)) → more ≡ option_or rest last → (b : Bool) → cond b (Some client) more ≡ option_or (cond b (Some client) rest) last
-client_at-push-by client more rest last e true = refl
-client_at-push-by client more rest last e false = e
+known_at-push-by : (known : List ℕ × Bool) (more rest last : Option (List ℕ × Bool)) → more ≡ option_or rest last → (b : Bool) → cond b (Some known) more ≡ option_or (cond b (Some known) rest) last
+known_at-push-by known more rest last e true = refl
+known_at-push-by known more rest last e false = e
 
-client_at-push : (n : ℕ) (rs : List Registered) (s : Registered) → client_at n (rs ++ s ∷ []) ≡ option_or (client_at n rs) (if s.number == n then Some s.client else None)
-client_at-push n [] s = refl
-client_at-push n (r ∷ rs) s = client_at-push-by r.client (client_at n (rs ++ s ∷ [])) (client_at n rs) (if s.number == n then Some s.client else None) (client_at-push n rs s) (r.number == n)
+known_at-push : (n : ℕ) (rs : List Registered) (s : Registered) → known_at n (rs ++ s ∷ []) ≡ option_or (known_at n rs) (if s.number == n then Some (known_of s) else None)
+known_at-push n [] s = refl
+known_at-push n (r ∷ rs) s = known_at-push-by (known_of r) (known_at n (rs ++ s ∷ [])) (known_at n rs) (if s.number == n then Some (known_of s) else None) (known_at-push n rs s) (r.number == n)
 
-client_at-map : (n : ℕ) (g : Registered → Registered) (rs : List Registered) → ((r : Registered) → (g r).number ≡ r.number) → ((r : Registered) → (g r).client ≡ r.client) → client_at n (map g rs) ≡ client_at n rs
-client_at-map n g [] number client = refl
-client_at-map n g (r ∷ rs) number client = rw (number r, client r) (ap (λ (o : Option (List ℕ)). cond (r.number == n) (Some r.client) o) (client_at-map n g rs number client))
+known_at-map : (n : ℕ) (g : Registered → Registered) (rs : List Registered) → ((r : Registered) → (g r).number ≡ r.number) → ((r : Registered) → known_of (g r) ≡ known_of r) → known_at n (map g rs) ≡ known_at n rs
+known_at-map n g [] number known = refl
+known_at-map n g (r ∷ rs) number known = rw (number r, known r) (ap (λ (o : Option (List ℕ × Bool)). cond (r.number == n) (Some (known_of r)) o) (known_at-map n g rs number known))
 
-none-either : (b : Bool) (o : Option (List ℕ)) → o ≡ (if b then o else o)
+changed-known : (due : ℕ) (r : Registered) (b : Bool) → known_of (if b then record r { due = max r.due due } else r) ≡ known_of r
+changed-known due r true = refl
+changed-known due r false = refl
+
+none-either : (b : Bool) (o : Option (List ℕ × Bool)) → o ≡ (if b then o else o)
 none-either true o = refl
 none-either false o = refl
 
 -- a closed session is passed over, another one is not
-client_at-kept-by : (n m : ℕ) (r : Registered) (rest kept : List Registered) → client_at n (live_in kept) ≡ (if m == n then None else client_at n rest) → (r.number == m) ≡ false →
-    (c : Bool) → (r.number == n) ≡ c → (d : Bool) → (m == n) ≡ d → client_at n (r ∷ live_in kept) ≡ (if d then None else (if c then Some r.client else client_at n rest))
-client_at-kept-by n m r rest kept ih e true f true g = absurd (eqb-false r.number m e (eqb-true r.number n f ∙ sym (eqb-true m n g)))
-client_at-kept-by n m r rest kept ih e true f false g = ap (λ (t : Bool). if t then Some r.client else client_at n (live_in kept)) f
-client_at-kept-by n m r rest kept ih e false f true g = ap (λ (t : Bool). if t then Some r.client else client_at n (live_in kept)) f ∙ ih ∙ ap (λ (t : Bool). if t then None else client_at n rest) g
-client_at-kept-by n m r rest kept ih e false f false g = ap (λ (t : Bool). if t then Some r.client else client_at n (live_in kept)) f ∙ ih ∙ ap (λ (t : Bool). if t then None else client_at n rest) g
+known_at-kept-by : (n m : ℕ) (r : Registered) (rest kept : List Registered) → known_at n (live_in kept) ≡ (if m == n then None else known_at n rest) → (r.number == m) ≡ false →
+    (c : Bool) → (r.number == n) ≡ c → (d : Bool) → (m == n) ≡ d → known_at n (r ∷ live_in kept) ≡ (if d then None else (if c then Some (known_of r) else known_at n rest))
+known_at-kept-by n m r rest kept ih e true f true g = absurd (eqb-false r.number m e (eqb-true r.number n f ∙ sym (eqb-true m n g)))
+known_at-kept-by n m r rest kept ih e true f false g = ap (λ (t : Bool). if t then Some (known_of r) else known_at n (live_in kept)) f
+known_at-kept-by n m r rest kept ih e false f true g = ap (λ (t : Bool). if t then Some (known_of r) else known_at n (live_in kept)) f ∙ ih ∙ ap (λ (t : Bool). if t then None else known_at n rest) g
+known_at-kept-by n m r rest kept ih e false f false g = ap (λ (t : Bool). if t then Some (known_of r) else known_at n (live_in kept)) f ∙ ih ∙ ap (λ (t : Bool). if t then None else known_at n rest) g
 
-client_at-closed-by : (n m : ℕ) (r : Registered) (rest kept : List Registered) → client_at n (live_in kept) ≡ (if m == n then None else client_at n rest) → r.live ≡ true →
+known_at-closed-by : (n m : ℕ) (r : Registered) (rest kept : List Registered) → known_at n (live_in kept) ≡ (if m == n then None else known_at n rest) → r.live ≡ true →
     (b : Bool) → (r.number == m) ≡ b → (c : Bool) → (r.number == n) ≡ c → (d : Bool) → (m == n) ≡ d →
-    client_at n (live_in ((if b then record r { live = false } else r) ∷ kept)) ≡ (if d then None else (if c then Some r.client else client_at n rest))
-client_at-closed-by n m r rest kept ih lives true e true f true g = ih ∙ ap (λ (t : Bool). if t then None else client_at n rest) g
-client_at-closed-by n m r rest kept ih lives true e true f false g = absurd (eqb-false m n g (sym (eqb-true r.number m e) ∙ eqb-true r.number n f))
-client_at-closed-by n m r rest kept ih lives true e false f true g = absurd (eqb-false r.number n f (eqb-true r.number m e ∙ eqb-true m n g))
-client_at-closed-by n m r rest kept ih lives true e false f false g = ih ∙ ap (λ (t : Bool). if t then None else client_at n rest) g
-client_at-closed-by n m r rest kept ih lives false e c f d g = ap (λ (t : Bool). client_at n (cond t (r ∷ live_in kept) (live_in kept))) lives ∙ client_at-kept-by n m r rest kept ih e c f d g
+    known_at n (live_in ((if b then record r { live = false } else r) ∷ kept)) ≡ (if d then None else (if c then Some (known_of r) else known_at n rest))
+known_at-closed-by n m r rest kept ih lives true e true f true g = ih ∙ ap (λ (t : Bool). if t then None else known_at n rest) g
+known_at-closed-by n m r rest kept ih lives true e true f false g = absurd (eqb-false m n g (sym (eqb-true r.number m e) ∙ eqb-true r.number n f))
+known_at-closed-by n m r rest kept ih lives true e false f true g = absurd (eqb-false r.number n f (eqb-true r.number m e ∙ eqb-true m n g))
+known_at-closed-by n m r rest kept ih lives true e false f false g = ih ∙ ap (λ (t : Bool). if t then None else known_at n rest) g
+known_at-closed-by n m r rest kept ih lives false e c f d g = ap (λ (t : Bool). known_at n (cond t (r ∷ live_in kept) (live_in kept))) lives ∙ known_at-kept-by n m r rest kept ih e c f d g
 
-client_at-closed : (n m : ℕ) (rs : List Registered) → AllLive rs → client_at n (live_in (closed m rs)) ≡ (if m == n then None else client_at n rs)
-client_at-closed n m [] all = none-either (m == n) None
-client_at-closed n m (r ∷ rs) all = client_at-closed-by n m r rs (closed m rs) (client_at-closed n m rs all.1) all.0 (r.number == m) refl (r.number == n) refl (m == n) refl
+known_at-closed : (n m : ℕ) (rs : List Registered) → AllLive rs → known_at n (live_in (closed m rs)) ≡ (if m == n then None else known_at n rs)
+known_at-closed n m [] all = none-either (m == n) None
+known_at-closed n m (r ∷ rs) all = known_at-closed-by n m r rs (closed m rs) (known_at-closed n m rs all.1) all.0 (r.number == m) refl (r.number == n) refl (m == n) refl
 
-client_at-edited : (n : ℕ) (ms : Members) (e : Edit) → AllLive ms.live → client_at n (edited ms e).live ≡ client_after n (client_at n ms.live) e
-client_at-edited n ms (Open s) all = client_at-push n ms.live s
-client_at-edited n ms (Extend m due) all = ap (client_at n) (extend-all m due ms.live all) ∙ client_at-map n _ ms.live (λ r. changed-number due r _) (λ r. changed-client due r _)
-client_at-edited n ms (Close m) all = client_at-closed n m ms.live all
+known_at-edited : (n : ℕ) (ms : Members) (e : Edit) → AllLive ms.live → known_at n (edited ms e).live ≡ known_after n (known_at n ms.live) e
+known_at-edited n ms (Open s) all = known_at-push n ms.live s
+known_at-edited n ms (Extend m due) all = ap (known_at n) (extend-all m due ms.live all) ∙ known_at-map n _ ms.live (λ r. changed-number due r _) (λ r. changed-known due r _)
+known_at-edited n ms (Close m) all = known_at-closed n m ms.live all
 
 AllLive-edited : (ms : Members) (e : Edit) → AllLive ms.live → CanEdit ms e → AllLive (edited ms e).live
 AllLive-edited ms (Open s) all can = AllLive-push ms.live s all can.live
 AllLive-edited ms (Extend m due) all can = AllLive-live (extended m due ms.live)
 AllLive-edited ms (Close m) all can = AllLive-live (closed m ms.live)
 
-pub client_at-all : (n : ℕ) (ms : Members) (es : List Edit) → AllLive ms.live → CanEditEach ms es → client_at n (fold edited ms es).live ≡ fold (client_after n) (client_at n ms.live) es
-client_at-all n ms [] all can = refl
-client_at-all n ms (e ∷ es) all can =
-    client_at-all n (edited ms e) es (AllLive-edited ms e all can.0) can.1 ∙ ap (λ (o : Option (List ℕ)). fold (client_after n) o es) (client_at-edited n ms e all)
+pub known_at-all : (n : ℕ) (ms : Members) (es : List Edit) → AllLive ms.live → CanEditEach ms es → known_at n (fold edited ms es).live ≡ fold (known_after n) (known_at n ms.live) es
+known_at-all n ms [] all can = refl
+known_at-all n ms (e ∷ es) all can =
+    known_at-all n (edited ms e) es (AllLive-edited ms e all can.0) can.1 ∙ ap (λ (o : Option (List ℕ × Bool)). fold (known_after n) o es) (known_at-edited n ms e all)

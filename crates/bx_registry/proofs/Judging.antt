@@ -21,38 +21,42 @@ use Rattle.bx_message.specs.declared.reply.AckReply.TheVariants as replies
 use Rattle.bx_message.specs.MessageKinds.{message_kind_of, is_handshake}
 use Rattle.bx_message.specs.Replies.{reply_to}
 use Rattle.bx_entry.specs.Listing.{Posted}
-use Rattle.bx_entry.specs.declared.entry.EntryKind.{EntryKind}
+use Rattle.bx_entry.specs.declared.entry.Rider.{Rider}
+use Rattle.bx_entry.specs.declared.senders.Senders.{Senders}
+use Rattle.bx_entry.specs.declared.senders.Senders.TheVariants.{Mixed}
 use Rattle.bx_entry.specs.declared.entry.EntryKind.TheVariants as entries
-use Rattle.bx_entry.specs.Registry.{Registered, is_version, is_polling, cases_of, client_id, closed, count_live, extended, hold_of, is_ack, kind_for, left_by, live_with_id, named_by, refusal, sender_of, slot_for}
+use Rattle.bx_entry.specs.Registry.{Registered, is_version, is_polling, cases_of, client_id, closed, count_live, extended, hold_of, is_ack, is_rider, joined, kind_for, left_by, live_with_id, named_by, refusal, rider_for, sender_of, senders_behind, slot_for, slot_with, PlaceSlot}
 use Rattle.bx_roster.specs.Live.{Members, live_in, with_live}
-use Rattle.bx_roster.specs.Tables.{client_at, AllLive}
+use Rattle.bx_roster.specs.Tables.{known_of, known_at, AllLive}
 use Rattle.bx_roster.specs.Edits.{edited, CanEdit}
-use Rattle.bx_roster.specs.declared.edit.Edit.{Edit}
 use Rattle.bx_roster.specs.declared.edit.Edit.TheVariants.{Open}
 use Rattle.bx_roster.proofs.Slots.{live_in-all}
-use Rattle.bx_registry.specs.Rolls.{newcomer, verdict, judged_by, unnamed}
+use Rattle.bx_registry.specs.Rolls.{newcomer, ridden, verdict, judged_by, unnamed}
 use Rattle.bx_registry.specs.Drafts.{IsSender}
 use Rattle.bx_registry.specs.Plans.{planned_at}
-use Rattle.bx_registry.specs.Judgements.{edit_for, IsVerdict}
-use Rattle.bx_registry.specs.declared.plan.Planned.{Planned}
+use Rattle.bx_registry.specs.Judgements.{edit_for, IsRidden, IsVerdict}
+use Rattle.bx_registry.specs.declared.judge.Judgement.{Judgement}
 use Rattle.bx_registry.specs.declared.plan.Planned.TheVariants.{Ready}
 use Rattle.bx_registry.proofs.Digits.{drop-client_id}
 
-pub all_three : {T E : Type 0} (r : Result T E) (P Q R S : T → Type 0) → ((x : T) → P x → Q x → R x → S x) → IfOk r P → IfOk r Q → IfOk r R → IfOk r S
-all_three (Ok x) P Q R S f p q s = f x p q s
-all_three (Err e) P Q R S f p q s = tt
+pub all_four : {T E : Type 0} (r : Result T E) (P Q R S X : T → Type 0) → ((x : T) → P x → Q x → R x → S x → X x) → IfOk r P → IfOk r Q → IfOk r R → IfOk r S → IfOk r X
+all_four (Ok x) P Q R S X f p q r s = f x p q r s
+all_four (Err e) P Q R S X f p q r s = tt
 
 -- ---- a refused message
 
-pub refused-verdict : (config : Config) (ms : Members) (moment place : ℕ) (p : Posted) (error : Error) (edit : Option Edit) (kind : EntryKind) (slot : Planned) (client : Option (List ℕ)) →
+pub refused-verdict : (config : Config) (ms : Members) (senders : Senders) (moment place : ℕ) (p : Posted) (error : Error) (j : Judgement) (client : Option (List ℕ)) →
     refusal config ms.live p ≡ Some error → client ≡ option_map (λ (s : Registered). s.client) (named_by ms.live (message_kind_of p.message.channel) p.message) →
-    edit ≡ None → kind ≡ entries.Refused → slot ≡ Ready (reply_to config (message_kind_of p.message.channel) p.message client (Failed error) replies.NoAck) →
-    IsVerdict ms place (verdict config ms moment p) edit kind slot
-refused-verdict config ms moment place p error edit kind slot client is who e f g = rw (is, e, f, g, who) record {
-  members = refl;
-  can = tt;
-  what = refl;
-  answer = refl;
+    j.edit ≡ None → (j.kind ≡ entries.Refused) × (j.rides ≡ None) → j.senders ≡ senders_behind p Mixed →
+    j.slot ≡ Ready (reply_to config (message_kind_of p.message.channel) p.message client (Failed error) replies.NoAck) →
+    IsVerdict ms place (verdict config ms senders moment p) j
+refused-verdict config ms senders moment place p error j client is who e f behind g = rw is record {
+  members = rw e refl;
+  can = rw e tt;
+  behind = behind;
+  what = f.0;
+  rider = f.1;
+  answer = rw (g, who) refl;
 }
 
 -- ---- a handshake
@@ -71,28 +75,30 @@ room config live p h = last-outcome p.second (not (is_version p.message.version)
 handshake-kind : (m : Message) → is_handshake m ≡ true → message_kind_of m.channel ≡ Handshake
 handshake-kind m h = cond-true (is_handshake m) Handshake _ h
 
-pub opened-verdict : (config : Config) (ms : Members) (moment place n : ℕ) (p : Posted) (edit : Option Edit) (kind : EntryKind) (slot : Planned) →
+pub opened-verdict : (config : Config) (ms : Members) (senders : Senders) (moment place n : ℕ) (p : Posted) (j : Judgement) →
     AllLive ms.live → ms.limit ≡ config.limits.sessions → n ≡ ms.opened + 1 → n < 2 ^ 64 → is_handshake p.message ≡ true →
     refusal config ms.live p ≡ None → named_by ms.live (message_kind_of p.message.channel) p.message ≡ None →
-    edit ≡ Some (Open (newcomer config moment p n)) → kind ≡ entries.Opened n (is_ack p.message.ack) →
-    slot ≡ Ready (reply_to config Handshake p.message (Some (client_id p.nonce n)) advice.Opened (if is_ack p.message.ack then replies.AckTrue else replies.NoAck)) →
-    IsVerdict ms place (verdict config ms moment p) edit kind slot
-opened-verdict config ms moment place n p edit kind slot all limit number small opens is who e f g =
+    j.edit ≡ Some (Open (newcomer config moment p n)) → (j.kind ≡ entries.Opened n (is_ack p.message.ack)) × (j.rides ≡ None) → j.senders ≡ senders_behind p Mixed →
+    j.slot ≡ Ready (reply_to config Handshake p.message (Some (client_id p.nonce n)) advice.Opened (if is_ack p.message.ack then replies.AckTrue else replies.NoAck)) →
+    IsVerdict ms place (verdict config ms senders moment p) j
+opened-verdict config ms senders moment place n p j all limit number small opens is who e f behind g =
     let full = room config ms.live p (subst (λ (k : MessageKind). first_case (cases_of config ms.live p k) ≡ None) (handshake-kind p.message opens) is) in
     let free : length ms.live < ms.limit = omega (arith, leb-false config.limits.sessions (count_live ms.live) full, limit, ap length (live_in-all ms.live all)) in
-    let one : IsVerdict ms place (unnamed config ms moment p true) edit kind slot = rw (e, f, g, number) record {
-      members = refl;
-      can = (record { room = free; number = refl; small = rw (← number) small; named = drop-client_id p.nonce (ms.opened + 1); live = refl }, tt);
-      what = refl;
-      answer = refl;
+    let one : IsVerdict ms place (unnamed config ms moment p true) j = record {
+      members = rw (e, number) refl;
+      can = rw (e, number) (record { room = free; number = refl; small = rw (← number) small; named = drop-client_id p.nonce (ms.opened + 1); live = refl }, tt);
+      behind = behind;
+      what = rw (f.0, number) refl;
+      rider = f.1;
+      answer = rw (g, number) refl;
     } in
-    rw (is, who) (subst (λ (b : Bool). IsVerdict ms place (unnamed config ms moment p b) edit kind slot) (sym opens) one)
+    rw (is, who) (subst (λ (b : Bool). IsVerdict ms place (unnamed config ms moment p b) j) (sym opens) one)
 
 -- ---- the session that is named
 
--- the code's finding, by its number and its client id
+-- the code's finding, by its number, its client id and whether it acknowledges
 abbrev pub IsFound : Option Sender → Option Registered → Type 0
-IsFound o r = MatchOption o (r ≡ None) (λ s. IsSender r s.number s.client.now)
+IsFound o r = MatchOption o (r ≡ None) (λ s. IsSender r s.number s.client.now s.ack)
 
 pub found-known : (o : Option Sender) (r : Option Registered) → IsFound o r → is_some o ≡ is_some r
 found-known None r e = sym (ap is_some e)
@@ -104,25 +110,25 @@ found-client None r e = sym (ap (option_map (λ (s : Registered). s.client)) e)
 found-client (Some s) None e = absurd e
 found-client (Some s) (Some r) e = ap (λ (x : List ℕ). Some x) (sym e.1)
 
-found-at-either : (b : Bool) (client : List ℕ) (o : Option (List ℕ)) → IsSome o → IsSome (if b then Some client else o)
-found-at-either true client o some = refl
-found-at-either false client o some = some
+found-at-either : (b : Bool) (known : List ℕ × Bool) (o : Option (List ℕ × Bool)) → IsSome o → IsSome (if b then Some known else o)
+found-at-either true known o some = refl
+found-at-either false known o some = some
 
-found-at-by : (r s : Registered) (rest : List Registered) (text : List ℕ) → (live_with_id rest text ≡ Some r → IsSome (client_at r.number rest)) → (b : Bool) →
-    (if b then Some s else live_with_id rest text) ≡ Some r → IsSome (if s.number == r.number then Some s.client else client_at r.number rest)
+found-at-by : (r s : Registered) (rest : List Registered) (text : List ℕ) → (live_with_id rest text ≡ Some r → IsSome (known_at r.number rest)) → (b : Bool) →
+    (if b then Some s else live_with_id rest text) ≡ Some r → IsSome (if s.number == r.number then Some (known_of s) else known_at r.number rest)
 found-at-by r s rest text more true e = let same : s ≡ r = cc in rw (eq-eqb s.number r.number (ap (λ (x : Registered). x.number) same)) refl
-found-at-by r s rest text more false e = found-at-either (s.number == r.number) s.client (client_at r.number rest) (more e)
+found-at-by r s rest text more false e = found-at-either (s.number == r.number) (known_of s) (known_at r.number rest) (more e)
 
-found-at : (r : Registered) (rs : List Registered) (text : List ℕ) → live_with_id rs text ≡ Some r → IsSome (client_at r.number rs)
+found-at : (r : Registered) (rs : List Registered) (text : List ℕ) → live_with_id rs text ≡ Some r → IsSome (known_at r.number rs)
 found-at r [] text e = cc
 found-at r (s ∷ rs) text e = found-at-by r s rs text (found-at r rs text) (s.live && bytes_eq s.client text) e
 
-sender-at : (r : Registered) (rs : List Registered) (client : TextMember) → sender_of rs client ≡ Some r → IsSome (client_at r.number rs)
+sender-at : (r : Registered) (rs : List Registered) (client : TextMember) → sender_of rs client ≡ Some r → IsSome (known_at r.number rs)
 sender-at r rs Absent e = cc
 sender-at r rs NotText e = cc
 sender-at r rs (Text text) e = found-at r rs text e
 
-named-at : (r : Registered) (rs : List Registered) (message_kind : MessageKind) (m : Message) → named_by rs message_kind m ≡ Some r → IsSome (client_at r.number rs)
+named-at : (r : Registered) (rs : List Registered) (message_kind : MessageKind) (m : Message) → named_by rs message_kind m ≡ Some r → IsSome (known_at r.number rs)
 named-at r rs Handshake m e = cc
 named-at r rs Connect m e = sender-at r rs m.client e
 named-at r rs Subscribe m e = sender-at r rs m.client e
@@ -154,7 +160,7 @@ edited-for ms Disconnect n due = ap (with_live ms) (sym (closed-extended n due m
 edited-for ms Publish n due = refl
 edited-for ms UnknownMeta n due = refl
 
-can-for : (ms : Members) (message_kind : MessageKind) (n due : ℕ) → IsSome (client_at n ms.live) → CanEdit ms (edit_for message_kind n due)
+can-for : (ms : Members) (message_kind : MessageKind) (n due : ℕ) → IsSome (known_at n ms.live) → CanEdit ms (edit_for message_kind n due)
 can-for ms Handshake n due some = tt
 can-for ms Connect n due some = tt
 can-for ms Subscribe n due some = tt
@@ -181,26 +187,38 @@ slot-for config Disconnect p s r e f = rw f refl
 slot-for config Publish p s r e f = refl
 slot-for config UnknownMeta p s r e f = refl
 
-served-by : (config : Config) (ms : Members) (moment place due : ℕ) (p : Posted) (s : Sender) (o : Option Registered) (edit : Option Edit) (kind : EntryKind) (slot : Planned) →
-    o ≡ named_by ms.live (message_kind_of p.message.channel) p.message → IsSender o s.number s.client.now → due ≡ moment + hold_of config p + config.max_interval →
-    edit ≡ Some (edit_for (message_kind_of p.message.channel) s.number due) → kind ≡ kind_for (message_kind_of p.message.channel) p (named s) (hold_of config p) →
-    planned_at place (slot_for config (message_kind_of p.message.channel) p (named s)) ≡ Some slot →
-    IsVerdict ms place (judged_by config ms moment p o None) edit kind slot
-served-by config ms moment place due p s None edit kind slot is who d e f g = absurd who
-served-by config ms moment place due p s (Some r) edit kind slot is who d e f g =
+ridden-for : (config : Config) (senders : Senders) (message_kind : MessageKind) (p : Posted) (s : Sender) (r : Registered) → r.number ≡ s.number → r.client ≡ s.client.now → r.ack ≡ s.ack →
+    ridden config senders p message_kind (named s) ≡ ridden config senders p message_kind r
+ridden-for config senders message_kind p s r e f a =
+    ap (λ (answer : PlaceSlot). rider_for (is_rider config senders message_kind p (named s)) s.number answer) (slot-for config message_kind p s r e f) ∙ rw (e, a) refl
+
+served-by : (config : Config) (ms : Members) (senders : Senders) (moment place due : ℕ) (p : Posted) (s : Sender) (o : Option Registered) (j : Judgement) →
+    o ≡ named_by ms.live (message_kind_of p.message.channel) p.message → IsSender o s.number s.client.now s.ack → due ≡ moment + hold_of config p + config.max_interval →
+    j.edit ≡ Some (edit_for (message_kind_of p.message.channel) s.number due) → j.kind ≡ kind_for (message_kind_of p.message.channel) p (named s) (hold_of config p) →
+    j.senders ≡ senders_behind p (joined senders s.number) →
+    IsRidden place (ridden config senders p (message_kind_of p.message.channel) (named s)) (slot_for config (message_kind_of p.message.channel) p (named s)) j.rides j.slot →
+    IsVerdict ms place (judged_by config ms senders moment p o None) j
+served-by config ms senders moment place due p s None j is who d e f behind g = absurd who
+served-by config ms senders moment place due p s (Some r) j is who d e f behind g =
     let message_kind = message_kind_of p.message.channel in
-    let some : IsSome (client_at s.number ms.live) = rw (← who.0) (named-at r ms.live message_kind p.message (sym is)) in
+    let some : IsSome (known_at s.number ms.live) = rw (← who.0) (named-at r ms.live message_kind p.message (sym is)) in
+    let ridden = ridden-for config senders message_kind p s r who.0 who.1 who.2 in
+    let slot = slot-for config message_kind p s r who.0 who.1 in
     record {
       members = rw (e, d, ← who.0) (edited-for ms message_kind r.number (moment + hold_of config p + config.max_interval));
       can = rw e (can-for ms message_kind s.number due some, tt);
+      behind = behind ∙ ap (λ (n : ℕ). senders_behind p (joined senders n)) (sym who.0);
       what = f ∙ kind-for message_kind p s r (hold_of config p) who.0 who.1;
-      answer = rw (← slot-for config message_kind p s r who.0 who.1) g;
+      rider = g.same ∙ ridden;
+      answer = sym (ap (λ (rider : Option Rider). planned_at place (slot_with rider (slot_for config message_kind p (named s)))) ridden
+          ∙ ap (λ (answer : PlaceSlot). planned_at place (slot_with (rider_for (is_rider config senders message_kind p r) r.number (slot_for config message_kind p r)) answer)) slot) ∙ g.answered;
     }
 
-pub served-verdict : (config : Config) (ms : Members) (moment place : ℕ) (p : Posted) (s : Sender) (edit : Option Edit) (kind : EntryKind) (slot : Planned) →
-    refusal config ms.live p ≡ None → IsSender (named_by ms.live (message_kind_of p.message.channel) p.message) s.number s.client.now →
-    edit ≡ Some (edit_for (message_kind_of p.message.channel) s.number (moment + hold_of config p + config.max_interval)) → kind ≡ kind_for (message_kind_of p.message.channel) p (named s) (hold_of config p) →
-    planned_at place (slot_for config (message_kind_of p.message.channel) p (named s)) ≡ Some slot →
-    IsVerdict ms place (verdict config ms moment p) edit kind slot
-served-verdict config ms moment place p s edit kind slot is who e f g =
-    rw is (served-by config ms moment place (moment + hold_of config p + config.max_interval) p s (named_by ms.live (message_kind_of p.message.channel) p.message) edit kind slot refl who refl e f g)
+pub served-verdict : (config : Config) (ms : Members) (senders : Senders) (moment place : ℕ) (p : Posted) (s : Sender) (j : Judgement) →
+    refusal config ms.live p ≡ None → IsSender (named_by ms.live (message_kind_of p.message.channel) p.message) s.number s.client.now s.ack →
+    j.edit ≡ Some (edit_for (message_kind_of p.message.channel) s.number (moment + hold_of config p + config.max_interval)) → j.kind ≡ kind_for (message_kind_of p.message.channel) p (named s) (hold_of config p) →
+    j.senders ≡ senders_behind p (joined senders s.number) →
+    IsRidden place (ridden config senders p (message_kind_of p.message.channel) (named s)) (slot_for config (message_kind_of p.message.channel) p (named s)) j.rides j.slot →
+    IsVerdict ms place (verdict config ms senders moment p) j
+served-verdict config ms senders moment place p s j is who e f behind g =
+    rw is (served-by config ms senders moment place (moment + hold_of config p + config.max_interval) p s (named_by ms.live (message_kind_of p.message.channel) p.message) j refl who refl e f behind g)

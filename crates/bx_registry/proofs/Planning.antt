@@ -1,14 +1,16 @@
 -- One message of a request after another.
-use Rattle.std.proofs.Common.{◌≡◌, ℕ, ◌+◌, ◌≤◌, Bool, true, false, List, [], ◌∷◌, ◌++◌, length, fold, refl, sym, ap, subst, ◌∙◌, arith, append_assoc}
-use Rattle.std.specs.Prelude.{Ok, nat_lt, if◌then◌else◌, ◌||◌, max, Option, Some, None}
+use Rattle.std.proofs.Common.{◌≡◌, ℕ, ◌+◌, ◌≤◌, Bool, true, false, List, [], ◌∷◌, ◌++◌, length, fold, refl, sym, ap, subst, ◌∙◌, arith, append_assoc, append-nil}
+use Rattle.std.specs.Prelude.{Ok, nat_lt, if◌then◌else◌, ◌&&◌, ◌||◌, ◌==◌, max, Option, Some, None}
 use Rattle.bx_advice.specs.declared.config.Config.{Config}
 use Rattle.bx_advice.specs.declared.error.Error.{Error}
 use Rattle.bx_advice.specs.Limits.{greatest_moment, greatest_length}
 use Rattle.bx_message.specs.declared.message.Message.{Message}
 use Rattle.bx_message.specs.MessageKinds.{message_kind_of, is_handshake}
-use Rattle.bx_entry.specs.Listing.{Posted, Listed, Post, listed_from}
+use Rattle.bx_entry.specs.Listing.{Posted, Listed, Post, listed_from, request}
 use Rattle.bx_entry.specs.declared.entry.Entry.{Entry}
-use Rattle.bx_entry.specs.Registry.{Registered, named_by, refusal}
+use Rattle.bx_entry.specs.declared.senders.Senders.{Senders}
+use Rattle.bx_entry.specs.declared.senders.Senders.TheVariants.{Mixed, NoneYet}
+use Rattle.bx_entry.specs.Registry.{Registered, named_by, refusal, senders_behind}
 use Rattle.bx_roster.specs.Live.{Members}
 use Rattle.bx_registry.specs.Rolls.{Verdict, Roll, after, found, next, step, verdict, judged_by, unnamed}
 use Rattle.bx_registry.specs.Drafts.{Drafted, members_of}
@@ -21,49 +23,74 @@ use Rattle.bx_registry.specs.Changes.{Amendment, IsPlannedAt, IsWithin, changed}
 use Rattle.bx_registry.specs.declared.plan.AdmitFault.TheVariants.{BadMoment, Ended}
 use Rattle.bx_registry.proofs.Drafting.{limit-same}
 use Rattle.bx_registry.specs.Plans.{checked, fault_of, entries_in, slots_in}
-use Rattle.bx_registry.specs.Planners.{IsFoundAt, IsPlannedBy, roll_with}
+use Rattle.bx_registry.specs.Planners.{IsFoundAt, IsPlannedBy, roll_between, roll_with}
 use Rattle.bx_registry.specs.declared.plan.Planned.{Planned}
 
 unnamed-limit : (config : Config) (ms : Members) (moment : ℕ) (p : Posted) (b : Bool) → (unnamed config ms moment p b).members.limit ≡ ms.limit
 unnamed-limit config ms moment p true = refl
 unnamed-limit config ms moment p false = refl
 
-judged-limit : (config : Config) (ms : Members) (moment : ℕ) (p : Posted) (sender : Option Registered) (fault : Option Error) → (judged_by config ms moment p sender fault).members.limit ≡ ms.limit
-judged-limit config ms moment p sender (Some error) = refl
-judged-limit config ms moment p None None = unnamed-limit config ms moment p (is_handshake p.message)
-judged-limit config ms moment p (Some s) None = refl
+judged-limit : (config : Config) (ms : Members) (senders : Senders) (moment : ℕ) (p : Posted) (sender : Option Registered) (fault : Option Error) → (judged_by config ms senders moment p sender fault).members.limit ≡ ms.limit
+judged-limit config ms senders moment p sender (Some error) = refl
+judged-limit config ms senders moment p None None = unnamed-limit config ms moment p (is_handshake p.message)
+judged-limit config ms senders moment p (Some s) None = refl
 
 unnamed-opened : (config : Config) (ms : Members) (moment : ℕ) (p : Posted) (b : Bool) → (unnamed config ms moment p b).members.opened ≤ ms.opened + 1
 unnamed-opened config ms moment p true = omega arith
 unnamed-opened config ms moment p false = omega arith
 
-judged-opened : (config : Config) (ms : Members) (moment : ℕ) (p : Posted) (sender : Option Registered) (fault : Option Error) → (judged_by config ms moment p sender fault).members.opened ≤ ms.opened + 1
-judged-opened config ms moment p sender (Some error) = omega arith
-judged-opened config ms moment p None None = unnamed-opened config ms moment p (is_handshake p.message)
-judged-opened config ms moment p (Some s) None = omega arith
+judged-opened : (config : Config) (ms : Members) (senders : Senders) (moment : ℕ) (p : Posted) (sender : Option Registered) (fault : Option Error) → (judged_by config ms senders moment p sender fault).members.opened ≤ ms.opened + 1
+judged-opened config ms senders moment p sender (Some error) = omega arith
+judged-opened config ms senders moment p None None = unnamed-opened config ms moment p (is_handshake p.message)
+judged-opened config ms senders moment p (Some s) None = omega arith
+
+unnamed-behind : (config : Config) (ms : Members) (moment : ℕ) (p : Posted) (b : Bool) → (unnamed config ms moment p b).senders ≡ senders_behind p Mixed
+unnamed-behind config ms moment p true = refl
+unnamed-behind config ms moment p false = refl
+
+-- behind a request's last message the senders are none
+judged-last : (config : Config) (ms : Members) (senders : Senders) (moment : ℕ) (p : Posted) (sender : Option Registered) (fault : Option Error) → p.last ≡ true → (judged_by config ms senders moment p sender fault).senders ≡ NoneYet
+judged-last config ms senders moment p sender (Some error) last = rw last refl
+judged-last config ms senders moment p None None last = unnamed-behind config ms moment p (is_handshake p.message) ∙ rw last refl
+judged-last config ms senders moment p (Some s) None last = rw last refl
+
+after-last : (roll : Roll) (moment nonce : ℕ) (sole seen : Bool) (m : Message) (ms : List Message) → (after roll (listed_from moment nonce sole seen (m ∷ ms))).senders ≡ NoneYet
+after-last roll moment nonce sole seen m [] =
+    let p : Posted = record { message = m; moment = moment; nonce = nonce; sole = sole; last = true; second = seen && is_handshake m } in
+    let live = roll.members.live in
+    judged-last roll.config roll.members roll.senders (max roll.clock moment) p (named_by live (message_kind_of m.channel) m) (refusal roll.config live p) refl
+after-last roll moment nonce sole seen m (n ∷ ms) =
+    let p : Posted = record { message = m; moment = moment; nonce = nonce; sole = sole; last = length (n ∷ ms) == 0; second = seen && is_handshake m } in
+    after-last (next roll (Post p)) moment nonce sole (seen || is_handshake m) n ms
+
+-- so they are behind a request where they were before it
+pub after-request : (roll : Roll) (moment nonce : ℕ) (ms : List Message) → roll.senders ≡ NoneYet → (after roll (request moment nonce ms)).senders ≡ NoneYet
+after-request roll moment nonce [] none = none
+after-request roll moment nonce (m ∷ ms) none = after-last roll moment nonce (length (m ∷ ms) == 1) false m ms
 
 -- what was planned so far, and what is left of the list
-pub record SoFar (config : Config) (before base : Members) (clock first : ℕ) (list rest : List Listed) (d : Drafted) (now place : ℕ) (es : List Entry) (ss : List Planned) : Type 0 where
-  pub roll : after (roll_with config (members_of d) now place) rest ≡ after (roll_with config before clock first) list
-  pub entries : es ++ entries_in (found (roll_with config (members_of d) now place) rest) ≡ entries_in (found (roll_with config before clock first) list)
-  pub slots : ss ++ slots_in (found (roll_with config (members_of d) now place) rest) ≡ slots_in (found (roll_with config before clock first) list)
+pub record SoFar (config : Config) (before base : Members) (clock first : ℕ) (list rest : List Listed) (d : Drafted) (senders : Senders) (now place : ℕ) (es : List Entry) (ss : List Planned) : Type 0 where
+  pub roll : after (roll_with config (members_of d) senders now place) rest ≡ after (roll_between config before clock first) list
+  pub entries : es ++ entries_in (found (roll_with config (members_of d) senders now place) rest) ≡ entries_in (found (roll_between config before clock first) list)
+  pub slots : ss ++ slots_in (found (roll_with config (members_of d) senders now place) rest) ≡ slots_in (found (roll_between config before clock first) list)
   pub same : d.base ≡ base
   pub limit : (members_of d).limit ≡ config.limits.sessions
   pub opened : (members_of d).opened ≤ place
   pub moment : now ≤ greatest_moment
   pub end : place + length rest ≡ first + length list
 
-pub one_next : (config : Config) (before base : Members) (clock first : ℕ) (list rest : List Listed) (d e : Drafted) (now place : ℕ) (es : List Entry) (ss : List Planned) (p : Posted) (entry : Entry) (slot : Planned) →
-    SoFar config before base clock first list (Post p ∷ rest) d now place es ss → max now p.moment ≤ greatest_moment → e.base ≡ d.base →
-    IsFoundAt place (max now p.moment) (verdict config (members_of d) (max now p.moment) p) (members_of e) entry slot →
-    SoFar config before base clock first list rest e (max now p.moment) (place + 1) (es ++ entry ∷ []) (ss ++ slot ∷ [])
-one_next config before base clock first list rest d e now place es ss p entry slot so le same f =
+pub one_next : (config : Config) (before base : Members) (clock first : ℕ) (list rest : List Listed) (d e : Drafted) (senders behind : Senders) (now place : ℕ) (es : List Entry) (ss : List Planned) (p : Posted) (entry : Entry) (slot : Planned) →
+    SoFar config before base clock first list (Post p ∷ rest) d senders now place es ss → max now p.moment ≤ greatest_moment → e.base ≡ d.base →
+    IsFoundAt place (max now p.moment) (verdict config (members_of d) senders (max now p.moment) p) (members_of e) behind entry slot →
+    SoFar config before base clock first list rest e behind (max now p.moment) (place + 1) (es ++ entry ∷ []) (ss ++ slot ∷ [])
+one_next config before base clock first list rest d e senders behind now place es ss p entry slot so le same f =
     let later = max now p.moment in
-    let o : Verdict = verdict config (members_of d) later p in
-    let old : Roll = roll_with config (members_of d) now place in
-    let new : Roll = roll_with config (members_of e) later (place + 1) in
+    let o : Verdict = verdict config (members_of d) senders later p in
+    let old : Roll = roll_with config (members_of d) senders now place in
+    let new : Roll = roll_with config (members_of e) behind later (place + 1) in
     let ms : Members = members_of d in
-    let roll : next old (Post p) ≡ new = ap (λ (x : Members). roll_with config x later (place + 1)) (sym f.members) in
+    let roll : next old (Post p) ≡ new =
+    ap (λ (x : Members). roll_with config x o.senders later (place + 1)) (sym f.members) ∙ ap (λ (x : Senders). roll_with config (members_of e) x later (place + 1)) (sym f.behind) in
     let sender = named_by ms.live (message_kind_of p.message.channel) p.message in
     let fault = refusal config ms.live p in
     let here : slots_in (found old (Post p ∷ rest)) ≡ slot ∷ slots_in (found (next old (Post p)) rest) = rw f.answer refl in
@@ -78,10 +105,25 @@ one_next config before base clock first list rest d e now place es ss p entry sl
           ∙ ap (λ (xs : List Planned). ss ++ xs) (sym here)
           ∙ so.slots;
       same = same ∙ so.same;
-      limit = ap (λ (x : Members). x.limit) f.members ∙ judged-limit config ms later p sender fault ∙ so.limit;
-      opened = omega (arith, ap (λ (x : Members). x.opened) f.members, judged-opened config ms later p sender fault, so.opened);
+      limit = ap (λ (x : Members). x.limit) f.members ∙ judged-limit config ms senders later p sender fault ∙ so.limit;
+      opened = omega (arith, ap (λ (x : Members). x.opened) f.members, judged-opened config ms senders later p sender fault, so.opened);
       moment = le;
       end = omega (arith, so.end);
+    }
+
+-- nothing is left of a list behind which the senders are none
+pub all_planned : (config : Config) (before base : Members) (clock first : ℕ) (list : List Listed) (d : Drafted) (senders : Senders) (now place : ℕ) (es : List Entry) (ss : List Planned) →
+    SoFar config before base clock first list [] d senders now place es ss → (after (roll_between config before clock first) list).senders ≡ NoneYet →
+    IsPlannedBy config before (members_of d) clock first list es ss now
+all_planned config before base clock first list d senders now place es ss so none =
+    let behind : senders ≡ NoneYet = ap (λ (r : Roll). r.senders) so.roll ∙ none in
+    let end : place ≡ first + length list = omega (arith, so.end) in
+    record {
+      roll = sym so.roll ∙ ap (λ (x : Senders). roll_with config (members_of d) x now place) behind ∙ ap (λ (n : ℕ). roll_between config (members_of d) now n) end;
+      listed = sym (append-nil es) ∙ so.entries;
+      answers = sym (append-nil ss) ∙ so.slots;
+      opened = omega (arith, so.opened, end);
+      moment = so.moment;
     }
 
 -- ---- what is planned at a registry
@@ -118,10 +160,10 @@ planned-at roll d e es list entries slots now end start same is can p long room 
       length = room;
     }
 
-pub planned-after : (roll : Roll) (d e : Drafted) (es : List Edit) (list : List Listed) (entries : List Entry) (slots : List Planned) (now end : ℕ) → d ≡ record { base = roll.members; edits = [] } → e.base ≡ d.base → es ≡ e.edits →
-    IsPlannedBy roll.config (members_of d) (members_of e) roll.clock roll.length list entries slots now → end ≡ roll.length + length list →
-    changed roll (record { edits = Each es; clock = now; length = end }) ≡ after roll list
-planned-after roll d e es list entries slots now end start same is p long =
-    let behind = behind-is roll d e es start same is in
-    ap (λ (x : Members). roll_with roll.config x now end) (sym behind) ∙ ap (λ (k : ℕ). roll_with roll.config (members_of e) now k) long
-    ∙ sym p.roll ∙ ap (λ (x : Drafted). after (roll_with roll.config (members_of x) roll.clock roll.length) list) start
+pub planned-after : (config : Config) (ms : Members) (clock first : ℕ) (d e : Drafted) (es : List Edit) (list : List Listed) (entries : List Entry) (slots : List Planned) (now end : ℕ) → d ≡ record { base = ms; edits = [] } → e.base ≡ d.base → es ≡ e.edits →
+    IsPlannedBy config (members_of d) (members_of e) clock first list entries slots now → end ≡ first + length list →
+    changed (roll_between config ms clock first) (record { edits = Each es; clock = now; length = end }) ≡ after (roll_between config ms clock first) list
+planned-after config ms clock first d e es list entries slots now end start same is p long =
+    let behind = behind-is (roll_between config ms clock first) d e es start same is in
+    ap (λ (x : Members). roll_between config x now end) (sym behind) ∙ ap (λ (k : ℕ). roll_between config (members_of e) now k) long
+    ∙ sym p.roll ∙ ap (λ (x : Drafted). after (roll_between config (members_of x) clock first) list) start

@@ -14,7 +14,9 @@ use Rattle.bx_message.specs.declared.message.TextMember.TheVariants.{Absent, Not
 use Rattle.bx_message.specs.MessageKinds.{message_kind_of, is_handshake}
 use Rattle.bx_entry.specs.Listing.{Posted, Listed, Post}
 use Rattle.bx_entry.specs.Listing as messages
-use Rattle.bx_entry.specs.Registry.{Registered, Registry, Judged, judge, judged_by, refusal, cases_of, sender_of, named_by, count_live, extended, closed, left_by, overdue, hold_of, unnamed}
+use Rattle.bx_entry.specs.Registry.{Registered, Registry, Judged, judge, judged_by, refusal, cases_of, sender_of, named_by, count_live, extended, closed, left_by, overdue, hold_of, joined, senders_behind, unnamed}
+use Rattle.bx_entry.specs.declared.senders.Senders.{Senders}
+use Rattle.bx_entry.specs.declared.senders.Senders.TheVariants.{Mixed}
 use Rattle.bx_roster.specs.Live.{live_in}
 use Rattle.bx_registry.specs.Rolls.{Roll, roll_of, step, next, after, found, noted, verdict, Verdict, tick_verdict}
 use Rattle.bx_registry.specs.Rolls as rolls
@@ -78,10 +80,10 @@ length-left_by Disconnect number due sessions = length-map (extended number due 
 length-left_by Publish number due sessions = length-map sessions _
 length-left_by UnknownMeta number due sessions = length-map sessions _
 
-same_roll : (config : Config) (limit moment : ℕ) {opened opened' : ℕ} {live live' : List Registered} {len len' : ℕ} → opened ≡ opened' → live ≡ live' → len ≡ len' →
-    let roll : Roll = record { config = config; members = record { limit = limit; opened = opened; live = live }; clock = moment; length = len } in
-    roll ≡ record { config = config; members = record { limit = limit; opened = opened'; live = live' }; clock = moment; length = len' }
-same_roll config limit moment e f g = cc
+same_roll : (config : Config) (limit moment : ℕ) (senders : Senders) {opened opened' : ℕ} {live live' : List Registered} {len len' : ℕ} → opened ≡ opened' → live ≡ live' → len ≡ len' →
+    let roll : Roll = record { config = config; members = record { limit = limit; opened = opened; live = live }; clock = moment; length = len; senders = senders } in
+    roll ≡ record { config = config; members = record { limit = limit; opened = opened'; live = live' }; clock = moment; length = len'; senders = senders }
+same_roll config limit moment senders e f g = cc
 
 one_more : (js : List Judged) (j : Judged) → length (js ++ j ∷ []) ≡ length js + 1
 one_more js j = length-append js (j ∷ [])
@@ -93,17 +95,17 @@ pub record Went (config : Config) (r : Registry) (moment : ℕ) (o : Verdict) (s
 
 goes-unnamed : (config : Config) (r : Registry) (moment : ℕ) (p : Posted) (b : Bool) → Went config r moment (rolls.unnamed config (roll_of config r).members moment p b) (unnamed config r moment p b)
 goes-unnamed config r moment p true = record {
-  roll = same_roll config config.limits.sessions moment (sym (length-append r.sessions (_ ∷ []))) (sym (filter-append is_live r.sessions (_ ∷ []))) (sym (one_more r.judged _));
+  roll = same_roll config config.limits.sessions moment (senders_behind p Mixed) (sym (length-append r.sessions (_ ∷ []))) (sym (filter-append is_live r.sessions (_ ∷ []))) (sym (one_more r.judged _));
   judged = refl;
 }
-goes-unnamed config r moment p false = record { roll = same_roll config config.limits.sessions moment refl refl (sym (one_more r.judged _)); judged = refl }
+goes-unnamed config r moment p false = record { roll = same_roll config config.limits.sessions moment (senders_behind p Mixed) refl refl (sym (one_more r.judged _)); judged = refl }
 
 goes-by : (config : Config) (r : Registry) (moment : ℕ) (p : Posted) (sender : Option Registered) (fault : Option Error) →
-    Went config r moment (rolls.judged_by config (roll_of config r).members moment p sender fault) (judged_by config r moment p sender fault)
-goes-by config r moment p sender (Some error) = record { roll = same_roll config config.limits.sessions moment refl refl (sym (one_more r.judged _)); judged = refl }
+    Went config r moment (rolls.judged_by config (roll_of config r).members r.senders moment p sender fault) (judged_by config r moment p sender fault)
+goes-by config r moment p sender (Some error) = record { roll = same_roll config config.limits.sessions moment (senders_behind p Mixed) refl refl (sym (one_more r.judged _)); judged = refl }
 goes-by config r moment p None None = goes-unnamed config r moment p (is_handshake p.message)
 goes-by config r moment p (Some s) None = record {
-  roll = same_roll config config.limits.sessions moment
+  roll = same_roll config config.limits.sessions moment (senders_behind p (joined r.senders s.number))
       (sym (length-left_by (message_kind_of p.message.channel) s.number (moment + hold_of config p + config.max_interval) r.sessions))
       (left_by-live (message_kind_of p.message.channel) s.number (moment + hold_of config p + config.max_interval) r.sessions)
       (sym (one_more r.judged _));
@@ -115,11 +117,11 @@ goes config r (Post p) =
     let moment = max r.clock p.moment in
     let message_kind = message_kind_of p.message.channel in
     let named = named_by r.sessions message_kind p.message in
-    let went : Went config r moment (verdict config (roll_of config r).members moment p) (judge config r (Post p)) =
+    let went : Went config r moment (verdict config (roll_of config r).members r.senders moment p) (judge config r (Post p)) =
     rw (refusal-live config r.sessions p, named_by-live r.sessions message_kind p.message) (goes-by config r moment p named (refusal config r.sessions p)) in
     record { roll = went.roll; judged = went.judged }
 goes config r (messages.Tick moment) = record {
-  roll = same_roll config config.limits.sessions (max r.clock moment) (sym (length-map r.sessions _)) (live_in-swept (max r.clock moment) r.sessions) (sym (one_more r.judged _));
+  roll = same_roll config config.limits.sessions (max r.clock moment) r.senders (sym (length-map r.sessions _)) (live_in-swept (max r.clock moment) r.sessions) (sym (one_more r.judged _));
   judged = rw (overdue-live (max r.clock moment) r.sessions) refl;
 }
 

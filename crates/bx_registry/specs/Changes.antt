@@ -13,9 +13,9 @@ pub record Amendment : Type 0 where
   pub clock : ℕ
   pub length : ℕ
 
--- the roll after a change
+-- the roll after a change, which is one between requests
 abbrev pub changed : Roll → Amendment → Roll
-changed roll c = record { config = roll.config; members = edited_by roll.members c.edits; clock = c.clock; length = c.length }
+changed roll c = record { config = roll.config; members = edited_by roll.members c.edits; clock = c.clock; length = c.length; senders = roll.senders }
 
 -- the change was planned at this roll: its edits can be made there, and what comes of them keeps the limits
 pub record IsPlannedAt (roll : Roll) (c : Amendment) : Type 0 where

@@ -1,9 +1,9 @@
 -- A request that is being judged, message by message.
-use Rattle.std.specs.Prelude.{ℕ, ◌≡◌, ◌<◌, ◌^◌, ◌==◌, true, false, List, length, fold, if◌then◌else◌, Option, Some, None}
+use Rattle.std.specs.Prelude.{ℕ, ◌≡◌, ◌<◌, ◌^◌, ◌==◌, Bool, true, List, length, fold, if◌then◌else◌, Option, Some, None}
 use Rattle.std.specs.Option.{option_or}
 use Rattle.bx_entry.specs.Registry.{Registered}
 use Rattle.bx_roster.specs.Live.{Members}
-use Rattle.bx_roster.specs.Tables.{AllLive, IsTable}
+use Rattle.bx_roster.specs.Tables.{AllLive, IsTable, known_of}
 use Rattle.bx_roster.specs.Edits.{edited, CanEditEach}
 use Rattle.bx_roster.specs.declared.edit.Edit.{Edit}
 use Rattle.bx_roster.specs.declared.edit.Edit.TheVariants.{Open, Extend, Close}
@@ -18,11 +18,11 @@ pub record Drafted : Type 0 where
 abbrev pub members_of : Drafted → Members
 members_of d = fold edited d.base d.edits
 
--- the client id at a number after one more edit
-abbrev pub client_after : ℕ → Option (List ℕ) → Edit → Option (List ℕ)
-client_after number client (Open s) = option_or client (if s.number == number then Some s.client else None)
-client_after number client (Extend n due) = client
-client_after number client (Close n) = if n == number then None else client
+-- what is known of the session with a number after one more edit
+abbrev pub known_after : ℕ → Option (List ℕ × Bool) → Edit → Option (List ℕ × Bool)
+known_after number known (Open s) = option_or known (if s.number == number then Some (known_of s) else None)
+known_after number known (Extend n due) = known
+known_after number known (Close n) = if n == number then None else known
 
 -- the edits can be made at the base, and the counts are those of the sessions behind them
 pub record IsDrafted (base : Members) (edits : List Edit) (count opened : ℕ) : Type 0 where
@@ -35,11 +35,11 @@ pub record IsDrafted (base : Members) (edits : List Edit) (count opened : ℕ) :
   pub table : IsTable 0 (fold edited base edits).opened (fold edited base edits).live
   pub all : AllLive (fold edited base edits).live
 
--- that a session is the one with this number and this client id
-abbrev pub IsSender : Option Registered → ℕ → List ℕ → Type 0
-IsSender None number client = ⊥
-IsSender (Some r) number client = (r.number ≡ number) × (r.client ≡ client)
+-- that a session is the one with this number and this client id, and acknowledges or does not
+abbrev pub IsSender : Option Registered → ℕ → List ℕ → Bool → Type 0
+IsSender None number client ack = ⊥
+IsSender (Some r) number client ack = (r.number ≡ number) × (r.client ≡ client) × (r.ack ≡ ack)
 
--- a session with this number and this client id
+-- a session with this number and this client id, that acknowledges or does not
 abbrev pub named : Sender → Registered
-named s = record { number = s.number; client = s.client.now; ack = false; due = 0; live = true }
+named s = record { number = s.number; client = s.client.now; ack = s.ack; due = 0; live = true }

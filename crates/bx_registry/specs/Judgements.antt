@@ -7,8 +7,8 @@ use Rattle.bx_message.specs.declared.message.Message.{Message}
 use Rattle.bx_message.specs.declared.message.TextMember.{TextMember}
 use Rattle.bx_message.specs.declared.message_kind.MessageKind.{MessageKind}
 use Rattle.bx_message.specs.declared.message_kind.MessageKind.TheVariants as message_kinds
-use Rattle.bx_entry.specs.declared.entry.EntryKind.{EntryKind}
-use Rattle.bx_entry.specs.Registry.{needs_session}
+use Rattle.bx_entry.specs.declared.entry.Rider.{Rider}
+use Rattle.bx_entry.specs.Registry.{PlaceSlot, needs_session, slot_with}
 use Rattle.bx_roster.specs.Live.{Members}
 use Rattle.bx_roster.specs.Edits.{edited, CanEditEach}
 use Rattle.bx_roster.specs.declared.edit.Edit.{Edit}
@@ -16,6 +16,7 @@ use Rattle.bx_roster.specs.declared.edit.Edit.TheVariants.{Extend, Close}
 use Rattle.bx_registry.specs.Rolls.{Verdict}
 use Rattle.bx_registry.specs.Plans.{planned_at}
 use Rattle.bx_registry.specs.declared.plan.Planned.{Planned}
+use Rattle.bx_registry.specs.declared.judge.Judgement.{Judgement}
 
 -- an accepted message of a session moves its due moment on; a disconnect closes the session
 abbrev pub edit_for : MessageKind → ℕ → ℕ → Edit
@@ -37,12 +38,19 @@ is_needed config message_kinds.Disconnect client = true
 is_needed config message_kinds.Publish client = needs_session config client
 is_needed config message_kinds.UnknownMeta client = true
 
--- the edit, if there is one, the kind of the entry and the slot are those of the outcome at this place
-pub record IsVerdict (ms : Members) (place : ℕ) (o : Verdict) (edit : Option Edit) (kind : EntryKind) (slot : Planned) : Type 0 where
-  pub members : fold edited ms (option_to_list edit) ≡ o.members
-  pub can : CanEditEach ms (option_to_list edit)
-  pub what : kind ≡ o.kind
-  pub answer : planned_at place o.slot ≡ Some slot
+-- the edit, if there is one, the senders, the kind of the entry, its rider and the slot are those of the outcome at this place
+pub record IsVerdict (ms : Members) (place : ℕ) (o : Verdict) (j : Judgement) : Type 0 where
+  pub members : fold edited ms (option_to_list j.edit) ≡ o.members
+  pub can : CanEditEach ms (option_to_list j.edit)
+  pub behind : j.senders ≡ o.senders
+  pub what : j.kind ≡ o.kind
+  pub rider : j.rides ≡ o.rides
+  pub answer : planned_at place o.slot ≡ Some j.slot
+
+-- a message that would be answered so is this rider, if it is one, and this is its slot at this place
+pub record IsRidden (place : ℕ) (rider : Option Rider) (answer : PlaceSlot) (rides : Option Rider) (slot : Planned) : Type 0 where
+  pub same : rides ≡ rider
+  pub answered : planned_at place (slot_with rider answer) ≡ Some slot
 
 -- whether some text does not read as a pattern
 abbrev pub has_fault : List (List ℕ) → Bool

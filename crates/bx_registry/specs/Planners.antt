@@ -4,25 +4,32 @@ use Rattle.bx_advice.specs.declared.config.Config.{Config}
 use Rattle.bx_advice.specs.Limits.{greatest_moment}
 use Rattle.bx_entry.specs.Listing.{Listed}
 use Rattle.bx_entry.specs.declared.entry.Entry.{Entry}
+use Rattle.bx_entry.specs.declared.senders.Senders.{Senders}
+use Rattle.bx_entry.specs.declared.senders.Senders.TheVariants.{NoneYet}
 use Rattle.bx_roster.specs.Live.{Members}
 use Rattle.bx_registry.specs.Rolls.{Verdict, Roll, after, found}
 use Rattle.bx_registry.specs.Plans.{planned_at, entries_in, slots_in}
 use Rattle.bx_registry.specs.declared.plan.Planned.{Planned}
 
--- the sessions, the entry and the answer are those of the outcome at this place
-pub record IsFoundAt (place moment : ℕ) (o : Verdict) (ms : Members) (entry : Entry) (slot : Planned) : Type 0 where
+-- the sessions, the senders, the entry and the answer are those of the outcome at this place
+pub record IsFoundAt (place moment : ℕ) (o : Verdict) (ms : Members) (senders : Senders) (entry : Entry) (slot : Planned) : Type 0 where
   pub members : ms ≡ o.members
-  pub noted : entry ≡ record { place = place; moment = moment; kind = o.kind }
+  pub behind : senders ≡ o.senders
+  pub noted : entry ≡ record { place = place; moment = moment; kind = o.kind; rides = o.rides }
   pub answer : planned_at place o.slot ≡ Some slot
 
--- the roll with these sessions
-abbrev pub roll_with : Config → Members → ℕ → ℕ → Roll
-roll_with config ms clock length = record { config = config; members = ms; clock = clock; length = length }
+-- the roll with these sessions and senders
+abbrev pub roll_with : Config → Members → Senders → ℕ → ℕ → Roll
+roll_with config ms senders clock length = record { config = config; members = ms; clock = clock; length = length; senders = senders }
 
--- the list makes this of the roll, and finds these
+-- between requests
+abbrev pub roll_between : Config → Members → ℕ → ℕ → Roll
+roll_between config ms clock length = roll_with config ms NoneYet clock length
+
+-- the list makes this of the roll between requests, and finds these
 pub record IsPlannedBy (config : Config) (before behind : Members) (clock first : ℕ) (list : List Listed) (entries : List Entry) (slots : List Planned) (now : ℕ) : Type 0 where
-  pub roll : after (roll_with config before clock first) list ≡ roll_with config behind now (first + length list)
-  pub listed : entries ≡ entries_in (found (roll_with config before clock first) list)
-  pub answers : slots ≡ slots_in (found (roll_with config before clock first) list)
+  pub roll : after (roll_between config before clock first) list ≡ roll_between config behind now (first + length list)
+  pub listed : entries ≡ entries_in (found (roll_between config before clock first) list)
+  pub answers : slots ≡ slots_in (found (roll_between config before clock first) list)
   pub opened : behind.opened ≤ first + length list
   pub moment : now ≤ greatest_moment

@@ -4,4 +4,4 @@ use Rattle.bx_registry.specs.declared.posted.Posted.{Posted}
 
 -- the posted message
 abbrev pub posted_of : Posted → messages.Posted
-posted_of p = record { message = p.message.now; moment = p.moment; nonce = p.nonce; sole = p.sole; second = p.second }
+posted_of p = record { message = p.message.now; moment = p.moment; nonce = p.nonce; sole = p.sole; last = p.last; second = p.second }

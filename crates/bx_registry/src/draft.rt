@@ -1,14 +1,13 @@
 //! A request that is being judged, message by message.
-ghost use Rattle.std.specs.Prelude.{◌≡◌, ◌+◌, ◌<◌, ◌≤◌, ◌++◌, ◌∷◌, [], ℕ, length, IfOk, OnOk, OnErr, MatchOption};
-ghost use Rattle.std.specs.Option.{option_copied};
+ghost use Rattle.std.specs.Prelude.{◌≡◌, ◌+◌, ◌<◌, ◌≤◌, ◌++◌, ◌∷◌, [], ℕ, length, option_map, IfOk, OnOk, OnErr, MatchOption};
 ghost use Rattle.bx_entry.specs.Registry.{count_live, live_with_id, named_by, sender_of};
-ghost use Rattle.bx_roster.specs.Tables.{AllLive, IsTable, client_at};
+ghost use Rattle.bx_roster.specs.Tables.{AllLive, IsTable, known_at};
 ghost use Rattle.bx_roster.specs.Edits.{CanEdit, CanEditEach};
-ghost use Rattle.bx_registry.specs.Drafts.{Drafted, IsSender, client_after, members_of};
+ghost use Rattle.bx_registry.specs.Drafts.{Drafted, IsSender, known_after, members_of};
 
 use crate::id::number_in;
 use bx_message::{Message, MessageKind, Sequence, Text, TextMember};
-use bx_roster::{Edit, Table};
+use bx_roster::{Edit, Known, Table};
 use std::alloc::{AllocError, AllocFailed, Global};
 use std::marker::Model;
 
@@ -17,6 +16,8 @@ use std::marker::Model;
 pub(crate) struct Sender<'m> {
     pub(crate) number: u64,
     pub(crate) client: &'m Text,
+    /// Whether it acknowledges.
+    pub(crate) ack: bool,
 }
 
 /// The sessions as they are behind the messages that were judged. Nothing is changed yet.
@@ -68,7 +69,7 @@ impl<'a> Draft<'a> {
         message: &'m Message,
     ) -> Option<Sender<'m>>
         ensures { MatchOption result (named_by (members_of self.now).live message_kind message.now ≡ None)
-            (λ s. IsSender (named_by (members_of self.now).live message_kind message.now) s.number s.client.now) }
+            (λ s. IsSender (named_by (members_of self.now).live message_kind message.now) s.number s.client.now s.ack) }
     {
         match message_kind {
             MessageKind::Handshake | MessageKind::UnknownMeta => None,
@@ -79,7 +80,7 @@ impl<'a> Draft<'a> {
     // The live session with this client id.
     fn sender_of<'m>(&self, client: &'m TextMember) -> Option<Sender<'m>>
         ensures { MatchOption result (sender_of (members_of self.now).live client.now ≡ None)
-            (λ s. IsSender (sender_of (members_of self.now).live client.now) s.number s.client.now) }
+            (λ s. IsSender (sender_of (members_of self.now).live client.now) s.number s.client.now s.ack) }
     {
         match client {
             TextMember::Text(client) => self.live_with_id(client),
@@ -90,27 +91,31 @@ impl<'a> Draft<'a> {
     // The number at the id's end is that of the only session that can have it.
     fn live_with_id<'m>(&self, client: &'m Text) -> Option<Sender<'m>>
         ensures { MatchOption result (live_with_id (members_of self.now).live client.now ≡ None)
-            (λ s. IsSender (live_with_id (members_of self.now).live client.now) s.number s.client.now) }
+            (λ s. IsSender (live_with_id (members_of self.now).live client.now) s.number s.client.now s.ack) }
     {
         let _ = &self.edits;
         let number = number_in(client.as_str());
-        let known = self.client_at(number)?;
-        if known.as_str() == client.as_str() {
-            Some(Sender { number, client })
+        let known = self.known_at(number)?;
+        if known.client.as_str() == client.as_str() {
+            Some(Sender {
+                number,
+                client,
+                ack: known.ack,
+            })
         } else {
             None
         }
     }
 
-    // The client id of the live session with this number.
-    fn client_at(&self, number: u64) -> Option<&Text>
-        ensures { option_copied result ≡ client_at number (members_of self.now).live }
+    // What is known of the live session with this number.
+    fn known_at(&self, number: u64) -> Option<Known<'_>>
+        ensures { option_map (λ k. (k.client.now, k.ack)) result ≡ known_at number (members_of self.now).live }
     {
-        let mut client = self.table.client_at(number);
+        let mut known = self.table.known_at(number);
         for edit in self.edits.as_slice() {
-            client = client_after(number, client, edit);
+            known = known_after(number, known, edit);
         }
-        client
+        known
     }
 
     /// Takes one more edit down.
@@ -140,18 +145,19 @@ impl<'a> Draft<'a> {
     }
 }
 
-fn client_after<'a>(number: u64, client: Option<&'a Text>, edit: &'a Edit) -> Option<&'a Text>
-    ensures { option_copied result ≡ client_after number (option_copied client.entry) edit.now }
+fn known_after<'a>(number: u64, known: Option<Known<'a>>, edit: &'a Edit) -> Option<Known<'a>>
+    ensures { option_map (λ k. (k.client.now, k.ack)) result
+        ≡ known_after number (option_map (λ k. (k.client.now, k.ack)) known.entry) edit.now }
 {
     match edit {
         Edit::Open(session) => {
-            if client.is_none() && session.number == number {
-                Some(&session.client)
+            if known.is_none() && session.number == number {
+                Some(session.known())
             } else {
-                client
+                known
             }
         }
-        Edit::Extend { .. } => client,
-        Edit::Close { number: closed } => { if *closed == number { None } else { client } }
+        Edit::Extend { .. } => known,
+        Edit::Close { number: closed } => { if *closed == number { None } else { known } }
     }
 }

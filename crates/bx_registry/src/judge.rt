@@ -12,14 +12,15 @@ ghost use Rattle.bx_message.specs.declared.reply.AckReply.TheVariants as replies
 ghost use Rattle.bx_message.specs.declared.message_kind.MessageKind.TheVariants as message_kinds;
 ghost use Rattle.bx_message.specs.Replies.{reply_to};
 ghost use Rattle.bx_entry.specs.declared.entry.EntryKind.TheVariants as entries;
-ghost use Rattle.bx_entry.specs.Registry.{Registered, acked_by, client_id, event_of, hold_of, is_ack, kind_for, patterns_of, sessionless_kind, slot_for};
+ghost use Rattle.bx_entry.specs.Registry.{Registered, acked_by, client_id, event_of, PlaceSlot, hold_of, is_ack, is_rider, joined, kind_for, may_ride, patterns_of, rider_for, senders_behind, sessionless_kind, slot_for, slot_with};
+ghost use Rattle.bx_entry.specs.declared.senders.Senders.TheVariants.{Mixed};
 ghost use Rattle.bx_roster.specs.declared.edit.Edit.TheVariants as edits;
 ghost use Rattle.bx_registry.specs.Postings.{posted_of};
-ghost use Rattle.bx_registry.specs.Rolls.{newcomer, verdict};
+ghost use Rattle.bx_registry.specs.Rolls.{newcomer, ridden, verdict};
 ghost use Rattle.bx_entry.specs.Listing as messages;
 ghost use Rattle.bx_registry.specs.Drafts.{members_of, named};
 ghost use Rattle.bx_registry.specs.Plans.{planned_at};
-ghost use Rattle.bx_registry.specs.Judgements.{AreReadable, IsVerdict, edit_for, has_fault};
+ghost use Rattle.bx_registry.specs.Judgements.{AreReadable, IsRidden, IsVerdict, edit_for, has_fault};
 
 use crate::draft::{Draft, Sender};
 use crate::id::client_id;
@@ -27,7 +28,7 @@ use crate::plan::Planned;
 use crate::posted::{Posted, is_handshake};
 use crate::refusal::refusal;
 use bx_advice::{Config, Error, Outcome};
-use bx_entry::EntryKind;
+use bx_entry::{EntryKind, Rider, Senders};
 use bx_message::{
     AckMember, AckReply, Event, Message, MessageKind, RawJson, Reply, Sequence, SharedEvent, Text,
     share_json,
@@ -36,19 +37,24 @@ use bx_names::{ChannelName, NameError, Pattern};
 use bx_roster::{Edit, Session};
 use std::alloc::{AllocError, AllocFailed, Global};
 
-/// What a message comes to: what it changes of the sessions, its entry's kind, and how it is answered.
+/// What a message comes to: what it changes of the sessions, its entry's kind and the rider that it is, how it is
+/// answered, and whose the messages so far are then.
 #[derive(Drop)]
 pub(crate) struct Judgement {
     pub(crate) edit: Option<Edit>,
     pub(crate) kind: EntryKind,
+    pub(crate) rides: Option<Rider>,
     pub(crate) slot: Planned,
+    pub(crate) senders: Senders,
 }
 
-/// Judges a message by the sessions behind those before it: what it comes to at this place and moment.
+/// Judges a message by the sessions behind those before it, which are those senders': what it comes to at this place
+/// and moment.
 pub(crate) fn judge(
     alloc: Global,
     config: &Config,
     draft: &Draft<'_>,
+    senders: Senders,
     moment: u64,
     place: u64,
     posted: Posted<'_>,
@@ -57,12 +63,12 @@ pub(crate) fn judge(
     requires limit { (members_of draft.now).limit ≡ config.now.limits.sessions }
     requires number { (members_of draft.now).opened + 1 < 2 ^ 64 }
     ensures { IfOk result (λ j. IsVerdict (members_of draft.now) place
-        (verdict config.now (members_of draft.now) moment (posted_of posted.entry)) j.edit j.kind j.slot) }
+        (verdict config.now (members_of draft.now) senders moment (posted_of posted.entry)) j) }
 {
     let sender = draft.named_by(posted.message_kind, posted.message);
     let (live, opened) = draft.counts();
     match refusal(config, live, sender.is_some(), posted) {
-        Some(error) => refuse(config, posted.message_kind, posted.message, &sender, error),
+        Some(error) => refuse(config, posted, &sender, error),
         None => match &sender {
             None if is_handshake(posted.message_kind) => open(
                 alloc,
@@ -72,7 +78,7 @@ pub(crate) fn judge(
                 posted,
             ),
             None => note(alloc, config, posted),
-            Some(sender) => serve(alloc, config, moment, place, posted, sender),
+            Some(sender) => serve(alloc, config, senders, moment, place, posted, sender),
         },
     }
 }
@@ -80,15 +86,15 @@ pub(crate) fn judge(
 // A refused message changes nothing but the list.
 fn refuse(
     config: &Config,
-    message_kind: MessageKind,
-    message: &Message,
+    posted: Posted<'_>,
     sender: &Option<Sender<'_>>,
     error: Error,
 ) -> Result<Judgement, AllocError>
     ensures edit { IfOk result (λ j. j.edit ≡ None) }
-    ensures kind { IfOk result (λ j. j.kind ≡ entries.Refused) }
-    ensures slot { IfOk result (λ j. j.slot ≡ Planned.Ready (reply_to config.now message_kind message.now
-        (option_map (λ s. s.client.now) sender.now) (Failed error) replies.NoAck)) }
+    ensures kind { IfOk result (λ j. (j.kind ≡ entries.Refused) × (j.rides ≡ None)) }
+    ensures senders { IfOk result (λ j. j.senders ≡ senders_behind (posted_of posted.entry) Mixed) }
+    ensures slot { IfOk result (λ j. j.slot ≡ Planned.Ready (reply_to config.now posted.entry.message_kind
+        posted.entry.message.now (option_map (λ s. s.client.now) sender.now) (Failed error) replies.NoAck)) }
 {
     let client = match sender {
         Some(sender) => Some(sender.client),
@@ -96,8 +102,8 @@ fn refuse(
     };
     let reply = Reply::to_message(
         config,
-        message_kind,
-        message,
+        posted.message_kind,
+        posted.message,
         client,
         Outcome::Failed(error),
         AckReply::NoAck,
@@ -105,7 +111,9 @@ fn refuse(
     Ok(Judgement {
         edit: None,
         kind: EntryKind::Refused,
+        rides: None,
         slot: Planned::Ready(reply),
+        senders: senders_behind(posted, Senders::Mixed),
     })
 }
 
@@ -113,7 +121,9 @@ fn refuse(
 fn note(alloc: Global, config: &Config, posted: Posted<'_>) -> Result<Judgement, AllocError>
     requires { AreReadable posted.message_kind posted.message.now }
     ensures edit { IfOk result (λ j. j.edit ≡ None) }
-    ensures kind { IfOk result (λ j. j.kind ≡ sessionless_kind posted.entry.message_kind posted.entry.message.now) }
+    ensures kind { IfOk result (λ j.
+        (j.kind ≡ sessionless_kind posted.entry.message_kind posted.entry.message.now) × (j.rides ≡ None)) }
+    ensures senders { IfOk result (λ j. j.senders ≡ senders_behind (posted_of posted.entry) Mixed) }
     ensures slot { IfOk result (λ j. j.slot ≡ Planned.Ready (reply_to config.now posted.entry.message_kind
         posted.entry.message.now None advice.Done replies.NoAck)) }
 {
@@ -130,7 +140,9 @@ fn note(alloc: Global, config: &Config, posted: Posted<'_>) -> Result<Judgement,
     Ok(Judgement {
         edit,
         kind,
+        rides: None,
         slot: Planned::Ready(reply),
+        senders: senders_behind(posted, Senders::Mixed),
     })
 }
 
@@ -149,10 +161,12 @@ fn sessionless_kind(
     })
 }
 
-// An accepted message of a live session. A connect waits for its answer, every other message has its success at once.
+// An accepted message of a live session. A connect or a rider waits for its answer, every other message has its success
+// at once.
 fn serve(
     alloc: Global,
     config: &Config,
+    senders: Senders,
     moment: u64,
     place: u64,
     posted: Posted<'_>,
@@ -164,17 +178,73 @@ fn serve(
         (moment + hold_of config.now (posted_of posted.entry) + config.now.max_interval))) }
     ensures kind { IfOk result (λ j. j.kind
         ≡ kind_for posted.entry.message_kind (posted_of posted.entry) (named sender.now) (hold_of config.now (posted_of posted.entry))) }
-    ensures slot { IfOk result (λ j. planned_at place
-        (slot_for config.now posted.entry.message_kind (posted_of posted.entry) (named sender.now)) ≡ Some j.slot) }
+    ensures senders { IfOk result (λ j.
+        j.senders ≡ senders_behind (posted_of posted.entry) (joined senders sender.now.number)) }
+    ensures slot { IfOk result (λ j. IsRidden place
+        (ridden config.now senders (posted_of posted.entry) posted.entry.message_kind (named sender.now))
+        (slot_for config.now posted.entry.message_kind (posted_of posted.entry) (named sender.now)) j.rides j.slot) }
 {
     let message_kind = posted.message_kind;
     let hold = hold_of(config, posted);
     let due = due_after(config, moment, hold);
+    let kind = kind_for(alloc, message_kind, posted.message, sender, hold)?;
+    let slot = slot_for(config, message_kind, place, posted.message, sender)?;
+    let is_rider = is_rider(config, senders, posted, sender);
+    let (rides, slot) = ridden(is_rider, place, sender.number, slot);
     Ok(Judgement {
         edit: Some(edit_for(message_kind, sender.number, due)),
-        kind: kind_for(alloc, message_kind, posted.message, sender, hold)?,
-        slot: slot_for(config, message_kind, place, posted.message, sender)?,
+        kind,
+        rides,
+        slot,
+        senders: senders_behind(posted, senders.joined(sender.number)),
     })
+}
+
+// Behind a request's last message the next request is at hand.
+fn senders_behind(posted: Posted<'_>, senders: Senders) -> Senders
+    ensures { result ≡ senders_behind (posted_of posted.entry) senders }
+{
+    if posted.last {
+        Senders::NoneYet
+    } else {
+        senders
+    }
+}
+
+// Whether an accepted message is a rider: its request's last, where all of them are accepted ones of this session, which
+// does not acknowledge.
+fn is_rider(config: &Config, senders: Senders, posted: Posted<'_>, sender: &Sender<'_>) -> bool
+    ensures { result ≡ is_rider config.now senders posted.entry.message_kind (posted_of posted.entry) (named sender.now) }
+{
+    config.ride
+        && posted.last
+        && !sender.ack
+        && senders.joined(sender.number).is_one()
+        && may_ride(posted.message_kind)
+}
+
+// Whether waiting events may go out before the reply to an accepted message of this kind.
+fn may_ride(message_kind: MessageKind) -> bool
+    ensures { result ≡ may_ride message_kind }
+{
+    matches!(
+        message_kind,
+        MessageKind::Subscribe | MessageKind::Unsubscribe | MessageKind::Publish
+    )
+}
+
+// A rider takes its reply along, and is answered by its session.
+fn ridden(is_rider: bool, place: u64, session: u64, slot: Planned) -> (Option<Rider>, Planned)
+    ensures { (answer : PlaceSlot) → planned_at place answer ≡ Some slot
+        → IsRidden place (rider_for is_rider session answer) answer result.0 result.1 }
+{
+    match slot {
+        Planned::Ready(reply) if is_rider => (
+            Some(Rider { session, reply }),
+            Planned::Waiting { place, session },
+        ),
+        slot => (None, slot),
+    }
 }
 
 // The entry's kind for an accepted message of a live session. Neither a handshake nor a message to an unknown meta
@@ -213,7 +283,7 @@ fn kind_for(
     })
 }
 
-// How an accepted message of a live session is answered.
+// How an accepted message of a live session is answered where it is no rider.
 fn slot_for(
     config: &Config,
     message_kind: MessageKind,
@@ -265,7 +335,9 @@ fn open(
     requires { moment ≤ greatest_moment }
     ensures edit { IfOk result (λ j.
         j.edit ≡ Some (edits.Open (newcomer config.now moment (posted_of posted.entry) number))) }
-    ensures kind { IfOk result (λ j. j.kind ≡ entries.Opened number (is_ack posted.entry.message.now.ack)) }
+    ensures kind { IfOk result (λ j.
+        (j.kind ≡ entries.Opened number (is_ack posted.entry.message.now.ack)) × (j.rides ≡ None)) }
+    ensures senders { IfOk result (λ j. j.senders ≡ senders_behind (posted_of posted.entry) Mixed) }
     ensures slot { IfOk result (λ j. j.slot ≡ Planned.Ready (reply_to config.now message_kinds.Handshake
         posted.entry.message.now (Some (client_id posted.entry.nonce number)) advice.Opened
         (if is_ack posted.entry.message.now.ack then replies.AckTrue else replies.NoAck))) }
@@ -286,7 +358,9 @@ fn open(
             session: number,
             ack,
         },
+        rides: None,
         slot: Planned::Ready(reply),
+        senders: senders_behind(posted, Senders::Mixed),
     })
 }
 

@@ -12,7 +12,7 @@ use std::alloc::{AllocError, AllocFailed};
 pub enum Planned {
     /// At once, by this reply.
     Ready(Reply),
-    /// A connect, whose answer comes later: its place in the list, and the number of its session.
+    /// A connect or a rider, whose answer comes later: its place in the list, and the number of its session.
     Waiting { place: u64, session: u64 },
 }
 

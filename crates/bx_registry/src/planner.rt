@@ -15,7 +15,7 @@ use crate::judge::{Judgement, judge};
 use crate::plan::Planned;
 use crate::posted::{Posted, is_handshake};
 use bx_advice::Config;
-use bx_entry::Entry;
+use bx_entry::{Entry, Senders};
 use bx_message::{Message, MessageKind, Sequence};
 use std::alloc::{AllocError, AllocFailed, Global};
 
@@ -62,12 +62,16 @@ pub(crate) fn plan_all(
     let mut entries = Sequence::new(alloc);
     let mut slots = Sequence::new(alloc);
     let sole = messages.len() == 1;
+    let mut left = messages.len();
+    let mut senders = Senders::NoneYet;
     for message in messages {
+        left -= 1;
         now = now.max(start.moment);
-        let posted = posted_at(start, message, sole, seen);
-        let (entry, slot) = plan_next(alloc, config, draft, now, place, posted)?;
+        let posted = posted_at(start, message, sole, left == 0, seen);
+        let (entry, slot, behind) = plan_next(alloc, config, draft, senders, now, place, posted)?;
         entries.push(entry)?;
         slots.push(slot)?;
+        senders = behind;
         seen |= is_handshake(posted.message_kind);
         place += 1;
     }
@@ -79,12 +83,13 @@ pub(crate) fn plan_all(
 }
 
 // A message of the request that starts there, of which it is said whether a handshake was seen.
-fn posted_at(start: Start, message: &Message, sole: bool, seen: bool) -> Posted<'_>
+fn posted_at(start: Start, message: &Message, sole: bool, last: bool, seen: bool) -> Posted<'_>
     ensures { posted_of result ≡ record {
       message = message.now;
       moment = start.moment;
       nonce = start.nonce;
       sole = sole;
+      last = last;
       second = seen && is_handshake message.now;
     } }
 {
@@ -95,27 +100,35 @@ fn posted_at(start: Start, message: &Message, sole: bool, seen: bool) -> Posted<
         moment: start.moment,
         nonce: start.nonce,
         sole,
+        last,
         second: seen & is_handshake(message_kind),
     }
 }
 
-// Judges the message at this place, and takes down what it changes.
+// Judges the message at this place, behind messages that are those senders', and takes down what it changes.
 fn plan_next(
     alloc: Global,
     config: &Config,
     draft: &mut Draft<'_>,
+    senders: Senders,
     clock: u64,
     place: u64,
     posted: Posted<'_>,
-) -> Result<(Entry, Planned), AllocError>
+) -> Result<(Entry, Planned, Senders), AllocError>
     requires clock { clock ≤ greatest_moment }
     requires limit { (members_of draft.old).limit ≡ config.now.limits.sessions }
     requires opened { (members_of draft.old).opened ≤ greatest_length }
     ensures base { draft.new.base ≡ draft.old.base }
     ensures found { IfOk result (λ r. IsFoundAt place clock
-        (verdict config.now (members_of draft.old) clock (posted_of posted.entry)) (members_of draft.new) r.0 r.1) }
+        (verdict config.now (members_of draft.old) senders clock (posted_of posted.entry)) (members_of draft.new) r.2 r.0 r.1) }
 {
-    let Judgement { edit, kind, slot } = judge(alloc, config, draft, clock, place, posted)?;
+    let Judgement {
+        edit,
+        kind,
+        rides,
+        slot,
+        senders,
+    } = judge(alloc, config, draft, senders, clock, place, posted)?;
     if let Some(edit) = edit {
         draft.push(edit)?;
     }
@@ -123,6 +136,7 @@ fn plan_next(
         place,
         moment: clock,
         kind,
+        rides,
     };
-    Ok((entry, slot))
+    Ok((entry, slot, senders))
 }

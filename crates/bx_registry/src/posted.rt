@@ -16,6 +16,8 @@ pub(crate) struct Posted<'a> {
     pub(crate) nonce: u128,
     /// Whether it is its request's sole message.
     pub(crate) sole: bool,
+    /// Whether it is its request's last message.
+    pub(crate) last: bool,
     /// Whether it is a handshake behind another one of its request.
     pub(crate) second: bool,
     pub(crate) ghost by_channel: { message_kind ≡ message_kind_of message.now.channel },

@@ -33,12 +33,13 @@ pub struct Registry {
 }
 
 impl Model for Registry {
+    ghost use Rattle.bx_entry.specs.declared.senders.Senders.TheVariants.{NoneYet};
     ghost use Rattle.bx_registry.specs.Rolls.{Roll};
     ghost use Rattle.bx_registry.specs.Changes.{IsWithin};
 
     ghost Value = { Roll };
 
-    ghost view = { λ r. record { config = r.config; members = r.table; clock = r.clock; length = r.length } };
+    ghost view = { λ r. record { config = r.config; members = r.table; clock = r.clock; length = r.length; senders = NoneYet } };
 
     ghost invariant = { λ r. IsWithin r.config r.table r.clock r.length };
 }
@@ -76,7 +77,7 @@ impl Registry {
     pub fn live(&self, number: u64) -> bool
         ensures { result ≡ list_any (λ (r : Registered). r.number == number) self.now.members.live }
     {
-        self.table.client_at(number).is_some()
+        self.table.known_at(number).is_some()
     }
 
     /// What a request comes to: its messages are judged in order, each behind those before it. It is refused where its
@@ -150,6 +151,7 @@ impl Registry {
             place: self.length,
             moment: clock,
             kind: EntryKind::Tick(self.table.overdue(alloc, clock)?),
+            rides: None,
         };
         let change = Change {
             edits: Edits::Sweep(clock),

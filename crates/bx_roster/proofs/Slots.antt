@@ -11,7 +11,7 @@ use Rattle.std.proofs.lemmas.List.{length-map}
 use Rattle.std.proofs.lemmas.List.Elements.{filter-append}
 use Rattle.bx_entry.specs.Registry.{Registered, extended, closed}
 use Rattle.bx_roster.specs.Live.{live_in}
-use Rattle.bx_roster.specs.Tables.{IsNamed, IsTable, IsAbsent, AllLive, client_at, due_at, IsKept}
+use Rattle.bx_roster.specs.Tables.{IsNamed, IsTable, IsAbsent, AllLive, known_of, known_at, due_at, IsKept}
 use Rattle.bx_roster.specs.Queues.{IsRoster}
 use Rattle.bx_roster.proofs.Lists.{filter-filter}
 use Rattle.bx_roster.proofs.Live.{live_in-extended, live_in-closed}
@@ -100,32 +100,32 @@ module _ (n : ℕ) (f : Registered → Registered) where
       let ne : r.number ≢ n = omega arith in
       rw (ne_eqb r.number n ne) (ap (λ (ys : List Registered). r ∷ ys) (set-changes r.number high rs i x t.2 (omega arith) is number))
 
--- ---- its client id
+-- ---- its client id, and whether it acknowledges
 
-pub client_at-absent : (n : ℕ) (rs : List Registered) → IsAbsent n rs → client_at n rs ≡ None
-client_at-absent n [] a = refl
-client_at-absent n (r ∷ rs) a = rw (ne_eqb r.number n a.0) (client_at-absent n rs a.1)
+pub known_at-absent : (n : ℕ) (rs : List Registered) → IsAbsent n rs → known_at n rs ≡ None
+known_at-absent n [] a = refl
+known_at-absent n (r ∷ rs) a = rw (ne_eqb r.number n a.0) (known_at-absent n rs a.1)
 
-client_at-here : (n : ℕ) (r : Registered) (kept : List Registered) → r.number ≡ n → IsAbsent n kept → (b : Bool) →
-    client_at n (cond b (r ∷ kept) kept) ≡ cond b (Some r.client) None
-client_at-here n r kept e a true = rw (eq-eqb r.number n e) refl
-client_at-here n r kept e a false = client_at-absent n kept a
+known_at-here : (n : ℕ) (r : Registered) (kept : List Registered) → r.number ≡ n → IsAbsent n kept → (b : Bool) →
+    known_at n (cond b (r ∷ kept) kept) ≡ cond b (Some (known_of r)) None
+known_at-here n r kept e a true = rw (eq-eqb r.number n e) refl
+known_at-here n r kept e a false = known_at-absent n kept a
 
-client_at-there : (n : ℕ) (r : Registered) (kept : List Registered) → r.number ≢ n → (b : Bool) → client_at n (cond b (r ∷ kept) kept) ≡ client_at n kept
-client_at-there n r kept ne true = rw (ne_eqb r.number n ne) refl
-client_at-there n r kept ne false = refl
+known_at-there : (n : ℕ) (r : Registered) (kept : List Registered) → r.number ≢ n → (b : Bool) → known_at n (cond b (r ∷ kept) kept) ≡ known_at n kept
+known_at-there n r kept ne true = rw (ne_eqb r.number n ne) refl
+known_at-there n r kept ne false = refl
 
-pub client_at-slot : (low high n : ℕ) (rs : List Registered) (i : ℕ) (x : Registered) → IsTable low high rs → i < length rs → x ≡ get_or rs i x → x.number ≡ n →
-    client_at n (live_in rs) ≡ cond x.live (Some x.client) None
-client_at-slot low high n [] i x t h is number = absurd (omega arith)
-client_at-slot low high n (r ∷ rs) zero x t h is number =
+pub known_at-slot : (low high n : ℕ) (rs : List Registered) (i : ℕ) (x : Registered) → IsTable low high rs → i < length rs → x ≡ get_or rs i x → x.number ≡ n →
+    known_at n (live_in rs) ≡ cond x.live (Some (known_of x)) None
+known_at-slot low high n [] i x t h is number = absurd (omega arith)
+known_at-slot low high n (r ∷ rs) zero x t h is number =
     let here : r.number ≡ n = ap (λ (s : Registered). s.number) (sym is) ∙ number in
-    client_at-here n r (live_in rs) here (IsAbsent-filter n (λ s. s.live) rs (IsTable-absent r.number high n rs (omega arith) t.2)) r.live
-    ∙ ap (λ (s : Registered). cond s.live (Some s.client) None) (sym is)
-client_at-slot low high n (r ∷ rs) (suc i) x t h is number =
+    known_at-here n r (live_in rs) here (IsAbsent-filter n (λ s. s.live) rs (IsTable-absent r.number high n rs (omega arith) t.2)) r.live
+    ∙ ap (λ (s : Registered). cond s.live (Some (known_of s)) None) (sym is)
+known_at-slot low high n (r ∷ rs) (suc i) x t h is number =
     let above : r.number < x.number = omega (arith, number-above r.number high rs i x t.2 (omega arith), ap (λ (s : Registered). s.number) is) in
     let ne : r.number ≢ n = omega arith in
-    client_at-there n r (live_in rs) ne r.live ∙ client_at-slot r.number high n rs i x t.2 (omega arith) is number
+    known_at-there n r (live_in rs) ne r.live ∙ known_at-slot r.number high n rs i x t.2 (omega arith) is number
 
 -- ---- its due moment
 

@@ -1,5 +1,5 @@
 -- The table of sessions that a registry keeps, in the order of their numbers, closed ones among them.
-use Rattle.std.specs.Prelude.{ℕ, ◌≡◌, ◌≢◌, ◌<◌, ◌≤◌, ◌==◌, true, List, [], ◌∷◌, length, drop, if◌then◌else◌, Option, Some, None}
+use Rattle.std.specs.Prelude.{ℕ, ◌≡◌, ◌≢◌, ◌<◌, ◌≤◌, ◌==◌, Bool, true, List, [], ◌∷◌, length, drop, if◌then◌else◌, Option, Some, None}
 use Rattle.bx_entry.specs.Registry.{Registered, hex_digits}
 use Rattle.bx_roster.specs.Live.{live_in}
 
@@ -22,10 +22,14 @@ abbrev pub AllLive : List Registered → Type 0
 AllLive [] = Unit {0}
 AllLive (r ∷ rs) = (r.live ≡ true) × AllLive rs
 
--- the client id of the first session with this number
-abbrev pub client_at : ℕ → List Registered → Option (List ℕ)
-client_at number [] = None
-client_at number (r ∷ rs) = if r.number == number then Some r.client else client_at number rs
+-- the client id of a session, and whether it acknowledges
+abbrev pub known_of : Registered → List ℕ × Bool
+known_of r = (r.client, r.ack)
+
+-- those of the first session with this number
+abbrev pub known_at : ℕ → List Registered → Option (List ℕ × Bool)
+known_at number [] = None
+known_at number (r ∷ rs) = if r.number == number then Some (known_of r) else known_at number rs
 
 -- the due moment of the first session with this number
 abbrev pub due_at : ℕ → List Registered → Option ℕ

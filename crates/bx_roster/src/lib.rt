@@ -8,5 +8,5 @@ mod session;
 mod table;
 
 pub use edit::{Edit, Edits};
-pub use session::Session;
+pub use session::{Known, Session};
 pub use table::Table;

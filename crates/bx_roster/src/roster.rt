@@ -1,14 +1,12 @@
 //! The sessions in the order of their numbers.
-ghost use Rattle.std.specs.Prelude.{◌≡◌, ◌+◌, ◌<◌, ◌≤◌, ◌^◌, ◌++◌, ◌∷◌, [], ℕ, length, slice_index_or, vec_capacity, vec_len, ◌⊎◌, IfOk, IfSome, IfNone};
-ghost use Rattle.std.specs.Option.{option_copied};
+ghost use Rattle.std.specs.Prelude.{◌≡◌, ◌+◌, ◌<◌, ◌≤◌, ◌^◌, ◌++◌, ◌∷◌, [], ℕ, length, option_map, slice_index_or, vec_capacity, vec_len, ◌⊎◌, IfOk, IfSome, IfNone};
 ghost use Rattle.bx_entry.specs.Registry.{Registered, closed, extended};
 ghost use Rattle.bx_roster.specs.Live.{Members, live_in, with_live};
-ghost use Rattle.bx_roster.specs.Tables.{AllLive, IsAbsent, IsTable, client_at, due_at};
+ghost use Rattle.bx_roster.specs.Tables.{AllLive, IsAbsent, IsTable, due_at, known_at};
 ghost use Rattle.bx_roster.specs.Queues.{IsRoster};
 ghost use Rattle.bx_roster.specs.Edits.{IsNext};
 
-use crate::session::Session;
-use bx_message::Text;
+use crate::session::{Known, Session};
 use std::alloc::{AllocError, Global};
 use std::marker::Model;
 
@@ -59,14 +57,14 @@ impl Roster {
         (self.count, self.opened)
     }
 
-    /// The client id of the live session with this number.
-    pub(crate) fn client_at(&self, number: u64) -> Option<&Text>
-        ensures { option_copied result ≡ client_at number self.now.live }
+    /// What is known of the live session with this number.
+    pub(crate) fn known_at(&self, number: u64) -> Option<Known<'_>>
+        ensures { option_map (λ k. (k.client.now, k.ack)) result ≡ known_at number self.now.live }
     {
         let slot = position_of(self.slots.as_slice(), number)?;
         let session = &self.slots[slot];
         if session.live {
-            Some(&session.client)
+            Some(session.known())
         } else {
             None
         }

@@ -1,4 +1,7 @@
 //! A session as the registry knows it.
+ghost use Rattle.std.specs.Prelude.{◌≡◌};
+ghost use Rattle.bx_roster.specs.Tables.{known_of};
+
 use bx_message::Text;
 use std::marker::Model;
 
@@ -29,4 +32,24 @@ impl Model for Session {
       due = s.due;
       live = s.live;
     } };
+}
+
+/// What a message is judged by of the session that it names.
+#[derive(Clone, Copy)]
+pub struct Known<'a> {
+    pub client: &'a Text,
+    /// Whether it acknowledges.
+    pub ack: bool,
+}
+
+impl Session {
+    /// What is known of it.
+    pub fn known(&self) -> Known<'_>
+        ensures { (result.client.now, result.ack) ≡ known_of self.now }
+    {
+        Known {
+            client: &self.client,
+            ack: self.ack,
+        }
+    }
 }

@@ -1,17 +1,16 @@
 //! The table of sessions, with the queue of their due moments.
-ghost use Rattle.std.specs.Prelude.{◌≡◌, ◌+◌, ◌<◌, ◌≤◌, ◌^◌, ◌++◌, ◌∷◌, [], length, fold, nat_lt, IfOk};
-ghost use Rattle.std.specs.Option.{option_copied};
+ghost use Rattle.std.specs.Prelude.{◌≡◌, ◌+◌, ◌<◌, ◌≤◌, ◌^◌, ◌++◌, ◌∷◌, [], length, fold, nat_lt, option_map, IfOk};
 ghost use Rattle.bx_entry.specs.Registry.{closed, extended, overdue, swept};
 ghost use Rattle.bx_roster.specs.Live.{Members, live_in, with_live};
-ghost use Rattle.bx_roster.specs.Tables.{AllLive, IsTable, client_at};
+ghost use Rattle.bx_roster.specs.Tables.{AllLive, IsTable, known_at};
 ghost use Rattle.bx_roster.specs.Queues.{AllFiled, IsFrom, IsRoster, Queue, entries, is_past, past_numbers};
 ghost use Rattle.bx_roster.specs.Edits.{CanEdit, CanEditBy, CanEditEach, IsNext, edited, edited_by};
 
 use crate::due_queue::{Due, DueQueue};
 use crate::edit::{Edit, Edits};
 use crate::roster::Roster;
-use crate::session::Session;
-use bx_message::{Sequence, Text};
+use crate::session::{Known, Session};
+use bx_message::Sequence;
 use std::alloc::{AllocError, AllocFailed, Global};
 use std::marker::Model;
 
@@ -61,11 +60,11 @@ impl Table {
         self.roster.counts()
     }
 
-    /// The client id of the live session with this number.
-    pub fn client_at(&self, number: u64) -> Option<&Text>
-        ensures { option_copied result ≡ client_at number self.now.live }
+    /// What is known of the live session with this number.
+    pub fn known_at(&self, number: u64) -> Option<Known<'_>>
+        ensures { option_map (λ k. (k.client.now, k.ack)) result ≡ known_at number self.now.live }
     {
-        self.roster.client_at(number)
+        self.roster.known_at(number)
     }
 
     // Adds a session.

@@ -7,6 +7,8 @@ mod entry;
 #[cfg(test)]
 mod registry;
 #[cfg(test)]
+mod riders;
+#[cfg(test)]
 mod same;
 #[cfg(test)]
 mod session;

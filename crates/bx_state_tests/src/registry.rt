@@ -1,23 +1,21 @@
 //! Plans by what they say of entries and answers.
 use crate::same::same;
 use bx_advice::{Config, Error, Limits, Outcome};
-use bx_entry::EntryKind;
+use bx_entry::{Entry, EntryKind};
 use bx_message::{AckMember, Message, Sequence, Text, TextMember, reply_text};
 use bx_registry::{AdmitFault, Plan, Planned, Registry, TickPlan};
 use std::alloc::{AllocError, Global};
 use std::process::Abort;
 use std::test::Fail;
 
-// A handshake.
-fn hello(alloc: Global) -> Result<Message, AllocError> {
-    let mut supported = Sequence::new(alloc);
-    supported.push(Text::new(alloc, "long-polling")?)?;
+/// A message to a channel with this client id, and nothing else.
+pub fn message(alloc: Global, channel: &str, client: TextMember) -> Result<Message, AllocError> {
     Ok(Message {
-        channel: Text::new(alloc, "/meta/handshake")?,
+        channel: Text::new(alloc, channel)?,
         id: None,
-        client: TextMember::Absent,
-        version: TextMember::Text(Text::new(alloc, "1.0")?),
-        supported,
+        client,
+        version: TextMember::Absent,
+        supported: Sequence::new(alloc),
         connection: TextMember::Absent,
         subscription: None,
         texts: Sequence::new(alloc),
@@ -28,12 +26,20 @@ fn hello(alloc: Global) -> Result<Message, AllocError> {
     })
 }
 
+/// A handshake.
+pub fn hello(alloc: Global) -> Result<Message, AllocError> {
+    let mut hello = message(alloc, "/meta/handshake", TextMember::Absent)?;
+    hello.version = TextMember::Text(Text::new(alloc, "1.0")?);
+    hello.supported.push(Text::new(alloc, "long-polling")?)?;
+    Ok(hello)
+}
+
 // What is answered to the first handshake of a server.
 const OPENED: &[u8] =
     br#"{"advice":{"interval":0,"reconnect":"retry","timeout":30000},"channel":"/meta/handshake","clientId":"000000000000000000000000000000000000000000000001","successful":true,"supportedConnectionTypes":["long-polling","callback-polling"],"version":"1.0"}"#;
 
-// A server that takes so many sessions.
-fn config(sessions: usize) -> Config {
+/// A server that takes so many sessions.
+pub fn config(sessions: usize) -> Config {
     Config {
         shards: 1,
         timeout: 30_000,
@@ -46,6 +52,7 @@ fn config(sessions: usize) -> Config {
             sessions,
             texts: 2,
         },
+        ride: false,
         anonymous: false,
     }
 }
@@ -84,7 +91,8 @@ fn open(
 fn tick(alloc: Global, registry: &mut Registry, moment: u64) -> Result<Sequence<u64>, AdmitFault> {
     let TickPlan { entry, change } = registry.plan_tick(alloc, moment)?;
     registry.commit(change);
-    match entry.kind {
+    let Entry { kind, .. } = entry;
+    match kind {
         EntryKind::Tick(numbers) => Ok(numbers),
         _ => Ok(Sequence::new(alloc)),
     }

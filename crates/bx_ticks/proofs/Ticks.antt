@@ -7,6 +7,7 @@ use Rattle.bx_entry.specs.Listing.{Listed, Tick}
 use Rattle.bx_entry.specs.Registry.{Judged, Registry, judge, found_at, entries_of, entries, NoSlot}
 use Rattle.bx_entry.specs.declared.entry.Entry.{Entry}
 use Rattle.bx_entry.specs.declared.entry.EntryKind.TheVariants as kinds
+use Rattle.bx_entry.specs.declared.senders.Senders.TheVariants.{NoneYet}
 use Rattle.bx_window.specs.declared.batch.Bundle.{Bundle}
 use Rattle.bx_window.specs.Places.{Continues}
 use Rattle.bx_ticks.specs.Ticks.{ticks, tick_at, tick_entries}
@@ -40,10 +41,10 @@ entry_in j = j.entry
 
 -- the registry that has found these, and in which no session was ever opened
 idle : List Judged → Registry
-idle judged = record { clock = 0; sessions = []; judged = judged }
+idle judged = record { clock = 0; sessions = []; senders = NoneYet; judged = judged }
 
 next_of : List Judged → Judged
-next_of judged = found_at (idle judged) 0 (kinds.Tick []) None 0 NoSlot
+next_of judged = found_at (idle judged) 0 (kinds.Tick []) None None 0 NoSlot
 
 entries_from : (config : Config) (judged : List Judged) (n : ℕ) → entries_of (fold (judge config) (idle judged) (ticks n)) ≡ map entry_in judged ++ tick_entries (length judged) n
 unfolding idle next_of entry_in

@@ -126,6 +126,7 @@ fn ticks(alloc: Global, first: u64, count: u64) -> Result<Bundle, AllocError>
             place: first + step,
             moment: 0,
             kind,
+            rides: None,
         })?;
         elements.tick(0);
     }

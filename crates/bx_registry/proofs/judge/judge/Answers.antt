@@ -9,12 +9,12 @@ use Rattle.bx_entry.specs.Listing.{Posted}
 use Rattle.bx_entry.specs.Registry.{named_by, kind_for, slot_for, hold_of}
 use Rattle.bx_roster.specs.Live.{Members}
 use Rattle.bx_registry.specs.Postings.{posted_of}
+use Rattle.bx_registry.specs.Rolls.{ridden}
 use Rattle.bx_registry.specs.Drafts.{members_of, named}
-use Rattle.bx_registry.specs.Plans.{planned_at}
-use Rattle.bx_registry.specs.Judgements.{edit_for}
+use Rattle.bx_registry.specs.Judgements.{IsRidden, edit_for}
 use Rattle.bx_registry.specs.declared.draft.Sender.{Sender}
 use Rattle.bx_registry.specs.declared.plan.Planned.TheVariants.{Ready}
-use Rattle.bx_registry.proofs.Judging.{IsFound, all_three, refused-verdict, opened-verdict, served-verdict, found-known, found-client}
+use Rattle.bx_registry.proofs.Judging.{IsFound, all_four, refused-verdict, opened-verdict, served-verdict, found-known, found-client}
 use Rattle.bx_registry.proofs.judge.judge.Goals as goal
 
 pub returns-in-Some : goal.returns-in-Some
@@ -27,11 +27,11 @@ returns-in-Some c =
     let found : IsFound o (named_by ms.live (message_kind_of p.message.channel) p.message) = subst (λ (message_kind : MessageKind). IsFound o (named_by ms.live message_kind p.message)) col c.named_by-sender.ensures in
     let known : c.is_some.result ≡ is_some (named_by ms.live c.args.posted.message_kind p.message) = c.is_some.ensures ∙ found-known o (named_by ms.live c.args.posted.message_kind p.message) c.named_by-sender.ensures in
     let fault = sym (c.in-Some.ensures.table ms.live c.counts-live.ensures.live known) in
-    all_three c.refuse.result _ _ _ _ (λ j e f g.
-    refused-verdict config ms c.args.moment c.args.place p c.in-Some.error j.edit j.kind j.slot (option_map (λ (s : Sender). s.client.now) o) fault
-    (found-client o (named_by ms.live (message_kind_of p.message.channel) p.message) found) e f
+    all_four c.refuse.result _ _ _ _ _ (λ j e f behind g.
+    refused-verdict config ms c.args.senders c.args.moment c.args.place p c.in-Some.error j (option_map (λ (s : Sender). s.client.now) o) fault
+    (found-client o (named_by ms.live (message_kind_of p.message.channel) p.message) found) e f behind
     (g ∙ ap (λ (message_kind : MessageKind). Ready (reply_to config message_kind p.message (option_map (λ (s : Sender). s.client.now) o) (Failed c.in-Some.error) replies.NoAck)) col))
-    c.refuse.ensures.edit c.refuse.ensures.kind c.refuse.ensures.slot
+    c.refuse.ensures.edit c.refuse.ensures.kind c.refuse.ensures.senders c.refuse.ensures.slot
 
 pub returns-in-None-sender : goal.returns-in-None-sender
 returns-in-None-sender c =
@@ -45,10 +45,10 @@ returns-in-None-sender c =
     let fault = sym (c.in-None.ensures.table ms.live c.counts-live.ensures.live known) in
     let none : named_by ms.live (message_kind_of p.message.channel) p.message ≡ None = subst (λ (s : Option Sender). IsFound s (named_by ms.live (message_kind_of p.message.channel) p.message)) c.in-None-sender.is found in
     let opens : is_handshake p.message ≡ true = sym (c.is_handshake.ensures p.message col) ∙ c.if-is_handshake.true in
-    all_three c.open.result _ _ _ _ (λ j e f g.
-    opened-verdict config ms c.args.moment c.args.place (c.counts-live.result.1 + 1) p j.edit j.kind j.slot c.counts-live.ensures.all c.requires.limit
-    (ap (λ (n : ℕ). n + 1) c.counts-live.ensures.opened) (rw c.counts-live.ensures.opened c.requires.number) opens fault none e f g)
-    c.open.ensures.edit c.open.ensures.kind c.open.ensures.slot
+    all_four c.open.result _ _ _ _ _ (λ j e f behind g.
+    opened-verdict config ms c.args.senders c.args.moment c.args.place (c.counts-live.result.1 + 1) p j c.counts-live.ensures.all c.requires.limit
+    (ap (λ (n : ℕ). n + 1) c.counts-live.ensures.opened) (rw c.counts-live.ensures.opened c.requires.number) opens fault none e f behind g)
+    c.open.ensures.edit c.open.ensures.kind c.open.ensures.senders c.open.ensures.slot
 
 pub returns-in-Some-sender : goal.returns-in-Some-sender
 returns-in-Some-sender c =
@@ -62,7 +62,8 @@ returns-in-Some-sender c =
     let fault = sym (c.in-None.ensures.table ms.live c.counts-live.ensures.live known) in
     let s : Sender = c.in-Some-sender.sender in
     let who = subst (λ (x : Option Sender). IsFound x (named_by ms.live (message_kind_of p.message.channel) p.message)) c.in-Some-sender.is found in
-    all_three c.serve.result _ _ _ _ (λ j e f g.
-    served-verdict config ms c.args.moment c.args.place p s j.edit j.kind j.slot fault who
-    (e ∙ ap (λ (message_kind : MessageKind). Some (edit_for message_kind s.number (c.args.moment + hold_of config p + config.max_interval))) col) (f ∙ ap (λ (message_kind : MessageKind). kind_for message_kind p (named s) (hold_of config p)) col) (subst (λ (message_kind : MessageKind). planned_at c.args.place (slot_for config message_kind p (named s)) ≡ Some j.slot) col g))
-    c.serve.ensures.edit c.serve.ensures.kind c.serve.ensures.slot
+    all_four c.serve.result _ _ _ _ _ (λ j e f behind g.
+    served-verdict config ms c.args.senders c.args.moment c.args.place p s j fault who
+    (e ∙ ap (λ (message_kind : MessageKind). Some (edit_for message_kind s.number (c.args.moment + hold_of config p + config.max_interval))) col) (f ∙ ap (λ (message_kind : MessageKind). kind_for message_kind p (named s) (hold_of config p)) col) behind
+    (subst (λ (message_kind : MessageKind). IsRidden c.args.place (ridden config c.args.senders p message_kind (named s)) (slot_for config message_kind p (named s)) j.rides j.slot) col g))
+    c.serve.ensures.edit c.serve.ensures.kind c.serve.ensures.senders c.serve.ensures.slot

@@ -1,22 +1,22 @@
-use Rattle.std.proofs.Common.{◌≡◌, List, ℕ, true, false, ap, sym, subst, ◌∙◌}
+use Rattle.std.proofs.Common.{◌≡◌, List, ℕ, Bool, true, false, ap, sym, subst, ◌∙◌}
 use Rattle.std.specs.Prelude.{Option, Some, None}
 use Rattle.std.proofs.lemmas.Slice.Eq.{bytes_eq-Decides}
 use Rattle.bx_entry.specs.Registry.{live_with_id}
-use Rattle.bx_roster.specs.Tables.{client_at}
+use Rattle.bx_roster.specs.Tables.{known_at}
 use Rattle.bx_registry.specs.Ids.{number_in}
 use Rattle.bx_registry.specs.Drafts.{Drafted, IsDrafted, IsSender, members_of}
 use Rattle.bx_registry.proofs.Digits.{Finds, finds}
 use Rattle.bx_registry.proofs.draft.Draft.live_with_id.Goals as goal
 
 -- what the number at the id's end finds
-found : (d : Drafted) (text : List ℕ) (number : ℕ) {count opened : ℕ} → IsDrafted d.base d.edits count opened → number ≡ number_in text → Finds (members_of d).live text (client_at number (members_of d).live)
+found : (d : Drafted) (text : List ℕ) (number : ℕ) {count opened : ℕ} → IsDrafted d.base d.edits count opened → number ≡ number_in text → Finds (members_of d).live text (known_at number (members_of d).live)
 found d text number i e = rw e (finds 0 (members_of d).opened (members_of d).live text i.table (rw (← i.numbered) i.small) i.all)
 
-none-some : (o : Option (List ℕ)) (text : List ℕ) → None ≡ o → o ≡ Some text → ⊥
-none-some o text e f = cc
+none-some : (o : Option (List ℕ × Bool)) (k : List ℕ × Bool) → None ≡ o → o ≡ Some k → ⊥
+none-some o k e f = cc
 
-some-same : (o : Option (List ℕ)) (known text : List ℕ) → Some known ≡ o → o ≡ Some text → known ≡ text
-some-same o known text e f = cc
+some-same : (o : Option (List ℕ × Bool)) (known k : List ℕ × Bool) → Some known ≡ o → o ≡ Some k → known ≡ k
+some-same o known k e f = cc
 
 pub returns-in_err-known : goal.returns-in_err-known
 returns-in_err-known c =
@@ -24,9 +24,9 @@ returns-in_err-known c =
     let n : ℕ = c.number_in-number.result in
     let number : n ≡ number_in text = c.number_in-number.ensures ∙ ap number_in c.as_str.ensures in
     let base : Drafted = record { base = c.self.inside.table.now; edits = c.self.inside.edits } in
-    let finds : Finds (members_of c.args.self.now).live text (client_at n (members_of c.args.self.now).live) =
-    subst (λ (d : Drafted). Finds (members_of d).live text (client_at n (members_of d).live)) c.self.view_is (found base text n c.self.invariant number) in
-    rw c.from_residual.ensures (finds.1 (λ e. none-some (client_at n (members_of c.args.self.now).live) text c.in_err-known.ensures e))
+    let finds : Finds (members_of c.args.self.now).live text (known_at n (members_of c.args.self.now).live) =
+    subst (λ (d : Drafted). Finds (members_of d).live text (known_at n (members_of d).live)) c.self.view_is (found base text n c.self.invariant number) in
+    rw c.from_residual.ensures (finds.1 (λ k e is. none-some (known_at n (members_of c.args.self.now).live) k c.in_err-known.ensures e))
 
 pub returns-then-eq : goal.returns-then-eq
 returns-then-eq c =
@@ -34,11 +34,12 @@ returns-then-eq c =
     let n : ℕ = c.number_in-number.result in
     let number : n ≡ number_in text = c.number_in-number.ensures ∙ ap number_in c.as_str.ensures in
     let base : Drafted = record { base = c.self.inside.table.now; edits = c.self.inside.edits } in
-    let finds : Finds (members_of c.args.self.now).live text (client_at n (members_of c.args.self.now).live) =
-    subst (λ (d : Drafted). Finds (members_of d).live text (client_at n (members_of d).live)) c.self.view_is (found base text n c.self.invariant number) in
+    let finds : Finds (members_of c.args.self.now).live text (known_at n (members_of c.args.self.now).live) =
+    subst (λ (d : Drafted). Finds (members_of d).live text (known_at n (members_of d).live)) c.self.view_is (found base text n c.self.invariant number) in
     let same : c.as_str-2.result.now ≡ c.as_str-3.result.now = (bytes_eq-Decides c.as_str-2.result.now c.as_str-3.result.now).0 (sym c.if-eq.ensures) in
-    let known : c.in_ok-known.known.now ≡ text = sym c.as_str-2.ensures ∙ same ∙ c.as_str-3.ensures in
-    subst (λ (k : ℕ). IsSender (live_with_id (members_of c.args.self.now).live text) k text) (sym number) (finds.0 (sym c.in_ok-known.ensures ∙ ap (λ (x : List ℕ). Some x) known))
+    let known : c.in_ok-known.known.client.now ≡ text = sym c.as_str-2.ensures ∙ same ∙ c.as_str-3.ensures in
+    subst (λ (k : ℕ). IsSender (live_with_id (members_of c.args.self.now).live text) k text c.in_ok-known.known.ack) (sym number)
+    (finds.0 (c.in_ok-known.known.client.now, c.in_ok-known.known.ack) (sym c.in_ok-known.ensures) known)
 
 pub returns-else-eq : goal.returns-else-eq
 returns-else-eq c =
@@ -46,10 +47,12 @@ returns-else-eq c =
     let n : ℕ = c.number_in-number.result in
     let number : n ≡ number_in text = c.number_in-number.ensures ∙ ap number_in c.as_str.ensures in
     let base : Drafted = record { base = c.self.inside.table.now; edits = c.self.inside.edits } in
-    let finds : Finds (members_of c.args.self.now).live text (client_at n (members_of c.args.self.now).live) =
-    subst (λ (d : Drafted). Finds (members_of d).live text (client_at n (members_of d).live)) c.self.view_is (found base text n c.self.invariant number) in
-    finds.1 (λ e.
-    let known : c.in_ok-known.known.now ≡ text = some-same (client_at n (members_of c.args.self.now).live) c.in_ok-known.known.now text c.in_ok-known.ensures e in
+    let finds : Finds (members_of c.args.self.now).live text (known_at n (members_of c.args.self.now).live) =
+    subst (λ (d : Drafted). Finds (members_of d).live text (known_at n (members_of d).live)) c.self.view_is (found base text n c.self.invariant number) in
+    finds.1 (λ k e is.
+    let whole : (c.in_ok-known.known.client.now, c.in_ok-known.known.ack) ≡ k =
+    some-same (known_at n (members_of c.args.self.now).live) (c.in_ok-known.known.client.now, c.in_ok-known.known.ack) k c.in_ok-known.ensures e in
+    let known : c.in_ok-known.known.client.now ≡ text = ap (λ (x : List ℕ × Bool). x.0) whole ∙ is in
     let same : c.as_str-2.result.now ≡ c.as_str-3.result.now = c.as_str-2.ensures ∙ known ∙ sym c.as_str-3.ensures in
     let yes : true ≡ false = sym ((bytes_eq-Decides c.as_str-2.result.now c.as_str-3.result.now).1 same) ∙ sym c.if-eq.ensures in
     cc)

@@ -2,6 +2,7 @@ use Rattle.std.proofs.Common.{◌≡◌, ◌+◌, ◌≤◌, ℕ, List, false, l
 use Rattle.std.specs.Prelude.{◌==◌}
 use Rattle.bx_advice.specs.Limits.{greatest_length}
 use Rattle.bx_entry.specs.Listing.{Listed, request}
+use Rattle.bx_entry.specs.declared.senders.Senders.TheVariants.{NoneYet}
 use Rattle.bx_registry.specs.Rolls.{Roll}
 use Rattle.bx_entry.proofs.RequestLemmas.{length-listed}
 use Rattle.bx_registry.proofs.Planning.{admitted, planned-at, planned-after}
@@ -9,7 +10,7 @@ use Rattle.bx_registry.proofs.registry.Registry.plan.Goals as goal
 
 pub returns-clause-planned : goal.returns-clause-planned
 returns-clause-planned c =
-    let roll : Roll = record { config = c.self.inside.config; members = c.self.inside.table; clock = c.self.inside.clock; length = c.self.inside.length } in
+    let roll : Roll = record { config = c.self.inside.config; members = c.self.inside.table; clock = c.self.inside.clock; length = c.self.inside.length; senders = NoneYet } in
     let list : List Listed = request c.args.moment c.args.nonce c.args.messages.now in
     let n = length-listed c.args.moment c.args.nonce (length c.args.messages.now == 1) false c.args.messages.now in
     let end : ℕ = c.self.inside.length + length c.args.messages.now in
@@ -21,10 +22,9 @@ returns-clause-planned c =
 
 pub returns-clause-change : goal.returns-clause-change
 returns-clause-change c =
-    let roll : Roll = record { config = c.self.inside.config; members = c.self.inside.table; clock = c.self.inside.clock; length = c.self.inside.length } in
     let list : List Listed = request c.args.moment c.args.nonce c.args.messages.now in
     let n = length-listed c.args.moment c.args.nonce (length c.args.messages.now == 1) false c.args.messages.now in
     let end : ℕ = c.self.inside.length + length c.args.messages.now in
     let long : end ≡ c.self.inside.length + length list = omega (arith, n) in
-    rw (← c.self.view_is) (planned-after roll c.new-draft.result c.plan_all.new.draft c.into_edits.result list c.in_ok-planning.planning.entries c.in_ok-planning.planning.slots c.in_ok-planning.planning.clock end
+    rw (← c.self.view_is) (planned-after c.self.inside.config c.self.inside.table c.self.inside.clock c.self.inside.length c.new-draft.result c.plan_all.new.draft c.into_edits.result list c.in_ok-planning.planning.entries c.in_ok-planning.planning.slots c.in_ok-planning.planning.clock end
     c.new-draft.ensures c.in_ok-planning.ensures.base c.into_edits.ensures.edits c.in_ok-planning.ensures.planned long)
