@@ -1,4 +1,6 @@
-ghost use Rattle.std.specs.Prelude.{◌≡◌, ◌<◌, ◌≤◌, ◌+◌, ◌⊎◌, ◌↔◌, not, IsTrue, OnOk, OnErr, IsErrOf, length, take, drop, if◌then◌else◌, ◌^◌};
+ghost use Rattle.std.specs.Prelude.{◌≡◌, ◌<◌, ◌≤◌, ◌+◌, ◌++◌, ◌⊎◌, ◌↔◌, [], not, IsTrue, OnOk, OnErr, IsErrOf, length, take, drop, if◌then◌else◌, ◌^◌};
+ghost use Rattle.std.specs.Vec.{vec_capacity, vec_len};
+ghost use Rattle.std.specs.VecDeque.{deque_capacity};
 ghost use Rattle.std.specs.VecDeque.Iter.{deque_iter_rest};
 ghost use Rattle.bx_entry.specs.Answers.{events_of};
 ghost use Rattle.bx_entry.specs.Windows.{acknowledged, acknowledges, emptied, empty, forgotten, formed, has_room, outstanding, portion, with_event};
@@ -202,6 +204,21 @@ impl Window {
         self.events.drain(..count.min(self.events.len()));
     }
 
+    /// Moves so many events, which are given without a batch, into a list that is empty and has room for them.
+    pub fn hand_over(&mut self, count: usize, into: Vec<SharedEvent>) -> Vec<SharedEvent>
+        requires none_out { self.old.contents.out ≡ 0 }
+        requires empty { into.items ≡ [] }
+        requires room { count ≤ vec_capacity into }
+        ensures given { result.items ≡ events_of (take count self.old.contents.queue) }
+        ensures forgotten { self.new.contents ≡ forgotten count self.old.contents }
+        ensures spare { self.old.spare ≤ self.new.spare }
+    {
+        let mut into = into;
+        move_front(&mut self.events, count, &mut into);
+        self.queue.forget(count);
+        into
+    }
+
     /// Gives what waits or is outstanding to nobody. The number of the last batch stays.
     pub fn clear(&mut self)
         ensures contents { self.new.contents ≡ emptied self.old.contents }
@@ -210,5 +227,22 @@ impl Window {
         self.events.clear();
         self.queue = History::new();
         self.out = 0;
+    }
+}
+
+// Moves so many events from the front of a queue, or all where there are fewer, behind those of a list that has room for
+// them.
+fn move_front(events: &mut VecDeque<SharedEvent>, count: usize, into: &mut Vec<SharedEvent>)
+    requires { vec_len into.old + count ≤ vec_capacity into.old }
+    ensures moved { into.new.items ≡ into.old.items ++ take count events.old.items }
+    ensures left { events.new.items ≡ drop count events.old.items }
+    ensures capacity { deque_capacity events.new ≡ deque_capacity events.old }
+{
+    let mut left = count;
+    while left > 0 {
+        if let Some(event) = events.pop_front() {
+            into.push_reserved(event);
+        }
+        left -= 1;
     }
 }

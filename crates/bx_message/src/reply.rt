@@ -23,7 +23,7 @@ pub enum AckReply {
 
 /// The answer to one message: what it is for, what it repeats of the message, how that went, and what
 /// it tells the client.
-#[derive(Drop)]
+#[derive(Clone, Drop)]
 pub struct Reply {
     pub message_kind: MessageKind,
     pub channel: Text,

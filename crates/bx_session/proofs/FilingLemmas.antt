@@ -13,7 +13,8 @@ use Rattle.bx_entry.specs.declared.entry.Entry.{Entry}
 use Rattle.bx_entry.specs.declared.entry.EntryKind.{EntryKind}
 use Rattle.bx_entry.specs.declared.entry.EntryKind.TheVariants as entries
 use Rattle.bx_entry.specs.Answers.{PlacedAnswer, events_of}
-use Rattle.bx_entry.specs.Sessions.{Session, Publication, Pending, Filed, Stage, Unopened, Live, Closed, filing, answered, unheld, released_from, released, acknowledged, portion, given, gives, gives_one, idle, answered_or_held, connected, overflowed, subscribed, is_hit, has_room, with_event, delivered_to, delivered, published, expired_from, closed_by, begun, step_by}
+use Rattle.bx_entry.specs.Sessions.{Session, Publication, Pending, Filed, Stage, Unopened, Live, Closed, filing, answered, unheld, released_from, released, acknowledged, portion, given, gives, gives_one, idle, answered_or_held, connected, overflowed, subscribed, is_hit, has_room, with_event, delivered_to, delivered, published, expired_from, closed_by, begun, step_by, is_riding, ride_filing, ridden, ridden_by, rider_of}
+use Rattle.bx_entry.specs.declared.entry.Rider.{Rider}
 use Rattle.bx_entry.specs.Keeping.{Kept, resumed, kept_answers}
 use Rattle.bx_session.specs.Views.{answered_of}
 use Rattle.bx_session.specs.Filing.{filed_as, filed_at}
@@ -99,5 +100,10 @@ step_h config place moment t (entries.Disconnect n) h = cond_both (n == t.number
 step_h config place moment t entries.Refused h = h
 step_h config place moment t (entries.Tick numbers) h = closed_h place numbers (expired_from config place moment t t.held) (expired_h config place moment t t.held h)
 
+ridden_h : (config : Config) (place : ℕ) (rides : Option Rider) (t : Session) → HereIn place t → HereIn place (ridden_by config place t rides)
+ridden_h config place None t h = h
+ridden_h config place (Some rider) t h = cond_both (is_riding rider t) (ridden config place rider.reply t) t (HereIn place)
+    (λ g. pushed place t.answers (ride_filing config place rider.reply t) refl h) (λ g. h)
+
 pub files_alike : (config : Config) (k : Kept) (e : Entry) → map filed_as (kept_answers config k e) ≡ map (filed_at e.place) (map answered_of (kept_answers config k e))
-files_alike config k e = step_h config e.place e.moment (resumed k) e.kind refl
+files_alike config k e = ridden_h config e.place (rider_of e.kind e.rides) (step_by config e.place e.moment (resumed k) e.kind) (step_h config e.place e.moment (resumed k) e.kind refl)

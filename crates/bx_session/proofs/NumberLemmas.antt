@@ -11,7 +11,8 @@ use Rattle.bx_advice.specs.declared.error.Error.TheVariants.{SupersededConnect}
 use Rattle.bx_entry.specs.declared.entry.Entry.{Entry}
 use Rattle.bx_entry.specs.declared.entry.EntryKind.{EntryKind}
 use Rattle.bx_entry.specs.declared.entry.EntryKind.TheVariants as entries
-use Rattle.bx_entry.specs.Sessions.{Session, Publication, Pending, Stage, Unopened, Live, Closed, unopened, released_from, released, acknowledged, portion, gives, idle, answered_or_held, connected, overflowed, with_patterns, subscribed, is_hit, has_room, with_event, delivered_to, delivered, published, expired_from, closed_by, begun, step_by, step, session}
+use Rattle.bx_entry.specs.Sessions.{Session, Publication, Pending, Stage, Unopened, Live, Closed, unopened, released_from, released, acknowledged, portion, gives, idle, answered_or_held, connected, overflowed, with_patterns, subscribed, is_hit, has_room, with_event, delivered_to, delivered, published, expired_from, closed_by, begun, step_by, is_riding, ridden, ridden_by, rider_of, step, session}
+use Rattle.bx_entry.specs.declared.entry.Rider.{Rider}
 use Rattle.bx_entry.specs.Keeping.{Kept, resumed, kept_step}
 
 -- one batch more at most was formed
@@ -76,12 +77,19 @@ step_n config place moment t (entries.Disconnect n) = cond_both (n == t.number) 
 step_n config place moment t entries.Refused = omega arith
 step_n config place moment t (entries.Tick numbers) = closed_n t.num numbers (expired_from config place moment t t.held) (expired_n config place moment t t.held)
 
+ridden_n : (config : Config) (n place : ℕ) (rides : Option Rider) (t : Session) → Raised n t → Raised n (ridden_by config place t rides)
+ridden_n config n place None t r = r
+ridden_n config n place (Some rider) t r = cond_both (is_riding rider t) (ridden config place rider.reply t) t (Raised n) (λ h. r) (λ h. r)
+
+entry_n : (config : Config) (t : Session) (e : Entry) → Raised t.num (step config t e)
+entry_n config t e = ridden_n config t.num e.place (rider_of e.kind e.rides) (step_by config e.place e.moment t e.kind) (step_n config e.place e.moment t e.kind)
+
 pub numbers_step : (config : Config) (k : Kept) (e : Entry) → (kept_step config k e).num ≤ k.num + 1
-numbers_step config k e = step_n config e.place e.moment (resumed k) e.kind
+numbers_step config k e = entry_n config (resumed k) e
 
 run_n : (config : Config) (s : Session) (es : List Entry) → (fold (step config) s es).num ≤ s.num + length es
 run_n config s [] = omega arith
-run_n config s (e ∷ es) = omega (arith, step_n config e.place e.moment s e.kind, run_n config (step config s e) es)
+run_n config s (e ∷ es) = omega (arith, entry_n config s e, run_n config (step config s e) es)
 
 pub numbers_count : (config : Config) (number : ℕ) (es : List Entry) → (session config number es).num ≤ length es
 numbers_count config number es = omega (arith, run_n config (unopened number) es)

@@ -1,5 +1,5 @@
 -- A session as the program holds it, and what its calls answer, in the words of the definition.
-use Rattle.std.specs.Prelude.{ℕ, ◌+◌, ◌≤◌, ◌^◌, ◌&&◌, is_some, Bool, true, false, List, [], ◌∷◌, ◌++◌, nat_lt, if◌then◌else◌, Option, Some, None}
+use Rattle.std.specs.Prelude.{ℕ, ◌+◌, ◌≤◌, ◌^◌, ◌&&◌, min, length, is_some, Bool, true, false, List, [], ◌∷◌, ◌++◌, nat_lt, if◌then◌else◌, Option, Some, None}
 use Rattle.std.specs.Option.{option_to_list}
 use Rattle.bx_advice.specs.declared.config.Config.{Config}
 use Rattle.bx_advice.specs.declared.advice.Outcome.{Outcome}
@@ -28,6 +28,10 @@ Countable k = k.num ≤ greatest_length
 -- an event that comes is both kept and given, where the session acknowledges and holds a connect
 abbrev pub wants_two : Kept → Bool
 wants_two k = k.ack && is_some k.held
+
+-- for how many events the answer to a rider wants room: one may come at the rider's own entry
+abbrev pub ride_most : Config → Kept → ℕ
+ride_most config k = if k.ack then 0 else min config.limits.batch (length k.queue + 1)
 
 -- ---- a connect
 

@@ -6,12 +6,13 @@ ghost use Rattle.bx_names.specs.InForce.{with_pattern, without_pattern};
 ghost use Rattle.bx_advice.specs.declared.advice.Outcome.TheVariants.{Connected, Disconnected};
 ghost use Rattle.bx_entry.specs.Answers.{events_of};
 ghost use Rattle.bx_entry.specs.Keeping.{after, answers_of, kept, resumed};
-ghost use Rattle.bx_entry.specs.Sessions.{ack_given, acknowledged, admitted, answered_or_held, begun, connected, ends_by, expired, given, gives, overflowed, received, released, subscribed, unheld, unopened, unsubscribed};
-ghost use Rattle.bx_session.specs.Views.{Countable, answered_of, connection_answers, delivery_answers, is_overflow, wants_two};
+ghost use Rattle.bx_entry.specs.Sessions.{ack_given, acknowledged, admitted, answered_or_held, begun, connected, ends_by, expired, forgotten, given, gives, overflowed, received, released, ride_portion, subscribed, unheld, unopened, unsubscribed};
+ghost use Rattle.bx_session.specs.Views.{Countable, answered_of, connection_answers, delivery_answers, is_overflow, ride_most, wants_two};
 
 use crate::answered::{Answered, Connection, Delivery};
 use crate::patterns::{with_all, without_all};
 use crate::pending::PendingConnect;
+use crate::room::RideRoom;
 use bx_advice::{Config, Error, Outcome};
 use bx_batches::Window;
 use bx_history::History;
@@ -378,6 +379,35 @@ impl Session {
                 Delivery::Waits
             }
         }
+    }
+
+    /// Room for the answer to a rider of the session, whatever the rider itself does: for the events that wait and for one
+    /// more, but for no more than a connect is given.
+    pub fn reserve_ride(&self, alloc: Global, config: &Config) -> Result<RideRoom, AllocError>
+        ensures { IfOk result (λ room. ride_most config.now self.now.kept ≤ room) }
+    {
+        let most = if self.ack {
+            0
+        } else {
+            config.limits.batch.min(self.window.len().saturating_add(1))
+        };
+        RideRoom::new(alloc, most)
+    }
+
+    /// The events that go out with the answer to a rider, into room for them: a plain session gives those that wait, but no
+    /// more than to a connect, and forgets them; an acknowledging one gives none. Takes no memory. (That events ride is
+    /// this server's choice.)
+    pub fn ride(&mut self, config: &Config, room: RideRoom) -> Vec<SharedEvent>
+        requires room { ride_portion config.now (resumed self.old.kept) ≤ room }
+        ensures events { result.items ≡ events_of (take (ride_portion config.now (resumed self.old.kept)) self.old.kept.queue) }
+        ensures kept { self.new.kept ≡ after (forgotten (ride_portion config.now (resumed self.old.kept))) self.old.kept }
+    {
+        let room = room.into_list();
+        if self.ack {
+            return room;
+        }
+        let count = self.window.portion(0, config.limits.batch);
+        self.window.hand_over(count, room)
     }
 
     /// A tick at this moment, in milliseconds: a connect whose hold ends then, or did before, is answered
