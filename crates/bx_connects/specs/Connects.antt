@@ -2,6 +2,7 @@
 use Rattle.std.specs.Prelude.{ℕ, ◌≡◌, ◌≤◌, nat_eq, nat_lt, not, Bool, true, false, List, filter, length, if◌then◌else◌, Option, Some, None}
 use Rattle.std.specs.Map.{lookup}
 use Rattle.futures.specs.declared.task.waker.Waker.{Waker}
+use Rattle.bx_message.specs.declared.event.Event.{Event}
 use Rattle.bx_message.specs.declared.reply.Answer.{Answer}
 use Rattle.bx_session.specs.declared.answered.Answered.{Answered}
 use Rattle.bx_connects.specs.declared.connects.ConnectState.{ConnectState}
@@ -88,6 +89,12 @@ abbrev pub filed_as : ℕ → Answer → Option ConnectState → Option ConnectS
 filed_as place answer None = None
 filed_as place answer (Some (Held session deadline waker)) = Some (Filed session place answer)
 filed_as place answer (Some (Filed session earlier replaced)) = Some (Filed session place answer)
+
+-- an answer that is filed, with these events
+abbrev pub completed : List Event → Option ConnectState → Option ConnectState
+completed events None = None
+completed events (Some (Held session deadline waker)) = Some (Held session deadline waker)
+completed events (Some (Filed session place answer)) = Some (Filed session place (record answer { events = events }))
 
 -- the connects with an answer filed for one of them, which the entry at this place gives
 abbrev pub filing : ℕ → Option Answered → (ℕ → Option ConnectState) → ℕ → Option ConnectState

@@ -4,12 +4,12 @@ ghost use Rattle.std.specs.Map.{keys_of};
 ghost use Rattle.std.specs.Option.{option_or};
 ghost use Rattle.futures.specs.declared.task.waker.Waker.{Waker};
 ghost use Rattle.bx_connects.specs.declared.connects.ConnectState.TheVariants.{Filed, Held};
-ghost use Rattle.bx_connects.specs.Connects.{AreApart, IsDue, IsHeldUntil, connect_at, count_filed_below, count_held, filed_answer, filed_as, filing, filing_at, held_by, known_as, swept, taken_from, unswept, unwatched, watched, with_waker};
+ghost use Rattle.bx_connects.specs.Connects.{AreApart, IsDue, IsHeldUntil, completed, connect_at, count_filed_below, count_held, filed_answer, filed_as, filing, filing_at, held_by, known_as, swept, taken_from, unswept, unwatched, watched, with_waker};
 
 use crate::filing::Filing;
 use crate::held::{HeldConnect, HeldConnects};
 use crate::watch::Watch;
-use bx_message::Answer;
+use bx_message::{Answer, Sequence, SharedEvent};
 use bx_session::Answered;
 use futures::task::Waker;
 use indexmap::IndexMap;
@@ -47,7 +47,8 @@ pub struct FiledAnswer {
     pub answer: Answer,
 }
 
-/// What became of each connect, by its place in the list: those that are held, and the answers that are filed. The room
+/// What became of each connect, by its place in the list: those that are held, and the answers that are filed, those of riders
+/// among them, which are never held. The room
 /// for a connect's answer and for a waker is there from the first on, so that filing is not refused for want of memory.
 ///
 /// Where a held connect is answered, the waker beside it goes to a list of those that are to be woken. Whoever has the
@@ -138,6 +139,33 @@ impl Connects {
                     earlier.answer = answer;
                 }
             }
+        }
+    }
+
+    /// Files an answer under a place of which nothing was known, which this session gives there.
+    pub fn prepare(&mut self, place: u64, session: u64, answer: Answer) -> Result<(), AllocError>
+        requires { connect_at self.old place ≡ None }
+        ensures ok { OnOk result ((p : ℕ) → connect_at self.new p
+            ≡ (if nat_eq place p then Some (Filed session place answer) else connect_at self.old p)) }
+        ensures err { OnErr result ((p : ℕ) → connect_at self.new p ≡ connect_at self.old p) }
+    {
+        self.filed.reserve(self.held.len() + 1)?;
+        let filed = FiledAnswer {
+            session,
+            place,
+            answer,
+        };
+        self.filed.insert(place, filed).unwrap();
+        Ok(())
+    }
+
+    /// Puts these events into the answer that is filed for this place.
+    pub fn complete(&mut self, place: u64, events: Vec<SharedEvent>)
+        ensures { (p : ℕ) → connect_at self.new p
+            ≡ (if nat_eq place p then completed events.items (connect_at self.old place) else connect_at self.old p) }
+    {
+        if let Some(filed) = self.filed.get_mut(&place) {
+            filed.answer.events = Sequence::from_vec(events);
         }
     }
 

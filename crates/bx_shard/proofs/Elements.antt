@@ -1,5 +1,5 @@
 -- What one more element of the list does to the registry and to each session.
-use Rattle.std.proofs.Common.{◌≡◌, ℕ, zero, suc, ◌+◌, ◌<◌, ◌≤◌, max, Bool, true, false, cond, Option, Some, None, List, [], ◌∷◌, ◌++◌, length, take, map, option_map, slice_get, nat_lt, ◌==◌, refl, sym, ap, ◌∙◌, subst, arith, append-nil, append_assoc, length-take, eq-eqb, ne_eqb, ltb-true, ltb-false}
+use Rattle.std.proofs.Common.{◌&&◌, ◌≡◌, ℕ, zero, suc, ◌+◌, ◌<◌, ◌≤◌, max, Bool, true, false, cond, Option, Some, None, List, [], ◌∷◌, ◌++◌, length, take, map, option_map, slice_get, nat_lt, ◌==◌, refl, sym, ap, ◌∙◌, subst, arith, append-nil, append_assoc, length-take, eq-eqb, ne_eqb, ltb-true, ltb-false}
 use Rattle.std.proofs.lemmas.Bool.{cond_both, cond-false, both_ways}
 use Rattle.std.proofs.lemmas.List.{map-append, length-map, length_push}
 use Rattle.std.proofs.lemmas.List.Sums.{fold-append}
@@ -15,8 +15,10 @@ use Rattle.bx_entry.specs.Listing as messages
 use Rattle.bx_entry.specs.declared.entry.Entry.{Entry}
 use Rattle.bx_entry.specs.declared.entry.EntryKind.{EntryKind}
 use Rattle.bx_entry.specs.declared.entry.EntryKind.TheVariants.{Opened, Connect, Subscribe, Unsubscribe, Publish, Disconnect, Refused, Tick}
-use Rattle.bx_entry.specs.Registry.{Registry, Registered, Judged, judge, judged_by, kind_for, left_by, extended, swept, overdue, is_overdue, named_by, refusal, hold_of, registry, empty_registry, entries_of, entries, unnamed, sessionless_kind}
-use Rattle.bx_entry.specs.Sessions.{Session, ended, step_by, step, unopened, session}
+use Rattle.bx_entry.specs.Registry.{Registry, Registered, Judged, judge, judged_by, kind_for, left_by, extended, swept, overdue, is_overdue, named_by, refusal, hold_of, registry, empty_registry, entries_of, entries, unnamed, sessionless_kind, PlaceSlot, Ready, Waiting, NoSlot, is_rider, rider_for, slot_for}
+use Rattle.bx_entry.specs.declared.entry.Rider.{Rider}
+use Rattle.bx_entry.specs.Sessions.{Session, ended, ridden, ridden_by, rider_of, step_by, step, unopened, session}
+use Rattle.bx_shard.proofs.Rides.{rider_of_none}
 use Rattle.bx_theory.specs.Readings.{opens_by}
 use Rattle.bx_theory.proofs.Dues.{numbered_below, named_session}
 use Rattle.bx_theory.proofs.Lives.{numbered, entries_push}
@@ -128,6 +130,34 @@ sessionless_fresh config place moment MessageKind.Disconnect m n = refl
 sessionless_fresh config place moment MessageKind.Publish m n = refl
 sessionless_fresh config place moment MessageKind.UnknownMeta m n = refl
 
+-- a rider is one of the session whose message it is
+abbrev RiderIs : ℕ → Option Rider → Type 0
+RiderIs number None = Unit {0}
+RiderIs number (Some rider) = rider.session ≡ number
+
+rider_is : (b : Bool) (number : ℕ) (slot : PlaceSlot) → RiderIs number (rider_for b number slot)
+rider_is true number (Ready reply) = refl
+rider_is true number (Waiting session) = tt
+rider_is true number NoSlot = tt
+rider_is false number slot = tt
+
+ridden_other : (config : Config) (place n number : ℕ) → (number == n) ≡ false → (rides : Option Rider) → RiderIs number rides → (s : Session) → s ≡ unopened n → ridden_by config place s rides ≡ unopened n
+ridden_other config place n number other None own s is = is
+ridden_other config place n number other (Some rider) own s is =
+    ap (λ (t : Session). ridden_by config place t (Some rider)) is
+    ∙ cond-false ((rider.session == n) && false) (ridden config place rider.reply (unopened n)) (unopened n) (ap (λ (m : ℕ). (m == n) && false) own ∙ ap (λ (b : Bool). b && false) other)
+
+-- it is none of a session that is not opened yet
+served_rides : (config : Config) (place n number : ℕ) → (number == n) ≡ false → (kind : EntryKind) (rides : Option Rider) → RiderIs number rides → (s : Session) → s ≡ unopened n → ridden_by config place s (rider_of kind rides) ≡ unopened n
+served_rides config place n number other (Opened m ack) rides own s is = is
+served_rides config place n number other (Connect m client id acked hold) rides own s is = is
+served_rides config place n number other (Subscribe m ps) rides own s is = ridden_other config place n number other rides own s is
+served_rides config place n number other (Unsubscribe m ps) rides own s is = ridden_other config place n number other rides own s is
+served_rides config place n number other (Publish e) rides own s is = ridden_other config place n number other rides own s is
+served_rides config place n number other (Disconnect m) rides own s is = is
+served_rides config place n number other Refused rides own s is = is
+served_rides config place n number other (Tick numbers) rides own s is = is
+
 unnamed_adds : (config : Config) (r : Registry) (moment : ℕ) (p : Posted) (b : Bool) → Adds config r (unnamed config r moment p b)
 unnamed_adds config r moment p true =
     let many : length (unnamed config r moment p true).sessions ≡ length r.sessions + 1 = length_push r.sessions _ in
@@ -146,7 +176,7 @@ unnamed_adds config r moment p false =
       judged = refl;
       sessions = sym (append-nil (numbers r.sessions)) ∙ ap (λ (ns : List ℕ). numbers r.sessions ++ ns) (sym (sessionless_none c p.message));
       new = λ n l. sessionless_new n c p.message;
-      fresh = λ n l. sessionless_fresh config (length r.judged) moment c p.message n;
+      fresh = λ n l. ap (ridden_by config (length r.judged) (step_by config (length r.judged) moment (unopened n) (sessionless_kind c p.message))) (rider_of_none (sessionless_kind c p.message)) ∙ sessionless_fresh config (length r.judged) moment c p.message n;
       longer = omega arith;
     }
 
@@ -163,7 +193,12 @@ judged_by_adds config r moment p (Some q) None h =
       judged = refl;
       sessions = same ∙ sym (append-nil (numbers r.sessions)) ∙ ap (λ (ns : List ℕ). numbers r.sessions ++ ns) (sym (no_opening (message_kind_of p.message.channel) p q (hold_of config p)));
       new = λ n l. not_opened n (message_kind_of p.message.channel) p q (hold_of config p);
-      fresh = λ n l. served_fresh config (length r.judged) moment (message_kind_of p.message.channel) p q (hold_of config p) n (ne_eqb q.number n (λ e. let below : q.number < 1 + length r.sessions = h q refl in omega (arith, l, many)));
+      fresh = λ n l.
+          let other : (q.number == n) ≡ false = ne_eqb q.number n (λ e. let below : q.number < 1 + length r.sessions = h q refl in omega (arith, l, many)) in
+          let kind : EntryKind = kind_for c p q (hold_of config p) in
+          let s : Session = step_by config (length r.judged) moment (unopened n) kind in
+          served_rides config (length r.judged) n q.number other kind (rider_for (is_rider config r.senders c p q) q.number (slot_for config c p q)) (rider_is (is_rider config r.senders c p q) q.number (slot_for config c p q)) s
+          (served_fresh config (length r.judged) moment c p q (hold_of config p) n other);
       longer = omega (arith, many);
     }
 

@@ -100,7 +100,7 @@ opened_nothing config setup shard ys x (Opened n ack) a h =
     cond_both (n == n) (record s { stage = Live; ack = ack }) s (λ (u : Session). u.answers ≡ []) (λ g. refl) (λ g. refl) in
     let here : (session config n (entries_of (registry config (ys ++ x ∷ [])))).answers ≡ [] =
     ap (λ (u : Session). u.answers) (session_next config n ys x a ∙ ap (λ (u : Session). step config u a.found.entry) (all_fresh config ys n past))
-    ∙ ap (λ (k : EntryKind). (step_by config a.found.entry.place a.found.entry.moment (unopened n) k).answers) h ∙ none in
+    ∙ ap (λ (k : EntryKind). (step config (unopened n) (record a.found.entry { kind = k })).answers) h ∙ none in
     cond_both (stands_in setup shard n) (n ∷ []) [] (λ (ms : List ℕ). flat_map A ms ≡ []) (λ g. append-nil (A n) ∙ here) (λ g. refl)
 opened_nothing config setup shard ys x (Connect n client id acked hold) a h = refl
 opened_nothing config setup shard ys x (Subscribe n ps) a h = refl

@@ -20,7 +20,7 @@ use Rattle.bx_connects.specs.declared.connects.ConnectState.TheVariants.{Filed}
 use Rattle.bx_connects.specs.Connects.{connect_at, filed_as, filing, held_by, session_at}
 use Rattle.bx_shard.specs.declared.sessions.Sessions.{Sessions}
 use Rattle.bx_shard.specs.Effects.{answers_by, connect_filing, filing_each, holding}
-use Rattle.bx_shard.specs.Following.{Followed}
+use Rattle.bx_shard.specs.Following.{Followed, alone}
 use Rattle.bx_shard.specs.Publishing.{published_at}
 use Rattle.bx_shard.specs.Sessions.{AreCounted, AreHeld, IsCounted, IsOwn, holds_until, kept_in, patterns_in}
 use Rattle.bx_shard.specs.States.{Connects, IsGiven, if_live, let_go, session_after}
@@ -33,14 +33,14 @@ use Rattle.bx_shard.proofs.Keeps.{filed_known, filing_each_session, filing_sessi
 use Rattle.bx_shard.proofs.Singles.{nowhere, only_one}
 use Rattle.bx_shard.proofs.Ties.{holds_own}
 
--- an entry does what one of its kind does
-of_kind : (stands : Bool) (e : Entry) (kind : EntryKind) (old new : Sessions) → e.kind ≡ kind → Followed stands (record e { kind = kind }) old new → Followed stands e old new
-of_kind stands e kind old new is follows = subst (λ (k : EntryKind). Followed stands (record e { kind = k }) old new) (sym is) follows
+-- without its rider an entry does what one of its kind does
+of_kind : (stands : Bool) (e : Entry) (kind : EntryKind) (old new : Sessions) → e.kind ≡ kind → Followed stands (record e { kind = kind; rides = None }) old new → Followed stands (alone e) old new
+of_kind stands e kind old new is follows = subst (λ (k : EntryKind). Followed stands (record e { kind = k; rides = None }) old new) (sym is) follows
 
 -- ---- one session
 
 -- a live session is there
-live_there : (t : Session) → t.stage ≡ Live → Some (kept t) ≡ if_live (kept t)
+pub live_there : (t : Session) → t.stage ≡ Live → Some (kept t) ≡ if_live (kept t)
 live_there t live = sym (ap (λ (stage : Stage). cond (is_live stage) (Some (kept t)) None) live)
 
 module _ (n : ℕ) (k : Kept) (patterns : List Glob) (own : IsOwn n k patterns) where
@@ -86,7 +86,7 @@ module _ (n : ℕ) (k : Kept) (patterns : List Glob) (own : IsOwn n k patterns) 
 abbrev with_one : ℕ → (Session → Session) → (ℕ → Option Kept) → ℕ → Option Kept
 with_one m change sessions n = cond (nat_eq m n) (option_map (after change) (sessions m)) (sessions n)
 
-at_number : (m n : ℕ) (f : Option Kept → Option Kept) (sessions : ℕ → Option Kept) → cond (nat_eq m n) (f (sessions m)) (sessions n) ≡ cond (nat_eq m n) (f (sessions n)) (sessions n)
+pub at_number : (m n : ℕ) (f : Option Kept → Option Kept) (sessions : ℕ → Option Kept) → cond (nat_eq m n) (f (sessions m)) (sessions n) ≡ cond (nat_eq m n) (f (sessions n)) (sessions n)
 at_number m n f sessions = by (nat_eq m n) refl
   where
     by : (b : Bool) → nat_eq m n ≡ b → cond b (f (sessions m)) (sessions n) ≡ cond b (f (sessions n)) (sessions n)
@@ -94,7 +94,7 @@ at_number m n f sessions = by (nat_eq m n) refl
     by false other = refl
 
 -- where none is here none comes of it
-none_here : (b : Bool) → cond {A = Option Kept} b None None ≡ None
+pub none_here : (b : Bool) → cond {A = Option Kept} b None None ≡ None
 none_here true = refl
 none_here false = refl
 
@@ -110,28 +110,28 @@ of_one_given false answers a is there = absurd (true≢false (sym is))
 -- a change of one session that leaves it live and changes no connect
 module _ (stands : Bool) (e : Entry) (m : ℕ) (old : Sessions) (counted : AreCounted old) where
   -- what an entry that is one of this session makes of all
-  one_stepped : (kind : EntryKind) (change : Session → Session) → ((s : Session) → step old.config s (record e { kind = kind }) ≡ cond (m == s.number) (change s) s)
+  one_stepped : (kind : EntryKind) (change : Session → Session) → ((s : Session) → step old.config s (record e { kind = kind; rides = None }) ≡ cond (m == s.number) (change s) s)
       → ((n : ℕ) → states.opening stands kind n ≡ None) → ((n : ℕ) (k : Kept) → kept_in old n ≡ Some k → (change (resumed k)).stage ≡ k.stage)
-      → (n : ℕ) → with_one m change (kept_in old) n ≡ session_after old.config stands (record e { kind = kind }) n (kept_in old n)
+      → (n : ℕ) → with_one m change (kept_in old) n ≡ session_after old.config stands (record e { kind = kind; rides = None }) n (kept_in old n)
   one_stepped kind change is opens stage n = at_number m n (option_map (after change)) (kept_in old) ∙ by (kept_in old n) refl (counted n)
     where
       F : Kept → Option Kept
-      F k = if_live (kept (step old.config (resumed k) (record e { kind = kind })))
+      F k = if_live (kept (step old.config (resumed k) (record e { kind = kind; rides = None })))
 
-      by : (o : Option Kept) → kept_in old n ≡ o → IsCounted n o (patterns_in old n) → cond (nat_eq m n) (option_map (after change) o) o ≡ session_after old.config stands (record e { kind = kind }) n o
+      by : (o : Option Kept) → kept_in old n ≡ o → IsCounted n o (patterns_in old n) → cond (nat_eq m n) (option_map (after change) o) o ≡ session_after old.config stands (record e { kind = kind; rides = None }) n o
       by None here c = none_here (nat_eq m n) ∙ sym (ap (option_and_then F) (opens n))
       by (Some k) here c = own_or_as_it_was n k (patterns_in old n) c m (change (resumed k)) (stage n k here) ∙ sym (ap (λ (t : Session). if_live (kept t)) (is (resumed k)))
 
   -- and what it answers
-  one_answered : (kind : EntryKind) (change : Session → Session) → ((s : Session) → step old.config s (record e { kind = kind }) ≡ cond (m == s.number) (change s) s)
-      → (n : ℕ) → answers_by (λ s. step old.config s (record e { kind = kind })) (kept_in old n) ≡ cond (nat_eq m n) (answers_by change (kept_in old n)) []
+  one_answered : (kind : EntryKind) (change : Session → Session) → ((s : Session) → step old.config s (record e { kind = kind; rides = None }) ≡ cond (m == s.number) (change s) s)
+      → (n : ℕ) → answers_by (λ s. step old.config s (record e { kind = kind; rides = None })) (kept_in old n) ≡ cond (nat_eq m n) (answers_by change (kept_in old n)) []
   one_answered kind change is n = by (kept_in old n) (counted n)
     where
       none : (b : Bool) → [] ≡ cond {A = List Answered} b [] []
       none true = refl
       none false = refl
 
-      by : (o : Option Kept) → IsCounted n o (patterns_in old n) → answers_by (λ s. step old.config s (record e { kind = kind })) o ≡ cond (nat_eq m n) (answers_by change o) []
+      by : (o : Option Kept) → IsCounted n o (patterns_in old n) → answers_by (λ s. step old.config s (record e { kind = kind; rides = None })) o ≡ cond (nat_eq m n) (answers_by change o) []
       by None c = none (nat_eq m n)
       by (Some k) c = ap (λ (t : Session). map answered_of t.answers) (is (resumed k)) ∙ own_answers_only n k (patterns_in old n) c m (change (resumed k))
 
@@ -142,7 +142,7 @@ pub followed_opened_here : (stands : Bool) (e : Entry) (m : ℕ) (ack : Bool) (o
     → ((n : ℕ) → kept_in new n ≡ cond (nat_eq m n) (Some (after (λ s. begun ack s s.stage) (kept (unopened m)))) (kept_in old n))
     → (new.config ≡ old.config) × (new.tree ≡ old.tree) × (new.connects ≡ old.connects)
     → (kept_in old m ≡ None → AreCounted old → AreCounted new) → (kept_in old m ≡ None → AreHeld old → AreHeld new)
-    → AreCounted old → AreHeld old → Followed stands e old new
+    → AreCounted old → AreHeld old → Followed stands (alone e) old new
 followed_opened_here stands e m ack old new kind here gone sessions others counts holds counted held = of_kind stands e (kinds.Opened m ack) old new kind (record {
   config = others.0;
   sessions = λ n. sessions n ∙ by n (kept_in old n) refl (counted n);
@@ -156,7 +156,7 @@ followed_opened_here stands e m ack old new kind here gone sessions others count
 })
   where
     follows : Entry
-    follows = record e { kind = kinds.Opened m ack }
+    follows = record e { kind = kinds.Opened m ack; rides = None }
 
     opened : Kept
     opened = after (λ s. begun ack s s.stage) (kept (unopened m))
@@ -187,9 +187,9 @@ followed_opened_here stands e m ack old new kind here gone sessions others count
         (cond_both (m == k.number) (begun ack (resumed k) k.stage) (resumed k) (λ (t : Session). t.answers ≡ []) (λ h. begun_answers k k.stage) (λ h. refl)) there)
 
 -- an entry that changes nothing: no session takes a step, and none is opened
-unchanged : (stands : Bool) (e : Entry) (s : Sessions) (kind : EntryKind) → e.kind ≡ kind → ((n : ℕ) → kept_in s n ≡ session_after s.config stands (record e { kind = kind }) n (kept_in s n))
-    → ((n : ℕ) (a : Answered) → IsGiven s.config (kept_in s) (record e { kind = kind }) n a → ⊥)
-    → ((p : ℕ) → connect_at s.connects p ≡ states.begun (kept_in s) (connect_at s.connects) (record e { kind = kind }) kind p) → AreCounted s → AreHeld s → Followed stands e s s
+unchanged : (stands : Bool) (e : Entry) (s : Sessions) (kind : EntryKind) → e.kind ≡ kind → ((n : ℕ) → kept_in s n ≡ session_after s.config stands (record e { kind = kind; rides = None }) n (kept_in s n))
+    → ((n : ℕ) (a : Answered) → IsGiven s.config (kept_in s) (record e { kind = kind; rides = None }) n a → ⊥)
+    → ((p : ℕ) → connect_at s.connects p ≡ states.begun (kept_in s) (connect_at s.connects) (record e { kind = kind; rides = None }) kind p) → AreCounted s → AreHeld s → Followed stands (alone e) s s
 unchanged stands e s kind is sessions nothing connects counted held = of_kind stands e kind s s is (record {
   config = refl;
   sessions = sessions;
@@ -201,12 +201,12 @@ unchanged stands e s kind is sessions nothing connects counted held = of_kind st
 
 -- a session that stands elsewhere, or is here, isn't opened
 pub followed_opened_elsewhere : (stands : Bool) (e : Entry) (m : ℕ) (ack : Bool) (old new : Sessions) → e.kind ≡ kinds.Opened m ack → (stands ≡ false) ⊎ (is_some (kept_in old m) ≡ true) → new ≡ old
-    → AreCounted old → AreHeld old → Followed stands e old new
+    → AreCounted old → AreHeld old → Followed stands (alone e) old new
 followed_opened_elsewhere stands e m ack old new kind elsewhere same counted held =
-    subst (Followed stands e old) (sym same) (unchanged stands e old (kinds.Opened m ack) kind (λ n. by n (kept_in old n) refl (counted n)) (λ n a g. nothing n a (kept_in old n) (counted n) g) (λ p. refl) counted held)
+    subst (Followed stands (alone e) old) (sym same) (unchanged stands e old (kinds.Opened m ack) kind (λ n. by n (kept_in old n) refl (counted n)) (λ n a g. nothing n a (kept_in old n) (counted n) g) (λ p. refl) counted held)
   where
     follows : Entry
-    follows = record e { kind = kinds.Opened m ack }
+    follows = record e { kind = kinds.Opened m ack; rides = None }
 
     begun_live : (k : Kept) (b : Bool) → k.stage ≡ Live → cond b (begun ack (resumed k) k.stage) (resumed k) ≡ resumed k
     begun_live k true live = ap (λ (stage : Stage). begun ack (resumed k) stage) live
@@ -349,7 +349,7 @@ followed_pending : (stands : Bool) (e : Entry) (m : ℕ) (client : List ℕ) (id
     → ((n : ℕ) → kept_in new n ≡ with_one m (connected old.config (pending e.place client id e.moment hold) acked) (kept_in old) n)
     → ((p : ℕ) → connect_at new.connects p ≡ connect_filing m (pending e.place client id e.moment hold) (connected old.config (pending e.place client id e.moment hold) acked) (kept_in old m) (connect_at old.connects) p)
     → new.config ≡ old.config → (AreCounted old → AreCounted new) → (AreHeld old → AreHeld new)
-    → AreCounted old → AreHeld old → Followed stands e old new
+    → AreCounted old → AreHeld old → Followed stands (alone e) old new
 followed_pending stands e m client id acked hold old new kind fresh sessions connects config counts holds counted held =
     of_kind stands e (kinds.Connect m client id acked hold) old new kind (record {
       config = config;
@@ -367,7 +367,7 @@ followed_pending stands e m client id acked hold old new kind fresh sessions con
     change = connected old.config connect acked
 
     follows : Entry
-    follows = record e { kind = kinds.Connect m client id acked hold }
+    follows = record e { kind = kinds.Connect m client id acked hold; rides = None }
 
     answered : (n : ℕ) → answers_by (λ s. step old.config s follows) (kept_in old n) ≡ cond (nat_eq m n) (answers_by change (kept_in old n)) []
     answered n = one_answered stands e m old counted (kinds.Connect m client id acked hold) change (λ s. refl) n
@@ -395,7 +395,7 @@ followed_pending stands e m client id acked hold old new kind fresh sessions con
             → (session_at (connect_at old.connects p) ≡ Some n) ⊎ Connects (kept_in old) follows p n
         by true same h = inr (record {
           place = eqb-true e.place p same;
-          session = h;
+          session = inl h;
           here = subst (λ j. is_some (kept_in old j) ≡ true) (ap (λ o. option_map_or (λ (j : ℕ). j) o m) h) (ap is_some here);
         })
         by false other h = inl h
@@ -421,7 +421,7 @@ pub followed_connect : (stands : Bool) (e : Entry) (m : ℕ) (client : List ℕ)
     → ((p : ℕ) → connect_at new.connects p ≡ connect_filing m connect (connected old.config connect acked) (kept_in old m) (connect_at old.connects) p)
     → (new.config ≡ old.config) × (new.tree ≡ old.tree)
     → (AreCounted old → AreCounted new) → (AreHeld old → AreHeld new)
-    → AreCounted old → AreHeld old → Followed stands e old new
+    → AreCounted old → AreHeld old → Followed stands (alone e) old new
 followed_connect stands e m client id acked hold connect old new kind is fresh sessions connects others counts holds counted held =
     followed_pending stands e m client id acked hold old new kind
     (ap (λ (c : Pending). connect_at old.connects c.place) (sym is) ∙ fresh)
@@ -431,9 +431,9 @@ followed_connect stands e m client id acked hold connect old new kind is fresh s
 
 -- a connect of a session that is not here
 pub followed_connect_elsewhere : (stands : Bool) (e : Entry) (m : ℕ) (client : List ℕ) (id : Option (List ℕ)) (acked : Option ℕ) (hold : ℕ) (old new : Sessions)
-    → e.kind ≡ kinds.Connect m client id acked hold → kept_in old m ≡ None → new ≡ old → AreCounted old → AreHeld old → Followed stands e old new
+    → e.kind ≡ kinds.Connect m client id acked hold → kept_in old m ≡ None → new ≡ old → AreCounted old → AreHeld old → Followed stands (alone e) old new
 followed_connect_elsewhere stands e m client id acked hold old new kind gone same counted held =
-    subst (Followed stands e old) (sym same)
+    subst (Followed stands (alone e) old) (sym same)
     (unchanged stands e old (kinds.Connect m client id acked hold) kind
     (λ n. away n (nat_eq m n) refl ∙ one_stepped stands e m old counted (kinds.Connect m client id acked hold) change (λ s. refl) (λ n. refl) (λ n k here. (connected_k old.config connect acked (resumed k)).stage) n)
     nothing (λ p. ap (λ o. cond (is_some o) (holding m connect (connect_at old.connects) p) (connect_at old.connects p)) (sym gone)) counted held)
@@ -448,7 +448,7 @@ followed_connect_elsewhere stands e m client id acked hold old new kind gone sam
     away n true is = ap (kept_in old) (sym (eqb-true m n is)) ∙ gone ∙ ap (option_map (after change)) (sym gone)
     away n false is = refl
 
-    nothing : (n : ℕ) (a : Answered) → IsGiven old.config (kept_in old) (record e { kind = kinds.Connect m client id acked hold }) n a → ⊥
+    nothing : (n : ℕ) (a : Answered) → IsGiven old.config (kept_in old) (record e { kind = kinds.Connect m client id acked hold; rides = None }) n a → ⊥
     nothing n a g =
         let w = given_of_one (nat_eq m n) (answers_by change (kept_in old n)) a (subst (λ answers. Contains answers a) (one_answered stands e m old counted (kinds.Connect m client id acked hold) change (λ s. refl) n) g) in
         nowhere a (subst (λ o. Contains (answers_by change o) a) (ap (kept_in old) (sym (eqb-true m n w.0)) ∙ gone) w.1)
@@ -461,7 +461,7 @@ pub followed_disconnect : (stands : Bool) (e : Entry) (m : ℕ) (old new : Sessi
     → ((p : ℕ) → connect_at new.connects p ≡ filing_each e.place (answers_by (released old.config e.place Disconnected) (kept_in old m)) (connect_at old.connects) p)
     → new.config ≡ old.config
     → (AreCounted old → AreCounted new) → (AreHeld old → AreHeld new)
-    → AreCounted old → AreHeld old → Followed stands e old new
+    → AreCounted old → AreHeld old → Followed stands (alone e) old new
 followed_disconnect stands e m old new kind sessions connects config counts holds counted held = of_kind stands e (kinds.Disconnect m) old new kind (record {
   config = config;
   sessions = λ n. sessions n ∙ by n (kept_in old n) (counted n);
@@ -476,7 +476,7 @@ followed_disconnect stands e m old new kind sessions connects config counts hold
 })
   where
     follows : Entry
-    follows = record e { kind = kinds.Disconnect m }
+    follows = record e { kind = kinds.Disconnect m; rides = None }
 
     change : Session → Session
     change = released old.config e.place Disconnected
@@ -516,14 +516,14 @@ followed_disconnect stands e m old new kind sessions connects config counts hold
 -- ---- a refused message
 
 -- a refused message changes nothing
-pub followed_refused : (stands : Bool) (e : Entry) (s : Sessions) → e.kind ≡ kinds.Refused → AreCounted s → AreHeld s → Followed stands e s s
+pub followed_refused : (stands : Bool) (e : Entry) (s : Sessions) → e.kind ≡ kinds.Refused → AreCounted s → AreHeld s → Followed stands (alone e) s s
 followed_refused stands e s is counted held = unchanged stands e s kinds.Refused is (λ n. by n (kept_in s n) (counted n)) (λ n a g. nothing a (kept_in s n) g) (λ p. refl) counted held
   where
-    by : (n : ℕ) (o : Option Kept) → IsCounted n o (patterns_in s n) → o ≡ session_after s.config stands (record e { kind = kinds.Refused }) n o
+    by : (n : ℕ) (o : Option Kept) → IsCounted n o (patterns_in s n) → o ≡ session_after s.config stands (record e { kind = kinds.Refused; rides = None }) n o
     by n None c = refl
     by n (Some k) c = live_there (resumed k) c.live
 
-    nothing : (a : Answered) (o : Option Kept) → Contains (answers_by (λ t. step s.config t (record e { kind = kinds.Refused })) o) a → ⊥
+    nothing : (a : Answered) (o : Option Kept) → Contains (answers_by (λ t. step s.config t (record e { kind = kinds.Refused; rides = None })) o) a → ⊥
     nothing a None there = nowhere a there
     nothing a (Some k) there = nowhere a there
 
@@ -531,11 +531,11 @@ followed_refused stands e s is counted held = unchanged stands e s kinds.Refused
 
 -- a change of one session that answers nothing
 followed_quiet : (stands : Bool) (e : Entry) (m : ℕ) (kind : EntryKind) (change : Session → Session) (old new : Sessions) → e.kind ≡ kind
-    → ((s : Session) → step old.config s (record e { kind = kind }) ≡ cond (m == s.number) (change s) s) → ((n : ℕ) → states.opening stands kind n ≡ None)
+    → ((s : Session) → step old.config s (record e { kind = kind; rides = None }) ≡ cond (m == s.number) (change s) s) → ((n : ℕ) → states.opening stands kind n ≡ None)
     → ((n : ℕ) (k : Kept) → kept_in old n ≡ Some k → (change (resumed k)).stage ≡ k.stage) → ((k : Kept) → (change (resumed k)).answers ≡ [])
-    → ((p : ℕ) → connect_at old.connects p ≡ states.begun (kept_in old) (connect_at old.connects) (record e { kind = kind }) kind p)
+    → ((p : ℕ) → connect_at old.connects p ≡ states.begun (kept_in old) (connect_at old.connects) (record e { kind = kind; rides = None }) kind p)
     → ((n : ℕ) → kept_in new n ≡ with_one m change (kept_in old) n)
-    → new.config ≡ old.config → new.connects ≡ old.connects → AreCounted old → AreCounted new → AreHeld new → Followed stands e old new
+    → new.config ≡ old.config → new.connects ≡ old.connects → AreCounted old → AreCounted new → AreHeld new → Followed stands (alone e) old new
 followed_quiet stands e m kind change old new is steps opens stage quiet begins sessions config connects before counted held = of_kind stands e kind old new is (record {
   config = config;
   sessions = λ n. sessions n ∙ one_stepped stands e m old before kind change steps opens stage n;
@@ -549,7 +549,7 @@ followed_quiet stands e m kind change old new is steps opens stage quiet begins 
     none None = refl
     none (Some k) = ap (map answered_of) (quiet k)
 
-    nothing : (n : ℕ) (a : Answered) → IsGiven old.config (kept_in old) (record e { kind = kind }) n a → ⊥
+    nothing : (n : ℕ) (a : Answered) → IsGiven old.config (kept_in old) (record e { kind = kind; rides = None }) n a → ⊥
     nothing n a g =
         let w = given_of_one (nat_eq m n) (answers_by change (kept_in old n)) a (subst (λ answers. Contains answers a) (one_answered stands e m old before kind change steps n) g) in
         nowhere a (subst (λ answers. Contains answers a) (none (kept_in old n)) w.1)
@@ -557,7 +557,7 @@ followed_quiet stands e m kind change old new is steps opens stage quiet begins 
 -- a subscription changes the patterns of its session, and no connect
 pub followed_subscribe : (stands : Bool) (e : Entry) (m : ℕ) (patterns : List Glob) (old new : Sessions) → e.kind ≡ kinds.Subscribe m patterns
     → ((n : ℕ) → kept_in new n ≡ with_one m (subscribed old.config patterns) (kept_in old) n)
-    → new.config ≡ old.config → new.connects ≡ old.connects → AreCounted old → AreCounted new → AreHeld new → Followed stands e old new
+    → new.config ≡ old.config → new.connects ≡ old.connects → AreCounted old → AreCounted new → AreHeld new → Followed stands (alone e) old new
 followed_subscribe stands e m patterns old new is sessions config connects before counted held =
     followed_quiet stands e m (kinds.Subscribe m patterns) (subscribed old.config patterns) old new is (λ s. refl) (λ n. refl) stage (λ k. subscribed_quiet k old.config patterns) (λ p. refl) sessions config connects before counted held
   where
@@ -567,7 +567,7 @@ followed_subscribe stands e m patterns old new is sessions config connects befor
 -- so does an unsubscription
 pub followed_unsubscribe : (stands : Bool) (e : Entry) (m : ℕ) (patterns : List Glob) (old new : Sessions) → e.kind ≡ kinds.Unsubscribe m patterns
     → ((n : ℕ) → kept_in new n ≡ with_one m (unsubscribed patterns) (kept_in old) n)
-    → new.config ≡ old.config → new.connects ≡ old.connects → AreCounted old → AreCounted new → AreHeld new → Followed stands e old new
+    → new.config ≡ old.config → new.connects ≡ old.connects → AreCounted old → AreCounted new → AreHeld new → Followed stands (alone e) old new
 followed_unsubscribe stands e m patterns old new is sessions config connects before counted held =
     followed_quiet stands e m (kinds.Unsubscribe m patterns) (unsubscribed patterns) old new is (λ s. refl) (λ n. refl) (λ n k here. refl) (λ k. refl) (λ p. refl) sessions config connects before counted held
 
@@ -579,7 +579,7 @@ pub followed_publish : (stands : Bool) (e : Entry) (event : Event) (old new : Se
     → ((n : ℕ) (a : Answered) → Contains (answers_by (published old.config (published_at e.place event)) (kept_in old n)) a → connect_at new.connects a.place ≡ Some (Filed n e.place a.answer))
     → ((p : ℕ) → ((n : ℕ) (a : Answered) → Contains (answers_by (published old.config (published_at e.place event)) (kept_in old n)) a → a.place ≢ p) → connect_at new.connects p ≡ connect_at old.connects p)
     → ((p : ℕ) → session_at (connect_at new.connects p) ≡ session_at (connect_at old.connects p))
-    → new.config ≡ old.config → AreCounted old → AreCounted new → AreHeld new → Followed stands e old new
+    → new.config ≡ old.config → AreCounted old → AreCounted new → AreHeld new → Followed stands (alone e) old new
 followed_publish stands e event old new is sessions given kept_at known config before counted held = of_kind stands e (kinds.Publish event) old new is (record {
   config = config;
   sessions = λ n. sessions n ∙ by n (kept_in old n) (before n);
@@ -592,15 +592,15 @@ followed_publish stands e event old new is sessions given kept_at known config b
     change : Session → Session
     change = published old.config (published_at e.place event)
 
-    by : (n : ℕ) (o : Option Kept) → IsCounted n o (patterns_in old n) → option_map (after change) o ≡ session_after old.config stands (record e { kind = kinds.Publish event }) n o
+    by : (n : ℕ) (o : Option Kept) → IsCounted n o (patterns_in old n) → option_map (after change) o ≡ session_after old.config stands (record e { kind = kinds.Publish event; rides = None }) n o
     by n None c = refl
     by n (Some k) c = live_there (change (resumed k)) (published_stage k old.config (published_at e.place event) ∙ c.live)
 
-    same : (n : ℕ) (a : Answered) (o : Option Kept) → Contains (answers_by (λ s. step old.config s (record e { kind = kinds.Publish event })) o) a → Contains (answers_by change o) a
+    same : (n : ℕ) (a : Answered) (o : Option Kept) → Contains (answers_by (λ s. step old.config s (record e { kind = kinds.Publish event; rides = None })) o) a → Contains (answers_by change o) a
     same n a None g = g
     same n a (Some k) g = g
 
-    back : (n : ℕ) (a : Answered) (o : Option Kept) → Contains (answers_by change o) a → Contains (answers_by (λ s. step old.config s (record e { kind = kinds.Publish event })) o) a
+    back : (n : ℕ) (a : Answered) (o : Option Kept) → Contains (answers_by change o) a → Contains (answers_by (λ s. step old.config s (record e { kind = kinds.Publish event; rides = None })) o) a
     back n a None g = g
     back n a (Some k) g = g
 
@@ -615,7 +615,7 @@ pub followed_tick : (stands : Bool) (e : Entry) (numbers : List ℕ) (old betwee
     → between.config ≡ old.config
     → ((n : ℕ) → kept_in new n ≡ cond (list_any (λ m. m == n) numbers) None (kept_in between n))
     → ((p : ℕ) → connect_at new.connects p ≡ let_go numbers (connect_at between.connects p))
-    → new.config ≡ between.config → AreCounted old → AreCounted new → AreHeld new → Followed stands e old new
+    → new.config ≡ between.config → AreCounted old → AreCounted new → AreHeld new → Followed stands (alone e) old new
 followed_tick stands e numbers old between new is ends given kept_at known config closed gone config_closed before counted held = of_kind stands e (kinds.Tick numbers) old new is (record {
   config = config_closed ∙ config;
   sessions = λ n. closed n ∙ ap (λ o. cond (list_any (λ m. m == n) numbers) None o) (ends n) ∙ by n (kept_in old n) (before n);
@@ -632,7 +632,7 @@ followed_tick stands e numbers old between new is ends given kept_at known confi
     change = expired old.config e.place e.moment
 
     follows : Entry
-    follows = record e { kind = kinds.Tick numbers }
+    follows = record e { kind = kinds.Tick numbers; rides = None }
 
     by : (n : ℕ) (o : Option Kept) → IsCounted n o (patterns_in old n) → cond (list_any (λ m. m == n) numbers) None (option_map (after change) o) ≡ session_after old.config stands follows n o
     by n None c = none_here (list_any (λ m. m == n) numbers)

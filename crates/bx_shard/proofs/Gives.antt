@@ -1,6 +1,7 @@
 -- An entry answers only connects that weren't answered before.
-use Rattle.std.proofs.Common.{◌≡◌, ℕ, ◌⊎◌, ⊎_elim, inl, inr, Bool, true, false, cond, is_some, Option, Some, None, List, map, nat_eq, ◌==◌, refl, sym, ap, ◌∙◌, subst, arith, eq-eqb}
+use Rattle.std.proofs.Common.{◌≡◌, ℕ, ◌⊎◌, ⊎_elim, inl, inr, Bool, true, false, cond, is_some, Option, Some, None, List, [], ◌∷◌, map, nat_eq, ◌==◌, refl, sym, ap, ◌∙◌, subst, arith, eq-eqb}
 use Rattle.std.proofs.lemmas.Bool.{cond_both, cond-true}
+use Rattle.std.proofs.lemmas.List.{map-append}
 use Rattle.std.proofs.lemmas.List.Elements.{Contains-append_cases}
 use Rattle.std.specs.List.{All, Contains, list_any}
 use Rattle.std.specs.Option.{option_map_or}
@@ -9,9 +10,10 @@ use Rattle.bx_advice.specs.declared.advice.Outcome.TheVariants.{Disconnected, Fa
 use Rattle.bx_advice.specs.declared.error.Error.TheVariants.{SupersededConnect}
 use Rattle.bx_entry.specs.declared.entry.Entry.{Entry}
 use Rattle.bx_entry.specs.declared.entry.EntryKind.{EntryKind}
+use Rattle.bx_entry.specs.declared.entry.Rider.{Rider}
 use Rattle.bx_entry.specs.declared.entry.EntryKind.TheVariants.{Opened, Connect, Subscribe, Unsubscribe, Publish, Disconnect, Refused, Tick}
 use Rattle.bx_entry.specs.Keeping.{Kept, after, answers_of, resumed}
-use Rattle.bx_entry.specs.Sessions.{Closed, Live, Pending, Publication, Session, Stage, Unopened, admitted, begun, connected, ended, expired, is_hit, received, released, step, step_by, subscribed, unheld}
+use Rattle.bx_entry.specs.Sessions.{Closed, Live, Pending, Publication, Session, Stage, Unopened, admitted, begun, connected, ended, expired, is_hit, is_riding, received, released, ridden, ridden_by, ride_filing, rider_of, step, step_by, subscribed, unheld}
 use Rattle.bx_session.specs.declared.answered.Answered.{Answered}
 use Rattle.bx_session.specs.Views.{answered_of, deadline_of, pending}
 use Rattle.bx_session.proofs.ConnectLemmas.{connected_answers}
@@ -28,7 +30,7 @@ use Rattle.bx_shard.proofs.Singles.{nowhere, only_one}
 -- ---- whom a session answers
 
 -- this connect is held
-abbrev HoldsIt : Option Pending → ℕ → Type 0
+abbrev pub HoldsIt : Option Pending → ℕ → Type 0
 HoldsIt None p = ⊥
 HoldsIt (Some q) p = q.place ≡ p
 
@@ -84,6 +86,31 @@ answers_due config place moment k a (Tick numbers) there =
     inr (held_due k t a (expired_e config place moment k)
     (subst (λ given. Contains (map answered_of given) a) (cond_both (list_any (λ n. n == t.number) numbers) (ended t) t (λ (u : Session). u.answers ≡ t.answers) (λ h. refl) (λ h. refl)) there))
 
+-- an entry that may be a rider answers itself nothing but a connect that is held
+pub rider_due : (config : Config) (place moment : ℕ) (k : Kept) (a : Answered) (kind : EntryKind) (rides : Option Rider) (rider : Rider) → rider_of kind rides ≡ Some rider →
+    Contains (map answered_of (step_by config place moment (resumed k) kind).answers) a → HoldsIt k.held a.place
+rider_due config place moment k a (Opened m ack) rides rider is there = absurd (let no : None ≡ Some rider = is in cc)
+rider_due config place moment k a (Connect m client id acked hold) rides rider is there = absurd (let no : None ≡ Some rider = is in cc)
+rider_due config place moment k a (Subscribe m patterns) rides rider is there =
+    absurd (nowhere a (subst (λ given. Contains (map answered_of given) a) (subscribed_quiet k config patterns) (of_own (m == k.number) k (subscribed config patterns (resumed k)) a there)))
+rider_due config place moment k a (Unsubscribe m patterns) rides rider is there = absurd (nowhere a (of_own (m == k.number) k _ a there))
+rider_due config place moment k a (Publish event) rides rider is there =
+    let e : Publication = record { place = place; event = event } in
+    held_due k (received config e (resumed k)) a (received_e config e k) (of_own (is_hit (resumed k) event) k (received config e (resumed k)) a there)
+rider_due config place moment k a (Disconnect m) rides rider is there = absurd (let no : None ≡ Some rider = is in cc)
+rider_due config place moment k a Refused rides rider is there = absurd (let no : None ≡ Some rider = is in cc)
+rider_due config place moment k a (Tick numbers) rides rider is there = absurd (let no : None ≡ Some rider = is in cc)
+
+-- the answer to a rider is to the entry itself
+ridden_due : (config : Config) (place : ℕ) (k : Kept) (a : Answered) (t : Session) (rides : Option Rider) → (Contains (map answered_of t.answers) a → Due place k.held a) → Contains (map answered_of (ridden_by config place t rides).answers) a → Due place k.held a
+ridden_due config place k a t None own there = own there
+ridden_due config place k a t (Some rider) own there = cond_both (is_riding rider t) (ridden config place rider.reply t) t (λ (u : Session). Contains (map answered_of u.answers) a → Due place k.held a)
+    (λ h there.
+    ⊎_elim own (λ last. inl (sym (ap (λ (x : Answered). x.place) (only_one (answered_of (ride_filing config place rider.reply t)) a last))))
+    (Contains-append_cases (map answered_of t.answers) (answered_of (ride_filing config place rider.reply t) ∷ []) a
+    (subst (λ (xs : List Answered). Contains xs a) (map-append answered_of t.answers (ride_filing config place rider.reply t ∷ [])) there)))
+    (λ h. own) there
+
 -- ---- what the shard knows of these connects
 
 pub all_contains : {X : Type 0} (P : X → Type 0) (xs : List X) (x : X) → All P xs → Contains xs x → P x
@@ -99,7 +126,7 @@ held_unanswered place p n None deadline h = absurd (let e : None ≡ Some deadli
 held_unanswered place p n (Some (states.Held session until waker)) deadline h = record { filed = refl; own = λ e. cc }
 held_unanswered place p n (Some (states.Filed session at answer)) deadline h = absurd (let e : None ≡ Some deadline = h in cc)
 
-holds_ends : (held : Option Pending) (p : ℕ) → HoldsIt held p → is_some (ends_for held p) ≡ true
+pub holds_ends : (held : Option Pending) (p : ℕ) → HoldsIt held p → is_some (ends_for held p) ≡ true
 holds_ends None p h = absurd h
 holds_ends (Some q) p h = ap is_some (cond-true (nat_eq q.place p) (Some (deadline_of q)) None (eq-eqb q.place p h))
 
@@ -121,4 +148,5 @@ given_unanswered s e n a sound here g = by (session_in s n) refl g
   where
     by : (o : Option Kept) → session_in s n ≡ o → Contains (answers_by (λ t. step s.setup.config t e) o) a → Unanswered e.place a.place (connect_in s a.place)
     by None none there = absurd (nowhere a there)
-    by (Some k) known there = due_unanswered s e.place n k a sound here known (answers_due s.setup.config e.place e.moment k a e.kind there)
+    by (Some k) known there = due_unanswered s e.place n k a sound here known
+        (ridden_due s.setup.config e.place k a (step_by s.setup.config e.place e.moment (resumed k) e.kind) (rider_of e.kind e.rides) (λ h. answers_due s.setup.config e.place e.moment k a e.kind h) there)

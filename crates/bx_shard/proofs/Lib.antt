@@ -7,12 +7,14 @@ pub mod Ends
 pub mod Filings
 pub mod Finding
 pub mod Followed
+pub mod Riding
 pub mod Gives
 pub mod Given
 pub mod Handing
 pub mod Holding
 pub mod Holdings
 pub mod Keeps
+pub mod Rides
 pub mod Placed
 pub mod Counts
 pub mod Onwards

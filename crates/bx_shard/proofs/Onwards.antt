@@ -10,6 +10,7 @@ use Rattle.bx_lists.proofs.Tests.{either}
 use Rattle.bx_advice.specs.declared.config.Config.{Config}
 use Rattle.bx_entry.specs.declared.entry.Entry.{Entry}
 use Rattle.bx_entry.specs.declared.entry.EntryKind.{EntryKind}
+use Rattle.bx_entry.specs.declared.entry.Rider.{Rider}
 use Rattle.bx_entry.specs.declared.entry.EntryKind.TheVariants.{Opened, Connect, Subscribe, Unsubscribe, Publish, Disconnect, Refused, Tick}
 use Rattle.bx_entry.specs.Answers.{answer_of}
 use Rattle.bx_entry.specs.Listing.{Listed}
@@ -40,11 +41,11 @@ use Rattle.bx_shard.proofs.Placed.{entry_placed}
 use Rattle.bx_shard.proofs.Singles.{nowhere}
 use Rattle.bx_shard.proofs.Stepping.{shards_step}
 use Rattle.bx_shard.proofs.Taking.{connect_of_filed, find_of, none_taken}
-use Rattle.bx_shard.proofs.Waits.{WaitsAt, connect_waits}
+use Rattle.bx_shard.proofs.Waits.{WaitsAt, connect_waits, rider_waits}
 
 -- an entry by its parts
-abbrev entry : ℕ → ℕ → EntryKind → Entry
-entry place moment kind = record { place = place; moment = moment; kind = kind }
+abbrev entry : ℕ → ℕ → Option Rider → EntryKind → Entry
+entry place moment rides kind = record { place = place; moment = moment; kind = kind; rides = rides }
 
 -- nothing else is taken
 or_nothing : (o : Option Kept) → option_or o None ≡ o
@@ -67,29 +68,29 @@ module _ (config : Config) (e : Entry) where
   next_onward (Some k) = refl
 
 -- the session that a handshake opens, found by its number
-opened_one : (config : Config) (place moment n : ℕ) (ack : Bool) (m : ℕ) → find_kept m (steps config (entry place moment (Opened n ack)) (kept (unopened n) ∷ []))
-    ≡ option_and_then (onward config (entry place moment (Opened n ack))) (cond (n == m) (Some (kept (unopened n))) None)
-opened_one config place moment n ack m =
+opened_one : (config : Config) (place moment : ℕ) (rides : Option Rider) (n : ℕ) (ack : Bool) (m : ℕ) → find_kept m (steps config (entry place moment rides (Opened n ack)) (kept (unopened n) ∷ []))
+    ≡ option_and_then (onward config (entry place moment rides (Opened n ack))) (cond (n == m) (Some (kept (unopened n))) None)
+opened_one config place moment rides n ack m =
     let s : Session = resumed (kept (unopened n)) in
     let t : Session = record s { stage = Live; ack = ack } in
-    let same : step config s (entry place moment (Opened n ack)) ≡ t = cond-true (n == n) t s (eq-eqb n n refl) in
-    let later : step config s (entry place moment (Opened n ack)) ≡ t = same in
+    let same : step config s (entry place moment rides (Opened n ack)) ≡ t = cond-true (n == n) t s (eq-eqb n n refl) in
+    let later : step config s (entry place moment rides (Opened n ack)) ≡ t = same in
     ap (λ (x : Session). find_kept m (filter (λ (k : Kept). is_live k.stage) (kept x ∷ []))) same
     ∙ (elim (n == m) as (λ b. cond b (Some (opened n ack)) None ≡ option_and_then (λ (k : Kept). if_live (opened n ack)) (cond b (Some (kept (unopened n))) None)) [ true ↦ refl | false ↦ refl ])
     ∙ (elim (n == m) as (λ b. option_and_then (λ (k : Kept). if_live (opened n ack)) (cond b (Some (kept (unopened n))) None)
-    ≡ option_and_then (onward config (entry place moment (Opened n ack))) (cond b (Some (kept (unopened n))) None)) [
+    ≡ option_and_then (onward config (entry place moment rides (Opened n ack))) (cond b (Some (kept (unopened n))) None)) [
       | true ↦ ap (λ (x : Session). if_live (kept x)) (sym later)
       | false ↦ refl
     ])
 
 -- the session that the entry opens in the shard
-opened_found : (setup : Setup) (index place moment m : ℕ) (kind : EntryKind) → find_kept m (steps setup.config (entry place moment kind) (opening_by setup index kind))
-    ≡ option_and_then (onward setup.config (entry place moment kind)) (opening (opens_in setup index kind) kind m)
-opened_found setup index place moment m (Opened n ack) =
-    let e : Entry = entry place moment (Opened n ack) in
-    (elim (stands_in setup index n) as (λ b. find_kept m (steps setup.config (entry place moment (Opened n ack)) (cond b (kept (unopened n) ∷ []) []))
-    ≡ option_and_then (onward setup.config (entry place moment (Opened n ack))) (cond ((n == m) && b) (Some (kept (unopened n))) None)) [
-      | true ↦ opened_one setup.config place moment n ack m
+opened_found : (setup : Setup) (index place moment : ℕ) (rides : Option Rider) (m : ℕ) (kind : EntryKind) → find_kept m (steps setup.config (entry place moment rides kind) (opening_by setup index kind))
+    ≡ option_and_then (onward setup.config (entry place moment rides kind)) (opening (opens_in setup index kind) kind m)
+opened_found setup index place moment rides m (Opened n ack) =
+    let e : Entry = entry place moment rides (Opened n ack) in
+    (elim (stands_in setup index n) as (λ b. find_kept m (steps setup.config (entry place moment rides (Opened n ack)) (cond b (kept (unopened n) ∷ []) []))
+    ≡ option_and_then (onward setup.config (entry place moment rides (Opened n ack))) (cond ((n == m) && b) (Some (kept (unopened n))) None)) [
+      | true ↦ opened_one setup.config place moment rides n ack m
           ∙ ap (λ b. option_and_then (onward setup.config e) (cond b (Some (kept (unopened n))) None)) (sym (and_true (n == m)))
       | false ↦ sym (ap (λ b. option_and_then (onward setup.config e) (cond b (Some (kept (unopened n))) None)) (and_right (n == m) false refl))
     ])
@@ -97,33 +98,33 @@ opened_found setup index place moment m (Opened n ack) =
     and_true : (b : Bool) → (b && true) ≡ b
     and_true true = refl
     and_true false = refl
-opened_found setup index place moment m (Connect n client id acked hold) = refl
-opened_found setup index place moment m (Subscribe n patterns) = refl
-opened_found setup index place moment m (Unsubscribe n patterns) = refl
-opened_found setup index place moment m (Publish e) = refl
-opened_found setup index place moment m (Disconnect n) = refl
-opened_found setup index place moment m Refused = refl
-opened_found setup index place moment m (Tick numbers) = refl
+opened_found setup index place moment rides m (Connect n client id acked hold) = refl
+opened_found setup index place moment rides m (Subscribe n patterns) = refl
+opened_found setup index place moment rides m (Unsubscribe n patterns) = refl
+opened_found setup index place moment rides m (Publish e) = refl
+opened_found setup index place moment rides m (Disconnect n) = refl
+opened_found setup index place moment rides m Refused = refl
+opened_found setup index place moment rides m (Tick numbers) = refl
 
 -- a session that is there is as the entry leaves it, whatever the entry opens
-onward_first : (config : Config) (stands : Bool) (place moment m : ℕ) (k : Kept) (kind : EntryKind) → k.stage ≡ Live →
-    option_or (onward config (entry place moment kind) k) (option_and_then (onward config (entry place moment kind)) (opening stands kind m)) ≡ onward config (entry place moment kind) k
-onward_first config stands place moment m k (Opened n ack) live =
-    let t : Session = step config (resumed k) (entry place moment (Opened n ack)) in
+onward_first : (config : Config) (stands : Bool) (place moment : ℕ) (rides : Option Rider) (m : ℕ) (k : Kept) (kind : EntryKind) → k.stage ≡ Live →
+    option_or (onward config (entry place moment rides kind) k) (option_and_then (onward config (entry place moment rides kind)) (opening stands kind m)) ≡ onward config (entry place moment rides kind) k
+onward_first config stands place moment rides m k (Opened n ack) live =
+    let t : Session = step config (resumed k) (entry place moment rides (Opened n ack)) in
     let begun_same : sessions.begun ack (resumed k) k.stage ≡ resumed k = ap (λ (stage : Stage). sessions.begun ack (resumed k) stage) live in
-    let same : step config (resumed k) (entry place moment (Opened n ack)) ≡ resumed k =
+    let same : step config (resumed k) (entry place moment rides (Opened n ack)) ≡ resumed k =
     cond_both (n == k.number) (sessions.begun ack (resumed k) k.stage) (resumed k) (λ (u : Session). u ≡ resumed k) (λ h. begun_same) (λ h. refl) in
-    let stays : onward config (entry place moment (Opened n ack)) k ≡ Some (kept t) =
+    let stays : onward config (entry place moment rides (Opened n ack)) k ≡ Some (kept t) =
     cond-true (is_live t.stage) (Some (kept t)) None (ap (λ (u : Session). is_live u.stage) same ∙ ap is_live live) in
-    let other : Option Kept = option_and_then (onward config (entry place moment (Opened n ack))) (opening stands (Opened n ack) m) in
+    let other : Option Kept = option_and_then (onward config (entry place moment rides (Opened n ack))) (opening stands (Opened n ack) m) in
     ap (λ o. option_or o other) stays ∙ sym stays
-onward_first config stands place moment m k (Connect n client id acked hold) live = or_nothing (onward config (entry place moment (Connect n client id acked hold)) k)
-onward_first config stands place moment m k (Subscribe n patterns) live = or_nothing (onward config (entry place moment (Subscribe n patterns)) k)
-onward_first config stands place moment m k (Unsubscribe n patterns) live = or_nothing (onward config (entry place moment (Unsubscribe n patterns)) k)
-onward_first config stands place moment m k (Publish e) live = or_nothing (onward config (entry place moment (Publish e)) k)
-onward_first config stands place moment m k (Disconnect n) live = or_nothing (onward config (entry place moment (Disconnect n)) k)
-onward_first config stands place moment m k Refused live = or_nothing (onward config (entry place moment Refused) k)
-onward_first config stands place moment m k (Tick numbers) live = or_nothing (onward config (entry place moment (Tick numbers)) k)
+onward_first config stands place moment rides m k (Connect n client id acked hold) live = or_nothing (onward config (entry place moment rides (Connect n client id acked hold)) k)
+onward_first config stands place moment rides m k (Subscribe n patterns) live = or_nothing (onward config (entry place moment rides (Subscribe n patterns)) k)
+onward_first config stands place moment rides m k (Unsubscribe n patterns) live = or_nothing (onward config (entry place moment rides (Unsubscribe n patterns)) k)
+onward_first config stands place moment rides m k (Publish e) live = or_nothing (onward config (entry place moment rides (Publish e)) k)
+onward_first config stands place moment rides m k (Disconnect n) live = or_nothing (onward config (entry place moment rides (Disconnect n)) k)
+onward_first config stands place moment rides m k Refused live = or_nothing (onward config (entry place moment rides Refused) k)
+onward_first config stands place moment rides m k (Tick numbers) live = or_nothing (onward config (entry place moment rides (Tick numbers)) k)
 
 found_stepped : (setup : Setup) (index : ℕ) (e : Entry) (ks : List Kept) (m : ℕ) → Apart (numbers_of ks) → find_kept m (stepped setup index e ks)
     ≡ option_or (option_and_then (onward setup.config e) (find_kept m ks)) (option_and_then (onward setup.config e) (opening (opens_in setup index e.kind) e.kind m))
@@ -136,7 +137,7 @@ found_stepped setup index e ks m d =
     ∙ ap (λ (xs : List Kept). find_kept m xs) (filter-append live (map F ks) (map F os))
     ∙ find-append (λ (k : Kept). k.number == m) (steps config e ks) (steps config e os)
     ∙ ap (λ (o : Option Kept). option_or o (find_kept m (steps config e os))) (steps_found config e m ks d (λ i b l. step_number config (resumed (get_or ks i b)) e) ∙ next_onward config e (find_kept m ks))
-    ∙ ap (option_or (option_and_then (onward config e) (find_kept m ks))) (opened_found setup index e.place e.moment m e.kind)
+    ∙ ap (option_or (option_and_then (onward config e) (find_kept m ks))) (opened_found setup index e.place e.moment e.rides m e.kind)
 
 abbrev Knows : State → List Kept → Type 0
 Knows s ks = (m : ℕ) → session_in s m ≡ find_kept m ks
@@ -151,7 +152,7 @@ sessions_next s e ks m reached d known =
     let stands : Bool = opens_in s.setup s.index e.kind in
     let P : Option Kept → Type 0 = λ o. find_kept m ks ≡ o → session_after s.setup.config (opens_in s.setup s.index e.kind) e m o
     ≡ option_or (option_and_then (onward s.setup.config e) o) (option_and_then (onward s.setup.config e) (opening (opens_in s.setup s.index e.kind) e.kind m)) in
-    let at_some : (k : Kept) → P (Some k) = λ k f. let w = found_each (IsReached e.place) m ks k f reached in sym (onward_first config stands e.place e.moment m k e.kind w.0.live) in
+    let at_some : (k : Kept) → P (Some k) = λ k f. let w = found_each (IsReached e.place) m ks k f reached in sym (onward_first config stands e.place e.moment e.rides m k e.kind w.0.live) in
     ap (session_after config stands e m) (known m)
     ∙ (elim (find_kept m ks) as P [ None ↦ λ f. refl | Some k ↦ at_some k ]) refl
     ∙ sym (found_stepped s.setup s.index e ks m d)
@@ -363,12 +364,12 @@ stands_here list taken n e s m b here =
     subst (λ (q : ℕ). stands_in s.setup s.index q ≡ true) w.1 w.0 in
     (elim (find_kept m ks) as P [ None ↦ at_none | Some k ↦ at_some k ]) refl (b.holds.sessions m)
 
--- a connect that is known is one of a session that stands in the shard
+-- a connect or a rider that is known is one of a session that stands in the shard
 owned_next : (list : List Listed) (taken : List ℕ) (n : ℕ) (e : Entry) (s new : State) (p m : ℕ) → Before list taken n e s → Applied s e new → session_at (connect_in new p) ≡ Some m → IsOwn s.setup list s.index p m
 owned_next list taken n e s new p m b a k =
     ⊎_elim (λ h. b.holds.owned p m h)
     (λ h. record {
-      waits = subst (λ (q : ℕ). WaitsAt (registry s.setup.config list).judged m q) (sym b.place ∙ h.place) (connect_waits s.setup.config list n m e b.there h.session);
+      waits = subst (λ (q : ℕ). WaitsAt (registry s.setup.config list).judged m q) (sym b.place ∙ h.place) (⊎_elim (λ c. connect_waits s.setup.config list n m e b.there c) (λ r. rider_waits s.setup.config list n m e b.there r) h.session);
       stands = stands_here list taken n e s m b h.here;
     })
     (a.known p m k)

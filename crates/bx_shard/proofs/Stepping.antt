@@ -10,11 +10,12 @@ use Rattle.bx_entry.specs.declared.entry.Entry.{Entry}
 use Rattle.bx_entry.specs.declared.entry.EntryKind.{EntryKind}
 use Rattle.bx_entry.specs.declared.entry.EntryKind.TheVariants.{Opened, Connect, Subscribe, Unsubscribe, Publish, Disconnect, Refused, Tick}
 use Rattle.bx_entry.specs.Registry.{Registry, Registered, judge, registry, entries_of}
-use Rattle.bx_entry.specs.Sessions.{Session, Stage, Unopened, Live, Closed, is_live, stage_after, step, unopened, session}
+use Rattle.bx_entry.specs.Sessions.{Session, Stage, Unopened, Live, Closed, is_live, rider_of, stage_after, step, step_by, unopened, session}
 use Rattle.bx_theory.specs.Readings.{opens_by, closes_by, EachSession}
 use Rattle.bx_entry.specs.Keeping.{Kept, kept, kept_step, StepsAlike}
 use Rattle.bx_shard.specs.Shards.{Setup, stands_in, shard_at}
 use Rattle.bx_shard.specs.Steps.{opening_by, ShardsStep, stepped}
+use Rattle.bx_theory.proofs.Keeps.{ride_k}
 use Rattle.bx_theory.proofs.Stages.{Next, step_by_next}
 use Rattle.bx_theory.proofs.Dues.{numbered_below}
 use Rattle.bx_theory.proofs.Lives.{numbered}
@@ -83,8 +84,9 @@ dead_next Closed false h = refl
 
 dead_step : (config : Config) (s : Session) (e : Entry) → opens_by s.number e.kind ≡ false → is_live s.stage ≡ false → is_live (step config s e).stage ≡ false
 dead_step config s e o h =
-    let n : Next s e.kind (step config s e) = step_by_next config e.place e.moment s e.kind in
-    ap is_live (n.stage ∙ cond-false (opens_by s.number e.kind) _ (cond (closes_by s.number e.kind) (stage_after s.stage) s.stage) o) ∙ dead_next s.stage (closes_by s.number e.kind) h
+    let u : Session = step_by config e.place e.moment s e.kind in
+    let n : Next s e.kind (step_by config e.place e.moment s e.kind) = step_by_next config e.place e.moment s e.kind in
+    ap is_live ((ride_k config e.place u (rider_of e.kind e.rides)).stage ∙ n.stage ∙ cond-false (opens_by s.number e.kind) _ (cond (closes_by s.number e.kind) (stage_after s.stage) s.stage) o) ∙ dead_next s.stage (closes_by s.number e.kind) h
 
 one_step : (config : Config) (s : Session) (e : Entry) (ks : List Kept) → StepsAlike config s e → (is_live s.stage ≡ false → is_live (step config s e).stage ≡ false) →
     one_kept (step config s e) (steps config e ks) ≡ steps config e (one_kept s ks)

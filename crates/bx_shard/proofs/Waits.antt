@@ -13,12 +13,14 @@ use Rattle.bx_entry.specs.declared.entry.Entry.{Entry}
 use Rattle.bx_entry.specs.declared.entry.EntryKind.{EntryKind}
 use Rattle.bx_entry.specs.declared.entry.EntryKind.TheVariants.{Opened, Connect, Subscribe, Unsubscribe, Publish, Disconnect, Refused}
 use Rattle.bx_entry.specs.declared.entry.EntryKind.TheVariants as entries
-use Rattle.bx_entry.specs.Registry.{Registry, Registered, Judged, PlaceSlot, Waiting, judge, judged_by, kind_for, slot_for, named_by, refusal, hold_of, registry, empty_registry, entries_of, unnamed, sessionless_kind, Ready}
-use Rattle.bx_entry.specs.Sessions.{session, unopened}
-use Rattle.bx_shard.specs.States.{connecting}
+use Rattle.bx_entry.specs.Registry.{Registry, Registered, Judged, PlaceSlot, Waiting, judge, judged_by, kind_for, slot_for, slot_with, rider_for, is_rider, named_by, refusal, hold_of, registry, empty_registry, entries_of, unnamed, sessionless_kind, Ready}
+use Rattle.bx_entry.specs.declared.entry.Rider.{Rider}
+use Rattle.bx_entry.specs.Sessions.{rider_of, session, unopened}
+use Rattle.bx_shard.specs.States.{connecting, riding}
+use Rattle.bx_shard.proofs.Rides.{rider_of_none}
 use Rattle.bx_theory.specs.Laws.{PlacesFrom}
 use Rattle.bx_theory.proofs.Runs.{EachEntry}
-use Rattle.bx_theory.proofs.Places.{Only, Allowed, run_only, only_unopened}
+use Rattle.bx_theory.proofs.Places.{Only, Allowed, AllowedRide, run_only, only_unopened}
 use Rattle.bx_theory.proofs.Lists.{entries_in_order}
 
 abbrev WaitsBy : PlaceSlot → EntryKind → Type 0
@@ -31,22 +33,35 @@ WaitsBy slot (Disconnect n) = Unit {0}
 WaitsBy slot Refused = Unit {0}
 WaitsBy slot (entries.Tick numbers) = Unit {0}
 
+-- so does that of a rider
+abbrev RidesBy : PlaceSlot → Option Rider → Type 0
+RidesBy slot None = Unit {0}
+RidesBy slot (Some rider) = slot ≡ Waiting rider.session
+
+abbrev WaitsFor : Judged → Type 0
+WaitsFor j = WaitsBy j.slot j.entry.kind × RidesBy j.slot j.entry.rides
+
 abbrev EachWaits : List Judged → Type 0
 EachWaits [] = Unit {0}
-EachWaits (j ∷ js) = WaitsBy j.slot j.entry.kind × EachWaits js
+EachWaits (j ∷ js) = WaitsFor j × EachWaits js
 
-waits_push : (js : List Judged) (j : Judged) → EachWaits js → WaitsBy j.slot j.entry.kind → EachWaits (js ++ j ∷ [])
+waits_push : (js : List Judged) (j : Judged) → EachWaits js → WaitsFor j → EachWaits (js ++ j ∷ [])
 waits_push [] j d h = (h, tt)
 waits_push (i ∷ js) j d h = (d.0, waits_push js j d.1 h)
 
-served_waits : (config : Config) (c : MessageKind) (p : Posted) (s : Registered) (hold : ℕ) → WaitsBy (slot_for config c p s) (kind_for c p s hold)
-served_waits config MessageKind.Handshake p s hold = tt
-served_waits config MessageKind.Connect p s hold = refl
-served_waits config MessageKind.Subscribe p s hold = tt
-served_waits config MessageKind.Unsubscribe p s hold = tt
-served_waits config MessageKind.Disconnect p s hold = tt
-served_waits config MessageKind.Publish p s hold = tt
-served_waits config MessageKind.UnknownMeta p s hold = tt
+served_waits : (config : Config) (b : Bool) (c : MessageKind) (p : Posted) (s : Registered) (hold : ℕ) → WaitsBy (slot_with (rider_for b s.number (slot_for config c p s)) (slot_for config c p s)) (kind_for c p s hold)
+served_waits config b MessageKind.Handshake p s hold = tt
+served_waits config true MessageKind.Connect p s hold = refl
+served_waits config false MessageKind.Connect p s hold = refl
+served_waits config b MessageKind.Subscribe p s hold = tt
+served_waits config b MessageKind.Unsubscribe p s hold = tt
+served_waits config b MessageKind.Disconnect p s hold = tt
+served_waits config b MessageKind.Publish p s hold = tt
+served_waits config b MessageKind.UnknownMeta p s hold = tt
+
+slot_rides : (rides : Option Rider) (slot : PlaceSlot) → RidesBy (slot_with rides slot) rides
+slot_rides None slot = tt
+slot_rides (Some rider) slot = refl
 
 sessionless_waits : (reply : Reply) (c : MessageKind) (m : Message) → WaitsBy (Ready reply) (sessionless_kind c m)
 sessionless_waits reply MessageKind.Handshake m = tt
@@ -58,17 +73,19 @@ sessionless_waits reply MessageKind.Publish m = tt
 sessionless_waits reply MessageKind.UnknownMeta m = tt
 
 unnamed_waits : (config : Config) (r : Registry) (moment : ℕ) (p : Posted) (b : Bool) → EachWaits r.judged → EachWaits (unnamed config r moment p b).judged
-unnamed_waits config r moment p true d = waits_push r.judged _ d tt
-unnamed_waits config r moment p false d = waits_push r.judged _ d (sessionless_waits _ (message_kind_of p.message.channel) p.message)
+unnamed_waits config r moment p true d = waits_push r.judged _ d (tt, tt)
+unnamed_waits config r moment p false d = waits_push r.judged _ d (sessionless_waits _ (message_kind_of p.message.channel) p.message, tt)
 
 judged_by_waits : (config : Config) (r : Registry) (moment : ℕ) (p : Posted) (sender : Option Registered) (error : Option Error) → EachWaits r.judged → EachWaits (judged_by config r moment p sender error).judged
-judged_by_waits config r moment p sender (Some error) d = waits_push r.judged _ d tt
+judged_by_waits config r moment p sender (Some error) d = waits_push r.judged _ d (tt, tt)
 judged_by_waits config r moment p None None d = unnamed_waits config r moment p (is_handshake p.message) d
-judged_by_waits config r moment p (Some s) None d = waits_push r.judged _ d (served_waits config (message_kind_of p.message.channel) p s (hold_of config p))
+judged_by_waits config r moment p (Some s) None d =
+    let c : MessageKind = message_kind_of p.message.channel in
+    waits_push r.judged _ d (served_waits config (is_rider config r.senders c p s) c p s (hold_of config p), slot_rides (rider_for (is_rider config r.senders c p s) s.number (slot_for config c p s)) (slot_for config c p s))
 
 judge_waits : (config : Config) (r : Registry) (x : Listed) → EachWaits r.judged → EachWaits (judge config r x).judged
 judge_waits config r (Post p) d = judged_by_waits config r (max r.clock p.moment) p (named_by r.sessions (message_kind_of p.message.channel) p.message) (refusal config r.sessions p) d
-judge_waits config r (messages.Tick moment) d = waits_push r.judged _ d tt
+judge_waits config r (messages.Tick moment) d = waits_push r.judged _ d (tt, tt)
 
 run_waits : (config : Config) (r : Registry) (xs : List Listed) → EachWaits r.judged → EachWaits (fold (judge config) r xs).judged
 run_waits config r [] d = d
@@ -88,6 +105,10 @@ allowed_by P number place slot (Disconnect n) w h = tt
 allowed_by P number place slot Refused w h = tt
 allowed_by P number place slot (entries.Tick numbers) w h = tt
 
+rides_allowed : (P : ℕ → Type 0) (number place : ℕ) (slot : PlaceSlot) (rides : Option Rider) → RidesBy slot rides → (slot ≡ Waiting number → P place) → AllowedRide P number place rides
+rides_allowed P number place slot None w h = tt
+rides_allowed P number place slot (Some rider) w h = λ e. h (w ∙ ap Waiting (eqb-true rider.session number e))
+
 entry_of : Judged → Entry
 entry_of j = j.entry
 
@@ -98,14 +119,21 @@ got_here (i ∷ front) rest j = got_here front rest j
 waits_here : (number : ℕ) (front rest : List Judged) (j : Judged) → j.entry.place ≡ length front → j.slot ≡ Waiting number → WaitsAt (front ++ j ∷ rest) number j.entry.place
 waits_here number front rest j p w = ap (λ (k : ℕ). option_map (λ (i : Judged). i.slot) (slice_get (front ++ j ∷ rest) k)) p ∙ ap (option_map (λ (i : Judged). i.slot)) (got_here front rest j) ∙ ap Some w
 
+-- the entry is one that a session of this number may answer at places like its own
+abbrev AllowedBy : (ℕ → Type 0) → ℕ → Entry → Type 0
+AllowedBy P number e = Allowed P number e.place e.kind × AllowedRide P number e.place e.rides
+
 allowed_from : (number : ℕ) (front rest : List Judged) → EachWaits rest → PlacesFrom (length front) (map (λ (j : Judged). j.entry) rest) →
-    EachEntry (λ e. Allowed (WaitsAt (front ++ rest) number) number e.place e.kind) (map (λ (j : Judged). j.entry) rest)
+    EachEntry (AllowedBy (WaitsAt (front ++ rest) number) number) (map (λ (j : Judged). j.entry) rest)
 allowed_from number front [] w d = tt
 allowed_from number front (j ∷ rest) w d =
     let whole : (front ++ j ∷ []) ++ rest ≡ front ++ j ∷ rest = append_assoc front (j ∷ []) rest in
     let next : PlacesFrom (length (front ++ j ∷ [])) (map (λ (i : Judged). i.entry) rest) = subst (λ (k : ℕ). PlacesFrom k (map (λ (i : Judged). i.entry) rest)) (sym (length_push front j)) d.1 in (
-      allowed_by (WaitsAt (front ++ j ∷ rest) number) number j.entry.place j.slot j.entry.kind w.0 (waits_here number front rest j d.0),
-      subst (λ (js : List Judged). EachEntry (λ e. Allowed (WaitsAt js number) number e.place e.kind) (map (λ (i : Judged). i.entry) rest)) whole (allowed_from number (front ++ j ∷ []) rest w.1 next),
+      (
+        allowed_by (WaitsAt (front ++ j ∷ rest) number) number j.entry.place j.slot j.entry.kind w.0.0 (waits_here number front rest j d.0),
+        rides_allowed (WaitsAt (front ++ j ∷ rest) number) number j.entry.place j.slot j.entry.rides w.0.1 (waits_here number front rest j d.0),
+      ),
+      subst (λ (js : List Judged). EachEntry (AllowedBy (WaitsAt js number) number) (map (λ (i : Judged). i.entry) rest)) whole (allowed_from number (front ++ j ∷ []) rest w.1 next),
     )
 
 -- each connect that the session answered has a slot that waits for it
@@ -129,9 +157,31 @@ slot_waits slot (entries.Tick numbers) m w h = cc
 
 judged_waits : (js : List Judged) (n m : ℕ) (e : Entry) → EachWaits js → slice_get (map (λ (j : Judged). j.entry) js) n ≡ Some e → connecting e.kind ≡ Some m → WaitsAt js m n
 judged_waits [] n m e w h k = absurd (let no : None ≡ Some e = h in cc)
-judged_waits (j ∷ js) zero m e w h k = let same : j.entry ≡ e = cc in ap Some (slot_waits j.slot j.entry.kind m w.0 (ap (λ (x : Entry). connecting x.kind) same ∙ k))
+judged_waits (j ∷ js) zero m e w h k = let same : j.entry ≡ e = cc in ap Some (slot_waits j.slot j.entry.kind m w.0.0 (ap (λ (x : Entry). connecting x.kind) same ∙ k))
 judged_waits (j ∷ js) (suc n) m e w h k = judged_waits js n m e w.1 h k
 
 -- the slot at the place of a connect waits for its session
 pub connect_waits : (config : Config) (xs : List Listed) (n m : ℕ) (e : Entry) → slice_get (entries_of (registry config xs)) n ≡ Some e → connecting e.kind ≡ Some m → WaitsAt (registry config xs).judged m n
 connect_waits config xs n m e h k = judged_waits (registry config xs).judged n m e (run_waits config empty_registry xs tt) h k
+
+-- ---- the slot of a rider
+
+ride_waits : (slot : PlaceSlot) (kind : EntryKind) (rides : Option Rider) (m : ℕ) → RidesBy slot rides → riding (rider_of kind rides) ≡ Some m → slot ≡ Waiting m
+ride_waits slot kind None m w h = absurd (let no : None ≡ Some m = sym (ap riding (rider_of_none kind)) ∙ h in cc)
+ride_waits slot (Opened n ack) (Some rider) m w h = absurd (let no : None ≡ Some m = h in cc)
+ride_waits slot (Connect n client id acked hold) (Some rider) m w h = absurd (let no : None ≡ Some m = h in cc)
+ride_waits slot (Subscribe n ps) (Some rider) m w h = let one : Some rider.session ≡ Some m = h in (let same : rider.session ≡ m = cc in w ∙ ap Waiting same)
+ride_waits slot (Unsubscribe n ps) (Some rider) m w h = let one : Some rider.session ≡ Some m = h in (let same : rider.session ≡ m = cc in w ∙ ap Waiting same)
+ride_waits slot (Publish e) (Some rider) m w h = let one : Some rider.session ≡ Some m = h in (let same : rider.session ≡ m = cc in w ∙ ap Waiting same)
+ride_waits slot (Disconnect n) (Some rider) m w h = absurd (let no : None ≡ Some m = h in cc)
+ride_waits slot Refused (Some rider) m w h = absurd (let no : None ≡ Some m = h in cc)
+ride_waits slot (entries.Tick numbers) (Some rider) m w h = absurd (let no : None ≡ Some m = h in cc)
+
+judged_rides : (js : List Judged) (n m : ℕ) (e : Entry) → EachWaits js → slice_get (map (λ (j : Judged). j.entry) js) n ≡ Some e → riding (rider_of e.kind e.rides) ≡ Some m → WaitsAt js m n
+judged_rides [] n m e w h k = absurd (let no : None ≡ Some e = h in cc)
+judged_rides (j ∷ js) zero m e w h k = let same : j.entry ≡ e = cc in ap Some (ride_waits j.slot j.entry.kind j.entry.rides m w.0.1 (ap (λ (x : Entry). riding (rider_of x.kind x.rides)) same ∙ k))
+judged_rides (j ∷ js) (suc n) m e w h k = judged_rides js n m e w.1 h k
+
+-- the slot at the place of a rider waits for its session
+pub rider_waits : (config : Config) (xs : List Listed) (n m : ℕ) (e : Entry) → slice_get (entries_of (registry config xs)) n ≡ Some e → riding (rider_of e.kind e.rides) ≡ Some m → WaitsAt (registry config xs).judged m n
+rider_waits config xs n m e h k = judged_rides (registry config xs).judged n m e (run_waits config empty_registry xs tt) h k

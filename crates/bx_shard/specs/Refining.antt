@@ -29,13 +29,13 @@ filed_with_place None = None
 filed_with_place (Some (states.Held session deadline waker)) = None
 filed_with_place (Some (states.Filed session place answer)) = Some (placed place answer)
 
--- the message at a place of the list is an accepted connect of a session that stands in the shard
+-- the message at a place of the list is an accepted connect, or a rider, of a session that stands in the shard
 pub record IsConnectOf (setup : Setup) (list : List Listed) (shard place : ℕ) : Type 0 where
   pub session : ℕ
   pub waits : option_map (λ (j : Judged). j.slot) (slice_get (registry setup.config list).judged place) ≡ Some (Waiting session)
   pub stands : stands_in setup shard session ≡ true
 
--- the message at a place of the list is an accepted connect of this session, which stands in the shard
+-- the message at a place of the list is an accepted connect, or a rider, of this session, which stands in the shard
 pub record IsOwn (setup : Setup) (list : List Listed) (shard place session : ℕ) : Type 0 where
   pub waits : option_map (λ (j : Judged). j.slot) (slice_get (registry setup.config list).judged place) ≡ Some (Waiting session)
   pub stands : stands_in setup shard session ≡ true

@@ -1,5 +1,5 @@
 -- A shard as the program holds it, and what one entry does to it.
-use Rattle.std.specs.Prelude.{ℕ, ◌⊎◌, ◌+◌, ◌==◌, ◌&&◌, ◌≡◌, ◌≢◌, ◌≤◌, Bool, true, false, List, if◌then◌else◌, nat_eq, option_map, Option, Some, None, is_some, Contains}
+use Rattle.std.specs.Prelude.{ℕ, ◌⊎◌, ◌+◌, ◌==◌, ◌&&◌, ◌≡◌, ◌≢◌, ◌≤◌, Bool, true, false, List, if◌then◌else◌, nat_eq, option_map, Option, Some, None, is_some, is_none, Contains}
 use Rattle.std.specs.List.{list_any}
 use Rattle.std.specs.Option.{option_and_then, option_or}
 use Rattle.bx_advice.specs.declared.config.Config.{Config}
@@ -7,7 +7,8 @@ use Rattle.bx_entry.specs.declared.entry.Entry.{Entry}
 use Rattle.bx_entry.specs.declared.entry.EntryKind.{EntryKind}
 use Rattle.bx_entry.specs.declared.entry.EntryKind.TheVariants.{Opened, Connect, Subscribe, Unsubscribe, Publish, Disconnect, Refused, Tick}
 use Rattle.bx_entry.specs.Keeping.{Kept, kept, kept_step}
-use Rattle.bx_entry.specs.Sessions.{is_live, step, unopened}
+use Rattle.bx_entry.specs.Sessions.{is_live, rider_of, step, unopened}
+use Rattle.bx_entry.specs.declared.entry.Rider.{Rider}
 use Rattle.bx_session.specs.declared.answered.Answered.{Answered}
 use Rattle.bx_session.specs.Views.{pending}
 use Rattle.bx_connects.specs.declared.connects.ConnectState.{ConnectState}
@@ -85,6 +86,10 @@ pub record Files (place : ℕ) (Given : ℕ → Answered → Type 0) (old new : 
   pub given : (n : ℕ) (a : Answered) → Given n a → new a.place ≡ Some (Filed n place a.answer)
   pub kept : (p : ℕ) → ((n : ℕ) (a : Answered) → Given n a → a.place ≢ p) → new p ≡ old p
 
+-- the session whose rider it is
+abbrev pub riding : Option Rider → Option ℕ
+riding rides = option_map (λ (r : Rider). r.session) rides
+
 -- the session of which an entry of this kind is a connect, if it is one
 abbrev pub connecting : EntryKind → Option ℕ
 connecting (Opened m ack) = None
@@ -96,10 +101,10 @@ connecting (Disconnect m) = None
 connecting Refused = None
 connecting (Tick numbers) = None
 
--- the entry is the connect at this place, of this one of the sessions
+-- the entry is the connect or the rider at this place, of this one of the sessions
 pub record Connects (sessions : ℕ → Option Kept) (e : Entry) (p m : ℕ) : Type 0 where
   pub place : e.place ≡ p
-  pub session : connecting e.kind ≡ Some m
+  pub session : (connecting e.kind ≡ Some m) ⊎ (riding (rider_of e.kind e.rides) ≡ Some m)
   pub here : is_some (sessions m) ≡ true
 
 -- a connect that is known has the session that it had, or is the entry itself
@@ -174,13 +179,17 @@ pub record WasShut (old new : State) : Type 0 where
   pub sessions : (n : ℕ) → session_in new n ≡ session_in old n
   pub connects : (p : ℕ) → connect_in new p ≡ option_map unwatched (connect_in old p)
 
--- whether an entry of this kind is applied without taking memory
-abbrev pub takes_no_memory : EntryKind → Bool
-takes_no_memory (Opened m ack) = false
-takes_no_memory (Connect m client id acked hold) = false
-takes_no_memory (Subscribe m patterns) = false
-takes_no_memory (Unsubscribe m patterns) = true
-takes_no_memory (Publish event) = false
-takes_no_memory (Disconnect m) = true
-takes_no_memory Refused = true
-takes_no_memory (Tick numbers) = true
+-- whether an entry of this kind is applied without taking memory, where it is no rider
+abbrev pub takes_none_by : EntryKind → Bool
+takes_none_by (Opened m ack) = false
+takes_none_by (Connect m client id acked hold) = false
+takes_none_by (Subscribe m patterns) = false
+takes_none_by (Unsubscribe m patterns) = true
+takes_none_by (Publish event) = false
+takes_none_by (Disconnect m) = true
+takes_none_by Refused = true
+takes_none_by (Tick numbers) = true
+
+-- whether an entry is
+abbrev pub takes_no_memory : Entry → Bool
+takes_no_memory e = is_none (rider_of e.kind e.rides) && takes_none_by e.kind

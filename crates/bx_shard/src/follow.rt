@@ -1,9 +1,9 @@
-//! Each kind of entry, as the sessions of a shard follow it.
+//! Each entry, as the sessions of a shard follow it.
 ghost use Rattle.std.specs.Prelude.{◌≡◌, ◌≤◌, ◌<◌, ℕ, true, None, OnOk, OnErr, IsOk};
 ghost use Rattle.bx_connects.specs.Connects.{connect_at};
-ghost use Rattle.bx_shard.specs.Following.{Followed};
+ghost use Rattle.bx_shard.specs.Following.{Followed, alone, rides_of};
 ghost use Rattle.bx_shard.specs.Sessions.{AreCountable, AreCounted, AreHeld, kept_in};
-ghost use Rattle.bx_shard.specs.States.{takes_no_memory};
+ghost use Rattle.bx_shard.specs.States.{takes_no_memory, takes_none_by};
 
 use crate::sessions::Sessions;
 use bx_entry::{Entry, EntryKind};
@@ -11,8 +11,8 @@ use bx_session::PendingConnect;
 use std::alloc::{AllocError, Global};
 
 impl Sessions {
-    /// Does what an entry says; `stands` tells whether a session that it opens stands here. Where memory is refused
-    /// nothing changes that can be seen.
+    /// Does what an entry says; `stands` tells whether a session that it opens stands here. A rider is answered behind the
+    /// rest. Where memory is refused nothing changes that can be seen.
     pub(crate) fn follow(
         &mut self,
         alloc: Global,
@@ -26,7 +26,33 @@ impl Sessions {
         ensures done { OnOk result (Followed stands entry.now self.old self.new) }
         ensures refused { OnErr result (((n : ℕ) → kept_in self.new n ≡ kept_in self.old n)
             × ((p : ℕ) → connect_at self.new.connects p ≡ connect_at self.old.connects p)) }
-        ensures free { takes_no_memory entry.now.kind ≡ true → IsOk result }
+        ensures free { takes_no_memory entry.now ≡ true → IsOk result }
+        ensures counted { AreCounted self.new }
+        ensures held { AreHeld self.new }
+        ensures config { self.new.config ≡ self.old.config }
+    {
+        let Some(rider) = self.rider_here(entry) else {
+            return self.follow_alone(alloc, entry, stands);
+        };
+        let room = self.prepare_ride(alloc, entry.place, rider)?;
+        if let Err(error) = self.follow_alone(alloc, entry, stands) {
+            self.connects.forget(entry.place);
+            return Err(error);
+        }
+        self.ride(entry.place, rider.session, room);
+        Ok(())
+    }
+
+    // Does what an entry says, but for its rider.
+    fn follow_alone(&mut self, alloc: Global, entry: &Entry, stands: bool) -> Result<(), AllocError>
+        requires fresh { rides_of entry.now ≡ None → connect_at self.old.connects entry.now.place ≡ None }
+        requires counted { AreCounted self.old }
+        requires held { AreHeld self.old }
+        requires countable { AreCountable self.old }
+        ensures done { OnOk result (Followed stands (alone entry.now) self.old self.new) }
+        ensures refused { OnErr result (((n : ℕ) → kept_in self.new n ≡ kept_in self.old n)
+            × ((p : ℕ) → connect_at self.new.connects p ≡ connect_at self.old.connects p)) }
+        ensures free { takes_none_by entry.now.kind ≡ true → IsOk result }
         ensures counted { AreCounted self.new }
         ensures held { AreHeld self.new }
         ensures config { self.new.config ≡ self.old.config }

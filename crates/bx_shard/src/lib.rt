@@ -5,6 +5,7 @@ mod follow;
 mod laws;
 mod patterns;
 mod publish;
+mod ride;
 mod sessions;
 mod shard;
 mod tick;

@@ -87,13 +87,13 @@ impl<P: Placing> Shard<P> {
 
     /// Applies the next entry of the list, which has at most 2^62. Where memory is refused the shard is as before,
     /// however many sessions the entry reaches. An unsubscription, a disconnect, a refused message and a tick take no
-    /// memory.
+    /// memory, unless it is a rider.
     pub fn apply(&mut self, alloc: Global, entry: &Entry) -> Result<(), AllocError>
         requires next { entry.now.place ≡ self.old.place }
         requires end { entry.now.place < greatest_length }
         ensures done { OnOk result (Applied (state P.place_of self.old) entry.now (state P.place_of self.new)) }
         ensures refused { OnErr result (IsAsBefore (state P.place_of self.old) (state P.place_of self.new)) }
-        ensures free { takes_no_memory entry.now.kind ≡ true → IsOk result }
+        ensures free { takes_no_memory entry.now ≡ true → IsOk result }
         ensures sound { IsSound (state P.place_of self.new) }
     {
         let stands = self.opens_here(&entry.kind);

@@ -1,7 +1,10 @@
 //! One shard by what whoever waits for its answers sees: which wakers are woken and when, and which answers are there.
-use bx_advice::Config;
-use bx_entry::{ByRemainder, Entry, EntryKind, Ticket};
-use bx_message::{Event, RawJson, Sequence, SharedEvent, Text, event_text, reply_text};
+use bx_advice::{Config, Outcome};
+use bx_entry::{ByRemainder, Entry, EntryKind, Rider, Ticket};
+use bx_message::{
+    AckReply, Event, MessageKind, RawJson, Reply, Sequence, SharedEvent, Text, event_text,
+    reply_text,
+};
 use bx_names::{ChannelName, Pattern};
 use bx_shard::{Shard, Watch};
 use futures::task::{Poll, Source, Waker};
@@ -22,6 +25,8 @@ pub enum Deed {
     Connect(u64),
     /// A channel; the data is 7.
     Publish(&'static str),
+    /// The same, with a rider of this session.
+    Ride(u64, &'static str),
 }
 
 // Two sessions, of which the first subscribes and connects.
@@ -90,8 +95,26 @@ pub fn kind(alloc: Global, deed: Deed) -> Result<EntryKind, Fail> {
         }),
         Deed::Subscribe(session, pattern) => subscribe(alloc, session, pattern),
         Deed::Connect(session) => Ok(connect(alloc, session)?),
-        Deed::Publish(channel) => Ok(publish(alloc, channel)?),
+        Deed::Publish(channel) | Deed::Ride(_, channel) => Ok(publish(alloc, channel)?),
     }
+}
+
+// The rider of the entry.
+fn rides(alloc: Global, deed: Deed) -> Result<Option<Rider>, AllocError> {
+    let Deed::Ride(session, channel) = deed else {
+        return Ok(None);
+    };
+    let reply = Reply {
+        message_kind: MessageKind::Publish,
+        channel: Text::new(alloc, channel)?,
+        client: None,
+        id: None,
+        subscription: None,
+        outcome: Outcome::Done,
+        advice: None,
+        ack: AckReply::NoAck,
+    };
+    Ok(Some(Rider { session, reply }))
 }
 
 // Applies entries that say this.
@@ -106,6 +129,7 @@ fn apply(alloc: Global, shard: &mut Shard<ByRemainder>, deeds: &[Deed]) -> Resul
             place,
             moment: 0,
             kind,
+            rides: rides(alloc, *deed)?,
         };
         shard.apply(alloc, &entry)?;
     }
@@ -214,6 +238,40 @@ fn check_answered<R: Abort>(
     assert!(rt; shard.take(ticket(3)).is_none());
     assert!(rt; matches!(watch(shard, 3, task)?, Watch::Unknown(_)));
     Ok(())
+}
+
+// A session that is subscribed, an event that waits for it, and at place 3 a rider of it that publishes another one.
+const RIDDEN: [Deed; 4] = [
+    Deed::Open(1),
+    Deed::Subscribe(1, "/a/*"),
+    Deed::Publish("/a/b"),
+    Deed::Ride(1, "/a/c"),
+];
+
+// What answers the rider.
+const RIDE: &str =
+    r#"{"channel":"/a/b","data":7}{"channel":"/a/c","data":7}{"channel":"/a/c","successful":true}"#;
+
+// A rider is given what waits and what it publishes itself, once; a connect at place 4 then finds nothing, and waits.
+fn check_ridden<R: Abort>(
+    rt: &R,
+    alloc: Global,
+    shard: &mut Shard<ByRemainder>,
+    task: &MockTask,
+) -> Result<(), Fail> {
+    assert!(rt; matches!(watch(shard, 3, task)?, Watch::Ready(_)));
+    let answer = taken(alloc, shard, 3)?.ok_or("no answer")?;
+    assert_eq!(rt; answer.as_slice(), RIDE.as_bytes());
+    assert!(rt; shard.take(ticket(3)).is_none());
+    apply(alloc, shard, &[Deed::Connect(1)])?;
+    check_stored(rt, shard, 4, task)
+}
+
+#[test]
+fn a_rider_is_given_what_waits(rt: HostRuntime) -> Result<(), Fail> {
+    let alloc = rt.alloc();
+    let task = MockTask::new(&rt)?;
+    check_ridden(&rt, alloc, &mut shard(alloc, &RIDDEN)?, &task)
 }
 
 #[test]

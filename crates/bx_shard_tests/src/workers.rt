@@ -29,6 +29,7 @@ fn add(entries: &mut Vec<Entry>, kind: EntryKind) -> Result<(), AllocError>
         place: entries.len() as u64,
         moment: 0,
         kind,
+        rides: None,
     };
     entries.push(entry)?;
     Ok(())

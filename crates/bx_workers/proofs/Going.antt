@@ -55,7 +55,7 @@ module _ {P : Type 0} (place_of : P → ℕ → ℕ → ℕ) (es : List Entry) w
 
   -- so many that it lacked, and an entry for which memory can be refused is next, if one is
   pub goes_far : (n : ℕ) (old new : Shard P) → Goes place_of es n old new → n ≤ length (drop (old.place - first_of es) es) →
-      ((e : Entry) → slice_get es (new.place - first_of es) ≡ Some e → takes_no_memory e.kind ≡ false) → IsWithin es old → WentOn place_of es old new
+      ((e : Entry) → slice_get es (new.place - first_of es) ≡ Some e → takes_no_memory e ≡ false) → IsWithin es old → WentOn place_of es old new
   goes_far n old new g most stopped inside = record {
     onward = omega (arith, g.place);
     within = λ _ some. let len : length (drop (old.place - first_of es) es) ≡ length es - (old.place - first_of es) = length-drop (old.place - first_of es) es in
@@ -83,16 +83,16 @@ free_at_err true free = sym (free refl)
 free_at_err false free = refl
 
 -- a shard that stays before an entry for which memory can be refused
-pub stays : {P : Type 0} (es : List Entry) (mid new : Shard P) (e : Entry) → slice_get es (mid.place - first_of es) ≡ Some e → new.place ≡ mid.place → (takes_no_memory e.kind ≡ true → false ≡ true) →
-    (x : Entry) → slice_get es (new.place - first_of es) ≡ Some x → takes_no_memory x.kind ≡ false
+pub stays : {P : Type 0} (es : List Entry) (mid new : Shard P) (e : Entry) → slice_get es (mid.place - first_of es) ≡ Some e → new.place ≡ mid.place → (takes_no_memory e ≡ true → false ≡ true) →
+    (x : Entry) → slice_get es (new.place - first_of es) ≡ Some x → takes_no_memory x ≡ false
 stays es mid new e there same free x at =
     let here : slice_get es (mid.place - first_of es) ≡ Some x = subst (λ (p : ℕ). slice_get es (p - first_of es) ≡ Some x) same at in
     let one : e ≡ x = same_Some e x (sym there ∙ here) in
-    subst (λ (y : Entry). takes_no_memory y.kind ≡ false) one (free_at_err (takes_no_memory e.kind) free)
+    subst (λ (y : Entry). takes_no_memory y ≡ false) one (free_at_err (takes_no_memory e) free)
 
 -- behind the last entry no entry is next
 pub ended : {P : Type 0} (es : List Entry) (old new : Shard P) (n : ℕ) → IsWithin es old → new.place ≡ old.place + n → length (drop (old.place - first_of es) es) ≤ n →
-    (x : Entry) → slice_get es (new.place - first_of es) ≡ Some x → takes_no_memory x.kind ≡ false
+    (x : Entry) → slice_get es (new.place - first_of es) ≡ Some x → takes_no_memory x ≡ false
 ended es old new n inside at past x there =
     let len : length (drop (old.place - first_of es) es) ≡ length es - (old.place - first_of es) = length-drop (old.place - first_of es) es in
     let below : new.place - first_of es < length es = slice_get_within es (new.place - first_of es) x there in

@@ -49,7 +49,7 @@ pub record WentOn {P : Type 0} (place_of : P → ℕ → ℕ → ℕ) (es : List
   pub shut : new.is_shut ≡ old.is_shut
   pub holds : (setup : Setup) (list : List Listed) (taken : List ℕ) (k : ℕ) → 0 < setup.config.limits.batch → AreOf setup list es →
       Refines setup list taken k old.place (state place_of old) → Refines setup list taken k new.place (state place_of new)
-  pub stopped : (e : Entry) → slice_get es (new.place - first_of es) ≡ Some e → takes_no_memory e.kind ≡ false
+  pub stopped : (e : Entry) → slice_get es (new.place - first_of es) ≡ Some e → takes_no_memory e ≡ false
 
 -- ---- many shards
 

@@ -1,0 +1,503 @@
+-- A rider is answered behind the rest of its entry.
+use Rattle.std.proofs.Common.{Contains, arith, ◌≡◌, ◌≢◌, ◌≤◌, ◌+◌, ◌&&◌, ◌⊎◌, inl, inr, ⊎_elim, ℕ, min, nat_eq, ◌==◌, Bool, true, false, cond, Option, Some, None, option_map, IfSome, is_none, is_some, List, [], ◌∷◌, ◌++◌, length, map, take, refl, sym, ap, ◌∙◌, subst, true≢false}
+use Rattle.std.specs.Option.{option_and_then, option_or}
+use Rattle.std.proofs.lemmas.Bool.{and_parts, both_ways, cond_both, cond-true, cond-false, eqb-true, eq-eqb}
+use Rattle.std.proofs.lemmas.List.{length_push, map-append}
+use Rattle.std.proofs.lemmas.List.Elements.{Contains-append_cases, Contains-append_left, Contains-append_right}
+use Rattle.bx_lists.proofs.Tests.{either}
+use Rattle.bx_names.specs.Globs.{Glob}
+use Rattle.bx_advice.specs.declared.config.Config.{Config}
+use Rattle.bx_message.specs.declared.event.Event.{Event}
+use Rattle.bx_entry.specs.declared.entry.Entry.{Entry}
+use Rattle.bx_entry.specs.declared.entry.EntryKind.{EntryKind}
+use Rattle.bx_entry.specs.declared.entry.EntryKind.TheVariants.{Opened, Connect, Subscribe, Unsubscribe, Publish, Disconnect, Refused, Tick}
+use Rattle.bx_entry.specs.declared.entry.Rider.{Rider}
+use Rattle.bx_entry.specs.Answers.{events_of}
+use Rattle.bx_entry.specs.Keeping.{Kept, after, kept, resumed}
+use Rattle.bx_entry.specs.Sessions.{Filed, Live, Pending, Publication, Session, Stage, delivered, gives_one, has_room, is_hit, is_live, is_riding, overflowed, delivered_to, published, received, ridden, ridden_by, ride_filing, ride_portion, rider_of, step, step_by, subscribed, unheld, unsubscribed, with_event}
+use Rattle.bx_session.specs.declared.answered.Answered.{Answered}
+use Rattle.bx_session.specs.Views.{answered_of, ride_most}
+use Rattle.bx_connects.specs.declared.connects.ConnectState.{ConnectState}
+use Rattle.bx_connects.specs.declared.connects.ConnectState.TheVariants as states
+use Rattle.bx_connects.specs.Connects.{completed, connect_at, session_at}
+use Rattle.bx_shard.specs.declared.sessions.Sessions.{Sessions}
+use Rattle.bx_shard.specs.Effects.{answers_by}
+use Rattle.bx_shard.specs.Following.{Followed, alone, completed_by, given_up, rider_in, rides_of, unridden}
+use Rattle.bx_shard.specs.Sessions.{AreCounted, AreHeld, IsCounted, IsOwn, ends_for, held_until, holds_until, kept_in, patterns_in}
+use Rattle.bx_shard.specs.States.{Connects, Files, IsGiven, begun, connecting, if_live, opening, riding, session_after}
+use Rattle.bx_theory.proofs.Counts.{subscribed_by}
+use Rattle.bx_theory.proofs.Keeps.{Keeps, delivered_to_k}
+use Rattle.bx_theory.proofs.Stages.{step_by_next}
+use Rattle.bx_shard.proofs.Followed.{at_number, live_there, none_here}
+use Rattle.bx_shard.proofs.Gives.{HoldsIt, holds_ends, rider_due}
+use Rattle.bx_shard.proofs.Rides.{rider_of_none}
+use Rattle.bx_shard.proofs.Ties.{Agree, still}
+use Rattle.bx_shard.proofs.Singles.{nowhere, only_one, the_one}
+
+-- ---- what kinds of entries ride
+
+-- an entry without its rider is one of its kind
+pub alone_step : (config : Config) (s : Session) (e : Entry) → step config s (alone e) ≡ step_by config e.place e.moment s e.kind
+alone_step config s e = ap (ridden_by config e.place (step_by config e.place e.moment s e.kind)) (rider_of_none e.kind)
+
+module _ (kind : EntryKind) (rides : Option Rider) (rider : Rider) (is : rider_of kind rides ≡ Some rider) where
+  -- it opens no session
+  rider_opens : (stands : Bool) (n : ℕ) → opening stands kind n ≡ None
+  rider_opens stands n = by kind is
+    where
+      by : (k : EntryKind) → rider_of k rides ≡ Some rider → opening stands k n ≡ None
+      by (Opened m ack) h = absurd (let no : None ≡ Some rider = h in cc)
+      by (Connect m client id acked hold) h = refl
+      by (Subscribe m ps) h = refl
+      by (Unsubscribe m ps) h = refl
+      by (Publish event) h = refl
+      by (Disconnect m) h = refl
+      by Refused h = refl
+      by (Tick numbers) h = refl
+
+  -- and begins no connect
+  rider_begins : (sessions : ℕ → Option Kept) (connects : ℕ → Option ConnectState) (e : Entry) (p : ℕ) → begun sessions connects e kind p ≡ connects p
+  rider_begins sessions connects e p = by kind is
+    where
+      by : (k : EntryKind) → rider_of k rides ≡ Some rider → begun sessions connects e k p ≡ connects p
+      by (Opened m ack) h = refl
+      by (Connect m client id acked hold) h = absurd (let no : None ≡ Some rider = h in cc)
+      by (Subscribe m ps) h = refl
+      by (Unsubscribe m ps) h = refl
+      by (Publish event) h = refl
+      by (Disconnect m) h = refl
+      by Refused h = refl
+      by (Tick numbers) h = absurd (let no : None ≡ Some rider = h in cc)
+
+  -- a session stays what it was
+  rider_stays : (config : Config) (place moment : ℕ) (s : Session) → (step_by config place moment s kind).stage ≡ s.stage
+  rider_stays config place moment s = by kind is
+    where
+      by : (k : EntryKind) → rider_of k rides ≡ Some rider → (step_by config place moment s k).stage ≡ s.stage
+      by (Opened m ack) h = absurd (let no : None ≡ Some rider = h in cc)
+      by (Connect m client id acked hold) h = absurd (let no : None ≡ Some rider = h in cc)
+      by (Subscribe m ps) h = (step_by_next config place moment s (Subscribe m ps)).stage
+      by (Unsubscribe m ps) h = (step_by_next config place moment s (Unsubscribe m ps)).stage
+      by (Publish event) h = (step_by_next config place moment s (Publish event)).stage
+      by (Disconnect m) h = absurd (let no : None ≡ Some rider = h in cc)
+      by Refused h = absurd (let no : None ≡ Some rider = h in cc)
+      by (Tick numbers) h = absurd (let no : None ≡ Some rider = h in cc)
+
+  -- ---- room
+
+  -- as much is kept and given as before, but for one event
+  record OneMore (s t : Session) : Type 0 where
+    ack : t.ack ≡ s.ack
+    longer : length t.queue ≤ length s.queue + 1
+
+  one_same : (s : Session) → OneMore s s
+  one_same s = record { ack = refl; longer = omega arith }
+
+  one_gives : (s : Session) → (gives_one s).ack ≡ s.ack
+  one_gives s = cond_both s.ack _ _ (λ (u : Session). u.ack ≡ s.ack) (λ h. refl) (λ h. refl)
+
+  delivered_ack : (config : Config) (e : Publication) (s : Session) (held : Option Pending) → (delivered_to config e s held).ack ≡ s.ack
+  delivered_ack config e s None = refl
+  delivered_ack config e s (Some p) = one_gives (unheld s)
+
+  rider_adds : (config : Config) (place moment : ℕ) (s : Session) → OneMore s (step_by config place moment s kind)
+  rider_adds config place moment s = by kind is
+    where
+      by : (k : EntryKind) → rider_of k rides ≡ Some rider → OneMore s (step_by config place moment s k)
+      by (Opened m ack) h = absurd (let no : None ≡ Some rider = h in cc)
+      by (Connect m client id acked hold) h = absurd (let no : None ≡ Some rider = h in cc)
+      by (Subscribe m ps) h = cond_both (m == s.number) (subscribed config ps s) s (OneMore s)
+          (λ g. subscribed_by config ps s (OneMore s) (one_same s) (record { ack = refl; longer = omega arith }) (record { ack = refl; longer = omega arith })) (λ g. one_same s)
+      by (Unsubscribe m ps) h = cond_both (m == s.number) (unsubscribed ps s) s (OneMore s) (λ g. record { ack = refl; longer = omega arith }) (λ g. one_same s)
+      by (Publish event) h =
+          let e : Publication = record { place = place; event = event } in
+          cond_both (is_hit s event) (received config e s) s (OneMore s)
+          (λ g. cond_both (has_room config s) (delivered config e s) (overflowed s) (OneMore s)
+          (λ r. record {
+            ack = delivered_ack config e (with_event e s) s.held;
+            longer = omega (arith, (delivered_to_k config e (with_event e s) s.held).shorter, length_push s.queue e);
+          })
+          (λ r. record { ack = refl; longer = omega arith }))
+          (λ g. one_same s)
+      by (Disconnect m) h = absurd (let no : None ≡ Some rider = h in cc)
+      by Refused h = absurd (let no : None ≡ Some rider = h in cc)
+      by (Tick numbers) h = absurd (let no : None ≡ Some rider = h in cc)
+
+  -- so the room that was made before is enough behind the entry's own effect
+  rider_fits : (config : Config) (place moment : ℕ) (k : Kept) (room : ℕ) → ride_most config k ≤ room → ride_portion config (step_by config place moment (resumed k) kind) ≤ room
+  rider_fits config place moment k room fits =
+      let t : Session = step_by config place moment (resumed k) kind in
+      let one : OneMore (resumed k) (step_by config place moment (resumed k) kind) = rider_adds config place moment (resumed k) in
+      cond_both t.ack 0 (min config.limits.batch (length t.queue)) (λ (n : ℕ). n ≤ room) (λ h. omega arith)
+      (λ h.
+      let most : min config.limits.batch (length k.queue + 1) ≤ room = subst (λ (b : Bool). cond b 0 (min config.limits.batch (length k.queue + 1)) ≤ room) (sym one.ack ∙ h) fits in
+      let longer : length t.queue ≤ length k.queue + 1 = one.longer in
+      omega (arith, most, longer))
+
+-- ---- one session
+
+-- what a session that is live keeps once it has given a rider what waited
+rode : (config : Config) (place : ℕ) (reply : _) (b : Bool) (t : Session) → t.stage ≡ Live → cond b (Some (given_up config (kept t))) (Some (kept t)) ≡ if_live (kept (cond (b && is_live t.stage) (ridden config place reply t) t))
+rode config place reply true t live =
+    live_there (ridden config place reply t) live
+    ∙ sym (ap (λ (x : Bool). if_live (kept (cond x (ridden config place reply t) t))) (ap is_live live))
+rode config place reply false t live = live_there t live
+
+-- the answers of a session with a rider: those that it gives otherwise, and behind them the rider's
+module _ (config : Config) (place : ℕ) (rider : Rider) where
+  -- the rider's answer
+  abbrev pub ride_answer : Session → Answered
+  ride_answer t = answered_of (ride_filing config place rider.reply t)
+
+  -- what is given otherwise stays given
+  still_given : (t : Session) (a : Answered) → Contains (map answered_of t.answers) a → Contains (map answered_of (ridden_by config place t (Some rider)).answers) a
+  still_given t a there = cond_both (is_riding rider t) (ridden config place rider.reply t) t (λ (u : Session). Contains (map answered_of u.answers) a)
+      (λ h. subst (λ (xs : List Answered). Contains xs a) (sym (map-append answered_of t.answers (ride_filing config place rider.reply t ∷ []))) (Contains-append_left (map answered_of t.answers) (ride_answer t ∷ []) a there))
+      (λ h. there)
+
+  -- the rider's is
+  ride_given : (t : Session) → is_riding rider t ≡ true → Contains (map answered_of (ridden_by config place t (Some rider)).answers) (ride_answer t)
+  ride_given t h =
+      subst (λ (u : Session). Contains (map answered_of u.answers) (ride_answer t)) (sym (cond-true (is_riding rider t) (ridden config place rider.reply t) t h))
+      (subst (λ (xs : List Answered). Contains xs (ride_answer t)) (sym (map-append answered_of t.answers (ride_filing config place rider.reply t ∷ [])))
+      (Contains-append_right (map answered_of t.answers) (ride_answer t ∷ []) (ride_answer t) (the_one (ride_answer t))))
+
+  -- and nothing else is
+  given_cases : (t : Session) (a : Answered) → Contains (map answered_of (ridden_by config place t (Some rider)).answers) a → Contains (map answered_of t.answers) a ⊎ ((is_riding rider t ≡ true) × (a ≡ ride_answer t))
+  given_cases t a = cond_both (is_riding rider t) (ridden config place rider.reply t) t
+      (λ (u : Session). Contains (map answered_of u.answers) a → Contains (map answered_of t.answers) a ⊎ ((is_riding rider t ≡ true) × (a ≡ ride_answer t)))
+      (λ h there.
+      ⊎_elim (λ earlier. inl earlier) (λ last. inr (h, sym (only_one (ride_answer t) a last)))
+      (Contains-append_cases (map answered_of t.answers) (ride_answer t ∷ []) a
+      (subst (λ (xs : List Answered). Contains xs a) (map-append answered_of t.answers (ride_filing config place rider.reply t ∷ [])) there)))
+      (λ h there. inl there)
+
+-- ---- all sessions
+
+-- what an entry without its rider asks of a session is asked of no other
+convert : (sessions : ℕ → Option Kept) (e : Entry) (p m : ℕ) → Connects sessions (alone e) p m → Connects sessions e p m
+convert sessions e p m c = record {
+  place = c.place;
+  session = ⊎_elim (λ h. inl h) (λ h. absurd (let no : None ≡ Some m = sym (ap riding (rider_of_none e.kind)) ∙ h in cc)) c.session;
+  here = c.here;
+}
+
+-- sessions that followed an entry without its rider have followed it where no session that is here rides
+pub followed_alone : (stands : Bool) (e : Entry) (old new : Sessions) → ((n : ℕ) (rider : Rider) → rides_of e ≡ Some rider → is_some (kept_in old n) ≡ true → (rider.session == n) ≡ false) → AreCounted old
+    → Followed stands (alone e) old new → Followed stands e old new
+followed_alone stands e old new away counted f = record {
+  config = f.config;
+  sessions = λ n. f.sessions n ∙ by n (kept_in old n) refl (counted n);
+  connects = record {
+    given = λ n a g. f.connects.given n a (back n a (kept_in old n) refl (counted n) g);
+    kept = λ p others. f.connects.kept p (λ n a g. others n a (on n a (kept_in old n) refl (counted n) g));
+  };
+  known = λ p m h. ⊎_elim (λ l. inl l) (λ r. inr (convert (kept_in old) e p m r)) (f.known p m h);
+  counted = f.counted;
+  held = f.held;
+}
+  where
+    config : Config
+    config = old.config
+
+    -- a session that is here does the same
+    same : (n : ℕ) (k : Kept) (patterns : List Glob) → kept_in old n ≡ Some k → IsOwn n k patterns → step config (resumed k) (alone e) ≡ step config (resumed k) e
+    same n k patterns here own = alone_step config (resumed k) e ∙ sym (at (rides_of e) refl)
+      where
+        t : Session
+        t = step_by config e.place e.moment (resumed k) e.kind
+
+        number : t.number ≡ n
+        number = (step_by_next config e.place e.moment (resumed k) e.kind).number ∙ own.number
+
+        at : (o : Option Rider) → rides_of e ≡ o → ridden_by config e.place t o ≡ t
+        at None h = refl
+        at (Some rider) h =
+            cond-false (is_riding rider t) (ridden config e.place rider.reply t) t
+            (ap (λ (m : ℕ). (rider.session == m) && is_live t.stage) number ∙ ap (λ (b : Bool). b && is_live t.stage) (away n rider h (ap is_some here)))
+
+    -- and so does one that the entry opens
+    opened : (n : ℕ) (o : Option Rider) → rides_of e ≡ o →
+        option_and_then (λ k. if_live (kept (step config (resumed k) (alone e)))) (opening stands e.kind n) ≡ option_and_then (λ k. if_live (kept (step config (resumed k) e))) (opening stands e.kind n)
+    opened n None h = by_none (opening stands e.kind n)
+      where
+        by_none : (o : Option Kept) → option_and_then (λ k. if_live (kept (step config (resumed k) (alone e)))) o ≡ option_and_then (λ k. if_live (kept (step config (resumed k) e))) o
+        by_none None = refl
+        by_none (Some k) = ap (λ (s : Session). if_live (kept s)) (alone_step config (resumed k) e ∙ sym (ap (ridden_by config e.place (step_by config e.place e.moment (resumed k) e.kind)) h))
+    opened n (Some rider) h =
+        let none : opening stands e.kind n ≡ None = rider_opens e.kind e.rides rider h stands n in
+        ap (option_and_then (λ k. if_live (kept (step config (resumed k) (alone e))))) none ∙ sym (ap (option_and_then (λ k. if_live (kept (step config (resumed k) e)))) none)
+
+    by : (n : ℕ) (o : Option Kept) → kept_in old n ≡ o → IsCounted n o (patterns_in old n) → session_after config stands (alone e) n o ≡ session_after config stands e n o
+    by n None here c = opened n (rides_of e) refl
+    by n (Some k) here c = ap (λ (s : Session). if_live (kept s)) (same n k (patterns_in old n) here c)
+
+    back : (n : ℕ) (a : Answered) (o : Option Kept) → kept_in old n ≡ o → IsCounted n o (patterns_in old n) → Contains (answers_by (λ s. step config s e) o) a → Contains (answers_by (λ s. step config s (alone e)) (kept_in old n)) a
+    back n a None here c g = absurd (nowhere a g)
+    back n a (Some k) here c g =
+        subst (λ o. Contains (answers_by (λ s. step config s (alone e)) o) a) (sym here)
+        (subst (λ (s : Session). Contains (map answered_of s.answers) a) (sym (same n k (patterns_in old n) here c)) g)
+
+    on : (n : ℕ) (a : Answered) (o : Option Kept) → kept_in old n ≡ o → IsCounted n o (patterns_in old n) → Contains (answers_by (λ s. step config s (alone e)) (kept_in old n)) a → Contains (answers_by (λ s. step config s e) (kept_in old n)) a
+    on n a None here c g = absurd (nowhere a (subst (λ o. Contains (answers_by (λ s. step config s (alone e)) o) a) here g))
+    on n a (Some k) here c g =
+        subst (λ o. Contains (answers_by (λ s. step config s e) o) a) (sym here)
+        (subst (λ (s : Session). Contains (map answered_of s.answers) a) (same n k (patterns_in old n) here c)
+        (subst (λ o. Contains (answers_by (λ s. step config s (alone e)) o) a) here g))
+
+-- no session that is here rides
+pub away : (sessions : ℕ → Option Kept) (e : Entry) → rider_in sessions e ≡ None → (n : ℕ) (rider : Rider) → rides_of e ≡ Some rider → is_some (sessions n) ≡ true → (rider.session == n) ≡ false
+away sessions e none n rider rides here =
+    let gone : cond (is_some (sessions rider.session)) (Some rider) None ≡ None = sym (ap (option_and_then (λ (r : Rider). cond (is_some (sessions r.session)) (Some r) None)) rides) ∙ none in
+    either (rider.session == n) ((rider.session == n) ≡ false)
+    (λ h.
+    let there : is_some (sessions rider.session) ≡ true = ap (λ (m : ℕ). is_some (sessions m)) (eqb-true rider.session n h) ∙ here in
+    absurd (let no : Some rider ≡ None = sym (cond-true (is_some (sessions rider.session)) (Some rider) None there) ∙ gone in cc))
+    (λ h. h)
+
+-- the entry's rider is one of a session that is here
+pub record Rides (sessions : ℕ → Option Kept) (e : Entry) (rider : Rider) : Type 0 where
+  pub rides : rides_of e ≡ Some rider
+  pub here : is_some (sessions rider.session) ≡ true
+
+pub rides_here : (sessions : ℕ → Option Kept) (e : Entry) (rider : Rider) → Some rider ≡ rider_in sessions e → Rides sessions e rider
+rides_here sessions e rider is = by (rides_of e) refl is
+  where
+    found : (r : Rider) → rides_of e ≡ Some r → Some rider ≡ cond (is_some (sessions r.session)) (Some r) None → Rides sessions e rider
+    found r h = cond_both (is_some (sessions r.session)) (Some r) None (λ o. Some rider ≡ o → Rides sessions e rider)
+        (λ here g. let same : r ≡ rider = cc in record { rides = h ∙ ap (λ (x : Rider). Some x) same; here = subst (λ (x : Rider). is_some (sessions x.session) ≡ true) same here })
+        (λ gone g. absurd (let no : Some rider ≡ None = g in cc))
+
+    by : (o : Option Rider) → rides_of e ≡ o → Some rider ≡ option_and_then (λ (r : Rider). cond (is_some (sessions r.session)) (Some r) None) o → Rides sessions e rider
+    by None h g = absurd (let no : Some rider ≡ None = g in cc)
+    by (Some r) h g = found r h g
+
+-- a connect is held exactly where its session holds it, once a session gave a rider what waited
+pub ridden_held : (config : Config) (place number : ℕ) (events : List Event) (C D : ℕ → Option ConnectState) (S T : ℕ → Option Kept) → Agree C S
+    → ((p : ℕ) → D p ≡ cond (nat_eq place p) (completed events (C place)) (C p)) → ((n : ℕ) → T n ≡ cond (nat_eq number n) (option_map (given_up config) (S number)) (S n)) → Agree D T
+ridden_held config place number events C D S T agree at on = still C D S T agree
+    (λ p n. ap (λ (o : Option ConnectState). held_until o n) (at p) ∙ (elim (nat_eq place p) as (λ b. (b ≡ true → place ≡ p) → held_until (cond b (completed events (C place)) (C p)) n ≡ held_until (C p) n) [
+      | true ↦ λ h. completes (C place) n ∙ ap (λ (q : ℕ). held_until (C q) n) (h refl)
+      | false ↦ λ h. refl
+    ]) (eqb-true place p))
+    (λ n p. ap (λ (o : Option Kept). holds_until o p) (on n) ∙ (elim (nat_eq number n) as (λ b. (b ≡ true → number ≡ n) → holds_until (cond b (option_map (given_up config) (S number)) (S n)) p ≡ holds_until (S n) p) [
+      | true ↦ λ h. keeps (S number) p ∙ ap (λ (m : ℕ). holds_until (S m) p) (h refl)
+      | false ↦ λ h. refl
+    ]) (eqb-true number n))
+  where
+    completes : (o : Option ConnectState) (n : ℕ) → held_until (completed events o) n ≡ held_until o n
+    completes None n = refl
+    completes (Some (states.Held session deadline waker)) n = refl
+    completes (Some (states.Filed session p answer)) n = refl
+
+    keeps : (o : Option Kept) (p : ℕ) → holds_until (option_map (given_up config) o) p ≡ holds_until o p
+    keeps None p = refl
+    keeps (Some k) p = refl
+
+-- ---- a rider
+
+module _ (stands : Bool) (e : Entry) (rider : Rider) (rides : rides_of e ≡ Some rider) (old seated mid : Sessions) (here : is_some (kept_in old rider.session) ≡ true)
+    (fresh : connect_at old.connects e.place ≡ None) (counted : AreCounted old) (held : AreHeld old)
+    (seated_config : seated.config ≡ old.config) (seated_sessions : (n : ℕ) → kept_in seated n ≡ kept_in old n)
+    (seated_connects : (p : ℕ) → connect_at seated.connects p ≡ cond (nat_eq e.place p) (Some (states.Filed rider.session e.place (unridden rider))) (connect_at old.connects p))
+    (f : Followed stands (alone e) seated mid) where
+  abbrev config : Config
+  config = old.config
+
+  -- a session behind the entry's own effect
+  abbrev effect : Kept → Session
+  effect k = step_by config e.place e.moment (resumed k) e.kind
+
+  mid_config : mid.config ≡ old.config
+  mid_config = f.config ∙ seated_config
+
+  effect_number : (n : ℕ) (k : Kept) (patterns : List Glob) → IsOwn n k patterns → (effect k).number ≡ n
+  effect_number n k patterns own = (step_by_next config e.place e.moment (resumed k) e.kind).number ∙ own.number
+
+  effect_live : (n : ℕ) (k : Kept) (patterns : List Glob) → IsOwn n k patterns → (effect k).stage ≡ Live
+  effect_live n k patterns own = rider_stays e.kind e.rides rider rides config e.place e.moment (resumed k) ∙ own.live
+
+  -- what is kept behind it
+  mid_kept : (n : ℕ) → kept_in mid n ≡ session_after config stands (alone e) n (kept_in old n)
+  mid_kept n = f.sessions n ∙ ap (λ (c : Config). session_after c stands (alone e) n (kept_in seated n)) seated_config ∙ ap (session_after config stands (alone e) n) (seated_sessions n)
+
+  mid_there : (n : ℕ) (k : Kept) (patterns : List Glob) → kept_in old n ≡ Some k → IsOwn n k patterns → kept_in mid n ≡ Some (kept (effect k))
+  mid_there n k patterns is own =
+      mid_kept n ∙ ap (session_after config stands (alone e) n) is ∙ ap (λ (s : Session). if_live (kept s)) (alone_step config (resumed k) e) ∙ sym (live_there (effect k) (effect_live n k patterns own))
+
+  mid_gone : (n : ℕ) → kept_in old n ≡ None → kept_in mid n ≡ None
+  mid_gone n is =
+      mid_kept n ∙ ap (session_after config stands (alone e) n) is
+      ∙ ap (option_and_then (λ k. if_live (kept (step config (resumed k) (alone e))))) (rider_opens e.kind e.rides rider rides stands n)
+
+  -- the room for the answer is enough
+  pub mid_fits : (room : ℕ) → IfSome (kept_in old rider.session) (λ (k : Kept). ride_most config k ≤ room) → IfSome (kept_in mid rider.session) (λ (k : Kept). ride_portion mid.config (resumed k) ≤ room)
+  mid_fits room fits = by (kept_in old rider.session) refl (counted rider.session) fits
+    where
+      Fits : Option Kept → Type 0
+      Fits o = IfSome o (λ (k : Kept). ride_portion mid.config (resumed k) ≤ room)
+
+      by : (o : Option Kept) → kept_in old rider.session ≡ o → IsCounted rider.session o (patterns_in old rider.session) → IfSome o (λ (k : Kept). ride_most config k ≤ room) → Fits (kept_in mid rider.session)
+      by None is c g = subst Fits (sym (mid_gone rider.session is)) tt
+      by (Some k) is c g =
+          subst Fits (sym (mid_there rider.session k (patterns_in old rider.session) is c))
+          (subst (λ (x : Config). ride_portion x (effect k) ≤ room) (sym mid_config) (rider_fits e.kind e.rides rider rides config e.place e.moment k room g))
+
+  -- ---- its answers
+
+  -- what an entry without its rider gives is given over the sessions as they were before the answer was filed
+  given_seated : (n : ℕ) (k : Kept) (a : Answered) → kept_in old n ≡ Some k → Contains (map answered_of (effect k).answers) a → IsGiven seated.config (kept_in seated) (alone e) n a
+  given_seated n k a is there =
+      subst (λ (c : Config). Contains (answers_by (λ s. step c s (alone e)) (kept_in seated n)) a) (sym seated_config)
+      (subst (λ o. Contains (answers_by (λ s. step config s (alone e)) o) a) (sym (seated_sessions n ∙ is))
+      (subst (λ (s : Session). Contains (map answered_of s.answers) a) (sym (alone_step config (resumed k) e)) there))
+
+  seated_given : (n : ℕ) (a : Answered) → IsGiven seated.config (kept_in seated) (alone e) n a → Contains (answers_by (λ s. step config s (alone e)) (kept_in old n)) a
+  seated_given n a g =
+      subst (λ o. Contains (answers_by (λ s. step config s (alone e)) o) a) (seated_sessions n)
+      (subst (λ (c : Config). Contains (answers_by (λ s. step c s (alone e)) (kept_in seated n)) a) seated_config g)
+
+  -- none of them is to the entry itself
+  elsewhere : (n : ℕ) (k : Kept) (a : Answered) → kept_in old n ≡ Some k → Contains (map answered_of (effect k).answers) a → a.place ≢ e.place
+  elsewhere n k a is there same =
+      let holds : HoldsIt k.held a.place = rider_due config e.place e.moment k a e.kind e.rides rider rides there in
+      let tied : held_until (connect_at old.connects e.place) n ≡ ends_for k.held e.place = held e.place n ∙ ap (λ (o : Option Kept). holds_until o e.place) is in
+      let none : ends_for k.held e.place ≡ None = sym tied ∙ ap (λ (o : Option ConnectState). held_until o n) fresh in
+      true≢false (sym (holds_ends k.held e.place (subst (HoldsIt k.held) same holds)) ∙ ap is_some none)
+
+  -- so the answer that was filed before is there behind the entry's own effect
+  mid_filed : connect_at mid.connects e.place ≡ Some (states.Filed rider.session e.place (unridden rider))
+  mid_filed =
+      f.connects.kept e.place (λ n a g. by n a (kept_in old n) refl (seated_given n a g))
+      ∙ rider_begins e.kind e.rides rider rides (kept_in seated) (connect_at seated.connects) (alone e) e.place
+      ∙ seated_connects e.place
+      ∙ ap (λ (b : Bool). cond b (Some (states.Filed rider.session e.place (unridden rider))) (connect_at old.connects e.place)) (eq-eqb e.place e.place refl)
+    where
+      by : (n : ℕ) (a : Answered) (o : Option Kept) → kept_in old n ≡ o → Contains (answers_by (λ s. step config s (alone e)) (kept_in old n)) a → a.place ≢ e.place
+      by n a None is g = absurd (nowhere a (subst (λ o. Contains (answers_by (λ s. step config s (alone e)) o) a) is g))
+      by n a (Some k) is g =
+          elsewhere n k a is (subst (λ (s : Session). Contains (map answered_of s.answers) a) (alone_step config (resumed k) e) (subst (λ o. Contains (answers_by (λ s. step config s (alone e)) o) a) is g))
+
+  -- ---- the whole
+
+  -- its entry with its rider
+  ridden_step : (k : Kept) → step config (resumed k) e ≡ ridden_by config e.place (effect k) (Some rider)
+  ridden_step k = ap (ridden_by config e.place (effect k)) rides
+
+  module _ (new : Sessions) (new_sessions : (n : ℕ) → kept_in new n ≡ cond (nat_eq rider.session n) (option_map (given_up mid.config) (kept_in mid rider.session)) (kept_in mid n))
+      (new_connects : (p : ℕ) → connect_at new.connects p ≡ cond (nat_eq e.place p) (completed_by mid.config (kept_in mid rider.session) (connect_at mid.connects e.place)) (connect_at mid.connects p))
+      (new_config : new.config ≡ mid.config) (new_counted : AreCounted new) (new_held : AreHeld new) where
+    followed_sessions : (n : ℕ) → kept_in new n ≡ session_after config stands e n (kept_in old n)
+    followed_sessions n =
+        new_sessions n ∙ ap (λ (c : Config). cond (nat_eq rider.session n) (option_map (given_up c) (kept_in mid rider.session)) (kept_in mid n)) mid_config
+        ∙ at_number rider.session n (option_map (given_up config)) (kept_in mid)
+        ∙ by (kept_in old n) refl (counted n)
+      where
+        by : (o : Option Kept) → kept_in old n ≡ o → IsCounted n o (patterns_in old n) → cond (nat_eq rider.session n) (option_map (given_up config) (kept_in mid n)) (kept_in mid n) ≡ session_after config stands e n o
+        by None is c =
+            ap (λ o. cond (nat_eq rider.session n) (option_map (given_up config) o) o) (mid_gone n is) ∙ none_here (nat_eq rider.session n)
+            ∙ sym (ap (option_and_then (λ k. if_live (kept (step config (resumed k) e)))) (rider_opens e.kind e.rides rider rides stands n))
+        by (Some k) is c =
+            ap (λ o. cond (nat_eq rider.session n) (option_map (given_up config) o) o) (mid_there n k (patterns_in old n) is c)
+            ∙ rode config e.place rider.reply (nat_eq rider.session n) (effect k) (effect_live n k (patterns_in old n) c)
+            ∙ ap (λ (m : ℕ). if_live (kept (cond ((rider.session == m) && is_live (effect k).stage) (ridden config e.place rider.reply (effect k)) (effect k)))) (sym (effect_number n k (patterns_in old n) c))
+            ∙ sym (ap (λ (s : Session). if_live (kept s)) (ridden_step k))
+
+    -- at the rider's own place its answer is complete
+    own_answer : (n : ℕ) (k : Kept) (patterns : List Glob) → kept_in old n ≡ Some k → IsOwn n k patterns → is_riding rider (effect k) ≡ true →
+        connect_at new.connects e.place ≡ Some (states.Filed n e.place (ride_answer config e.place rider (effect k)).answer)
+    own_answer n k patterns is own riding =
+        let number : rider.session ≡ n = eqb-true rider.session (effect k).number (and_parts (rider.session == (effect k).number) (is_live (effect k).stage) riding).0 ∙ effect_number n k patterns own in
+        new_connects e.place
+        ∙ ap (λ (b : Bool). cond b (completed_by mid.config (kept_in mid rider.session) (connect_at mid.connects e.place)) (connect_at mid.connects e.place)) (eq-eqb e.place e.place refl)
+        ∙ ap (completed_by mid.config (kept_in mid rider.session)) mid_filed
+        ∙ ap (λ (c : Config). completed_by c (kept_in mid rider.session) (Some (states.Filed rider.session e.place (unridden rider)))) mid_config
+        ∙ ap (λ (m : ℕ). completed_by config (kept_in mid m) (Some (states.Filed m e.place (unridden rider)))) number
+        ∙ ap (λ o. completed_by config o (Some (states.Filed n e.place (unridden rider)))) (mid_there n k patterns is own)
+
+    followed_given : (n : ℕ) (a : Answered) → IsGiven config (kept_in old) e n a → connect_at new.connects a.place ≡ Some (states.Filed n e.place a.answer)
+    followed_given n a g = by (kept_in old n) refl (counted n) g
+      where
+        own : (k : Kept) → kept_in old n ≡ Some k → Contains (map answered_of (effect k).answers) a → connect_at new.connects a.place ≡ Some (states.Filed n e.place a.answer)
+        own k is there =
+            new_connects a.place
+            ∙ cond-false (nat_eq e.place a.place) (completed_by mid.config (kept_in mid rider.session) (connect_at mid.connects e.place)) (connect_at mid.connects a.place)
+            (either (nat_eq e.place a.place) (nat_eq e.place a.place ≡ false) (λ h. absurd (elsewhere n k a is there (sym (eqb-true e.place a.place h)))) (λ h. h))
+            ∙ f.connects.given n a (given_seated n k a is there)
+
+        by : (o : Option Kept) → kept_in old n ≡ o → IsCounted n o (patterns_in old n) → Contains (answers_by (λ s. step config s e) o) a → connect_at new.connects a.place ≡ Some (states.Filed n e.place a.answer)
+        by None is c there = absurd (nowhere a there)
+        by (Some k) is c there =
+            ⊎_elim (λ earlier. own k is earlier)
+            (λ last. subst (λ (x : Answered). connect_at new.connects x.place ≡ Some (states.Filed n e.place x.answer)) (sym last.1) (own_answer n k (patterns_in old n) is c last.0))
+            (given_cases config e.place rider (effect k) a (subst (λ (s : Session). Contains (map answered_of s.answers) a) (ridden_step k) there))
+
+    -- the rider itself is answered
+    answered : (p : ℕ) → ((n : ℕ) (a : Answered) → IsGiven config (kept_in old) e n a → a.place ≢ p) → nat_eq e.place p ≡ false
+    answered p others = by (kept_in old rider.session) refl here (counted rider.session)
+      where
+        by : (o : Option Kept) → kept_in old rider.session ≡ o → is_some o ≡ true → IsCounted rider.session o (patterns_in old rider.session) → nat_eq e.place p ≡ false
+        by None is h c = absurd (true≢false (sym h))
+        by (Some k) is h c =
+            let t : Session = effect k in
+            let riding : is_riding rider t ≡ true =
+            ap (λ (m : ℕ). (rider.session == m) && is_live t.stage) (effect_number rider.session k (patterns_in old rider.session) c)
+            ∙ ap (λ (b : Bool). b && is_live t.stage) (eq-eqb rider.session rider.session refl) ∙ ap is_live (effect_live rider.session k (patterns_in old rider.session) c) in
+            let given : IsGiven config (kept_in old) e rider.session (ride_answer config e.place rider t) =
+            subst (λ o. Contains (answers_by (λ s. step config s e) o) (ride_answer config e.place rider t)) (sym is)
+            (subst (λ (s : Session). Contains (map answered_of s.answers) (ride_answer config e.place rider t)) (sym (ridden_step k)) (ride_given config e.place rider t riding)) in
+            either (nat_eq e.place p) (nat_eq e.place p ≡ false) (λ g. absurd (others rider.session (ride_answer config e.place rider t) given (eqb-true e.place p g))) (λ g. g)
+
+    followed_kept : (p : ℕ) → ((n : ℕ) (a : Answered) → IsGiven config (kept_in old) e n a → a.place ≢ p) → connect_at new.connects p ≡ begun (kept_in old) (connect_at old.connects) e e.kind p
+    followed_kept p others =
+        let other : nat_eq e.place p ≡ false = answered p others in
+        new_connects p
+        ∙ cond-false (nat_eq e.place p) (completed_by mid.config (kept_in mid rider.session) (connect_at mid.connects e.place)) (connect_at mid.connects p) other
+        ∙ f.connects.kept p (λ n a g. others n a (on n a (kept_in old n) refl (seated_given n a g)))
+        ∙ rider_begins e.kind e.rides rider rides (kept_in seated) (connect_at seated.connects) (alone e) p
+        ∙ seated_connects p
+        ∙ cond-false (nat_eq e.place p) (Some (states.Filed rider.session e.place (unridden rider))) (connect_at old.connects p) other
+        ∙ sym (rider_begins e.kind e.rides rider rides (kept_in old) (connect_at old.connects) e p)
+      where
+        on : (n : ℕ) (a : Answered) (o : Option Kept) → kept_in old n ≡ o → Contains (answers_by (λ s. step config s (alone e)) (kept_in old n)) a → IsGiven config (kept_in old) e n a
+        on n a None is g = absurd (nowhere a (subst (λ o. Contains (answers_by (λ s. step config s (alone e)) o) a) is g))
+        on n a (Some k) is g =
+            subst (λ o. Contains (answers_by (λ s. step config s e) o) a) (sym is)
+            (subst (λ (s : Session). Contains (map answered_of s.answers) a) (sym (ridden_step k))
+            (still_given config e.place rider (effect k) a (subst (λ (s : Session). Contains (map answered_of s.answers) a) (alone_step config (resumed k) e)
+            (subst (λ o. Contains (answers_by (λ s. step config s (alone e)) o) a) is g))))
+
+    completed_session : (o : Option Kept) (p : ℕ) → session_at (completed_by mid.config o (Some (states.Filed rider.session p (unridden rider)))) ≡ Some rider.session
+    completed_session None p = refl
+    completed_session (Some k) p = refl
+
+    followed_known : (p m : ℕ) → session_at (connect_at new.connects p) ≡ Some m → (session_at (connect_at old.connects p) ≡ Some m) ⊎ Connects (kept_in old) e p m
+    followed_known p m h = either (nat_eq e.place p) ((session_at (connect_at old.connects p) ≡ Some m) ⊎ Connects (kept_in old) e p m) own other
+      where
+        own : nat_eq e.place p ≡ true → (session_at (connect_at old.connects p) ≡ Some m) ⊎ Connects (kept_in old) e p m
+        own g =
+            let is : Some rider.session ≡ Some m =
+            sym (ap session_at (new_connects p ∙ cond-true (nat_eq e.place p) (completed_by mid.config (kept_in mid rider.session) (connect_at mid.connects e.place)) (connect_at mid.connects p) g ∙ ap (completed_by mid.config (kept_in mid rider.session)) mid_filed)
+            ∙ completed_session (kept_in mid rider.session) e.place) ∙ h in
+            let same : rider.session ≡ m = cc in
+            inr (record { place = eqb-true e.place p g; session = inr (ap riding rides ∙ is); here = subst (λ (n : ℕ). is_some (kept_in old n) ≡ true) same here })
+
+        other : nat_eq e.place p ≡ false → (session_at (connect_at old.connects p) ≡ Some m) ⊎ Connects (kept_in old) e p m
+        other g =
+            let at_mid : session_at (connect_at mid.connects p) ≡ Some m =
+            ap session_at (sym (new_connects p ∙ cond-false (nat_eq e.place p) (completed_by mid.config (kept_in mid rider.session) (connect_at mid.connects e.place)) (connect_at mid.connects p) g)) ∙ h in
+            ⊎_elim
+            (λ l. inl (ap session_at (sym (seated_connects p ∙ cond-false (nat_eq e.place p) (Some (states.Filed rider.session e.place (unridden rider))) (connect_at old.connects p) g)) ∙ l))
+            (λ r. let c : Connects (kept_in seated) e p m = convert (kept_in seated) e p m r in
+            inr (record { place = c.place; session = c.session; here = ap is_some (sym (seated_sessions m)) ∙ c.here }))
+            (f.known p m at_mid)
+
+    pub followed_riding : Followed stands e old new
+    followed_riding = record {
+      config = new_config ∙ mid_config;
+      sessions = followed_sessions;
+      connects = record { given = followed_given; kept = followed_kept };
+      known = followed_known;
+      counted = new_counted;
+      held = new_held;
+    }
