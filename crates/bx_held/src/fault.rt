@@ -8,7 +8,7 @@ use bx_hub::HubFault;
 #[derive(Clone, Copy, Debug, PartialEq, Eq)]
 pub enum HeldFault {
     /// No connect is held under the ticket, and no answer is filed: the answer was taken or swept, or the ticket never was
-    /// a connect's. Or the future has given its output before.
+    /// a connect's or a rider's. Or the future has given its output before.
     Unknown,
     /// The hub was closed, and the answer was not filed before.
     Closed,

@@ -49,7 +49,7 @@ impl<J: Naming, P: Placing, G: Gate + Drop, H: Wait + Drop, R: Wait + Drop> Held
     H,
     R,
 > {
-    /// The answer under the ticket of a connect that stands in what the pass has seen of the hub's list.
+    /// The answer under the ticket of a connect, or of a rider, that stands in what the pass has seen of the hub's list.
     pub fn new(
         rt: R,
         alloc: Global,

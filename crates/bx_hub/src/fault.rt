@@ -13,7 +13,7 @@ use std::alloc::AllocError;
 pub struct Posted {
     /// The place of the first message; of a request without messages the length of the list.
     pub first: u64,
-    /// For each message in order its reply, or the ticket of a connect.
+    /// For each message in order its reply, or the ticket of a connect or a rider.
     pub slots: Sequence<Slot>,
     /// How many shards have not applied the whole request.
     pub behind: Lagging,

@@ -49,12 +49,12 @@ abbrev pub awaited_as : Ticket → List Step → Bool → Awaited
 awaited_as ticket seen is_done = record { ticket = ticket; seen = seen; is_done = is_done }
 
 module _ (setup : Setup) where
-  -- the items of a connect that waits: of an answer that it may be given since this was seen
+  -- the items of a connect or a rider that waits: of an answer that it may be given since this was seen
   abbrev pub AreItemsSince : Ticket → List Step → Bool → List Item → Type 0
   AreItemsSince ticket seen is_done items = (a : Answer) × (MayGive setup ticket seen is_done (Ok a) × (items ≡ items_of a))
 
   module _ (seen : List Step) where
-    -- the items of a slot: its reply, or those of its connect, by some front that begins with what was seen
+    -- the items of a slot: its reply, or those of its connect or rider, by some front that begins with what was seen
     abbrev pub AreItemsFor : Slot → List Item → Type 0
     AreItemsFor (Ready reply) items = items ≡ ReplyItem reply ∷ []
     AreItemsFor (Waiting ticket) items = AreItemsSince ticket seen false items

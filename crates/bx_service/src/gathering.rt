@@ -92,7 +92,7 @@ impl<J: Naming, P: Placing + Drop, G: Gate + Drop, R: Wait + Copy + Drop> Gather
         Ok(Poll::Ready(()))
     }
 
-    // Takes the slot that came before the others: its reply, or its connect, which is waited for from now on.
+    // Takes the slot that came before the others: its reply, or its connect or rider, which is waited for from now on.
     fn take(&mut self, slot: Slot, cx: &mut Context<'_>) -> Result<Poll<()>, Unanswered>
         requires below { IsBelow (length (list_of self.old.pass)) slot }
         requires free { self.old.held ≡ None }

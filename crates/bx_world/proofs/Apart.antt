@@ -1,5 +1,5 @@
 -- No event stands in two answers of a session that does not acknowledge.
-use Rattle.std.proofs.Common.{◌≡◌, ℕ, zero, suc, ◌<◌, Bool, false, ◌==◌, Some, List, [], ◌∷◌, ◌++◌, take, find, sym, ◌∙◌, subst, arith, ne_eqb, eqb-true}
+use Rattle.std.proofs.Common.{◌≡◌, ⊎_elim, ℕ, zero, suc, ◌<◌, Bool, false, ◌==◌, Some, List, [], ◌∷◌, ◌++◌, take, find, sym, ap, ◌∙◌, subst, arith, ne_eqb, eqb-true}
 use Rattle.std.proofs.lemmas.Bool.{cond-true, cond-false}
 use Rattle.bx_lists.proofs.Tests.{either}
 use Rattle.bx_advice.specs.declared.config.Config.{Config}
@@ -13,7 +13,7 @@ use Rattle.bx_theory.proofs.Lists.{entries_in_order, find_each, find_true}
 use Rattle.bx_theory.proofs.Once.{given_once}
 use Rattle.bx_world.specs.Headline.{GivenLater, PlainGivenOnce}
 use Rattle.bx_world.proofs.Giving.{none_given_again}
-use Rattle.bx_world.proofs.InTurn.{Rising, session_turn}
+use Rattle.bx_world.proofs.InTurn.{Before, Ordered, session_turn}
 use Rattle.bx_theory.proofs.Rising.{each_of_take}
 
 -- ---- parts of a list of publications
@@ -53,8 +53,12 @@ below_found (p ∷ ps) test fs f e d = (
   below_found ps test fs f e d.1,
 )
 
--- the answers of connects in the order of their places, with the events of all in order
-found_apart : (fs : List Filed) (a b : ℕ) (f g : Filed) → Rising fs → events.Rising (given_in fs) → a < b → find (λ (h : Filed). h.connect == a) fs ≡ Some f → find (λ (h : Filed). h.connect == b) fs ≡ Some g →
+below_none : (ps : List Publication) → AllBelow ps []
+below_none [] = tt
+below_none (p ∷ ps) = (tt, below_none ps)
+
+-- the answers of connects in the order of their places but for those without events, with the events of all in order
+found_apart : (fs : List Filed) (a b : ℕ) (f g : Filed) → Ordered fs → events.Rising (given_in fs) → a < b → find (λ (h : Filed). h.connect == a) fs ≡ Some f → find (λ (h : Filed). h.connect == b) fs ≡ Some g →
     AllBelow f.publications g.publications
 found_apart [] a b f g r s l e k = cc
 found_apart (h ∷ fs) a b f g r s l e k =
@@ -70,9 +74,17 @@ found_apart (h ∷ fs) a b f g r s l e k =
     (λ t.
     let first : find at_a fs ≡ Some f = sym (cond-false (h.connect == a) (Some h) (find at_a fs) t) ∙ e in
     let here : f.connect ≡ a = eqb-true f.connect a (find_true at_a fs f first) in
-    let before : h.connect < f.connect = find_each (λ x. h.connect < x.connect) at_a fs f first r.0 in
-    let behind : find at_b fs ≡ Some g = sym (cond-false (h.connect == b) (Some h) (find at_b fs) (ne_eqb h.connect b (λ q. omega (arith, q, here, before, l)))) ∙ k in
-    found_apart fs a b f g r.1 (rising_rest h.publications (given_in fs) s) l first behind)
+    either (h.connect == b) (AllBelow f.publications g.publications)
+    (λ u.
+    let own : h.connect ≡ b = eqb-true h.connect b u in
+    let whole : Some h ≡ Some g = sym (cond-true (h.connect == b) (Some h) (find at_b fs) u) ∙ k in
+    let same : h ≡ g = cc in
+    ⊎_elim (λ before. absurd (omega (arith, before, own, here, l)))
+    (λ none. subst (AllBelow f.publications) (sym none ∙ ap (λ (x : Filed). x.publications) same) (below_none f.publications))
+    (find_each (λ x. Before x.connect h) at_a fs f first r.0).1)
+    (λ u.
+    let behind : find at_b fs ≡ Some g = sym (cond-false (h.connect == b) (Some h) (find at_b fs) u) ∙ k in
+    found_apart fs a b f g r.1 (rising_rest h.publications (given_in fs) s) l first behind))
 
 -- ---- the law
 
@@ -93,6 +105,6 @@ plain_given_once setup first steps outs last room r number place later a b l pla
       found_next = y.found;
       given = x.given;
       given_next = y.given;
-      apart = found_apart fs place later x.filed y.filed (session_turn setup.config number (entries setup.config last.list) (entries_in_order setup.config last.list)).rising
+      apart = found_apart fs place later x.filed y.filed (session_turn setup.config number (entries setup.config last.list) room (entries_in_order setup.config last.list)).ordered
           (plain_rises setup.config last.list number room plain) l x.found y.found;
     }

@@ -72,7 +72,7 @@ answers_below : (config : Config) (n : ℕ) (s : Session) (es : List Entry) → 
     Each (λ f. f.place < n + length es) (fold (step config) s es).answers
 answers_below config n s [] room d i h = each_map (λ f. f.place < n) (λ f. f.place < n + 0) s.answers (λ f l. omega (arith, l)) h
 answers_below config n s (e ∷ es) room d i h =
-    let m : Moved e.place s (step config s e) = step_moved config s e i in
+    let m : Moved e.place s (step config s e) = step_moved config s e room i in
     let next : Each (λ f. f.place < n + 1) (step config s e).answers =
     subst (λ (fs : List Filed). Each (λ f. f.place < n + 1) fs) (sym m.answers)
     (each_append (λ f. f.place < n + 1) s.answers m.filed

@@ -7,6 +7,7 @@ use Rattle.bx_advice.specs.declared.advice.Outcome.{Outcome}
 use Rattle.bx_advice.specs.declared.advice.Outcome.TheVariants.{Connected, Failed}
 use Rattle.bx_advice.specs.declared.error.Error.TheVariants.{SupersededConnect, QueueOverflow}
 use Rattle.bx_entry.specs.declared.entry.Entry.{Entry}
+use Rattle.bx_entry.specs.declared.entry.EntryKind.{EntryKind}
 use Rattle.bx_entry.specs.declared.entry.EntryKind.TheVariants.{Connect}
 use Rattle.bx_entry.specs.Sessions.{Session, Publication, Pending, Filed, filing, answered, released_from, released, acknowledged, cleared, portion, batch, with_batch, formed, gives, given, idle, answered_or_held, connected, step_by, step, session, unopened}
 use Rattle.bx_theory.specs.Laws.{InStep, Repeats, LastAnswer}
@@ -83,5 +84,5 @@ gives_batch config number es e client id acked hold f room out overflow kind r l
     let g : Grown 0 (unopened number) s = run_grown config 0 (unopened number) es room (unopened_in_step config number) (all_places es) in
     let p : Pending = record { place = e.place; client = client; id = id; moment = e.moment; hold = hold } in
     let acks : s.ack ≡ true = either s.ack (s.ack ≡ true) (λ h. h) (λ h. absurd (let z : s.out ≡ 0 = i.plain h in omega (arith, z, out))) in
-    let here : step config s e ≡ connected config p acked s = ap (step_by config e.place e.moment s) kind ∙ cond-true (number == s.number) (connected config p acked s) s (eq-eqb number s.number (sym g.number)) in
+    let here : step config s e ≡ connected config p acked s = ap (λ (k : EntryKind). step config s (record e { kind = k })) kind ∙ cond-true (number == s.number) (connected config p acked s) s (eq-eqb number s.number (sym g.number)) in
     connected_gives config p acked s.num (batch s) s r (record { inside = i; ack = acks; overflow = overflow; out = out; numbered = refl; same = refl }) f (subst (λ (t : Session). LastAnswer t f) here l)

@@ -13,7 +13,8 @@ use Rattle.bx_entry.specs.Answers.{answer_of, events_of, answer}
 use Rattle.bx_theory.specs.Laws.{Each, PlacesFrom, LastAnswer, Repetition}
 use Rattle.bx_theory.proofs.Batches.{batch_repeats}
 use Rattle.bx_theory.proofs.Counts.{all_in_step, unopened_in_step}
-use Rattle.bx_theory.proofs.Lists.{find_each, entries_in_order}
+use Rattle.bx_theory.proofs.Lists.{find_each, entries_in_order, entries_within}
+use Rattle.bx_theory.proofs.Riders.{batch_last}
 use Rattle.bx_theory.proofs.Runs.{Grown, run_grown, all_places}
 use Rattle.bx_shard.proofs.Waits.{WaitsAt, answered_waits}
 use Rattle.bx_shard.specs.Refining.{given_of}
@@ -22,10 +23,11 @@ use Rattle.bx_world.specs.Headline.{slot_at, Gave, AsksAgain, GivenAgain, Batche
 use Rattle.bx_world.specs.declared.step.Step.{Step}
 use Rattle.bx_world.specs.declared.step.StepOut.{StepOut}
 use Rattle.bx_world.proofs.Giving.{places_front, gave_answer}
-use Rattle.bx_world.proofs.InTurn.{Rising, InTurn, session_turn, turn_below, find_middle}
+use Rattle.bx_world.proofs.InTurn.{Ordered, InTurn, session_turn, turn_below, find_middle}
 use Rattle.bx_world.proofs.Outstanding.{gives_batch}
 use Rattle.bx_shard.proofs.Given.{session_answer}
 use Rattle.bx_world.proofs.Takes.{takes_are_answers}
+use Rattle.bx_world.proofs.Applications.{place_within}
 
 -- ---- the answer that was given last
 
@@ -50,11 +52,11 @@ last_answer config list number es more f room whole l =
     let same : session config number (entries config list) ≡ fold (step config) (session config number es) more = ap (session config number) (sym whole) ∙ fold-append (step config) (unopened number) es more in
     let answers : (session config number (entries config list)).answers ≡ l.0 ++ f ∷ g.filed =
     ap (λ (u : Session). u.answers) same ∙ g.answers ∙ ap (λ (fs : List Filed). fs ++ g.filed) l.1 ∙ append_assoc l.0 (f ∷ []) g.filed in
-    let turn : InTurn (length (entries config list)) (session config number (entries config list)) = session_turn config number (entries config list) (entries_in_order config list) in
+    let turn : InTurn (length (entries config list)) (session config number (entries config list)) = session_turn config number (entries config list) room (entries_in_order config list) in
     let found : find (λ (h : Filed). h.connect == f.connect) (session config number (entries config list)).answers ≡ Some f =
-    ap (find (λ (h : Filed). h.connect == f.connect)) answers ∙ find_middle l.0 g.filed f (subst Rising answers turn.rising) in
+    ap (find (λ (h : Filed). h.connect == f.connect)) answers ∙ find_middle l.0 g.filed f (subst Ordered answers turn.ordered) in
     record {
-      below = last_of (λ h. h.connect < length es) l.0 f (subst (λ (fs : List Filed). Each (λ h. h.connect < length es) fs) l.1 (turn_below (length es) s (session_turn config number es (places_front 0 es more order))));
+      below = last_of (λ h. h.connect < length es) l.0 f (subst (λ (fs : List Filed). Each (λ h. h.connect < length es) fs) l.1 (turn_below (length es) s (session_turn config number es room (places_front 0 es more order))));
       waits = find_each (λ h. WaitsAt (registry config list).judged number h.connect) test t.answers f found (answered_waits config number list).answers;
       answer = session_answer config number f.connect list f found;
     }
@@ -81,12 +83,22 @@ entry_parts (suc k) (x ∷ es) e h =
     let n : suc k + 1 ≡ suc (k + 1) = omega arith in
     ap (λ (m : ℕ). x ∷ (take k es ++ e ∷ drop m (x ∷ es))) n ∙ ap (λ (ys : List Entry). x ∷ ys) (entry_parts k es e h)
 
+-- the answer that formed the batch which is outstanding behind the first entries was the last one then
+last_within : (config : Config) (list : List Listed) (place number : ℕ) (e : Entry) → 0 < config.limits.batch → place ≤ length list → (es : List Entry) → take place (entries config list) ≡ es →
+    (r : Repetition config number es e) → 0 < (session config number es).out → LastAnswer (step config (session config number r.before) r.forming) r.same.first
+last_within config list place number e room l es is =
+    subst (λ (xs : List Entry). (q : Repetition config number xs e) → 0 < (session config number xs).out → LastAnswer (step config (session config number q.before) q.forming) q.same.first)
+    (entries_within config list place l ∙ is)
+    (λ q out. batch_last config (take place list) number e room out q)
+
 given_again : (config : Config) (list : List Listed) (steps : List Step) (outs : List StepOut) (number place : ℕ) → 0 < config.limits.batch → EachTook config list steps outs → AsksAgain config list number place →
     GivenAgain config list steps outs number place
 given_again config list steps outs number place room d a =
     let es : List Entry = take place (entries config list) in
     let r : Repetition config number (take place (entries config list)) a.entry =
     batch_repeats config number (take place (entries config list)) a.entry a.client a.id a.acked a.hold room a.outstanding a.overflow a.connect a.repeats in
+    let last : LastAnswer (step config (session config number r.before) r.forming) r.same.first =
+    last_within config list place number a.entry room (omega (arith, place_within config list place a.entry a.here)) (take place (entries config list)) refl r a.outstanding in
     let whole : take place (entries config list) ++ a.entry ∷ drop (place + 1) (entries config list) ≡ entries config list = entry_parts place (entries config list) a.entry a.here in
     let here : a.entry.place ≡ place = let n : a.entry.place ≡ 0 + place = entry_at 0 place (entries config list) a.entry a.here (entries_in_order config list) in omega (arith, n) in
     -- the answer that formed the batch
@@ -98,7 +110,7 @@ given_again config list steps outs number place room d a =
     let formed : session config number (r.before ++ r.forming ∷ []) ≡ step config (session config number r.before) r.forming = fold-append (step config) (unopened number) r.before (r.forming ∷ []) in
     let first : LastOf config list number (length (r.before ++ r.forming ∷ [])) r.same.first =
     last_answer config list number (r.before ++ r.forming ∷ []) (r.between ++ a.entry ∷ drop (place + 1) (entries config list)) r.same.first room split
-    (subst (λ (u : Session). LastAnswer u r.same.first) (sym formed) r.same.formed) in
+    (subst (λ (u : Session). LastAnswer u r.same.first) (sym formed) last) in
     -- the one that gives it again
     let after : session config number (take place (entries config list) ++ a.entry ∷ []) ≡ step config (session config number (take place (entries config list))) a.entry =
     fold-append (step config) (unopened number) (take place (entries config list)) (a.entry ∷ []) in
@@ -137,7 +149,7 @@ given_again config list steps outs number place room d a =
         earlier = omega (arith, count, front_length);
         grew = ap (λ (u : Session). u.num) session_behind ∙ r.grew ∙ ap (λ (xs : List Entry). (session config number xs).num + 1) (sym before_is);
         current = ap (λ (u : Session). u.num) session_behind ∙ r.current;
-        last = subst (λ (u : Session). LastAnswer u r.same.first) (sym session_behind) r.same.formed;
+        last = subst (λ (u : Session). LastAnswer u r.same.first) (sym session_behind) last;
       };
       first = answer_of r.same.first;
       again = answer_of r.same.again;

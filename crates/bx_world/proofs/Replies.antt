@@ -11,7 +11,7 @@ use Rattle.bx_entry.specs.Listing.{Listed, Post, Posted, listed_from}
 use Rattle.bx_entry.specs.Listing as messages
 use Rattle.bx_entry.specs.Inputs.{ReadInput, Request, Unread, Tick, added_by}
 use Rattle.bx_entry.specs.Requests.{read_input}
-use Rattle.bx_entry.specs.Registry.{Registry, Registered, Judged, PlaceSlot, Ready, Waiting, NoSlot, judge, judged_by, slot_for, named_by, refusal, registry, empty_registry, entries_of, unnamed}
+use Rattle.bx_entry.specs.Registry.{Registry, Registered, Judged, PlaceSlot, Ready, Waiting, NoSlot, judge, judged_by, slot_for, slot_with, rider_for, is_rider, named_by, refusal, registry, empty_registry, entries_of, unnamed}
 use Rattle.bx_entry.specs.Answers.{answer_at, answer_by}
 use Rattle.bx_entry.specs.declared.entry.Slot.{Slot}
 use Rattle.bx_entry.specs.declared.input.Input.{Input}
@@ -54,6 +54,13 @@ slot_for_message config MessageKind.Disconnect p s = tt
 slot_for_message config MessageKind.Publish p s = tt
 slot_for_message config MessageKind.UnknownMeta p s = tt
 
+-- so it has as a rider
+ridden_message : (b : Bool) (number : ℕ) (slot : PlaceSlot) (p : Posted) → Slotted (Post p) slot → Slotted (Post p) (slot_with (rider_for b number slot) slot)
+ridden_message true number (Ready reply) p s = tt
+ridden_message true number (Waiting session) p s = s
+ridden_message true number NoSlot p s = s
+ridden_message false number slot p s = s
+
 -- one more place is judged, with the slot of this element
 record Slots (x : Listed) (r t : Registry) : Type 0 where
   found : Judged
@@ -67,7 +74,7 @@ unnamed_slots config r moment p false = record { found = _; judged = refl; slott
 judged_by_slots : (config : Config) (r : Registry) (moment : ℕ) (p : Posted) (sender : Option Registered) (error : Option Error) → Slots (Post p) r (judged_by config r moment p sender error)
 judged_by_slots config r moment p sender (Some error) = record { found = _; judged = refl; slotted = tt }
 judged_by_slots config r moment p None None = unnamed_slots config r moment p (is_handshake p.message)
-judged_by_slots config r moment p (Some s) None = record { found = _; judged = refl; slotted = slot_for_message config (message_kind_of p.message.channel) p s }
+judged_by_slots config r moment p (Some s) None = record { found = _; judged = refl; slotted = ridden_message (is_rider config r.senders (message_kind_of p.message.channel) p s) s.number (slot_for config (message_kind_of p.message.channel) p s) p (slot_for_message config (message_kind_of p.message.channel) p s) }
 
 judge_slots : (config : Config) (r : Registry) (x : Listed) → Slots x r (judge config r x)
 judge_slots config r (Post p) = judged_by_slots config r (max r.clock p.moment) p (named_by r.sessions (message_kind_of p.message.channel) p.message) (refusal config r.sessions p)

@@ -132,7 +132,7 @@ module _ (a : Admitting) where
 
   -- and stands before an entry for which memory can be refused, if before one
   pub places_stopped : {P : Type 0} (place_of : P → ℕ → ℕ → ℕ) (xs ys : List (Shard P)) → BroughtUp place_of (entries_kept a) xs ys → StandFrom a.first ys → (k n : ℕ) (e : Entry) →
-      slice_get (map (λ (s : Shard P). s.place) ys) k ≡ Some n → slice_get (entries a.config a.list) n ≡ Some e → takes_no_memory e.kind ≡ false
+      slice_get (map (λ (s : Shard P). s.place) ys) k ≡ Some n → slice_get (entries a.config a.list) n ≡ Some e → takes_no_memory e ≡ false
   places_stopped {P} place_of xs ys up from k n e at next =
       let t = mapped (λ (s : Shard P). s.place) ys k n at in
       let before = was place_of xs ys up k t.one t.there in

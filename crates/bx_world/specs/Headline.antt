@@ -31,7 +31,7 @@ use Rattle.bx_world.specs.declared.step.StepOut.TheVariants.{Admitted, NotAdmitt
 abbrev pub slot_at : Config → List Listed → ℕ → Option PlaceSlot
 slot_at config list place = option_map (λ (j : Judged). j.slot) (slice_get (registry config list).judged place)
 
--- a ticket of a connect: of its place, and of the shard in which its session stands
+-- a ticket of a connect or a rider: of its place, and of the shard in which its session stands
 pub record IsTicket (setup : Setup) (list : List Listed) (here : ℕ) (t : Ticket) : Type 0 where
   pub session : ℕ
   pub waits : slot_at setup.config list here ≡ Some (Waiting session)

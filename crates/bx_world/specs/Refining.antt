@@ -44,7 +44,7 @@ pub record HasApplied {P : Type 0} (place_of : P → ℕ → ℕ → ℕ) (list 
 pub record HasStayed {P : Type 0} (place_of : P → ℕ → ℕ → ℕ) (list : List Entry) (old new : Shard P) : Type 0 where
   pub entry : Entry
   pub next : slice_get list old.place ≡ Some entry
-  pub takes : takes_no_memory entry.kind ≡ false
+  pub takes : takes_no_memory entry ≡ false
   pub same : IsAsBefore (state place_of old) (state place_of new)
   pub sound : IsSound (state place_of new)
 

@@ -71,7 +71,7 @@ next_entry setup w shard = slice_get (entries setup.config w.list) (slice_index 
 -- whether applying it may take memory; an unsubscription, a disconnect, a refused message and a tick take none
 abbrev pub may_take_memory : Option Entry → Bool
 may_take_memory None = false
-may_take_memory (Some e) = not (takes_no_memory e.kind)
+may_take_memory (Some e) = not (takes_no_memory e)
 
 -- want of memory may refuse an admission, and an application of an entry that may take some, and then changes nothing
 abbrev pub may_refuse : Setup → WorldState → Step → Bool

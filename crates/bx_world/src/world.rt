@@ -138,7 +138,7 @@ impl<P: Placing> World<P> {
             → n ≤ length (world_of self.new).list }
         ensures stopped { (k n : ℕ) → (e : Entry) → slice_get (world_of self.new).applied k ≡ Some n
             → slice_get (entries (setup_of self.new).config (world_of self.new).list) n ≡ Some e
-            → takes_no_memory e.kind ≡ false }
+            → takes_no_memory e ≡ false }
         ensures count { result ≡ count_by (λ n. nat_lt n (length (world_of self.new).list)) (world_of self.new).applied }
     {
         let first = self.admission.first();

@@ -25,7 +25,7 @@ returns-in-Err g c =
     let a = c.args.admission.now in record {
       entry = c.in-Some.entry.now;
       next = sym (ap (slice_get (entries a.config a.list)) c.place.ensures.place) ∙ sym c.in-Some.ensures;
-      takes = either (takes_no_memory c.in-Some.entry.now.kind) (takes_no_memory c.in-Some.entry.now.kind ≡ false) (λ h. let e : false ≡ true = c.in-Err.ensures.free h in cc) (λ h. h);
+      takes = either (takes_no_memory c.in-Some.entry.now) (takes_no_memory c.in-Some.entry.now ≡ false) (λ h. let e : false ≡ true = c.in-Err.ensures.free h in cc) (λ h. h);
       same = c.in-Err.ensures.refused;
       sound = c.apply.ensures.sound;
     }
