@@ -29,8 +29,13 @@ REFUSED = (
     "2 2 30000 0 10000 A",
     "2 2 30000 0 10000 aa",
     "2 2 30000 0 10000 -a",
-    "2 2 30000 0 10000 r",
-    "2 2 30000 0 10000 ra",
+    "2 2 30000 0 10000 ar",
+    "2 2 30000 0 10000 rr",
+    "2 2 30000 0 10000 R",
+    "2 2 30000 0 10000 rA",
+    "2 2 30000 0 10000 raa",
+    "2 2 30000 0 10000 r-",
+    "2 2 30000 0 10000 r a",
     "2 2 30000 0 10000 2",
     "2 2 30000 0 10000 2 -",
     "2 2 30000 0 10000 x 2",
@@ -169,6 +174,22 @@ def limits():
         yield f"{limit} events may wait", script, f"{expected}{line + 3} 200 [{events},<connected 1>]\n", f".. - {limit}"
 
 
+def riders():
+    """Yields riders past which more events wait than go out at once, behind a connect too, and one that publishes as many events to itself."""
+    script = "0 P [<handshake>]\n0 P [<handshake>]\n0 P [<subscribe 1 /a/b>]\n"
+    expected = "1 200 [<opened 1>]\n2 200 [<opened 2>]\n3 200 [<subscribed 1 /a/b>]\n"
+    events, replies = listed("<event /a/b 1>", MESSAGES), listed("<published /a/b>", MESSAGES)
+    full, filled = f"0 P [{listed('<publish 2 /a/b 1>', MESSAGES)}]\n", f"200 [{replies}]\n"
+    more, one = "0 P [<publish 2 /a/b 2>]\n", "200 [<published /a/b>]\n"
+    script += f"{full}{more}0 P [<publish 1 /a/b 3>]\n0 P [<publish 1 /b 4>]\n0 P [<publish 1 /b 5>]\n"
+    expected += f"4 {filled}5 {one}6 200 [{events},<published /a/b>]\n7 200 [<event /a/b 2>,<event /a/b 3>,<published /b>]\n8 200 [<published /b>]\n"
+    script += f"{full}{more}0 P [<connect 1>,<publish 1 /b 6>]\n"
+    expected += f"9 {filled}10 {one}11 200 [{events},<connected 1>,<event /a/b 2>,<published /b>]\n"
+    script += f"0 P [{listed('<publish 1 /a/b 1>', MESSAGES)}]\n0 P [<poll 1>]\n"
+    expected += f"12 200 [{listed('<published /a/b>', MESSAGES - 1)},{events},<published /a/b>]\n13 200 [<connected 1>]\n"
+    yield "as many events ride as a connect gets", script, expected, ".. r"
+
+
 def crowds():
     """Yields a connect behind so many sessions that several workers find something to do: it is held until its event."""
     script = "0 P [<handshake>]\n" * 1_024
@@ -192,5 +213,5 @@ def crowds():
 
 def made():
     """Yields the name of each row, its script and what it must print, in words, and then its arguments where it names some."""
-    for part in (ends, long_lines, thousands_of_lines, fronts, nested, messages, patterns, overflows, limits, crowds):
+    for part in (ends, long_lines, thousands_of_lines, fronts, nested, messages, patterns, overflows, limits, riders, crowds):
         yield from part()

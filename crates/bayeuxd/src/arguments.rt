@@ -1,7 +1,7 @@
 //! The arguments of the program.
 ghost use Rattle.std.specs.Prelude.{◌<◌, IfSome};
 
-use bx_advice::Config;
+use bx_advice::{Config, Options};
 use bx_message::number_of;
 use std::net::SocketAddr;
 
@@ -19,8 +19,8 @@ pub struct Arguments {
 impl Arguments {
     /// What these words say; none where they are not an address, five numbers in their ranges and, before the last one, a
     /// seed of 64 hexadecimal digits, and then at most options and a limit. The times are in milliseconds. The options are
-    /// `a` where publishes of no session are accepted, else `-`, and `-` where there are none. The limit says how many
-    /// events may wait for each session, 1 to 65,536, and is 1,024 where there is none.
+    /// those of [`Options::read`], and `-` where there are none. The limit says how many events may wait for each session,
+    /// 1 to 65,536, and is 1,024 where there is none.
     pub fn read(words: &[String]) -> Option<Arguments> {
         let [
             address,
@@ -68,20 +68,13 @@ fn config_of(
 fn with_more(config: Config, words: &[String]) -> Option<Config> {
     match words {
         [] => Some(config),
-        [options] => with_options(config, options.as_bytes()),
+        [options] => Some(config.with(Options::read(options.as_bytes())?)),
         [options, limit] => {
             let limit = u32::try_from(number_of(limit.as_bytes())?).ok()?;
-            with_options(config, options.as_bytes())?.with_limit(limit)
+            config
+                .with(Options::read(options.as_bytes())?)
+                .with_limit(limit)
         }
-        _ => None,
-    }
-}
-
-// The configuration with these options.
-fn with_options(config: Config, options: &[u8]) -> Option<Config> {
-    match options {
-        b"-" => Some(config.with_anonymous(false)),
-        b"a" => Some(config.with_anonymous(true)),
         _ => None,
     }
 }

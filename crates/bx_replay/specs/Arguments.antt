@@ -11,6 +11,7 @@ run_by arguments = record {
   timeout = arguments.config.timeout;
   interval = arguments.config.interval;
   max_interval = arguments.config.max_interval;
+  ride = arguments.config.ride;
   anonymous = arguments.config.anonymous;
   limit = arguments.config.limits.events;
 }

@@ -1,15 +1,16 @@
 -- How a server is run, and which words say so.
-use Rattle.std.specs.Prelude.{ℕ, ◌&&◌, ◌^◌, nat_le, nat_lt, if◌then◌else◌, Bool, true, false, List, [], ◌∷◌, codes, Option, Some, None, option_and_then}
-use Rattle.std.specs.Str.{bytes_eq}
+use Rattle.std.specs.Prelude.{ℕ, ◌&&◌, ◌^◌, nat_le, nat_lt, if◌then◌else◌, Bool, List, [], ◌∷◌, codes, Option, Some, None, option_and_then}
+use Rattle.bx_advice.specs.Options.{options_in}
 use Rattle.bx_message.specs.Fields.{number_of}
 
--- times are in milliseconds; `anonymous`: publishes of no session are accepted; `limit`: so many events may wait for each session
+-- times are in milliseconds; `ride`: waiting events ride; `anonymous`: publishes of no session are accepted; `limit`: so many events may wait for each session
 pub record Settings : Type 0 where
   pub shards : ℕ
   pub workers : ℕ
   pub timeout : ℕ
   pub interval : ℕ
   pub max_interval : ℕ
+  pub ride : Bool
   pub anonymous : Bool
   pub limit : ℕ
 
@@ -25,10 +26,6 @@ count_in limit digits = option_and_then (λ n. if nat_le 1 n && nat_le n limit t
 abbrev pub time_in : List ℕ → Option ℕ
 time_in digits = option_and_then (λ n. if nat_lt n (2 ^ 32) then Some n else None) (number_of digits)
 
--- `a`: publishes of no session are accepted; `-`: they are not
-abbrev pub anonymous_in : List ℕ → Option Bool
-anonymous_in options = if bytes_eq options (codes "-") then Some false else (if bytes_eq options (codes "a") then Some true else None)
-
 -- what seven words say
 abbrev pub settings_of : List ℕ → List ℕ → List ℕ → List ℕ → List ℕ → List ℕ → List ℕ → Option Settings
 settings_of shards workers timeout interval max_interval options limit = do
@@ -37,9 +34,9 @@ settings_of shards workers timeout interval max_interval options limit = do
   t ← time_in timeout
   i ← time_in interval
   m ← time_in max_interval
-  a ← anonymous_in options
+  o ← options_in options
   l ← count_in 65536 limit
-  Some (record { shards = s; workers = w; timeout = t; interval = i; max_interval = m; anonymous = a; limit = l })
+  Some (record { shards = s; workers = w; timeout = t; interval = i; max_interval = m; ride = o.ride; anonymous = o.anonymous; limit = l })
 
 -- five, six or seven words say it, and no other number of words
 abbrev pub settings_in : List (List ℕ) → Option Settings

@@ -1,10 +1,11 @@
 //! The arguments of the program.
 ghost use Rattle.std.specs.Prelude.{◌≡◌, ◌<◌, IfSome, Option, option_map, map, string_bytes};
 ghost use Rattle.bx_advice.specs.Limits.{IsStandard};
+ghost use Rattle.bx_advice.specs.Options.{options_in};
 ghost use Rattle.bx_message.specs.Fields.{number_of};
-ghost use Rattle.bx_replay.specs.Settings.{anonymous_in, count_in, settings_in, settings_of, time_in};
+ghost use Rattle.bx_replay.specs.Settings.{count_in, settings_in, settings_of, time_in};
 
-use bx_advice::Config;
+use bx_advice::{Config, Options};
 use bx_message::number_of;
 use bx_workers::WorkerCount;
 
@@ -19,10 +20,9 @@ impl Arguments {
     ghost use Rattle.bx_replay.specs.Arguments.{HasStandardLimits, run_by};
 
     /// What these words say. Five of them do it by digits alone: how many shards there are, 1 to 64, how many workers, 1
-    /// to 16, and in milliseconds the timeout, the interval and the longest interval, each of 32 bits. A sixth is `a`
-    /// where publishes of no session are accepted, else `-`, and `-` where there is none. A seventh says by digits alone
-    /// how many events may wait for each session, 1 to 65,536, and 1,024 where there is none. None where they are not
-    /// these.
+    /// to 16, and in milliseconds the timeout, the interval and the longest interval, each of 32 bits. A sixth has the
+    /// options, as [`Options::read`] reads them, and is `-` where there is none. A seventh says by digits alone how many
+    /// events may wait for each session, 1 to 65,536, and 1,024 where there is none. None where they are not these.
     pub fn read(words: &[String]) -> Option<Arguments>
         ensures said { option_map run_by result ≡ settings_in (map string_bytes words.now) }
         ensures limits { IfSome result (λ arguments. HasStandardLimits arguments) }
@@ -84,7 +84,7 @@ impl Arguments {
         let interval = time_in(interval.as_bytes())?;
         let max_interval = time_in(max_interval.as_bytes())?;
         let config = config_of(shards.as_bytes(), timeout, interval, max_interval)?;
-        let config = with_limit(config.with_anonymous(anonymous_in(options)?), limit)?;
+        let config = with_limit(with_options(config, options)?, limit)?;
         let workers = workers_in(workers.as_bytes())?;
         Some(Arguments { config, workers })
     }
@@ -100,10 +100,22 @@ fn config_of(shards: &[u8], timeout: u32, interval: u32, max_interval: u32) -> O
     Config::new(size_in(shards)?, timeout, interval, max_interval)
 }
 
+// The configuration with the options that this word says.
+fn with_options(config: Config, word: &[u8]) -> Option<Config>
+    ensures said { result
+        ≡ option_map (λ (o : Options). record config { ride = o.ride; anonymous = o.anonymous }) (options_in word.now) }
+    ensures limits { IfSome result (λ c. c.limits ≡ config.limits) }
+{
+    Some(config.with(Options::read(word)?))
+}
+
 // The configuration with so many waiting events as these digits say.
 fn with_limit(config: Config, limit: &[u8]) -> Option<Config>
-    ensures { result
+    ensures said { result
         ≡ option_map (λ n. record config { limits = record config.limits { events = n } }) (count_in 65536 limit.now) }
+    ensures limits { IfSome result (λ c.
+        (c.limits.patterns ≡ config.limits.patterns) × (c.limits.batch ≡ config.limits.batch)
+        × (c.limits.sessions ≡ config.limits.sessions) × (c.limits.texts ≡ config.limits.texts)) }
 {
     config.with_limit(time_in(limit)?)
 }
@@ -113,17 +125,6 @@ fn workers_in(digits: &[u8]) -> Option<WorkerCount>
     ensures { result ≡ count_in 16 digits.now }
 {
     WorkerCount::new(size_in(digits)?)
-}
-
-// Whether the options say that publishes of no session are accepted.
-fn anonymous_in(options: &[u8]) -> Option<bool>
-    ensures { result ≡ anonymous_in options.now }
-{
-    match options {
-        b"-" => Some(false),
-        b"a" => Some(true),
-        _ => None,
-    }
 }
 
 // The number of 64 bits that these digits say.
