@@ -175,6 +175,7 @@ fn apply(alloc: Global, shard: &mut Shard<ByRemainder>, kind: EntryKind) -> Resu
         place,
         moment: 0,
         kind,
+        rides: None,
     };
     if shard.apply(alloc, &entry).is_ok() {
         return Ok(());

@@ -1,8 +1,9 @@
-//! Five inputs at once and one by one, with one worker and with several, by each placing, and with another number of shards.
+//! Five inputs at once and one by one, with one worker and with several, by each placing, and with another number of shards; and events
+//! that ride, with one worker and with several.
 ghost use Rattle.std.specs.Prelude.{◌≤◌};
 
 use crate::requests::request;
-use bx_advice::{Config, ShardCount};
+use bx_advice::{Config, Options, ShardCount};
 use bx_entry::{ByTable, Input};
 use bx_fanout::{Out, Round};
 use bx_message::body_text;
@@ -71,6 +72,27 @@ const OUTS: [(usize, &str); 5] = [
     (1_028, r#"[{"channel":"/a/b","successful":true}]"#),
 ];
 
+// Where events ride, behind these: another event from the second session waits for the first one, whose own publish has both before
+// its reply.
+const RIDING: [(u64, &str); 2] = [
+    (
+        30,
+        r#"{"channel":"/a/b","clientId":"000000000000000000000000000000000000000000000402","data":8}"#,
+    ),
+    (
+        30,
+        r#"{"channel":"/a/c","clientId":"000000000000000000000000000000000000000000000401","data":9}"#,
+    ),
+];
+
+const RIDDEN: [(usize, &str); 2] = [
+    (1_029, r#"[{"channel":"/a/b","successful":true}]"#),
+    (
+        1_030,
+        r#"[{"channel":"/a/b","data":8},{"channel":"/a/c","data":9},{"channel":"/a/c","successful":true}]"#,
+    ),
+];
+
 // In which shards sessions stand, over and over: in turn, all in the first shard, and some together.
 const TABLES: [&[u8]; 3] = [&[0, 1, 2], &[], &[1, 2, 2]];
 
@@ -107,6 +129,25 @@ fn round(
     table: &[u8],
 ) -> Result<Round<ByTable>, Fail> {
     let config = Config::new(shards, 30_000, 0, 10_000).ok_or("no configuration")?;
+    round_of(alloc, config, workers, table)
+}
+
+// A round of four shards in which events ride.
+fn riding_round(alloc: Global, workers: usize) -> Result<Round<ByTable>, Fail> {
+    let config = Config::new(4, 30_000, 0, 10_000).ok_or("no configuration")?;
+    let options = Options {
+        ride: true,
+        anonymous: false,
+    };
+    round_of(alloc, config.with(options), workers, &[3, 1, 0, 2])
+}
+
+fn round_of(
+    alloc: Global,
+    config: Config,
+    workers: usize,
+    table: &[u8],
+) -> Result<Round<ByTable>, Fail> {
     let placing = Arc::new(alloc, ByTable::new(alloc, table)?)?;
     let workers = WorkerCount::new(workers).ok_or("no such number of workers")?;
     Ok(Round::new(alloc, config, placing, workers)?)
@@ -170,13 +211,18 @@ fn check_given<R: Abort + Threads + Sync, G: Gate + Sync>(
     for part in inputs.chunks(at_once) {
         run(rt, alloc, gate, round, part, &mut outs)?;
     }
-    check(rt, alloc, &outs)
+    check(rt, alloc, &outs, &OUTS)
 }
 
-fn check<R: Abort>(rt: &R, alloc: Global, outs: &[Out]) -> Result<(), Fail> {
-    assert_eq!(rt; outs.len(), OUTS.len());
-    for (out, (number, body)) in outs.iter().zip(OUTS) {
-        assert_eq!(rt; out.input, number);
+fn check<R: Abort>(
+    rt: &R,
+    alloc: Global,
+    outs: &[Out],
+    right: &[(usize, &str)],
+) -> Result<(), Fail> {
+    assert_eq!(rt; outs.len(), right.len());
+    for (out, (number, body)) in outs.iter().zip(right) {
+        assert_eq!(rt; out.input, *number);
         assert_eq!(rt;
             written(alloc, out)?.as_slice(),
             body.as_bytes(),
@@ -201,6 +247,48 @@ fn one_run_gives_what_several_give(rt: HostRuntime) -> Result<(), Fail> {
         for (workers, at_once) in [(1, 5), (1, 1), (16, 5), (16, 1)] {
             check_round(&rt, alloc, &OpenGate, (2, workers), table, at_once)?;
         }
+    }
+    Ok(())
+}
+
+// The same inputs, and behind them those of which one rides.
+fn check_riding<R: Abort + Threads + Sync>(
+    rt: &R,
+    alloc: Global,
+    round: &mut Round<ByTable>,
+) -> Result<(), Fail> {
+    open_crowd(rt, alloc, round)?;
+    check_outs(rt, alloc, round, &INPUTS, &OUTS)?;
+    check_outs(rt, alloc, round, &RIDING, &RIDDEN)
+}
+
+// One run of these inputs gives these outs.
+fn check_outs<R: Abort + Threads + Sync>(
+    rt: &R,
+    alloc: Global,
+    round: &mut Round<ByTable>,
+    asked: &[(u64, &str)],
+    right: &[(usize, &str)],
+) -> Result<(), Fail> {
+    let mut outs = Vec::new(alloc);
+    let inputs = requests(alloc, asked)?;
+    run(rt, alloc, &OpenGate, round, &inputs, &mut outs)?;
+    check(rt, alloc, &outs, right)
+}
+
+fn check_riding_by<R: Abort + Threads + Sync>(
+    rt: &R,
+    alloc: Global,
+    workers: usize,
+) -> Result<(), Fail> {
+    let mut round = riding_round(alloc, workers)?;
+    check_riding(rt, alloc, &mut round)
+}
+
+#[test]
+fn events_ride_by_one_worker_and_by_four(rt: HostRuntime) -> Result<(), Fail> {
+    for workers in [1, 4] {
+        check_riding_by(&rt, rt.alloc(), workers)?;
     }
     Ok(())
 }
@@ -322,7 +410,7 @@ fn check_dealt_anew<R: Abort + Threads + Sync, G: Gate + Sync>(
     let mut outs = Vec::new(alloc);
     let mut round = dealt_anew(rt, alloc, before, &mut outs)?;
     answer_held(rt, alloc, behind, &mut round, &mut outs)?;
-    check(rt, alloc, &outs)
+    check(rt, alloc, &outs, &OUTS)
 }
 
 // At which workers wait until all of a team are there.
