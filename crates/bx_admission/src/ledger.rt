@@ -70,7 +70,7 @@ impl Ledger {
         self.registry.sessions()
     }
 
-    /// What a request comes to: its messages are judged in order, each behind those before it, and the ticket of a connect or a rider
+    /// What a request comes to: its messages are judged in order, each behind those before it, and the ticket of a connect
     /// or a rider names the shard of its session. It is refused where its moment is above the greatest that is taken, or
     /// else where the list would become too long.
     pub fn plan<P: Placing>(

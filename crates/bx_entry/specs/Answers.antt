@@ -22,11 +22,11 @@ events_of ps = map (λ (p : Publication). p.event) ps
 abbrev pub answer_of : Filed → PlacedAnswer
 answer_of f = record { place = f.place; events = events_of f.publications; reply = f.reply }
 
--- the answer that was given to the connect at this place
+-- the answer that was given to the connect or the rider at this place
 abbrev pub filed_for : ℕ → List Filed → Option PlacedAnswer
 filed_for place answers = option_map answer_of (find (λ (f : Filed). f.connect == place) answers)
 
--- a connect is answered by its session, every other message at its own place; a tick is answered by nothing
+-- a connect or a rider is answered by its session, every other message at its own place; a tick is answered by nothing
 abbrev pub answer_by : Config → List Entry → ℕ → PlaceSlot → Option PlacedAnswer
 answer_by config es place (Ready reply) = Some (record { place = place; events = []; reply = reply })
 answer_by config es place (Waiting number) = filed_for place (session config number es).answers

@@ -5,7 +5,7 @@ use crate::requests::{
     response,
 };
 use crate::unlike::Unlike;
-use bx_advice::{Options, ShardCount};
+use bx_advice::ShardCount;
 use bx_entry::{ByRemainder, Input};
 use bx_fanout::{Out, Round, RoundFault};
 use bx_workers::{OpenGate, WorkerCount};
@@ -128,22 +128,7 @@ const DEALT_WITH_A_BATCH: Worked = Worked {
     then: &[(2, ACKNOWLEDGE_NONE)],
 };
 
-// Events ride: with the reply to the publish that they are of, and with that behind a connect that is held.
-const RIDDEN: Worked = Worked {
-    first: &[
-        (0, HANDSHAKE),
-        (0, SUBSCRIBE_AND_PUBLISH),
-        (1, PUBLISH_TWO),
-        (2, CONNECT),
-        (3, PUBLISH_TWO),
-        (4, UNSUBSCRIBE),
-    ],
-    shards: None,
-    then: &[],
-};
-
-const WORKED: [Worked; 6] = [
-    RIDDEN,
+const WORKED: [Worked; 5] = [
     ANSWERED,
     BATCHES,
     HELD_BATCHES,
@@ -192,18 +177,14 @@ fn first<R: Threads + Sync>(
     }
 }
 
-// A round of two shards, in which events ride, that has dealt with these requests.
+// A round of two shards that has dealt with these requests.
 fn dealt<R: Threads + Sync>(
     rt: &R,
     alloc: Global,
     requests: Requests,
     outs: &mut Vec<Out>,
 ) -> Result<Round<ByRemainder>, Unlike> {
-    let config = config(2)?.with(Options {
-        ride: true,
-        anonymous: false,
-    });
-    let mut round = Round::new(alloc, config, placing(alloc)?, WorkerCount::one())?;
+    let mut round = Round::new(alloc, config(2)?, placing(alloc)?, WorkerCount::one())?;
     deal(rt, alloc, &mut round, requests, outs)?;
     Ok(round)
 }

@@ -68,7 +68,7 @@ after w step out = w
 abbrev pub next_entry : Setup → WorldState → ℕ → Option Entry
 next_entry setup w shard = slice_get (entries setup.config w.list) (slice_index w.applied shard)
 
--- whether applying it may take memory; an unsubscription, a disconnect, a refused message and a tick take none
+-- whether applying it may take memory; an unsubscription that is no rider, a disconnect, a refused message and a tick take none
 abbrev pub may_take_memory : Option Entry → Bool
 may_take_memory None = false
 may_take_memory (Some e) = not (takes_no_memory e)
