@@ -83,7 +83,8 @@ pub(crate) fn finish<R: Threads + Sync, G: Gate + Sync, P: Placing + Send + Sync
 const SHARED_WORK: u64 = 1_024;
 
 /// How many of these workers bring the shards up. A connect reaches its own session alone, and any other entry gives
-/// each session one event at the most: one worker does where few events can come of the entries that shards lack.
+/// each session one event at the most: one worker does where few events can come of the entries that shards lack. (A
+/// request of one rider is taken for one of a connect, whatever it reaches.)
 pub(crate) fn workers_for<P: Placing>(state: &RoundState<P>, workers: WorkerCount) -> WorkerCount
     ensures { (result ≡ 1) ⊎ (result ≡ workers) }
 {
@@ -100,7 +101,7 @@ pub(crate) fn workers_for<P: Placing>(state: &RoundState<P>, workers: WorkerCoun
     }
 }
 
-// Whether its only message is a connect, the answer to which is not here.
+// Whether its only message is a connect or a rider, the answer to which is not here.
 fn waits_alone(current: &CurrentInput) -> bool
     ensures none { IsTrue result → current.now.answers.items ≡ [] }
     ensures one { IsTrue result → length current.now.slots.items ≡ 1 }

@@ -77,7 +77,7 @@ begun sessions connects e (Disconnect m) p = connects p
 begun sessions connects e Refused p = connects p
 begun sessions connects e (Tick numbers) p = let_go numbers (connects p)
 
--- the entry gives this answer to a connect of this session
+-- the entry gives this answer to a connect, or to a rider, of this session
 abbrev pub IsGiven : Config → (ℕ → Option Kept) → Entry → ℕ → Answered → Type 0
 IsGiven config sessions e number a = Contains (answers_by (λ s. step config s e) (sessions number)) a
 
