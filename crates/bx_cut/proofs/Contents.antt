@@ -1,7 +1,7 @@
 -- The content of a string, a part at a time.
 use Rattle.std.proofs.Common.{◌≡◌, ◌≢◌, ℕ, suc, ◌+◌, ◌<◌, ◌≤◌, Bool, true, false, cond, ◌&&◌, ◌==◌, nat_lt, List, [], ◌∷◌, ◌++◌, length, take, drop, get_or, Option, Some, None, option_and_then, refl, sym, ap, ◌∙◌, subst, arith}
 use Rattle.std.proofs.lemmas.List.{append_assoc, append-nil, length-append}
-use Rattle.std.proofs.lemmas.Bool.{or_parts, not-true, eqb-true, false≢true, ne_eqb}
+use Rattle.std.proofs.lemmas.Bool.{and_parts, or_parts, not-true, eqb-true, false≢true, ne_eqb}
 use Rattle.std.specs.Prelude.{not, ◌||◌, IsTrue, slice_get}
 use Rattle.std.specs.List.{list_all, prefix_len}
 use Rattle.std.specs.Char.{encode_utf8}
@@ -99,6 +99,20 @@ run-plain (x ∷ xs) = by_test (is_plain x) refl (run-plain xs)
     by_test true e ih =
         let next : suc (prefix_len is_plain xs) ≡ 1 + prefix_len is_plain xs = omega arith in
         subst (λ (k : ℕ). list_all is_plain (take k (x ∷ xs)) ≡ true) next (rw e ih)
+
+-- where plain bytes and a quote stand in front, the quote stands behind the plain bytes
+pub plain-then-quote : (text rest : List ℕ) → list_all is_plain text ≡ true
+    → begins_with 34 (drop (prefix_len is_plain ((text ++ (34 ∷ [])) ++ rest)) ((text ++ (34 ∷ [])) ++ rest)) ≡ true
+plain-then-quote [] rest h = refl
+plain-then-quote (x ∷ xs) rest h =
+    let both = and_parts (is_plain x) (list_all is_plain xs) h in
+    let behind : List ℕ = (xs ++ (34 ∷ [])) ++ rest in
+    let next : suc (prefix_len is_plain behind) ≡ 1 + prefix_len is_plain behind = omega arith in
+    rw both.0 (subst (λ (k : ℕ). begins_with 34 (drop k (x ∷ behind)) ≡ true) next (plain-then-quote xs rest both.1))
+
+pub after-quote : (xs : List ℕ) → after_first 34 (34 ∷ xs) ≡ Some xs
+unfolding after_first
+after-quote xs = refl
 
 -- what stands after the plain bytes is none
 pub plain-none : (t : List ℕ) → prefix_len is_plain (drop (prefix_len is_plain t) t) ≡ 0

@@ -1,5 +1,5 @@
 -- What a JSON string spells.
-use Rattle.std.specs.Prelude.{◌≡◌, ℕ, ◌<◌, ◌≤◌, ◌-◌, List, [], length, drop, slice_index, Option, Some, None, option_and_then, MatchOption}
+use Rattle.std.specs.Prelude.{◌≡◌, ℕ, ◌<◌, ◌≤◌, ◌-◌, List, [], ◌∷◌, ◌++◌, length, drop, slice_index, Option, Some, None, option_and_then, MatchOption}
 use Rattle.std.specs.Char.{encode_utf8}
 use Rattle.json.specs.Text.{Within, content, plain, prepend}
 use Rattle.json.specs.Ascii as ascii
@@ -10,6 +10,10 @@ use Rattle.bx_cut.specs.declared.string.Part.TheVariants.{End, Escape, Fault}
 -- the text that a JSON value spells, where it is a string
 abbrev pub spelled : List ℕ → Option (List ℕ)
 spelled value = option_and_then (content plain) (after_first ascii.quote value)
+
+-- a JSON string of bytes that stand for themselves
+abbrev pub quoted : List ℕ → List ℕ
+quoted text = ascii.quote ∷ (text ++ (ascii.quote ∷ []))
 
 -- what a string's text goes on with; the rest is for private clauses
 

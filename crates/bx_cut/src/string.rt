@@ -1,5 +1,5 @@
 // What a JSON string spells.
-ghost use Rattle.std.specs.Prelude.{◌≡◌, ◌≢◌, ◌↔◌, ℕ, ◌+◌, ◌<◌, ◌≤◌, List, ◌++◌, length, drop, slice_index, Some, None, option_map, string_bytes, IsTrue, IfOk, IfSome, SomeIff, MatchOption, true};
+ghost use Rattle.std.specs.Prelude.{◌≡◌, ◌≢◌, ◌↔◌, ℕ, ◌+◌, ◌<◌, ◌≤◌, List, ◌++◌, length, drop, slice_index, Some, None, option_map, string_bytes, IsTrue, IfNone, IfOk, IfSome, SomeIff, MatchOption, true};
 ghost use Rattle.std.specs.List.{list_all, prefix_len};
 ghost use Rattle.std.specs.Char.{digit_value, encode_utf8};
 ghost use Rattle.json.specs.Text.{code_unit, short_escape, content, plain, prepend, after_backslash, after_high};
@@ -8,7 +8,7 @@ ghost use Rattle.serde_json.specs.Data.{Data};
 ghost use Rattle.serde_json.specs.Find.{as_str};
 ghost use Rattle.serde_json.specs.Read.{read};
 ghost use Rattle.bx_cut.specs.Laws.{BeginsBare};
-ghost use Rattle.bx_cut.specs.Strings.{spelled, IsPart, Unescapes};
+ghost use Rattle.bx_cut.specs.Strings.{spelled, quoted, IsPart, Unescapes};
 
 use crate::scan::{after_first, begins_with, plain_len};
 use std::alloc::{AllocError, Global};
@@ -177,6 +177,7 @@ pub fn spells(value: &str, text: &str) -> bool
 pub fn plain_text_of(value: &str) -> Option<&str>
     ensures value { IfSome result (λ text. spelled value.now ≡ Some text.now) }
     ensures plain { IfSome result (λ text. list_all is_plain text.now ≡ true) }
+    ensures none { IfNone result ((text rest : List ℕ) → list_all is_plain text ≡ true → value.now ≢ quoted text ++ rest) }
 {
     let rest = after_first(value, b'"')?;
     let (run, after) = rest.split_at(plain_len(rest));
