@@ -16,10 +16,10 @@ use Rattle.bx_message.specs.MessageKinds.{message_kind_of, is_connect, is_handsh
 use Rattle.bx_entry.specs.Listing.{Listed, Post, Posted, listed_from}
 use Rattle.bx_entry.specs.declared.entry.Entry.{Entry}
 use Rattle.bx_entry.specs.declared.entry.EntryKind.TheVariants.{Connect}
-use Rattle.bx_entry.specs.Registry.{Registry, Registered, Judged, PlaceSlot, Ready, Waiting, judge, judged_by, served, slot_for, slot_with, rider_for, is_rider, is_one, joined, may_ride, kind_for, named_by, refusal, hold_of, acked_by, registry, empty_registry, entries_of, unnamed}
+use Rattle.bx_entry.specs.Registry.{Registry, Registered, Judged, Ready, Waiting, judge, judged_by, served, slot_for, slot_with, rider_for, is_rider, is_one, joined, may_ride, kind_for, named_by, refusal, hold_of, acked_by, registry, empty_registry, entries_of, unnamed}
 use Rattle.bx_entry.specs.declared.entry.Rider.{Rider}
 use Rattle.bx_entry.specs.declared.entry.EntryKind.{EntryKind}
-use Rattle.bx_entry.specs.Sessions.{Session, Publication, Pending, Filed, filing, answered, released, acknowledged, given, gives, holding, idle, answered_or_held, connected, step, session, unopened, is_live, is_riding, ridden, ridden_by, ride_filing, step_by, rider_of}
+use Rattle.bx_entry.specs.Sessions.{Session, Publication, Pending, Filed, filing, answered, released, acknowledged, given, gives, holding, idle, answered_or_held, connected, step, session, unopened, is_live, ridden, ridden_by, ride_filing, step_by, rider_of}
 use Rattle.bx_entry.specs.Answers.{PlacedAnswer, answer_of, filed_for, answer_by, answer_at, answer_in, answer}
 use Rattle.bx_entry.specs.Runs.{latest, numbers_from}
 use Rattle.bx_theory.proofs.Lists.{answer_more, judged_length}

@@ -1,6 +1,6 @@
 -- A batch is given again until it is acknowledged.
-use Rattle.std.proofs.Common.{◌≡◌, ℕ, ◌+◌, ◌-◌, ◌<◌, ◌≤◌, min, ◌⊎◌, inl, inr, ⊎_elim, true, false, cond, ◌&&◌, is_some, Option, Some, None, List, [], ◌∷◌, ◌++◌, length, take, drop, fold, nat_lt, nat_le, ◌==◌, refl, sym, ap, ◌∙◌, subst, arith, true≢false, append_assoc, length-take, length-drop, eq-eqb, eq-zero-or-pos}
-use Rattle.std.proofs.lemmas.Bool.{cond_both, and_parts, both_ways, cond-true, cond-false, and_right, lt-leb, ne_eqb, and_left, cases_lt}
+use Rattle.std.proofs.Common.{◌≡◌, ℕ, ◌+◌, ◌-◌, ◌<◌, ◌≤◌, min, ◌⊎◌, inl, inr, ⊎_elim, true, false, cond, ◌&&◌, is_some, Option, Some, None, List, [], ◌∷◌, ◌++◌, length, take, drop, fold, nat_lt, nat_le, ◌==◌, refl, sym, ap, ◌∙◌, subst, arith, true≢false, append_assoc, length-take, length-drop, eq-eqb, eqb-true, eq-zero-or-pos}
+use Rattle.std.proofs.lemmas.Bool.{cond_both, and_parts, cond-true, cond-false, and_right, lt-leb, ne_eqb, and_left, cases_lt}
 use Rattle.std.proofs.lemmas.List.{drop-append-le, take-append-le, drop_all}
 use Rattle.std.proofs.lemmas.List.Sums.{fold-append}
 use Rattle.bx_lists.proofs.Tests.{either}
@@ -14,10 +14,9 @@ use Rattle.bx_entry.specs.declared.entry.EntryKind.{EntryKind}
 use Rattle.bx_entry.specs.declared.entry.EntryKind.TheVariants.{Connect, Subscribe, Unsubscribe, Publish, Disconnect, Refused, Tick}
 use Rattle.bx_entry.specs.declared.entry.EntryKind.TheVariants as entries
 use Rattle.bx_entry.specs.declared.entry.Rider.{Rider}
-use Rattle.bx_message.specs.declared.reply.Reply.{Reply}
 use Rattle.bx_entry.specs.Sessions.{Session, Publication, Pending, Filed, filing, answered, unheld, released_from, released, acknowledged, cleared, portion, batch, with_batch, formed, forgotten, gives, given, idle, answered_or_held, connected, gives_one, with_event, delivered_to, delivered, overflowed, is_hit, has_room, published, begun, expired, step_by, step, session, unopened, ridden, is_riding, ridden_by, is_live, rider_of}
-use Rattle.bx_theory.specs.Laws.{InStep, Repeats, LastAnswer, LastGiven, rides_for, SameBatch, Repetition, BatchRepeats}
-use Rattle.bx_theory.proofs.Counts.{rode, ridden_both, ride_both, step_by_in, hit_full, stays_in_step, all_in_step, unopened_in_step, queue_is, released_in, released_from_full, acknowledged_full}
+use Rattle.bx_theory.specs.Laws.{InStep, Repeats, LastAnswer, LastGiven, SameBatch, Repetition, BatchRepeats}
+use Rattle.bx_theory.proofs.Counts.{ridden_both, ride_both, hit_full, stays_in_step, all_in_step, unopened_in_step, queue_is, released_in, released_from_full, acknowledged_full}
 use Rattle.bx_theory.proofs.Moves.{Quiet, idle_quiet, acknowledged_quiet, released_quiet, quiet_after, expired_from_quiet, closed_by_quiet, subscribed_quiet, begun_quiet}
 use Rattle.bx_theory.proofs.Runs.{Grown, run_grown, all_places}
 use Rattle.bx_theory.proofs.Once.{formed_acks}
@@ -127,27 +126,26 @@ step_num : (config : Config) (s : Session) (e : Entry) → (step config s e).num
 step_num config s e = ride_num config e.place (step_by config e.place e.moment s e.kind) (rider_of e.kind e.rides)
 
 -- an acknowledging session's last answer is followed by none that has events
-ride_last : (config : Config) (place : ℕ) (s : Session) (rides : Option Rider) (f : Filed) → s.ack ≡ true → LastAnswer s f → LastGiven rides (ridden_by config place s rides) f
-ride_last config place s None f acks l = record { rest = l.0; behind = []; answers = l.1; empty = tt; last = λ h. refl }
+ride_last : (config : Config) (place : ℕ) (s : Session) (rides : Option Rider) (f : Filed) → s.ack ≡ true → LastAnswer s f → LastGiven place rides (ridden_by config place s rides) f
+ride_last config place s None f acks l = record { rest = l.0; behind = []; answers = l.1; last = inl refl }
 ride_last config place s (Some rider) f acks l =
-    cond_both (is_riding rider s) (ridden config place rider.reply s) s (λ (u : Session). LastGiven (Some rider) u f)
-    (λ h. ridden_both config place rider.reply s (λ (u : Session). LastGiven (Some rider) u f)
+    cond_both (is_riding rider s) (ridden config place rider.reply s) s (λ (u : Session). LastGiven place (Some rider) u f)
+    (λ h. ridden_both config place rider.reply s (λ (u : Session). LastGiven place (Some rider) u f)
     (λ a. record {
       rest = l.0;
       behind = record { connect = place; place = place; publications = []; reply = rider.reply } ∷ [];
       answers = ap (λ (fs : List Filed). fs ++ record { connect = place; place = place; publications = []; reply = rider.reply } ∷ []) l.1
           ∙ append_assoc l.0 (f ∷ []) (record { connect = place; place = place; publications = []; reply = rider.reply } ∷ []);
-      empty = (refl, tt);
-      last = λ o. absurd (both_ways (rider.session == s.number) o (and_parts (rider.session == s.number) (is_live s.stage) h).0);
+      last = inr (record { rider = rider; is = refl; session = eqb-true rider.session s.number (and_parts (rider.session == s.number) (is_live s.stage) h).0; alone = refl });
     })
     (λ a. absurd (true≢false (sym acks ∙ a))))
-    (λ h. record { rest = l.0; behind = []; answers = l.1; empty = tt; last = λ o. refl })
+    (λ h. record { rest = l.0; behind = []; answers = l.1; last = inl refl })
 
 -- a session whose last answer, but for that to a rider, gave its outstanding batch
-record FormedBy (rides : Option Rider) (num : ℕ) (u : Session) : Type 0 where
+record FormedBy (place : ℕ) (rides : Option Rider) (num : ℕ) (u : Session) : Type 0 where
   next : u.num ≤ num + 1
   first : Filed
-  last : LastGiven rides u first
+  last : LastGiven place rides u first
   same : first.publications ≡ batch u
   number : first.reply.ack ≡ AckNumber u.num
   full : u.overflow ≡ false
@@ -162,7 +160,7 @@ ride_leaves : (config : Config) (place : ℕ) (s : Session) (rides : Option Ride
 ride_leaves config place s rides acks = ride_both config place s rides (Leaves s) (record { num = refl; overflow = refl; same = refl })
     (λ rider h. ridden_both config place rider.reply s (Leaves s) (λ a. record { num = refl; overflow = refl; same = refl }) (λ a. absurd (true≢false (sym acks ∙ a))))
 
-ride_formed : (config : Config) (place num : ℕ) (s : Session) (rides : Option Rider) → Formed num s → FormedBy rides num (ridden_by config place s rides)
+ride_formed : (config : Config) (place num : ℕ) (s : Session) (rides : Option Rider) → Formed num s → FormedBy place rides num (ridden_by config place s rides)
 ride_formed config place num s rides f =
     let l : Leaves s (ridden_by config place s rides) = ride_leaves config place s rides f.acks in
     record {
@@ -175,7 +173,7 @@ ride_formed config place num s rides f =
     }
 
 -- an entry after which the number has grown has formed a batch
-grown_formed : (config : Config) (s : Session) (e : Entry) → InStep config s → (step config s e).num ≡ s.num + 1 → FormedBy (rider_of e.kind e.rides) s.num (step config s e)
+grown_formed : (config : Config) (s : Session) (e : Entry) → InStep config s → (step config s e).num ≡ s.num + 1 → FormedBy e.place (rider_of e.kind e.rides) s.num (step config s e)
 grown_formed config s e i n = ⊎_elim (λ h. absurd (let g : (step_by config e.place e.moment s e.kind).num ≡ s.num = h in omega (arith, step_num config s e, n)))
     (λ f. ride_formed config e.place s.num (step_by config e.place e.moment s e.kind) (rider_of e.kind e.rides) f) (step_by_forms config e.place e.moment s e.kind i)
 
@@ -246,7 +244,7 @@ same_batch config s t i j g full full' out done =
     ∙ take-append-le s.out (drop s.done s.events) g.later (omega (arith, i.few, length-drop s.done s.events))
     ∙ sym (ap (take s.out) (queue_is config s i full))
 
-repeated_at : (config : Config) (num0 : ℕ) (former : Entry) (s t : Session) (p : Pending) (acked : Option ℕ) → InStep config s → InStep config t → FormedBy (rider_of former.kind former.rides) num0 s → Grown 0 s t →
+repeated_at : (config : Config) (num0 : ℕ) (former : Entry) (s t : Session) (p : Pending) (acked : Option ℕ) → InStep config s → InStep config t → FormedBy former.place (rider_of former.kind former.rides) num0 s → Grown 0 s t →
     t.num ≡ s.num → 0 < t.out → t.overflow ≡ false → Repeats t.num acked → SameBatch former s p.place (connected config p acked t)
 repeated_at config num0 former s t p acked i j f g num out full r =
     let free = released config p.place (Failed SupersededConnect) t in

@@ -16,7 +16,7 @@ use Rattle.bx_entry.specs.declared.entry.EntryKind.TheVariants as entries
 use Rattle.bx_names.specs.InForce.{with_pattern}
 use Rattle.bx_entry.specs.declared.entry.Rider.{Rider}
 use Rattle.bx_message.specs.declared.reply.Reply.{Reply}
-use Rattle.bx_entry.specs.Sessions.{Session, Publication, Pending, Filed, Stage, Unopened, Live, Closed, filing, answered, unheld, released_from, released, cleared, acknowledged, portion, pending_count, with_batch, formed, forgotten, gives, given, holding, idle, answered_or_held, connected, with_patterns, subscribed, unsubscribed, gives_one, with_event, delivered_to, delivered, overflowed, is_hit, has_room, published, expired_from, expired, ended, closed_by, disconnected, begun, step_by, step, unopened, ride_portion, ride_filing, ridden, is_riding, ridden_by, rider_of}
+use Rattle.bx_entry.specs.Sessions.{Session, Publication, Pending, Filed, Stage, Unopened, Live, Closed, filing, answered, unheld, released_from, released, cleared, acknowledged, portion, pending_count, with_batch, formed, forgotten, gives, given, holding, idle, answered_or_held, connected, with_patterns, subscribed, unsubscribed, gives_one, with_event, delivered_to, delivered, overflowed, is_hit, has_room, published, expired_from, expired, ended, closed_by, disconnected, begun, step_by, step, unopened, ride_portion, ride_filing, ridden, ridden_by, rider_of}
 use Rattle.bx_theory.specs.Readings.{overfills_by, some_overfills, OverflowReading, QueueBounded}
 use Rattle.bx_theory.proofs.Counts.{subscribed_by, ride_both}
 

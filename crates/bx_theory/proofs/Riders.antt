@@ -1,6 +1,6 @@
 -- Riders, where they are.
-use Rattle.std.proofs.Common.{◌≡◌, ℕ, ◌+◌, ◌<◌, max, Bool, true, false, cond, not, ◌&&◌, Option, Some, None, List, [], ◌∷◌, ◌++◌, length, map, fold, nat_le, ◌==◌, refl, sym, ap, ◌∙◌, subst, arith, true≢false, append-nil, append_assoc, eqb-true, eq-eqb}
-use Rattle.std.proofs.lemmas.Bool.{cond_both, cond-true, cond-false, and_parts, not-true}
+use Rattle.std.proofs.Common.{◌≡◌, ℕ, ◌+◌, ◌<◌, max, Bool, true, false, cond, not, ◌&&◌, Option, Some, None, List, [], ◌∷◌, ◌++◌, length, map, fold, nat_le, ◌==◌, refl, sym, ap, ◌∙◌, subst, arith, true≢false, ⊎_elim, append-nil, append_assoc, eqb-true, eq-eqb}
+use Rattle.std.proofs.lemmas.Bool.{cond_both, cond-true, and_parts, not-true}
 use Rattle.std.proofs.lemmas.List.Sums.{fold-append}
 use Rattle.std.specs.List.{list_any}
 use Rattle.bx_lists.proofs.Tests.{either}
@@ -19,9 +19,9 @@ use Rattle.bx_entry.specs.declared.entry.Rider.{Rider}
 use Rattle.bx_entry.specs.declared.entry.EntryKind.{EntryKind}
 use Rattle.bx_entry.specs.declared.entry.EntryKind.TheVariants.{Connect, Subscribe, Unsubscribe, Publish, Disconnect, Refused, Tick}
 use Rattle.bx_entry.specs.declared.entry.EntryKind.TheVariants as entries
-use Rattle.bx_entry.specs.Sessions.{Session, Publication, Pending, Stage, Unopened, Live, Closed, answered, unheld, released_from, released, cleared, acknowledged, portion, with_batch, formed, forgotten, gives, given, holding, idle, answered_or_held, connected, subscribed, unsubscribed, gives_one, with_event, delivered_to, delivered, overflowed, is_hit, has_room, published, expired_from, expired, stage_after, ended, closed_by, disconnected, begun, step_by, step, unopened, session, rider_of, Filed}
-use Rattle.bx_entry.specs.Registry.{Registry, Registered, Judged, PlaceSlot, Ready, Waiting, NoSlot, is_ack, client_id, left_by, extended, swept, is_overdue, opened, served, rider_for, is_rider, is_one, joined, may_ride, slot_for, judge, judged_by, named_by, refusal, hold_of, registry, empty_registry, entries_of, unnamed}
-use Rattle.bx_theory.specs.Laws.{NoRidersUnasked, RidesPlain, RidersArePlain, LastAnswer, LastGiven, rides_for, Repetition}
+use Rattle.bx_entry.specs.Sessions.{Session, Publication, Pending, Stage, Unopened, Live, Closed, answered, unheld, released_from, released, cleared, acknowledged, portion, with_batch, formed, forgotten, gives, given, holding, idle, answered_or_held, connected, subscribed, unsubscribed, with_event, delivered_to, delivered, overflowed, is_hit, has_room, published, expired_from, expired, ended, closed_by, disconnected, begun, step_by, step, unopened, session, rider_of, Filed}
+use Rattle.bx_entry.specs.Registry.{Registry, Registered, Judged, PlaceSlot, Ready, Waiting, NoSlot, is_ack, extended, swept, is_overdue, opened, served, rider_for, is_rider, is_one, joined, may_ride, slot_for, judge, judged_by, named_by, refusal, hold_of, registry, empty_registry, entries_of, unnamed}
+use Rattle.bx_theory.specs.Laws.{NoRidersUnasked, RidesPlain, RidersArePlain, LastAnswer, LastGiven, Repetition}
 use Rattle.bx_theory.specs.Readings.{opens_by, closes_by, since_opening, EachSession}
 use Rattle.bx_theory.proofs.Counts.{subscribed_by, ride_both, rider_of_both, all_in_step, unopened_in_step}
 use Rattle.bx_theory.proofs.Batches.{acks_with_batch}
@@ -303,6 +303,11 @@ all_at : (P : Entry → Type 0) (before : List Entry) (e : Entry) (behind : List
 all_at P [] e behind d = d.0
 all_at P (b ∷ before) e behind d = all_at P before e behind d.1
 
+-- whether a rider is one of the session of this number
+abbrev rides_for : ℕ → Option Rider → Bool
+rides_for number None = false
+rides_for number (Some rider) = rider.session == number
+
 not_its_own : (config : Config) (es : List Entry) (number : ℕ) (rides : Option Rider) → (session config number es).ack ≡ true → RidesPlain config es rides → rides_for number rides ≡ false
 not_its_own config es number None acks k = refl
 not_its_own config es number (Some rider) acks k = either (rider.session == number) ((rider.session == number) ≡ false)
@@ -318,8 +323,11 @@ none_of_acknowledging config list before e behind number split acks =
     (subst (AllByRecursion (λ (x : Entry). RidesPlain config (entries_of (registry config list)) x.rides)) split (riders_are_plain config list)) in
     rider_of_both e.kind e.rides (λ (rides : Option Rider). rides_for number rides ≡ false) refl (not_its_own config (entries_of (registry config list)) number e.rides acks k)
 
-pub last_alone : (rides : Option Rider) (s : Session) (f : Filed) → LastGiven rides s f → rides_for s.number rides ≡ false → LastAnswer s f
-last_alone rides s f l h = (l.rest, l.answers ∙ ap (λ (fs : List Filed). l.rest ++ f ∷ fs) (l.last h))
+last_alone : (place : ℕ) (rides : Option Rider) (s : Session) (f : Filed) → LastGiven place rides s f → rides_for s.number rides ≡ false → LastAnswer s f
+last_alone place rides s f l h =
+    ⊎_elim (λ none. (l.rest, l.answers ∙ ap (λ (fs : List Filed). l.rest ++ f ∷ fs) none))
+    (λ ride. absurd (true≢false (sym (ap (rides_for s.number) ride.is ∙ eq-eqb ride.rider.session s.number ride.session) ∙ h)))
+    l.last
 
 -- so over a list the answer that formed the outstanding batch was the last one then
 pub batch_last : (config : Config) (list : List Listed) (number : ℕ) (e : Entry) → 0 < config.limits.batch → 0 < (session config number (entries_of (registry config list))).out →
@@ -330,5 +338,5 @@ batch_last config list number e room out r =
     let acks : (session config number (entries_of (registry config list))).ack ≡ true =
     acks_with_batch config s (all_in_step config (unopened number) (entries_of (registry config list)) room (unopened_in_step config number)) out in
     let own : (step config (session config number r.before) r.forming).number ≡ number = step_number config (session config number r.before) r.forming ∙ run_number config (unopened number) r.before in
-    last_alone (rider_of r.forming.kind r.forming.rides) t r.same.first r.same.formed
+    last_alone r.forming.place (rider_of r.forming.kind r.forming.rides) t r.same.first r.same.formed
     (ap (λ (n : ℕ). rides_for n (rider_of r.forming.kind r.forming.rides)) own ∙ none_of_acknowledging config list r.before r.forming r.between number r.split acks)

@@ -1,5 +1,5 @@
 -- Laws over the definitions, each for every list.
-use Rattle.std.specs.Prelude.{ℕ, ◌+◌, ◌≡◌, ◌≤◌, ◌<◌, ◌==◌, Bool, true, false, is_some, List, [], ◌∷◌, ◌++◌, length, take, drop, fold, flat_map, if◌then◌else◌, Option, Some, None, ⊤}
+use Rattle.std.specs.Prelude.{ℕ, ◌⊎◌, ◌+◌, ◌≡◌, ◌≤◌, ◌<◌, true, false, is_some, List, [], ◌∷◌, ◌++◌, length, take, drop, fold, flat_map, if◌then◌else◌, Option, Some, None, ⊤}
 use Rattle.std.specs.List.{AllByRecursion}
 use Rattle.bx_advice.specs.declared.config.Config.{Config}
 use Rattle.bx_entry.specs.Listing.{Listed}
@@ -131,24 +131,25 @@ Repeats num (Some n) = n < num
 abbrev pub LastAnswer : Session → Filed → Type 0
 LastAnswer s f = (rest : List Filed) × (s.answers ≡ rest ++ f ∷ [])
 
--- whether a rider is one of the session of this number
-abbrev pub rides_for : ℕ → Option Rider → Bool
-rides_for number None = false
-rides_for number (Some rider) = rider.session == number
+-- nothing but the answer to the rider of an entry, which is one of the session of this number and gets no events
+pub record EmptyRide (place : ℕ) (rides : Option Rider) (number : ℕ) (answers : List Filed) : Type 0 where
+  pub rider : Rider
+  pub is : rides ≡ Some rider
+  pub session : rider.session ≡ number
+  pub alone : answers ≡ record { connect = place; place = place; publications = []; reply = rider.reply } ∷ []
 
--- The last answer that the session gave, but for that to a rider of the same entry: that one has no events, and is there only where there is such a rider.
-pub record LastGiven (rides : Option Rider) (s : Session) (f : Filed) : Type 0 where
+-- The last answer that the session gave, or the last but one: then the last is an answer without events to the rider of the entry.
+pub record LastGiven (place : ℕ) (rides : Option Rider) (s : Session) (f : Filed) : Type 0 where
   pub rest : List Filed
   pub behind : List Filed
   pub answers : s.answers ≡ rest ++ f ∷ behind
-  pub empty : Each (λ g. g.publications ≡ []) behind
-  pub last : rides_for s.number rides ≡ false → behind ≡ []
+  pub last : (behind ≡ []) ⊎ EmptyRide place rides s.number behind
 
 -- the answer of the entry that formed the batch, and the one that gives it again
 pub record SameBatch (former : Entry) (forming : Session) (now : ℕ) (after : Session) : Type 0 where
   pub first : Filed
   pub again : Filed
-  pub formed : LastGiven (rider_of former.kind former.rides) forming first
+  pub formed : LastGiven former.place (rider_of former.kind former.rides) forming first
   pub given : LastAnswer after again
   pub connect : again.connect ≡ now
   pub place : again.place ≡ now
