@@ -7,7 +7,6 @@ use Rattle.bx_advice.specs.declared.advice.Outcome.TheVariants.{Failed}
 use Rattle.bx_advice.specs.declared.error.Error.TheVariants.{SupersededConnect}
 use Rattle.bx_entry.specs.Keeping.{Kept, after, answers_of, resumed}
 use Rattle.bx_entry.specs.Sessions.{Pending, admitted, connected, released, unheld}
-use Rattle.bx_entry.specs.Sessions as sessions
 use Rattle.bx_session.specs.declared.answered.Answered.{Answered}
 use Rattle.bx_session.specs.Views.{answered_of, deadline_of}
 use Rattle.bx_session.proofs.ConnectLemmas.{connected_answers, connected_kept, released_unheld}

@@ -1,7 +1,5 @@
 -- What comes of an event that is handed to one session after another.
-use Rattle.std.proofs.Common.{zero, suc, not, ◌&&◌, slice_index, slice_index_or, IfSome, Contains, IsTrue, ◌↔◌, ◌≤◌, length, arith, ◌<◌, ◌+◌, ◌≡◌, ◌≢◌, ◌⊎◌, inl, inr, ℕ, nat_eq, Bool, true, false, cond, ◌||◌, Option, Some, None, option_map, is_none, List, [], ◌∷◌, map, refl, sym, ap, ◌∙◌, true≢false, subst}
-use Rattle.std.proofs.Math.Dec.{leb}
-use Rattle.std.proofs.lemmas.Bool.Decides.{leb_tells}
+use Rattle.std.proofs.Common.{zero, suc, not, ◌&&◌, slice_index, IfSome, Contains, IsTrue, ◌↔◌, ◌≤◌, length, arith, ◌<◌, ◌+◌, ◌≡◌, ◌≢◌, inl, inr, ℕ, nat_eq, Bool, true, false, cond, ◌||◌, Option, Some, None, option_map, is_none, List, [], ◌∷◌, map, refl, sym, ap, ◌∙◌, true≢false, subst}
 use Rattle.std.specs.List.{All, list_any}
 use Rattle.std.proofs.lemmas.List.Elements.{All-head, All-tail}
 use Rattle.std.specs.List.Sorted.{IsStrictlyIncreasing}
@@ -12,7 +10,6 @@ use Rattle.bx_message.specs.declared.reply.Answer.{Answer}
 use Rattle.std.proofs.lemmas.Bool.{eqb-true, eq-eqb, ne_eqb}
 use Rattle.bx_names.specs.Globs.{Glob, any_matches}
 use Rattle.bx_names.specs.Segments.{segments}
-use Rattle.std.proofs.Math.ListN.{length-map}
 use Rattle.bx_advice.specs.declared.config.Config.{Config}
 use Rattle.bx_message.specs.declared.event.Event.{Event}
 use Rattle.bx_entry.specs.Keeping.{Kept, after, kept, resumed}

@@ -1,8 +1,7 @@
 -- Which kinds of entries ride.
-use Rattle.std.proofs.Common.{◌≡◌, Option, None, refl}
+use Rattle.std.proofs.Common.{◌≡◌, None, refl}
 use Rattle.bx_entry.specs.declared.entry.EntryKind.{EntryKind}
 use Rattle.bx_entry.specs.declared.entry.EntryKind.TheVariants.{Opened, Connect, Subscribe, Unsubscribe, Publish, Disconnect, Refused, Tick}
-use Rattle.bx_entry.specs.declared.entry.Rider.{Rider}
 use Rattle.bx_entry.specs.Sessions.{rider_of}
 
 -- none does without a rider

@@ -1,7 +1,7 @@
 -- A rider is answered behind the rest of its entry.
-use Rattle.std.proofs.Common.{Contains, arith, ◌≡◌, ◌≢◌, ◌≤◌, ◌+◌, ◌&&◌, ◌⊎◌, inl, inr, ⊎_elim, ℕ, min, nat_eq, ◌==◌, Bool, true, false, cond, Option, Some, None, option_map, IfSome, is_none, is_some, List, [], ◌∷◌, ◌++◌, length, map, take, refl, sym, ap, ◌∙◌, subst, true≢false}
-use Rattle.std.specs.Option.{option_and_then, option_or}
-use Rattle.std.proofs.lemmas.Bool.{and_parts, both_ways, cond_both, cond-true, cond-false, eqb-true, eq-eqb}
+use Rattle.std.proofs.Common.{Contains, arith, ◌≡◌, ◌≢◌, ◌≤◌, ◌+◌, ◌&&◌, ◌⊎◌, inl, inr, ⊎_elim, ℕ, min, nat_eq, ◌==◌, Bool, true, false, cond, Option, Some, None, option_map, IfSome, is_some, List, [], ◌∷◌, length, map, refl, sym, ap, ◌∙◌, subst, true≢false}
+use Rattle.std.specs.Option.{option_and_then}
+use Rattle.std.proofs.lemmas.Bool.{and_parts, cond_both, cond-true, cond-false, eqb-true, eq-eqb}
 use Rattle.std.proofs.lemmas.List.{length_push, map-append}
 use Rattle.std.proofs.lemmas.List.Elements.{Contains-append_cases, Contains-append_left, Contains-append_right}
 use Rattle.bx_lists.proofs.Tests.{either}
@@ -12,9 +12,8 @@ use Rattle.bx_entry.specs.declared.entry.Entry.{Entry}
 use Rattle.bx_entry.specs.declared.entry.EntryKind.{EntryKind}
 use Rattle.bx_entry.specs.declared.entry.EntryKind.TheVariants.{Opened, Connect, Subscribe, Unsubscribe, Publish, Disconnect, Refused, Tick}
 use Rattle.bx_entry.specs.declared.entry.Rider.{Rider}
-use Rattle.bx_entry.specs.Answers.{events_of}
-use Rattle.bx_entry.specs.Keeping.{Kept, after, kept, resumed}
-use Rattle.bx_entry.specs.Sessions.{Filed, Live, Pending, Publication, Session, Stage, delivered, gives_one, has_room, is_hit, is_live, is_riding, overflowed, delivered_to, published, received, ridden, ridden_by, ride_filing, ride_portion, rider_of, step, step_by, subscribed, unheld, unsubscribed, with_event}
+use Rattle.bx_entry.specs.Keeping.{Kept, kept, resumed}
+use Rattle.bx_entry.specs.Sessions.{Live, Pending, Publication, Session, delivered, gives_one, has_room, is_hit, is_live, is_riding, overflowed, delivered_to, received, ridden, ridden_by, ride_filing, ride_portion, rider_of, step, step_by, subscribed, unheld, unsubscribed, with_event}
 use Rattle.bx_session.specs.declared.answered.Answered.{Answered}
 use Rattle.bx_session.specs.Views.{answered_of, ride_most}
 use Rattle.bx_connects.specs.declared.connects.ConnectState.{ConnectState}
@@ -24,9 +23,9 @@ use Rattle.bx_shard.specs.declared.sessions.Sessions.{Sessions}
 use Rattle.bx_shard.specs.Effects.{answers_by}
 use Rattle.bx_shard.specs.Following.{Followed, alone, completed_by, given_up, rider_in, rides_of, unridden}
 use Rattle.bx_shard.specs.Sessions.{AreCounted, AreHeld, IsCounted, IsOwn, ends_for, held_until, holds_until, kept_in, patterns_in}
-use Rattle.bx_shard.specs.States.{Connects, Files, IsGiven, begun, connecting, if_live, opening, riding, session_after}
+use Rattle.bx_shard.specs.States.{Connects, IsGiven, begun, if_live, opening, riding, session_after}
 use Rattle.bx_theory.proofs.Counts.{subscribed_by}
-use Rattle.bx_theory.proofs.Keeps.{Keeps, delivered_to_k}
+use Rattle.bx_theory.proofs.Keeps.{delivered_to_k}
 use Rattle.bx_theory.proofs.Stages.{step_by_next}
 use Rattle.bx_shard.proofs.Followed.{at_number, live_there, none_here}
 use Rattle.bx_shard.proofs.Gives.{HoldsIt, holds_ends, rider_due}

@@ -1,4 +1,4 @@
-use Rattle.std.proofs.Common.{◌≡◌, ◌≤◌, ◌+◌, ◌++◌, ℕ, take, drop}
+use Rattle.std.proofs.Common.{◌≡◌, ◌≤◌, ◌+◌, ◌++◌, take, drop}
 use Rattle.bx_batches.proofs.window.move_front.Given as goal
 
 abbrev pub decreases-loop-left : goal.decreases-loop-left

@@ -2,7 +2,7 @@ use Rattle.std.proofs.Common.{rules, sym, ap, ◌∙◌}
 use Rattle.std.proofs.lemmas.Result.{on_ok_weaker}
 use Rattle.std.specs.Option.{option_copied}
 use Rattle.bx_shard.specs.Sessions.{kept_in}
-use Rattle.bx_shard.proofs.Riding.{Rides, away, followed_alone, followed_riding, mid_fits, rides_here}
+use Rattle.bx_shard.proofs.Riding.{away, followed_alone, followed_riding, mid_fits, rides_here}
 use Rattle.bx_shard.proofs.sessions.Sessions.follow.Goals as goal
 
 pub returns-in_default-clause-done : goal.returns-in_default-clause-done

@@ -7,7 +7,6 @@ use Rattle.bx_message.specs.declared.event.Event.{Event}
 use Rattle.bx_session.specs.Views.{wants_two}
 use Rattle.bx_shard.specs.declared.publish.Parcel.{Parcel}
 use Rattle.bx_shard.specs.Publishing.{IsPacked, numbers_of}
-use Rattle.bx_shard.specs.Sessions.{kept_in}
 use Rattle.bx_shard.proofs.Handing.{packed-by}
 use Rattle.bx_shard.proofs.sessions.Sessions.pack.Goals as goal
 

@@ -1,9 +1,7 @@
 use Rattle.std.proofs.Common.{rules, ◌≡◌, ◌↔◌, ℕ, Contains, IsTrue, List, sym, subst, ◌∙◌}
-use Rattle.std.specs.List.{All}
 use Rattle.std.specs.List.Sorted.{IsStrictlyIncreasing}
-use Rattle.bx_shard.specs.declared.publish.Parcel.{Parcel}
-use Rattle.bx_shard.specs.Publishing.{AllReady, IsPacked, Turns, numbers_of, reaches}
-use Rattle.bx_shard.specs.Sessions.{kept_in, patterns_in}
+use Rattle.bx_shard.specs.Publishing.{Turns, numbers_of, reaches}
+use Rattle.bx_shard.specs.Sessions.{patterns_in}
 use Rattle.bx_shard.proofs.Handing.{AreApart, AreOf, all_hear, answers_filed, are_apart, are_of, are_ready, config_after, connects_kept, gives_if, held_after, if_gives, sessions_kept}
 use Rattle.bx_shard.proofs.sessions.Sessions.publish.Goals as goal
 use Rattle.bx_shard.proofs.sessions.Sessions.publish.Goals.{In_ok-parcels}
