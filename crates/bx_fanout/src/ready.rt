@@ -10,7 +10,7 @@ use bx_message::{Answer, Sequence};
 use std::alloc::{AllocError, Global};
 use std::collections::VecDeque;
 
-/// Takes the replies that stand before the first connect that waits, and says whether all messages are answered with
+/// Takes the replies that stand before the first connect or rider that waits, and says whether all messages are answered with
 /// them. No shard is needed for that. What was taken is kept where memory is refused.
 pub(crate) fn collect_ready(alloc: Global, current: &mut CurrentInput) -> Result<bool, AllocError>
     ensures so_far { (setup : Setup) (w : WorldState) → IsCollected setup w current.old → IsCollected setup w current.new }

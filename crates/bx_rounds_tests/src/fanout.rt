@@ -93,6 +93,12 @@ const RIDDEN: [(usize, &str); 2] = [
     ),
 ];
 
+// A connect that is held.
+const ALONE: [(u64, &str); 1] = [(
+    40,
+    r#"{"channel":"/meta/connect","clientId":"000000000000000000000000000000000000000000000401","connectionType":"long-polling"}"#,
+)];
+
 // In which shards sessions stand, over and over: in turn, all in the first shard, and some together.
 const TABLES: [&[u8]; 3] = [&[0, 1, 2], &[], &[1, 2, 2]];
 
@@ -251,28 +257,46 @@ fn one_run_gives_what_several_give(rt: HostRuntime) -> Result<(), Fail> {
     Ok(())
 }
 
-// The same inputs, and behind them those of which one rides.
+// The same inputs, behind them riders that a team brings up, and a connect, which one worker does.
 fn check_riding<R: Abort + Threads + Sync>(
     rt: &R,
     alloc: Global,
     round: &mut Round<ByTable>,
+    team: u16,
 ) -> Result<(), Fail> {
     open_crowd(rt, alloc, round)?;
-    check_outs(rt, alloc, round, &INPUTS, &OUTS)?;
-    check_outs(rt, alloc, round, &RIDING, &RIDDEN)
+    check_outs(rt, alloc, &OpenGate, round, &INPUTS, &OUTS)?;
+    check_team(rt, alloc, round, team, &RIDING, &RIDDEN)?;
+    check_team(rt, alloc, round, 0b1, &ALONE, &[])
+}
+
+// A team brings the shards up behind these inputs, and gives these outs.
+fn check_team<R: Abort + Threads + Sync>(
+    rt: &R,
+    alloc: Global,
+    round: &mut Round<ByTable>,
+    team: u16,
+    asked: &[(u64, &str)],
+    right: &[(usize, &str)],
+) -> Result<(), Fail> {
+    let meeting = meeting_of(team);
+    check_outs(rt, alloc, &meeting, round, asked, right)?;
+    check_met(rt, &meeting);
+    Ok(())
 }
 
 // One run of these inputs gives these outs.
-fn check_outs<R: Abort + Threads + Sync>(
+fn check_outs<R: Abort + Threads + Sync, G: Gate + Sync>(
     rt: &R,
     alloc: Global,
+    gate: &G,
     round: &mut Round<ByTable>,
     asked: &[(u64, &str)],
     right: &[(usize, &str)],
 ) -> Result<(), Fail> {
     let mut outs = Vec::new(alloc);
     let inputs = requests(alloc, asked)?;
-    run(rt, alloc, &OpenGate, round, &inputs, &mut outs)?;
+    run(rt, alloc, gate, round, &inputs, &mut outs)?;
     check(rt, alloc, &outs, right)
 }
 
@@ -280,15 +304,16 @@ fn check_riding_by<R: Abort + Threads + Sync>(
     rt: &R,
     alloc: Global,
     workers: usize,
+    team: u16,
 ) -> Result<(), Fail> {
     let mut round = riding_round(alloc, workers)?;
-    check_riding(rt, alloc, &mut round)
+    check_riding(rt, alloc, &mut round, team)
 }
 
 #[test]
 fn events_ride_by_one_worker_and_by_four(rt: HostRuntime) -> Result<(), Fail> {
-    for workers in [1, 4] {
-        check_riding_by(&rt, rt.alloc(), workers)?;
+    for (workers, team) in [(1, 0b1), (4, 0b1111)] {
+        check_riding_by(&rt, rt.alloc(), workers, team)?;
     }
     Ok(())
 }

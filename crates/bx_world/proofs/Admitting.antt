@@ -1,5 +1,5 @@
 -- What an admission answers, by what was planned.
-use Rattle.std.proofs.Common.{◌≡◌, ℕ, ◌+◌, Bool, true, false, Option, Some, None, List, [], ◌++◌, length, refl, sym, ap, ◌∙◌, subst}
+use Rattle.std.proofs.Common.{◌≡◌, ℕ, ◌+◌, Bool, true, false, Option, Some, None, List, ◌++◌, length, refl, sym, ap, ◌∙◌, subst}
 use Rattle.std.specs.Prelude.{Result, Ok, Err, IsErrAnd, IfSome, IsOkUnless, nat_lt, if◌then◌else◌}
 use Rattle.bx_admission.proofs.Faults.{IsFault, fault_told, planned_taken}
 use Rattle.bx_admission.specs.Slots.{admitted_slots, placed_by}

@@ -1,6 +1,6 @@
 -- What an application gives, and what the shards hold after it.
-use Rattle.std.proofs.Common.{◌≡◌, ℕ, ◌+◌, ◌<◌, ◌≤◌, ◌==◌, ◌||◌, ◌&&◌, Bool, true, false, not, Some, None, List, [], ◌∷◌, length, map, nat_lt, slice_get, slice_set, get_or, refl, sym, ap, ◌∙◌, subst, arith, inl, inr, ⊎_elim}
-use Rattle.std.specs.Prelude.{slice_index}
+use Rattle.std.proofs.Common.{◌≡◌, ℕ, ◌+◌, ◌<◌, ◌≤◌, ◌==◌, ◌||◌, ◌&&◌, Bool, true, false, not, Option, Some, None, option_map, List, [], ◌∷◌, length, map, nat_lt, slice_get, slice_set, get_or, refl, sym, ap, ◌∙◌, subst, arith, inl, inr, ⊎_elim}
+use Rattle.std.specs.Prelude.{slice_index, ◌⊎◌, IfNone}
 use Rattle.std.proofs.Math.Seq.{map-set_same}
 use Rattle.std.proofs.lemmas.Bool.{cases_lt, cond-true, cond-false, lt-ltb, le-ltb, eq-eqb, ne_eqb, or_right}
 use Rattle.std.proofs.lemmas.List.{length-map, map-set}
@@ -39,8 +39,14 @@ past_end [] n m l h = omega (arith, l)
 past_end (e ∷ es) n m l h = ⊎_elim (λ (k : n < length (e ∷ es)). absurd (none-some (get_or (e ∷ es) n e) (sym h ∙ slice_get-get_or (e ∷ es) n e k))) (λ (k : length (e ∷ es) ≤ n). omega (arith, k, l)) (cases_lt n (length (e ∷ es)))
 
 -- and one that has none is behind it
-place_past : (config : Config) (list : List Listed) (n : ℕ) → slice_get (entries config list) n ≡ None → length list ≤ n
+pub place_past : (config : Config) (list : List Listed) (n : ℕ) → slice_get (entries config list) n ≡ None → length list ≤ n
 place_past config list n h = past_end (entries config list) n (length list) (entries_length config list) h
+
+-- no entry is found past the end of the list alone
+pub none_past : {X : Type 0} (entry_of : X → Entry) (config : Config) (list : List Listed) (n : ℕ) (P : Type 0) (found : Option X) →
+    option_map entry_of found ≡ slice_get (entries config list) n → IfNone found ((length list ≤ n) ⊎ P)
+none_past entry_of config list n P None e = inl (place_past config list n (sym e))
+none_past entry_of config list n P (Some x) e = tt
 
 pub place_before : (n len end : ℕ) → n < len → len ≤ end → n < end
 place_before n len end h g = omega arith

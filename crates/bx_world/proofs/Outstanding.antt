@@ -9,7 +9,7 @@ use Rattle.bx_advice.specs.declared.error.Error.TheVariants.{SupersededConnect, 
 use Rattle.bx_entry.specs.declared.entry.Entry.{Entry}
 use Rattle.bx_entry.specs.declared.entry.EntryKind.{EntryKind}
 use Rattle.bx_entry.specs.declared.entry.EntryKind.TheVariants.{Connect}
-use Rattle.bx_entry.specs.Sessions.{Session, Publication, Pending, Filed, filing, answered, released_from, released, acknowledged, cleared, portion, batch, with_batch, formed, gives, given, idle, answered_or_held, connected, step_by, step, session, unopened}
+use Rattle.bx_entry.specs.Sessions.{Session, Publication, Pending, Filed, filing, answered, released_from, released, acknowledged, cleared, portion, batch, with_batch, formed, gives, given, idle, answered_or_held, connected, step, session, unopened}
 use Rattle.bx_theory.specs.Laws.{InStep, Repeats, LastAnswer}
 use Rattle.bx_theory.proofs.Counts.{all_in_step, unopened_in_step, released_in}
 use Rattle.bx_theory.proofs.Runs.{Grown, run_grown, all_places}

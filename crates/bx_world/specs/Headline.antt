@@ -38,7 +38,7 @@ pub record IsTicket (setup : Setup) (list : List Listed) (here : ℕ) (t : Ticke
   pub place : t.place ≡ here
   pub shard : t.shard ≡ setup.placing session setup.shards
 
--- a reply is the answer of the message at this place, and has no events; a ticket is that of the connect at this place
+-- a reply is the answer of the message at this place, and has no events; a ticket is that of the connect or the rider at this place
 abbrev pub IsSlot : Setup → List Listed → ℕ → Slot → Type 0
 IsSlot setup list place (answers.Ready reply) = answer setup.config list place ≡ Some (record { place = place; events = []; reply = reply })
 IsSlot setup list place (answers.Waiting ticket) = IsTicket setup list place ticket
@@ -98,13 +98,13 @@ GaveIn answer (Taken None) = ⊥
 GaveIn answer (Taken (Some a)) = a ≡ answer
 GaveIn answer OutOfMemory = ⊥
 
--- only a taking gives one, to the connect at its ticket's place
+-- only a taking gives one, to the connect or the rider at its ticket's place
 abbrev pub GaveBy : ℕ → Answer → Step → StepOut → Type 0
 GaveBy place answer (Admit input) out = ⊥
 GaveBy place answer (Apply shard) out = ⊥
 GaveBy place answer (Take t) out = (t.place ≡ place) × GaveIn answer out
 
--- some taking of the schedule gave this answer to the connect at this place
+-- some taking of the schedule gave this answer to the connect or the rider at this place
 abbrev pub Gave : List Step → List StepOut → ℕ → Answer → Type 0
 Gave [] outs place answer = ⊥
 Gave (step ∷ steps) [] place answer = ⊥

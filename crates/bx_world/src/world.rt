@@ -11,7 +11,7 @@ ghost use Rattle.bx_shard.specs.Props.{holds_props};
 use crate::admission::Admission;
 use crate::step::{AdmissionFault, Admitted, Applied, Step, StepOut};
 use bx_advice::{Config, ShardCount};
-use bx_entry::{Arrival, Input, Placing, Ticket};
+use bx_entry::{Arrival, Entry, Input, Placing, Ticket};
 use bx_history::History;
 use bx_message::Answer;
 use bx_reshard::redistribute;
@@ -43,7 +43,7 @@ pub struct World<P: Placing> {
 
 impl<P: Placing> World<P> {
     ghost use Rattle.std.specs.List.{list_any};
-    ghost use Rattle.std.specs.Prelude.{ℕ, ◌+◌, ◌-◌, ◌==◌, None, Some, false, slice_get, count_by, nat_lt, replicate, Err, IfOk, IfErr, IfSome, IfNone};
+    ghost use Rattle.std.specs.Prelude.{ℕ, ◌⊎◌, ◌+◌, ◌-◌, ◌==◌, None, Some, false, slice_get, count_by, nat_lt, replicate, Err, IfOk, IfErr, IfSome, IfNone};
     ghost use Rattle.bx_entry.specs.Inputs.{refusal_of};
     ghost use Rattle.bx_entry.specs.Requests.{read_input};
     ghost use Rattle.bx_entry.specs.declared.entry.Entry.{Entry};
@@ -172,6 +172,18 @@ impl<P: Placing> World<P> {
         self.admission
             .entries()
             .saturating_sub(self.admission.first())
+    }
+
+    /// The entry at this place, which is kept until each shard has applied it; none at the end of the list.
+    pub fn entry(&self, place: u64) -> Option<&Entry>
+        ensures some { IfSome result (λ e. slice_get (entries (setup_of self.now).config (world_of self.now).list) place ≡ Some e.now) }
+        ensures none { IfNone result ((length (world_of self.now).list ≤ place)
+            ⊎ ((k n : ℕ) → slice_get (world_of self.now).applied k ≡ Some n → place < n)) }
+    {
+        if place < self.admission.first() {
+            return None;
+        }
+        self.admission.entry(place)
     }
 
     /// How many sessions are live.

@@ -1,5 +1,4 @@
 use Rattle.std.proofs.Common.{◌∙◌, ap, arith, length}
-use Rattle.bx_entry.specs.declared.entry.Entry.{Entry}
 use Rattle.bx_theory.proofs.Lists.{entries_length}
 use Rattle.bx_world.specs.Admissions.{Admitting}
 use Rattle.bx_world.proofs.admission.Admission.forget.Goals as goal
