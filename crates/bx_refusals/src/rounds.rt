@@ -5,7 +5,7 @@ use crate::requests::{
     response,
 };
 use crate::unlike::Unlike;
-use bx_advice::ShardCount;
+use bx_advice::{Options, ShardCount};
 use bx_entry::{ByRemainder, Input};
 use bx_fanout::{Out, Round, RoundFault};
 use bx_workers::{OpenGate, WorkerCount};
@@ -19,12 +19,14 @@ const MOST_INPUTS: usize = 1_000;
 // Requests, each with its moment.
 type Requests = &'static [(u64, &'static str)];
 
-// Requests, among how many shards the sessions are dealt anew behind them, if they are, and the requests behind that.
+// Requests, among how many shards the sessions are dealt anew behind them, if they are, and the requests behind that; and whether
+// waiting events ride.
 #[derive(Clone, Copy, Debug)]
 struct Worked {
     first: Requests,
     shards: Option<usize>,
     then: Requests,
+    ride: bool,
 }
 
 // The first session subscribes, and publishes an event that it gets itself.
@@ -71,6 +73,7 @@ const ANSWERED: Worked = Worked {
     ],
     shards: None,
     then: &[],
+    ride: false,
 };
 
 // Batches are given again until they are acknowledged.
@@ -88,6 +91,7 @@ const BATCHES: Worked = Worked {
     ],
     shards: None,
     then: &[],
+    ride: false,
 };
 
 // The first batch answers a connect that is held, and is given again; what acknowledges it is held.
@@ -103,6 +107,7 @@ const HELD_BATCHES: Worked = Worked {
     ],
     shards: None,
     then: &[],
+    ride: false,
 };
 
 // While a connect is held the sessions are dealt anew.
@@ -115,6 +120,7 @@ const DEALT_WHILE_HELD: Worked = Worked {
     ],
     shards: Some(5),
     then: &[(20, PUBLISH)],
+    ride: false,
 };
 
 // While a batch is outstanding they are.
@@ -126,17 +132,34 @@ const DEALT_WITH_A_BATCH: Worked = Worked {
     ],
     shards: Some(1),
     then: &[(2, ACKNOWLEDGE_NONE)],
+    ride: false,
 };
 
-const WORKED: [Worked; 5] = [
+// Events ride: behind a subscription and a publish, while a connect is held, and where none waits.
+const RIDDEN: Worked = Worked {
+    first: &[
+        (0, HANDSHAKE),
+        (1, SUBSCRIBE_AND_PUBLISH),
+        (2, PUBLISH_TWO),
+        (3, CONNECT),
+        (4, PUBLISH_TWO),
+        (5, UNSUBSCRIBE),
+    ],
+    shards: None,
+    then: &[],
+    ride: true,
+};
+
+const WORKED: [Worked; 6] = [
     ANSWERED,
     BATCHES,
     HELD_BATCHES,
     DEALT_WHILE_HELD,
     DEALT_WITH_A_BATCH,
+    RIDDEN,
 ];
 
-/// Worked runs, in two of which the sessions are dealt anew. Says what each round gives, by the numbers of the requests from 1
+/// Worked runs, in two of which the sessions are dealt anew, and in one events ride. Says what each round gives, by the numbers of the requests from 1
 /// on, and which connects are held at its end.
 pub fn run<R: Threads + Sync>(rt: &R, alloc: Global) -> Result<String, Unlike> {
     let mut text = String::new(alloc);
@@ -167,7 +190,7 @@ fn first<R: Threads + Sync>(
     (once, again): (Arc<ByRemainder>, Arc<ByRemainder>),
     outs: &mut Vec<Out>,
 ) -> Result<Round<ByRemainder>, Unlike> {
-    let round = dealt(rt, alloc, worked.first, outs)?;
+    let round = dealt(rt, alloc, worked, outs)?;
     match worked.shards {
         None => Ok(round),
         Some(shards) => match ShardCount::new(shards) {
@@ -177,15 +200,19 @@ fn first<R: Threads + Sync>(
     }
 }
 
-// A round of two shards that has dealt with these requests.
+// A round of two shards that has dealt with the first requests.
 fn dealt<R: Threads + Sync>(
     rt: &R,
     alloc: Global,
-    requests: Requests,
+    worked: Worked,
     outs: &mut Vec<Out>,
 ) -> Result<Round<ByRemainder>, Unlike> {
-    let mut round = Round::new(alloc, config(2)?, placing(alloc)?, WorkerCount::one())?;
-    deal(rt, alloc, &mut round, requests, outs)?;
+    let config = config(2)?.with(Options {
+        ride: worked.ride,
+        anonymous: false,
+    });
+    let mut round = Round::new(alloc, config, placing(alloc)?, WorkerCount::one())?;
+    deal(rt, alloc, &mut round, worked.first, outs)?;
     Ok(round)
 }
 
