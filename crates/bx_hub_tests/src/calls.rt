@@ -21,6 +21,10 @@ pub const CONNECT_OTHER: &str =
 pub const PUBLISH: &str =
     r#"[{"channel":"/a/b","clientId":"000000000000000000000000000000000000000000000002","data":7}]"#;
 
+/// The first session publishes an event that it gets itself.
+pub const PUBLISH_OWN: &str =
+    r#"[{"channel":"/a/c","clientId":"000000000000000000000000000000000000000000000001","data":8}]"#;
+
 /// A call was refused.
 #[derive(Clone, Copy, Debug)]
 pub struct Refused;
@@ -40,7 +44,7 @@ pub fn arrival(alloc: Global, body: &str) -> Result<Arrival, AllocError> {
     })
 }
 
-// The ticket of the first connect that waits.
+// The ticket of the first connect or rider that waits.
 fn ticket_of(slots: &[Slot]) -> Option<Ticket> {
     for slot in slots {
         if let Slot::Waiting(ticket) = slot {
@@ -50,7 +54,7 @@ fn ticket_of(slots: &[Slot]) -> Option<Ticket> {
     None
 }
 
-/// Posts a body; says where its first message stands, and gives the ticket of its first connect.
+/// Posts a body; says where its first message stands, and gives the ticket of its first connect or rider.
 pub fn post<J: Naming, P: Placing, G: Gate + Drop, H: Wait + Drop, R: Wait>(
     rt: &R,
     alloc: Global,
@@ -77,7 +81,7 @@ pub fn refusal<J: Naming, P: Placing, G: Gate + Drop, H: Wait + Drop, R: Wait>(
     Ok(hub.post(rt, alloc, pass, &arrival).err())
 }
 
-/// One more than the number of events that a connect is answered with; 0 where no answer is filed.
+/// One more than the number of events that a connect or a rider is answered with; 0 where no answer is filed.
 pub fn poll<J: Naming, P: Placing, G: Gate + Drop, H: Wait + Drop, R: Wait>(
     rt: &R,
     alloc: Global,
@@ -92,7 +96,7 @@ pub fn poll<J: Naming, P: Placing, G: Gate + Drop, H: Wait + Drop, R: Wait>(
     }
 }
 
-/// Why a connect is given no answer, if there is a fault.
+/// Why a connect or a rider is given no answer, if there is a fault.
 pub fn fault_of<J: Naming, P: Placing, G: Gate + Drop, H: Wait + Drop, R: Wait>(
     rt: &R,
     alloc: Global,

@@ -2,9 +2,12 @@
 ghost use Rattle.std.specs.Prelude.{◌≡◌};
 ghost use Rattle.bx_entry.specs.Placings.{by_remainder};
 
-use crate::calls::{Refused, arrival, fault_of, hold, poll, publish, refusal};
+use crate::calls::{
+    HANDSHAKE, PUBLISH_OWN, Refused, SUBSCRIBE, arrival, fault_of, hold, poll, post, publish,
+    refusal,
+};
 use crate::same::same;
-use bx_advice::Config;
+use bx_advice::{Config, Options};
 use bx_entry::{ByRemainder, Placing};
 use bx_hub::{Gate, Hub, HubFault, Lagging, OpenGate, Pass, PostFault};
 use bx_window::{Naming, Opened};
@@ -155,12 +158,46 @@ fn gives<J: Naming, P: Placing, G: Gate + Drop, H: Wait + Drop, R: Wait + Abort>
     Ok(())
 }
 
+// A rider in a paused shard is not answered until the shard goes on. Then it is given what another session had published before it,
+// and its own event.
+fn rides<J: Naming, P: Placing, G: Gate + Drop, H: Wait + Drop, R: Wait + Abort>(
+    rt: &R,
+    alloc: Global,
+    hub: &Hub<J, P, G, H>,
+    pass: &mut Pass<J>,
+) -> Result<(), Fail> {
+    post(rt, alloc, hub, pass, HANDSHAKE)?;
+    post(rt, alloc, hub, pass, SUBSCRIBE)?;
+    same(rt, hub.pause(rt, 1), true, "pause 1");
+    publish_apart(rt, alloc, hub, pass)?;
+    let (place, ticket) = post(rt, alloc, hub, pass, PUBLISH_OWN)?;
+    same(rt, place, 4, "the place of the rider");
+    let ticket = ticket.ok_or("no rider")?;
+    let fault = fault_of(rt, alloc, hub, pass, ticket);
+    same(rt, fault, Some(HubFault::Paused), "paused");
+    same(rt, hub.resume(rt, 1), true, "resume 1");
+    same(rt, poll(rt, alloc, hub, pass, ticket)?, 3, "found");
+    same(rt, poll(rt, alloc, hub, pass, ticket)?, 0, "found again");
+    Ok(())
+}
+
 // What is asked of a hub with a shard that stands still.
 #[derive(Clone, Copy, Debug)]
 enum Case {
     Fills,
     Waits,
     Gives,
+    Rides,
+}
+
+// Where events ride, the hub's configuration says so.
+fn config_for(case: Case) -> Option<Config> {
+    let ride = matches!(case, Case::Rides);
+    let options = Options {
+        ride,
+        anonymous: false,
+    };
+    Some(Config::new(2, 30_000, 0, 10_000)?.with(options))
 }
 
 fn check<J: Naming, P: Placing, G: Gate + Drop, H: Wait + Drop, R: Wait + Abort>(
@@ -174,6 +211,7 @@ fn check<J: Naming, P: Placing, G: Gate + Drop, H: Wait + Drop, R: Wait + Abort>
         Case::Fills => fills(rt, alloc, hub, pass),
         Case::Waits => waits(rt, alloc, hub, pass),
         Case::Gives => gives(rt, alloc, hub, pass),
+        Case::Rides => rides(rt, alloc, hub, pass),
     }
 }
 
@@ -198,8 +236,8 @@ fn stands<J: Naming, R: Wait + Abort>(
 #[test]
 fn a_shard_stands_still(rt: HostRuntime) -> Result<(), Fail> {
     let alloc = rt.alloc();
-    let config = Config::new(2, 30_000, 0, 10_000).ok_or("no configuration")?;
-    for case in [Case::Fills, Case::Waits, Case::Gives] {
+    for case in [Case::Fills, Case::Waits, Case::Gives, Case::Rides] {
+        let config = config_for(case).ok_or("no configuration")?;
         let placing = Arc::new(alloc, ByRemainder)?;
         stands::<Brand, _>(&rt, alloc, Opened::new(), config, placing, case)?;
     }

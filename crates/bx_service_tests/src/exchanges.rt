@@ -5,7 +5,7 @@ ghost use Rattle.bx_entry.specs.Placings.{by_remainder};
 use crate::bench::{Bench, Still, Zeros};
 use crate::requests::{Ask, Content, Given, POST, Want, check_given, check_pending};
 use crate::runs::{Held, RUNS, Step};
-use bx_advice::Config;
+use bx_advice::{Config, Options};
 use bx_entry::ByRemainder;
 use bx_hub::{Hub, OpenGate};
 use bx_message::Item;
@@ -245,6 +245,10 @@ fn exchanges(rt: HostRuntime) -> Result<(), Fail> {
     let alloc = rt.alloc();
     let config = Config::new(2, 30_000, 0, 10_000).ok_or("no configuration")?;
     for number in 0..RUNS.len() {
+        let config = config.with(Options {
+            ride: RUNS[number].ride,
+            anonymous: false,
+        });
         let placing = Arc::new(alloc, ByRemainder)?;
         let tasks = (MockTask::new(&rt)?, MockTask::new(&rt)?);
         // A task is woken from the first on, until it is polled.

@@ -47,6 +47,8 @@ pub struct Run {
     pub first: &'static [Step],
     pub held: Option<Held>,
     pub last: &'static [Step],
+    /// Whether waiting events ride.
+    pub ride: bool,
 }
 
 // A first session that is subscribed, and a second one.
@@ -85,6 +87,7 @@ const ANSWERED: Run = Run {
         gives: Some((true, Want::Json(texts::SECOND_HANDSHAKEN))),
     }),
     last: &[],
+    ride: false,
 };
 
 // Paths and methods that are not served, bodies and queries without messages, a body at its limit and beyond it, one that is
@@ -138,6 +141,7 @@ const REFUSED: Run = Run {
     ],
     held: None,
     last: &[],
+    ride: false,
 };
 
 const CLOSED: Run = Run {
@@ -147,6 +151,7 @@ const CLOSED: Run = Run {
     ],
     held: None,
     last: &[],
+    ride: false,
 };
 
 // A form of two documents, and queries whose answers are scripts.
@@ -177,6 +182,7 @@ const OTHER_FORMS: Run = Run {
     ],
     held: None,
     last: &[],
+    ride: false,
 };
 
 // A connect of the first session is held, and given what belongs to the end of its wait.
@@ -190,6 +196,7 @@ const PUBLISHED: Run = Run {
         gives: Some((true, Want::Json(texts::CONNECTED_WITH_EVENT))),
     }),
     last: &[],
+    ride: false,
 };
 
 const SUPERSEDED: Run = Run {
@@ -202,6 +209,7 @@ const SUPERSEDED: Run = Run {
         gives: Some((true, Want::Json(texts::SUPERSEDED))),
     }),
     last: &[],
+    ride: false,
 };
 
 const DISCONNECTED: Run = Run {
@@ -214,6 +222,7 @@ const DISCONNECTED: Run = Run {
         gives: Some((true, Want::Json(texts::SESSION_ENDED))),
     }),
     last: &[],
+    ride: false,
 };
 
 const TIMED_OUT: Run = Run {
@@ -226,6 +235,7 @@ const TIMED_OUT: Run = Run {
         gives: Some((true, Want::Json(texts::CONNECTED))),
     }),
     last: &[],
+    ride: false,
 };
 
 const SHUT: Run = Run {
@@ -238,6 +248,7 @@ const SHUT: Run = Run {
         gives: Some((true, Want::Status(503))),
     }),
     last: &[],
+    ride: false,
 };
 
 // Where its shard is paused, nothing tells the task so.
@@ -251,6 +262,7 @@ const PAUSED: Run = Run {
         gives: Some((false, Want::Status(503))),
     }),
     last: &[],
+    ride: false,
 };
 
 // A body that is broken off anywhere is refused, and opens no session.
@@ -261,6 +273,7 @@ const BROKEN_OFF: Run = Run {
     ],
     held: None,
     last: &[],
+    ride: false,
 };
 
 // A held exchange is given up: what was published since comes with the next connect, since the session acknowledges. The
@@ -280,6 +293,7 @@ const GIVEN_UP: Run = Run {
         Step::Sweep(1),
         Step::Sweep(0),
     ],
+    ride: false,
 };
 
 // Where the session does not acknowledge, what the answer had is lost with it.
@@ -296,10 +310,40 @@ const LOST: Run = Run {
         PUBLISH,
         Step::Post(texts::CONNECT_AT_ONCE, texts::CONNECTED),
     ],
+    ride: false,
+};
+
+// What waits for a session rides on its next publish, by a query too. While its connect is held, that is given the first event, and
+// the rider the one behind. A rider whose shard is paused is not answered.
+const RIDDEN: Run = Run {
+    first: &[
+        Step::Post(texts::HANDSHAKE, texts::HANDSHAKEN),
+        Step::Post(texts::HANDSHAKE, texts::SECOND_HANDSHAKEN),
+        Step::Post(texts::SUBSCRIBE, texts::SUBSCRIBED),
+        PUBLISH,
+        Step::Post(texts::PUBLISH_OWN, texts::OWN_RIDDEN),
+        Step::Target(
+            "GET",
+            texts::QUERY_PUBLISH,
+            Want::Script(texts::SCRIPT_RIDDEN),
+        ),
+    ],
+    held: Some(Held {
+        content: Content::Whole(texts::CONNECT),
+        is_late: false,
+        before: &[],
+        then: &[Step::Post(texts::PUBLISH_TWO, texts::SECOND_RIDDEN)],
+        gives: Some((true, Want::Json(texts::CONNECTED_WITH_OWN))),
+    }),
+    last: &[
+        Step::Pause,
+        Step::Body(JSON, texts::PUBLISH_OWN, Want::Status(503)),
+    ],
+    ride: true,
 };
 
 /// All runs.
-pub const RUNS: [Run; 13] = [
+pub const RUNS: [Run; 14] = [
     ANSWERED,
     REFUSED,
     CLOSED,
@@ -313,4 +357,5 @@ pub const RUNS: [Run; 13] = [
     BROKEN_OFF,
     GIVEN_UP,
     LOST,
+    RIDDEN,
 ];

@@ -32,6 +32,14 @@ pub const DISCONNECT: &str =
 pub const PUBLISH: &str =
     r#"[{"channel":"/a/b","clientId":"000000000000000000000000000000000000000000000002","data":7}]"#;
 
+/// The first session publishes to `/a/c`.
+pub const PUBLISH_OWN: &str =
+    r#"[{"channel":"/a/c","clientId":"000000000000000000000000000000000000000000000001","data":8}]"#;
+
+/// The first session publishes to `/a/c` and to `/a/d`.
+pub const PUBLISH_TWO: &str =
+    r#"[{"channel":"/a/c","clientId":"000000000000000000000000000000000000000000000001","data":8},{"channel":"/a/d","clientId":"000000000000000000000000000000000000000000000001","data":9}]"#;
+
 /// A form of two documents: the first session subscribes, and publishes.
 pub const FORM_OF_TWO: &str =
     r#"message=[{"channel":"/meta/subscribe","clientId":"000000000000000000000000000000000000000000000001","subscription":"/a/*"}]&message=[{"channel":"/a/x","clientId":"000000000000000000000000000000000000000000000001","data":1}]"#;
@@ -72,6 +80,10 @@ pub const CONNECTED_WITH_EVENT: &str =
 pub const ACK_CONNECTED_WITH_EVENT: &str =
     r#"[{"channel":"/a/b","data":7},{"advice":{"interval":0,"reconnect":"retry","timeout":30000},"channel":"/meta/connect","clientId":"000000000000000000000000000000000000000000000001","ext":{"ack":1},"successful":true}]"#;
 
+/// The connect is answered with what its session published first.
+pub const CONNECTED_WITH_OWN: &str =
+    r#"[{"channel":"/a/c","data":8},{"advice":{"interval":0,"reconnect":"retry","timeout":30000},"channel":"/meta/connect","clientId":"000000000000000000000000000000000000000000000001","successful":true}]"#;
+
 /// The connect is answered, since there is a newer one.
 pub const SUPERSEDED: &str =
     r#"[{"channel":"/meta/connect","clientId":"000000000000000000000000000000000000000000000001","error":"408::Superseded connect","successful":false}]"#;
@@ -86,6 +98,18 @@ pub const DISCONNECTED: &str =
 
 /// The publish is answered.
 pub const PUBLISHED: &str = r#"[{"channel":"/a/b","successful":true}]"#;
+
+/// The first session's publish is answered behind what the second one published and its own event.
+pub const OWN_RIDDEN: &str =
+    r#"[{"channel":"/a/b","data":7},{"channel":"/a/c","data":8},{"channel":"/a/c","successful":true}]"#;
+
+/// Two publishes are answered, and before the second one's reply goes its event.
+pub const SECOND_RIDDEN: &str =
+    r#"[{"channel":"/a/c","successful":true},{"channel":"/a/d","data":9},{"channel":"/a/d","successful":true}]"#;
+
+/// The publish of the query is answered behind its event, as a script.
+pub const SCRIPT_RIDDEN: &str =
+    r#"cb.x([{"channel":"/a/b","data":"x\u2028y"},{"channel":"/a/b","successful":true}])"#;
 
 /// Both documents of the form are answered.
 pub const BOTH_OF_THE_FORM: &str =
