@@ -130,8 +130,18 @@ def patterns():
     yield "subscriptions of many patterns", script, expected
 
 
+def as_many_patterns(line):
+    """Returns 16 subscriptions from a line on, by which the first session has as many patterns as it may, and their replies."""
+    script, expected = "", ""
+    for number in range(line, line + 16):
+        members = '<meta subscribe 1>,"subscription":[%s]' % ",".join(f'"/{number}/{index}"' for index in range(64))
+        script += f"0 P [{{{members}}}]\n"
+        expected += f'{number} 200 [{{{members},"successful":true}}]\n'
+    return script, expected
+
+
 def overflows():
-    """Yields sessions with as many events as may wait, one event more, and one pattern too many, which ends no hold."""
+    """Yields sessions with as many events as may wait, one event more, and one pattern too many, which ends no hold and lets nothing ride."""
     script, expected = "0 P [<handshake>]\n0 P [<subscribe 1 /a/b>]\n", "1 200 [<opened 1>]\n2 200 [<subscribed 1 /a/b>]\n"
     for line in range(3, 7):
         script += f"0 P [{listed('<publish 1 /a/b 1>', 256)}]\n"
@@ -144,11 +154,8 @@ def overflows():
     events = listed("<event /a/b 1>", 256)
     answers = "".join(f"{line} 200 [{events},<connected 1>]\n" for line in range(7, 11))
     yield "as many events as may be", script + "0 P [<poll 1>]\n" * 4, expected + answers
-    script, expected = "0 P [<handshake>]\n0 P [<connect 1>]\n", "1 200 [<opened 1>]\n"
-    for line in range(3, 19):
-        members = '<meta subscribe 1>,"subscription":[%s]' % ",".join(f'"/{line}/{index}"' for index in range(64))
-        script += f"0 P [{{{members}}}]\n"
-        expected += f'{line} 200 [{{{members},"successful":true}}]\n'
+    filled, full = as_many_patterns(3)
+    script, expected = f"0 P [<handshake>]\n0 P [<connect 1>]\n{filled}", f"1 200 [<opened 1>]\n{full}"
     for limit in (1_024, 1, 65_536):
         yield (
             "one pattern too many",
@@ -156,6 +163,12 @@ def overflows():
             f"{expected}19 200 [<subscribed 1 /a>]\n2 200 [<connected 1>]\n22 200 [<overflowed 1>]\n",
             f".. - {limit}",
         )
+    yield (
+        "a rider whose patterns are one too many gets nothing, and none behind it does",
+        f"0 P [<handshake>]\n0 P [<handshake>]\n{filled}0 P [<publish 2 /3/0 1>]\n0 P [<subscribe 1 /a>]\n0 P [<publish 1 /b 2>]\n0 P [<poll 1>]\n",
+        f"1 200 [<opened 1>]\n2 200 [<opened 2>]\n{full}19 200 [<published /3/0>]\n20 200 [<subscribed 1 /a>]\n21 200 [<published /b>]\n22 200 [<overflowed 1>]\n",
+        ".. r",
+    )
 
 
 def limits():
@@ -191,7 +204,7 @@ def riders():
 
 
 def crowds():
-    """Yields a connect behind so many sessions that several workers find something to do: it is held until its event."""
+    """Yields a rider and a connect behind so many sessions that several workers find something to do: the connect is held until its event."""
     script = "0 P [<handshake>]\n" * 1_024
     expected = "".join(f"{line} 200 [<opened {line:x}>]\n" for line in range(1, 1_025))
     lines = (
@@ -202,6 +215,12 @@ def crowds():
     script += "".join(asked for asked, _ in lines)
     expected += "".join(printed for _, printed in lines)
     yield "no connect is held behind a crowd", script, expected
+    yield (
+        "a rider gets its events behind a crowd",
+        f"{script}10 P [<publish 402 /a/b 7>]\n10 P [<publish 401 /a/c 8>]\n",
+        f"{expected}1028 200 [<published /a/b>]\n1029 200 [<event /a/b 7>,<event /a/c 8>,<published /a/c>]\n",
+        ".. r",
+    )
     script += "10 P [<connect 401>]\n"
     yield "a connect is held behind a crowd", script, f"{expected}1028 held\n"
     yield (
