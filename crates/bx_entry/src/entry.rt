@@ -68,7 +68,7 @@ pub struct Batch {
     pub entries: Sequence<Entry>,
 }
 
-/// Where the answer to a connect or a rider is filed: under its place, in this shard. It is good for as long as the sessions are intake
+/// Where the answer to a connect or a rider is filed: under its place, in this shard. It is good for as long as the sessions are dealt
 /// among the shards as they are: once they are redistributed, the answer may stand in another shard.
 #[derive(Clone, Copy, Debug, PartialEq, Eq)]
 pub struct Ticket {

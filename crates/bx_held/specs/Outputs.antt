@@ -19,7 +19,7 @@ of_hub stops.Paused = Paused
 of_hub (stops.Overrun shard place) = Overrun shard place
 of_hub stops.Memory = Memory
 
--- the ticket names no shard, or the shard that it names was at the end of this front and had filed no answer to the ticket's connect
+-- the ticket names no shard, or the shard that it names was at the end of this front and had filed no answer under the ticket
 abbrev pub HasNone : Setup → Ticket → List Step → Type 0
 HasNone setup ticket front = (setup.shards ≤ ticket.shard) ⊎ IsLevelWithout setup ticket front
 

@@ -22,7 +22,7 @@ use futures::task::{Context, Poll, Source, Waker};
 use std::alloc::Global;
 use std::sync::{Arc, Wait};
 
-/// The answer to a connect, once it is filed.
+/// The answer to a connect or a rider, once it is filed.
 ///
 /// Each poll asks the hub for the answer. While there is none, it leaves a waker of the task that polls beside the connect, so
 /// that this task is woken once the connect is answered, also where the future went from one task to another meanwhile.

@@ -38,7 +38,7 @@ held_of {J} {P} {g} {h} d = record { seen = d.reader; told = d.note; taken = d.t
 abbrev pub answer_over : Config → List Step → ℕ → Option Answer
 answer_over config log place = option_map given_of (answer config (list_of log) place)
 
--- the shard that the ticket names was at the end of this front, under its lock, and had filed no answer to the ticket's connect
+-- the shard that the ticket names was at the end of this front, under its lock, and had filed no answer under the ticket
 pub record IsLevelWithout (setup : Setup) (ticket : Ticket) (front : List Step) : Type 0 where
   pub held : Held
   pub stands : Stands setup held

@@ -262,7 +262,7 @@ impl<J: Naming, P: Placing, G: Gate + Drop, R: Wait + Drop> Hub<J, P, G, R> {
         behind
     }
 
-    /// The answer to a connect, where its shard has filed one, or files one while it is brought up to what the pass has
+    /// The answer to a connect or a rider, where its shard has filed one, or files one while it is brought up to what the pass has
     /// seen. A ticket that names no shard has none. A filed answer is given even where the hub was closed.
     pub fn poll_answer<W: Wait>(
         &self,

@@ -132,7 +132,7 @@ pub fn share_json(json: Option<&RawJson>) -> Result<Option<RawJson>, AllocError>
     }
 }
 
-/// What a connect is answered with: the events that it is given, and its reply.
+/// What a connect or a rider is answered with: the events that it is given, and its reply.
 #[derive(Drop)]
 pub struct Answer {
     pub events: Sequence<SharedEvent>,

@@ -19,12 +19,12 @@ use Rattle.bx_window.specs.declared.law.Step.{Step}
 use Rattle.bx_service.specs.Statuses.{post_status}
 use Rattle.bx_message.specs.declared.status.Status.{Status}
 
--- a connect that waits stands below this place
+-- a connect or a rider that waits stands below this place
 abbrev pub IsBelow : ℕ → Slot → Type 0
 IsBelow end (Ready reply) = Unit {0}
 IsBelow end (Waiting ticket) = ticket.place < end
 
--- the connects that wait among these slots stand below this place
+-- those that wait among these slots stand below this place
 abbrev pub AreBelow : ℕ → List Slot → Type 0
 AreBelow end slots = AllByRecursion (IsBelow end) slots
 
@@ -39,7 +39,7 @@ are_below-prop end slots = AllByRecursion-prop (IsBelow end) (below-prop end) sl
 abbrev pub items_of : Answer → List Item
 items_of a = map EventItem a.events ++ ReplyItem a.reply ∷ []
 
--- a connect that is waited for: its ticket, what had been seen when it was asked for last, and whether its answer was given
+-- a connect or a rider that is waited for: its ticket, what had been seen when it was asked for last, and whether its answer was given
 pub record Awaited : Type 0 where
   pub ticket : Ticket
   pub seen : List Step
@@ -64,7 +64,7 @@ module _ (setup : Setup) where
     AreItems [] items = items ≡ []
     AreItems (slot ∷ slots) items = (first : List Item) × (AreItemsFor slot first × ((rest : List Item) × (AreItems slots rest × (items ≡ first ++ rest))))
 
-    -- the items that are to come, where a connect is waited for or none is
+    -- the items that are to come, where one is waited for or none is
     abbrev pub AreLeft : Option Awaited → List Slot → List Item → Type 0
     AreLeft None slots items = AreItems slots items
     AreLeft (Some w) slots items = (first : List Item) × (AreItemsSince w.ticket w.seen w.is_done first × ((rest : List Item) × (AreItems slots rest × (items ≡ first ++ rest))))

@@ -22,7 +22,7 @@ use std::mem;
 use std::sync::{Arc, Wait};
 use std::vec::IntoIter;
 
-/// A request that was admitted: the items that are there, the connect that is waited for, and the slots behind it.
+/// A request that was admitted: the items that are there, the connect or the rider that is waited for, and the slots behind it.
 #[derive(Drop)]
 pub struct Gathering<J: Naming, P: Placing, G: Gate + Drop, R: Wait + Drop> {
     rt: R,
@@ -71,7 +71,7 @@ impl<J: Naming, P: Placing + Drop, G: Gate + Drop, R: Wait + Copy + Drop> Gather
         Ok(())
     }
 
-    // Puts the items of the connect that is waited for behind the others, once they are there.
+    // Puts the items of the message that is waited for behind the others, once they are there.
     fn poll_held(&mut self, cx: &mut Context<'_>) -> Result<Poll<()>, Unanswered>
         ensures same { OnOk result ((all : List Item)
             → AreAll (placed_by J.config J.config.shards J.placing) self.new.pass self.new.items.items (option_map (λ h. awaited_as h.ticket h.pass h.is_done) self.new.held) (into_iter_items self.new.slots) all
@@ -116,7 +116,7 @@ impl<J: Naming, P: Placing + Drop, G: Gate + Drop, R: Wait + Copy + Drop> Gather
         }
     }
 
-    // Goes on until all items are there, or a connect is waited for.
+    // Goes on until all items are there, or a connect or a rider is waited for.
     fn gather(&mut self, cx: &mut Context<'_>) -> Result<Poll<()>, Unanswered>
         ensures same { OnOk result ((all : List Item)
             → AreAll (placed_by J.config J.config.shards J.placing) self.new.pass self.new.items.items (option_map (λ h. awaited_as h.ticket h.pass h.is_done) self.new.held) (into_iter_items self.new.slots) all
@@ -141,7 +141,7 @@ impl<J: Naming, P: Placing + Drop, G: Gate + Drop, R: Wait + Copy + Drop> Future
     for Gathering<J, P, G, R> {
     type Output = Result<Vec<Item>, Unanswered>;
 
-    // That the connect which is waited for is answered.
+    // That the message which is waited for is answered.
     ghost needs = { λ g s. MatchOption g.held ⊥ (λ h. s ≡ h.source.id) };
 
     ghost gives = { λ g gathered. IfOk gathered (λ items. AreAll (placed_by J.config J.config.shards J.placing) g.pass g.items.items (option_map (λ h. awaited_as h.ticket h.pass h.is_done) g.held) (into_iter_items g.slots) items.items) };

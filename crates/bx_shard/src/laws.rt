@@ -78,7 +78,7 @@ pub fn refines_beside_swept()
     ensures { RefinesBesideSwept }
 {}
 
-/// What a shard has filed for a connect is what one thread gives it over the entries that the shard has applied.
+/// What a shard has filed for a connect or a rider is what one thread gives it over the entries that the shard has applied.
 pub fn filed_is_given()
     ensures { FiledIsGiven }
 {}

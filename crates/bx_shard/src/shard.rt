@@ -129,7 +129,7 @@ impl<P: Placing> Shard<P> {
         self.sessions.connects.take(ticket.place)
     }
 
-    /// Some answer that is filed, with the connect that it answers; it is taken with that. Which one is left open, and it
+    /// Some answer that is filed, with the place of the message that it answers; it is taken with that. Which one is left open, and it
     /// costs the same however many are filed.
     pub fn take_any(&mut self) -> Option<Filing>
         ensures filed { IfSome result (λ filing. (session : ℕ)
