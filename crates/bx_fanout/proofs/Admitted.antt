@@ -1,5 +1,5 @@
 -- An input that was taken in.
-use Rattle.std.proofs.Common.{◌≡◌, ℕ, ◌+◌, ◌<◌, Bool, false, List, [], ◌∷◌, ◌++◌, length, map, filter, refl, sym, ap, subst, ◌∙◌, inl, inr, Option, Some, None, append-nil, add-zero, zero-add}
+use Rattle.std.proofs.Common.{◌≡◌, ℕ, ◌+◌, ◌<◌, false, List, [], ◌∷◌, ◌++◌, length, map, filter, refl, sym, ap, subst, ◌∙◌, inl, inr, Option, Some, None, append-nil, add-zero, zero-add}
 use Rattle.std.specs.Prelude.{◌==◌}
 use Rattle.bx_entry.proofs.RequestLemmas.{length-listed}
 use Rattle.bx_entry.specs.Inputs.{ReadInput, Request, Tick, Unread, added_by, refusal_of}

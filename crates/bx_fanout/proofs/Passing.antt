@@ -1,5 +1,5 @@
 -- An input that is whole at once, while the shards stay behind.
-use Rattle.std.proofs.Common.{◌≡◌, ℕ, ◌<◌, List, [], ◌∷◌, ◌++◌, length, map, refl, sym, ap, subst, ◌∙◌, arith, Option, Some, None, add-one}
+use Rattle.std.proofs.Common.{◌≡◌, ℕ, ◌<◌, List, [], ◌∷◌, ◌++◌, length, map, refl, sym, ap, subst, ◌∙◌, arith, Some, None, add-one}
 use Rattle.bx_entry.specs.Inputs.{ReadInput}
 use Rattle.bx_entry.specs.Requests.{read_input}
 use Rattle.bx_entry.specs.Runs as runs

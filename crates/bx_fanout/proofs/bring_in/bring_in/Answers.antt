@@ -1,4 +1,4 @@
-use Rattle.std.proofs.Common.{◌++◌, ◌∷◌, [], List, None, map, subst, sym}
+use Rattle.std.proofs.Common.{◌++◌, ◌∷◌, [], List, map, subst, sym}
 use Rattle.bx_entry.specs.Requests.{read_input}
 use Rattle.bx_world.specs.Seen.{setup_of, world_of}
 use Rattle.bx_fanout.specs.HeldInputs.{Row}
