@@ -25,10 +25,10 @@ class Ended(Wrong):
 
 
 class Daemon:
-    """A running daemon, with the times in milliseconds that it was started with."""
+    """A running daemon, with the times in milliseconds and the further words that it was started with."""
 
-    def __init__(self, program, timeout, max_interval, shards=4):
-        self.begin([program, "127.0.0.1:0", str(shards), str(timeout), "0", str(max_interval), SEED, "0"])
+    def __init__(self, program, timeout, max_interval, *further, shards=4):
+        self.begin([program, "127.0.0.1:0", str(shards), str(timeout), "0", str(max_interval), SEED, "0", *further])
 
     def begin(self, words):
         """Starts the process, and waits until it listens."""
