@@ -1,7 +1,7 @@
 //! The same documents as the body of a POST and as a form.
 use crate::inputs;
 use anyhow::{Result, anyhow};
-use bx_cut::{Document, Scratch};
+use bx_cut::Document;
 use bx_transport::read_post;
 use form_urlencoded::Serializer;
 use std::alloc::Global;
@@ -25,15 +25,12 @@ pub fn plain(alloc: Global) -> Result<usize> {
 }
 
 fn take(alloc: Global, content_type: Option<&[u8]>, body: &[u8]) -> Result<usize> {
-    let mut scratch = Scratch::new(alloc);
     let mut total = 0usize;
     for _ in 0..RUNS {
         let owned = Vec::from_slice(alloc, body)?;
         let bodies = read_post(alloc, content_type, owned).map_err(|_| anyhow!("not taken"))?;
         if bodies.len() > 0 {
-            let document = Document::read(alloc, &mut scratch, bodies.get(0)).map_err(|_| anyhow!(
-                "not cut"
-            ))?;
+            let document = Document::read(alloc, bodies.get(0)).map_err(|_| anyhow!("not cut"))?;
             total = total.saturating_add(document.pieces().len());
         }
     }

@@ -1,7 +1,7 @@
 //! What is timed. Each answers a number that rests on all of its work.
 use anyhow::{Result, anyhow};
 use bx_advice::{Config, Outcome};
-use bx_cut::{Document, Scratch};
+use bx_cut::Document;
 use bx_message::{AckReply, Event, Item, RawJson, Reply, SharedEvent, Text, body_text};
 use bx_names::ChannelName;
 use serde_json::Value;
@@ -39,10 +39,9 @@ pub fn check(alloc: Global, body: &[u8]) -> Result<usize> {
 
 /// The body is cut into messages, and ten members of each are looked up.
 pub fn cut(alloc: Global, body: &[u8]) -> Result<usize> {
-    let mut scratch = Scratch::new(alloc);
     let mut total = 0usize;
     for _ in 0..CUT_RUNS {
-        let document = Document::read(alloc, &mut scratch, body).map_err(|_| anyhow!("not cut"))?;
+        let document = Document::read(alloc, body).map_err(|_| anyhow!("not cut"))?;
         for piece in document.pieces() {
             for name in MEMBERS {
                 total = total.saturating_add(piece.member(name).map_or(0, |text| text.len()));

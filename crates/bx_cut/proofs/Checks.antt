@@ -1,110 +1,56 @@
--- Which texts may be cut, told from what is seen of their values.
-use Rattle.std.proofs.Common.{◌≡◌, ℕ, ◌+◌, ◌-◌, ◌^◌, ◌<◌, ◌≤◌, min, Bool, true, false, cond, ◌&&◌, nat_lt, List, Option, Some, None, option_map, is_some, refl, sym, ap, ◌∙◌, arith}
-use Rattle.std.proofs.lemmas.Bool.{lt-ltb, le-ltb, ltb-true, ltb-false}
+-- Which bodies may be cut, told from the values that were read.
+use Rattle.std.proofs.Common.{◌≡◌, ℕ, suc, ◌<◌, ◌≤◌, Bool, true, false, cond, ◌&&◌, nat_lt, List, [], ◌∷◌, length, Some, None, is_some, refl, sym, ap, ◌∙◌}
+use Rattle.std.proofs.lemmas.Bool.{lt-ltb, le-ltb}
 use Rattle.std.proofs.lemmas.Str.{is_utf8-from_IsUtf8, IsUtf8-from_is_utf8}
+use Rattle.std.specs.List.{list_all}
 use Rattle.std.specs.Str.{IsUtf8, is_utf8}
-use Rattle.json.specs.Token.{Token}
-use Rattle.json.specs.Json as json
-use Rattle.json.specs.Json.{parse_map}
-use Rattle.serde_json.specs.Read.{number_of, read, of_json, of_items, of_members, converted}
-use Rattle.serde_json.specs.Data.{Num, Data, number, array, object, Items, no_items, item, Members, no_members}
+use Rattle.serde_json.specs.Read.{read}
+use Rattle.serde_json.specs.Data.{Data}
 use Rattle.serde_json.specs.Events.{items_len}
-use Rattle.serde_json.specs.Find.{as_object}
-use Rattle.bx_cut.specs.Faults.{all_objects, value_fault, fault}
-use Rattle.bx_cut.specs.Walk.{items_fault, rest, seen, seen_items}
-use Rattle.bx_cut.specs.declared.error.CutError.{CutError}
+use Rattle.serde_json.specs.Find.{as_array, as_object}
+use Rattle.serde_json.specs.View.{view, items_view}
+use Rattle.serde_json.specs.declared.value.Value.{Value}
+use Rattle.bx_cut.specs.Faults.{all_objects, array_fault, value_fault, fault}
 use Rattle.bx_cut.specs.declared.error.CutError.TheVariants.{NotJson, NotObject, TooMany}
-use Rattle.bx_cut.proofs.Converted.{converted-array, converted-object}
 
 -- ---- a value
 
-pub seen-array : (o : Option (json.Items × List Token)) (f : Option CutError) (r : List Token) → seen_items items_fault (converted of_items o) ≡ Some (f, r)
-    → seen (converted of_json (parse_map json.array o)) ≡ Some (false, f, r)
-seen-array o f r e = ap seen (converted-array o) ∙ in_array (converted of_items o) ∙ ap (option_map {U = Bool × Option CutError × List Token} (λ p. (false, p.0, p.1))) e
-  where
-    in_array : (o : Option (Items × List Token)) → seen (parse_map array o) ≡ option_map {U = Bool × Option CutError × List Token} (λ p. (false, p.0, p.1)) (seen_items items_fault o)
-    in_array None = refl
-    in_array (Some p) = refl
+abbrev is_object : Value → Bool
+is_object v = is_some (as_object (view v))
 
-pub seen-object : (o : Option (json.Members × List Token)) (r : List Token) → rest (converted (λ ms. of_members ms no_members) o) ≡ Some r
-    → seen (converted of_json (parse_map json.object o)) ≡ Some (true, None, r)
-seen-object o r e = ap seen (converted-object o) ∙ in_object (converted (λ ms. of_members ms no_members) o) ∙ ap (option_map {U = Bool × Option CutError × List Token} (λ r. (true, None, r))) e
-  where
-    in_object : (o : Option (Members × List Token)) → seen (parse_map object o) ≡ option_map {U = Bool × Option CutError × List Token} (λ r. (true, None, r)) (rest o)
-    in_object None = refl
-    in_object (Some p) = refl
+all_objects-view : (vs : List Value) → list_all is_object vs ≡ all_objects (items_view vs)
+all_objects-view [] = refl
+all_objects-view (v ∷ vs) = ap (λ b. is_object v && b) (all_objects-view vs)
 
-pub seen-number : (s : List ℕ) (r : List Token) → is_some (number_of s) ≡ true → seen (converted of_json (Some (json.number s, r))) ≡ Some (false, Some NotObject, r)
-seen-number s r h = in_range (number_of s) h
-  where
-    in_range : (o : Option Num) → is_some o ≡ true → seen (option_map (λ d. (d, r)) (option_map number o)) ≡ Some (false, Some NotObject, r)
-    in_range None e = absurd (cc)
-    in_range (Some n) e = refl
+items_len-view : (vs : List Value) → items_len (items_view vs) ≡ length vs
+items_len-view [] = refl
+items_len-view (v ∷ vs) = ap suc (items_len-view vs)
 
-pub no_number : (s : List ℕ) (r : List Token) → is_some (number_of s) ≡ false → converted of_json (Some (json.number s, r)) ≡ None
-no_number s r h = out_of_range (number_of s) h
-  where
-    out_of_range : (o : Option Num) → is_some o ≡ false → option_map {U = Data × List Token} (λ d. (d, r)) (option_map number o) ≡ None
-    out_of_range None e = refl
-    out_of_range (Some n) e = absurd (cc)
+module _ (d : Data) where
+  pub object_passes : is_some (as_object d) ≡ true → value_fault (Some d) ≡ None
+  object_passes h = ap (λ b. cond b None (array_fault (as_array d))) h
 
-abbrev same_end : Option (Bool × Option CutError × List Token) → (Bool × Option CutError × List Token) → Bool × Option CutError × List Token
-same_end None d = d
-same_end (Some p) d = p
+  module _ (none : is_some (as_object d) ≡ false) where
+    pub no_array : None ≡ as_array d → value_fault (Some d) ≡ Some NotObject
+    no_array e = ap (λ b. cond b None (array_fault (as_array d))) none ∙ ap array_fault (sym e)
 
--- the value of which this was seen
-pub seen_some : (o : Option (Data × List Token)) (b : Bool) (f : Option CutError) (r : List Token) → seen o ≡ Some (b, f, r)
-    → (d : Data) × (o ≡ Some (d, r)) × (is_some (as_object d) ≡ b) × (value_fault (Some d) ≡ f)
-seen_some None b f r e = absurd (cc)
-seen_some (Some p) b f r e =
-    let same = ap (λ o. same_end o (b, f, r)) e in (p.0, ap (λ q. Some (p.0, q.2)) same, ap (λ q. q.0) same, ap (λ q. q.1) same)
+    module _ (vs : List Value) (there : Some (items_view vs) ≡ as_array d) where
+      in_array : value_fault (Some d) ≡ array_fault (Some (items_view vs))
+      in_array = ap (λ b. cond b None (array_fault (as_array d))) none ∙ ap array_fault (sym there)
 
--- ---- an array's items
+      pub other_item : list_all is_object vs ≡ false → value_fault (Some d) ≡ Some NotObject
+      other_item h = in_array ∙ ap (λ b. cond b (cond (nat_lt 256 (items_len (items_view vs))) (Some TooMany) None) (Some NotObject)) (sym (all_objects-view vs) ∙ h)
 
--- the fault of an array of which so many items were passed, objects alone or not, and that goes on with these
-abbrev pub fault_after : Bool → ℕ → Items → Option CutError
-fault_after only count ds = cond (only && all_objects ds) (cond (nat_lt 256 (count + items_len ds)) (Some TooMany) None) (Some NotObject)
+      all_pass : list_all is_object vs ≡ true → value_fault (Some d) ≡ cond (nat_lt 256 (length vs)) (Some TooMany) None
+      all_pass h =
+          in_array ∙ ap (λ b. cond b (cond (nat_lt 256 (items_len (items_view vs))) (Some TooMany) None) (Some NotObject)) (sym (all_objects-view vs) ∙ h)
+          ∙ ap (λ n. cond (nat_lt 256 n) (Some TooMany) None) (items_len-view vs)
 
-same_seen : (f g : Items → Option CutError) → ((ds : Items) → f ds ≡ g ds) → (o : Option (Items × List Token)) → seen_items f o ≡ seen_items g o
-same_seen f g h None = refl
-same_seen f g h (Some p) = ap (λ e. Some (e, p.1)) (h p.0)
+      pub too_many : list_all is_object vs ≡ true → 256 < length vs → value_fault (Some d) ≡ Some TooMany
+      too_many h l = all_pass h ∙ ap (λ b. cond b (Some TooMany) None) (lt-ltb 256 (length vs) l)
 
-pub seen_items-first : (o : Option (Items × List Token)) → seen_items items_fault o ≡ seen_items (fault_after true 0) o
-seen_items-first = same_seen _ _ (λ ds. let n : items_len ds ≡ 0 + items_len ds = omega arith in ap (λ n. cond (all_objects ds) (cond (nat_lt 256 n) (Some TooMany) None) (Some NotObject)) n)
-
-is_many : (a b : ℕ) → (256 < a → 256 < b) → (a ≤ 256 → b ≤ 256) → nat_lt 256 a ≡ nat_lt 256 b
-is_many a b f g = decided (nat_lt 256 a) refl
-  where
-    decided : (many : Bool) → nat_lt 256 a ≡ many → many ≡ nat_lt 256 b
-    decided true e = sym (lt-ltb 256 b (f (ltb-true 256 a e)))
-    decided false e = sym (le-ltb 256 b (g (ltb-false 256 a e)))
-
-after_item : (only : Bool) (count next : ℕ) (d : Data) → next ≡ min (count + 1) (2 ^ 64 - 1) → (ds : Items) → fault_after only count (item d ds) ≡ fault_after (only && is_some (as_object d)) next ds
-after_item false count next d e ds = refl
-after_item true count next d e ds =
-    ap (λ many. cond (is_some (as_object d) && all_objects ds) (cond many (Some TooMany) None) (Some NotObject)) (is_many _ _ (λ h. omega (arith, e, h)) (λ h. omega (arith, e, h)))
-
-pub seen_items-item : (only : Bool) (count next : ℕ) (d : Data) → next ≡ min (count + 1) (2 ^ 64 - 1) → (o : Option (Items × List Token))
-    → seen_items (fault_after only count) (parse_map (item d) o) ≡ seen_items (fault_after (only && is_some (as_object d)) next) o
-seen_items-item only count next d e o = turned o ∙ same_seen _ _ (after_item only count next d e) o
-  where
-    turned : (o : Option (Items × List Token)) → seen_items (fault_after only count) (parse_map (item d) o) ≡ seen_items (λ ds. fault_after only count (item d ds)) o
-    turned None = refl
-    turned (Some p) = refl
-
-pub seen_items-none : (f : Items → Option CutError) (o : Option (Items × List Token)) → seen_items f o ≡ None → o ≡ None
-seen_items-none f None e = refl
-seen_items-none f (Some p) e = absurd (cc)
-
-pub rest_none : {A : Type 0} (o : Option (A × List Token)) → rest o ≡ None → o ≡ None
-rest_none None e = refl
-rest_none (Some p) e = absurd (cc)
-
-pub too_many : (count : ℕ) → 256 < count → fault_after true count no_items ≡ Some TooMany
-too_many count h = ap (λ many. cond many (Some TooMany) None) (lt-ltb 256 (count + 0) (omega (arith, h)))
-
-pub within : (count : ℕ) → count ≤ 256 → fault_after true count no_items ≡ None
-within count h = ap (λ many. cond many (Some TooMany) None) (le-ltb 256 (count + 0) (omega (arith, h)))
+      pub within : list_all is_object vs ≡ true → length vs ≤ 256 → value_fault (Some d) ≡ None
+      within h l = all_pass h ∙ ap (λ b. cond b (Some TooMany) None) (le-ltb 256 (length vs) l)
 
 -- ---- the whole body
 

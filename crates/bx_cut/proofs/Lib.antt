@@ -6,7 +6,6 @@ pub mod Values
 pub mod Words
 pub mod Bytes
 pub mod Checks
-pub mod Converted
 pub mod Contents
 pub mod Lists
 pub mod Insides

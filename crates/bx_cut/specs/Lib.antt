@@ -5,4 +5,3 @@ pub mod Pieces
 pub mod Strings
 pub mod Views
 pub mod Laws
-pub mod Walk

@@ -1,18 +1,20 @@
-ghost use Rattle.std.specs.Prelude.{◌≡◌, ◌≢◌, ◌<◌, length, map, option_map, IfOk, IfErr, OnOk, IfSome, Some, None};
+ghost use Rattle.std.specs.Prelude.{◌≡◌, ◌≢◌, ◌<◌, length, map, option_map, is_some, IfOk, IfErr, OnOk, IfSome, Some, None};
+ghost use Rattle.std.specs.List.{list_all};
 ghost use Rattle.serde_json.specs.Data.{Data};
+ghost use Rattle.serde_json.specs.Find.{as_object};
 ghost use Rattle.serde_json.specs.Read.{read};
+ghost use Rattle.serde_json.specs.View.{view};
 ghost use Rattle.bx_cut.specs.Cut.{IsRest, listed, split_member};
-ghost use Rattle.bx_cut.specs.Faults.{fault};
+ghost use Rattle.bx_cut.specs.Faults.{fault, value_fault};
 ghost use Rattle.bx_cut.specs.Laws.{ArePiecesOf, LieIn};
 ghost use Rattle.bx_cut.specs.Pieces.{last_member, pieces, split_object};
 ghost use Rattle.bx_cut.specs.Views.{member_view};
 
-use crate::check::check;
 use crate::error::CutError;
 use crate::scan::after_first;
 use crate::split::{Member, past, past_blank, split_member};
 use crate::string::spells;
-use json::Scratch;
+use serde_json::Value;
 use std::alloc::{AllocError, Global};
 use std::marker::Model;
 
@@ -53,12 +55,8 @@ impl<'a> Model for Document<'a> {
 
 impl<'a> Document<'a> {
     /// Cuts a body into its one object, or into the objects of its array. `NotJson` comes before
-    /// `NotObject`, and that before `TooMany`. The scratch is for the tokens; one serves for any bodies.
-    pub fn read(
-        alloc: Global,
-        scratch: &mut Scratch,
-        body: &'a [u8],
-    ) -> Result<Document<'a>, CutError>
+    /// `NotObject`, and that before `TooMany`.
+    pub fn read(alloc: Global, body: &'a [u8]) -> Result<Document<'a>, CutError>
         ensures ok { OnOk result (fault body.now ≡ None) }
         ensures fault { IfErr result (λ e. e ≢ CutError.Memory → fault body.now ≡ Some e) }
         ensures pieces { IfOk result (λ document. document ≡ pieces body.now) }
@@ -71,7 +69,7 @@ impl<'a> Document<'a> {
         let Ok(text) = std::str::from_utf8(body) else {
             return Err(CutError::NotJson);
         };
-        check(scratch, text)?;
+        check(alloc, text)?;
         Ok(Document {
             pieces: cut(alloc, text)?,
         })
@@ -106,6 +104,48 @@ impl<'a> Piece<'a> {
         }
         found
     }
+}
+
+// Whether the text is a value that may be cut.
+fn check(alloc: Global, text: &str) -> Result<(), CutError>
+    ensures ok { OnOk result (value_fault (read text.now) ≡ None) }
+    ensures fault { IfErr result (λ e. e ≢ CutError.Memory
+        → value_fault (read text.now) ≡ Some e) }
+{
+    let value = match Value::from_str(alloc, text) {
+        Ok(value) => value,
+        Err(error) if error.is_memory() => return Err(CutError::Memory),
+        Err(_) => return Err(CutError::NotJson),
+    };
+    match fault_of(&value) {
+        None => Ok(()),
+        Some(fault) => Err(fault),
+    }
+}
+
+// The fault of a document that is this value.
+fn fault_of(value: &Value) -> Option<CutError>
+    ensures { result ≡ value_fault (Some (view value.now)) }
+{
+    if value.is_object() {
+        return None;
+    }
+    let Some(items) = value.as_array() else {
+        return Some(CutError::NotObject);
+    };
+    if !are_objects(items) {
+        return Some(CutError::NotObject);
+    }
+    if items.len() > MAX_MESSAGES {
+        return Some(CutError::TooMany);
+    }
+    None
+}
+
+fn are_objects(items: &[Value]) -> bool
+    ensures { result ≡ list_all (λ item. is_some (as_object (view item))) items.now }
+{
+    items.iter().all(|item| item.is_object())
 }
 
 // The messages of a text that is a value which may be cut.

@@ -2,7 +2,6 @@
 #![tactic(auto)]
 
 mod bodies;
-mod check;
 mod document;
 mod error;
 mod scan;
@@ -12,6 +11,5 @@ mod string;
 pub use bodies::Bodies;
 pub use document::{Document, MAX_MESSAGES, Piece};
 pub use error::CutError;
-pub use json::Scratch;
 pub use split::{Elements, elements_of, member_of};
 pub use string::{plain_text_of, spells, text_of};

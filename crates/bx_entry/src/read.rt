@@ -8,7 +8,7 @@ ghost use Rattle.bx_entry.specs.declared.read.ReadFault.TheVariants.{Memory};
 ghost use Rattle.bx_entry.specs.Requests.{all_messages, cut_fault, cut_of, is_not_json, is_not_object, is_too_many, messages_of, objects_in, objects_of, request_messages};
 
 use crate::input::BodyFault;
-use bx_cut::{Bodies, CutError, Document, MAX_MESSAGES, Scratch};
+use bx_cut::{Bodies, CutError, Document, MAX_MESSAGES};
 use bx_message::{Message, MessageError};
 use std::alloc::{AllocError, AllocFailed, Global};
 
@@ -25,30 +25,22 @@ pub enum ReadFault {
 type Cut<'a> = Result<Document<'a>, CutError>;
 
 /// The messages of all documents in order, or the first of the faults that holds for any of them.
-pub fn read_messages(
-    alloc: Global,
-    scratch: &mut Scratch,
-    bodies: &Bodies,
-) -> Result<Vec<Message>, ReadFault>
+pub fn read_messages(alloc: Global, bodies: &Bodies) -> Result<Vec<Message>, ReadFault>
     ensures messages { IfOk result (λ ms. request_messages (texts_of bodies.now) ≡ Ok ms.items) }
     ensures fault { (fault : BodyFault) → IsErrOf result (ReadFault.Body fault)
         → request_messages (texts_of bodies.now) ≡ Err fault }
 {
-    let cuts = cut_all(alloc, scratch, bodies)?;
+    let cuts = cut_all(alloc, bodies)?;
     messages_in(alloc, cuts.as_slice())
 }
 
 // Every document is cut, since the faults are ordered over all of them.
-fn cut_all<'a>(
-    alloc: Global,
-    scratch: &mut Scratch,
-    bodies: &'a Bodies,
-) -> Result<Vec<Cut<'a>>, AllocError>
+fn cut_all(alloc: Global, bodies: &Bodies) -> Result<Vec<Cut<'_>>, AllocError>
     ensures { IfOk result (λ cuts. cuts.items ≡ map cut_of (texts_of bodies.now)) }
 {
     let mut cuts = Vec::with_capacity(alloc, bodies.len())?;
     for i in 0..bodies.len() {
-        match Document::read(alloc, scratch, bodies.get(i)) {
+        match Document::read(alloc, bodies.get(i)) {
             Err(CutError::Memory) => return Err(AllocError),
             cut => cuts.push(cut)?,
         }

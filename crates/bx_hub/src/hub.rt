@@ -14,7 +14,6 @@ use crate::fault::{HubFault, Lagging, PostFault, Posted, Ticked};
 use crate::pass::Pass;
 use bx_advice::Config;
 use bx_connects::Watch;
-use bx_cut::Scratch;
 use bx_entry::{Arrival, Placing, Ticket, read_messages};
 use bx_message::{Answer, Message};
 use bx_window::{Naming, Note, Opened, log_pair};
@@ -110,7 +109,7 @@ impl<J: Naming, P: Placing, G: Gate + Drop, R: Wait + Drop> Hub<J, P, G, R> {
         ensures refused { IfErr result (λ f. IsRefused (read_input (inputs.Post arrival.now)) f pass.new) }
         ensures behind { IfOk result (λ p. count_of p.behind ≤ J.config.shards) }
     {
-        let messages = read_messages(alloc, &mut Scratch::new(alloc), &arrival.bodies)?;
+        let messages = read_messages(alloc, &arrival.bodies)?;
         let Admitted { first, slots } = self.admit(
             rt,
             alloc,

@@ -4,7 +4,6 @@ ghost use Rattle.bx_registry.specs.Changes.{IsPlannedAt};
 
 use crate::requests::{HANDSHAKE, add_line, arrival, config, reply};
 use crate::unlike::Unlike;
-use bx_cut::Scratch;
 use bx_entry::{EntryKind, read_messages};
 use bx_message::Message;
 use bx_registry::{AdmitFault, Plan, Planned, Registry, TickPlan};
@@ -76,8 +75,7 @@ fn request(
     body: &str,
 ) -> Result<String, Unlike> {
     let arrival = arrival(alloc, body)?;
-    let mut scratch = Scratch::new(alloc);
-    let messages = read_messages(alloc, &mut scratch, &arrival.bodies).map_err(|_| Unlike::Memory)?;
+    let messages = read_messages(alloc, &arrival.bodies).map_err(|_| Unlike::Memory)?;
     let Plan { slots, change, .. } = planned(alloc, registry, moment, &messages)?;
     registry.commit(change);
     match slots.as_slice().first() {

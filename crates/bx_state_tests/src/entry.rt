@@ -1,6 +1,6 @@
 //! Requests of several documents, and where sessions are placed.
 use crate::same::same;
-use bx_cut::{Bodies, Scratch};
+use bx_cut::Bodies;
 use bx_entry::{AllFirst, BodyFault, ByRemainder, ByTable, Placing, ReadFault, read_messages};
 use bx_message::Message;
 use std::alloc::{AllocError, Global};
@@ -35,7 +35,7 @@ enum Found {
 }
 
 fn read(alloc: Global, documents: &[&str]) -> Result<Found, Fail> {
-    match &read_messages(alloc, &mut Scratch::new(alloc), &bodies(alloc, documents)?) {
+    match &read_messages(alloc, &bodies(alloc, documents)?) {
         Ok(messages) => Ok(Found::Messages(messages.len())),
         Err(ReadFault::Body(fault)) => Ok(Found::Fault(*fault)),
         Err(ReadFault::Memory) => Err(Fail::from("out of memory")),
@@ -49,11 +49,7 @@ fn messages_come_in_order(rt: HostRuntime) -> Result<(), Fail> {
         "[]",
         "{\"channel\":\"/c\"}",
     ];
-    let messages = read_messages(
-        rt.alloc(),
-        &mut Scratch::new(rt.alloc()),
-        &bodies(rt.alloc(), &documents)?,
-    )?;
+    let messages = read_messages(rt.alloc(), &bodies(rt.alloc(), &documents)?)?;
     let found = channels(rt.alloc(), messages.as_slice())?;
     same(&rt, found.as_str(), "/a /b /c ", "channels");
     Ok(())

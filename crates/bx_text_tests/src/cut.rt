@@ -1,8 +1,8 @@
 //! Bodies cut into messages, and what is found in them.
 use crate::same::same;
 use bx_cut::{
-    Bodies, CutError, Document, MAX_MESSAGES, Scratch, elements_of, member_of, plain_text_of,
-    spells, text_of,
+    Bodies, CutError, Document, MAX_MESSAGES, elements_of, member_of, plain_text_of, spells,
+    text_of,
 };
 use std::alloc::{AllocError, Global};
 use std::process::Abort;
@@ -10,11 +10,7 @@ use std::test::Fail;
 
 // How many messages a body has, or why it has none.
 fn count_of(alloc: Global, body: &[u8]) -> Result<usize, CutError> {
-    Ok(
-        Document::read(alloc, &mut Scratch::new(alloc), body)?
-            .pieces()
-            .len(),
-    )
+    Ok(Document::read(alloc, body)?.pieces().len())
 }
 
 // The body has so many messages, or none for this reason.
@@ -29,7 +25,7 @@ fn check_pieces(
     body: &str,
     wanted: &[&str],
 ) -> Result<(), CutError> {
-    let document = Document::read(alloc, &mut Scratch::new(alloc), body.as_bytes())?;
+    let document = Document::read(alloc, body.as_bytes())?;
     let pieces = document.pieces();
     same(rt, pieces.len(), wanted.len(), body);
     for (piece, want) in pieces.iter().zip(wanted) {
@@ -73,7 +69,7 @@ fn check_member(
     name: &str,
     wanted: Option<&str>,
 ) -> Result<(), CutError> {
-    let document = Document::read(alloc, &mut Scratch::new(alloc), body.as_bytes())?;
+    let document = Document::read(alloc, body.as_bytes())?;
     let pieces = document.pieces();
     same(rt, pieces.len(), 1, body);
     for piece in pieces {
@@ -219,7 +215,7 @@ fn limits_are_exact(rt: HostRuntime) -> Result<(), Fail> {
 
 // How long the member `a` of a body's only message is.
 fn length_of_a(alloc: Global, body: &str) -> Result<usize, Fail> {
-    let document = Document::read(alloc, &mut Scratch::new(alloc), body.as_bytes())?;
+    let document = Document::read(alloc, body.as_bytes())?;
     match document.pieces() {
         [piece] => Ok(piece.member("a").map_or(0, str::len)),
         _ => Err(Fail::from("not one message")),

@@ -1,7 +1,7 @@
 //! Messages as they are read, and replies, events and responses down to their bytes.
 use crate::same::same;
 use bx_advice::{Config, Error, Outcome};
-use bx_cut::{Document, Piece, Scratch};
+use bx_cut::{Document, Piece};
 use bx_message::{
     AckMember, AckReply, Event, Item, Message, MessageError, MessageKind, RawJson, Reply, Sequence,
     SharedEvent, Text, TextMember, body_text, event_text, reply_text,
@@ -367,7 +367,7 @@ fn check_only(
     body: &str,
     wanted: Option<&str>,
 ) -> Result<(), Fail> {
-    let document = Document::read(alloc, &mut Scratch::new(alloc), body.as_bytes())?;
+    let document = Document::read(alloc, body.as_bytes())?;
     match document.pieces() {
         [piece] => check_piece(rt, alloc, piece, body, wanted),
         _ => Err(Fail::from("not one message")),

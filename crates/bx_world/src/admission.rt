@@ -15,7 +15,6 @@ use crate::backlog::Backlog;
 use crate::step::{AdmissionFault, Admitted};
 use bx_admission::{Ledger, Plan};
 use bx_advice::{Config, ShardCount};
-use bx_cut::Scratch;
 use bx_entry::{Arrival, Entry, Placing, read_messages};
 use bx_shard::Shard;
 use bx_workers::{Gate, WorkerCount};
@@ -28,8 +27,6 @@ use std::thread::Threads;
 pub(crate) struct Admission {
     ledger: Ledger,
     backlog: Backlog,
-    // For the tokens of each document that is read.
-    scratch: Box<Scratch>,
 }
 
 impl Model for Admission {
@@ -57,7 +54,6 @@ impl Admission {
         Ok(Admission {
             ledger: Ledger::new(alloc, config)?,
             backlog: Backlog::new(alloc),
-            scratch: Box::new(alloc, Scratch::new(alloc))?,
         })
     }
 
@@ -70,7 +66,7 @@ impl Admission {
     ) -> Result<Admitted, AdmissionFault>
         ensures { IsAdmission (P.place_of placing.now) self.old (read_input (Post arrival.now)) result self.new }
     {
-        let messages = read_messages(alloc, &mut self.scratch, &arrival.bodies)?;
+        let messages = read_messages(alloc, &arrival.bodies)?;
         let plan = self
             .ledger
             .plan(alloc, placing, arrival.moment, arrival.nonce, &messages)?;
