@@ -211,7 +211,7 @@ fn ticked<J: Naming, H: Wait + Drop, R: Wait>(
     let mut behind = 0u64;
     for _ in 0..count {
         let ticked = hub.tick(rt, alloc, &mut pass, 0).ok()?;
-        behind = behind.saturating_add(ticked.behind.memory as u64);
+        behind = behind.saturating_add(ticked.brought.behind().memory as u64);
     }
     Some(behind)
 }

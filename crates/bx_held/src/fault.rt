@@ -18,6 +18,8 @@ pub enum HeldFault {
     Overrun { shard: usize, place: u64 },
     /// Memory was refused.
     Memory,
+    /// Under the lock of the ticket's shard stood this other one.
+    Misplaced { found: usize },
 }
 
 impl From<HubFault> for HeldFault {
@@ -29,6 +31,7 @@ impl From<HubFault> for HeldFault {
             HubFault::Paused => HeldFault::Paused,
             HubFault::Overrun { shard, place } => HeldFault::Overrun { shard, place },
             HubFault::Memory => HeldFault::Memory,
+            HubFault::Misplaced { found } => HeldFault::Misplaced { found },
         }
     }
 }

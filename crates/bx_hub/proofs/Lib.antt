@@ -1,3 +1,6 @@
+pub mod Counts
 pub mod Held
 pub mod Lists
+pub mod Lying
+pub mod Places
 pub mod Posts

@@ -1,5 +1,5 @@
 -- Why a post is refused, and how many shards stay behind.
-use Rattle.std.specs.Prelude.{ℕ, ◌≡◌, ◌+◌, ◌<◌, List}
+use Rattle.std.specs.Prelude.{ℕ, ◌≡◌, ◌≢◌, ◌+◌, ◌<◌, List}
 use Rattle.bx_entry.specs.declared.read.ReadFault.{ReadFault}
 use Rattle.bx_entry.specs.declared.read.ReadFault.TheVariants as reads
 use Rattle.bx_registry.specs.declared.plan.AdmitFault.{AdmitFault}
@@ -27,7 +27,7 @@ of_planning plans.Memory = Memory
 
 -- how many shards stay behind
 abbrev pub count_of : Lagging → ℕ
-count_of l = l.memory + l.overrun + l.paused + l.closed
+count_of l = l.memory + l.overrun + l.paused + l.closed + l.misplaced
 
 -- with one shard more, which this fault stopped
 abbrev pub one_more : HubFault → Lagging → Lagging
@@ -35,13 +35,16 @@ one_more stops.Closed l = record l { closed = l.closed + 1 }
 one_more stops.Paused l = record l { paused = l.paused + 1 }
 one_more (stops.Overrun shard place) l = record l { overrun = l.overrun + 1 }
 one_more stops.Memory l = record l { memory = l.memory + 1 }
+one_more (stops.Misplaced found) l = record l { misplaced = l.misplaced + 1 }
 
--- where the shard of this index is overrun, it is this one that is told, and the window of this front begins past its place
+-- where the shard of this index is overrun, it is this one that is told, and the window of this front begins past its place; where another is found
+-- under its lock, it is another
 abbrev pub IsStopped : HubFault → ℕ → List Step → Type 0
 IsStopped stops.Closed index front = Unit {0}
 IsStopped stops.Paused index front = Unit {0}
 IsStopped (stops.Overrun shard place) index front = (shard ≡ index) × (place < begin_of front)
 IsStopped stops.Memory index front = Unit {0}
+IsStopped (stops.Misplaced found) index front = found ≢ index
 
 -- a closed shard is stopped by that, a paused one by that, and one that is active by neither
 abbrev pub IsStoppedIn : Activity → HubFault → Type 0

@@ -1,14 +1,15 @@
 //! What lies under the admission lock.
-ghost use Rattle.std.specs.Prelude.{◌≡◌, ◌<◌, ◌++◌, length, [], true, false, IfOk, IfErr, OnOk, OnErr};
+ghost use Rattle.std.specs.Prelude.{◌≡◌, ◌<◌, ◌++◌, ◌⊎◌, drop, length, [], true, false, IfOk, IfErr, OnOk, OnErr};
 ghost use mathlib.Core.List.{IsPrefix};
 ghost use Rattle.bx_admission.specs.Ledgers.{Continues};
 ghost use Rattle.bx_entry.specs.Inputs.{Request, Tick, added_by};
-ghost use Rattle.bx_window.specs.Steps.{list_of};
+ghost use Rattle.bx_window.specs.Steps.{below, firsts_of, list_of};
 ghost use Rattle.bx_admission.specs.Slots.{placed_by};
 ghost use Rattle.bx_hub.specs.declared.fault.PostFault.TheVariants as faults;
 ghost use Rattle.bx_hub.specs.Posts.{AreSlotsAt, IsAdmittedAt, IsRefused, IsUnpublished};
 
 use crate::fault::PostFault;
+use crate::least::Least;
 use bx_admission::{Ledger, Plan};
 use bx_advice::Config;
 use bx_entry::{Placing, Slot};
@@ -166,15 +167,19 @@ impl<J: Naming, R: Wait + Drop> Admission<J, R> {
         }
     }
 
-    /// Drops the batches that lie wholly below a place. Nothing is dropped where the log has no room for a step more.
-    pub(crate) fn trim(&mut self, alloc: Global, place: u64) -> Result<(), AllocError>
+    /// Drops the batches that lie wholly below a place that all shards have reached. Nothing is dropped where the log has no room
+    /// for a step more.
+    pub(crate) fn trim(&mut self, alloc: Global, least: &Least<J>) -> Result<(), AllocError>
+        requires all { length least.now.stood ≡ J.config.shards }
+        ensures trimmed { (firsts_of self.new.writer ≡ firsts_of self.old.writer)
+            ⊎ (firsts_of self.new.writer ≡ drop (below least.now.place (length (list_of self.old.writer)) (firsts_of self.old.writer)) (firsts_of self.old.writer)) }
         ensures list { list_of self.new.writer ≡ list_of self.old.writer }
         ensures kept { self.new.closed ≡ self.old.closed }
     {
         if self.writer.tell().steps() >= MOST_STEPS {
             return Ok(());
         }
-        match self.writer.trim(alloc, place) {
+        match self.writer.trim(alloc, least.place()) {
             Ok(()) => Ok(()),
             Err(_) => Err(AllocError),
         }

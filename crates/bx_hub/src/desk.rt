@@ -14,10 +14,12 @@ ghost use Rattle.bx_hub.specs.Faults.{IsStopped, IsStoppedIn, paused, resumed};
 ghost use Rattle.bx_hub.specs.declared.activity.Activity.TheVariants.{Active, Paused, Closed};
 ghost use Rattle.bx_hub.specs.declared.fault.HubFault.TheVariants as faults;
 
+mod watch;
+
 use crate::activity::Activity;
+use crate::brought::Brought;
 use crate::fault::HubFault;
 use bx_advice::Config;
-use bx_connects::Watch;
 use bx_entry::{Batch, Placing, Ticket};
 use bx_history::{History, Lists};
 use bx_message::Answer;
@@ -26,7 +28,9 @@ use bx_window::{LogReader, Naming, Next, Note, entry_of};
 use bx_workers::Gate;
 use futures::task::Waker;
 use std::alloc::Global;
+use std::snapshot::Snapshot;
 use std::sync::Arc;
+pub use watch::{Left, Watch};
 
 /// A shard, with its reader of the window and the longest note that was brought to it. It holds what the definition's
 /// shard of its index holds after so many entries of the list that the reader has seen.
@@ -44,7 +48,8 @@ pub(crate) struct Desk<J: Naming, P: Placing> {
 
 impl<J: Naming, P: Placing> Desk<J, P> {
     ghost use Rattle.bx_hub.specs.Held.{IsLevelWithout, Stands, answer_over, held_of};
-    ghost use Rattle.bx_hub.specs.Watches.{IsBack};
+    ghost use Rattle.bx_hub.specs.Watches.{IsBack, IsLeftOrBack, told};
+    ghost use Rattle.bx_hub.specs.Lying.{IfStored, waker_of};
     ghost use Rattle.bx_shard.specs.Refining.{swept_places};
 
     /// The shard of this index, which has applied nothing.
@@ -121,6 +126,27 @@ impl<J: Naming, P: Placing> Desk<J, P> {
                 brought
             }
         }
+    }
+
+    /// Brings the shard up to the longest note, as `bring` does, and says how it then stands to this one.
+    #[tactic(auto, using(crate::proofs::Lists::list_length))]
+    pub(crate) fn bring_to<G: Gate>(
+        &mut self,
+        alloc: Global,
+        gate: &G,
+        note: &Note<J>,
+    ) -> Brought<J>
+        ensures index { result.index.value ≡ self.old.shard.index }
+        ensures note { result.note.value ≡ note.now }
+        ensures stopped { IfSome result.stays (λ f. IsStopped f self.old.shard.index self.new.reader × IsStoppedIn self.old.activity f) }
+        ensures kept { (self.new.shard.index ≡ self.old.shard.index) × (self.new.taken ≡ self.old.taken) × (self.new.activity ≡ self.old.activity) }
+    {
+        let brought = self.bring(alloc, gate, note);
+        let stays = match brought {
+            Err(fault) if self.place() < note.len() => Some(fault),
+            _ => None,
+        };
+        Brought::of(self, &self.index(), note, stays)
     }
 
     // Learns a note.
@@ -269,8 +295,31 @@ impl<J: Naming, P: Placing> Desk<J, P> {
         self.shard.take_wakers(alloc)
     }
 
-    /// Leaves a waker beside a held connect, as the shard does.
-    pub(crate) fn watch(&mut self, ticket: Ticket, waker: Waker) -> Watch
+    /// Leaves a waker beside a held connect, as the shard does, and says so.
+    pub(crate) fn watch(&mut self, ticket: Ticket, waker: Waker) -> Watch<J>
+        ensures watch { nat_eq ticket.shard self.old.shard.index ≡ true
+            → told result ≡ watched self.old.shard.is_shut waker (connect_in (state P.place_of self.old.shard) ticket.place) }
+        ensures own { nat_eq ticket.shard self.old.shard.index ≡ true
+            → Watched ticket.place waker (state P.place_of self.old.shard) (state P.place_of self.new.shard) }
+        ensures left { IsLeftOrBack ticket waker result }
+        ensures same { (self.new.note ≡ self.old.note) × (self.new.reader ≡ self.old.reader) × (self.new.taken ≡ self.old.taken) × (self.new.activity ≡ self.old.activity) }
+    {
+        let seen = Snapshot::of(&waker);
+        match self.leave(ticket, waker) {
+            bx_connects::Watch::Stored(older) => {
+                let left = Left::of(self, &ticket, seen, &older);
+                Watch::Stored(older, left)
+            }
+            bx_connects::Watch::Ready(waker) => Watch::Ready(waker),
+            bx_connects::Watch::Unknown(waker) => Watch::Unknown(waker),
+            bx_connects::Watch::Shut(waker) => Watch::Shut(waker),
+        }
+    }
+
+    // Leaves a waker beside a held connect, as the shard does.
+    fn leave(&mut self, ticket: Ticket, waker: Waker) -> bx_connects::Watch
+        ensures lies { IfStored result ((ticket.shard ≡ self.new.shard.index)
+            × (waker_of (connect_in (state P.place_of self.new.shard) ticket.place) ≡ Some waker)) }
         ensures watch { nat_eq ticket.shard self.old.shard.index ≡ true
             → result ≡ watched self.old.shard.is_shut waker (connect_in (state P.place_of self.old.shard) ticket.place) }
         ensures own { nat_eq ticket.shard self.old.shard.index ≡ true

@@ -3,29 +3,31 @@ ghost use Rattle.std.specs.Prelude.{◌≡◌, ◌+◌, ◌<◌, ◌^◌};
 ghost use Rattle.bx_hub.specs.declared.fault.PostFault.TheVariants as faults;
 ghost use Rattle.bx_hub.specs.Faults.{count_of, of_planning, of_reading, one_more};
 
+use crate::brought::Round;
 use bx_entry::{BodyFault, ReadFault, Slot};
 use bx_message::Sequence;
 use bx_registry::AdmitFault;
+use bx_window::Naming;
 use std::alloc::AllocError;
 
 /// Where the messages of a request stand, and how they are answered.
 #[derive(Drop)]
-pub struct Posted {
+pub struct Posted<J: Naming> {
     /// The place of the first message; of a request without messages the length of the list.
     pub first: u64,
     /// For each message in order its reply, or the ticket of a connect or a rider.
     pub slots: Sequence<Slot>,
-    /// How many shards have not applied the whole request.
-    pub behind: Lagging,
+    /// What came of bringing the shards up to it: how many have not applied the whole request.
+    pub brought: Round<J>,
 }
 
 /// Where a tick stands.
-#[derive(Clone, Copy, Debug, PartialEq, Eq)]
-pub struct Ticked {
+#[derive(Drop)]
+pub struct Ticked<J: Naming> {
     /// The place of the tick.
     pub place: u64,
-    /// How many shards have not applied the tick.
-    pub behind: Lagging,
+    /// What came of bringing the shards up to it: how many have not applied the tick.
+    pub brought: Round<J>,
 }
 
 /// How many shards stayed behind, by what stopped them.
@@ -39,18 +41,21 @@ pub struct Lagging {
     pub paused: usize,
     /// The hub was closed.
     pub closed: usize,
+    /// Another shard stood under the lock of this one.
+    pub misplaced: usize,
 }
 
 impl Lagging {
     /// No shard stayed behind.
     pub fn none() -> Lagging
-        ensures { result ≡ record { memory = 0; overrun = 0; paused = 0; closed = 0 } }
+        ensures { result ≡ record { memory = 0; overrun = 0; paused = 0; closed = 0; misplaced = 0 } }
     {
         Lagging {
             memory: 0,
             overrun: 0,
             paused: 0,
             closed: 0,
+            misplaced: 0,
         }
     }
 
@@ -75,6 +80,10 @@ impl Lagging {
             },
             HubFault::Closed => Lagging {
                 closed: self.closed + 1,
+                ..self
+            },
+            HubFault::Misplaced { .. } => Lagging {
+                misplaced: self.misplaced + 1,
                 ..self
             },
         }
@@ -111,6 +120,9 @@ pub enum HubFault {
     Overrun { shard: usize, place: u64 },
     /// Memory was refused.
     Memory,
+    /// Under the lock of the shard that was asked for stood this other one. The hub puts each under the lock of its own index, which
+    /// no clause can say across a lock.
+    Misplaced { found: usize },
 }
 
 impl From<AllocError> for PostFault {

@@ -1,26 +1,27 @@
 //! The locks.
-ghost use Rattle.std.specs.Prelude.{◌≡◌, ◌⊎◌, ◌≤◌, ◌<◌, [], length, Some, IfOk, IfErr, IfSome, IfNone, nat_lt};
+ghost use Rattle.std.specs.Prelude.{◌≡◌, ◌≢◌, ◌⊎◌, ◌≤◌, ◌<◌, [], length, Some, IfOk, IfErr, IfSome, IfNone, nat_lt};
 ghost use Rattle.std.specs.Arc.{arc_value};
 ghost use mathlib.Core.List.{IsPrefix};
 ghost use Rattle.bx_admission.specs.Slots.{placed_by};
 ghost use Rattle.bx_entry.specs.Requests.{read_input};
 ghost use Rattle.bx_entry.specs.declared.input.Input.TheVariants as inputs;
 ghost use Rattle.bx_window.specs.Steps.{list_of};
-ghost use Rattle.bx_hub.specs.Faults.{IsStopped, count_of};
+ghost use Rattle.bx_hub.specs.Faults.{IsStopped};
 
 use crate::admission::{Admission, Admitted};
-use crate::desk::Desk;
-use crate::fault::{HubFault, Lagging, PostFault, Posted, Ticked};
+use crate::brought::{Brought, Round};
+use crate::desk::{Desk, Watch};
+use crate::fault::{HubFault, PostFault, Posted, Ticked};
+use crate::least::{Least, Stood};
 use crate::pass::Pass;
 use bx_advice::Config;
-use bx_connects::Watch;
 use bx_entry::{Arrival, Placing, Ticket, read_messages};
 use bx_message::{Answer, Message};
 use bx_window::{Naming, Note, Opened, log_pair};
 use bx_workers::Gate;
 use futures::task::Waker;
 use std::alloc::{AllocError, Global};
-use std::sync::{Arc, Mutex, Wait};
+use std::sync::{Arc, Mutex, MutexGuard, Wait};
 
 /// The server for any number of threads. Requests and ticks go into one list under one lock; each shard applies the list
 /// under a lock of its own, at its own pace.
@@ -42,10 +43,11 @@ pub struct Hub<J: Naming, P: Placing, G: Gate + Drop, R: Wait + Drop> {
 impl<J: Naming, P: Placing, G: Gate + Drop, R: Wait + Drop> Hub<J, P, G, R> {
     ghost use Rattle.bx_entry.specs.Inputs.{Request};
     ghost use Rattle.bx_entry.specs.Inputs as read;
+    ghost use Rattle.bx_hub.specs.Bringing.{IsOfAll};
     ghost use Rattle.bx_hub.specs.Held.{IsLevelWithout, answer_over};
     ghost use Rattle.bx_hub.specs.Posts.{AreSlotsAt, IsAdmittedAt, IsOverrun, IsRefused};
-    ghost use Rattle.bx_hub.specs.Watches.{IsBack};
-    ghost use Rattle.bx_connects.specs.declared.watch.Watch.TheVariants as watches;
+    ghost use Rattle.bx_hub.specs.Watches.{IsLeftOrBack};
+    ghost use Rattle.bx_hub.specs.declared.desk.watch.Watch.TheVariants as watches;
 
     /// A hub over an empty list, for the configuration's number of shards.
     pub fn new(
@@ -102,12 +104,12 @@ impl<J: Naming, P: Placing, G: Gate + Drop, R: Wait + Drop> Hub<J, P, G, R> {
         alloc: Global,
         pass: &mut Pass<J>,
         arrival: &Arrival,
-    ) -> Result<Posted, PostFault>
+    ) -> Result<Posted<J>, PostFault>
         ensures seen { IsPrefix pass.old pass.new }
         ensures admitted { IfOk result (λ p. IsAdmittedAt (read_input (inputs.Post arrival.now)) p.first pass.old pass.new) }
         ensures slots { IfOk result (λ p. AreSlotsAt (placed_by J.config J.config.shards J.placing) (read_input (inputs.Post arrival.now)) p.first pass.new p.slots) }
         ensures refused { IfErr result (λ f. IsRefused (read_input (inputs.Post arrival.now)) f pass.new) }
-        ensures behind { IfOk result (λ p. count_of p.behind ≤ J.config.shards) }
+        ensures behind { IfOk result (λ p. IsOfAll J.config.shards pass.new p.brought) }
     {
         let messages = read_messages(alloc, &arrival.bodies)?;
         let Admitted { first, slots } = self.admit(
@@ -118,11 +120,11 @@ impl<J: Naming, P: Placing, G: Gate + Drop, R: Wait + Drop> Hub<J, P, G, R> {
             arrival.nonce,
             &messages,
         )?;
-        let behind = self.bring_all(rt, alloc, &pass.front);
+        let brought = self.bring_all(rt, alloc, &pass.front);
         Ok(Posted {
             first,
             slots,
-            behind,
+            brought,
         })
     }
 
@@ -134,18 +136,18 @@ impl<J: Naming, P: Placing, G: Gate + Drop, R: Wait + Drop> Hub<J, P, G, R> {
         alloc: Global,
         pass: &mut Pass<J>,
         moment: u64,
-    ) -> Result<Ticked, PostFault>
+    ) -> Result<Ticked<J>, PostFault>
         ensures seen { IsPrefix pass.old pass.new }
         ensures admitted { IfOk result (λ t. IsAdmittedAt (read_input (inputs.Tick moment)) t.place pass.old pass.new) }
         ensures refused { IfErr result (λ f. IsRefused (read_input (inputs.Tick moment)) f pass.new) }
-        ensures behind { IfOk result (λ t. count_of t.behind ≤ J.config.shards) }
+        ensures behind { IfOk result (λ t. IsOfAll J.config.shards pass.new t.brought) }
     {
         let Admitted { first, .. } = self.admit_tick(rt, alloc, &mut pass.front, moment)?;
-        let behind = self.bring_all(rt, alloc, &pass.front);
+        let brought = self.bring_all(rt, alloc, &pass.front);
         self.let_go(rt, alloc);
         Ok(Ticked {
             place: first,
-            behind,
+            brought,
         })
     }
 
@@ -168,8 +170,9 @@ impl<J: Naming, P: Placing, G: Gate + Drop, R: Wait + Drop> Hub<J, P, G, R> {
         match admission.post(alloc, &*self.placing, pass, moment, nonce, messages) {
             Ok(admitted) => Ok(admitted),
             Err(PostFault::Behind { .. }) => {
-                let least = self.bring_least(rt, alloc, pass)?;
-                admission.trim(alloc, least)?;
+                if let Some(least) = self.bring_least(rt, alloc, pass)? {
+                    admission.trim(alloc, &least)?;
+                }
                 admission.post(alloc, &*self.placing, pass, moment, nonce, messages)
             }
             Err(fault) => Err(fault),
@@ -192,8 +195,9 @@ impl<J: Naming, P: Placing, G: Gate + Drop, R: Wait + Drop> Hub<J, P, G, R> {
         match admission.tick(alloc, pass, moment) {
             Ok(admitted) => Ok(admitted),
             Err(PostFault::Behind { .. }) => {
-                let least = self.bring_least(rt, alloc, pass)?;
-                admission.trim(alloc, least)?;
+                if let Some(least) = self.bring_least(rt, alloc, pass)? {
+                    admission.trim(alloc, &least)?;
+                }
                 admission.tick(alloc, pass, moment)
             }
             Err(fault) => Err(fault),
@@ -202,30 +206,38 @@ impl<J: Naming, P: Placing, G: Gate + Drop, R: Wait + Drop> Hub<J, P, G, R> {
 
     // Lets the window go of what all shards have passed. Where there is no memory for that, the next tick does it.
     fn let_go<W: Wait>(&self, rt: &W, alloc: Global) {
-        let mut least = u64::MAX;
-        for desk in &self.desks {
-            least = least.min(desk.lock(rt).place());
+        let mut least = Least::new(u64::MAX);
+        for index in 0..self.desks.len() {
+            let Ok(desk) = self.desk(rt, index) else {
+                return;
+            };
+            let stood = Stood::of(&*desk);
+            drop(desk);
+            least.add(stood);
         }
-        let _ = self.admission.lock(rt).trim(alloc, least);
+        let _ = self.admission.lock(rt).trim(alloc, &least);
     }
 
-    // Brings each shard up to the end of what was seen, and tells the least place where one stands. Who waited for what is
-    // answered by that is woken once the shard's lock is let go.
+    // Brings each shard up to the end of what was seen, and tells the least place where one stands; none where a shard is not found.
+    // Who waited for what is answered by that is woken once the shard's lock is let go.
     fn bring_least<W: Wait>(
         &self,
         rt: &W,
         alloc: Global,
         pass: &mut Note<J>,
-    ) -> Result<u64, PostFault>
+    ) -> Result<Option<Least<J>>, PostFault>
         ensures seen { IsPrefix pass.old pass.new }
         ensures overrun { IfErr result (λ f. IsOverrun f pass.new) }
+        ensures all { IfOk result (λ o. IfSome o (λ l. length l.stood ≡ J.config.shards)) }
     {
-        let mut least = pass.len();
-        for desk in &self.desks {
-            let mut guard = desk.lock(rt);
+        let mut least = Least::new(pass.len());
+        for index in 0..self.desks.len() {
+            let Ok(mut guard) = self.desk(rt, index) else {
+                return Ok(None);
+            };
             let desk = &mut *guard;
             let brought = desk.bring(alloc, &self.gate, pass);
-            let stands = desk.place();
+            let stood = Stood::of(desk);
             let front = desk.front();
             let wakers = desk.take_wakers(alloc);
             drop(guard);
@@ -234,31 +246,55 @@ impl<J: Naming, P: Placing, G: Gate + Drop, R: Wait + Drop> Hub<J, P, G, R> {
                 *pass = front;
                 return Err(PostFault::Overrun { shard, place });
             }
-            least = least.min(stands);
+            least.add(stood);
         }
-        Ok(least)
+        Ok(Some(least))
     }
 
-    // Brings each shard up to the note, and counts those that stayed below it. Who waited for what is answered by that is
-    // woken once the shard's lock is let go.
-    fn bring_all<W: Wait>(&self, rt: &W, alloc: Global, note: &Note<J>) -> Lagging
-        ensures { count_of result ≤ J.config.shards }
+    // Brings each shard up to the note, and says what came of it.
+    fn bring_all<W: Wait>(&self, rt: &W, alloc: Global, note: &Note<J>) -> Round<J>
+        ensures { IsOfAll J.config.shards note.now result }
     {
-        let mut behind = Lagging::none();
-        for desk in &self.desks {
-            let mut desk = desk.lock(rt);
-            let brought = desk.bring(alloc, &self.gate, note);
-            let is_behind = desk.place() < note.len();
-            let wakers = desk.take_wakers(alloc);
-            drop(desk);
-            drop(wakers);
-            if let Err(fault) = brought
-                && is_behind
-            {
-                behind = behind.with(fault);
-            }
+        let mut round = Round::new(note);
+        for index in 0..self.desks.len() {
+            round.add(self.bring_one(rt, alloc, index, note));
         }
-        behind
+        round
+    }
+
+    // Brings a shard up to the note. Who waited for what is answered by that is woken once the shard's lock is let go.
+    fn bring_one<W: Wait>(&self, rt: &W, alloc: Global, index: usize, note: &Note<J>) -> Brought<J>
+        requires { index < length self.now.desks.items }
+        ensures { (result.index.value ≡ index) × (result.note.value ≡ note.now) }
+    {
+        match self.desk(rt, index) {
+            Ok(mut desk) => {
+                let brought = desk.bring_to(alloc, &self.gate, note);
+                let wakers = desk.take_wakers(alloc);
+                drop(desk);
+                drop(wakers);
+                brought
+            }
+            Err(other) => Brought::misplaced(&*other, &index, note),
+        }
+    }
+
+    // The desk of a shard, under its lock, or another one that stands there.
+    fn desk<W: Wait>(
+        &self,
+        rt: &W,
+        index: usize,
+    ) -> Result<MutexGuard<'_, Desk<J, P>>, MutexGuard<'_, Desk<J, P>>>
+        requires { index < length self.now.desks.items }
+        ensures own { IfOk result (λ desk. desk.value.shard.index ≡ index) }
+        ensures other { IfErr result (λ desk. desk.value.shard.index ≢ index) }
+    {
+        let desk = self.desks[index].lock(rt);
+        if desk.index() == index {
+            Ok(desk)
+        } else {
+            Err(desk)
+        }
     }
 
     /// The answer to a connect or a rider, where its shard has filed one, or files one while it is brought up to what the pass has
@@ -276,26 +312,28 @@ impl<J: Naming, P: Placing, G: Gate + Drop, R: Wait + Drop> Hub<J, P, G, R> {
             ⊎ IsLevelWithout (placed_by J.config J.config.shards J.placing) ticket pass.new)) }
         ensures stopped { IfErr result (λ f. IsStopped f ticket.shard pass.new) }
     {
-        let Some(desk) = self.desks.get(ticket.shard) else {
+        if ticket.shard >= self.desks.len() {
             return Ok(None);
-        };
-        let mut desk = desk.lock(rt);
-        if desk.index() != ticket.shard {
-            // Each desk lies at its own index.
-            return never(rt);
         }
-        let answer = desk.poll(alloc, &self.gate, &mut pass.front, ticket);
-        let wakers = desk.take_wakers(alloc);
-        drop(desk);
-        drop(wakers);
-        answer
+        match self.desk(rt, ticket.shard) {
+            Ok(mut desk) => {
+                let answer = desk.poll(alloc, &self.gate, &mut pass.front, ticket);
+                let wakers = desk.take_wakers(alloc);
+                drop(desk);
+                drop(wakers);
+                answer
+            }
+            Err(other) => Err(HubFault::Misplaced {
+                found: other.index(),
+            }),
+        }
     }
 
     /// Leaves a waker beside a held connect, and gives the older one there back. Once the connect is answered, the waker is
     /// woken by the call that brought the shard up, after that has let go of the shard's lock. The waker comes back where an
     /// answer is filed, where the hub was closed, and where the ticket is of no held connect of its shard, or names no shard.
-    pub fn watch<W: Wait>(&self, rt: &W, ticket: Ticket, waker: Waker) -> Watch
-        ensures back { IsBack waker result }
+    pub fn watch<W: Wait>(&self, rt: &W, ticket: Ticket, waker: Waker) -> Watch<J>
+        ensures left { IsLeftOrBack ticket waker result }
         ensures unknown { J.config.shards ≤ ticket.shard → result ≡ watches.Unknown waker }
     {
         match self.desks.get(ticket.shard) {
@@ -348,12 +386,4 @@ impl<J: Naming, P: Placing, G: Gate + Drop, R: Wait + Drop> Hub<J, P, G, R> {
             desk.lock(rt).close();
         }
     }
-}
-
-// It does not return.
-fn never<T, W: Wait>(rt: &W) -> T
-    ensures { ⊥ }
-{
-    for _ in rt.forever() {}
-    unreachable!()
 }

@@ -4,13 +4,16 @@
 
 mod activity;
 mod admission;
+mod brought;
 mod desk;
 mod fault;
 mod hub;
+mod least;
 mod pass;
 
-pub use bx_connects::Watch;
+pub use brought::Round;
 pub use bx_workers::{Gate, OpenGate};
+pub use desk::{Left, Watch};
 pub use fault::{HubFault, Lagging, PostFault, Posted, Ticked};
 pub use hub::Hub;
 pub use pass::Pass;

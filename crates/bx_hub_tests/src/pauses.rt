@@ -28,7 +28,7 @@ fn ping<J: Naming, P: Placing, G: Gate + Drop, H: Wait + Drop, R: Wait>(
 ) -> Option<(u64, Lagging)> {
     let arrival = arrival(alloc, PING).ok()?;
     let posted = hub.post(rt, alloc, pass, &arrival).ok()?;
-    Some((posted.first, posted.behind))
+    Some((posted.first, posted.brought.behind()))
 }
 
 // Which shards stayed behind a request without messages; none where it is refused.
@@ -40,7 +40,7 @@ fn empty<J: Naming, P: Placing, G: Gate + Drop, H: Wait + Drop, R: Wait>(
 ) -> Option<Lagging> {
     let arrival = arrival(alloc, "[]").ok()?;
     let posted = hub.post(rt, alloc, pass, &arrival).ok()?;
-    Some(posted.behind)
+    Some(posted.brought.behind())
 }
 
 // How many pings in a row are taken, each at the next place from 0 on and with these shards behind it, up to so many.

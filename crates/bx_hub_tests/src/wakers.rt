@@ -81,7 +81,7 @@ fn watch_of<J: Naming, P: Placing, G: Gate + Drop, H: Wait + Drop, R: Wait>(
 ) -> Result<Watched, Fail> {
     Ok(match hub.watch(rt, ticket, waker(task)?) {
         Watch::Unknown(_) => Watched::Unknown,
-        Watch::Stored(older) => Watched::Stored(older.is_some()),
+        Watch::Stored(older, _) => Watched::Stored(older.is_some()),
         Watch::Ready(_) => Watched::Ready,
         Watch::Shut(_) => Watched::Shut,
     })
@@ -111,7 +111,7 @@ fn replaced<J: Naming, P: Placing, G: Gate + Drop, H: Wait + Drop, R: Wait + Abo
     ticket: Ticket,
 ) -> Result<(), Fail> {
     let older = hub.watch(rt, ticket, waker(&waiting.task)?);
-    let is_older = matches!(&older, Watch::Stored(Some(_)));
+    let is_older = matches!(&older, Watch::Stored(Some(_), _));
     same(rt, is_older, true, "the older waker");
     Ok(publish_woken(rt, alloc, hub, pass, waiting)?)
 }

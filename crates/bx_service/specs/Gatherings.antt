@@ -77,19 +77,25 @@ module _ (setup : Setup) where
 abbrev pub request_of : ℕ → ℕ → List (List ℕ) → ReadInput
 request_of moment nonce documents = read_by moment nonce (request_messages documents)
 
--- at some moment and with some nonce, the request stands at some place of what was then seen of the list, and the slots are what one thread gives for it there
-pub record AreSlotsFor (setup : Setup) (documents : List (List ℕ)) (seen : List Step) (slots : List Slot) : Type 0 where
-  pub moment : ℕ
-  pub nonce : ℕ
-  pub first : ℕ
-  pub admitted : IsAdmittedAt (request_of moment nonce documents) first [] seen
-  pub slots_at : AreSlotsAt setup (request_of moment nonce documents) first seen slots
+module _ (tells draws : ℕ → Type 0) where
+  -- At a moment that the clock tells and with a nonce that is drawn, the request stands at some place of what was then seen of the list, and the slots are
+  -- what one thread gives for it there.
+  pub record AreSlotsFor (setup : Setup) (documents : List (List ℕ)) (seen : List Step) (slots : List Slot) : Type 0 where
+    pub moment : ℕ
+    pub nonce : ℕ
+    pub first : ℕ
+    pub told : tells moment
+    pub drawn : draws nonce
+    pub admitted : IsAdmittedAt (request_of moment nonce documents) first [] seen
+    pub slots_at : AreSlotsAt setup (request_of moment nonce documents) first seen slots
 
--- at some moment and with some nonce, the hub refuses the request for a reason of this status
-pub record IsRefusedWith (documents : List (List ℕ)) (status : Status) : Type 0 where
-  pub moment : ℕ
-  pub nonce : ℕ
-  pub fault : PostFault
-  pub front : List Step
-  pub refused : IsRefused (request_of moment nonce documents) fault front
-  pub told : status ≡ post_status fault
+  -- At such a moment and with such a nonce, the hub refuses the request for a reason of this status.
+  pub record IsRefusedWith (documents : List (List ℕ)) (status : Status) : Type 0 where
+    pub moment : ℕ
+    pub nonce : ℕ
+    pub fault : PostFault
+    pub front : List Step
+    pub told : tells moment
+    pub drawn : draws nonce
+    pub refused : IsRefused (request_of moment nonce documents) fault front
+    pub answered : status ≡ post_status fault

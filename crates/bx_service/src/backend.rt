@@ -22,14 +22,22 @@ use std::sync::{Arc, Wait};
 
 /// Tells the moment of a request.
 pub trait Clock {
+    // Holds of a clock and of a moment that it may tell.
+    ghost tells: { Self → ℕ → Type 0 } = { λ _ _. ⊤ };
+
     /// Milliseconds, from whatever beginning.
-    fn now(&self) -> u64;
+    fn now(&self) -> u64
+        ensures { tells self.now result };
 }
 
 /// Draws what client ids are made of.
 pub trait Nonces {
+    // Holds of a source of nonces and of a nonce that it may draw.
+    ghost draws: { Self → ℕ → Type 0 } = { λ _ _. ⊤ };
+
     /// 128 bits.
-    fn next(&self) -> u128;
+    fn next(&self) -> u128
+        ensures { draws self.now result };
 }
 
 /// The response has no items: an answer cannot be told, or there is no memory.
@@ -105,10 +113,10 @@ where
 
     // Nothing of the response is there yet, and its slots are what one thread gives for the request with these documents; or
     // the request is refused. Without memory for one more handle of the hub it is admitted, and unavailable.
-    ghost admits = { λ _ bodies outcome.
+    ghost admits = { λ backend bodies outcome.
         IfOk outcome (λ g. (g.items.items ≡ []) × (g.held ≡ None)
-        × AreSlotsFor (placed_by J.config J.config.shards J.placing) (texts_of bodies) g.pass (into_iter_items g.slots))
-        × IfErr outcome (λ status. (status ≡ Unavailable) ⊎ IsRefusedWith (texts_of bodies) status) };
+        × AreSlotsFor (C.tells backend.clock) (N.draws backend.nonces) (placed_by J.config J.config.shards J.placing) (texts_of bodies) g.pass (into_iter_items g.slots))
+        × IfErr outcome (λ status. (status ≡ Unavailable) ⊎ IsRefusedWith (C.tells backend.clock) (N.draws backend.nonces) (texts_of bodies) status) };
 
     fn admit(&self, bodies: Bodies) -> Result<Gathering<J, P, G, R>, Status> {
         let arrival = Arrival {

@@ -6,5 +6,5 @@ use Rattle.bx_hub.proofs.hub.Hub.bring_least.Goals as goal
 
 pub returns-in-Err-Overrun-clause-seen : goal.returns-in-Err-Overrun-clause-seen
 returns-in-Err-Overrun-clause-seen g c =
-    let told = prefix_trans c.loop-desk.pass c.bring-brought.new.self.note c.front-front.result c.bring-brought.ensures.told c.front-front.ensures.longer in
-    subst (λ (p : List Step). IsPrefix p c.front-front.result) c.loop-desk.invariant told
+    let told = prefix_trans c.loop-index.pass c.bring-brought.new.self.note c.front-front.result c.bring-brought.ensures.told c.front-front.ensures.longer in
+    subst (λ (p : List Step). IsPrefix p c.front-front.result) c.loop-index.invariant.0 told

@@ -1,0 +1,59 @@
+-- How many shards stay behind, with one shard more.
+use Rattle.std.proofs.Common.{ℕ, ◌≡◌, ◌≤◌, ◌+◌, List, [], ◌∷◌, ◌++◌, length, Option, Some, None, refl, ap, ◌∙◌, arith}
+use Rattle.bx_hub.specs.Faults.{count_of, one_more}
+use Rattle.bx_hub.specs.Lagging.{lagging_of}
+use Rattle.bx_hub.specs.declared.fault.HubFault.{HubFault}
+use Rattle.bx_hub.specs.declared.fault.HubFault.TheVariants as stops
+use Rattle.bx_hub.specs.declared.fault.Lagging.{Lagging}
+
+either_first : (f g : HubFault) (l : Lagging) → one_more f (one_more g l) ≡ one_more g (one_more f l)
+either_first stops.Closed stops.Closed l = refl
+either_first stops.Closed stops.Paused l = refl
+either_first stops.Closed (stops.Overrun t q) l = refl
+either_first stops.Closed stops.Memory l = refl
+either_first stops.Closed (stops.Misplaced n) l = refl
+either_first stops.Paused stops.Closed l = refl
+either_first stops.Paused stops.Paused l = refl
+either_first stops.Paused (stops.Overrun t q) l = refl
+either_first stops.Paused stops.Memory l = refl
+either_first stops.Paused (stops.Misplaced n) l = refl
+either_first (stops.Overrun s p) stops.Closed l = refl
+either_first (stops.Overrun s p) stops.Paused l = refl
+either_first (stops.Overrun s p) (stops.Overrun t q) l = refl
+either_first (stops.Overrun s p) stops.Memory l = refl
+either_first (stops.Overrun s p) (stops.Misplaced n) l = refl
+either_first stops.Memory stops.Closed l = refl
+either_first stops.Memory stops.Paused l = refl
+either_first stops.Memory (stops.Overrun t q) l = refl
+either_first stops.Memory stops.Memory l = refl
+either_first stops.Memory (stops.Misplaced n) l = refl
+either_first (stops.Misplaced m) stops.Closed l = refl
+either_first (stops.Misplaced m) stops.Paused l = refl
+either_first (stops.Misplaced m) (stops.Overrun t q) l = refl
+either_first (stops.Misplaced m) stops.Memory l = refl
+either_first (stops.Misplaced m) (stops.Misplaced n) l = refl
+
+-- one shard more that stays behind
+pub lagging-last : (stays : List (Option HubFault)) (f : HubFault) → lagging_of (stays ++ Some f ∷ []) ≡ one_more f (lagging_of stays)
+lagging-last [] f = refl
+lagging-last (None ∷ stays) f = lagging-last stays f
+lagging-last (Some g ∷ stays) f = ap (one_more g) (lagging-last stays f) ∙ either_first g f (lagging_of stays)
+
+-- one shard more that does not
+pub level-last : (stays : List (Option HubFault)) → lagging_of (stays ++ None ∷ []) ≡ lagging_of stays
+level-last [] = refl
+level-last (None ∷ stays) = level-last stays
+level-last (Some g ∷ stays) = ap (one_more g) (level-last stays)
+
+counted : (f : HubFault) (l : Lagging) → count_of (one_more f l) ≡ count_of l + 1
+counted stops.Closed l = omega arith
+counted stops.Paused l = omega arith
+counted (stops.Overrun s p) l = omega arith
+counted stops.Memory l = omega arith
+counted (stops.Misplaced m) l = omega arith
+
+-- no more stay behind than there are
+pub few_lag : (stays : List (Option HubFault)) → count_of (lagging_of stays) ≤ length stays
+few_lag [] = omega arith
+few_lag (None ∷ stays) = let e = few_lag stays in omega (arith, e)
+few_lag (Some f ∷ stays) = let e = few_lag stays in let c = counted f (lagging_of stays) in omega (arith, e, c)

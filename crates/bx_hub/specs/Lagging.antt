@@ -1,0 +1,11 @@
+-- What stopped each shard that stays behind, and how many those are.
+use Rattle.std.specs.Prelude.{ℕ, ◌≡◌, List, [], ◌∷◌, length, Option, Some, None}
+use Rattle.bx_hub.specs.Faults.{one_more}
+use Rattle.bx_hub.specs.declared.fault.HubFault.{HubFault}
+use Rattle.bx_hub.specs.declared.fault.Lagging.{Lagging}
+
+-- how many shards stay behind, by what stopped each of them, if it was stopped
+abbrev pub lagging_of : List (Option HubFault) → Lagging
+lagging_of [] = record { memory = 0; overrun = 0; paused = 0; closed = 0; misplaced = 0 }
+lagging_of (None ∷ stays) = lagging_of stays
+lagging_of (Some fault ∷ stays) = one_more fault (lagging_of stays)

@@ -1,0 +1,114 @@
+//! What came of bringing the shards up to a note.
+ghost use Rattle.std.specs.Prelude.{◌≡◌, ◌≢◌, ◌≤◌, ◌<◌, ◌++◌, ◌∷◌, [], length, Option, Some, IfSome, IfNone};
+ghost use mathlib.Core.List.{IsPrefix};
+ghost use Rattle.bx_hub.specs.Faults.{IsStopped, IsStoppedIn};
+ghost use Rattle.bx_hub.specs.Lagging.{lagging_of};
+ghost use Rattle.bx_hub.specs.declared.fault.HubFault.TheVariants as faults;
+ghost use Rattle.bx_window.specs.Steps.{list_of};
+
+use crate::desk::Desk;
+use crate::fault::{HubFault, Lagging};
+use bx_entry::Placing;
+use bx_history::History;
+use bx_window::{Naming, Note};
+use std::snapshot::Snapshot;
+
+/// What came of bringing one shard up to a note: it learnt the note, and stands at its end or stays below it, stopped by what is
+/// told. None is made but by a look at the shard.
+#[derive(Drop)]
+pub(crate) struct Brought<J: Naming> {
+    index: Snapshot<usize>,
+    note: Snapshot<Note<J>>,
+    stays: Option<HubFault>,
+}
+
+impl<J: Naming> Brought<J> {
+    /// How this shard stands to the note.
+    pub(crate) fn of<P: Placing>(
+        desk: &Desk<J, P>,
+        index: &usize,
+        note: &Note<J>,
+        stays: Option<HubFault>,
+    ) -> Brought<J>
+        requires index { index.now ≡ desk.now.shard.index }
+        requires told { IsPrefix note.now desk.now.note }
+        requires level { IfNone stays (length (list_of note.now) ≤ desk.now.shard.place) }
+        requires below { IfSome stays (λ f. desk.now.shard.place < length (list_of note.now)) }
+        requires stopped { IfSome stays (λ f. IsStopped f desk.now.shard.index desk.now.reader × IsStoppedIn desk.now.activity f) }
+        ensures index { result.index.value ≡ desk.now.shard.index }
+        ensures note { result.note.value ≡ note.now }
+        ensures stays { result.stays ≡ stays }
+    {
+        let _ = desk;
+        Brought {
+            index: Snapshot::of(index),
+            note: Snapshot::of(note),
+            stays,
+        }
+    }
+
+    /// No shard of this index was found: another one stood under its lock.
+    pub(crate) fn misplaced<P: Placing>(
+        desk: &Desk<J, P>,
+        index: &usize,
+        note: &Note<J>,
+    ) -> Brought<J>
+        requires { desk.now.shard.index ≢ index.now }
+        ensures index { result.index.value ≡ index.now }
+        ensures note { result.note.value ≡ note.now }
+        ensures stays { result.stays ≡ Some (faults.Misplaced desk.now.shard.index) }
+    {
+        Brought {
+            index: Snapshot::of(index),
+            note: Snapshot::of(note),
+            stays: Some(HubFault::Misplaced {
+                found: desk.index(),
+            }),
+        }
+    }
+}
+
+/// What came of bringing the shards up to a note, one after another: what stopped each that stays below it, in the order of their
+/// indices, for contracts alone, and how many those are.
+#[derive(Drop)]
+pub struct Round<J: Naming> {
+    note: Snapshot<Note<J>>,
+    stays: History<Option<HubFault>>,
+    behind: Lagging,
+    ghost counted: { behind ≡ lagging_of stays },
+}
+
+impl<J: Naming> Round<J> {
+    /// No shard was brought up to the note.
+    pub(crate) fn new(note: &Note<J>) -> Round<J>
+        ensures { (result.note.value ≡ note.now) × (result.stays ≡ []) }
+    {
+        Round {
+            note: Snapshot::of(note),
+            stays: History::new(),
+            behind: Lagging::none(),
+        }
+    }
+
+    /// The next shard was brought up to it.
+    pub(crate) fn add(&mut self, brought: Brought<J>)
+        requires next { brought.index.value ≡ length self.old.stays }
+        requires note { brought.note.value ≡ self.old.note.value }
+        requires few { length self.old.stays < 18446744073709551615 }
+        ensures added { self.new.stays ≡ self.old.stays ++ brought.stays ∷ [] }
+        ensures same { self.new.note ≡ self.old.note }
+    {
+        self.stays.push(&brought.stays);
+        match brought.stays {
+            Some(fault) => self.behind = self.behind.with(fault),
+            None => {}
+        }
+    }
+
+    /// How many shards stay behind, by what stopped them.
+    pub fn behind(&self) -> Lagging
+        ensures { result ≡ lagging_of self.now.stays }
+    {
+        self.behind
+    }
+}
