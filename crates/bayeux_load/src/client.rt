@@ -46,7 +46,7 @@ impl Client {
         }
     }
 
-    /// Asks for a session.
+    /// Asks for a session. An error says why the load ends.
     pub fn begin(&mut self, context: &Context) -> Result<(), Fault> {
         let settings = &context.settings;
         let acknowledges = settings.is_acknowledging && matches!(&self.role, Role::Session(_));
@@ -62,14 +62,16 @@ impl Client {
         }
     }
 
-    /// Writes and reads what the connection takes and has, and tells whether a response is there.
+    /// Writes and reads what the connection takes and has, and tells whether a response is there. An error says why
+    /// the load ends.
     pub fn is_answered(&mut self, buffer: &mut [u8]) -> Result<bool, Fault> {
         self.link.flush()?;
         self.link.fill(buffer)?;
         Ok(self.link.body()?.is_some())
     }
 
-    /// Takes the response that is there, and goes on.
+    /// Takes the response that is there, and goes on. An error says why the load ends. `now` is in nanoseconds since
+    /// the start.
     pub fn take(&mut self, context: &Context, tally: &mut Tally, now: u64) -> Result<(), Fault> {
         let Some(body) = self.link.body()? else {
             return Ok(());
@@ -185,7 +187,8 @@ impl Client {
         self.ask(State::Connect, request, now)
     }
 
-    /// Publishes where this is a publisher that waits for nothing, and its next event is due.
+    /// Publishes where this is a publisher that waits for nothing, and its next event is due. An error says why the
+    /// load ends. `now` is in nanoseconds since the start.
     pub fn publish(
         &mut self,
         context: &Context,

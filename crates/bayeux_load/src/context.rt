@@ -9,9 +9,13 @@ use std::time::{Clock, Instant};
 /// What the clients of all threads share.
 #[derive(Drop)]
 pub struct Context {
+    /// Where memory is taken.
     pub alloc: Global,
+    /// How the server is loaded.
     pub settings: Settings,
+    /// The address of the server.
     pub address: SocketAddr,
+    /// When the load began; moments are counted from here.
     pub start: Instant,
     /// How many clients are not ready yet.
     pub unready: AtomicU64,
@@ -52,13 +56,14 @@ impl Context {
         }
     }
 
-    /// The moment, in nanoseconds since the start.
+    /// The moment, in nanoseconds since the start. An error means that the clock cannot be read.
     pub fn now(&self, clock: &impl Clock) -> Result<u64, Fault> {
         let passed = self.start.elapsed(clock)?;
         Ok(u64::try_from(passed.as_nanos()).unwrap_or(u64::MAX))
     }
 
-    /// When the publishers began: once all clients are ready, which is now where nobody was told so before.
+    /// When the publishers began: once all clients are ready, which is now where nobody was told so before;
+    /// in nanoseconds since the start.
     pub fn begun(&self, now: u64) -> Option<u64> {
         if self.unready.load(Ordering::SeqCst) > 0 {
             return None;

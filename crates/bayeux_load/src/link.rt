@@ -21,7 +21,7 @@ pub struct Link {
 }
 
 impl Link {
-    /// Begins to connect. Its readiness is told under the token.
+    /// Begins to connect. Its readiness is told under the token. An error says why the load ends.
     pub fn open(
         net: &impl Net,
         alloc: Global,
@@ -44,14 +44,16 @@ impl Link {
         })
     }
 
-    /// Writes a request, as much of it as is taken at once. The one before it was answered.
+    /// Writes a request, as much of it as is taken at once. The one before it was answered. An
+    /// error says why the load ends.
     pub fn send(&mut self, request: String) -> Result<(), Fault> {
         self.output = request;
         self.written = 0;
         self.flush()
     }
 
-    /// Writes what is left of the request, as much as is taken at once.
+    /// Writes what is left of the request, as much as is taken at once. An error says why the load
+    /// ends.
     pub fn flush(&mut self) -> Result<(), Fault> {
         for _ in 0..u64::MAX {
             let left = self.output.as_bytes().get(self.written..).unwrap_or(&[]);
@@ -68,7 +70,7 @@ impl Link {
         Ok(())
     }
 
-    /// Reads what is there.
+    /// Reads what is there. An error says why the load ends.
     pub fn fill(&mut self, buffer: &mut [u8]) -> Result<(), Fault> {
         for _ in 0..u64::MAX {
             match (&self.socket).read(buffer) {
@@ -87,7 +89,7 @@ impl Link {
         Ok(())
     }
 
-    /// The body of the response, once it is there as a whole.
+    /// The body of the response, once it is there as a whole. An error says why the load ends.
     pub fn body(&self) -> Result<Option<&[u8]>, Fault> {
         match read_response(self.input.as_slice()) {
             Err(_) => Err(Fault::BadResponse),

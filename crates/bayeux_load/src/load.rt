@@ -18,7 +18,7 @@ const MOST_THREADS: u64 = 8;
 // A thread that does a part.
 type Other = JoinHandle<Result<Tally, Fault>>;
 
-/// Loads the server as it is told, with a line of progress or without.
+/// Loads the server as it is told, with a line of progress or without. An error says why the load ends.
 pub fn load<R>(rt: R, settings: Settings, is_shown: bool) -> Result<Tally, Fault>
 where
     R: Net<Listener = TcpListener, Stream = TcpStream>

@@ -40,7 +40,7 @@ pub struct Part {
 }
 
 impl Part {
-    /// The part of this index among so many.
+    /// The part of this index among so many. An error means that memory was refused.
     pub fn new(alloc: Global, index: u64, threads: u64) -> Result<Part, AllocError> {
         Ok(Part {
             clients: Vec::new(alloc),
@@ -55,7 +55,7 @@ impl Part {
         })
     }
 
-    /// Opens further clients, unless enough of them are being opened.
+    /// Opens further clients, unless enough of them are being opened. An error says why the load ends.
     pub fn open(
         &mut self,
         net: &impl Net,
@@ -100,7 +100,7 @@ impl Part {
         Duration::from_millis(if is_paced { 1 } else { 10 })
     }
 
-    /// Goes on with the client of this token.
+    /// Goes on with the client of this token. An error says why the load ends.
     pub fn serve(
         &mut self,
         clock: &impl Clock,
@@ -118,7 +118,8 @@ impl Part {
         Ok(())
     }
 
-    /// Lets the publishers publish what is due.
+    /// Lets the publishers publish what is due. An error says why the load ends. `now` is in nanoseconds since the
+    /// start.
     pub fn publish(&mut self, context: &Context, now: u64) -> Result<(), Fault> {
         let begun = context.begun(now);
         if let Some(begun) = begun {
@@ -132,7 +133,8 @@ impl Part {
         Ok(())
     }
 
-    /// Whether no thread has anything left to do, or nothing has come for long enough.
+    /// Whether no thread has anything left to do, or nothing has come for long enough. An error says why the load
+    /// ends. `now` is in nanoseconds since the start.
     pub fn is_over(&mut self, context: &Context, now: u64) -> Result<bool, Fault> {
         if context.has_failed.load(Ordering::SeqCst) {
             return Err(Fault::Other);

@@ -4,7 +4,7 @@ ghost use Rattle.std.specs.Prelude.{◌<◌, ◌≤◌};
 use crate::tally::Tally;
 use std::alloc::{AllocError, Global};
 
-/// What came of a load, in four lines.
+/// What came of a load, in four lines. An error means that memory was refused.
 pub fn report(alloc: Global, tally: &Tally) -> Result<String, AllocError> {
     let mut text = String::new(alloc);
     rates(&mut text, tally)?;

@@ -5,13 +5,16 @@ use std::alloc::{AllocError, Global};
 /// What a client is for.
 #[derive(Drop)]
 pub enum Role {
+    /// It receives.
     Session(Session),
+    /// It publishes.
     Publisher(Publisher),
 }
 
 /// One that receives the events of a channel.
 #[derive(Drop)]
 pub struct Session {
+    /// The number of its channel, from 0 on.
     pub channel: u32,
     /// The batch that its next connect acknowledges.
     pub acknowledged: Option<u64>,
@@ -20,7 +23,7 @@ pub struct Session {
 }
 
 impl Session {
-    /// The session of this number, to which nothing came.
+    /// The session of this number, to which nothing came. An error means that memory was refused.
     pub fn new(alloc: Global, settings: &Settings, number: u64) -> Result<Session, AllocError> {
         let channel = (number % settings.channels as u64) as u32;
         let mut arrivals = Vec::new(alloc);
@@ -73,6 +76,7 @@ impl Session {
 #[derive(Drop)]
 pub struct Publisher {
     number: u64,
+    /// The number of its channel, from 0 on.
     pub channel: u32,
     // How many it sent.
     sent: u64,
@@ -91,7 +95,8 @@ impl Publisher {
         }
     }
 
-    /// The stamp of its next event where that is due so many nanoseconds after the first; it counts as sent.
+    /// The stamp of its next event where that is due so many nanoseconds after the first; it counts as sent,
+    /// at the moment `now` in nanoseconds since the start.
     pub fn next(&mut self, settings: &Settings, passed: u64, now: u64) -> Option<Stamp> {
         if self.next >= settings.events as u64 {
             return None;

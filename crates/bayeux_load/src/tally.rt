@@ -5,6 +5,7 @@ use std::alloc::{AllocError, Global};
 /// What came of a load, or of one thread's part of it. Moments are in nanoseconds since it began.
 #[derive(Drop)]
 pub struct Tally {
+    /// How long the events took.
     pub latencies: Latencies,
     /// How many clients of the thread are ready.
     pub ready: usize,
@@ -18,15 +19,18 @@ pub struct Tally {
     pub delivered: u64,
     /// When the last of them did.
     pub last_delivered: u64,
+    /// How many events did not come.
     pub lost: u64,
+    /// How many came once more.
     pub doubled: u64,
+    /// How many came behind a later one of their publisher.
     pub out_of_order: u64,
     /// Events that no publisher of the channel published.
     pub unknown: u64,
 }
 
 impl Tally {
-    /// Nothing came.
+    /// Nothing came. An error means that memory was refused.
     pub fn new(alloc: Global) -> Result<Tally, AllocError> {
         Ok(Tally {
             latencies: Latencies::new(alloc)?,
@@ -43,7 +47,7 @@ impl Tally {
         })
     }
 
-    /// An event came at this moment, which was sent at another.
+    /// An event came at the moment `now`, which was sent at the moment `sent`.
     pub fn arrived(&mut self, arrival: Arrival, sent: u64, now: u64) {
         self.delivered = self.delivered.saturating_add(1);
         self.last_delivered = now;

@@ -23,7 +23,8 @@ struct Waiting {
     shown: Option<u64>,
 }
 
-/// What comes of a part of a load, in which all threads have nothing left to do.
+/// What comes of a part of a load, in which all threads have nothing left to do. An error says why
+/// the load ends.
 pub fn work<R>(rt: &R, context: &Context, mut part: Part, is_shown: bool) -> Result<Tally, Fault>
 where
     R: Net<Listener = TcpListener, Stream = TcpStream> + Clock + Wait + Eprint,

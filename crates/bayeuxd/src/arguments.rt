@@ -8,7 +8,9 @@ use std::net::SocketAddr;
 /// How the server is run.
 #[derive(Clone, Copy)]
 pub struct Arguments {
+    /// The address and the port that it listens on.
     pub address: SocketAddr,
+    /// How many shards there are, the times in milliseconds, the limits and the options.
     pub config: Config,
     /// Of the generator of nonces.
     pub seed: [u8; 32],

@@ -9,7 +9,9 @@ use std::time::Instant;
 /// Milliseconds since the program began.
 #[derive(Clone, Copy)]
 pub struct SinceStart<R> {
+    /// The leave to read the clock.
     pub rt: R,
+    /// When the program began.
     pub start: Instant,
 }
 
@@ -26,7 +28,9 @@ impl<R: time::Clock> Clock for SinceStart<R> {
 /// Two words each of a generator that all connections share, the upper one first.
 #[derive(Drop)]
 pub struct Drawn<R> {
+    /// The leave to wait for the lock.
     pub rt: R,
+    /// The generator, made of a seed of 32 bytes.
     pub generator: Mutex<ChaCha20Rng>,
 }
 

@@ -1,4 +1,4 @@
-//! The server.
+//! Makes the hub, the thread of ticks and the runtime, and serves the connections of an address over them.
 ghost use Rattle.std.specs.Prelude.{◌≡◌};
 ghost use Rattle.bx_entry.specs.Placings.{by_remainder};
 

@@ -10,10 +10,11 @@ use std::sync::atomic::{AtomicBool, Ordering};
 use std::time::Duration;
 use std::{thread, time};
 
-// How long a tick is, in milliseconds.
+// How long a tick is, in milliseconds. (This server's choice.)
 const TICK: u64 = 100;
 
-// After how many ticks a filed answer that nobody took is dropped.
+// After how many ticks a filed answer that nobody took is dropped: a minute. (This server's
+// choice.)
 const KEPT: usize = 600;
 
 /// Posts a tick every 100 ms until it is told to stop.

@@ -46,6 +46,7 @@ impl Model for Ledger {
 
 impl Ledger {
     /// An empty list, for the configuration's number of shards. It takes the room for as many sessions as may be live.
+    /// An error means that memory was refused.
     pub fn new(alloc: Global, config: Config) -> Result<Ledger, AllocError>
         ensures { IfOk result (λ l. l ≡ record { config = config; shards = config.shards; list = [] }) }
     {
@@ -70,9 +71,9 @@ impl Ledger {
         self.registry.sessions()
     }
 
-    /// What a request comes to: its messages are judged in order, each behind those before it, and the ticket of a connect
-    /// or a rider names the shard of its session. It is refused where its moment is above the greatest that is taken, or
-    /// else where the list would become too long.
+    /// What a request comes to: its messages are judged in order, each behind those before it, and the ticket of a
+    /// connect or a rider names the shard of its session. It is refused where its moment, in milliseconds, is above the
+    /// greatest that is taken, else where the list would become too long, or else where memory is refused.
     pub fn plan<P: Placing>(
         &self,
         alloc: Global,
@@ -100,8 +101,8 @@ impl Ledger {
         })
     }
 
-    /// What a tick comes to: it closes the live sessions that were due before it. It is refused as a request with one
-    /// message is.
+    /// What a tick at this moment, in milliseconds, comes to: it closes the live sessions that were due before it. It
+    /// is refused as a request with one message is.
     pub fn plan_tick(&mut self, alloc: Global, moment: u64) -> Result<Plan, AdmitFault>
         ensures same { self.new ≡ self.old }
         ensures fault { IfSome (fault_of moment (length self.old.list + 1)) (λ fault. result ≡ Err fault) }

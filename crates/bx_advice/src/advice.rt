@@ -34,14 +34,18 @@ pub enum Reconnect {
 /// each advice to connect again, and in no other, is this server's choice.)
 #[derive(Clone, Copy, Debug, PartialEq, Eq)]
 pub struct Advice {
+    /// How long the client is to wait before it connects again, in milliseconds.
     pub interval: u32,
+    /// What the client is to do next.
     pub reconnect: Reconnect,
+    /// How long the server holds a connect at most, in milliseconds; some with `Retry` alone.
     pub timeout: Option<u32>,
 }
 
-/// The advice that goes with a case: to connect again after a success of a handshake or a connect,
-/// to handshake again where the session is gone, cannot go on or found no room, not to come again
-/// where this client cannot be served or has left, and else none.
+/// The advice that goes with a case: to connect again after a success of a handshake or a connect, to
+/// handshake again where the session is gone, cannot go on or found no room, not to come again where this
+/// client cannot be served or has left, and else none. (Bayeux 1.0, the field `advice`; which case
+/// advises what is this server's choice.)
 pub fn advice_for(outcome: Outcome, config: &Config) -> Option<Advice>
     ensures { result ≡ advice_of config.now outcome }
 {

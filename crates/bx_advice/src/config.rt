@@ -54,6 +54,7 @@ pub struct Config {
     pub interval: u32,
     /// How long a session lives after its last accepted message and that message's hold.
     pub max_interval: u32,
+    /// How much a session and the server may take; see [`Limits`].
     pub limits: Limits,
     /// Whether the waiting events of a session that does not acknowledge go out with the reply to the last message of
     /// a request that is of this session alone.
@@ -110,9 +111,8 @@ impl Config {
     ghost use Rattle.std.specs.Prelude.{◌≡◌, ◌≤◌, ◌↔◌, IsSome, IfSome, false};
     ghost use Rattle.bx_advice.specs.Limits.{IsStandard};
 
-    /// The configuration with these settings and the standard limits, in which events go out with
-    /// connects alone and a publish needs a client id; none where `shards` is not 1 to
-    /// [`MAX_SHARDS`].
+    /// The configuration with these settings, the times in milliseconds, and the standard limits, in which events go
+    /// out with connects alone and a publish needs a client id; none where `shards` is not 1 to [`MAX_SHARDS`].
     pub fn new(shards: usize, timeout: u32, interval: u32, max_interval: u32) -> Option<Config>
         ensures valid { IsSome result ↔ ((1 ≤ shards) × (shards ≤ 64)) }
         ensures shards { IfSome result (λ c. c.shards ≡ shards) }

@@ -4,8 +4,11 @@
 /// connects.
 #[derive(Clone, Copy, Debug)]
 pub struct Load {
+    /// How many rounds.
     pub rounds: u64,
+    /// How many publishes a round has.
     pub publishes: u64,
+    /// How many sessions connect in a round.
     pub sessions: u64,
 }
 

@@ -21,17 +21,22 @@ use std::mem;
 /// one left.
 #[derive(Drop)]
 pub enum ConnectState {
-    /// It is held by the session with this number, until a tick at or past the deadline, if a tick can be that late.
-    /// A waker is woken where it is dropped.
+    /// It is held until a tick at or past the deadline.
     Held {
+        /// The number of the session that holds it.
         session: u64,
+        /// When its hold ends, in milliseconds; none where no tick can be that late.
         deadline: Option<u64>,
+        /// Who waits for its answer, if anybody does. A waker is woken where it is dropped.
         waker: Option<Waker>,
     },
-    /// The answer to it, which the session with this number gave, was filed by the entry at this place.
+    /// The answer to it was filed.
     Filed {
+        /// The number of the session that gave it.
         session: u64,
+        /// The place of the entry that gave it.
         place: u64,
+        /// The answer, until it is taken.
         answer: Answer,
     },
 }
@@ -85,7 +90,8 @@ impl Connects {
         }
     }
 
-    /// A session holds the connect at this place, of which nothing was known, until this moment.
+    /// A session holds the connect at this place, of which nothing was known, until the deadline, in milliseconds.
+    /// Without a deadline no tick ends the hold. An error means that memory was refused, and nothing changes then.
     pub fn hold(
         &mut self,
         place: u64,
@@ -142,7 +148,8 @@ impl Connects {
         }
     }
 
-    /// Files an answer under a place of which nothing was known, which this session gives there.
+    /// Files an answer under a place of which nothing was known, which this session gives there. An error means that
+    /// memory was refused, and nothing changes then.
     pub fn prepare(&mut self, place: u64, session: u64, answer: Answer) -> Result<(), AllocError>
         requires { connect_at self.old place ≡ None }
         ensures ok { OnOk result ((p : ℕ) → connect_at self.new p
@@ -185,7 +192,7 @@ impl Connects {
         mem::replace(&mut self.wakers, Vec::new(alloc))
     }
 
-    /// The session of a held connect whose deadline is this moment or before it.
+    /// The session of a held connect whose deadline is this moment, in milliseconds, or before it.
     pub fn first_due(&self, moment: u64) -> Option<u64>
         ensures due { IfSome result (λ session. IsDue self.now session moment) }
         ensures none { IfNone result ((place session deadline : ℕ)
@@ -293,7 +300,8 @@ impl Connects {
         self.filed.pop()
     }
 
-    /// Makes room for a connect of which nothing is known, as if the session held it until then.
+    /// Makes room for a connect of which nothing is known, as if the session held it until the deadline, in
+    /// milliseconds. An error means that memory was refused.
     pub fn lend(
         &mut self,
         place: u64,

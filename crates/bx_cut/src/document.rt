@@ -55,7 +55,8 @@ impl<'a> Model for Document<'a> {
 
 impl<'a> Document<'a> {
     /// Cuts a body into its one object, or into the objects of its array. `NotJson` comes before
-    /// `NotObject`, and that before `TooMany`.
+    /// `NotObject`, and that before `TooMany`. `Memory` means that memory was refused, and says
+    /// nothing of the body.
     pub fn read(alloc: Global, body: &'a [u8]) -> Result<Document<'a>, CutError>
         ensures ok { OnOk result (fault body.now ≡ None) }
         ensures fault { IfErr result (λ e. e ≢ CutError.Memory → fault body.now ≡ Some e) }

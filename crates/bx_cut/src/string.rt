@@ -188,7 +188,7 @@ pub fn plain_text_of(value: &str) -> Option<&str>
     }
 }
 
-/// The unescaped text of a JSON value that is a string, and none of any other.
+/// The unescaped text of a JSON value that is a string, and none of any other. An error means that memory was refused.
 pub fn text_of(alloc: Global, value: &str) -> Result<Option<String>, AllocError>
     ensures value { IfOk result (λ text. option_map string_bytes text ≡ spelled value.now) }
     ensures reads { IfOk result (λ text. (d : Data) → read value.now ≡ Some d → BeginsBare value.now

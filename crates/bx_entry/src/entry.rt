@@ -4,34 +4,45 @@ use bx_names::Pattern;
 /// What the message or the tick at a place of the list came to.
 #[derive(Drop)]
 pub enum EntryKind {
-    /// An accepted handshake; `ack` says whether it turned acknowledgement on.
+    /// An accepted handshake.
     Opened {
+        /// The number of the session that it opens, from 1 on.
         session: u64,
+        /// Whether it turned acknowledgement on.
         ack: bool,
     },
-    /// An accepted connect, with what its reply repeats, the number that it acknowledges, and how long
-    /// it may be held, in milliseconds.
+    /// An accepted connect, with all that it is answered by.
     Connect {
+        /// The number of its session.
         session: u64,
+        /// The client id of its session, which the reply repeats.
         client: Text,
+        /// The message's `id`, as the sender wrote it, which the reply repeats.
         id: Option<RawJson>,
+        /// The number of the batch that it acknowledges, where it names one.
         acked: Option<u64>,
+        /// How long it may be held, in milliseconds; 0 where it is to be answered at once.
         hold: u64,
     },
     /// An accepted subscription, with its patterns but those of service channels.
     Subscribe {
+        /// The number of its session.
         session: u64,
+        /// The patterns, in the order of the message.
         patterns: Sequence<Pattern>,
     },
     /// An accepted unsubscription, with its patterns but those of service channels.
     Unsubscribe {
+        /// The number of its session.
         session: u64,
+        /// The patterns, in the order of the message.
         patterns: Sequence<Pattern>,
     },
     /// An accepted publish, to a service channel too.
     Publish(SharedEvent),
     /// An accepted disconnect.
     Disconnect {
+        /// The number of the session that it ends.
         session: u64,
     },
     /// A refused message.
@@ -43,6 +54,7 @@ pub enum EntryKind {
 /// A message with whose reply the waiting events of its session go out: the last of a request that is of this session alone.
 #[derive(Drop)]
 pub struct Rider {
+    /// The number of its session.
     pub session: u64,
     /// The reply behind the events.
     pub reply: Reply,
@@ -55,6 +67,7 @@ pub struct Entry {
     pub place: u64,
     /// The greatest moment that was handed in so far, in milliseconds.
     pub moment: u64,
+    /// What the message or the tick came to.
     pub kind: EntryKind,
     /// The rider that its message is, if it is one. Its events go out behind what the entry itself does.
     pub rides: Option<Rider>,
@@ -65,11 +78,12 @@ pub struct Entry {
 pub struct Batch {
     /// The place of its first entry.
     pub first: u64,
+    /// The entries, one for each message in order, or the tick's, at places that follow one another.
     pub entries: Sequence<Entry>,
 }
 
-/// Where the answer to a connect or a rider is filed: under its place, in this shard. It is good for as long as the sessions are dealt
-/// among the shards as they are: once they are redistributed, the answer may stand in another shard.
+/// Where the answer to a connect or a rider is filed: under its place, in this shard. It is good for as long as the
+/// sessions stand in the shards as they do: once they are redistributed, the answer may stand in another shard.
 #[derive(Clone, Copy, Debug, PartialEq, Eq)]
 pub struct Ticket {
     /// The message's place in the list.

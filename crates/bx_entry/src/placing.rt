@@ -62,7 +62,8 @@ impl Model for ByTable {
 }
 
 impl ByTable {
-    /// The placing by this table; with an empty one all sessions stand in the first shard.
+    /// The placing by this table; with an empty one all sessions stand in the first shard. An error
+    /// means that memory was refused.
     pub fn new(alloc: Global, table: &[u8]) -> Result<ByTable, AllocError>
         ensures { IfOk result (λ t. t ≡ table.now) }
     {

@@ -32,7 +32,7 @@ impl<P: Placing> Round<P> {
     ghost use Rattle.bx_fanout.specs.Runs.{AreHeldBefore};
     ghost use Rattle.bx_admission.specs.Slots.{placed_by};
 
-    /// A round with so many workers that has taken in no input.
+    /// A round with so many workers that has taken in no input. An error means that memory was refused.
     pub fn new(
         alloc: Global,
         config: Config,

@@ -1,4 +1,5 @@
-//! The future.
+//! The future of an answer: each poll asks the hub, and leaves a waker beside the connect while the answer is not
+//! filed.
 ghost use Rattle.std.specs.Prelude.{◌≡◌, ◌<◌, ⊤, true, false, length, Result, Err, IfSome, IfNone};
 ghost use mathlib.Core.List.{IsPrefix};
 ghost use Rattle.futures.specs.Poll.{IfReady, OnPending};

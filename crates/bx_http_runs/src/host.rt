@@ -20,10 +20,15 @@ const POLLS: u32 = 100;
 /// A service, how its connections are served, and the task that serves each to its end. Another task serves one that waits.
 #[derive(Drop)]
 pub struct Host<'a, S> {
+    /// Where memory is taken.
     pub alloc: Global,
+    /// The service of which each connection has a copy.
     pub service: &'a S,
+    /// How a connection is served.
     pub http: &'a http1::Builder,
+    /// The task that serves a connection to its end.
     pub task: &'a MockTask,
+    /// The task that serves a connection that waits.
     pub waiting: &'a MockTask,
 }
 

@@ -226,7 +226,7 @@ impl<J: Naming, P: Placing> Desk<J, P> {
         ensures stopped { IfErr result (λ f. f ≡ faults.Memory) }
         ensures kept { (self.new.shard.index ≡ self.old.shard.index) × (self.new.taken ≡ self.old.taken) × (self.new.activity ≡ self.old.activity) }
     {
-        // The list has an end.
+        // Read for the prover: the contract of `len` bounds the length of the list, and so the next place.
         let _end = self.note.len();
         match self.shard.apply(alloc, entry_of(batch, place)) {
             Ok(()) => Ok(()),

@@ -1,4 +1,4 @@
-//! The locks.
+//! The calls of the hub: which locks each takes, and in which order.
 ghost use Rattle.std.specs.Prelude.{◌≡◌, ◌≢◌, ◌⊎◌, ◌≤◌, ◌<◌, [], length, Some, IfOk, IfErr, IfSome, IfNone, nat_lt};
 ghost use Rattle.std.specs.Arc.{arc_value};
 ghost use mathlib.Core.List.{IsPrefix};
@@ -49,7 +49,7 @@ impl<J: Naming, P: Placing, G: Gate + Drop, R: Wait + Drop> Hub<J, P, G, R> {
     ghost use Rattle.bx_hub.specs.Watches.{IsLeftOrBack};
     ghost use Rattle.bx_hub.specs.declared.desk.watch.Watch.TheVariants as watches;
 
-    /// A hub over an empty list, for the configuration's number of shards.
+    /// A hub over an empty list, for the configuration's number of shards. An error means that memory was refused.
     pub fn new(
         alloc: Global,
         rt: R,

@@ -6,18 +6,23 @@ use bx_window::Naming;
 use std::alloc::{AllocError, Global};
 use std::sync::Wait;
 
+/// A handshake.
 pub const HANDSHAKE: &str =
     r#"[{"channel":"/meta/handshake","version":"1.0","supportedConnectionTypes":["long-polling"]}]"#;
 
+/// The first session subscribes to `/a/*`.
 pub const SUBSCRIBE: &str =
     r#"[{"channel":"/meta/subscribe","clientId":"000000000000000000000000000000000000000000000001","subscription":"/a/*"}]"#;
 
+/// The first session connects.
 pub const CONNECT: &str =
     r#"[{"channel":"/meta/connect","clientId":"000000000000000000000000000000000000000000000001","connectionType":"long-polling"}]"#;
 
+/// The second session connects.
 pub const CONNECT_OTHER: &str =
     r#"[{"channel":"/meta/connect","clientId":"000000000000000000000000000000000000000000000002","connectionType":"long-polling"}]"#;
 
+/// The second session publishes 7 to `/a/b`.
 pub const PUBLISH: &str =
     r#"[{"channel":"/a/b","clientId":"000000000000000000000000000000000000000000000002","data":7}]"#;
 

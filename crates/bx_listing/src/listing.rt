@@ -49,7 +49,7 @@ impl Listing {
         }
     }
 
-    /// The messages of a request come behind the others.
+    /// The messages of a request at this moment, in milliseconds, come behind the others.
     pub fn post(&mut self, moment: u64, nonce: u128, messages: &[Message])
         ensures { self.new ≡ self.old ++ elements.request moment nonce messages.now }
     {
@@ -62,7 +62,7 @@ impl Listing {
             .join(&History::of::<Request<'_>, Messages>(&request));
     }
 
-    /// A tick comes behind the others.
+    /// A tick at this moment, in milliseconds, comes behind the others.
     pub fn tick(&mut self, moment: u64)
         ensures { self.new ≡ self.old ++ elements.Tick moment ∷ [] }
     {

@@ -26,7 +26,7 @@ pub struct Arrivals {
 }
 
 impl Arrivals {
-    /// None of so many events came yet.
+    /// None of so many events came yet. An error means that memory was refused.
     pub fn new(alloc: Global, count: usize) -> Result<Arrivals, AllocError>
         ensures none { IfOk result (λ a. a.seen.items ≡ replicate count false) }
         ensures next { IfOk result (λ a. a.next ≡ 0) }

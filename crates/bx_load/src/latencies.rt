@@ -26,7 +26,7 @@ pub struct Latencies {
 }
 
 impl Latencies {
-    /// None came.
+    /// None came. An error means that memory was refused.
     pub fn new(alloc: Global) -> Result<Latencies, AllocError>
         ensures { IfOk result (λ l. l.total ≡ 0) }
     {

@@ -3,7 +3,7 @@ use crate::items::Stamp;
 use crate::settings::Target;
 use std::alloc::{AllocError, Global};
 
-/// A handshake, which asks for acknowledgement or does not.
+/// A handshake, which asks for acknowledgement or does not. An error means that memory was refused.
 pub fn handshake(alloc: Global, target: &Target, acknowledges: bool) -> Result<String, AllocError> {
     let ext = if acknowledges {
         r#","ext":{"ack":true}"#
@@ -16,7 +16,8 @@ pub fn handshake(alloc: Global, target: &Target, acknowledges: bool) -> Result<S
     post(alloc, target, body.as_str())
 }
 
-/// A subscription of a client to the channel of this number.
+/// A subscription of a client to the channel of this number. An error means that memory was
+/// refused.
 pub fn subscribe(
     alloc: Global,
     target: &Target,
@@ -29,7 +30,8 @@ pub fn subscribe(
     post(alloc, target, body.as_str())
 }
 
-/// A connect of a client, which acknowledges the batch of this number where there is one.
+/// A connect of a client, which acknowledges the batch of this number where there is one. An error
+/// means that memory was refused.
 pub fn connect(
     alloc: Global,
     target: &Target,
@@ -46,7 +48,7 @@ pub fn connect(
     post(alloc, target, body.as_str())
 }
 
-/// A connect of a client that is answered at once.
+/// A connect of a client that is answered at once. An error means that memory was refused.
 pub fn touch(alloc: Global, target: &Target, client: &str) -> Result<String, AllocError> {
     let body = format!(in alloc;
         r#"[{{"channel":"/meta/connect","clientId":"{client}","connectionType":"long-polling","advice":{{"timeout":0}}}}]"#
@@ -54,7 +56,8 @@ pub fn touch(alloc: Global, target: &Target, client: &str) -> Result<String, All
     post(alloc, target, body.as_str())
 }
 
-/// A publish of a client to the channel of this number, whose event says what the stamp does.
+/// A publish of a client to the channel of this number, whose event says what the stamp does. An
+/// error means that memory was refused.
 pub fn publish(
     alloc: Global,
     target: &Target,

@@ -7,8 +7,11 @@ const MAX_HEAD: usize = 16_384;
 /// A response that came whole, and where its body is in the bytes.
 #[derive(Clone, Copy)]
 pub struct Response {
+    /// The status of HTTP.
     pub status: u16,
+    /// Where its body begins in the bytes.
     pub start: usize,
+    /// Where it ends.
     pub end: usize,
 }
 
@@ -16,7 +19,8 @@ pub struct Response {
 #[derive(Clone, Copy)]
 pub struct Malformed;
 
-/// The response that the bytes begin with; none where more of it has to come.
+/// The response that the bytes begin with; none where more of it has to come. `Malformed` where the
+/// bytes begin with none.
 pub fn read_response(input: &[u8]) -> Result<Option<Response>, Malformed>
     ensures start { IfOk result (λ found. IfSome found (λ r. r.start ≤ r.end)) }
     ensures end { IfOk result (λ found. IfSome found (λ r. r.end ≤ length input.now)) }

@@ -24,9 +24,13 @@ impl Target {
 /// How a server is loaded.
 #[derive(Drop)]
 pub struct Settings {
+    /// Where the server is.
     pub target: Target,
+    /// How many sessions receive.
     pub sessions: u32,
+    /// Among how many channels sessions and publishers are shared, 1 or more.
     pub channels: u32,
+    /// How many clients publish, 1 or more.
     pub publishers: u32,
     /// How many events are published in all.
     pub events: u32,
@@ -39,8 +43,8 @@ pub struct Settings {
 }
 
 impl Settings {
-    /// What these words say; none where they are not a URL, a number of sessions and three numbers above 0, and then a further
-    /// one, `ack` or both.
+    /// What these words say; none where they are not a URL, a number of sessions and three numbers above 0, and then a
+    /// further one, `ack` or both. An error means that memory was refused.
     pub fn read(alloc: Global, words: &[String]) -> Result<Option<Settings>, AllocError> {
         let [url, sessions, channels, publishers, events, options @ ..] = words else {
             return Ok(None);

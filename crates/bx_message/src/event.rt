@@ -10,6 +10,7 @@ use std::sync::Arc;
 /// A publish as it is delivered. (Bayeux 1.0, delivery of events, without the publisher's client id.)
 #[derive(Drop)]
 pub struct Event {
+    /// The channel of the publish, which reads as a channel name.
     pub channel: Text,
     /// The member `data`, as the sender wrote it.
     pub payload: RawJson,
@@ -45,7 +46,7 @@ impl Model for SharedEvent {
 }
 
 impl SharedEvent {
-    /// The first handle of an event, with the name of its channel.
+    /// The first handle of an event, with the name of its channel. An error means that memory was refused.
     pub fn new(alloc: Global, event: Event, name: ChannelName) -> Result<SharedEvent, AllocError>
         requires named { name ≡ segments event.channel }
         ensures { IfOk result (λ s. s ≡ event) }

@@ -5,7 +5,7 @@ use bx_names::{ChannelKind, kind_of};
 
 /// What a message is for, by its channel: one of the five meta messages of Bayeux 1.0, a publish, or
 /// a message to a meta channel that is not known. A reply carries the members that its kind has
-/// (`docs/MODEL.md`).
+/// (`docs/MODEL.md`). The first five are named as their channels are: `/meta/handshake` and so on.
 #[derive(Clone, Copy, Debug, PartialEq, Eq)]
 pub enum MessageKind {
     Handshake,

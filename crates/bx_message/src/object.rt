@@ -12,7 +12,7 @@ use json::Writer;
 use std::alloc::AllocError;
 use std::marker::Model;
 
-/// A member's name.
+/// The name of a member that this server writes: in JSON it begins with a small letter.
 #[derive(Clone, Copy, Debug)]
 pub enum Name {
     Ack,
@@ -76,7 +76,7 @@ impl Model for ObjectWriter {
 }
 
 impl ObjectWriter {
-    /// Begins an object.
+    /// Begins an object. An error means that memory was refused.
     pub fn begin(mut out: Vec<u8>) -> Result<ObjectWriter, AllocError>
         ensures { IfOk result (λ w. w ≡ opened out.items) }
     {
@@ -87,7 +87,7 @@ impl ObjectWriter {
         })
     }
 
-    /// Ends the object.
+    /// Ends the object. An error means that memory was refused.
     pub fn end(self) -> Result<Vec<u8>, AllocError>
         ensures { IfOk result (λ out. out.items ≡ closed self) }
     {
@@ -96,7 +96,8 @@ impl ObjectWriter {
         Ok(out)
     }
 
-    /// Begins an object that is the value of the next member.
+    /// Begins an object that is the value of the next member. An error means that memory was
+    /// refused.
     pub fn open(&mut self, name: Name) -> Result<(), AllocError>
         ensures { OnOk result (self.new ≡ opened (with_name self.old (name_text name))) }
     {
@@ -106,7 +107,8 @@ impl ObjectWriter {
         Ok(())
     }
 
-    /// Ends an object that `open` began, and goes on behind it.
+    /// Ends an object that `open` began, and goes on behind it. An error means that memory was
+    /// refused.
     pub fn close(&mut self) -> Result<(), AllocError>
         ensures { OnOk result (self.new ≡ resumed (closed self.old)) }
     {
@@ -115,7 +117,8 @@ impl ObjectWriter {
         Ok(())
     }
 
-    /// Adds a member whose value is the text of a JSON value.
+    /// Adds a member whose value is the text of a JSON value. An error means that memory was
+    /// refused.
     pub fn raw(&mut self, name: Name, json: &str) -> Result<(), AllocError>
         ensures { OnOk result (self.new ≡ with_member self.old (member (name_text name) json.now)) }
     {
@@ -123,7 +126,7 @@ impl ObjectWriter {
         self.out.extend_from_slice(json.as_bytes())
     }
 
-    /// Adds a member whose value is a text.
+    /// Adds a member whose value is a text. An error means that memory was refused.
     pub fn text(&mut self, name: Name, text: &Text) -> Result<(), AllocError>
         ensures { OnOk result (self.new
             ≡ with_member self.old (member (name_text name) (quoted text.now))) }
@@ -136,7 +139,8 @@ impl ObjectWriter {
         }
     }
 
-    /// Adds a member whose value is a text that needs no escape.
+    /// Adds a member whose value is a text that needs no escape. An error means that memory was
+    /// refused.
     pub fn word(&mut self, name: Name, word: &str) -> Result<(), AllocError>
         requires { list_all is_plain word.now ≡ true }
         ensures { OnOk result (self.new
@@ -146,7 +150,7 @@ impl ObjectWriter {
         push_plain(&mut self.out, word)
     }
 
-    /// Adds a member whose value is a number.
+    /// Adds a member whose value is a number. An error means that memory was refused.
     pub fn number(&mut self, name: Name, n: u64) -> Result<(), AllocError>
         ensures { OnOk result (self.new ≡ with_member self.old (member (name_text name) (decimal n))) }
     {

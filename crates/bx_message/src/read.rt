@@ -22,7 +22,8 @@ pub enum MessageError {
 }
 
 impl Message {
-    /// The message that a piece is. It owns copies of its texts.
+    /// The message that a piece is. It owns copies of its texts. `NoChannel` where it has no
+    /// `channel` that is a text; `Memory` where memory was refused.
     pub fn read(alloc: Global, piece: &Piece<'_>) -> Result<Message, MessageError>
         ensures fields { IfOk result (λ m. message_in piece.now.1 ≡ Some m) }
         ensures no_channel { IfErr result

@@ -25,7 +25,9 @@ pub enum AckReply {
 /// it tells the client.
 #[derive(Clone, Drop)]
 pub struct Reply {
+    /// What the message was for; it decides which members the reply carries.
     pub message_kind: MessageKind,
+    /// The channel of the message.
     pub channel: Text,
     /// The client id of the message's session, where the reply carries one.
     pub client: Option<Text>,
@@ -33,16 +35,19 @@ pub struct Reply {
     pub id: Option<RawJson>,
     /// The message's `subscription`, as the sender wrote it, where the reply repeats it.
     pub subscription: Option<RawJson>,
+    /// How it went: a success of some kind, or an error.
     pub outcome: Outcome,
+    /// What the client is to do next, where the reply says so.
     pub advice: Option<Advice>,
+    /// What `ext` says of acknowledgement.
     pub ack: AckReply,
 }
 
 impl Reply {
-    /// The reply to a message of this kind that is answered at its own place. `client` is the id
-    /// of its session, where that is known: replies to the five meta messages carry it, and no
-    /// others. Replies to subscriptions and unsubscriptions repeat `subscription`, refusals too.
-    /// (Bayeux 1.0, the responses of meta messages and of publish.)
+    /// The reply to a message of this kind that is answered at its own place. `client` is the id of
+    /// its session, where that is known: replies to the five meta messages carry it, and no others.
+    /// Replies to subscriptions and unsubscriptions repeat `subscription`, refusals too. An error
+    /// means that memory was refused. (Bayeux 1.0, the responses of meta messages and of publish.)
     pub fn to_message(
         config: &Config,
         message_kind: MessageKind,
@@ -122,7 +127,7 @@ fn share_text(text: Option<&Text>) -> Result<Option<Text>, AllocError>
     }
 }
 
-/// Another handle to a slice, where there is one.
+/// Another handle to a slice, where there is one. An error means that memory was refused.
 pub fn share_json(json: Option<&RawJson>) -> Result<Option<RawJson>, AllocError>
     ensures { IfOk result (λ shared. shared ≡ option_copied json.entry) }
 {
@@ -135,7 +140,9 @@ pub fn share_json(json: Option<&RawJson>) -> Result<Option<RawJson>, AllocError>
 /// What a connect or a rider is answered with: the events that it is given, and its reply.
 #[derive(Drop)]
 pub struct Answer {
+    /// The events, oldest first; in the response they stand before the reply.
     pub events: Sequence<SharedEvent>,
+    /// The reply to the connect or the rider.
     pub reply: Reply,
 }
 

@@ -39,7 +39,7 @@ impl Model for Text {
 }
 
 impl Text {
-    /// A copy of `text`.
+    /// A copy of `text`. An error means that memory was refused.
     pub fn new(alloc: Global, text: &str) -> Result<Text, AllocError>
         ensures { IfOk result (λ t. t ≡ text.now) }
     {
@@ -72,7 +72,7 @@ impl Text {
         }
     }
 
-    /// The text that `text` has, without a copy.
+    /// The text that `text` has, without a copy. An error means that memory was refused.
     pub fn from_string(text: String) -> Result<Text, AllocError>
         ensures { IfOk result (λ t. t ≡ string_bytes text) }
     {
@@ -141,7 +141,7 @@ impl Model for RawJson {
 }
 
 impl RawJson {
-    /// A copy of `json`, the text of a JSON value.
+    /// A copy of `json`, the text of a JSON value. An error means that memory was refused.
     pub fn new(alloc: Global, json: &str) -> Result<RawJson, AllocError>
         ensures { IfOk result (λ j. j ≡ json.now) }
     {

@@ -27,20 +27,22 @@ const EVENT_ROOM: usize = 64;
 
 /// A reply as a JSON object: the members `advice`, `channel`, `clientId`, `error`, `ext`, `id`,
 /// `subscription`, `successful`, `supportedConnectionTypes` and `version`, of those that it carries.
+/// An error means that memory was refused.
 pub fn reply_text(alloc: Global, reply: &Reply) -> Result<Vec<u8>, AllocError>
     ensures { IfOk result (λ out. out.items ≡ reply_text reply.now) }
 {
     write_reply(Vec::with_capacity(alloc, reply_room(reply))?, reply)
 }
 
-/// An event as a JSON object: the members `channel`, `data` and, where it has one, `id`.
+/// An event as a JSON object: the members `channel`, `data` and, where it has one, `id`. An error
+/// means that memory was refused.
 pub fn event_text(alloc: Global, event: &Event) -> Result<Vec<u8>, AllocError>
     ensures { IfOk result (λ out. out.items ≡ event_text event.now) }
 {
     write_event(Vec::with_capacity(alloc, event_room(event))?, event)
 }
 
-/// A response: the array of these items in order.
+/// A response: the array of these items in order. An error means that memory was refused.
 pub fn body_text(alloc: Global, items: &[Item]) -> Result<Vec<u8>, AllocError>
     ensures { IfOk result (λ out. out.items ≡ body_text items.now) }
 {

@@ -41,6 +41,7 @@ pub fn stars_differ_on_depth(one: &Pattern, many: &Pattern, name: &ChannelName)
 pub fn name_reads_as_pattern(name: &ChannelName)
     ensures { read_pattern (path_of name.now) ≡ Ok (record { segments = name.now; tail = Exact }) }
 {
+    // Read for the prover: the contract of `as_str` says that the text reads back.
     let _text = name.as_str();
 }
 
@@ -48,6 +49,7 @@ pub fn name_reads_as_pattern(name: &ChannelName)
 pub fn name_reads_back(name: &ChannelName)
     ensures { read_name (path_of name.now) ≡ Ok name.now }
 {
+    // Read for the prover: the contract of `as_str` says that the text reads back.
     let _text = name.as_str();
 }
 
@@ -55,5 +57,6 @@ pub fn name_reads_back(name: &ChannelName)
 pub fn pattern_reads_back(pattern: &Pattern)
     ensures { read_pattern (glob_text pattern.now) ≡ Ok pattern.now }
 {
+    // Read for the prover: the contract of `as_str` says that the text reads back.
     let _text = pattern.as_str();
 }

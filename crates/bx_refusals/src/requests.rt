@@ -7,6 +7,7 @@ use bx_message::{Answer, Item, Reply, reply_text};
 use bx_transport::response_of;
 use std::alloc::Global;
 
+/// A handshake.
 pub const HANDSHAKE: &str =
     r#"[{"channel":"/meta/handshake","version":"1.0","supportedConnectionTypes":["long-polling"]}]"#;
 
@@ -44,7 +45,7 @@ pub fn arrival(alloc: Global, body: &str) -> Result<Arrival, Unlike> {
     arrival_at(alloc, 0, body)
 }
 
-/// A request of this body, at a moment.
+/// A request of this body, at a moment in milliseconds.
 pub fn arrival_at(alloc: Global, moment: u64, body: &str) -> Result<Arrival, Unlike> {
     Ok(Arrival {
         moment,

@@ -93,6 +93,7 @@ impl<'a> Draft<'a> {
         ensures { MatchOption result (live_with_id (members_of self.now).live client.now ≡ None)
             (λ s. IsSender (live_with_id (members_of self.now).live client.now) s.number s.client.now s.ack) }
     {
+        // Read for the prover: a use of a field tells it what holds of the fields together.
         let _ = &self.edits;
         let number = number_in(client.as_str());
         let known = self.known_at(number)?;

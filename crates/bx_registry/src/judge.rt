@@ -200,7 +200,8 @@ fn serve(
     })
 }
 
-// Behind a request's last message the next request is at hand.
+// The senders that the next message is judged among: none yet where this one ends its request, since the next message
+// begins another.
 fn senders_behind(posted: Posted<'_>, senders: Senders) -> Senders
     ensures { result ≡ senders_behind (posted_of posted.entry) senders }
 {
@@ -394,7 +395,8 @@ fn is_ack(ack: AckMember) -> bool
     }
 }
 
-// How long a connect may be held: only a request's sole message is.
+// How long a connect may be held: only a request's sole message is. (Bayeux 1.0, connect request; that only a sole
+// message is held is this server's choice.)
 fn hold_of(config: &Config, posted: Posted<'_>) -> u64
     ensures hold { result ≡ hold_of config.now (posted_of posted.entry) }
     ensures small { result < 2 ^ 32 }

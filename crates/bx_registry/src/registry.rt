@@ -45,7 +45,8 @@ impl Model for Registry {
 }
 
 impl Registry {
-    /// No session, and no entry. It takes the room for as many sessions as may be live.
+    /// No session, and no entry. It takes the room for as many sessions as may be live. An error means that memory was
+    /// refused.
     pub fn new(alloc: Global, config: Config) -> Result<Registry, AllocError>
         ensures { IfOk result (λ r. r ≡ roll_of config empty_registry) }
     {
@@ -62,6 +63,7 @@ impl Registry {
     pub fn entries(&self) -> u64
         ensures { result ≡ self.now.length }
     {
+        // Read by a pattern for the prover, which so learns what the field stands for in the contract.
         let Registry { length, .. } = self;
         *length
     }
@@ -81,7 +83,8 @@ impl Registry {
     }
 
     /// What a request comes to: its messages are judged in order, each behind those before it. It is refused where its
-    /// moment is above the greatest that is taken, or else where the list would become too long.
+    /// moment, in milliseconds, is above the greatest that is taken, else where the list would become too long, or
+    /// else where memory is refused.
     pub fn plan(
         &self,
         alloc: Global,
@@ -132,8 +135,9 @@ impl Registry {
         }
     }
 
-    /// What a tick comes to: it closes the live sessions that were due before it. It is refused as a request with one
-    /// message is. It costs O(closed * log n) amortised, where n sessions may be live.
+    /// What a tick at this moment, in milliseconds, comes to: it closes the live sessions that were due before it. It
+    /// is refused as a request with one message is. It costs O(closed * log n) amortised, where n sessions may be
+    /// live.
     pub fn plan_tick(&mut self, alloc: Global, moment: u64) -> Result<TickPlan, AdmitFault>
         ensures same { self.new ≡ self.old }
         ensures fault { IfSome (fault_of moment (self.old.length + 1)) (λ fault. result ≡ Err fault) }

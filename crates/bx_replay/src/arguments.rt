@@ -12,7 +12,9 @@ use bx_workers::WorkerCount;
 /// How the server is run.
 #[derive(Clone, Copy)]
 pub struct Arguments {
+    /// How many shards there are, the times in milliseconds, the limits and the options.
     pub config: Config,
+    /// How many workers there are, 1 to 16.
     pub workers: WorkerCount,
 }
 

@@ -26,6 +26,7 @@ use std::thread::Threads;
 /// What the program has of a script so far.
 #[derive(Drop)]
 pub struct Server<P: Placing> {
+    /// The round that the lines are handed to.
     pub round: Round<P>,
     /// The inputs whose outs are not printed yet, by their numbers.
     pub kept: BTreeMap<usize, PendingLine>,
@@ -35,7 +36,7 @@ pub struct Server<P: Placing> {
     pub lines: History<Line>,
 }
 
-/// A server that has taken in no line.
+/// A server that has taken in no line. The only fault is `Memory`.
 pub fn new_server<P: Placing + Drop>(
     alloc: Global,
     config: Config,

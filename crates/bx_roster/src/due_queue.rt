@@ -75,7 +75,8 @@ impl DueQueue {
         self.late.clear();
     }
 
-    /// Finds the entries that stand before this moment late. Each takes the time of the logarithm of how many wait.
+    /// Finds the entries that stand before this moment, in milliseconds, late. Each takes the time of the logarithm
+    /// of how many wait.
     pub(crate) fn expire(&mut self, moment: u64)
         ensures room { self.new.room ≡ self.old.room }
         ensures same { IsPermutation (entries self.old) (entries self.new) }

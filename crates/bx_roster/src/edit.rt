@@ -7,9 +7,10 @@ use bx_message::Sequence;
 pub enum Edit {
     /// One more session.
     Open(Session),
-    /// The due moment of a session moves on to this one, never back.
+    /// The due moment of the session of this number moves on to this one, in milliseconds, never
+    /// back.
     Extend { number: u64, due: u64 },
-    /// A session is closed.
+    /// The session of this number is closed.
     Close { number: u64 },
 }
 
@@ -18,6 +19,6 @@ pub enum Edit {
 pub enum Edits {
     /// These in order.
     Each(Sequence<Edit>),
-    /// All sessions are closed that were due before this moment.
+    /// All sessions are closed that were due before this moment, in milliseconds.
     Sweep(u64),
 }

@@ -104,7 +104,7 @@ impl Roster {
         add_slot(&mut self.slots, session);
     }
 
-    /// Moves the due moment of a session on, never back.
+    /// Moves the due moment of a session on, in milliseconds, never back.
     pub(crate) fn extend(&mut self, number: u64, due: u64)
         ensures extended { self.new ≡ with_live self.old (live_in (extended number due self.old.live)) }
         ensures roster { IsRoster self.new }

@@ -37,6 +37,7 @@ impl Model for Session {
 /// What a message is judged by of the session that it names.
 #[derive(Clone, Copy)]
 pub struct Known<'a> {
+    /// Its client id.
     pub client: &'a Text,
     /// Whether it acknowledges.
     pub ack: bool,

@@ -38,7 +38,8 @@ impl Model for Table {
 }
 
 impl Table {
-    /// No session was opened; so many may be live.
+    /// A table to which no session came, with room for as many live sessions as the limit says. An error means that
+    /// memory was refused.
     pub fn new(alloc: Global, limit: usize) -> Result<Table, AllocError>
         ensures { IfOk result (λ t. t ≡ record { limit = limit; opened = 0; live = [] }) }
     {
@@ -126,8 +127,8 @@ impl Table {
         }
     }
 
-    /// The numbers of the live sessions that were due before this moment, ascending. It looks at the sessions that are
-    /// filed before it, and at no other.
+    /// The numbers of the live sessions that were due before this moment, in milliseconds, ascending. It looks at the
+    /// sessions that are filed before it, and at no other. An error means that memory was refused.
     pub fn overdue(&mut self, alloc: Global, moment: u64) -> Result<Sequence<u64>, AllocError>
         ensures same { self.new ≡ self.old }
         ensures overdue { IfOk result (λ numbers. numbers ≡ overdue moment self.old.live) }

@@ -1,4 +1,4 @@
-//! Requests.
+//! A request as the tests hand it in: a body of JSON, at a moment.
 use bx_cut::Bodies;
 use bx_entry::{Arrival, Input};
 use std::alloc::{AllocError, Global};

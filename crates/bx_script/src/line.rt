@@ -19,24 +19,29 @@ use std::alloc::{AllocError, Global};
 pub enum Line {
     /// It has no known form.
     Bad,
-    /// Its body or its query is not taken, with this status.
+    /// A request whose body or query is not taken.
     Rejected {
+        /// The status that is printed for it.
         status: Status,
     },
-    /// A request, with the name of the callback that it asks for, or a tick.
+    /// A request or a tick.
     Accepted {
+        /// The name of the callback, of a GET alone.
         callback: Option<String>,
+        /// The request or the tick.
         input: Input,
     },
     /// From here on there are so many shards.
     Resharded {
+        /// How many they are, 1 to 64.
         shards: ShardCount,
     },
 }
 
 impl Line {
-    /// Reads a line: digits, a space, and behind them `T` alone, `P` with a space and a body, `G` with a
-    /// space and a query, or `S` with a space and a number of shards. A body is copied once.
+    /// Reads a line: digits, which are a moment in milliseconds, a space, and behind them `T` alone, `P`
+    /// with a space and a body, `G` with a space and a query, or `S` with a space and a number of
+    /// shards. A body is copied once. An error means that memory was refused.
     pub fn read(alloc: Global, text: &[u8]) -> Result<Line, AllocError>
         ensures said { IfOk result (λ line. said_by line ≡ line_of text.now) }
     {

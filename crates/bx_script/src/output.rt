@@ -33,7 +33,7 @@ impl<W: Write> Output<W> {
         }
     }
 
-    /// Hands on what the writer holds back.
+    /// Hands on what the writer holds back. `Write` where the writer cannot, or `Memory` where it was refused memory.
     pub fn flush(&mut self) -> Result<(), ScriptFault>
         ensures bytes { Keeps (written W.contents self.old) (written W.contents self.new) }
         ensures fault { IfErr result (λ e. e ≢ ScriptFault.Read) }

@@ -16,7 +16,7 @@ use itoa::Buffer;
 use std::alloc::{AllocError, Global};
 use std::io::Write;
 
-/// Writes that the line of this number has no known form: `bad`.
+/// Writes that the line of this number has no known form: `bad`. A fault means that the write failed.
 pub fn write_bad<W: Write>(writer: &mut Output<W>, number: u64) -> Result<(), ScriptFault>
     ensures text { Writes (written W.contents writer.old) (written W.contents writer.new) result
         (line_text number (codes "bad")) }
@@ -26,7 +26,7 @@ pub fn write_bad<W: Write>(writer: &mut Output<W>, number: u64) -> Result<(), Sc
     write_line(writer, number, b"bad", b"")
 }
 
-/// Writes that some message of the line of this number has no answer: `held`.
+/// Writes that some message of the line of this number has no answer: `held`. A fault means that the write failed.
 pub fn write_held<W: Write>(writer: &mut Output<W>, number: u64) -> Result<(), ScriptFault>
     ensures text { Writes (written W.contents writer.old) (written W.contents writer.new) result
         (line_text number (codes "held")) }
@@ -36,7 +36,7 @@ pub fn write_held<W: Write>(writer: &mut Output<W>, number: u64) -> Result<(), S
     write_line(writer, number, b"held", b"")
 }
 
-/// Writes with which status the line of this number is refused.
+/// Writes with which status the line of this number is refused. A fault means that the write failed.
 pub fn write_status<W: Write>(
     writer: &mut Output<W>,
     number: u64,

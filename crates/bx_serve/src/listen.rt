@@ -18,10 +18,11 @@ use std::time::{Clock, Duration};
 use tokio::net::TcpListener;
 use tokio::runtime::Runtime;
 
-// For how long no connection is asked for after one could not be accepted, in milliseconds.
+// How long no connection is asked for after one could not be accepted, in milliseconds. (This server's choice.)
 const PAUSE: u64 = 20;
 
-// For how long a body is waited for of which nothing comes, or a peer that takes nothing of what is written, in milliseconds.
+// How long a body may bring nothing, or a peer take nothing of what is written, in milliseconds. (This server's
+// choice.)
 const PATIENCE: u64 = 30_000;
 
 /// Serves so many connections of the listener over HTTP, each as a task of the runtime, and ends once they have come and

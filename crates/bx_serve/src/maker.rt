@@ -61,9 +61,13 @@ pub type Coming<R> = Patient<Incoming<Served<R>>, Option<TokioTimer<R>>>;
 /// the peer to take more of what is written.
 #[derive(Drop)]
 pub struct Server<R, S> {
+    /// Serves one connection, with a timer for its heads.
     pub http: http1::Builder<TokioTimer<R>>,
+    /// The service, of which each connection has a copy.
     pub service: S,
+    /// Measures how long something is waited for.
     pub timer: TokioTimer<R>,
+    /// How long a wait for more of a body, or for the peer, may last.
     pub limit: Duration,
 }
 

@@ -74,8 +74,11 @@ impl<B: Body, T: Timer> Body for Patient<B, T> {
 /// Hands each request to a service with a patient body.
 #[derive(Drop)]
 pub struct Patiently<S, T> {
+    /// The service that is called.
     pub service: S,
+    /// Measures how long a body brings nothing.
     pub timer: T,
+    /// How long it may bring nothing.
     pub limit: Duration,
 }
 

@@ -1,4 +1,5 @@
-//! Responses.
+//! The responses over HTTP: a refusal has a status and no body, an answer has a media type and
+//! items.
 ghost use Rattle.std.specs.Prelude.{◌≡◌, IfOk, option_map};
 ghost use Rattle.bx_service.specs.Responses.{IsAnswer, IsRefusal};
 

@@ -17,7 +17,8 @@ pub(crate) enum Route {
 }
 
 impl Route {
-    /// How a request of this method for this path is served.
+    /// How a request of this method for this path is served. Another path than those served is not
+    /// found, and another method than POST and GET is not allowed. (This server's choice.)
     pub(crate) fn of(method: &Method, path: &str) -> Route
         ensures { result ≡ route_of method.now path.now }
     {
@@ -35,7 +36,7 @@ impl Route {
     }
 }
 
-// Whether it is `/cometd`, or a path below it.
+// Whether it is `/cometd`, or a path below it. (This server's choice.)
 fn is_served(path: &str) -> bool
     ensures { result ≡ is_served path.now }
 {

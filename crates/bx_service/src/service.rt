@@ -18,9 +18,10 @@ use std::error::Error;
 use std::fmt;
 use std::sync::Arc;
 
-/// There was no memory even for a refusal; the connection ends.
+/// Why no response is given; the connection ends.
 #[derive(Clone, Copy, Debug, PartialEq, Eq)]
 pub enum ServiceFault {
+    /// There was no memory even for a refusal.
     Memory,
 }
 
@@ -40,7 +41,7 @@ pub struct BayeuxService<S> {
 }
 
 impl<S: Drop> BayeuxService<S> {
-    /// A service over the backend.
+    /// A service over the backend. An error means that memory was refused.
     pub fn new(alloc: Global, backend: S) -> Result<BayeuxService<S>, AllocError> {
         Ok(BayeuxService {
             alloc,

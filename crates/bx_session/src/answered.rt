@@ -6,6 +6,7 @@ use bx_message::Answer;
 pub struct Answered {
     /// The place of the connect in the list.
     pub place: u64,
+    /// The events, oldest first, and the reply.
     pub answer: Answer,
 }
 

@@ -24,7 +24,7 @@ impl Model for RideRoom {
 }
 
 impl RideRoom {
-    /// For so many events.
+    /// For so many events. An error means that memory was refused.
     pub fn new(alloc: Global, count: usize) -> Result<RideRoom, AllocError>
         ensures { IfOk result (λ room. count ≤ room) }
     {

@@ -328,8 +328,8 @@ impl Session {
         self.settle(config, connect, events)
     }
 
-    /// A further handle of an event that is to come, where two are wanted, since the event is both kept and given: where the
-    /// session acknowledges and holds a connect.
+    /// A further handle of an event that is to come, where two are wanted, since the event is both kept and given:
+    /// where the session acknowledges and holds a connect. An error means that memory was refused.
     pub fn further(&self, event: &SharedEvent) -> Result<Option<SharedEvent>, AllocError>
         ensures { IfOk result (λ further. further ≡ (if wants_two self.now.kept then Some event.now else None)) }
     {
@@ -381,8 +381,8 @@ impl Session {
         }
     }
 
-    /// Room for the answer to a rider of the session, whatever the rider itself does: for the events that wait and for one
-    /// more, but for no more than a connect is given.
+    /// Room for the answer to a rider of the session, whatever the rider itself does: for the events that wait and for
+    /// one more, but for no more than a connect is given. An error means that memory was refused.
     pub fn reserve_ride(&self, alloc: Global, config: &Config) -> Result<RideRoom, AllocError>
         ensures { IfOk result (λ room. ride_most config.now self.now.kept ≤ room) }
     {

@@ -92,7 +92,7 @@ fn rider_of(entry: &Entry) -> Option<&Rider>
     }
 }
 
-// Another handle to the texts of a reply.
+// The same reply once more, which shares its texts.
 fn copy_of(reply: &Reply) -> Result<Reply, AllocError>
     ensures { IfOk result (λ copy. copy ≡ reply.now) }
 {

@@ -220,8 +220,9 @@ impl Sessions {
         self.by_number.keys().as_slice()
     }
 
-    /// Makes room for a session and puts its patterns in force, unless one of this number is here. A session in which nothing
-    /// came stands in that room until one settles there. Where memory is refused the room may be there, without patterns.
+    /// Makes room for a session and puts its patterns in force, unless one of this number is here. The room is a
+    /// session to which nothing came, until `settle` puts the session itself there. Where memory is refused the room
+    /// may be there, without patterns.
     pub fn lend(
         &mut self,
         alloc: Global,
@@ -244,7 +245,9 @@ impl Sessions {
         self.tree.copy(alloc, patterns, number)
     }
 
-    /// Makes room for a connect as if this session held it until then, unless one of this place is known.
+    /// Makes room for a connect as if this session held it until the deadline, in milliseconds, unless one of this
+    /// place is known. Without a deadline no tick ends the hold. An error means that memory was refused; the connects
+    /// are as before then.
     pub fn lend_connect(
         &mut self,
         place: u64,

@@ -189,6 +189,7 @@ impl<P: Placing> Shard<P> {
         self.is_shut = true;
         self.sessions.connects.unwatch_all();
     }
+
     /// The shard of this index that has applied so many entries and has these sessions, which are such as one has then,
     /// with their connects: among so many shards, by this placing.
     pub fn resume(

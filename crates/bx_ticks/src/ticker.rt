@@ -16,11 +16,15 @@ const MOST: u64 = 1_000_000;
 /// How a batch was taken.
 #[derive(Clone, Copy, Debug, PartialEq, Eq)]
 pub enum Taken {
+    /// It was published.
     Published,
-    /// It came back, with its first place and the number of its entries.
+    /// It came back.
     Refused {
+        /// Why it was not published.
         why: Refusal,
+        /// Its first place.
         first: u64,
+        /// How many entries it has.
         entries: usize,
     },
 }
@@ -35,6 +39,7 @@ pub struct Ticker<J: Naming, R: Wait + Drop> {
 }
 
 impl<J: Naming, R: Wait + Drop> Ticker<J, R> {
+    /// A writer that has published nothing.
     pub fn new(writer: LogWriter<J, R>) -> Ticker<J, R>
         requires { writer ≡ [] }
     {
@@ -51,7 +56,7 @@ impl<J: Naming, R: Wait + Drop> Ticker<J, R> {
         self.writer.tell_beyond(front)
     }
 
-    /// Publishes a batch of so many ticks.
+    /// Publishes a batch of so many ticks. An error means that memory was refused.
     pub fn publish(&mut self, alloc: Global, count: u64) -> Result<Taken, AllocError> {
         let bundle = self.bundle(alloc, count)?;
         match self.publish_bundle(alloc, bundle, count) {
@@ -64,7 +69,8 @@ impl<J: Naming, R: Wait + Drop> Ticker<J, R> {
         }
     }
 
-    /// So many ticks behind the list. There are none past the numbers that tests have.
+    /// So many ticks behind the list. There are none past the numbers that tests have. An error means that memory was
+    /// refused.
     pub fn bundle(&self, alloc: Global, count: u64) -> Result<Bundle, AllocError>
         ensures first { IfOk result (λ b. b.batch.first ≡ self.now.end) }
         ensures entries { IfOk result (λ b. b.batch.entries ≡ tick_entries self.now.end count) }

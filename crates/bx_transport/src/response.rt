@@ -11,7 +11,8 @@ const LINE_SEPARATOR: &[u8] = b"\xe2\x80\xa8";
 
 const PARAGRAPH_SEPARATOR: &[u8] = b"\xe2\x80\xa9";
 
-/// The body of the response to a POST: the array of these items in order. (Bayeux 1.0, long-polling.)
+/// The body of the response to a POST: the array of these items in order. An error means that memory
+/// was refused. (Bayeux 1.0, long-polling.)
 pub fn response_of(alloc: Global, items: &[Item]) -> Result<Vec<u8>, AllocError>
     ensures { IfOk result (λ out. out.items ≡ body_text items.now) }
 {
@@ -20,7 +21,7 @@ pub fn response_of(alloc: Global, items: &[Item]) -> Result<Vec<u8>, AllocError>
 
 /// The body of the response to a GET: the call of the function `name` with the array of these items,
 /// in which U+2028 and U+2029 are written as escapes, since scripts take them for the end of a line.
-/// (Bayeux 1.0, callback-polling.)
+/// An error means that memory was refused. (Bayeux 1.0, callback-polling.)
 pub fn callback_of(alloc: Global, name: &str, items: &[Item]) -> Result<Vec<u8>, AllocError>
     ensures { IfOk result (λ out. out.items ≡ callback_text name.now items.now) }
 {

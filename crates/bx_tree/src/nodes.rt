@@ -101,8 +101,9 @@ impl Nodes {
         }
     }
 
-    /// The numbers that have a pattern which matches the name, ascending, and how many lists were looked at to find them:
-    /// those of `**` above each segment of the name, that of `*` above the last, and that of the name itself.
+    /// The numbers that have a pattern which matches the name, ascending, and how many lists were looked at to find
+    /// them: those of `**` above each segment of the name, that of `*` above the last, and that of the name itself. An
+    /// error means that memory was refused.
     ///
     /// Contracts say so of all lists of sessions with their patterns that these lists are the index of.
     pub fn find(&self, alloc: Global, name: &ChannelName) -> Result<Found, AllocError>

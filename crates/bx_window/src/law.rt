@@ -41,7 +41,8 @@ impl Rule<Logged, u64> for Law {
     ghost moves = { λ ask before after answer. Unit {0} };
 }
 
-// Callers trade nothing.
+/// Callers trade nothing: who makes a move of the log gives nothing up for it and gets nothing but what the move says.
+/// No value of it is made.
 pub struct Nothing;
 
 impl Gain<Logged, u64> for Nothing {
@@ -50,7 +51,7 @@ impl Gain<Logged, u64> for Nothing {
     ghost after = { λ names about answer. ftrue };
 }
 
-// A cell is added, for the pen of a later step.
+/// The move that adds a cell, for the pen of a later step. No value of it is made.
 pub struct Spare;
 
 impl Play<Logged, u64> for Spare {
@@ -59,7 +60,7 @@ impl Play<Logged, u64> for Spare {
     ghost then = { Spares };
 }
 
-// The first entry of the log.
+/// The move that adds the first entry of the log. No value of it is made.
 pub struct Open;
 
 impl Play<Logged, u64> for Open {
@@ -68,7 +69,7 @@ impl Play<Logged, u64> for Open {
     ghost then = { Opens };
 }
 
-// A step that adds to the log.
+/// The move that adds a step to the log. No value of it is made.
 pub struct Add;
 
 impl Play<Logged, u64> for Add {
@@ -77,7 +78,7 @@ impl Play<Logged, u64> for Add {
     ghost then = { Adds };
 }
 
-// Nothing is added: all that was seen is not longer than was expected.
+/// The move that adds nothing: it shows that all that was seen is no longer than was expected. No value of it is made.
 pub struct Whole;
 
 impl Play<Logged, u64> for Whole {
@@ -86,11 +87,14 @@ impl Play<Logged, u64> for Whole {
     ghost then = { AreAll };
 }
 
-// What is asked of the log: a step, and the pen of the step after it.
+/// What is asked of the log: a step, and the pen of the step after it.
 #[derive(Drop)]
 pub struct Asked<'a> {
+    /// What the step adds to the list, in order.
     pub elements: &'a Listing,
+    /// How many of the window's oldest batches it drops.
     pub dropped: u64,
+    /// The pen that the step after it is added by.
     pub next: &'a Pen,
 }
 
@@ -118,10 +122,13 @@ pub trait Naming {
     ghost use Rattle.logbook.specs.Pages.{Book};
     ghost use Rattle.bx_advice.specs.declared.config.Config.{Config};
 
+    /// The book of the window's steps.
     ghost book: { Book };
 
+    /// The configuration by which entries come of its list.
     ghost config: { Config };
 
+    /// The shard of a session's number among so many shards.
     ghost placing: { ℕ → ℕ → ℕ };
 }
 

@@ -1,4 +1,4 @@
-//! The writer of the window.
+//! The writer of the window: it publishes batches, and drops those that lie below a place.
 ghost use Rattle.std.specs.Prelude.{◌≡◌, ◌+◌, ◌<◌, ◌≤◌, ◌^◌, ◌++◌, ◌∷◌, [], length, drop, slice_index_or, IfOk, IfErr, OnOk, OnErr};
 ghost use mathlib.Core.List.{IsPrefix};
 ghost use Rattle.std.specs.Arc.{arc_value};
@@ -22,7 +22,7 @@ use std::alloc::{AllocError, Global};
 use std::marker::Model;
 use std::sync::{Arc, OnceLock, Wait};
 
-/// How many batches the window has at most.
+/// How many batches the window has at most: a shard that stands still keeps no more of them. (This server's choice.)
 pub const MAX_BATCHES: usize = 4096;
 
 /// Why a batch was not published.
@@ -175,8 +175,9 @@ impl<J: Naming, R: Wait + Drop> Writer<J, R, Ring<J>, Operation<J>> {
     }
 }
 
-// Puts an operation behind the others that is empty yet. What is left empty changes nothing, and the next publish takes it
-// out.
+// Appends an operation that has no change yet. All that may be refused is done with this: `show` fills the operation
+// and takes no memory. One that is never filled changes nothing, and the next publish takes it out of the log of
+// operations.
 fn reserve<J: Naming, R: Wait + Drop>(
     alloc: Global,
     handle: &mut WriteHandle<Ring<J>, Operation<J>, R>,

@@ -56,7 +56,7 @@ impl<P: Placing> World<P> {
     ghost use Rattle.bx_world.specs.Seen.{RanUpTo, Steps, setup_of, world_of};
     ghost use Rattle.bx_world.specs.Worlds.{filed_under, new_world};
 
-    /// An empty list, no session, and the configuration's number of shards.
+    /// An empty list, no session, and the configuration's number of shards. An error means that memory was refused.
     pub fn new(alloc: Global, config: Config, placing: Arc<P>) -> Result<World<P>, AllocError>
     where
         P: Drop,
@@ -77,7 +77,8 @@ impl<P: Placing> World<P> {
     }
 
     /// Takes the messages of a request into the list, in order. It is refused, in this order, where its documents
-    /// cannot be read as messages, its moment is above the greatest that is taken, or the list would become too long.
+    /// cannot be read as messages, its moment, in milliseconds, is above the greatest that is taken, or the list would
+    /// become too long.
     pub fn admit(&mut self, alloc: Global, arrival: &Arrival) -> Result<Admitted, AdmissionFault>
         ensures { Steps self.old (Admit (Post arrival.now)) (admission result) self.new }
     {

@@ -1,4 +1,4 @@
-//! A client of a service.
+//! A client that makes each exchange once more where memory was refused to it.
 ghost use Rattle.std.specs.Prelude.{IfOk};
 ghost use Rattle.futures.specs.Poll.{OnPending};
 
@@ -24,9 +24,13 @@ pub type Given = Result<Response<Full<Bytes>>, ServiceFault>;
 /// A service with the list of its hub, and the task that polls its exchanges.
 #[derive(Drop)]
 pub struct Client<S: Drop, C: Drop> {
+    /// Where memory is taken.
     pub alloc: Global,
+    /// The service that it asks.
     pub service: BayeuxService<S>,
+    /// The list of the hub behind the service.
     pub list: List<C>,
+    /// The task that polls its exchanges.
     pub task: MockTask,
 }
 

@@ -1,4 +1,4 @@
-//! The exchanges.
+//! The exchanges that the runs make with a service, and how each is answered.
 use crate::requests::{ACK_HANDSHAKE, HANDSHAKE, add_line};
 use crate::services::asked::{
     Asked, BROKEN, CONNECT, PUBLISH, QUERY_CONNECT, SUBSCRIBE, replaced, request,

@@ -1,4 +1,4 @@
-//! The list of a hub.
+//! The list of a hub, by how many entries it has.
 use crate::hubs::Served;
 use crate::requests::arrival;
 use crate::unlike::Unlike;
@@ -15,7 +15,9 @@ pub trait Count {
 /// The list of a hub.
 #[derive(Drop)]
 pub struct HubList<J: Naming, R: Wait + Drop> {
+    /// The leave to wait for a lock.
     pub rt: R,
+    /// The hub.
     pub hub: Arc<Served<J, R>, Global>,
 }
 
