@@ -230,7 +230,31 @@ def crowds():
     )
 
 
+def audiences():
+    """Yields a publish that as many sessions hear as few servers have at once: the first and the last one get it."""
+    count = 5_000
+    script = "0 P [<handshake>]\n" * count + "".join(f"0 P [<subscribe {number:x} /a/b>]\n" for number in range(1, count + 1))
+    expected = "".join(f"{number} 200 [<opened {number:x}>]\n" for number in range(1, count + 1))
+    expected += "".join(f"{count + number} 200 [<subscribed {number:x} /a/b>]\n" for number in range(1, count + 1))
+    script += f"0 P [<publish 1 /a/b 7>]\n0 P [<poll 1>]\n0 P [<poll {count:x}>]\n"
+    line = 2 * count + 1
+    expected += f"{line} 200 [<published /a/b>]\n{line + 1} 200 [<event /a/b 7>,<connected 1>]\n{line + 2} 200 [<event /a/b 7>,<connected {count:x}>]\n"
+    yield f"{count} sessions hear a publish", script, expected
+
+
+def long_arrays():
+    """Yields a publish whose body is as long as may be, for an array of half a million numbers, and one that is a byte longer."""
+    front, end = spelled('[{"channel":"/a/b","clientId":"<client 1>","data":['), "]}]"
+    room = BODY - len(front) - len(end)
+    data = listed("1", room // 2) if room % 2 else listed("1", room // 2 - 1) + ",10"
+    yield (
+        "an array of half a million numbers",
+        f"0 P [<handshake>]\n0 P [<subscribe 1 /a/b>]\n0 P {front}{data}{end}\n0 P {front}{data}0{end}\n0 P [<poll 1>]\n",
+        f"1 200 [<opened 1>]\n2 200 [<subscribed 1 /a/b>]\n3 200 [<published /a/b>]\n4 413\n5 200 [<event /a/b [{data}]>,<connected 1>]\n",
+    )
+
+
 def made():
     """Yields the name of each row, its script and what it must print, in words, and then its arguments where it names some."""
-    for part in (ends, long_lines, thousands_of_lines, fronts, nested, messages, patterns, overflows, limits, riders, crowds):
+    for part in (ends, long_lines, thousands_of_lines, fronts, nested, messages, patterns, overflows, limits, riders, crowds, audiences, long_arrays):
         yield from part()

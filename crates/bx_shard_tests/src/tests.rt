@@ -281,6 +281,28 @@ fn an_answer_wakes_who_waits_for_it(rt: HostRuntime) -> Result<(), Fail> {
     check_answered(&rt, alloc, &mut shard(alloc, &HELD)?, &task)
 }
 
+// Two connects are answered before the wakers are taken: both tasks are woken where those are dropped, and neither before.
+fn check_both<R: Abort>(
+    rt: &R,
+    alloc: Global,
+    shard: &mut Shard<ByRemainder>,
+    first: &MockTask,
+    second: &MockTask,
+) -> Result<(), Fail> {
+    check_stored(rt, shard, 4, first)?;
+    check_stored(rt, shard, 5, second)?;
+    apply(alloc, shard, &ANSWERS)?;
+    check_woken(rt, alloc, shard, &[first, second]);
+    Ok(())
+}
+
+#[test]
+fn several_answers_wake_all_who_wait(rt: HostRuntime) -> Result<(), Fail> {
+    let alloc = rt.alloc();
+    let (first, second) = (MockTask::new(&rt)?, MockTask::new(&rt)?);
+    check_both(&rt, alloc, &mut shard(alloc, &BOTH_HELD)?, &first, &second)
+}
+
 // A waker of one task, and then one of another, are left for the same connect: the first one comes back, and its task is woken
 // where that is dropped; the other task is woken by the answer.
 fn check_replaced<R: Abort>(

@@ -1,10 +1,11 @@
 //! Shards that workers bring up to the end of four entries.
 ghost use Rattle.std.specs.Prelude.{◌≡◌, length, IfOk};
+ghost use Rattle.bx_entry.specs.Placings.{all_first};
 ghost use Rattle.bx_shard_tests.specs.Numbered.{AreFresh, AreNumbered};
 
 use crate::tests::{Deed, kind};
 use bx_advice::Config;
-use bx_entry::{ByRemainder, Entry, EntryKind, Ticket};
+use bx_entry::{ByRemainder, Entry, EntryKind, Placing, Ticket};
 use bx_shard::Shard;
 use bx_workers::{Gate, OpenGate, WorkerCount, bring_up};
 use std::alloc::{AllocError, Global};
@@ -191,5 +192,68 @@ fn each_worker_passes_the_gate_once(rt: HostRuntime) -> Result<(), Fail> {
             "{workers} workers"
         );
     }
+    Ok(())
+}
+
+// Places each session in the first shard, and counts how often it is asked: once for each handshake that a shard applies.
+#[derive(Drop)]
+struct Asked {
+    times: AtomicU64,
+}
+
+impl Placing for Asked {
+    ghost place_of = { λ _ number shards. all_first number shards };
+
+    ghost is_below = { λ _ _ _ some _. some };
+
+    fn place(&self, _number: u64, _shards: usize) -> usize {
+        self.times.fetch_add(1, Ordering::SeqCst);
+        0
+    }
+}
+
+// Notes how often the placing was asked before the work, and behind it.
+#[derive(Drop)]
+struct Looking {
+    placing: Arc<Asked>,
+    before: AtomicU64,
+    after: AtomicU64,
+}
+
+impl Gate for Looking {
+    fn before(&self, _worker: usize) {
+        let times = self.placing.times.load(Ordering::SeqCst);
+        self.before.store(times, Ordering::SeqCst);
+    }
+
+    fn after(&self, _worker: usize) {
+        let times = self.placing.times.load(Ordering::SeqCst);
+        self.after.store(times, Ordering::SeqCst);
+    }
+}
+
+// How often the placing was asked when a worker passed the gate before its work, and behind it.
+fn asked_at_the_gate<R: Threads + Sync>(rt: &R, alloc: Global) -> Result<(u64, u64), Fail> {
+    let config = Config::new(1, 30_000, 0, 10_000).ok_or("no configuration")?;
+    let times = AtomicU64::new(0);
+    let placing = Arc::new(alloc, Asked { times })?;
+    let mut shards = Vec::new(alloc);
+    shards.push(Shard::new(alloc, 0, config, placing.clone()?))?;
+    let gate = Looking {
+        placing,
+        before: AtomicU64::new(0),
+        after: AtomicU64::new(0),
+    };
+    let entries = entries(alloc)?;
+    bring_up(rt, alloc, &gate, WorkerCount::one(), &mut shards, &entries);
+    Ok((
+        gate.before.load(Ordering::SeqCst),
+        gate.after.load(Ordering::SeqCst),
+    ))
+}
+
+#[test]
+fn the_gate_is_passed_before_the_work_and_behind_it(rt: HostRuntime) -> Result<(), Fail> {
+    assert_eq!(rt; asked_at_the_gate(&rt, rt.alloc())?, (0, 1));
     Ok(())
 }
