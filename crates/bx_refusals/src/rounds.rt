@@ -19,7 +19,7 @@ const MOST_INPUTS: usize = 1_000;
 // Requests, each with its moment.
 type Requests = &'static [(u64, &'static str)];
 
-// Requests, among how many shards the sessions are dealt anew behind them, if they are, and the requests behind that; and whether
+// Requests, among how many shards the sessions are redistributed behind them, if they are, and the requests behind that; and whether
 // waiting events ride.
 #[derive(Clone, Copy, Debug)]
 struct Worked {
@@ -110,7 +110,7 @@ const HELD_BATCHES: Worked = Worked {
     ride: false,
 };
 
-// While a connect is held the sessions are dealt anew.
+// While a connect is held the sessions are redistributed.
 const DEALT_WHILE_HELD: Worked = Worked {
     first: &[
         (0, HANDSHAKE),
@@ -159,7 +159,7 @@ const WORKED: [Worked; 6] = [
     RIDDEN,
 ];
 
-/// Worked runs, in two of which the sessions are dealt anew, and in one events ride. Says what each round gives, by the numbers of the requests from 1
+/// Worked runs, in two of which the sessions are redistributed, and in one events ride. Says what each round gives, by the numbers of the requests from 1
 /// on, and which connects are held at its end.
 pub fn run<R: Threads + Sync>(rt: &R, alloc: Global) -> Result<String, Unlike> {
     let mut text = String::new(alloc);
@@ -182,7 +182,7 @@ fn worked_text<R: Threads + Sync>(
     ended(rt, alloc, &mut round, worked.then, outs)
 }
 
-// A round that has dealt with the first requests, and whose sessions are then dealt anew, if they are.
+// A round that has taken in the first requests, and whose sessions are then redistributed, if they are.
 fn first<R: Threads + Sync>(
     rt: &R,
     alloc: Global,
@@ -200,7 +200,7 @@ fn first<R: Threads + Sync>(
     }
 }
 
-// A round of two shards that has dealt with the first requests.
+// A round of two shards that has taken in the first requests.
 fn dealt<R: Threads + Sync>(
     rt: &R,
     alloc: Global,
@@ -220,7 +220,7 @@ fn placing(alloc: Global) -> Result<Arc<ByRemainder>, Unlike> {
     Ok(Arc::new(alloc, ByRemainder)?)
 }
 
-// The round with its sessions among so many shards. Where memory was refused, the round that came back is dealt anew.
+// The round with its sessions among so many shards. Where memory was refused, the sessions of the round that came back are redistributed.
 fn dealt_anew<R: Threads + Sync>(
     rt: &R,
     alloc: Global,
@@ -312,7 +312,7 @@ fn go_on<R: Threads + Sync>(
     }
 }
 
-// Runs these inputs. Where memory was refused, it says how many of them were dealt with.
+// Runs these inputs. Where memory was refused, it says how many of them were taken in.
 fn refused_behind<R: Threads + Sync>(
     rt: &R,
     alloc: Global,
