@@ -12,7 +12,8 @@ TOP = os.path.dirname(os.path.dirname(os.path.realpath(__file__)))
 PROGRAM = f"{TOP}/crates/bayeuxd/out/bayeuxd"
 # For how long an answer is waited for before the daemon is said to hang, in seconds.
 PATIENCE = 20.0
-SEED = "5a" * 32
+# No byte of it stands twice, so that one which is read elsewhere shows.
+SEED = bytes(range(1, 33)).hex()
 HANDSHAKE = {"channel": "/meta/handshake", "version": "1.0", "supportedConnectionTypes": ["long-polling"]}
 
 

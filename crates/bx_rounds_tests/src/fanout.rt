@@ -99,6 +99,38 @@ const ALONE: [(u64, &str); 1] = [(
     r#"{"channel":"/meta/connect","clientId":"000000000000000000000000000000000000000000000401","connectionType":"long-polling"}"#,
 )];
 
+// A run: its inputs, what it gives, how many inputs were taken in by then, and which of these, counted from 0, are held.
+type HoldRun = (
+    &'static [(u64, &'static str)],
+    &'static [(usize, &'static str)],
+    usize,
+    &'static [usize],
+);
+
+const CONNECT_FIRST: &str =
+    r#"{"channel":"/meta/connect","clientId":"000000000000000000000000000000000000000000000001","connectionType":"long-polling"}"#;
+
+const OPENED_FIRST: &str =
+    r#"[{"advice":{"interval":0,"reconnect":"retry","timeout":30000},"channel":"/meta/handshake","clientId":"000000000000000000000000000000000000000000000001","successful":true,"supportedConnectionTypes":["long-polling","callback-polling"],"version":"1.0"}]"#;
+
+const SUPERSEDED_FIRST: &str =
+    r#"[{"channel":"/meta/connect","clientId":"000000000000000000000000000000000000000000000001","error":"408::Superseded connect","successful":false}]"#;
+
+// A session whose connect is held until it connects once more.
+const TOGETHER: [HoldRun; 1] = [(
+    &[(0, HANDSHAKE), (1, CONNECT_FIRST), (2, CONNECT_FIRST)],
+    &[(0, OPENED_FIRST), (1, SUPERSEDED_FIRST)],
+    3,
+    &[2],
+)];
+
+// The same by a run for each input.
+const APART: [HoldRun; 3] = [
+    (&[(0, HANDSHAKE)], &[(0, OPENED_FIRST)], 1, &[]),
+    (&[(1, CONNECT_FIRST)], &[], 2, &[1]),
+    (&[(2, CONNECT_FIRST)], &[(1, SUPERSEDED_FIRST)], 3, &[2]),
+];
+
 // In which shards sessions stand, over and over: in turn, all in the first shard, and some together.
 const TABLES: [&[u8]; 3] = [&[0, 1, 2], &[], &[1, 2, 2]];
 
@@ -318,6 +350,53 @@ fn events_ride_by_one_worker_and_by_four(rt: HostRuntime) -> Result<(), Fail> {
     Ok(())
 }
 
+// So many inputs were taken in, and these are held.
+fn check_held<R: Abort>(
+    rt: &R,
+    alloc: Global,
+    round: &Round<ByTable>,
+    intake: usize,
+    held: &[usize],
+) -> Result<(), Fail> {
+    assert_eq!(rt; round.intake(), intake);
+    assert_eq!(rt; round.held(alloc)?.as_slice(), held, "behind {intake}");
+    Ok(())
+}
+
+// Each of these runs gives what it is to give, and leaves held what it is to leave.
+fn check_holds<R: Abort + Threads + Sync>(
+    rt: &R,
+    alloc: Global,
+    round: &mut Round<ByTable>,
+    runs: &[HoldRun],
+) -> Result<(), Fail> {
+    check_held(rt, alloc, round, 0, &[])?;
+    for (asked, right, intake, held) in runs {
+        check_outs(rt, alloc, &OpenGate, round, *asked, *right)?;
+        check_held(rt, alloc, round, *intake, *held)?;
+    }
+    Ok(())
+}
+
+fn check_holds_by<R: Abort + Threads + Sync>(
+    rt: &R,
+    alloc: Global,
+    workers: usize,
+    runs: &[HoldRun],
+) -> Result<(), Fail> {
+    let mut round = round(alloc, (2, workers), &[0, 1])?;
+    check_holds(rt, alloc, &mut round, runs)
+}
+
+#[test]
+fn a_held_connect_is_told_beside_what_is_given(rt: HostRuntime) -> Result<(), Fail> {
+    for workers in [1, 2] {
+        check_holds_by(&rt, rt.alloc(), workers, &TOGETHER)?;
+        check_holds_by(&rt, rt.alloc(), workers, &APART)?;
+    }
+    Ok(())
+}
+
 // Holds one worker before its work until another has done its own.
 #[derive(Drop)]
 struct Holding {
@@ -412,8 +491,8 @@ fn hold<R: Threads + Sync, G: Gate + Sync>(
     run(rt, alloc, gate, round, held, outs)
 }
 
-// Deals with the last input.
-fn answer_held<R: Threads + Sync, G: Gate + Sync>(
+// Deals with the last input. Until then the connect is held.
+fn answer_held<R: Abort + Threads + Sync, G: Gate + Sync>(
     rt: &R,
     alloc: Global,
     gate: &G,
@@ -422,7 +501,9 @@ fn answer_held<R: Threads + Sync, G: Gate + Sync>(
 ) -> Result<(), Fail> {
     let inputs = inputs(alloc, INPUTS.len())?;
     let event = inputs.get(4..).ok_or("too few inputs")?;
-    run(rt, alloc, gate, round, event, outs)
+    check_held(rt, alloc, round, 1_028, &[1_027])?;
+    run(rt, alloc, gate, round, event, outs)?;
+    check_held(rt, alloc, round, 1_029, &[])
 }
 
 // The held connect goes with its session: behind the move the last input gives the right outs.

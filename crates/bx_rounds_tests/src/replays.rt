@@ -84,6 +84,75 @@ const PLACED: [(&str, &str); 2] = [
     ),
 ];
 
+// A connect that is held at the end, and ended another one; disconnects of sessions that do not live, or no longer, which are refused; ticks
+// up to the moment when a session ends and past it, and then its publish; and a batch that comes again until it is acknowledged.
+const WHOLE: [(&str, &str); 4] = [
+    (
+        r#"0 P [{"channel":"/meta/handshake","version":"1.0","supportedConnectionTypes":["long-polling"]}]
+1 P [{"channel":"/meta/connect","clientId":"000000000000000000000000000000000000000000000001","connectionType":"long-polling"}]
+2 P [{"channel":"/meta/connect","clientId":"000000000000000000000000000000000000000000000001","connectionType":"long-polling"}]
+"#,
+        r#"1 200 [{"advice":{"interval":0,"reconnect":"retry","timeout":30000},"channel":"/meta/handshake","clientId":"000000000000000000000000000000000000000000000001","successful":true,"supportedConnectionTypes":["long-polling","callback-polling"],"version":"1.0"}]
+2 200 [{"channel":"/meta/connect","clientId":"000000000000000000000000000000000000000000000001","error":"408::Superseded connect","successful":false}]
+3 held
+"#,
+    ),
+    (
+        r#"0 P [{"channel":"/meta/handshake","version":"1.0","supportedConnectionTypes":["long-polling"]}]
+1 P [{"channel":"/meta/disconnect","clientId":"nobody"}]
+1 P [{"channel":"/meta/connect","clientId":"000000000000000000000000000000000000000000000001","connectionType":"long-polling"}]
+1 P [{"channel":"/meta/disconnect","clientId":"000000000000000000000000000000000000000000000002"}]
+2 P [{"channel":"/meta/disconnect","clientId":"000000000000000000000000000000000000000000000001"}]
+3 P [{"channel":"/meta/disconnect","clientId":"000000000000000000000000000000000000000000000001"},{"channel":"/a/b","clientId":"000000000000000000000000000000000000000000000001","data":1}]
+"#,
+        r#"1 200 [{"advice":{"interval":0,"reconnect":"retry","timeout":30000},"channel":"/meta/handshake","clientId":"000000000000000000000000000000000000000000000001","successful":true,"supportedConnectionTypes":["long-polling","callback-polling"],"version":"1.0"}]
+2 200 [{"advice":{"interval":0,"reconnect":"handshake"},"channel":"/meta/disconnect","error":"402::Unknown client","successful":false}]
+4 200 [{"advice":{"interval":0,"reconnect":"handshake"},"channel":"/meta/disconnect","error":"402::Unknown client","successful":false}]
+3 200 [{"advice":{"interval":0,"reconnect":"none"},"channel":"/meta/connect","clientId":"000000000000000000000000000000000000000000000001","successful":true}]
+5 200 [{"channel":"/meta/disconnect","clientId":"000000000000000000000000000000000000000000000001","successful":true}]
+6 200 [{"advice":{"interval":0,"reconnect":"handshake"},"channel":"/meta/disconnect","error":"402::Unknown client","successful":false},{"advice":{"interval":0,"reconnect":"handshake"},"channel":"/a/b","error":"402::Unknown client","successful":false}]
+"#,
+    ),
+    (
+        r#"0 P [{"channel":"/meta/handshake","version":"1.0","supportedConnectionTypes":["long-polling"]}]
+5 P [{"channel":"/meta/handshake","version":"1.0","supportedConnectionTypes":["long-polling"]}]
+5 P [{"channel":"/meta/subscribe","clientId":"000000000000000000000000000000000000000000000002","subscription":"/a/*"}]
+10000 T
+10001 T
+10001 P [{"channel":"/a/b","clientId":"000000000000000000000000000000000000000000000001","data":1}]
+10001 P [{"channel":"/meta/connect","clientId":"000000000000000000000000000000000000000000000002","connectionType":"long-polling","advice":{"timeout":0}}]
+"#,
+        r#"1 200 [{"advice":{"interval":0,"reconnect":"retry","timeout":30000},"channel":"/meta/handshake","clientId":"000000000000000000000000000000000000000000000001","successful":true,"supportedConnectionTypes":["long-polling","callback-polling"],"version":"1.0"}]
+2 200 [{"advice":{"interval":0,"reconnect":"retry","timeout":30000},"channel":"/meta/handshake","clientId":"000000000000000000000000000000000000000000000002","successful":true,"supportedConnectionTypes":["long-polling","callback-polling"],"version":"1.0"}]
+3 200 [{"channel":"/meta/subscribe","clientId":"000000000000000000000000000000000000000000000002","subscription":"/a/*","successful":true}]
+6 200 [{"advice":{"interval":0,"reconnect":"handshake"},"channel":"/a/b","error":"402::Unknown client","successful":false}]
+7 200 [{"advice":{"interval":0,"reconnect":"retry","timeout":30000},"channel":"/meta/connect","clientId":"000000000000000000000000000000000000000000000002","successful":true}]
+"#,
+    ),
+    (
+        r#"0 P [{"channel":"/meta/handshake","version":"1.0","supportedConnectionTypes":["long-polling"],"ext":{"ack":true}}]
+0 P [{"channel":"/meta/subscribe","clientId":"000000000000000000000000000000000000000000000001","subscription":"/a/*"},{"channel":"/a/x","clientId":"000000000000000000000000000000000000000000000001","data":1}]
+1 P [{"channel":"/meta/connect","clientId":"000000000000000000000000000000000000000000000001","connectionType":"long-polling","ext":{"ack":0},"advice":{"timeout":0}}]
+2 P [{"channel":"/a/y","clientId":"000000000000000000000000000000000000000000000001","data":2},{"channel":"/a/z","clientId":"000000000000000000000000000000000000000000000001","data":3}]
+3 P [{"channel":"/meta/connect","clientId":"000000000000000000000000000000000000000000000001","connectionType":"long-polling","ext":{"ack":0},"advice":{"timeout":0}}]
+4 P [{"channel":"/meta/unsubscribe","clientId":"000000000000000000000000000000000000000000000001","subscription":"/a/*"}]
+5 P [{"channel":"/meta/connect","clientId":"000000000000000000000000000000000000000000000001","connectionType":"long-polling","ext":{"ack":0},"advice":{"timeout":0}}]
+6 P [{"channel":"/meta/connect","clientId":"000000000000000000000000000000000000000000000001","connectionType":"long-polling","ext":{"ack":1},"advice":{"timeout":0}}]
+7 P [{"channel":"/meta/connect","clientId":"000000000000000000000000000000000000000000000001","connectionType":"long-polling","ext":{"ack":2},"advice":{"timeout":0}}]
+"#,
+        r#"1 200 [{"advice":{"interval":0,"reconnect":"retry","timeout":30000},"channel":"/meta/handshake","clientId":"000000000000000000000000000000000000000000000001","ext":{"ack":true},"successful":true,"supportedConnectionTypes":["long-polling","callback-polling"],"version":"1.0"}]
+2 200 [{"channel":"/meta/subscribe","clientId":"000000000000000000000000000000000000000000000001","subscription":"/a/*","successful":true},{"channel":"/a/x","successful":true}]
+3 200 [{"channel":"/a/x","data":1},{"advice":{"interval":0,"reconnect":"retry","timeout":30000},"channel":"/meta/connect","clientId":"000000000000000000000000000000000000000000000001","ext":{"ack":1},"successful":true}]
+4 200 [{"channel":"/a/y","successful":true},{"channel":"/a/z","successful":true}]
+5 200 [{"channel":"/a/x","data":1},{"advice":{"interval":0,"reconnect":"retry","timeout":30000},"channel":"/meta/connect","clientId":"000000000000000000000000000000000000000000000001","ext":{"ack":1},"successful":true}]
+6 200 [{"channel":"/meta/unsubscribe","clientId":"000000000000000000000000000000000000000000000001","subscription":"/a/*","successful":true}]
+7 200 [{"channel":"/a/x","data":1},{"advice":{"interval":0,"reconnect":"retry","timeout":30000},"channel":"/meta/connect","clientId":"000000000000000000000000000000000000000000000001","ext":{"ack":1},"successful":true}]
+8 200 [{"channel":"/a/y","data":2},{"channel":"/a/z","data":3},{"advice":{"interval":0,"reconnect":"retry","timeout":30000},"channel":"/meta/connect","clientId":"000000000000000000000000000000000000000000000001","ext":{"ack":2},"successful":true}]
+9 200 [{"advice":{"interval":0,"reconnect":"retry","timeout":30000},"channel":"/meta/connect","clientId":"000000000000000000000000000000000000000000000001","ext":{"ack":2},"successful":true}]
+"#,
+    ),
+];
+
 // Replays a script with two workers, among three shards, and returns how that ends.
 fn replayed<T, P, R, W>(
     rt: &T,
@@ -131,7 +200,8 @@ fn check_placings<R: Abort + Threads + Sync>(
     run: (&str, &str),
 ) -> Result<(), Fail> {
     check_placed(rt, alloc, AllFirst, run)?;
-    check_placed(rt, alloc, ByTable::new(alloc, &[1, 0, 0])?, run)
+    check_placed(rt, alloc, ByTable::new(alloc, &[1, 0, 0])?, run)?;
+    check_placed(rt, alloc, ByRemainder, run)
 }
 
 #[test]
@@ -140,6 +210,9 @@ fn wherever_sessions_are_placed_the_same_is_printed(rt: HostRuntime) -> Result<(
         check_placings(&rt, rt.alloc(), run)?;
     }
     for run in PLACED {
+        check_placings(&rt, rt.alloc(), run)?;
+    }
+    for run in WHOLE {
         check_placings(&rt, rt.alloc(), run)?;
     }
     Ok(())

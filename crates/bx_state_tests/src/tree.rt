@@ -85,19 +85,21 @@ fn remove(alloc: Global, tree: &mut Tree, text: &str, number: u64) -> Result<boo
     }
 }
 
-const REMOVES: [(&str, u64, bool, &str); 4] = [
-    ("/a/**", 2, false, "/a/* /a/** "),
-    ("/a/*", 1, true, "/a/** "),
-    ("/a/*", 1, false, "/a/** "),
-    ("/a/**", 1, true, ""),
+// Patterns that are taken out, whether they are there, which of 1 are left then, and for whom `/a/b` is found.
+const REMOVES: [(&str, u64, bool, &str, &[u64]); 4] = [
+    ("/a/**", 2, false, "/a/* /a/** ", &[1, 2]),
+    ("/a/*", 1, true, "/a/** ", &[1, 2]),
+    ("/a/*", 1, false, "/a/** ", &[1, 2]),
+    ("/a/**", 1, true, "", &[2]),
 ];
 
-// Takes patterns out one by one, and checks which of 1 are left.
+// Takes patterns out one by one, and checks which of 1 are left and who is found.
 fn assert_removes(rt: &impl Abort, alloc: Global, tree: &mut Tree) -> Result<(), Fail> {
-    for (text, number, is_there, left) in &REMOVES {
+    for (text, number, is_there, left, found) in &REMOVES {
         let was_there = remove(alloc, tree, *text, *number)?;
         same(rt, was_there, *is_there, *text);
         assert_texts(rt, alloc, tree, 1, *left)?;
+        assert_find(rt, alloc, tree, "/a/b", *found, 9)?;
     }
     Ok(())
 }
