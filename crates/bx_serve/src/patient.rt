@@ -1,5 +1,8 @@
 //! A body that is not waited for for ever.
-ghost use Rattle.std.specs.Prelude.{◌≡◌};
+ghost use Rattle.std.specs.Prelude.{◌≡◌, Option};
+ghost use Rattle.http.specs.declared.request.Request.{Request};
+ghost use Rattle.bx_serve.specs.Handing.{IsWithPatience};
+ghost use Rattle.bx_serve.specs.declared.patient.Patient.{Patient};
 ghost use Rattle.bx_serve.specs.Patience.{Outlasts, OrTimer};
 
 use crate::patience::Patience;
@@ -95,6 +98,9 @@ where
     type Future = S::Future;
 
     ghost can_call = { λ p. S.can_call p.service };
+
+    // What the service within may return for the same request with a patient body.
+    ghost calls = { λ p came future. (handed : Request (Patient B (Option T))) × (IsWithPatience came handed × S.calls p.service handed future) };
 
     fn call(&self, request: Request<B>) -> S::Future {
         let (parts, body) = request.into_parts();
