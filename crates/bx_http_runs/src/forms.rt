@@ -2,17 +2,22 @@
 use crate::host::{Host, add_written};
 use crate::wire::Wire;
 use anyhow::Result;
+use bx_advice::BODY_LIMIT;
 use bytes::Bytes;
 use http::{Request, Response};
 use http_body_util::Full;
 use hyper::body::Incoming;
 use hyper::service::Service;
+use std::alloc::{AllocError, Global};
 
 // What stands behind this comes once something was written.
 const GO_ON: &str = "<goes on>";
 
+// In place of this come as many blanks as a body may have bytes.
+const BLANKS: &str = "<blanks>";
+
 // Each has a name and the bytes that come.
-const FORMS: [(&str, &str); 13] = [
+const FORMS: [(&str, &str); 20] = [
     (
         "in chunks",
         "POST /cometd HTTP/1.1\r\nhost: a\r\ntransfer-encoding: chunked\r\n\r\n3\r\n[{\"\r\n20;last=no\r\nchannel\":\"/meta/ping\",\"id\":\"7\"}]\r\n0\r\n\r\n",
@@ -53,6 +58,31 @@ const FORMS: [(&str, &str); 13] = [
         "to another path",
         "POST /comet HTTP/1.1\r\nhost: a\r\ncontent-length: 2\r\n\r\n[]",
     ),
+    ("without a query", "GET /cometd HTTP/1.1\r\nhost: a\r\n\r\n"),
+    (
+        "by a callback that is no name",
+        "GET /cometd?message=[]&jsonp=a(b HTTP/1.1\r\nhost: a\r\n\r\n",
+    ),
+    (
+        "by a form",
+        "POST /cometd HTTP/1.1\r\nhost: a\r\ncontent-type: application/x-www-form-urlencoded\r\ncontent-length: 10\r\n\r\nmessage=[]",
+    ),
+    (
+        "by a form without a message",
+        "POST /cometd HTTP/1.1\r\nhost: a\r\ncontent-type: application/x-www-form-urlencoded\r\ncontent-length: 8\r\n\r\nother=[]",
+    ),
+    (
+        "as long as may be, which is no document",
+        "POST /cometd HTTP/1.1\r\nhost: a\r\ntransfer-encoding: chunked\r\n\r\n100000\r\n<blanks>\r\n0\r\n\r\n",
+    ),
+    (
+        "that is longer",
+        "POST /cometd HTTP/1.1\r\nhost: a\r\ntransfer-encoding: chunked\r\n\r\n100000\r\n<blanks>\r\n1\r\n \r\n0\r\n\r\n",
+    ),
+    (
+        "that says it is longer",
+        "POST /cometd HTTP/1.1\r\nhost: a\r\ncontent-length: 1048577\r\n\r\n",
+    ),
     (
         "longer than it says",
         "POST /cometd HTTP/1.1\r\nhost: a\r\ncontent-length: 2\r\n\r\n[]]\r\n\r\n",
@@ -66,6 +96,17 @@ const FORMS: [(&str, &str); 13] = [
         "POST /cometd HTTP/1.1\r\nhost: a\r\ntransfer-encoding: chunked\r\n\r\n1\r\n[]\r\n0\r\n\r\n",
     ),
 ];
+
+// The bytes with blanks in their place, where they have one.
+fn filled(alloc: Global, bytes: &str) -> Result<String, AllocError> {
+    match bytes.split_once(BLANKS) {
+        Some((front, back)) => {
+            let blanks = " ".repeat(alloc, BODY_LIMIT)?;
+            format!(in alloc; "{front}{blanks}{back}")
+        }
+        None => String::from_str(alloc, bytes),
+    }
+}
 
 impl<S, E> Host<'_, S>
 where
@@ -92,6 +133,7 @@ where
             Some(parts) => parts,
             None => (bytes, ""),
         };
+        let coming = filled(self.alloc, coming)?;
         let wire = Wire::new(self.alloc, coming.as_bytes(), later.as_bytes())?;
         add_written(text, self.alloc, self.serve(wire)?.as_slice())?;
         Ok(())

@@ -130,5 +130,8 @@ where
     let mut text = host.posts(rt, hub)?;
     host.add_forms(&mut text)?;
     host.add_held(&mut text)?;
+    hub.close(rt);
+    text.push_str("\na request without messages to a closed hub\n")?;
+    host.post("[]", &mut text)?;
     Ok(text)
 }

@@ -2,6 +2,7 @@
 use bx_cut::Bodies;
 use bx_entry::{Arrival, Placing, Slot, Ticket};
 use bx_hub::{Gate, Hub, HubFault, Pass, PostFault};
+use bx_message::{Answer, Item, body_text};
 use bx_window::Naming;
 use std::alloc::{AllocError, Global};
 use std::sync::Wait;
@@ -29,6 +30,29 @@ pub const PUBLISH: &str =
 /// The first session publishes an event that it gets itself.
 pub const PUBLISH_OWN: &str =
     r#"[{"channel":"/a/c","clientId":"000000000000000000000000000000000000000000000001","data":8}]"#;
+
+/// What the first session's connect is answered where it gets what `PUBLISH` publishes.
+pub const ANSWER: &str =
+    r#"[{"channel":"/a/b","data":7},{"advice":{"interval":0,"reconnect":"retry","timeout":30000},"channel":"/meta/connect","clientId":"000000000000000000000000000000000000000000000001","successful":true}]"#;
+
+/// What it is answered by a tick, without events.
+pub const TICKED: &str =
+    r#"[{"advice":{"interval":0,"reconnect":"retry","timeout":30000},"channel":"/meta/connect","clientId":"000000000000000000000000000000000000000000000001","successful":true}]"#;
+
+/// What the first session's rider is answered where `PUBLISH` was before `PUBLISH_OWN`.
+pub const RIDDEN: &str =
+    r#"[{"channel":"/a/b","data":7},{"channel":"/a/c","data":8},{"channel":"/a/c","successful":true}]"#;
+
+/// What is found under a ticket.
+#[derive(Clone, Copy, Debug, PartialEq, Eq)]
+pub enum Found {
+    /// No answer is filed.
+    Nothing,
+    /// An answer with the text that is wanted.
+    Wanted,
+    /// Another answer.
+    Other,
+}
 
 /// A call was refused.
 #[derive(Clone, Copy, Debug)]
@@ -84,6 +108,42 @@ pub fn refusal<J: Naming, P: Placing, G: Gate + Drop, H: Wait + Drop, R: Wait>(
 ) -> Result<Option<PostFault>, AllocError> {
     let arrival = arrival(alloc, body)?;
     Ok(hub.post(rt, alloc, pass, &arrival).err())
+}
+
+// The text of an answer: its events, and then its reply.
+fn text_of(alloc: Global, answer: Answer) -> Result<Vec<u8>, AllocError> {
+    let Answer { events, reply } = answer;
+    let mut items = Vec::new(alloc);
+    for event in events.into_vec() {
+        items.push(Item::EventItem(event))?;
+    }
+    items.push(Item::ReplyItem(reply))?;
+    body_text(alloc, items.as_slice())
+}
+
+// Whether an answer has this text.
+fn found_in(alloc: Global, answer: Answer, wanted: &str) -> Result<Found, AllocError> {
+    if text_of(alloc, answer)?.as_slice() == wanted.as_bytes() {
+        Ok(Found::Wanted)
+    } else {
+        Ok(Found::Other)
+    }
+}
+
+/// Whether a connect or a rider is answered with this text.
+pub fn find<J: Naming, P: Placing, G: Gate + Drop, H: Wait + Drop, R: Wait>(
+    rt: &R,
+    alloc: Global,
+    hub: &Hub<J, P, G, H>,
+    pass: &mut Pass<J>,
+    ticket: Ticket,
+    wanted: &str,
+) -> Result<Found, Refused> {
+    match hub.poll_answer(rt, alloc, pass, ticket) {
+        Ok(Some(answer)) => Ok(found_in(alloc, answer, wanted)?),
+        Ok(None) => Ok(Found::Nothing),
+        Err(_) => Err(Refused),
+    }
 }
 
 /// One more than the number of events that a connect or a rider is answered with; 0 where no answer is filed.

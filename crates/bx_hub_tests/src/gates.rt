@@ -2,7 +2,7 @@
 ghost use Rattle.std.specs.Prelude.{◌≡◌};
 ghost use Rattle.bx_entry.specs.Placings.{by_remainder};
 
-use crate::calls::{HANDSHAKE, PUBLISH, Refused, hold, poll, post};
+use crate::calls::{ANSWER, Found, HANDSHAKE, PUBLISH, Refused, find, hold, post};
 use crate::same::same;
 use bx_advice::Config;
 use bx_entry::{ByRemainder, Placing, Ticket};
@@ -36,7 +36,7 @@ struct Flags {
 struct Told {
     is_bad_moment: bool,
     seen: u64,
-    found: usize,
+    found: Found,
 }
 
 // Holds whoever brings shard 0 up until it is free, where that is asked for.
@@ -82,7 +82,7 @@ fn takes<J: Naming, P: Placing, H: Wait + Drop, R: Wait>(
     let late = (1 << 62) + 1;
     let is_bad_moment = hub.tick(rt, alloc, &mut pass, late).err() == Some(PostFault::BadMoment);
     let seen = pass.seen();
-    let found = poll(rt, alloc, hub, &mut pass, ticket).unwrap_or(0);
+    let found = find(rt, alloc, hub, &mut pass, ticket, ANSWER).unwrap_or(Found::Other);
     flags.is_free.store(true, Ordering::SeqCst);
     Told {
         is_bad_moment,
@@ -132,7 +132,7 @@ fn beside<
     let want = Told {
         is_bad_moment: true,
         seen: 5,
-        found: 2,
+        found: Found::Wanted,
     };
     same(rt, told, want, "told");
     same(

@@ -3,8 +3,8 @@ ghost use Rattle.std.specs.Prelude.{◌≡◌};
 ghost use Rattle.bx_entry.specs.Placings.{by_remainder};
 
 use crate::calls::{
-    HANDSHAKE, PUBLISH_OWN, Refused, SUBSCRIBE, arrival, fault_of, hold, poll, post, publish,
-    refusal,
+    ANSWER, Found, HANDSHAKE, PUBLISH_OWN, RIDDEN, Refused, SUBSCRIBE, arrival, fault_of, find,
+    hold, post, publish, refusal,
 };
 use crate::same::same;
 use bx_advice::{Config, Options};
@@ -133,8 +133,8 @@ fn waits<J: Naming, P: Placing, G: Gate + Drop, H: Wait + Drop, R: Wait + Abort>
     same(rt, fault, Some(HubFault::Paused), "paused");
     same(rt, hub.resume(rt, 1), true, "resume 1");
     same(rt, hub.sweep(rt, 5), 0, "sweep 5");
-    let found = poll(rt, alloc, hub, pass, ticket)?;
-    same(rt, found, 2, "found");
+    let found = find(rt, alloc, hub, pass, ticket, ANSWER)?;
+    same(rt, found, Found::Wanted, "found");
     Ok(())
 }
 
@@ -148,8 +148,8 @@ fn gives<J: Naming, P: Placing, G: Gate + Drop, H: Wait + Drop, R: Wait + Abort>
     let ticket = hold(rt, alloc, hub, pass)?;
     publish(rt, alloc, hub, pass)?;
     same(rt, hub.pause(rt, 1), true, "pause 1");
-    let found = poll(rt, alloc, hub, pass, ticket)?;
-    same(rt, found, 2, "found");
+    let found = find(rt, alloc, hub, pass, ticket, ANSWER)?;
+    same(rt, found, Found::Wanted, "found");
     let fault = fault_of(rt, alloc, hub, pass, ticket);
     same(rt, fault, Some(HubFault::Paused), "paused");
     hub.close(rt);
@@ -176,8 +176,10 @@ fn rides<J: Naming, P: Placing, G: Gate + Drop, H: Wait + Drop, R: Wait + Abort>
     let fault = fault_of(rt, alloc, hub, pass, ticket);
     same(rt, fault, Some(HubFault::Paused), "paused");
     same(rt, hub.resume(rt, 1), true, "resume 1");
-    same(rt, poll(rt, alloc, hub, pass, ticket)?, 3, "found");
-    same(rt, poll(rt, alloc, hub, pass, ticket)?, 0, "found again");
+    let found = find(rt, alloc, hub, pass, ticket, RIDDEN)?;
+    same(rt, found, Found::Wanted, "found");
+    let again = find(rt, alloc, hub, pass, ticket, RIDDEN)?;
+    same(rt, again, Found::Nothing, "found again");
     Ok(())
 }
 

@@ -3,7 +3,7 @@ ghost use Rattle.std.specs.Prelude.{◌≡◌};
 ghost use Rattle.bx_entry.specs.Placings.{by_remainder};
 
 use crate::calls::{
-    CONNECT_OTHER, HANDSHAKE, PUBLISH, fault_of, hold, poll, post, publish, refusal,
+    ANSWER, CONNECT_OTHER, Found, HANDSHAKE, PUBLISH, fault_of, find, hold, post, publish, refusal,
 };
 use crate::same::same;
 use bx_advice::Config;
@@ -54,6 +54,21 @@ fn requests<J: Naming, P: Placing, G: Gate + Drop, H: Wait + Drop, R: Wait + Abo
     Ok(())
 }
 
+// Under this ticket there is no answer, or that of the first session to the publish.
+fn assert_found<J: Naming, P: Placing, G: Gate + Drop, H: Wait + Drop, R: Wait + Abort>(
+    rt: &R,
+    alloc: Global,
+    hub: &Hub<J, P, G, H>,
+    pass: &mut Pass<J>,
+    ticket: Ticket,
+    wanted: Found,
+    at: &str,
+) -> Result<(), Fail> {
+    let found = find(rt, alloc, hub, pass, ticket, ANSWER)?;
+    same(rt, found, wanted, at);
+    Ok(())
+}
+
 // A held connect, its answer, and the answer after it was taken.
 fn answers<J: Naming, P: Placing, G: Gate + Drop, H: Wait + Drop, R: Wait + Abort>(
     rt: &R,
@@ -62,23 +77,45 @@ fn answers<J: Naming, P: Placing, G: Gate + Drop, H: Wait + Drop, R: Wait + Abor
     pass: &mut Pass<J>,
 ) -> Result<(), Fail> {
     let ticket = hold(rt, alloc, hub, pass)?;
-    same(rt, poll(rt, alloc, hub, pass, ticket)?, 0, "the first poll");
-    publish(rt, alloc, hub, pass)?;
-    same(
+    assert_found(
         rt,
-        poll(rt, alloc, hub, pass, ticket)?,
-        2,
+        alloc,
+        hub,
+        pass,
+        ticket,
+        Found::Nothing,
+        "the first poll",
+    )?;
+    publish(rt, alloc, hub, pass)?;
+    assert_found(
+        rt,
+        alloc,
+        hub,
+        pass,
+        ticket,
+        Found::Wanted,
         "the second poll",
-    );
-    same(rt, poll(rt, alloc, hub, pass, ticket)?, 0, "the third poll");
+    )?;
+    assert_found(
+        rt,
+        alloc,
+        hub,
+        pass,
+        ticket,
+        Found::Nothing,
+        "the third poll",
+    )?;
     same(rt, hub.sweep(rt, 5), 0, "sweep 5");
     let nowhere = Ticket { shard: 2, ..ticket };
-    same(
+    assert_found(
         rt,
-        poll(rt, alloc, hub, pass, nowhere)?,
-        0,
+        alloc,
+        hub,
+        pass,
+        nowhere,
+        Found::Nothing,
         "a poll of no shard",
-    );
+    )?;
     Ok(())
 }
 
@@ -94,7 +131,15 @@ fn sweeps<J: Naming, P: Placing, G: Gate + Drop, H: Wait + Drop, R: Wait + Abort
     same(rt, hub.sweep(rt, 4), 0, "sweep 4");
     same(rt, hub.sweep(rt, 5), 1, "sweep 5");
     same(rt, hub.sweep(rt, 5), 0, "sweep 5 again");
-    same(rt, poll(rt, alloc, hub, pass, ticket)?, 0, "the first poll");
+    assert_found(
+        rt,
+        alloc,
+        hub,
+        pass,
+        ticket,
+        Found::Nothing,
+        "the first poll",
+    )?;
     Ok(())
 }
 
@@ -196,7 +241,15 @@ fn closed<J: Naming, P: Placing, G: Gate + Drop, H: Wait + Drop, R: Wait + Abort
         let refused = hub.tick(rt, alloc, pass, moment).err();
         same(rt, refused, Some(PostFault::Closed), moment);
     }
-    same(rt, poll(rt, alloc, hub, pass, ticket)?, 2, "the first poll");
+    assert_found(
+        rt,
+        alloc,
+        hub,
+        pass,
+        ticket,
+        Found::Wanted,
+        "the first poll",
+    )?;
     let fault = fault_of(rt, alloc, hub, pass, ticket);
     same(
         rt,
@@ -205,12 +258,15 @@ fn closed<J: Naming, P: Placing, G: Gate + Drop, H: Wait + Drop, R: Wait + Abort
         "the answer that was taken",
     );
     let nowhere = Ticket { shard: 2, ..ticket };
-    same(
+    assert_found(
         rt,
-        poll(rt, alloc, hub, pass, nowhere)?,
-        0,
+        alloc,
+        hub,
+        pass,
+        nowhere,
+        Found::Nothing,
         "a poll of no shard",
-    );
+    )?;
     Ok(())
 }
 

@@ -2,7 +2,7 @@
 ghost use Rattle.std.specs.Prelude.{◌≡◌};
 ghost use Rattle.bx_entry.specs.Placings.{by_remainder};
 
-use crate::calls::{hold, poll, publish};
+use crate::calls::{ANSWER, Found, find, hold, publish};
 use crate::same::same;
 use bx_advice::Config;
 use bx_entry::{ByRemainder, Placing, Ticket};
@@ -66,7 +66,7 @@ fn meet<
     }
 }
 
-// The connect is answered once, with an event.
+// The connect is answered once, with the event that was published and its own reply.
 fn answered<J: Naming, P: Placing, G: Gate + Drop, H: Wait + Drop, R: Wait + Abort>(
     rt: &R,
     alloc: Global,
@@ -74,13 +74,10 @@ fn answered<J: Naming, P: Placing, G: Gate + Drop, H: Wait + Drop, R: Wait + Abo
     pass: &mut Pass<J>,
     ticket: Ticket,
 ) -> Result<(), Fail> {
-    same(rt, poll(rt, alloc, hub, pass, ticket)?, 2, "the first poll");
-    same(
-        rt,
-        poll(rt, alloc, hub, pass, ticket)?,
-        0,
-        "the second poll",
-    );
+    let first = find(rt, alloc, hub, pass, ticket, ANSWER)?;
+    same(rt, first, Found::Wanted, "the first poll");
+    let second = find(rt, alloc, hub, pass, ticket, ANSWER)?;
+    same(rt, second, Found::Nothing, "the second poll");
     Ok(())
 }
 
@@ -92,8 +89,8 @@ fn waits<J: Naming, P: Placing, G: Gate + Drop, H: Wait + Drop, R: Wait + Abort>
     pass: &mut Pass<J>,
 ) -> Result<Ticket, Fail> {
     let ticket = hold(rt, alloc, hub, pass)?;
-    let found = poll(rt, alloc, hub, pass, ticket)?;
-    same(rt, found, 0, "found");
+    let found = find(rt, alloc, hub, pass, ticket, ANSWER)?;
+    same(rt, found, Found::Nothing, "found");
     Ok(ticket)
 }
 

@@ -2,7 +2,7 @@
 ghost use Rattle.std.specs.Prelude.{◌≡◌};
 ghost use Rattle.bx_entry.specs.Placings.{by_remainder};
 
-use crate::calls::{Refused, hold, poll, publish};
+use crate::calls::{ANSWER, Found, Refused, TICKED, find, hold, publish};
 use crate::same::same;
 use bx_advice::Config;
 use bx_entry::{ByRemainder, Placing, Ticket};
@@ -147,7 +147,8 @@ fn answered<J: Naming, P: Placing, G: Gate + Drop, H: Wait + Drop, R: Wait + Abo
         Watched::Ready,
         "a waker behind it",
     );
-    same(rt, poll(rt, alloc, hub, pass, ticket)?, 2, "poll ticket");
+    let found = find(rt, alloc, hub, pass, ticket, ANSWER)?;
+    same(rt, found, Found::Wanted, "found");
     same(
         rt,
         watch_of(rt, hub, ticket, task)?,
@@ -206,8 +207,8 @@ fn ticked<J: Naming, P: Placing, G: Gate + Drop, H: Wait + Drop, R: Wait + Abort
     let place = hub.tick(rt, alloc, pass, 30_000)?.place;
     same(rt, place, 4, "the place of the tick");
     check_woken(rt, waiting);
-    let found = poll(rt, alloc, hub, pass, ticket)?;
-    same(rt, found, 1, "found");
+    let found = find(rt, alloc, hub, pass, ticket, TICKED)?;
+    same(rt, found, Found::Wanted, "found");
     Ok(())
 }
 

@@ -54,23 +54,34 @@ fn admit(alloc: Global, world: &mut World<ByRemainder>, body: &str) -> Result<Ad
     admitted.map_err(|_| Unlike::Wrong("not admitted"))
 }
 
-// Brings the shards up, once more where one was refused memory and the other one alone has come to the end.
+// Brings the shards up, once more where one was refused memory. It says that one is behind then, and none once memory is there, and so it
+// is: the others have come to the end.
 fn bring_up<R: Threads + Sync>(
     rt: &R,
     alloc: Global,
     world: &mut World<ByRemainder>,
 ) -> Result<(), Unlike> {
-    if world.bring_up(rt, alloc, &OpenGate, WorkerCount::one()) == 0 {
+    let behind = world.bring_up(rt, alloc, &OpenGate, WorkerCount::one());
+    if behind.saturating_add(level(alloc, world)) != SHARDS {
+        return Err(Unlike::Wrong("not so many shards are behind"));
+    }
+    if behind == 0 {
         return Ok(());
     }
+    let left = world.bring_up(rt, alloc, &OpenGate, WorkerCount::one());
+    if behind == 1 && left == 0 && level(alloc, world) == SHARDS {
+        return Ok(());
+    }
+    Err(Unlike::Wrong("shards stay behind"))
+}
+
+// How many shards have come to the end. The others go on by an entry.
+fn level(alloc: Global, world: &mut World<ByRemainder>) -> usize {
     let mut level = 0usize;
     for shard in 0..SHARDS {
         if world.apply(alloc, shard) == Applied::Level {
             level = level.saturating_add(1);
         }
     }
-    if level == 1 && world.bring_up(rt, alloc, &OpenGate, WorkerCount::one()) == 0 {
-        return Ok(());
-    }
-    Err(Unlike::Wrong("shards stay behind"))
+    level
 }
