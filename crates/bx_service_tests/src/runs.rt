@@ -265,6 +265,37 @@ const PAUSED: Run = Run {
     ride: false,
 };
 
+// A connect of the second session, which stands in the first shard, is told of the hub's end too.
+const FIRST_SHARD_SHUT: Run = Run {
+    first: &OPENED,
+    held: Some(Held {
+        content: Content::Whole(texts::SECOND_CONNECT),
+        is_late: false,
+        before: &[],
+        then: &[Step::Close],
+        gives: Some((true, Want::Status(503))),
+    }),
+    last: &[],
+    ride: false,
+};
+
+// While the first session's shard is paused, nothing else is refused than what waits for an answer of it.
+const OTHERS_GO_ON: Run = Run {
+    first: &[
+        Step::Post(texts::HANDSHAKE, texts::HANDSHAKEN),
+        Step::Pause,
+        Step::Post(texts::HANDSHAKE, texts::SECOND_HANDSHAKEN),
+        Step::Post(texts::SUBSCRIBE, texts::SUBSCRIBED),
+        PUBLISH,
+        Step::Body(JSON, texts::CONNECT_AT_ONCE, Want::Status(503)),
+        PUBLISH,
+        Step::Post("[]", "[]"),
+    ],
+    held: None,
+    last: &[],
+    ride: false,
+};
+
 // A body that is broken off anywhere is refused, and opens no session.
 const BROKEN_OFF: Run = Run {
     first: &[
@@ -343,7 +374,7 @@ const RIDDEN: Run = Run {
 };
 
 /// All runs.
-pub const RUNS: [Run; 14] = [
+pub const RUNS: [Run; 16] = [
     ANSWERED,
     REFUSED,
     CLOSED,
@@ -353,7 +384,9 @@ pub const RUNS: [Run; 14] = [
     DISCONNECTED,
     TIMED_OUT,
     SHUT,
+    FIRST_SHARD_SHUT,
     PAUSED,
+    OTHERS_GO_ON,
     BROKEN_OFF,
     GIVEN_UP,
     LOST,

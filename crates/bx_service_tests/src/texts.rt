@@ -16,6 +16,10 @@ pub const SUBSCRIBE: &str =
 pub const CONNECT: &str =
     r#"[{"channel":"/meta/connect","clientId":"000000000000000000000000000000000000000000000001","connectionType":"long-polling"}]"#;
 
+/// A connect of the second session, which may be held.
+pub const SECOND_CONNECT: &str =
+    r#"[{"channel":"/meta/connect","clientId":"000000000000000000000000000000000000000000000002","connectionType":"long-polling"}]"#;
+
 /// A connect of the first session that is answered at once.
 pub const CONNECT_AT_ONCE: &str =
     r#"[{"channel":"/meta/connect","clientId":"000000000000000000000000000000000000000000000001","connectionType":"long-polling","advice":{"timeout":0}}]"#;
