@@ -144,7 +144,7 @@ pub fn accepted_while_live()
     ensures { AcceptedWhileLive }
 {}
 
-/// A publish without a client id is of no session: it moves no due moment, and is accepted where the configuration says
+/// A publish without a client id is of no session and no rider: it moves no due moment, and is accepted where the configuration says
 /// so, its channel is a name and it has data.
 pub fn publishes_of_none()
     ensures { PublishesOfNone }

@@ -182,12 +182,13 @@ AcceptedWhileLive = (config : Config) (list : List Listed) (before : List Judged
 abbrev pub entry_without_client : Config → Message → EntryKind
 entry_without_client config m = if config.anonymous && (not (is_some (name_fault m.channel)) && not (is_none m.payload)) then Publish (event_of m) else Refused
 
--- what is found of a publish of no session: the sessions stay as they were, with their due moments, and the message is none of theirs
+-- what is found of a publish of no session: the sessions stay as they were, with their due moments, and the message is none of theirs and no rider
 pub record IsOfNone (config : Config) (m : Message) (r t : Registry) : Type 0 where
   pub found : Judged
   pub judged : t.judged ≡ r.judged ++ found ∷ []
   pub kind : found.entry.kind ≡ entry_without_client config m
   pub sender : found.sender ≡ None
+  pub rides : found.entry.rides ≡ None
   pub sessions : t.sessions ≡ r.sessions
 
 -- a publish without a client id is of no session, whether it is accepted or refused
