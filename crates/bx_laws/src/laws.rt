@@ -1,6 +1,7 @@
 //! Laws that hold for every configuration and every list.
 ghost use Rattle.bx_theory.specs.Laws.{DoneNeverFalls, CountsAgree, EntriesInOrder, AnswersStay, BatchRepeats, NeverGivenAgain, NoEventTwice, GivenOnce, NoRidersUnasked, RidersArePlain};
 ghost use Rattle.bx_theory.specs.Readings.{LiveReading, InForceReading, HeldReading, EndingReading, OverflowReading, QueueBounded, DueReading, ClockReading, SameLive, AcceptedWhileLive, PublishesOfNone, ClosedIsOver};
+ghost use Rattle.bx_theory.specs.Riding.{RiderReading, OthersNeverRide};
 ghost use Rattle.bx_theory.specs.Events.{EventsWerePublished, PublishesAreEvents, EventsRise, GivenWasPublished};
 ghost use Rattle.bx_theory.specs.Lines.{HeldComeLast, InputsGoOn, LinesGoOn};
 ghost use Rattle.bx_theory.specs.Outs.{OutsGrow};
@@ -57,6 +58,18 @@ pub fn no_riders_unasked()
 /// A rider is of a session that does not acknowledge.
 pub fn riders_are_plain()
     ensures { RidersArePlain }
+{}
+
+/// A message is a rider of a session exactly where the configuration says so, the session does not acknowledge, the
+/// message is the last of its request, all of the request are accepted ones of that session and no handshake, and it
+/// is a subscription, an unsubscription or a publish.
+pub fn rider_reading()
+    ensures { RiderReading }
+{}
+
+/// Nothing else rides: no tick, no refused message, and no handshake, connect or disconnect.
+pub fn others_never_ride()
+    ensures { OthersNeverRide }
 {}
 
 /// A session is live from its opening to the first entry that closes it.
