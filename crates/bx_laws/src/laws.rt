@@ -87,7 +87,8 @@ pub fn held_reading()
     ensures { HeldReading }
 {}
 
-/// A held connect is answered at the first entry that ends it.
+/// A held connect is answered at the first entry that ends it: by an event with that event, by a newer connect with an error, by a
+/// disconnect or a tick with success and no event.
 pub fn ending_reading()
     ensures { EndingReading }
 {}
