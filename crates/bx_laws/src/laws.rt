@@ -1,7 +1,7 @@
 //! Laws that hold for every configuration and every list.
 ghost use Rattle.bx_theory.specs.Laws.{DoneNeverFalls, CountsAgree, EntriesInOrder, AnswersStay, BatchRepeats, NeverGivenAgain, NoEventTwice, GivenOnce, NoRidersUnasked, RidersArePlain};
 ghost use Rattle.bx_theory.specs.Readings.{LiveReading, InForceReading, HeldReading, EndingReading, OverflowReading, QueueBounded, DueReading, ClockReading, SameLive, AcceptedWhileLive, PublishesOfNone, ClosedIsOver};
-ghost use Rattle.bx_theory.specs.Riding.{RiderReading, OthersNeverRide};
+ghost use Rattle.bx_theory.specs.Riding.{RiderReading, OthersNeverRide, RiderGiven};
 ghost use Rattle.bx_theory.specs.Events.{EventsWerePublished, PublishesAreEvents, EventsRise, GivenWasPublished};
 ghost use Rattle.bx_theory.specs.Lines.{HeldComeLast, InputsGoOn, LinesGoOn};
 ghost use Rattle.bx_theory.specs.Outs.{OutsGrow};
@@ -70,6 +70,12 @@ pub fn rider_reading()
 /// Nothing else rides: no tick, no refused message, and no handshake, connect or disconnect.
 pub fn others_never_ride()
     ensures { OthersNeverRide }
+{}
+
+/// A rider's one answer has the first of the events that wait behind what its entry does by itself, as many as a batch may
+/// have, and the others wait on.
+pub fn rider_given()
+    ensures { RiderGiven }
 {}
 
 /// A session is live from its opening to the first entry that closes it.

@@ -117,7 +117,7 @@ closed_by_a : (numbers : List ℕ) (s : Session) → (closed_by numbers s).ack �
 closed_by_a numbers s = cond_both (list_any (λ n. n == s.number) numbers) (ended s) s (λ (u : Session). u.ack ≡ s.ack) (λ h. refl) (λ h. refl)
 
 -- opened, whether or not it was closed since
-abbrev WasOpened : Session → Type 0
+abbrev pub WasOpened : Session → Type 0
 WasOpened s = s.stage ≡ Unopened → ⊥
 
 begun_a : (ack : Bool) (s : Session) (stage : Stage) → s.stage ≡ stage → WasOpened s → (begun ack s stage).ack ≡ s.ack
@@ -128,7 +128,7 @@ begun_a ack s Closed h w = refl
 either_a : (b : Bool) (s t : Session) → t.ack ≡ s.ack → (cond b t s).ack ≡ s.ack
 either_a b s t e = cond_both b t s (λ (u : Session). u.ack ≡ s.ack) (λ h. e) (λ h. refl)
 
-step_by_a : (config : Config) (place moment : ℕ) (s : Session) (k : EntryKind) → WasOpened s → (step_by config place moment s k).ack ≡ s.ack
+pub step_by_a : (config : Config) (place moment : ℕ) (s : Session) (k : EntryKind) → WasOpened s → (step_by config place moment s k).ack ≡ s.ack
 step_by_a config place moment s (entries.Opened n ack) w = either_a (n == s.number) s (begun ack s s.stage) (begun_a ack s s.stage refl w)
 step_by_a config place moment s (Connect n client id acked hold) w =
     let p : Pending = record { place = place; client = client; id = id; moment = moment; hold = hold } in either_a (n == s.number) s (connected config p acked s) (connected_a config p acked s)

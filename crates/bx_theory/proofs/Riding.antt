@@ -1,6 +1,6 @@
--- Which messages are riders, over whole requests.
-use Rattle.std.proofs.Common.{◌≡◌, ◌↔◌, ℕ, suc, ◌+◌, ◌<◌, ◌||◌, ne_eqb, max, Bool, true, false, cond, not, ◌&&◌, Option, Some, None, List, [], ◌∷◌, ◌++◌, length, take, drop, flat_map, fold, ◌==◌, refl, sym, ap, ◌∙◌, subst, arith, true≢false, append-nil, append_assoc, eqb-true, eq-eqb}
-use Rattle.std.proofs.lemmas.Bool.{cond_both, cond-false, and_parts, both_ways, not-true}
+-- Which messages are riders, over whole requests, and what a rider is given.
+use Rattle.std.proofs.Common.{min, take-append-drop, length-take, length-drop, ◌≡◌, ◌↔◌, ℕ, suc, ◌+◌, ◌<◌, ◌||◌, ne_eqb, max, Bool, true, false, cond, not, ◌&&◌, Option, Some, None, List, [], ◌∷◌, ◌++◌, length, take, drop, flat_map, fold, ◌==◌, refl, sym, ap, ◌∙◌, subst, arith, true≢false, append-nil, append_assoc, eqb-true, eq-eqb}
+use Rattle.std.proofs.lemmas.Bool.{cond_both, cond-true, cond-false, and_parts, both_ways, not-true}
 use Rattle.std.proofs.lemmas.List.{length_push}
 use Rattle.std.proofs.lemmas.List.Sums.{fold-append}
 use Rattle.std.proofs.Math.Seq.{drop-append_seam, take-append_seam}
@@ -15,16 +15,21 @@ use Rattle.bx_entry.specs.Inputs.{ReadInput, Request, Unread, Tick, added_by}
 use Rattle.bx_entry.specs.Listing.{Listed, Post, Posted, listed_from}
 use Rattle.bx_entry.specs.Listing as messages
 use Rattle.bx_entry.specs.declared.entry.Entry.{Entry}
+use Rattle.bx_entry.specs.declared.entry.Rider.{Rider}
+use Rattle.bx_entry.specs.declared.entry.EntryKind.{EntryKind}
+use Rattle.bx_entry.specs.declared.entry.EntryKind.TheVariants as entries
 use Rattle.bx_entry.specs.declared.senders.Senders.{Senders}
 use Rattle.bx_entry.specs.declared.senders.Senders.TheVariants.{NoneYet, Only, Mixed}
 use Rattle.bx_entry.specs.Registry.{Registry, Registered, Judged, PlaceSlot, Ready, Waiting, NoSlot, is_one, joined, senders_behind, may_ride, is_rider, rider_for, kind_for, slot_for, judge, judged_by, named_by, refusal, hold_of, registry, empty_registry, entries_of, entries, unnamed}
-use Rattle.bx_entry.specs.Sessions.{session}
+use Rattle.bx_entry.specs.Sessions.{Session, Stage, Unopened, Live, is_live, portion, session, step, step_by, rider_of, is_riding, ridden, ridden_by}
 use Rattle.bx_theory.specs.Readings.{is_from, opens_by}
-use Rattle.bx_theory.specs.Riding.{found_behind, is_own, may_have_rider, IsRiderOf, rider_session, RiderReading, OthersNeverRide}
+use Rattle.bx_theory.specs.Riding.{found_behind, is_own, may_have_rider, IsRiderOf, rider_session, RiderReading, OthersNeverRide, GivesRider, RiderGiven}
 use Rattle.bx_theory.proofs.Dues.{EachJudged, each_judged_push, named_session}
 use Rattle.bx_theory.proofs.Lists.{Longer, longer, judged_length}
 use Rattle.bx_theory.proofs.Lives.{found_of}
-use Rattle.bx_theory.proofs.Riders.{acks_later, entries_all}
+use Rattle.bx_theory.proofs.Counts.{rode}
+use Rattle.bx_theory.proofs.Stages.{Next, next_by, step_by_next}
+use Rattle.bx_theory.proofs.Riders.{WasOpened, step_by_a, acks_later, entries_all}
 
 -- ---- the messages of one session
 
@@ -439,3 +444,40 @@ run_unridden config r (x ∷ xs) d =
 
 pub others_never_ride : OthersNeverRide
 others_never_ride config list = entries_all (λ (e : Entry). may_have_rider e.kind ≡ false → e.rides ≡ None) (registry config list).judged (run_unridden config empty_registry list tt)
+
+-- ---- what a rider is given
+
+-- an entry with a rider opens and closes nothing
+rider_stays : (number : ℕ) (stage : Stage) (k : EntryKind) (rides : Option Rider) (rider : Rider) → rider_of k rides ≡ Some rider → next_by number stage k ≡ stage
+rider_stays number stage (entries.Opened n ack) rides rider h = cc
+rider_stays number stage (entries.Connect n client id acked hold) rides rider h = cc
+rider_stays number stage (entries.Subscribe n ps) rides rider h = refl
+rider_stays number stage (entries.Unsubscribe n ps) rides rider h = refl
+rider_stays number stage (entries.Publish e) rides rider h = refl
+rider_stays number stage (entries.Disconnect n) rides rider h = cc
+rider_stays number stage entries.Refused rides rider h = cc
+rider_stays number stage (entries.Tick numbers) rides rider h = cc
+
+-- so many events of the queue
+rode_gives : (most place : ℕ) (rider : Rider) (s : Session) → GivesRider most place rider s (rode (min most (length s.queue)) place rider.reply s)
+rode_gives most place rider s = record {
+  given = take (min most (length s.queue)) s.queue;
+  answers = refl;
+  queue = sym (take-append-drop (min most (length s.queue)) s.queue);
+  count = let l = length-take (min most (length s.queue)) s.queue in omega arith;
+  left = let l = length-drop (min most (length s.queue)) s.queue in omega arith;
+}
+
+pub rider_given : RiderGiven
+rider_given config s e rider rides own live plain =
+    let u : Session = step_by config e.place e.moment s e.kind in
+    let n : Next s e.kind (step_by config e.place e.moment s e.kind) = step_by_next config e.place e.moment s e.kind in
+    let opened : WasOpened s = λ h. (let no : Live ≡ Unopened = sym live ∙ h in cc) in
+    let acks : (step_by config e.place e.moment s e.kind).ack ≡ false = step_by_a config e.place e.moment s e.kind opened ∙ plain in
+    let stage : (step_by config e.place e.moment s e.kind).stage ≡ Live = n.stage ∙ rider_stays s.number s.stage e.kind e.rides rider rides ∙ live in
+    let riding : is_riding rider (step_by config e.place e.moment s e.kind) ≡ true =
+    ap (λ (b : Bool). b && is_live u.stage) (eq-eqb rider.session u.number (own ∙ sym n.number)) ∙ ap is_live stage in
+    let same : step config s e ≡ rode (min config.limits.batch (length (step_by config e.place e.moment s e.kind).queue)) e.place rider.reply (step_by config e.place e.moment s e.kind) =
+    ap (ridden_by config e.place u) rides ∙ cond-true (is_riding rider u) (ridden config e.place rider.reply u) u riding
+    ∙ ap (λ (count : ℕ). rode count e.place rider.reply u) (cond-false u.ack 0 (portion config u) acks) in
+    subst (GivesRider config.limits.batch e.place rider (step_by config e.place e.moment s e.kind)) (sym same) (rode_gives config.limits.batch e.place rider (step_by config e.place e.moment s e.kind))

@@ -1,5 +1,5 @@
 -- Which messages are riders, said of whole requests, and what a rider is given.
-use Rattle.std.specs.Prelude.{ℕ, ◌≡◌, ◌&&◌, ◌↔◌, not, Bool, true, false, List, [], ◌∷◌, ◌++◌, length, take, drop, flat_map, option_map, Option, Some, None}
+use Rattle.std.specs.Prelude.{ℕ, ◌-◌, min, ◌≡◌, ◌&&◌, ◌↔◌, not, Bool, true, false, List, [], ◌∷◌, ◌++◌, length, take, drop, flat_map, option_map, Option, Some, None}
 use Rattle.std.specs.List.{AllByRecursion}
 use Rattle.bx_advice.specs.declared.config.Config.{Config}
 use Rattle.bx_message.specs.declared.message.Message.{Message}
@@ -10,7 +10,7 @@ use Rattle.bx_entry.specs.declared.entry.EntryKind.{EntryKind}
 use Rattle.bx_entry.specs.declared.entry.EntryKind.TheVariants.{Opened, Connect, Subscribe, Unsubscribe, Publish, Disconnect, Refused, Tick}
 use Rattle.bx_entry.specs.declared.entry.Rider.{Rider}
 use Rattle.bx_entry.specs.Registry.{Judged, registry, entries}
-use Rattle.bx_entry.specs.Sessions.{session}
+use Rattle.bx_entry.specs.Sessions.{Session, Publication, Live, session, step, step_by, rider_of}
 use Rattle.bx_theory.specs.Readings.{is_from, opens_by}
 
 -- ---- which messages are riders
@@ -58,3 +58,19 @@ RiderReading = (config : Config) (inputs : List ReadInput) (moment nonce : ℕ) 
 -- No other entry of any list has a rider: no tick, no refused message, and no handshake, connect or disconnect.
 abbrev pub OthersNeverRide : Type 0
 OthersNeverRide = (config : Config) (list : List Listed) → AllByRecursion (λ (e : Entry). may_have_rider e.kind ≡ false → e.rides ≡ None) (entries config list)
+
+-- ---- what a rider is given
+
+-- As many of the events that wait in s as a batch may have, the first of them, are in the one answer that t has more than s, which is the rider's; the
+-- others wait on.
+pub record GivesRider (most place : ℕ) (rider : Rider) (s t : Session) : Type 0 where
+  pub given : List Publication
+  pub answers : t.answers ≡ s.answers ++ record { connect = place; place = place; publications = given; reply = rider.reply } ∷ []
+  pub queue : s.queue ≡ given ++ t.queue
+  pub count : length given ≡ min most (length s.queue)
+  pub left : length t.queue ≡ length s.queue - most
+
+-- So a live session that does not acknowledge answers its rider, behind what the rider's entry does to the session by itself.
+abbrev pub RiderGiven : Type 0
+RiderGiven = (config : Config) (s : Session) (e : Entry) (rider : Rider) → rider_of e.kind e.rides ≡ Some rider → rider.session ≡ s.number → s.stage ≡ Live → s.ack ≡ false →
+    GivesRider config.limits.batch e.place rider (step_by config e.place e.moment s e.kind) (step config s e)
