@@ -6,12 +6,14 @@ use Rattle.bx_advice.specs.declared.config.Config.{Config}
 use Rattle.bx_advice.specs.declared.advice.Outcome.{Outcome}
 use Rattle.bx_advice.specs.declared.advice.Outcome.TheVariants.{Connected, Disconnected, Failed}
 use Rattle.bx_advice.specs.declared.error.Error.TheVariants.{SupersededConnect}
+use Rattle.bx_message.specs.Replies.{connect_reply}
+use Rattle.bx_entry.specs.declared.entry.Entry.{Entry}
 use Rattle.bx_entry.specs.declared.entry.EntryKind.{EntryKind}
 use Rattle.bx_entry.specs.declared.entry.EntryKind.TheVariants.{Connect, Subscribe, Unsubscribe, Publish, Disconnect, Refused, Tick}
 use Rattle.bx_entry.specs.declared.entry.EntryKind.TheVariants as entries
 use Rattle.bx_entry.specs.declared.entry.Rider.{Rider}
-use Rattle.bx_entry.specs.Sessions.{Session, Publication, Pending, Filed, Stage, Unopened, Live, Closed, filing, unheld, released_from, released, connected, subscribed, unsubscribed, with_batch, forgotten, gives_one, with_event, delivered_to, delivered, overflowed, is_hit, has_room, published, expired_from, expired, ended, closed_by, disconnected, begun, step_by, step, ridden_by, rider_of}
-use Rattle.bx_theory.specs.Readings.{ends_by, AnsweredAt, HeldReading, EndingReading}
+use Rattle.bx_entry.specs.Sessions.{Session, Publication, Pending, Filed, Stage, Unopened, Live, Closed, ack_given, filing, unheld, released_from, released, connected, subscribed, unsubscribed, with_batch, forgotten, gives_one, with_event, delivered_to, delivered, overflowed, is_hit, has_room, published, expired_from, expired, ended, closed_by, disconnected, begun, step_by, step, ridden_by, rider_of}
+use Rattle.bx_theory.specs.Readings.{ends_by, ending_events, ending_outcome, HeldReading, EndingReading}
 use Rattle.bx_theory.proofs.Counts.{subscribed_by, ride_both}
 use Rattle.bx_theory.proofs.Keeps.{Keeps, freed_k, ride_k}
 use Rattle.bx_theory.proofs.Closings.{closed_by_held}
@@ -60,70 +62,97 @@ held_reading config s p (e ∷ es) h n = held_reading config (step config s e) p
 
 -- ---- what ends it
 
-released_here : (config : Config) (place : ℕ) (outcome : Outcome) (s : Session) (p : Pending) → s.held ≡ Some p → AnsweredAt p place s (released config place outcome s)
-released_here config place outcome s p h =
-    subst (λ (o : Option Pending). AnsweredAt p place s (released_from config place outcome s o)) (sym h)
-    (record { answer = filing config p place [] outcome (unheld s); others = []; answers = refl; connect = refl; place = refl })
+-- the connect is answered at this place, before anything else, with these events and so
+record Ends (config : Config) (p : Pending) (now : ℕ) (given : List Publication) (outcome : Outcome) (s t : Session) : Type 0 where
+  answer : Filed
+  others : List Filed
+  answers : t.answers ≡ s.answers ++ answer ∷ others
+  connect : answer.connect ≡ p.place
+  place : answer.place ≡ now
+  publications : answer.publications ≡ given
+  reply : answer.reply ≡ connect_reply config p.client p.id outcome (ack_given t.ack t.num outcome)
 
-answered_then : (p : Pending) (now : ℕ) (s t u : Session) → AnsweredAt p now s t → Keeps t u → AnsweredAt p now s u
-answered_then p now s t u a k = record {
+released_here : (config : Config) (place : ℕ) (outcome : Outcome) (s : Session) (p : Pending) → s.held ≡ Some p → Ends config p place [] outcome s (released config place outcome s)
+released_here config place outcome s p h =
+    subst (λ (o : Option Pending). Ends config p place [] outcome s (released_from config place outcome s o)) (sym h)
+    (record { answer = filing config p place [] outcome (unheld s); others = []; answers = refl; connect = refl; place = refl; publications = refl; reply = refl })
+
+answered_then : (config : Config) (p : Pending) (now : ℕ) (given : List Publication) (outcome : Outcome) (s t u : Session) → Ends config p now given outcome s t → Keeps t u →
+    ack_given t.ack t.num outcome ≡ ack_given u.ack u.num outcome → Ends config p now given outcome s u
+answered_then config p now given outcome s t u a k same = record {
   answer = a.answer;
   others = a.others ++ k.more;
   answers = k.answers ∙ ap (λ (fs : List Filed). fs ++ k.more) a.answers ∙ append_assoc s.answers (a.answer ∷ a.others) k.more;
   connect = a.connect;
   place = a.place;
+  publications = a.publications;
+  reply = a.reply ∙ ap (connect_reply config p.client p.id outcome) same;
 }
 
-connected_here : (config : Config) (q : Pending) (acked : Option ℕ) (s : Session) (p : Pending) → s.held ≡ Some p → AnsweredAt p q.place s (connected config q acked s)
-connected_here config q acked s p h = answered_then p q.place s (released config q.place (Failed SupersededConnect) s) (connected config q acked s) (released_here config q.place (Failed SupersededConnect) s p h) (freed_k config q acked s)
+connected_here : (config : Config) (q : Pending) (acked : Option ℕ) (s : Session) (p : Pending) → s.held ≡ Some p → Ends config p q.place [] (Failed SupersededConnect) s (connected config q acked s)
+connected_here config q acked s p h =
+    answered_then config p q.place [] (Failed SupersededConnect) s (released config q.place (Failed SupersededConnect) s) (connected config q acked s)
+    (released_here config q.place (Failed SupersededConnect) s p h) (freed_k config q acked s) refl
 
 one_answers : (s : Session) → (gives_one s).answers ≡ s.answers
 one_answers s = cond_both s.ack (with_batch 1 s) (forgotten 1 s) (λ (u : Session). u.answers ≡ s.answers) (λ h. refl) (λ h. refl)
 
-delivered_here : (config : Config) (e : Publication) (s : Session) (p : Pending) → s.held ≡ Some p → AnsweredAt p e.place s (delivered config e s)
+delivered_here : (config : Config) (e : Publication) (s : Session) (p : Pending) → s.held ≡ Some p → Ends config p e.place (e ∷ []) Connected s (delivered config e s)
 delivered_here config e s p h =
-    subst (λ (o : Option Pending). AnsweredAt p e.place s (delivered_to config e (with_event e s) o)) (sym h)
+    subst (λ (o : Option Pending). Ends config p e.place (e ∷ []) Connected s (delivered_to config e (with_event e s) o)) (sym h)
     (record {
       answer = filing config p e.place (e ∷ []) Connected (gives_one (unheld (with_event e s)));
       others = [];
       answers = ap (λ (fs : List Filed). fs ++ filing config p e.place (e ∷ []) Connected (gives_one (unheld (with_event e s))) ∷ []) (one_answers (unheld (with_event e s)));
       connect = refl;
       place = refl;
+      publications = refl;
+      reply = refl;
     })
 
-published_here : (config : Config) (e : Publication) (s : Session) (p : Pending) → s.held ≡ Some p → (is_hit s e.event && has_room config s) ≡ true → AnsweredAt p e.place s (published config e s)
+published_here : (config : Config) (e : Publication) (s : Session) (p : Pending) → s.held ≡ Some p → (is_hit s e.event && has_room config s) ≡ true → Ends config p e.place (e ∷ []) Connected s (published config e s)
 published_here config e s p h n =
     let a = and_parts (is_hit s e.event) (has_room config s) n in
-    subst (AnsweredAt p e.place s) (sym (cond-true (is_hit s e.event) (cond (has_room config s) (delivered config e s) (overflowed s)) s a.0 ∙ cond-true (has_room config s) (delivered config e s) (overflowed s) a.1))
+    subst (Ends config p e.place (e ∷ []) Connected s) (sym (cond-true (is_hit s e.event) (cond (has_room config s) (delivered config e s) (overflowed s)) s a.0 ∙ cond-true (has_room config s) (delivered config e s) (overflowed s) a.1))
     (delivered_here config e s p h)
 
-ended_here : (p : Pending) (now : ℕ) (s t : Session) → AnsweredAt p now s t → AnsweredAt p now s (ended t)
-ended_here p now s t a = record { answer = a.answer; others = a.others; answers = a.answers; connect = a.connect; place = a.place }
+ended_here : (config : Config) (p : Pending) (now : ℕ) (given : List Publication) (outcome : Outcome) (s t : Session) → Ends config p now given outcome s t → Ends config p now given outcome s (ended t)
+ended_here config p now given outcome s t a =
+    record { answer = a.answer; others = a.others; answers = a.answers; connect = a.connect; place = a.place; publications = a.publications; reply = a.reply }
 
-closed_by_here : (p : Pending) (now : ℕ) (numbers : List ℕ) (s t : Session) → AnsweredAt p now s t → AnsweredAt p now s (closed_by numbers t)
-closed_by_here p now numbers s t a = cond_both (list_any (λ n. n == t.number) numbers) (ended t) t (AnsweredAt p now s) (λ h. ended_here p now s t a) (λ h. a)
+closed_by_here : (config : Config) (p : Pending) (now : ℕ) (given : List Publication) (outcome : Outcome) (numbers : List ℕ) (s t : Session) → Ends config p now given outcome s t → Ends config p now given outcome s (closed_by numbers t)
+closed_by_here config p now given outcome numbers s t a =
+    cond_both (list_any (λ n. n == t.number) numbers) (ended t) t (Ends config p now given outcome s) (λ h. ended_here config p now given outcome s t a) (λ h. a)
 
-expired_here : (config : Config) (place moment : ℕ) (s : Session) (p : Pending) → s.held ≡ Some p → nat_le (p.moment + p.hold) moment ≡ true → AnsweredAt p place s (expired config place moment s)
+expired_here : (config : Config) (place moment : ℕ) (s : Session) (p : Pending) → s.held ≡ Some p → nat_le (p.moment + p.hold) moment ≡ true → Ends config p place [] Connected s (expired config place moment s)
 expired_here config place moment s p h n =
-    subst (λ (o : Option Pending). AnsweredAt p place s (expired_from config place moment s o)) (sym h)
-    (subst (AnsweredAt p place s) (sym (cond-true (nat_le (p.moment + p.hold) moment) (released config place Connected s) s n)) (released_here config place Connected s p h))
+    subst (λ (o : Option Pending). Ends config p place [] Connected s (expired_from config place moment s o)) (sym h)
+    (subst (Ends config p place [] Connected s) (sym (cond-true (nat_le (p.moment + p.hold) moment) (released config place Connected s) s n)) (released_here config place Connected s p h))
 
-taken_here : (p : Pending) (now : ℕ) (b : Bool) (s t : Session) → b ≡ true → AnsweredAt p now s t → AnsweredAt p now s (cond b t s)
-taken_here p now b s t e a = subst (AnsweredAt p now s) (sym (cond-true b t s e)) a
+taken_here : (config : Config) (p : Pending) (now : ℕ) (given : List Publication) (outcome : Outcome) (b : Bool) (s t : Session) → b ≡ true → Ends config p now given outcome s t → Ends config p now given outcome s (cond b t s)
+taken_here config p now given outcome b s t e a = subst (Ends config p now given outcome s) (sym (cond-true b t s e)) a
 
-step_by_here : (config : Config) (place moment : ℕ) (s : Session) (p : Pending) (k : EntryKind) → s.held ≡ Some p → ends_by config s p moment k ≡ true → AnsweredAt p place s (step_by config place moment s k)
-step_by_here config place moment s p (entries.Opened n ack) h e = cc
-step_by_here config place moment s p (Connect n client id acked hold) h e =
-    let q : Pending = record { place = place; client = client; id = id; moment = moment; hold = hold } in taken_here p place (n == s.number) s (connected config q acked s) e (connected_here config q acked s p h)
-step_by_here config place moment s p (Subscribe n ps) h e = cc
-step_by_here config place moment s p (Unsubscribe n ps) h e = cc
-step_by_here config place moment s p (Publish v) h e = published_here config (record { place = place; event = v }) s p h e
-step_by_here config place moment s p (Disconnect n) h e = taken_here p place (n == s.number) s (disconnected config place s) e (ended_here p place s (released config place Disconnected s) (released_here config place Disconnected s p h))
-step_by_here config place moment s p Refused h e = cc
-step_by_here config place moment s p (Tick numbers) h e = closed_by_here p place numbers s (expired config place moment s) (expired_here config place moment s p h e)
+step_by_here : (config : Config) (e : Entry) (s : Session) (p : Pending) (k : EntryKind) → s.held ≡ Some p → ends_by config s p e.moment k ≡ true →
+    Ends config p e.place (ending_events e.place k) (ending_outcome k) s (step_by config e.place e.moment s k)
+step_by_here config e s p (entries.Opened n ack) h d = cc
+step_by_here config e s p (Connect n client id acked hold) h d =
+    let q : Pending = record { place = e.place; client = client; id = id; moment = e.moment; hold = hold } in
+    taken_here config p e.place [] (Failed SupersededConnect) (n == s.number) s (connected config q acked s) d (connected_here config q acked s p h)
+step_by_here config e s p (Subscribe n ps) h d = cc
+step_by_here config e s p (Unsubscribe n ps) h d = cc
+step_by_here config e s p (Publish v) h d = published_here config (record { place = e.place; event = v }) s p h d
+step_by_here config e s p (Disconnect n) h d =
+    taken_here config p e.place [] Disconnected (n == s.number) s (disconnected config e.place s) d
+    (ended_here config p e.place [] Disconnected s (released config e.place Disconnected s) (released_here config e.place Disconnected s p h))
+step_by_here config e s p Refused h d = cc
+step_by_here config e s p (Tick numbers) h d = closed_by_here config p e.place [] Connected numbers s (expired config e.place e.moment s) (expired_here config e.place e.moment s p h d)
 
 pub ending_reading : EndingReading
 ending_reading config s p es e h n d =
     let t : Session = fold (step config) s es in
     let u : Session = step_by config e.place e.moment t e.kind in
-    answered_then p e.place t u (ridden_by config e.place u (rider_of e.kind e.rides)) (step_by_here config e.place e.moment t p e.kind (held_reading config s p es h n) d) (ride_k config e.place u (rider_of e.kind e.rides))
+    let o : Outcome = ending_outcome e.kind in
+    let a : Ends config p e.place (ending_events e.place e.kind) (ending_outcome e.kind) (fold (step config) s es) (step config (fold (step config) s es) e) =
+    answered_then config p e.place (ending_events e.place e.kind) o t u (ridden_by config e.place u (rider_of e.kind e.rides)) (step_by_here config e t p e.kind (held_reading config s p es h n) d) (ride_k config e.place u (rider_of e.kind e.rides))
+    (ride_both config e.place u (rider_of e.kind e.rides) (λ (v : Session). ack_given u.ack u.num o ≡ ack_given v.ack v.num o) refl (λ rider g. refl)) in
+    record { answer = a.answer; others = a.others; answers = a.answers; connect = a.connect; place = a.place; publications = a.publications; reply = a.reply }

@@ -221,3 +221,15 @@ abbrev pub ridden_hold : List ReadInput
 ridden_hold =
     post 0 (handshake ∷ []) ∷ post 0 (subscribe 1 (codes "/a/*") ∷ []) ∷ post 0 (connect 1 ∷ [])
     ∷ post 0 (publish 1 (codes "/a/x") (codes "1") ∷ publish 1 (codes "/a/y") (codes "2") ∷ []) ∷ []
+
+-- these messages and then a publish of the first session, which subscribes, in one request; then its connect
+abbrev pub ridden_behind : List Message → List ReadInput
+ridden_behind ms =
+    post 0 (handshake ∷ []) ∷ post 0 (handshake ∷ []) ∷ post 0 (subscribe 1 (codes "/a/*") ∷ [])
+    ∷ post 0 (ms ++ publish 1 (codes "/a/x") (codes "1") ∷ []) ∷ post 0 (connect_now 1 ∷ []) ∷ []
+
+-- the event of that publish waits for the connect
+abbrev pub waits_behind : List Item → List Out
+waits_behind items =
+    out 0 (handshaken 1 ∷ []) ∷ out 1 (handshaken 2 ∷ []) ∷ out 2 (subscribed 1 (codes "/a/*") ∷ [])
+    ∷ out 3 (items ++ published (codes "/a/x") ∷ []) ∷ out 4 (event (codes "/a/x") (codes "1") ∷ connected 1 ∷ []) ∷ []

@@ -18,7 +18,7 @@ use Rattle.bx_entry.specs.Inputs.{Unread}
 use Rattle.bx_advice.specs.declared.error.Error.TheVariants.{UnknownConnectionType, InvalidPattern, TooManyPatterns}
 use Rattle.bx_message.specs.Texts.{callback_text}
 use Rattle.bx_entry.specs.Runs.{outs, held}
-use Rattle.bx_laws.specs.Samples.{ack_connect, blank, id_of, versioned, handshake, ack_handshake, connect, connect_now, ack_connect_now, in_quotes, subscribe, unsubscribe, disconnect, publish, post, standard, reply, handshaken, ack_handshaken, connected_as, connected, ack_connected, subscribed, unsubscribed, disconnected, published, unknown_client, event, out, subscribe_all, subscribed_all, match_all, two_connects, held_with_ack, small, failed, four_batches, full_batch, texts, refused_messages, mixed, mixed_failed, crowded, anonymous, open_to_all, ridden_publishes, ridden_hold, riding}
+use Rattle.bx_laws.specs.Samples.{ack_connect, blank, id_of, versioned, handshake, ack_handshake, connect, connect_now, ack_connect_now, in_quotes, subscribe, unsubscribe, disconnect, publish, post, standard, reply, handshaken, ack_handshaken, connected_as, connected, ack_connected, subscribed, unsubscribed, disconnected, published, unknown_client, event, out, subscribe_all, subscribed_all, match_all, two_connects, held_with_ack, small, failed, four_batches, full_batch, texts, refused_messages, mixed, mixed_failed, crowded, anonymous, open_to_all, ridden_publishes, ridden_hold, ridden_behind, waits_behind, riding}
 use Rattle.bx_advice.specs.declared.error.Error.TheVariants.{TooManySessions}
 use Rattle.std.specs.Prelude.{◌++◌, map}
 use Rattle.bx_script.specs.Replay.{lines_of, line_of, Bad, Rejected, Accepted, Resharded, inputs_from, printed}
@@ -169,6 +169,26 @@ NothingRides =
     ∷ out 7 (published (codes "/a/w") ∷ [])
     ∷ out 8 (event (codes "/a/x") (codes "1") ∷ event (codes "/a/y") (codes "3") ∷ event (codes "/a/z") (codes "5") ∷ event (codes "/a/w") (codes "8") ∷ connected 1 ∷ [])
     ∷ out 9 (disconnected 1 ∷ []) ∷ []
+
+-- nothing rides in a request with a refused message,
+abbrev pub NothingRidesBehindRefused : Type 0
+NothingRidesBehindRefused =
+    outs riding (ridden_behind (publish 1 (codes "/a/*") (codes "0") ∷ [])) ≡ waits_behind (failed MessageKind.Publish (codes "/a/*") None InvalidChannel ∷ [])
+
+-- nor with a publish of no session,
+abbrev pub NothingRidesBehindSessionless : Type 0
+NothingRidesBehindSessionless =
+    outs riding (ridden_behind (anonymous (codes "/b") (codes "0") ∷ [])) ≡ waits_behind (published (codes "/b") ∷ [])
+
+-- nor with a handshake,
+abbrev pub NothingRidesBehindHandshake : Type 0
+NothingRidesBehindHandshake =
+    outs riding (ridden_behind (handshake ∷ [])) ≡ waits_behind (handshaken 3 ∷ [])
+
+-- nor where the session's messages stand round another one's
+abbrev pub NothingRidesBehindTwo : Type 0
+NothingRidesBehindTwo =
+    outs riding (ridden_behind (publish 1 (codes "/b") (codes "0") ∷ publish 2 (codes "/b") (codes "0") ∷ [])) ≡ waits_behind (published (codes "/b") ∷ published (codes "/b") ∷ [])
 
 -- ---- batches, until they are acknowledged
 

@@ -1,6 +1,7 @@
 //! Laws that hold for every configuration and every list.
 ghost use Rattle.bx_theory.specs.Laws.{DoneNeverFalls, CountsAgree, EntriesInOrder, AnswersStay, BatchRepeats, NeverGivenAgain, NoEventTwice, GivenOnce, NoRidersUnasked, RidersArePlain};
 ghost use Rattle.bx_theory.specs.Readings.{LiveReading, InForceReading, HeldReading, EndingReading, OverflowReading, QueueBounded, DueReading, ClockReading, SameLive, AcceptedWhileLive, PublishesOfNone, ClosedIsOver};
+ghost use Rattle.bx_theory.specs.Riding.{RiderReading, OthersNeverRide, RiderGiven};
 ghost use Rattle.bx_theory.specs.Events.{EventsWerePublished, PublishesAreEvents, EventsRise, GivenWasPublished};
 ghost use Rattle.bx_theory.specs.Lines.{HeldComeLast, InputsGoOn, LinesGoOn};
 ghost use Rattle.bx_theory.specs.Outs.{OutsGrow};
@@ -59,6 +60,24 @@ pub fn riders_are_plain()
     ensures { RidersArePlain }
 {}
 
+/// A message is a rider of a session exactly where the configuration says so, the session does not acknowledge, the
+/// message is the last of its request, all of the request are accepted ones of that session and no handshake, and it
+/// is a subscription, an unsubscription or a publish.
+pub fn rider_reading()
+    ensures { RiderReading }
+{}
+
+/// Nothing else rides: no tick, no refused message, and no handshake, connect or disconnect.
+pub fn others_never_ride()
+    ensures { OthersNeverRide }
+{}
+
+/// A rider's one answer has the first of the events that wait behind what its entry does by itself, as many as a batch may
+/// have, and the others wait on.
+pub fn rider_given()
+    ensures { RiderGiven }
+{}
+
 /// A session is live from its opening to the first entry that closes it.
 pub fn live_reading()
     ensures { LiveReading }
@@ -74,7 +93,8 @@ pub fn held_reading()
     ensures { HeldReading }
 {}
 
-/// A held connect is answered at the first entry that ends it.
+/// A held connect is answered at the first entry that ends it: by an event with that event, by a newer connect with an error, by a
+/// disconnect or a tick with success and no event.
 pub fn ending_reading()
     ensures { EndingReading }
 {}
@@ -144,7 +164,7 @@ pub fn accepted_while_live()
     ensures { AcceptedWhileLive }
 {}
 
-/// A publish without a client id is of no session: it moves no due moment, and is accepted where the configuration says
+/// A publish without a client id is of no session and no rider: it moves no due moment, and is accepted where the configuration says
 /// so, its channel is a name and it has data.
 pub fn publishes_of_none()
     ensures { PublishesOfNone }

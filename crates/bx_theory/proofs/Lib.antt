@@ -25,3 +25,4 @@ pub mod AtOnce
 pub mod Sole
 pub mod Ascending
 pub mod Riders
+pub mod Riding

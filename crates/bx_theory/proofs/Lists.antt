@@ -149,6 +149,17 @@ places_above first n (e ∷ es) h d = (omega (arith, d.0), places_above first (n
 pub judged_length : (config : Config) (xs : List Listed) → length (registry config xs).judged ≡ length xs
 judged_length config xs = let j : Judges (length xs) empty_registry (registry config xs) = judges config empty_registry xs in ap length j.judged ∙ j.many
 
+-- what is judged over a longer list begins with what is judged over the shorter one
+pub record Longer (config : Config) (ys zs : List Listed) : Type 0 where
+  pub more : List Judged
+  pub judged : (registry config (ys ++ zs)).judged ≡ (registry config ys).judged ++ more
+  pub many : length more ≡ length zs
+
+pub longer : (config : Config) (ys zs : List Listed) → Longer config ys zs
+longer config ys zs =
+    let j : Judges (length zs) (registry config ys) (registry config (ys ++ zs)) = subst (Judges (length zs) (registry config ys)) (sym (fold-append (judge config) empty_registry ys zs)) (judges config (registry config ys) zs) in
+    record { more = j.more; judged = j.judged; many = j.many }
+
 -- the first entries are those of the first elements
 pub entries_within : (config : Config) (list : List Listed) (n : ℕ) → n ≤ length list → entries_of (registry config (take n list)) ≡ take n (entries_of (registry config list))
 entries_within config list n h =

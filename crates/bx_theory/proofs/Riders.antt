@@ -1,6 +1,7 @@
 -- Riders, where they are.
 use Rattle.std.proofs.Common.{◌≡◌, ℕ, ◌+◌, ◌<◌, max, Bool, true, false, cond, not, ◌&&◌, Option, Some, None, List, [], ◌∷◌, ◌++◌, length, map, fold, nat_le, ◌==◌, refl, sym, ap, ◌∙◌, subst, arith, true≢false, ⊎_elim, append-nil, append_assoc, eqb-true, eq-eqb}
 use Rattle.std.proofs.lemmas.Bool.{cond_both, cond-true, and_parts, not-true}
+use Rattle.std.proofs.lemmas.List.{map-append}
 use Rattle.std.proofs.lemmas.List.Sums.{fold-append}
 use Rattle.std.specs.List.{list_any}
 use Rattle.bx_lists.proofs.Tests.{either}
@@ -29,6 +30,7 @@ use Rattle.bx_theory.proofs.Once.{formed_acks}
 use Rattle.bx_theory.proofs.Stages.{step_number, step_next, next_opened, next_unopened}
 use Rattle.bx_theory.proofs.Closings.{run_number}
 use Rattle.bx_theory.proofs.Dues.{EachJudged, each_judged_push, each_judged_map, each_session_map, each_session_push, each_session_through, left_each, named_session}
+use Rattle.bx_theory.proofs.Lists.{Longer, longer}
 use Rattle.bx_theory.proofs.Lives.{found_of, opened_later, entries_push}
 
 -- ---- none is there unasked
@@ -68,7 +70,7 @@ run_none config r (x ∷ xs) h d =
     run_none config (judge config r x) xs h (subst (EachJudged (λ j. j.entry.rides ≡ None)) (sym a.judged) (each_judged_push (λ j. j.entry.rides ≡ None) r.judged a.found d a.none))
 
 -- what holds of each entry
-entries_all : (P : Entry → Type 0) (js : List Judged) → EachJudged (λ j. P j.entry) js → AllByRecursion P (map (λ (j : Judged). j.entry) js)
+pub entries_all : (P : Entry → Type 0) (js : List Judged) → EachJudged (λ j. P j.entry) js → AllByRecursion P (map (λ (j : Judged). j.entry) js)
 entries_all P [] d = tt
 entries_all P (j ∷ js) d = (d.0, entries_all P js d.1)
 
@@ -115,7 +117,7 @@ closed_by_a : (numbers : List ℕ) (s : Session) → (closed_by numbers s).ack �
 closed_by_a numbers s = cond_both (list_any (λ n. n == s.number) numbers) (ended s) s (λ (u : Session). u.ack ≡ s.ack) (λ h. refl) (λ h. refl)
 
 -- opened, whether or not it was closed since
-abbrev WasOpened : Session → Type 0
+abbrev pub WasOpened : Session → Type 0
 WasOpened s = s.stage ≡ Unopened → ⊥
 
 begun_a : (ack : Bool) (s : Session) (stage : Stage) → s.stage ≡ stage → WasOpened s → (begun ack s stage).ack ≡ s.ack
@@ -126,7 +128,7 @@ begun_a ack s Closed h w = refl
 either_a : (b : Bool) (s t : Session) → t.ack ≡ s.ack → (cond b t s).ack ≡ s.ack
 either_a b s t e = cond_both b t s (λ (u : Session). u.ack ≡ s.ack) (λ h. e) (λ h. refl)
 
-step_by_a : (config : Config) (place moment : ℕ) (s : Session) (k : EntryKind) → WasOpened s → (step_by config place moment s k).ack ≡ s.ack
+pub step_by_a : (config : Config) (place moment : ℕ) (s : Session) (k : EntryKind) → WasOpened s → (step_by config place moment s k).ack ≡ s.ack
 step_by_a config place moment s (entries.Opened n ack) w = either_a (n == s.number) s (begun ack s s.stage) (begun_a ack s s.stage refl w)
 step_by_a config place moment s (Connect n client id acked hold) w =
     let p : Pending = record { place = place; client = client; id = id; moment = moment; hold = hold } in either_a (n == s.number) s (connected config p acked s) (connected_a config p acked s)
@@ -284,6 +286,20 @@ knows_from config ys [] k = subst (λ (zs : List Listed). Knows config (registry
 knows_from config ys (x ∷ xs) k =
     subst (λ (zs : List Listed). Knows config (registry config zs)) (append_assoc ys (x ∷ []) xs)
     (knows_from config (ys ++ x ∷ []) xs (subst (Knows config) (sym (fold-append (judge config) empty_registry ys (x ∷ []))) (judge_knows config ys x k)))
+
+acks_more : (config : Config) (es fs : List Entry) (number : ℕ) (ack : Bool) → Acks config es number ack → Acks config (es ++ fs) number ack
+acks_more config es [] number ack k = subst (λ (xs : List Entry). Acks config xs number ack) (sym (append-nil es)) k
+acks_more config es (f ∷ fs) number ack k = subst (λ (xs : List Entry). Acks config xs number ack) (append_assoc es (f ∷ []) fs) (acks_more config (es ++ f ∷ []) fs number ack (acks_on config es f number ack k))
+
+-- over any longer list a session that was opened acknowledges where the registry says so
+pub acks_later : (config : Config) (ys zs : List Listed) → EachSession (λ s. (session config s.number (entries_of (registry config (ys ++ zs)))).ack ≡ s.ack) (registry config ys).sessions
+acks_later config ys zs =
+    let r : Registry = registry config ys in
+    let k : Knows config (registry config ys) = knows_from config [] ys (record { sessions = tt; riders = tt }) in
+    let l : Longer config ys zs = longer config ys zs in
+    let more : entries_of (registry config (ys ++ zs)) ≡ entries_of r ++ map (λ (j : Judged). j.entry) l.more = ap (map (λ (j : Judged). j.entry)) l.judged ∙ map-append (λ (j : Judged). j.entry) r.judged l.more in
+    each_session_map (λ s. Acks config (entries_of r) s.number s.ack) (λ s. (session config s.number (entries_of (registry config (ys ++ zs)))).ack ≡ s.ack) r.sessions
+    (λ s a. ap (λ (es : List Entry). (session config s.number es).ack) more ∙ (acks_more config (entries_of r) (map (λ (j : Judged). j.entry) l.more) s.number s.ack a).same) k.sessions
 
 plain_of : (config : Config) (es : List Entry) (rides : Option Rider) → RiderOf config es rides → RidesPlain config es rides
 plain_of config es None k = tt

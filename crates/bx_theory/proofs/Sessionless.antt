@@ -21,6 +21,7 @@ record IsOf (taken faulty empty : Bool) (m : Message) (r t : Registry) : Type 0 
   judged : t.judged ≡ r.judged ++ found ∷ []
   kind : found.entry.kind ≡ cond (taken && (not faulty && not empty)) (Publish (event_of m)) Refused
   sender : found.sender ≡ None
+  rides : found.entry.rides ≡ None
   sessions : t.sessions ≡ r.sessions
 
 -- what refuses it
@@ -29,12 +30,12 @@ fault_by taken faulty empty = first_case ((not taken && true, NoClientId) ∷ (n
 
 by : (config : Config) (r : Registry) (moment : ℕ) (p : Posted) → is_handshake p.message ≡ false → message_kind_of p.message.channel ≡ MessageKind.Publish → (taken faulty empty : Bool) →
     IsOf taken faulty empty p.message r (judged_by config r moment p None (fault_by taken faulty empty))
-by config r moment p other is false faulty empty = record { found = _; judged = refl; kind = refl; sender = refl; sessions = refl }
-by config r moment p other is true true empty = record { found = _; judged = refl; kind = refl; sender = refl; sessions = refl }
-by config r moment p other is true false true = record { found = _; judged = refl; kind = refl; sender = refl; sessions = refl }
+by config r moment p other is false faulty empty = record { found = _; judged = refl; kind = refl; sender = refl; rides = refl; sessions = refl }
+by config r moment p other is true true empty = record { found = _; judged = refl; kind = refl; sender = refl; rides = refl; sessions = refl }
+by config r moment p other is true false true = record { found = _; judged = refl; kind = refl; sender = refl; rides = refl; sessions = refl }
 by config r moment p other is true false false =
     subst (λ (b : Bool). IsOf true false false p.message r (unnamed config r moment p b)) (sym other)
-    (record { found = _; judged = refl; kind = ap (λ (c : MessageKind). sessionless_kind c p.message) is; sender = refl; sessions = refl })
+    (record { found = _; judged = refl; kind = ap (λ (c : MessageKind). sessionless_kind c p.message) is; sender = refl; rides = refl; sessions = refl })
 
 opens_not : (b : Bool) (c : MessageKind) → cond b MessageKind.Handshake c ≡ MessageKind.Publish → b ≡ false
 opens_not true c h = cc
@@ -58,4 +59,4 @@ pub publishes_of_none : PublishesOfNone
 publishes_of_none config list p is absent =
     let a = judged_of_none config (registry config list) p is absent in
     let next : registry config (list ++ Post p ∷ []) ≡ judge config (registry config list) (Post p) = fold-append (judge config) empty_registry list (Post p ∷ []) in
-    subst (IsOfNone config p.message (registry config list)) (sym next) (record { found = a.found; judged = a.judged; kind = a.kind; sender = a.sender; sessions = a.sessions })
+    subst (IsOfNone config p.message (registry config list)) (sym next) (record { found = a.found; judged = a.judged; kind = a.kind; sender = a.sender; rides = a.rides; sessions = a.sessions })

@@ -5,3 +5,4 @@ pub mod Outs
 pub mod Lines
 pub mod Opens
 pub mod Sole
+pub mod Riding

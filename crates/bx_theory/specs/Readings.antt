@@ -4,6 +4,10 @@ use Rattle.std.specs.List.{list_any}
 use Rattle.bx_names.specs.Faults.{name_fault}
 use Rattle.bx_names.specs.Globs.{Glob}
 use Rattle.bx_advice.specs.declared.config.Config.{Config}
+use Rattle.bx_advice.specs.declared.advice.Outcome.{Outcome}
+use Rattle.bx_advice.specs.declared.advice.Outcome.TheVariants.{Connected, Disconnected, Failed}
+use Rattle.bx_advice.specs.declared.error.Error.TheVariants.{SupersededConnect}
+use Rattle.bx_message.specs.Replies.{connect_reply}
 use Rattle.bx_message.specs.declared.message.Message.{Message}
 use Rattle.bx_message.specs.declared.message.TextMember.TheVariants.{Absent}
 use Rattle.bx_message.specs.declared.message_kind.MessageKind.{MessageKind}
@@ -15,7 +19,7 @@ use Rattle.bx_entry.specs.declared.entry.EntryKind.{EntryKind}
 use Rattle.bx_entry.specs.declared.entry.EntryKind.TheVariants.{Opened, Connect, Subscribe, Unsubscribe, Publish, Disconnect, Refused, Tick}
 use Rattle.bx_entry.specs.Registry.{Registered, Registry, Judged, event_of, registry, entries_of, entries}
 use Rattle.bx_names.specs.InForce.{in_force, with_pattern}
-use Rattle.bx_entry.specs.Sessions.{Session, Pending, Filed, is_live, is_hit, has_room, pending_count, step, session, Closed}
+use Rattle.bx_entry.specs.Sessions.{Session, Pending, Filed, Publication, ack_given, is_live, is_hit, has_room, pending_count, step, session, Closed}
 
 -- ---- live: opened, and not closed since
 
@@ -104,22 +108,46 @@ abbrev pub NoneEnds : Config → Pending → Session → List Entry → Type 0
 NoneEnds config p s [] = ⊤
 NoneEnds config p s (e ∷ es) = (ends config s p e ≡ false) × NoneEnds config p (step config s e) es
 
--- the connect is answered at this place, before anything else
-pub record AnsweredAt (p : Pending) (now : ℕ) (s t : Session) : Type 0 where
+-- the events that a held connect is given by the entry that ends its hold: that of a publish, and else none
+abbrev pub ending_events : ℕ → EntryKind → List Publication
+ending_events place (Opened n ack) = []
+ending_events place (Connect n client id acked hold) = []
+ending_events place (Subscribe n ps) = []
+ending_events place (Unsubscribe n ps) = []
+ending_events place (Publish event) = record { place = place; event = event } ∷ []
+ending_events place (Disconnect n) = []
+ending_events place Refused = []
+ending_events place (Tick numbers) = []
+
+-- and how it is answered: with an error where a newer connect came, as the last one where the session leaves, else with success
+abbrev pub ending_outcome : EntryKind → Outcome
+ending_outcome (Opened n ack) = Connected
+ending_outcome (Connect n client id acked hold) = Failed SupersededConnect
+ending_outcome (Subscribe n ps) = Connected
+ending_outcome (Unsubscribe n ps) = Connected
+ending_outcome (Publish event) = Connected
+ending_outcome (Disconnect n) = Disconnected
+ending_outcome Refused = Connected
+ending_outcome (Tick numbers) = Connected
+
+-- the connect is answered at the entry's place, before anything else, with these events and so, and with the number of the last batch formed
+pub record AnsweredAt (config : Config) (p : Pending) (e : Entry) (s t : Session) : Type 0 where
   pub answer : Filed
   pub others : List Filed
   pub answers : t.answers ≡ s.answers ++ answer ∷ others
   pub connect : answer.connect ≡ p.place
-  pub place : answer.place ≡ now
+  pub place : answer.place ≡ e.place
+  pub publications : answer.publications ≡ ending_events e.place e.kind
+  pub reply : answer.reply ≡ connect_reply config p.client p.id (ending_outcome e.kind) (ack_given t.ack t.num (ending_outcome e.kind))
 
 -- a held connect stays held as long as no entry ends it
 abbrev pub HeldReading : Type 0
 HeldReading = (config : Config) (s : Session) (p : Pending) (es : List Entry) → s.held ≡ Some p → NoneEnds config p s es → (fold (step config) s es).held ≡ Some p
 
--- and is answered at the first entry that does
+-- and is answered at the first entry that does, as that entry ends it
 abbrev pub EndingReading : Type 0
 EndingReading = (config : Config) (s : Session) (p : Pending) (es : List Entry) (e : Entry) → s.held ≡ Some p → NoneEnds config p s es →
-    ends config (fold (step config) s es) p e ≡ true → AnsweredAt p e.place (fold (step config) s es) (step config (fold (step config) s es) e)
+    ends config (fold (step config) s es) p e ≡ true → AnsweredAt config p e (fold (step config) s es) (step config (fold (step config) s es) e)
 
 -- ---- overflow: some earlier entry found no room
 
@@ -182,12 +210,13 @@ AcceptedWhileLive = (config : Config) (list : List Listed) (before : List Judged
 abbrev pub entry_without_client : Config → Message → EntryKind
 entry_without_client config m = if config.anonymous && (not (is_some (name_fault m.channel)) && not (is_none m.payload)) then Publish (event_of m) else Refused
 
--- what is found of a publish of no session: the sessions stay as they were, with their due moments, and the message is none of theirs
+-- what is found of a publish of no session: the sessions stay as they were, with their due moments, and the message is none of theirs and no rider
 pub record IsOfNone (config : Config) (m : Message) (r t : Registry) : Type 0 where
   pub found : Judged
   pub judged : t.judged ≡ r.judged ++ found ∷ []
   pub kind : found.entry.kind ≡ entry_without_client config m
   pub sender : found.sender ≡ None
+  pub rides : found.entry.rides ≡ None
   pub sessions : t.sessions ≡ r.sessions
 
 -- a publish without a client id is of no session, whether it is accepted or refused

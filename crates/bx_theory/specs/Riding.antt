@@ -1,0 +1,76 @@
+-- Which messages are riders, said of whole requests, and what a rider is given.
+use Rattle.std.specs.Prelude.{ℕ, ◌-◌, min, ◌≡◌, ◌&&◌, ◌↔◌, not, Bool, true, false, List, [], ◌∷◌, ◌++◌, length, take, drop, flat_map, option_map, Option, Some, None}
+use Rattle.std.specs.List.{AllByRecursion}
+use Rattle.bx_advice.specs.declared.config.Config.{Config}
+use Rattle.bx_message.specs.declared.message.Message.{Message}
+use Rattle.bx_entry.specs.Inputs.{ReadInput, Request, added_by}
+use Rattle.bx_entry.specs.Listing.{Listed}
+use Rattle.bx_entry.specs.declared.entry.Entry.{Entry}
+use Rattle.bx_entry.specs.declared.entry.EntryKind.{EntryKind}
+use Rattle.bx_entry.specs.declared.entry.EntryKind.TheVariants.{Opened, Connect, Subscribe, Unsubscribe, Publish, Disconnect, Refused, Tick}
+use Rattle.bx_entry.specs.declared.entry.Rider.{Rider}
+use Rattle.bx_entry.specs.Registry.{Judged, registry, entries}
+use Rattle.bx_entry.specs.Sessions.{Session, Publication, Live, session, step, step_by, rider_of}
+use Rattle.bx_theory.specs.Readings.{is_from, opens_by}
+
+-- ---- which messages are riders
+
+-- what is found of these elements of a list, behind those before them
+abbrev pub found_behind : Config → List Listed → List Listed → List Listed → List Judged
+found_behind config before these behind = take (length these) (drop (length before) (registry config (before ++ (these ++ behind))).judged)
+
+-- whether what is found is an accepted message of this session, and not the handshake that opens it
+abbrev pub is_own : ℕ → Judged → Bool
+is_own number j = is_from number j.sender && not (opens_by number j.entry.kind)
+
+-- whether an entry of this kind may have a rider: a subscription, an unsubscription or a publish
+abbrev pub may_have_rider : EntryKind → Bool
+may_have_rider (Opened n ack) = false
+may_have_rider (Connect n client id acked hold) = false
+may_have_rider (Subscribe n ps) = true
+may_have_rider (Unsubscribe n ps) = true
+may_have_rider (Publish e) = true
+may_have_rider (Disconnect n) = false
+may_have_rider Refused = false
+may_have_rider (Tick numbers) = false
+
+-- What makes a message a rider of this session, where these stand before it in its request and those behind it: the configuration says so, the session
+-- does not acknowledge, it is the last of its request, each of the request is an accepted one of the session and no handshake, and it is a
+-- subscription, an unsubscription or a publish.
+pub record IsRiderOf (number : ℕ) (config : Config) (es : List Entry) (before : List Judged) (j : Judged) (behind : List Judged) : Type 0 where
+  pub asked : config.ride ≡ true
+  pub plain : (session config number es).ack ≡ false
+  pub last : behind ≡ []
+  pub own : AllByRecursion (λ (i : Judged). is_own number i ≡ true) (before ++ j ∷ behind)
+  pub kind : may_have_rider j.entry.kind ≡ true
+
+-- the session of a rider, if there is one
+abbrev pub rider_session : Option Rider → Option ℕ
+rider_session rides = option_map (λ (rider : Rider). rider.session) rides
+
+-- Whatever inputs come before a request, and whatever behind it, a message of it is a rider of a session exactly where all that holds.
+abbrev pub RiderReading : Type 0
+RiderReading = (config : Config) (inputs : List ReadInput) (moment nonce : ℕ) (ms : List Message) (more : List Listed)
+    (before : List Judged) (j : Judged) (behind : List Judged) (number : ℕ) →
+    found_behind config (flat_map added_by inputs) (added_by (Request moment nonce ms)) more ≡ before ++ j ∷ behind →
+    (rider_session j.entry.rides ≡ Some number) ↔ IsRiderOf number config (entries config (flat_map added_by inputs ++ (added_by (Request moment nonce ms) ++ more))) before j behind
+
+-- No other entry of any list has a rider: no tick, no refused message, and no handshake, connect or disconnect.
+abbrev pub OthersNeverRide : Type 0
+OthersNeverRide = (config : Config) (list : List Listed) → AllByRecursion (λ (e : Entry). may_have_rider e.kind ≡ false → e.rides ≡ None) (entries config list)
+
+-- ---- what a rider is given
+
+-- As many of the events that wait in s as a batch may have, the first of them, are in the one answer that t has more than s, which is the rider's; the
+-- others wait on.
+pub record GivesRider (most place : ℕ) (rider : Rider) (s t : Session) : Type 0 where
+  pub given : List Publication
+  pub answers : t.answers ≡ s.answers ++ record { connect = place; place = place; publications = given; reply = rider.reply } ∷ []
+  pub queue : s.queue ≡ given ++ t.queue
+  pub count : length given ≡ min most (length s.queue)
+  pub left : length t.queue ≡ length s.queue - most
+
+-- So a live session that does not acknowledge answers its rider, behind what the rider's entry does to the session by itself.
+abbrev pub RiderGiven : Type 0
+RiderGiven = (config : Config) (s : Session) (e : Entry) (rider : Rider) → rider_of e.kind e.rides ≡ Some rider → rider.session ≡ s.number → s.stage ≡ Live → s.ack ≡ false →
+    GivesRider config.limits.batch e.place rider (step_by config e.place e.moment s e.kind) (step config s e)
