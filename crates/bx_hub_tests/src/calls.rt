@@ -19,6 +19,17 @@ pub const SUBSCRIBE: &str =
 pub const CONNECT: &str =
     r#"[{"channel":"/meta/connect","clientId":"000000000000000000000000000000000000000000000001","connectionType":"long-polling"}]"#;
 
+/// The third session subscribes to `/a/*`.
+pub const SUBSCRIBE_THIRD: &str =
+    r#"[{"channel":"/meta/subscribe","clientId":"000000000000000000000000000000000000000000000003","subscription":"/a/*"}]"#;
+
+/// The third session connects.
+pub const CONNECT_THIRD: &str =
+    r#"[{"channel":"/meta/connect","clientId":"000000000000000000000000000000000000000000000003","connectionType":"long-polling"}]"#;
+
+/// A message that is refused, and changes nothing but the list.
+pub const PING: &str = r#"[{"channel":"/meta/ping"}]"#;
+
 /// The second session connects.
 pub const CONNECT_OTHER: &str =
     r#"[{"channel":"/meta/connect","clientId":"000000000000000000000000000000000000000000000002","connectionType":"long-polling"}]"#;
@@ -34,6 +45,10 @@ pub const PUBLISH_OWN: &str =
 /// What the first session's connect is answered where it gets what `PUBLISH` publishes.
 pub const ANSWER: &str =
     r#"[{"channel":"/a/b","data":7},{"advice":{"interval":0,"reconnect":"retry","timeout":30000},"channel":"/meta/connect","clientId":"000000000000000000000000000000000000000000000001","successful":true}]"#;
+
+/// What the third session's connect is answered where it gets the same.
+pub const ANSWER_THIRD: &str =
+    r#"[{"channel":"/a/b","data":7},{"advice":{"interval":0,"reconnect":"retry","timeout":30000},"channel":"/meta/connect","clientId":"000000000000000000000000000000000000000000000003","successful":true}]"#;
 
 /// What it is answered by a tick, without events.
 pub const TICKED: &str =

@@ -3,8 +3,8 @@ ghost use Rattle.std.specs.Prelude.{◌≡◌};
 ghost use Rattle.bx_entry.specs.Placings.{by_remainder};
 
 use crate::calls::{
-    ANSWER, Found, HANDSHAKE, PUBLISH_OWN, RIDDEN, Refused, SUBSCRIBE, arrival, fault_of, find,
-    hold, post, publish, refusal,
+    ANSWER, Found, HANDSHAKE, PING, PUBLISH_OWN, RIDDEN, Refused, SUBSCRIBE, arrival, fault_of,
+    find, hold, post, publish, refusal,
 };
 use crate::same::same;
 use bx_advice::{Config, Options};
@@ -16,8 +16,6 @@ use std::marker::Brand;
 use std::process::Abort;
 use std::sync::{Arc, Wait};
 use std::test::*;
-
-const PING: &str = r#"[{"channel":"/meta/ping"}]"#;
 
 // Where a ping stands, and which shards stayed behind it; none where it is refused.
 fn ping<J: Naming, P: Placing, G: Gate + Drop, H: Wait + Drop, R: Wait>(
@@ -105,6 +103,27 @@ fn fills<J: Naming, P: Placing, G: Gate + Drop, H: Wait + Drop, R: Wait + Abort>
     Ok(())
 }
 
+// Of two shards that are paused one goes on, and the other one stays behind.
+fn goes_on<J: Naming, P: Placing, G: Gate + Drop, H: Wait + Drop, R: Wait + Abort>(
+    rt: &R,
+    alloc: Global,
+    hub: &Hub<J, P, G, H>,
+    pass: &mut Pass<J>,
+) -> Result<(), Fail> {
+    same(rt, hub.pause(rt, 0), true, "pause 0");
+    same(rt, hub.pause(rt, 1), true, "pause 1");
+    for (place, resumed, paused) in [(0, 0, 2), (1, 1, 1), (2, 0, 0)] {
+        let behind = Lagging {
+            paused,
+            ..Lagging::none()
+        };
+        let pinged = ping(rt, alloc, hub, pass);
+        same(rt, pinged, Some((place, behind)), "a ping");
+        same(rt, hub.resume(rt, resumed), true, "resume");
+    }
+    Ok(())
+}
+
 // Another caller publishes, and tells what was seen then.
 fn publish_apart<J: Naming, P: Placing, G: Gate + Drop, H: Wait + Drop, R: Wait>(
     rt: &R,
@@ -187,6 +206,7 @@ fn rides<J: Naming, P: Placing, G: Gate + Drop, H: Wait + Drop, R: Wait + Abort>
 #[derive(Clone, Copy, Debug)]
 enum Case {
     Fills,
+    GoesOn,
     Waits,
     Gives,
     Rides,
@@ -211,6 +231,7 @@ fn check<J: Naming, P: Placing, G: Gate + Drop, H: Wait + Drop, R: Wait + Abort>
 ) -> Result<(), Fail> {
     match case {
         Case::Fills => fills(rt, alloc, hub, pass),
+        Case::GoesOn => goes_on(rt, alloc, hub, pass),
         Case::Waits => waits(rt, alloc, hub, pass),
         Case::Gives => gives(rt, alloc, hub, pass),
         Case::Rides => rides(rt, alloc, hub, pass),
@@ -238,7 +259,13 @@ fn stands<J: Naming, R: Wait + Abort>(
 #[test]
 fn a_shard_stands_still(rt: HostRuntime) -> Result<(), Fail> {
     let alloc = rt.alloc();
-    for case in [Case::Fills, Case::Waits, Case::Gives, Case::Rides] {
+    for case in [
+        Case::Fills,
+        Case::GoesOn,
+        Case::Waits,
+        Case::Gives,
+        Case::Rides,
+    ] {
         let config = config_for(case).ok_or("no configuration")?;
         let placing = Arc::new(alloc, ByRemainder)?;
         stands::<Brand, _>(&rt, alloc, Opened::new(), config, placing, case)?;

@@ -2,39 +2,49 @@
 ghost use Rattle.std.specs.Prelude.{◌≡◌};
 ghost use Rattle.bx_entry.specs.Placings.{by_remainder};
 
-use crate::calls::{ANSWER, Found, Refused, TICKED, find, hold, publish};
+use crate::calls::{
+    ANSWER, ANSWER_THIRD, CONNECT, CONNECT_THIRD, Found, HANDSHAKE, PING, PUBLISH, Refused,
+    SUBSCRIBE, SUBSCRIBE_THIRD, TICKED, find, hold, post, publish, refusal,
+};
 use crate::same::same;
 use bx_advice::Config;
 use bx_entry::{ByRemainder, Placing, Ticket};
-use bx_hub::{Gate, Hub, Pass, Watch};
+use bx_hub::{Gate, Hub, Pass, PostFault, Watch};
 use bx_window::{Naming, Opened};
 use futures::task::{Poll, Source, Waker};
 use futures::test::MockTask;
 use std::alloc::Global;
 use std::marker::Brand;
 use std::process::Abort;
-use std::sync::atomic::{AtomicBool, Ordering};
+use std::sync::atomic::{AtomicBool, AtomicU64, Ordering};
 use std::sync::{Arc, Wait};
 use std::test::*;
 
-// The task that waits, and whether it was woken while a shard's lock was held by whoever brought that shard up.
+// The task that waits, whether it was woken while a shard's lock was held by whoever brought that shard up, another task, and how
+// often the gate was passed before shards were brought up and behind that.
 #[derive(Drop)]
 struct Waiting {
     task: MockTask,
     woken_under_lock: AtomicBool,
+    other: MockTask,
+    before: AtomicU64,
+    after: AtomicU64,
 }
 
-// Looks at the task while the shard's lock is held, after all entries were applied.
+// Looks at the task while the shard's lock is held, after all entries were applied, and counts.
 #[derive(Drop)]
 struct Looking {
     waiting: Arc<Waiting, Global>,
 }
 
 impl Gate for Looking {
-    fn before(&self, _shard: usize) {}
+    fn before(&self, _shard: usize) {
+        self.waiting.before.fetch_add(1, Ordering::SeqCst);
+    }
 
     // The connect is of shard 1.
     fn after(&self, shard: usize) {
+        self.waiting.after.fetch_add(1, Ordering::SeqCst);
         if shard == 1 && self.waiting.task.is_woken() {
             self.waiting.woken_under_lock.store(true, Ordering::SeqCst);
         }
@@ -212,12 +222,132 @@ fn ticked<J: Naming, P: Placing, G: Gate + Drop, H: Wait + Drop, R: Wait + Abort
     Ok(())
 }
 
+// The tickets of two connects in shard 1 that are held at neighbouring places; a task waits for each.
+fn hold_two<J: Naming, P: Placing, G: Gate + Drop, H: Wait + Drop, R: Wait + Abort>(
+    rt: &R,
+    alloc: Global,
+    hub: &Hub<J, P, G, H>,
+    pass: &mut Pass<J>,
+    waiting: &Waiting,
+) -> Result<(Ticket, Ticket), Fail> {
+    for body in [HANDSHAKE, HANDSHAKE, HANDSHAKE, SUBSCRIBE, SUBSCRIBE_THIRD] {
+        post(rt, alloc, hub, pass, body)?;
+    }
+    let (place, first) = post(rt, alloc, hub, pass, CONNECT)?;
+    same(rt, place, 5, "the first connect");
+    let (place, second) = post(rt, alloc, hub, pass, CONNECT_THIRD)?;
+    same(rt, place, 6, "the second connect");
+    let (first, second) = (first.ok_or("no ticket")?, second.ok_or("no ticket")?);
+    for (ticket, task) in [(first, &waiting.task), (second, &waiting.other)] {
+        let watched = watch_of(rt, hub, ticket, task)?;
+        same(rt, watched, Watched::Stored(false), "the first waker");
+    }
+    Ok((first, second))
+}
+
+// Each of two connects has its answer, which the question for the other one does not take.
+fn find_two<J: Naming, P: Placing, G: Gate + Drop, H: Wait + Drop, R: Wait + Abort>(
+    rt: &R,
+    alloc: Global,
+    hub: &Hub<J, P, G, H>,
+    pass: &mut Pass<J>,
+    tickets: (Ticket, Ticket),
+) -> Result<(), Fail> {
+    for (ticket, wanted) in [(tickets.0, ANSWER), (tickets.1, ANSWER_THIRD)] {
+        let found = find(rt, alloc, hub, pass, ticket, wanted)?;
+        same(rt, found, Found::Wanted, "found");
+    }
+    Ok(())
+}
+
+// One publish wakes both tasks.
+fn both<J: Naming, P: Placing, G: Gate + Drop, H: Wait + Drop, R: Wait + Abort>(
+    rt: &R,
+    alloc: Global,
+    hub: &Hub<J, P, G, H>,
+    pass: &mut Pass<J>,
+    waiting: &Waiting,
+) -> Result<(), Fail> {
+    let tickets = hold_two(rt, alloc, hub, pass, waiting)?;
+    same(rt, waiting.other.is_woken(), false, "before");
+    post(rt, alloc, hub, pass, PUBLISH)?;
+    check_woken(rt, waiting);
+    same(rt, waiting.other.is_woken(), true, "the other one");
+    find_two(rt, alloc, hub, pass, tickets)
+}
+
+// A question for one answer brings a shard up that was paused, and so wakes the task that waits for the other one.
+fn asked<J: Naming, P: Placing, G: Gate + Drop, H: Wait + Drop, R: Wait + Abort>(
+    rt: &R,
+    alloc: Global,
+    hub: &Hub<J, P, G, H>,
+    pass: &mut Pass<J>,
+    waiting: &Waiting,
+) -> Result<(), Fail> {
+    let tickets = hold_two(rt, alloc, hub, pass, waiting)?;
+    same(rt, hub.pause(rt, 1), true, "pause 1");
+    post(rt, alloc, hub, pass, PUBLISH)?;
+    same(rt, hub.resume(rt, 1), true, "resume 1");
+    same(rt, waiting.other.is_woken(), false, "before");
+    let found = find(rt, alloc, hub, pass, tickets.0, ANSWER)?;
+    same(rt, found, Found::Wanted, "found");
+    same(rt, waiting.other.is_woken(), true, "the other one");
+    let found = find(rt, alloc, hub, pass, tickets.1, ANSWER_THIRD)?;
+    same(rt, found, Found::Wanted, "the other one's");
+    Ok(())
+}
+
+// Why pings are refused at last, where the window fills up.
+fn fill<J: Naming, P: Placing, G: Gate + Drop, H: Wait + Drop, R: Wait>(
+    rt: &R,
+    alloc: Global,
+    hub: &Hub<J, P, G, H>,
+    pass: &mut Pass<J>,
+) -> Result<Option<PostFault>, Fail> {
+    for _ in 0..5_000 {
+        if let Some(fault) = refusal(rt, alloc, hub, pass, PING)? {
+            return Ok(Some(fault));
+        }
+    }
+    Ok(None)
+}
+
+// A post for which the window is full brings a shard up that was paused, and so wakes the task, though it is refused: the other
+// shard stays behind.
+fn refused<J: Naming, P: Placing, G: Gate + Drop, H: Wait + Drop, R: Wait + Abort>(
+    rt: &R,
+    alloc: Global,
+    hub: &Hub<J, P, G, H>,
+    pass: &mut Pass<J>,
+    waiting: &Waiting,
+) -> Result<(), Fail> {
+    let ticket = hold(rt, alloc, hub, pass)?;
+    let watched = watch_of(rt, hub, ticket, &waiting.task)?;
+    same(rt, watched, Watched::Stored(false), "the first waker");
+    same(rt, hub.pause(rt, 0), true, "pause 0");
+    same(rt, hub.pause(rt, 1), true, "pause 1");
+    publish(rt, alloc, hub, pass)?;
+    let full = Some(PostFault::Behind { first: 3 });
+    same(rt, fill(rt, alloc, hub, pass)?, full, "a full window");
+    same(rt, hub.resume(rt, 1), true, "resume 1");
+    same(rt, waiting.task.is_woken(), false, "before");
+    let fault = refusal(rt, alloc, hub, pass, PING)?;
+    same(rt, fault, full, "a full window again");
+    check_woken(rt, waiting);
+    let found = find(rt, alloc, hub, pass, ticket, ANSWER)?;
+    same(rt, found, Found::Wanted, "found");
+    Ok(())
+}
+
 // What ends the wait.
 #[derive(Clone, Copy, Debug)]
 enum End {
     Publish,
     Tick,
     Close,
+    Both,
+    Asked,
+    Refused,
 }
 
 fn check<J: Naming, P: Placing, G: Gate + Drop, H: Wait + Drop, R: Wait + Abort>(
@@ -229,10 +359,18 @@ fn check<J: Naming, P: Placing, G: Gate + Drop, H: Wait + Drop, R: Wait + Abort>
     end: End,
 ) -> Result<(), Fail> {
     match end {
-        End::Publish => answered(rt, alloc, hub, pass, waiting),
-        End::Tick => ticked(rt, alloc, hub, pass, waiting),
-        End::Close => shut(rt, alloc, hub, pass, waiting),
+        End::Publish => answered(rt, alloc, hub, pass, waiting)?,
+        End::Tick => ticked(rt, alloc, hub, pass, waiting)?,
+        End::Close => shut(rt, alloc, hub, pass, waiting)?,
+        End::Both => both(rt, alloc, hub, pass, waiting)?,
+        End::Asked => asked(rt, alloc, hub, pass, waiting)?,
+        End::Refused => refused(rt, alloc, hub, pass, waiting)?,
     }
+    let before = waiting.before.load(Ordering::SeqCst);
+    same(rt, before > 0, true, "the gate was passed");
+    let after = waiting.after.load(Ordering::SeqCst);
+    same(rt, after, before, "behind the entries too");
+    Ok(())
 }
 
 fn wakes<J: Naming, R: Wait + Abort>(
@@ -257,17 +395,28 @@ fn wakes<J: Naming, R: Wait + Abort>(
 fn a_task_is_woken(rt: HostRuntime) -> Result<(), Fail> {
     let alloc = rt.alloc();
     let config = Config::new(2, 30_000, 0, 10_000).ok_or("no configuration")?;
-    for end in [End::Publish, End::Tick, End::Close] {
+    for end in [
+        End::Publish,
+        End::Tick,
+        End::Close,
+        End::Both,
+        End::Asked,
+        End::Refused,
+    ] {
         let placing = Arc::new(alloc, ByRemainder)?;
         let waiting = Arc::new(
             alloc,
             Waiting {
                 task: MockTask::new(&rt)?,
                 woken_under_lock: AtomicBool::new(false),
+                other: MockTask::new(&rt)?,
+                before: AtomicU64::new(0),
+                after: AtomicU64::new(0),
             },
         )?;
         // A task is woken from the first on, until it is polled.
         waiting.task.enter(|_cx| ());
+        waiting.other.enter(|_cx| ());
         let gate = Looking {
             waiting: Arc::try_clone(&waiting)?,
         };
