@@ -110,11 +110,16 @@ pub fn post<J: Naming, H: Wait + Drop, R: Wait>(
     end_of(alloc, said, place, posted)
 }
 
-fn end_of(alloc: Global, said: &mut Said, place: u64, posted: Posted) -> Result<PostEnd, Unlike> {
+fn end_of<J: Naming>(
+    alloc: Global,
+    said: &mut Said,
+    place: u64,
+    posted: Posted<J>,
+) -> Result<PostEnd, Unlike> {
     if posted.first != place {
         return Err(Unlike::Wrong("posted elsewhere"));
     }
-    let is_behind = said.is_behind(posted.behind)?;
+    let is_behind = said.is_behind(posted.brought.behind())?;
     let ticket = said.add_slots(alloc, posted.first, posted.slots.as_slice())?;
     Ok(PostEnd { ticket, is_behind })
 }
@@ -151,7 +156,7 @@ pub fn tick<J: Naming, H: Wait + Drop, R: Wait>(
     };
     match ticked {
         Ok(ticked) if ticked.place == 5 => {
-            said.is_behind(ticked.behind)?;
+            said.is_behind(ticked.brought.behind())?;
             said.add(alloc, ticked.place, "ticks")
         }
         _ => Err(Unlike::Wrong("no tick")),

@@ -54,7 +54,7 @@ fn is_there<J: Naming, H: Wait + Drop, R: Wait>(
     task: &MockTask,
 ) -> Result<bool, Unlike> {
     match hub.watch(rt, ticket, waker(task)?) {
-        Watch::Stored(_) => Ok(true),
+        Watch::Stored(_, _) => Ok(true),
         Watch::Unknown(_) => Ok(false),
         Watch::Ready(_) | Watch::Shut(_) => Err(Unlike::Wrong("no connect is held")),
     }
