@@ -1,7 +1,7 @@
 //! Laws that hold for every configuration and every list.
 ghost use Rattle.bx_theory.specs.Laws.{DoneNeverFalls, CountsAgree, EntriesInOrder, AnswersStay, BatchRepeats, NeverGivenAgain, NoEventTwice, GivenOnce, NoRidersUnasked, RidersArePlain};
 ghost use Rattle.bx_theory.specs.Readings.{LiveReading, InForceReading, HeldReading, EndingReading, OverflowReading, QueueBounded, DueReading, ClockReading, SameLive, AcceptedWhileLive, PublishesOfNone, ClosedIsOver};
-ghost use Rattle.bx_theory.specs.Riding.{RiderReading, OthersNeverRide, RiderGiven};
+ghost use Rattle.bx_theory.specs.Riding.{RiderReading, NothingRidesBeside, OthersNeverRide, RiderGiven};
 ghost use Rattle.bx_theory.specs.Events.{EventsWerePublished, PublishesAreEvents, EventsRise, GivenWasPublished};
 ghost use Rattle.bx_theory.specs.Lines.{HeldComeLast, InputsGoOn, LinesGoOn};
 ghost use Rattle.bx_theory.specs.Outs.{OutsGrow};
@@ -65,6 +65,11 @@ pub fn riders_are_plain()
 /// is a subscription, an unsubscription or a publish.
 pub fn rider_reading()
     ensures { RiderReading }
+{}
+
+/// So nothing rides in a request with a message that is refused or of no session.
+pub fn nothing_rides_beside()
+    ensures { NothingRidesBeside }
 {}
 
 /// Nothing else rides: no tick, no refused message, and no handshake, connect or disconnect.

@@ -23,7 +23,7 @@ use Rattle.bx_entry.specs.declared.senders.Senders.TheVariants.{NoneYet, Only, M
 use Rattle.bx_entry.specs.Registry.{Registry, Registered, Judged, PlaceSlot, Ready, Waiting, NoSlot, is_one, joined, senders_behind, may_ride, is_rider, rider_for, kind_for, slot_for, judge, judged_by, named_by, refusal, hold_of, registry, empty_registry, entries_of, entries, unnamed}
 use Rattle.bx_entry.specs.Sessions.{Session, Stage, Unopened, Live, is_live, portion, session, step, step_by, rider_of, is_riding, ridden, ridden_by}
 use Rattle.bx_theory.specs.Readings.{is_from, opens_by}
-use Rattle.bx_theory.specs.Riding.{found_behind, is_own, may_have_rider, IsRiderOf, rider_session, RiderReading, OthersNeverRide, GivesRider, RiderGiven}
+use Rattle.bx_theory.specs.Riding.{found_behind, is_own, may_have_rider, IsRiderOf, rider_session, RiderReading, NothingRidesBeside, OthersNeverRide, GivesRider, RiderGiven}
 use Rattle.bx_theory.proofs.Dues.{EachJudged, each_judged_push, named_session}
 use Rattle.bx_theory.proofs.Lists.{Longer, longer, judged_length}
 use Rattle.bx_theory.proofs.Lives.{found_of}
@@ -397,6 +397,20 @@ rider_reading config inputs moment nonce ms more before j behind number split =
     request_read config ys more [] moment nonce (length ms == 1) false ms (subst (λ (x : Senders). Says x []) (sym fresh) refl) in
     let found : found_behind config (flat_map added_by inputs) (listed_from moment nonce (length ms == 1) false ms) more ≡ a.more = found_is config ys xs more a.more a.judged (a.many ∙ sym (listed_length moment nonce (length ms == 1) false ms)) in
     reads_at config (entries config (ys ++ (xs ++ more))) [] a.more before j behind number a.reads (sym found ∙ split)
+
+own_at : (number : ℕ) (before : List Judged) (j : Judged) (behind : List Judged) → Own number (before ++ j ∷ behind) → is_own number j ≡ true
+own_at number [] j behind d = d.0
+own_at number (i ∷ before) j behind d = own_at number before j behind d.1
+
+none_where : (rides : Option Rider) → ((number : ℕ) → rider_session rides ≡ Some number → ⊥) → rides ≡ None
+none_where None h = refl
+none_where (Some rider) h = absurd (h rider.session refl)
+
+pub nothing_rides_beside : NothingRidesBeside
+nothing_rides_beside config inputs moment nonce ms more before other behind first j rest there none here =
+    none_where j.entry.rides (λ number e.
+    let k = (rider_reading config inputs moment nonce ms more first j rest number here).0 e in
+    none_own number other none (own_at number before other behind (subst (Own number) (sym here ∙ there) k.own)))
 
 -- ---- nothing else rides
 

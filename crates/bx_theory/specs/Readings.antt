@@ -119,7 +119,8 @@ ending_events place (Disconnect n) = []
 ending_events place Refused = []
 ending_events place (Tick numbers) = []
 
--- and how it is answered: with an error where a newer connect came, as the last one where the session leaves, else with success
+-- and how it is answered: with an error where a newer connect came, with the success of one that leaves where its session does, and else with that of a
+-- connect (an entry of another kind than these ends no hold)
 abbrev pub ending_outcome : EntryKind → Outcome
 ending_outcome (Opened n ack) = Connected
 ending_outcome (Connect n client id acked hold) = Failed SupersededConnect
@@ -130,7 +131,8 @@ ending_outcome (Disconnect n) = Disconnected
 ending_outcome Refused = Connected
 ending_outcome (Tick numbers) = Connected
 
--- the connect is answered at the entry's place, before anything else, with these events and so, and with the number of the last batch formed
+-- the connect is answered at the entry's place, before anything else: with those events, in that way, and in an acknowledging session with the number of
+-- the last batch formed
 pub record AnsweredAt (config : Config) (p : Pending) (e : Entry) (s t : Session) : Type 0 where
   pub answer : Filed
   pub others : List Filed

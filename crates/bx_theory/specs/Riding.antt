@@ -55,6 +55,13 @@ RiderReading = (config : Config) (inputs : List ReadInput) (moment nonce : ℕ) 
     found_behind config (flat_map added_by inputs) (added_by (Request moment nonce ms)) more ≡ before ++ j ∷ behind →
     (rider_session j.entry.rides ≡ Some number) ↔ IsRiderOf number config (entries config (flat_map added_by inputs ++ (added_by (Request moment nonce ms) ++ more))) before j behind
 
+-- So nothing rides in a request with a message that is refused or of no session.
+abbrev pub NothingRidesBeside : Type 0
+NothingRidesBeside = (config : Config) (inputs : List ReadInput) (moment nonce : ℕ) (ms : List Message) (more : List Listed)
+    (before : List Judged) (other : Judged) (behind first : List Judged) (j : Judged) (rest : List Judged) →
+    found_behind config (flat_map added_by inputs) (added_by (Request moment nonce ms)) more ≡ before ++ other ∷ behind → other.sender ≡ None →
+    found_behind config (flat_map added_by inputs) (added_by (Request moment nonce ms)) more ≡ first ++ j ∷ rest → j.entry.rides ≡ None
+
 -- No other entry of any list has a rider: no tick, no refused message, and no handshake, connect or disconnect.
 abbrev pub OthersNeverRide : Type 0
 OthersNeverRide = (config : Config) (list : List Listed) → AllByRecursion (λ (e : Entry). may_have_rider e.kind ≡ false → e.rides ≡ None) (entries config list)
