@@ -1,5 +1,5 @@
 //! What a service stands on.
-ghost use Rattle.std.specs.Prelude.{⊤, ◌≡◌, ◌⊎◌, [], None, Result, IfOk, IfErr};
+ghost use Rattle.std.specs.Prelude.{⊤, ◌≡◌, ◌⊎◌, ℕ, [], None, Result, IfOk, IfErr};
 ghost use Rattle.std.specs.Vec.Iter.{into_iter_items};
 ghost use Rattle.bx_admission.specs.Slots.{placed_by};
 ghost use Rattle.bx_cut.specs.Bodies.{texts_of};
