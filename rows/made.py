@@ -246,7 +246,7 @@ def long_arrays():
     """Yields a publish whose body is as long as may be, for an array of half a million numbers, and one that is a byte longer."""
     front, end = spelled('[{"channel":"/a/b","clientId":"<client 1>","data":['), "]}]"
     room = BODY - len(front) - len(end)
-    data = listed("1", room // 2) if room % 2 else listed("1", room // 2 - 1) + ",10"
+    data = listed("1", room // 2 + 1) if room % 2 else listed("1", room // 2 - 1) + ",10"
     yield (
         "an array of half a million numbers",
         f"0 P [<handshake>]\n0 P [<subscribe 1 /a/b>]\n0 P {front}{data}{end}\n0 P {front}{data}0{end}\n0 P [<poll 1>]\n",
