@@ -1,5 +1,5 @@
 -- Entries from the first place of the list on, and shards that have applied none.
-use Rattle.std.proofs.Common.{zero, suc, ◌≡◌, List, [], ◌∷◌, ◌++◌, refl, ap, sym, arith, ◌∙◌}
+use Rattle.std.proofs.Common.{zero, suc, ◌≡◌, List, [], ◌∷◌, ◌++◌, refl, ap, sym, subst, arith, ◌∙◌}
 use Rattle.std.proofs.lemmas.Option.{none-some, same_Some}
 use Rattle.bx_entry.specs.declared.entry.Entry.{Entry}
 use Rattle.bx_shard.specs.declared.shard.Shard.{Shard}
@@ -21,3 +21,9 @@ fresh_more {P} [] s h at zero x is = ap (λ (y : Shard P). y.place) (sym (same_S
 fresh_more [] s h at (suc k) x is = absurd (none-some x is)
 fresh_more (y ∷ ys) s h at zero x is = h zero x is
 fresh_more (y ∷ ys) s h at (suc k) x is = fresh_more ys s (λ j z e. h (suc j) z e) at k x is
+
+pub fresh_pushed : {P : Type 0} (xs ys : List (Shard P)) (s : Shard P) → ys ≡ xs ++ s ∷ [] → AreFresh xs → s.place ≡ 0 → AreFresh ys
+fresh_pushed xs ys s is h at = subst AreFresh (sym is) (fresh_more xs s h at)
+
+pub fresh_seen : {P : Type 0} (es : List Entry) (xs ys : List (Shard P)) → ys ≡ xs → AreNumbered es → AreFresh xs → AreWithin es ys
+fresh_seen es xs ys is h fresh = fresh_within es ys h (subst AreFresh (sym is) fresh)

@@ -49,11 +49,14 @@ fn entries(alloc: Global) -> Result<Vec<Entry>, Fail>
 }
 
 // So many shards that have applied nothing.
-fn shards(alloc: Global, count: usize) -> Result<Vec<Shard<ByRemainder>>, Fail>
+fn shards<P: Placing + Drop>(
+    alloc: Global,
+    placing: &Arc<P>,
+    count: usize,
+) -> Result<Vec<Shard<P>>, Fail>
     ensures { IfOk result (λ shards. AreFresh shards.items) }
 {
     let config = Config::new(count, 30_000, 0, 10_000).ok_or("no configuration")?;
-    let placing = Arc::new(alloc, ByRemainder)?;
     let mut shards = Vec::new(alloc);
     for index in 0..count {
         shards.push(Shard::new(alloc, index, config, placing.clone()?))?;
@@ -61,7 +64,23 @@ fn shards(alloc: Global, count: usize) -> Result<Vec<Shard<ByRemainder>>, Fail>
     Ok(shards)
 }
 
-// So many shards that had applied nothing, as these workers left them, and how many stayed behind.
+// So many shards with this placing that had applied nothing, as these workers left them, and how many stayed behind.
+fn brought_up_by<R: Threads + Sync, G: Gate + Sync, P: Placing + Drop + Send + Sync>(
+    rt: &R,
+    alloc: Global,
+    placing: &Arc<P>,
+    gate: &G,
+    workers: usize,
+    count: usize,
+) -> Result<(Vec<Shard<P>>, usize), Fail> {
+    let workers = WorkerCount::new(workers).ok_or("no such number of workers")?;
+    let entries = entries(alloc)?;
+    let mut shards = shards(alloc, placing, count)?;
+    let behind = bring_up(rt, alloc, gate, workers, &mut shards, &entries);
+    Ok((shards, behind))
+}
+
+// The same with sessions in turn.
 fn brought_up<R: Threads + Sync, G: Gate + Sync>(
     rt: &R,
     alloc: Global,
@@ -69,11 +88,8 @@ fn brought_up<R: Threads + Sync, G: Gate + Sync>(
     workers: usize,
     count: usize,
 ) -> Result<(Vec<Shard<ByRemainder>>, usize), Fail> {
-    let workers = WorkerCount::new(workers).ok_or("no such number of workers")?;
-    let entries = entries(alloc)?;
-    let mut shards = shards(alloc, count)?;
-    let behind = bring_up(rt, alloc, gate, workers, &mut shards, &entries);
-    Ok((shards, behind))
+    let placing = Arc::new(alloc, ByRemainder)?;
+    brought_up_by(rt, alloc, &placing, gate, workers, count)
 }
 
 #[test]
@@ -234,18 +250,14 @@ impl Gate for Looking {
 
 // How often the placing was asked when a worker passed the gate before its work, and behind it.
 fn asked_at_the_gate<R: Threads + Sync>(rt: &R, alloc: Global) -> Result<(u64, u64), Fail> {
-    let config = Config::new(1, 30_000, 0, 10_000).ok_or("no configuration")?;
     let times = AtomicU64::new(0);
     let placing = Arc::new(alloc, Asked { times })?;
-    let mut shards = Vec::new(alloc);
-    shards.push(Shard::new(alloc, 0, config, placing.clone()?))?;
     let gate = Looking {
-        placing,
+        placing: placing.clone()?,
         before: AtomicU64::new(0),
         after: AtomicU64::new(0),
     };
-    let entries = entries(alloc)?;
-    bring_up(rt, alloc, &gate, WorkerCount::one(), &mut shards, &entries);
+    brought_up_by(rt, alloc, &placing, &gate, 1, 1)?;
     Ok((
         gate.before.load(Ordering::SeqCst),
         gate.after.load(Ordering::SeqCst),
