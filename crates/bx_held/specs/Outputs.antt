@@ -1,5 +1,5 @@
 -- What a held connect is given.
-use Rattle.std.specs.Prelude.{ℕ, ◌≡◌, ◌≢◌, ◌<◌, ◌≤◌, ◌⊎◌, List, Bool, false, Result, Ok, Err, Some}
+use Rattle.std.specs.Prelude.{◌≡◌, ◌≢◌, ◌<◌, ◌≤◌, ◌⊎◌, List, Bool, false, Result, Ok, Err, Some}
 use mathlib.Core.List.{IsPrefix}
 use Rattle.bx_entry.specs.declared.entry.Ticket.{Ticket}
 use Rattle.bx_message.specs.declared.reply.Answer.{Answer}

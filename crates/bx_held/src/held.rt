@@ -21,6 +21,7 @@ use bx_window::Naming;
 use futures::Future;
 use futures::task::{Context, Poll, Source, Waker};
 use std::alloc::Global;
+use std::snapshot::Snapshot;
 use std::sync::{Arc, Wait};
 
 /// The answer to a connect or a rider, once it is filed.
@@ -39,7 +40,7 @@ pub struct HeldConnect<J: Naming, P: Placing, G: Gate + Drop, H: Wait + Drop, R:
     // A waker that does not lie beside the connect. It is kept, since a waker that is dropped wakes its task.
     own: Option<Waker>,
     // That a waker lies beside the connect, since the last poll that left one there. Only clauses read it.
-    left: Option<Left<J>>,
+    left: Snapshot<Option<Left<J>>>,
     // It has given its output.
     is_done: bool,
     ghost reached: { ticket.place < length (list_of pass) },
@@ -71,7 +72,7 @@ impl<J: Naming, P: Placing, G: Gate + Drop, H: Wait + Drop, R: Wait + Drop> Held
             ticket,
             source: Source::new(),
             own: None,
-            left: None,
+            left: Snapshot::of(&None),
             is_done: false,
         }
     }
@@ -117,7 +118,7 @@ impl<J: Naming, P: Placing + Drop, G: Gate + Drop, H: Wait + Drop, R: Wait + Dro
             → MayGive (placed_by J.config J.config.shards J.placing) self.new.ticket self.new.pass self.new.is_done output
             → MayGive (placed_by J.config J.config.shards J.placing) self.old.ticket self.old.pass self.old.is_done output) }
         ensures registered { OnPending result (Covers cx.new (λ s. s ≡ self.new.source.id)) }
-        ensures left { OnPending result (IsWaitedFor self.new.ticket self.new.left cx.old cx.new) }
+        ensures left { OnPending result (IsWaitedFor self.new.ticket self.new.left.value cx.old cx.new) }
         ensures kept { Keeps cx.old cx.new }
         ensures seen { IsPrefix self.old.pass self.new.pass }
         ensures given { self.old.is_done ≡ false → IfReady result (IsGiven (placed_by J.config J.config.shards J.placing) self.new.ticket self.new.pass) }
@@ -138,7 +139,7 @@ impl<J: Naming, P: Placing + Drop, G: Gate + Drop, H: Wait + Drop, R: Wait + Dro
         match self.hub.watch(&self.rt, self.ticket, waker) {
             Watch::Stored(older, left) => {
                 self.own = older;
-                self.left = Some(left);
+                self.left = Snapshot::of(&Some(left));
                 return pending;
             }
             Watch::Ready(_) => {}

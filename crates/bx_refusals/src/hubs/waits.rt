@@ -14,7 +14,7 @@ use std::alloc::{AllocGlobal, Global};
 use std::random::RandomSource;
 use std::sync::{Arc, Wait};
 
-type Waiting<'a, J, R> = HeldConnect<J, ByRemainder, OpenGate, &'a R, &'a R>;
+type Waiting<J, H, Q> = HeldConnect<J, ByRemainder, OpenGate, H, Q>;
 
 /// A session connects, and a task waits for the answer to that, until another session publishes.
 pub fn run<'a, J, R>(
@@ -61,13 +61,13 @@ fn is_there<J: Naming, H: Wait + Drop, R: Wait>(
 }
 
 // Who waits under the ticket, and has seen what the pass has.
-fn waiting<'a, J: Naming, R: Wait>(
-    rt: &'a R,
+fn waiting<J: Naming, H: Wait + Drop, Q: Wait + Copy + Drop>(
+    rt: Q,
     alloc: Global,
-    hub: &Arc<Served<J, &'a R>, Global>,
+    hub: &Arc<Served<J, H>, Global>,
     pass: &Pass<J>,
     ticket: Ticket,
-) -> Result<Waiting<'a, J, R>, Unlike> {
+) -> Result<Waiting<J, H, Q>, Unlike> {
     let pass = Pass::of(pass.note());
     if ticket.place >= pass.seen() {
         return Err(Unlike::Wrong("a ticket beyond the list"));
@@ -84,7 +84,10 @@ enum First {
     Other,
 }
 
-fn look<J: Naming, R: Wait>(held: &mut Waiting<'_, J, R>, task: &MockTask) -> First {
+fn look<J: Naming, H: Wait + Drop, Q: Wait + Copy + Drop>(
+    held: &mut Waiting<J, H, Q>,
+    task: &MockTask,
+) -> First {
     match task.poll(held) {
         Poll::Pending => First::Pending,
         Poll::Ready(Err(HeldFault::Memory)) => First::Refused,
@@ -94,19 +97,15 @@ fn look<J: Naming, R: Wait>(held: &mut Waiting<'_, J, R>, task: &MockTask) -> Fi
 
 // Whether the connect is behind its shard or not, it is held once memory is there: a task waits for it. Where memory is refused to its
 // poll, another one does.
-fn wait<'a, J, R>(
-    rt: &'a R,
+fn wait<J: Naming, H: Wait + Drop, Q: Wait + Copy + Drop>(
+    rt: Q,
     alloc: Global,
-    hub: &Arc<Served<J, &'a R>, Global>,
+    hub: &Arc<Served<J, H>, Global>,
     pass: &mut Pass<J>,
     ticket: Ticket,
     task: &MockTask,
     said: &mut Said,
-) -> Result<(), Unlike>
-where
-    J: Naming,
-    R: Wait,
-{
+) -> Result<(), Unlike> {
     let mut held = waiting(rt, alloc, hub, pass, ticket)?;
     let mut first = look(&mut held, task);
     if first == First::Refused {
@@ -116,18 +115,18 @@ where
     if first != First::Pending || task.is_woken() {
         return Err(Unlike::Wrong("an answer too soon"));
     }
-    answer(rt, alloc, hub, pass, ticket, task, &mut held, said)
+    answer(&rt, alloc, hub, pass, ticket, task, &mut held, said)
 }
 
 // The other session publishes, and the connect is answered.
-fn answer<J: Naming, R: Wait>(
-    rt: &R,
+fn answer<J: Naming, H: Wait + Drop, Q: Wait + Copy + Drop>(
+    rt: &Q,
     alloc: Global,
-    hub: &Served<J, &R>,
+    hub: &Served<J, H>,
     pass: &mut Pass<J>,
     ticket: Ticket,
     task: &MockTask,
-    held: &mut Waiting<'_, J, R>,
+    held: &mut Waiting<J, H, Q>,
     said: &mut Said,
 ) -> Result<(), Unlike> {
     publish(rt, alloc, hub, task, said)?;

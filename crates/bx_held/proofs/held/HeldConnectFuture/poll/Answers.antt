@@ -2,7 +2,7 @@ use Rattle.std.proofs.Common.{◌∙◌, subst}
 use Rattle.bx_admission.specs.Slots.{placed_by}
 use Rattle.bx_entry.specs.declared.entry.Ticket.{Ticket}
 use Rattle.bx_window.proofs.Fronts.{prefix_trans}
-use Rattle.bx_held.proofs.Waiting.{on_pending, waited_for}
+use Rattle.bx_held.proofs.Waiting.{kept_waited_for, on_pending}
 use Rattle.bx_held.specs.Outputs.{IsGiven}
 use Rattle.bx_held.proofs.held.HeldConnectFuture.poll.Goals as goal
 
@@ -16,5 +16,5 @@ returns-in-Some-ask-clause-value g c done =
 
 pub returns-in-Stored-clause-left : goal.returns-in-Stored-clause-left
 returns-in-Stored-clause-left g c =
-    on_pending c.register-pending.result (waited_for c.register-pending.new.slot c.in-Some-take.waker c.in-Stored.older c.ask.new.self.ticket c.in-Stored.left c.args.cx.now c.register-pending.new.self
-    (cc (c.in-Some-take.ensures.value)) c.register-pending.ensures.left c.in-Stored.ensures.left)
+    on_pending c.register-pending.result (kept_waited_for c.register-pending.new.slot c.in-Some-take.waker c.in-Stored.older c.ask.new.self.ticket c.in-Stored.left c.of.result.value c.args.cx.now c.register-pending.new.self
+    (cc (c.in-Some-take.ensures.value)) c.register-pending.ensures.left c.in-Stored.ensures.left c.of.ensures)
