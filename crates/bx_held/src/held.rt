@@ -8,20 +8,18 @@ ghost use Rattle.futures.specs.declared.task.Poll.TheVariants as polls;
 ghost use Rattle.bx_admission.specs.Slots.{placed_by};
 ghost use Rattle.bx_window.specs.Steps.{list_of};
 ghost use Rattle.bx_held.specs.Outputs.{HasNone, IsGiven, MayGive};
-ghost use Rattle.bx_held.specs.Waiting.{IsWaitedFor};
 ghost use Rattle.bx_message.specs.declared.reply.Answer.{Answer};
 ghost use Rattle.bx_held.specs.declared.fault.HeldFault.{HeldFault};
 ghost use Rattle.bx_held.specs.declared.fault.HeldFault.TheVariants as faults;
 
 use crate::fault::HeldFault;
 use bx_entry::{Placing, Ticket};
-use bx_hub::{Gate, Hub, Left, Pass, Watch};
+use bx_hub::{Gate, Hub, Pass, Watch};
 use bx_message::Answer;
 use bx_window::Naming;
 use futures::Future;
 use futures::task::{Context, Poll, Source, Waker};
 use std::alloc::Global;
-use std::snapshot::Snapshot;
 use std::sync::{Arc, Wait};
 
 /// The answer to a connect or a rider, once it is filed.
@@ -39,8 +37,6 @@ pub struct HeldConnect<J: Naming, P: Placing, G: Gate + Drop, H: Wait + Drop, R:
     source: Source,
     // A waker that does not lie beside the connect. It is kept, since a waker that is dropped wakes its task.
     own: Option<Waker>,
-    // That a waker lies beside the connect, since the last poll that left one there. Only clauses read it.
-    left: Snapshot<Option<Left<J>>>,
     // It has given its output.
     is_done: bool,
     ghost reached: { ticket.place < length (list_of pass) },
@@ -72,7 +68,6 @@ impl<J: Naming, P: Placing, G: Gate + Drop, H: Wait + Drop, R: Wait + Drop> Held
             ticket,
             source: Source::new(),
             own: None,
-            left: Snapshot::of(&None),
             is_done: false,
         }
     }
@@ -118,7 +113,6 @@ impl<J: Naming, P: Placing + Drop, G: Gate + Drop, H: Wait + Drop, R: Wait + Dro
             → MayGive (placed_by J.config J.config.shards J.placing) self.new.ticket self.new.pass self.new.is_done output
             → MayGive (placed_by J.config J.config.shards J.placing) self.old.ticket self.old.pass self.old.is_done output) }
         ensures registered { OnPending result (Covers cx.new (λ s. s ≡ self.new.source.id)) }
-        ensures left { OnPending result (IsWaitedFor self.new.ticket self.new.left.value cx.old cx.new) }
         ensures kept { Keeps cx.old cx.new }
         ensures seen { IsPrefix self.old.pass self.new.pass }
         ensures given { self.old.is_done ≡ false → IfReady result (IsGiven (placed_by J.config J.config.shards J.placing) self.new.ticket self.new.pass) }
@@ -137,9 +131,8 @@ impl<J: Naming, P: Placing + Drop, G: Gate + Drop, H: Wait + Drop, R: Wait + Dro
             return pending;
         };
         match self.hub.watch(&self.rt, self.ticket, waker) {
-            Watch::Stored(older, left) => {
+            Watch::Stored(older, _) => {
                 self.own = older;
-                self.left = Snapshot::of(&Some(left));
                 return pending;
             }
             Watch::Ready(_) => {}
