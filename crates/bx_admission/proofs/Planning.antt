@@ -1,5 +1,5 @@
 -- A list with the elements of a plan behind it: who is live by it, and its entries.
-use Rattle.std.proofs.Common.{◌≡◌, ℕ, ◌≤◌, List, ◌++◌, length, sym, ap, ◌∙◌, subst}
+use Rattle.std.proofs.Common.{◌≡◌, ℕ, Bool, ◌≤◌, List, ◌++◌, length, sym, ap, ◌∙◌, subst}
 use Rattle.std.specs.Prelude.{fold}
 use Rattle.std.proofs.lemmas.List.{map-append}
 use Rattle.std.proofs.lemmas.List.Sums.{fold-append}
@@ -9,12 +9,12 @@ use Rattle.bx_entry.specs.declared.entry.Entry.{Entry}
 use Rattle.bx_entry.specs.Listing.{Listed}
 use Rattle.bx_entry.specs.Registry.{Judged, Registry, empty_registry, judge, registry, entries}
 use Rattle.bx_theory.proofs.Lists.{judged_length}
-use Rattle.bx_registry.specs.Changes.{Amendment, IsPlannedAt, changed}
+use Rattle.bx_registry.specs.Changes.{Amendment, CanCommit, Standing, changed}
 use Rattle.bx_registry.specs.Laws.{GoesOn}
 use Rattle.bx_registry.specs.Plans.{entries_in}
 use Rattle.bx_registry.specs.Rolls.{Roll, roll_of, after, found}
 use Rattle.bx_registry.proofs.Steps.{runs_agree}
-use Rattle.bx_admission.specs.Ledgers.{Continues, LeadsTo, roll_at}
+use Rattle.bx_admission.specs.Ledgers.{Continues, LeadsTo, Ledger, roll_at, standing}
 use Rattle.bx_admission.specs.declared.plan.Plan.{Plan}
 
 -- ---- how long the list is
@@ -42,22 +42,24 @@ entries_on config list added =
     ∙ map-append (λ (j : Judged). j.entry) (registry config list).judged (found (roll_at config list) added)
 
 -- a change that was planned for these elements leads to the longer list
-pub leads_to : (config : Config) (list : List Listed) (change : Amendment) (added : List Listed) →
-    IsPlannedAt (roll_at config list) change → changed (roll_at config list) change ≡ after (roll_at config list) added → LeadsTo config list change added
-leads_to config list change added planned made =
-    let there : changed (roll_at config list) change ≡ roll_at config (list ++ added) = made ∙ roll_on config list added in
-    let long : change.length ≡ length (list ++ added) = ap (λ (r : Roll). r.length) there ∙ judged_length config (list ++ added) in
-    record { planned = planned; registered = there; long = long; bounded = subst (λ (n : ℕ). n ≤ greatest_length) long planned.length }
+pub leads_to : (l : Ledger) (change : Amendment) (added : List Listed) →
+    CanCommit (standing l) change → changed (roll_at l.config l.list) change ≡ after (roll_at l.config l.list) added → LeadsTo l change added
+leads_to l change added planned made =
+    let there : changed (roll_at l.config l.list) change ≡ roll_at l.config (l.list ++ added) = made ∙ roll_on l.config l.list added in
+    let long : change.length ≡ length (l.list ++ added) = ap (λ (r : Roll). r.length) there ∙ judged_length l.config (l.list ++ added) in
+    record { planned = planned; registered = there; long = long; bounded = subst (λ (n : ℕ). n ≤ greatest_length) long planned.planned.length }
 
 -- a plan that was made at this roll continues the list
-pub continues : (shards : ℕ) (roll : Roll) (list added : List Listed) (p : Plan) → roll ≡ roll_at roll.config list → p.elements ≡ added → p.batch.first ≡ roll.length →
-    p.batch.entries ≡ entries_in (found roll added) → IsPlannedAt roll p.change → changed roll p.change ≡ after roll added → Continues (record { config = roll.config; shards = shards; list = list }) p
-continues shards roll list added p at elements first entered planned made =
+pub continues : (shards : ℕ) (roll : Roll) (list added : List Listed) (ready : Bool) (p : Plan) → roll ≡ roll_at roll.config list → p.elements ≡ added → p.batch.first ≡ roll.length →
+    p.batch.entries ≡ entries_in (found roll added) → CanCommit (record { roll = roll; ready = ready }) p.change → changed roll p.change ≡ after roll added →
+    Continues (record { config = roll.config; shards = shards; list = list; ready = ready }) p
+continues shards roll list added ready p at elements first entered planned made =
     let config : Config = roll.config in
-    subst (λ (es : List Listed). (let q : Plan = record p { elements = es } in Continues (record { config = config; shards = shards; list = list }) q)) (sym elements)
+    let l : Ledger = record { config = config; shards = shards; list = list; ready = ready } in
+    subst (λ (es : List Listed). (let q : Plan = record p { elements = es } in Continues l q)) (sym elements)
     (record {
       first = first ∙ roll_length config list roll at;
       entries = entries_on config list added ∙ ap (λ (r : Roll). entries config list ++ entries_in (found r added)) (sym at) ∙ ap (λ (es : List Entry). entries config list ++ es) (sym entered);
-      change = leads_to config list p.change added (subst (λ (r : Roll). IsPlannedAt r p.change) at planned)
+      change = leads_to l p.change added (subst (λ (r : Roll). (let s : Standing = record { roll = r; ready = ready } in CanCommit s p.change)) at planned)
           (subst (λ (r : Roll). changed r p.change ≡ after r added) at made);
     })

@@ -37,18 +37,18 @@ impl Model for Ledger {
 
     ghost Value = { Ledger };
 
-    ghost view = { λ l. record { config = l.registry.config; shards = l.shards; list = l.listing } };
+    ghost view = { λ l. record { config = l.registry.roll.config; shards = l.shards; list = l.listing; ready = l.registry.ready } };
 
     ghost invariant = { λ l.
-        (1 ≤ l.shards) × (l.shards ≤ 64) × (l.registry ≡ roll_at l.registry.config l.listing)
-        × (l.registry.length ≡ length l.listing) };
+        (1 ≤ l.shards) × (l.shards ≤ 64) × (l.registry.roll ≡ roll_at l.registry.roll.config l.listing)
+        × (l.registry.roll.length ≡ length l.listing) };
 }
 
 impl Ledger {
-    /// An empty list, for the configuration's number of shards. It takes the room for as many sessions as may be live.
-    /// An error means that memory was refused.
+    /// An empty list, for the configuration's number of shards. It takes room for the due moments of as many sessions as may
+    /// be live. An error means that memory was refused.
     pub fn new(alloc: Global, config: Config) -> Result<Ledger, AllocError>
-        ensures { IfOk result (λ l. l ≡ record { config = config; shards = config.shards; list = [] }) }
+        ensures { IfOk result (λ l. (l.config ≡ config) × (l.shards ≡ config.shards) × (l.list ≡ [])) }
     {
         Ok(Ledger {
             registry: Registry::new(alloc, config)?,
@@ -73,21 +73,23 @@ impl Ledger {
 
     /// What a request comes to: its messages are judged in order, each behind those before it, and the ticket of a
     /// connect or a rider names the shard of its session. It is refused where its moment, in milliseconds, is above the
-    /// greatest that is taken, else where the list would become too long, or else where memory is refused.
+    /// greatest that is taken, else where the list would become too long, or else where memory is refused. Where it opens a
+    /// session there is then a record for it, which `commit` fills.
     pub fn plan<P: Placing>(
-        &self,
+        &mut self,
         alloc: Global,
         placing: &P,
         moment: u64,
         nonce: u128,
         messages: &[Message],
     ) -> Result<Plan, AdmitFault>
-        ensures fault { IfSome (fault_of moment (length self.now.list + length messages.now)) (λ fault. result ≡ Err fault) }
-        ensures memory { fault_of moment (length self.now.list + length messages.now) ≡ None → IsOkUnless result Memory }
+        ensures same { self.new ≡ record self.old { ready = self.new.ready } }
+        ensures fault { IfSome (fault_of moment (length self.old.list + length messages.now)) (λ fault. result ≡ Err fault) }
+        ensures memory { fault_of moment (length self.old.list + length messages.now) ≡ None → IsOkUnless result Memory }
         ensures elements { IfOk result (λ p. p.elements ≡ request moment nonce messages.now) }
-        ensures continues { IfOk result (λ p. Continues self.now p) }
+        ensures continues { IfOk result (λ p. Continues self.new p) }
         ensures slots { IfOk result (λ p. p.slots
-            ≡ admitted_slots (placed_by self.now.config self.now.shards (P.place_of placing.now)) self.now.list p.elements) }
+            ≡ admitted_slots (placed_by self.old.config self.old.shards (P.place_of placing.now)) self.old.list p.elements) }
     {
         let planned = self.registry.plan(alloc, moment, nonce, messages)?;
         let slots = placed(alloc, placing, self.shards, planned.slots)?;
@@ -127,8 +129,8 @@ impl Ledger {
 
     /// Makes a change that was planned at this very ledger, with nothing committed since, and adds its elements to the list.
     pub fn commit(&mut self, change: Change, elements: &Listing)
-        requires { LeadsTo self.old.config self.old.list change elements.now }
-        ensures { self.new ≡ record self.old { list = self.old.list ++ elements.now } }
+        requires { LeadsTo self.old change elements.now }
+        ensures { self.new ≡ record self.old { list = self.old.list ++ elements.now; ready = self.new.ready } }
     {
         self.registry.commit(change);
         self.listing.join(elements);

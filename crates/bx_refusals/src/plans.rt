@@ -1,6 +1,6 @@
 //! A registry at which requests and ticks are planned.
 ghost use Rattle.std.specs.Prelude.{IfOk};
-ghost use Rattle.bx_registry.specs.Changes.{IsPlannedAt};
+ghost use Rattle.bx_registry.specs.Changes.{CanCommit};
 
 use crate::requests::{HANDSHAKE, add_line, arrival, config, reply};
 use crate::unlike::Unlike;
@@ -87,11 +87,11 @@ fn request(
 // Plans a request, once more where memory was refused: the registry is then as before.
 fn planned(
     alloc: Global,
-    registry: &Registry,
+    registry: &mut Registry,
     moment: u64,
     messages: &[Message],
 ) -> Result<Plan, Unlike>
-    ensures { IfOk result (λ plan. IsPlannedAt registry.now plan.change) }
+    ensures { IfOk result (λ plan. CanCommit registry.new plan.change) }
 {
     let before = counts_of(registry);
     let plan = match registry.plan(alloc, moment, 0, messages) {
@@ -118,7 +118,7 @@ fn tick(alloc: Global, registry: &mut Registry, moment: u64) -> Result<String, U
 
 // Plans a tick, once more where memory was refused: the registry is then as before.
 fn planned_tick(alloc: Global, registry: &mut Registry, moment: u64) -> Result<TickPlan, Unlike>
-    ensures { IfOk result (λ plan. IsPlannedAt registry.new plan.change) }
+    ensures { IfOk result (λ plan. CanCommit registry.new plan.change) }
 {
     let before = counts_of(registry);
     match registry.plan_tick(alloc, moment) {

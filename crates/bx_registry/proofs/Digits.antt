@@ -12,7 +12,7 @@ use Rattle.std.proofs.lemmas.List.Sums.{fold-append}
 use Rattle.std.proofs.lemmas.Bool.{eqb-false}
 use Rattle.bx_entry.specs.Registry.{Registered, hex_digits, client_id, live_with_id}
 use Rattle.bx_roster.specs.Tables.{IsNamed, IsTable, AllLive, known_of, known_at}
-use Rattle.bx_roster.proofs.Slots.{IsTable-bounds}
+use Rattle.bx_roster.proofs.Tables.{IsTable-bounds}
 use Rattle.bx_registry.specs.Ids.{digit_value, with_digit, hex_value, number_in}
 use Rattle.bx_registry.specs.Drafts.{IsSender}
 

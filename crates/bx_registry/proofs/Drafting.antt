@@ -12,7 +12,7 @@ use Rattle.bx_roster.specs.Edits.{edited, CanEdit, CanEditEach, IsNext}
 use Rattle.bx_roster.specs.declared.edit.Edit.{Edit}
 use Rattle.bx_roster.specs.declared.edit.Edit.TheVariants.{Open, Extend, Close}
 use Rattle.bx_roster.proofs.Live.{live_in-extended}
-use Rattle.bx_roster.proofs.Slots.{IsTable-filter, IsTable-map, IsTable-push, IsTable-absent, map-absent, live_in-all, AllLive-live, changed-number, changed-client, closing-number, closing-client}
+use Rattle.bx_roster.proofs.Tables.{IsTable-filter, IsTable-map, IsTable-push, IsTable-absent, map-absent, live_in-all, AllLive-live, changed-number, changed-client, closing-number, closing-client}
 use Rattle.bx_registry.specs.Drafts.{IsDrafted, known_after}
 
 -- ---- each edit

@@ -30,7 +30,7 @@ use Rattle.bx_roster.specs.Live.{Members, live_in, with_live}
 use Rattle.bx_roster.specs.Tables.{known_of, known_at, AllLive}
 use Rattle.bx_roster.specs.Edits.{edited, CanEdit}
 use Rattle.bx_roster.specs.declared.edit.Edit.TheVariants.{Open}
-use Rattle.bx_roster.proofs.Slots.{live_in-all}
+use Rattle.bx_roster.proofs.Tables.{live_in-all}
 use Rattle.bx_registry.specs.Rolls.{newcomer, ridden, verdict, judged_by, unnamed}
 use Rattle.bx_registry.specs.Drafts.{IsSender}
 use Rattle.bx_registry.specs.Plans.{planned_at}
@@ -72,7 +72,7 @@ last-outcome false false false false e1 e2 e3 e4 h = refl
 room : (config : Config) (live : List Registered) (p : Posted) → first_case (cases_of config live p Handshake) ≡ None → nat_le config.limits.sessions (count_live live) ≡ false
 room config live p h = last-outcome p.second (not (is_version p.message.version)) (not (list_any is_polling p.message.supported)) (nat_le config.limits.sessions (count_live live)) SecondHandshake UnsupportedVersion NoSupportedConnectionType TooManySessions h
 
-handshake-kind : (m : Message) → is_handshake m ≡ true → message_kind_of m.channel ≡ Handshake
+pub handshake-kind : (m : Message) → is_handshake m ≡ true → message_kind_of m.channel ≡ Handshake
 handshake-kind m h = cond-true (is_handshake m) Handshake _ h
 
 pub opened-verdict : (config : Config) (ms : Members) (senders : Senders) (moment place n : ℕ) (p : Posted) (j : Judgement) →

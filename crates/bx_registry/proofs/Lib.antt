@@ -5,3 +5,4 @@ pub mod Digits
 pub mod Drafting
 pub mod Judging
 pub mod Planning
+pub mod Opening

@@ -1,9 +1,9 @@
 -- What a request or a tick changes of a roll.
-use Rattle.std.specs.Prelude.{ℕ, ◌≡◌, ◌≤◌}
+use Rattle.std.specs.Prelude.{ℕ, Bool, ◌≡◌, ◌≤◌}
 use Rattle.bx_advice.specs.declared.config.Config.{Config}
 use Rattle.bx_advice.specs.Limits.{greatest_moment, greatest_length}
 use Rattle.bx_roster.specs.Live.{Members}
-use Rattle.bx_roster.specs.Edits.{CanEditBy, edited_by}
+use Rattle.bx_roster.specs.Edits.{CanEditBy, edited_by, opens, room_of}
 use Rattle.bx_roster.specs.declared.edit.Edits.{Edits}
 use Rattle.bx_registry.specs.Rolls.{Roll}
 
@@ -23,6 +23,16 @@ pub record IsPlannedAt (roll : Roll) (c : Amendment) : Type 0 where
   pub opened : (edited_by roll.members c.edits).opened ≤ c.length
   pub clock : c.clock ≤ greatest_moment
   pub length : c.length ≤ greatest_length
+
+-- what contracts see of a registry: its roll, and whether there is a vacant record for the next session
+pub record Standing : Type 0 where
+  pub roll : Roll
+  pub ready : Bool
+
+-- the change was planned at this registry, which has a record for the session that it opens, if it opens one
+pub record CanCommit (s : Standing) (c : Amendment) : Type 0 where
+  pub planned : IsPlannedAt s.roll c
+  pub room : opens c.edits ≤ room_of s.ready
 
 -- a registry keeps its limits
 pub record IsWithin (config : Config) (ms : Members) (clock length : ℕ) : Type 0 where

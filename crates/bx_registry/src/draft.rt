@@ -34,15 +34,15 @@ impl<'a> Model for Draft<'a> {
 
     ghost Value = { Drafted };
 
-    ghost view = { λ d. record { base = d.table.now; edits = d.edits } };
+    ghost view = { λ d. record { base = d.table.now.members; edits = d.edits } };
 
-    ghost invariant = { λ d. IsDrafted d.table.now d.edits d.count d.opened };
+    ghost invariant = { λ d. IsDrafted d.table.now.members d.edits d.count d.opened };
 }
 
 impl<'a> Draft<'a> {
     /// The sessions as they are.
     pub(crate) fn new(alloc: Global, table: &'a Table) -> Draft<'a>
-        ensures { result ≡ record { base = table.now; edits = [] } }
+        ensures { result ≡ record { base = table.now.members; edits = [] } }
     {
         let (count, opened) = table.counts();
         Draft {

@@ -5,7 +5,7 @@ ghost use Rattle.bx_entry.specs.Listing.{request};
 ghost use Rattle.bx_entry.specs.Listing as messages;
 ghost use Rattle.bx_entry.specs.Registry.{Registered, empty_registry};
 ghost use Rattle.bx_registry.specs.Rolls.{after, found, next, roll_of, step};
-ghost use Rattle.bx_registry.specs.Changes.{IsPlannedAt, changed};
+ghost use Rattle.bx_registry.specs.Changes.{CanCommit, changed};
 ghost use Rattle.bx_registry.specs.Plans.{checked, entries_in, fault_of, slots_in};
 
 use crate::change::Change;
@@ -34,21 +34,23 @@ pub struct Registry {
 
 impl Model for Registry {
     ghost use Rattle.bx_entry.specs.declared.senders.Senders.TheVariants.{NoneYet};
-    ghost use Rattle.bx_registry.specs.Rolls.{Roll};
-    ghost use Rattle.bx_registry.specs.Changes.{IsWithin};
+    ghost use Rattle.bx_registry.specs.Changes.{IsWithin, Standing};
 
-    ghost Value = { Roll };
+    ghost Value = { Standing };
 
-    ghost view = { λ r. record { config = r.config; members = r.table; clock = r.clock; length = r.length; senders = NoneYet } };
+    ghost view = { λ r. record {
+      roll = record { config = r.config; members = r.table.members; clock = r.clock; length = r.length; senders = NoneYet };
+      ready = r.table.ready;
+    } };
 
-    ghost invariant = { λ r. IsWithin r.config r.table r.clock r.length };
+    ghost invariant = { λ r. IsWithin r.config r.table.members r.clock r.length };
 }
 
 impl Registry {
-    /// No session, and no entry. It takes the room for as many sessions as may be live. An error means that memory was
-    /// refused.
+    /// No session, and no entry. It takes room for the due moments of as many sessions as may be live. An error means that memory
+    /// was refused.
     pub fn new(alloc: Global, config: Config) -> Result<Registry, AllocError>
-        ensures { IfOk result (λ r. r ≡ roll_of config empty_registry) }
+        ensures { IfOk result (λ r. r.roll ≡ roll_of config empty_registry) }
     {
         let table = Table::new(alloc, config.limits.sessions)?;
         Ok(Registry {
@@ -61,7 +63,7 @@ impl Registry {
 
     /// How many entries the list has.
     pub fn entries(&self) -> u64
-        ensures { result ≡ self.now.length }
+        ensures { result ≡ self.now.roll.length }
     {
         // Read by a pattern for the prover, which so learns what the field stands for in the contract.
         let Registry { length, .. } = self;
@@ -70,40 +72,41 @@ impl Registry {
 
     /// How many sessions are live.
     pub fn sessions(&self) -> usize
-        ensures { result ≡ length self.now.members.live }
+        ensures { result ≡ length self.now.roll.members.live }
     {
         self.table.counts().0
     }
 
     /// Whether the session with this number is live.
     pub fn live(&self, number: u64) -> bool
-        ensures { result ≡ list_any (λ (r : Registered). r.number == number) self.now.members.live }
+        ensures { result ≡ list_any (λ (r : Registered). r.number == number) self.now.roll.members.live }
     {
         self.table.known_at(number).is_some()
     }
 
     /// What a request comes to: its messages are judged in order, each behind those before it. It is refused where its
     /// moment, in milliseconds, is above the greatest that is taken, else where the list would become too long, or
-    /// else where memory is refused.
+    /// else where memory is refused. Where it opens a session there is then a record for it, which `commit` fills.
     pub fn plan(
-        &self,
+        &mut self,
         alloc: Global,
         moment: u64,
         nonce: u128,
         messages: &[Message],
     ) -> Result<Plan, AdmitFault>
-        ensures fault { IfSome (fault_of moment (self.now.length + length messages.now))
+        ensures same { self.new.roll ≡ self.old.roll }
+        ensures fault { IfSome (fault_of moment (self.old.roll.length + length messages.now))
             (λ fault. result ≡ Err fault) }
-        ensures memory { fault_of moment (self.now.length + length messages.now) ≡ None
+        ensures memory { fault_of moment (self.old.roll.length + length messages.now) ≡ None
             → IsOkUnless result AdmitFault.Memory }
-        ensures first { IfOk result (λ plan. plan.batch.first ≡ self.now.length) }
+        ensures first { IfOk result (λ plan. plan.batch.first ≡ self.old.roll.length) }
         ensures entries { IfOk result (λ plan.
-            plan.batch.entries ≡ entries_in (found self.now (request moment nonce messages.now))) }
+            plan.batch.entries ≡ entries_in (found self.old.roll (request moment nonce messages.now))) }
         ensures slots { IfOk result (λ plan.
-            plan.slots ≡ slots_in (found self.now (request moment nonce messages.now))) }
-        ensures planned { IfOk result (λ plan. IsPlannedAt self.now plan.change) }
+            plan.slots ≡ slots_in (found self.old.roll (request moment nonce messages.now))) }
+        ensures planned { IfOk result (λ plan. CanCommit self.new plan.change) }
         ensures change { IfOk result (λ plan.
-            changed self.now plan.change ≡ after self.now (request moment nonce messages.now)) }
+            changed self.old.roll plan.change ≡ after self.old.roll (request moment nonce messages.now)) }
     {
         self.check(moment, messages.len())?;
         let mut draft = Draft::new(alloc, &self.table);
@@ -114,11 +117,13 @@ impl Registry {
             clock: self.clock,
         };
         let planning = plan_all(alloc, &self.config, &mut draft, start, messages)?;
+        let edits = draft.into_edits();
+        self.table.prepare(edits.as_slice())?;
         Ok(Plan {
             batch: self.batch(planning.entries),
             slots: planning.slots,
             change: Change {
-                edits: Edits::Each(draft.into_edits()),
+                edits: Edits::Each(edits),
                 clock: planning.clock,
                 length: self.length + messages.len() as u64,
             },
@@ -127,7 +132,7 @@ impl Registry {
 
     // Entries from the end of the list on.
     fn batch(&self, entries: Sequence<Entry>) -> Batch
-        ensures { result ≡ record { first = self.now.length; entries = entries } }
+        ensures { result ≡ record { first = self.now.roll.length; entries = entries } }
     {
         Batch {
             first: self.length,
@@ -140,14 +145,14 @@ impl Registry {
     /// live.
     pub fn plan_tick(&mut self, alloc: Global, moment: u64) -> Result<TickPlan, AdmitFault>
         ensures same { self.new ≡ self.old }
-        ensures fault { IfSome (fault_of moment (self.old.length + 1)) (λ fault. result ≡ Err fault) }
-        ensures memory { fault_of moment (self.old.length + 1) ≡ None
+        ensures fault { IfSome (fault_of moment (self.old.roll.length + 1)) (λ fault. result ≡ Err fault) }
+        ensures memory { fault_of moment (self.old.roll.length + 1) ≡ None
             → IsOkUnless result AdmitFault.Memory }
         ensures entry { IfOk result (λ plan.
-            plan.entry ≡ (step self.old (messages.Tick moment)).found.entry) }
-        ensures planned { IfOk result (λ plan. IsPlannedAt self.new plan.change) }
+            plan.entry ≡ (step self.old.roll (messages.Tick moment)).found.entry) }
+        ensures planned { IfOk result (λ plan. CanCommit self.new plan.change) }
         ensures change { IfOk result (λ plan.
-            changed self.new plan.change ≡ next self.old (messages.Tick moment)) }
+            changed self.old.roll plan.change ≡ next self.old.roll (messages.Tick moment)) }
     {
         self.check(moment, 1)?;
         let clock = self.clock.max(moment);
@@ -167,7 +172,7 @@ impl Registry {
 
     // Moments and the list have an end.
     fn check(&self, moment: u64, count: usize) -> Result<(), AdmitFault>
-        ensures { result ≡ checked (fault_of moment (self.now.length + count)) }
+        ensures { result ≡ checked (fault_of moment (self.now.roll.length + count)) }
     {
         if moment > MAX_MOMENT {
             return Err(AdmitFault::BadMoment);
@@ -180,8 +185,8 @@ impl Registry {
 
     /// Makes a change that was planned at this very registry, with nothing committed since.
     pub fn commit(&mut self, change: Change)
-        requires { IsPlannedAt self.old change }
-        ensures { self.new ≡ changed self.old change }
+        requires { CanCommit self.old change }
+        ensures { self.new.roll ≡ changed self.old.roll change }
     {
         let Change {
             edits,

@@ -1,5 +1,5 @@
 -- The entries of a queue, the sessions that they file, and what a tick makes of them.
-use Rattle.std.proofs.Common.{◌≡◌, ◌≢◌, ℕ, ◌+◌, ◌<◌, ◌≤◌, Bool, true, false, List, [], ◌∷◌, ◌++◌, append_assoc, append-nil, length, length-append, get_or, take, drop, map, refl, sym, ap, subst, ◌∙◌, cond, arith, eq-eqb, ne_eqb, eqb-true}
+use Rattle.std.proofs.Common.{◌≡◌, ◌≢◌, ℕ, ◌+◌, ◌<◌, ◌≤◌, Bool, true, false, List, [], ◌∷◌, ◌++◌, append_assoc, length, map, refl, sym, ap, subst, ◌∙◌, cond, arith, eq-eqb, ne_eqb, eqb-true}
 use Rattle.std.specs.Prelude.{◌&&◌, ◌||◌, ◌==◌, nat_lt, nat_le, not, Some, None, if◌then◌else◌}
 use Rattle.std.specs.List.{filter, list_any}
 use Rattle.std.specs.List.Sorted.{IsPermutation}
@@ -10,17 +10,16 @@ use Rattle.std.specs.declared.cmp.Ordering.TheVariants.{Less, Equal, Greater}
 use Rattle.std.proofs.Math.Bool.{and-false, or-true}
 use Rattle.std.proofs.lemmas.Map.Keys.{ge_from_not_lt}
 use Rattle.std.proofs.lemmas.Bool.Decides.{nat_tests}
-use Rattle.std.proofs.lemmas.List.{take_more, take-append-drop}
 use Rattle.std.proofs.lemmas.List.Elements.{All-nil, All-cons, All-head, All-tail, filter-append}
 use Rattle.std.proofs.lemmas.List.Sorted.{length_permutation, IsPermutation-sym, IsPermutation-trans, IsPermutation-middle, IsPermutation-append_right, list_any-IsPermutation}
 use Rattle.std.proofs.lemmas.Bool.{eqb-false, leb-true, le-leb, and_parts}
 use Rattle.bx_entry.specs.Registry.{Registered, extended, closed, swept, is_overdue}
 use Rattle.bx_roster.specs.Live.{Members, live_in, with_live}
 use Rattle.bx_roster.specs.Tables.{IsTable, IsAbsent, AllLive, due_at}
-use Rattle.bx_roster.specs.Queues.{AllFiled, IsFrom, Queue, due_order, entries, files}
+use Rattle.bx_roster.specs.Queues.{AllFiled, IsFrom, due_order, files}
 use Rattle.bx_roster.specs.declared.due_queue.Due.{Due}
 use Rattle.bx_roster.proofs.Live.{live_in-swept}
-use Rattle.bx_roster.proofs.Slots.{IsTable-absent, map-absent, live_in-all, changed-due, changed-number, closing-due, closing-number}
+use Rattle.bx_roster.proofs.Tables.{IsTable-absent, map-absent, live_in-all, changed-due, changed-number, closing-due, closing-number}
 
 -- ---- tests
 
@@ -115,31 +114,6 @@ filed-push d late waiting late' waiting' rs r e p same moment all =
 pub length-push : (d : Due) (late waiting late' waiting' : List Due) → late' ≡ late → IsPermutation (d ∷ waiting) waiting' → length (late' ++ waiting') ≡ length (late ++ waiting) + 1
 length-push d late waiting late' waiting' e p =
     omega (arith, length_permutation (d ∷ (late ++ waiting)) (late' ++ waiting') (entries-filed d late waiting late' waiting' e p))
-
--- one more session of a list
-live-more : (rs : List Registered) (i : ℕ) (x : Registered) → i < length rs → x ≡ get_or rs i x → (b : Bool) → x.live ≡ b → live_in (take (i + 1) rs) ≡ live_in (take i rs) ++ cond b (x ∷ []) []
-live-more rs i x h is b e =
-    ap live_in (take_more rs i x h ∙ ap (λ (y : Registered). take i rs ++ y ∷ []) (sym is)) ∙ filter-append (λ r. r.live) (take i rs) (x ∷ [])
-    ∙ ap (λ (c : Bool). live_in (take i rs) ++ cond c (x ∷ []) []) e
-
-pub filed-more : (d : Due) (q new : Queue) (rs : List Registered) (i : ℕ) (x : Registered) → i < length rs → x ≡ get_or rs i x → x.live ≡ true → d.number ≡ x.number → d.moment.0 ≡ x.due →
-    new.late ≡ q.late → IsPermutation (d ∷ q.waiting) new.waiting → AllFiled (entries q) (live_in (take i rs)) → AllFiled (entries new) (live_in (take (i + 1) rs))
-filed-more d q new rs i x h is lives same moment e p all =
-    rw (live-more rs i x h is true lives) (filed-push d q.late q.waiting new.late new.waiting (live_in (take i rs)) x e p same moment all)
-
-pub length-more : (d : Due) (q new : Queue) (rs : List Registered) (i : ℕ) (x : Registered) → i < length rs → x ≡ get_or rs i x → x.live ≡ true →
-    new.late ≡ q.late → IsPermutation (d ∷ q.waiting) new.waiting → length (entries q) ≡ length (live_in (take i rs)) → length (entries new) ≡ length (live_in (take (i + 1) rs))
-length-more d q new rs i x h is lives e p count =
-    omega (arith, ap length (live-more rs i x h is true lives), length-append (live_in (take i rs)) (x ∷ []), length-push d q.late q.waiting new.late new.waiting e p, count)
-
-pub live-skipped : (rs : List Registered) (i : ℕ) (x : Registered) → i < length rs → x ≡ get_or rs i x → x.live ≡ false → live_in (take (i + 1) rs) ≡ live_in (take i rs)
-live-skipped rs i x h is dead = live-more rs i x h is false dead ∙ append-nil (live_in (take i rs))
-
--- of those that are live some are left
-pub live-left : (rs : List Registered) (i : ℕ) (x : Registered) → i < length rs → x ≡ get_or rs i x → x.live ≡ true → length (live_in (take i rs)) < length (live_in rs)
-live-left rs i x h is lives =
-    let whole : live_in rs ≡ live_in (take (i + 1) rs) ++ live_in (drop (i + 1) rs) = ap live_in (sym (take-append-drop (i + 1) rs)) ∙ filter-append (λ r. r.live) (take (i + 1) rs) (drop (i + 1) rs) in
-    omega (arith, ap length whole, length-append (live_in (take (i + 1) rs)) (live_in (drop (i + 1) rs)), ap length (live-more rs i x h is true lives), length-append (live_in (take i rs)) (x ∷ []))
 
 -- an entry whose session is not there may go
 pub filed-absent : (d : Due) (es : List Due) (rs : List Registered) → IsAbsent d.number rs → AllFiled (d ∷ es) rs → AllFiled es rs

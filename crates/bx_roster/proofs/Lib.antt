@@ -1,5 +1,8 @@
 pub mod Lists
 pub mod Live
-pub mod Slots
+pub mod Tables
+pub mod Sessions
+pub mod Kept
+pub mod Filing
 pub mod Dues
 pub mod Past

@@ -13,7 +13,7 @@ use Rattle.bx_entry.specs.Registry.{Registered, is_overdue, overdue}
 use Rattle.bx_roster.specs.Tables.{IsTable, IsAbsent, AllLive, due_at}
 use Rattle.bx_roster.specs.Queues.{AllFiled, IsFrom, files, is_past, past_numbers}
 use Rattle.bx_roster.specs.declared.due_queue.Due.{Due}
-use Rattle.bx_roster.proofs.Slots.{IsTable-absent}
+use Rattle.bx_roster.proofs.Tables.{IsTable-absent}
 use Rattle.bx_roster.proofs.Dues.{due-from, files-number, lt-from-test}
 
 -- whether a number is in a list

@@ -1,5 +1,5 @@
 -- What edits make of the live sessions.
-use Rattle.std.specs.Prelude.{◌≡◌, ◌+◌, ◌<◌, ◌^◌, true, List, [], ◌∷◌, ◌++◌, length, fold, IsSome}
+use Rattle.std.specs.Prelude.{ℕ, ◌≡◌, ◌+◌, ◌<◌, ◌^◌, Bool, true, false, if◌then◌else◌, List, [], ◌∷◌, ◌++◌, length, fold, IsSome}
 use Rattle.bx_entry.specs.Registry.{Registered, extended, closed, swept}
 use Rattle.bx_roster.specs.Live.{Members, with_live, live_in}
 use Rattle.bx_roster.specs.Tables.{IsNamed, known_at}
@@ -42,3 +42,29 @@ CanEditEach ms (e ∷ es) = CanEdit ms e × CanEditEach (edited ms e) es
 abbrev pub CanEditBy : Members → Edits → Type 0
 CanEditBy ms (Each edits) = CanEditEach ms edits
 CanEditBy ms (Sweep moment) = Unit {0}
+
+-- whether an edit opens a session
+abbrev pub is_open : Edit → Bool
+is_open (Open s) = true
+is_open (Extend number due) = false
+is_open (Close number) = false
+
+-- how many sessions an edit opens
+abbrev pub opened_by : Edit → ℕ
+opened_by (Open s) = 1
+opened_by (Extend number due) = 0
+opened_by (Close number) = 0
+
+-- how many sessions these edits open
+abbrev pub opened_by_each : List Edit → ℕ
+opened_by_each [] = 0
+opened_by_each (e ∷ es) = opened_by e + opened_by_each es
+
+-- how many sessions a change opens
+abbrev pub opens : Edits → ℕ
+opens (Each edits) = opened_by_each edits
+opens (Sweep moment) = 0
+
+-- how many sessions may be opened before the next record is made
+abbrev pub room_of : Bool → ℕ
+room_of ready = if ready then 1 else 0

@@ -2,3 +2,4 @@ pub mod Live
 pub mod Tables
 pub mod Queues
 pub mod Edits
+pub mod Kept

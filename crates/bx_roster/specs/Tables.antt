@@ -1,7 +1,6 @@
 -- The table of sessions that a registry keeps, in the order of their numbers, closed ones among them.
-use Rattle.std.specs.Prelude.{ℕ, ◌≡◌, ◌≢◌, ◌<◌, ◌≤◌, ◌==◌, Bool, true, List, [], ◌∷◌, length, drop, if◌then◌else◌, Option, Some, None}
+use Rattle.std.specs.Prelude.{ℕ, ◌≡◌, ◌≢◌, ◌<◌, ◌≤◌, ◌==◌, Bool, true, List, [], ◌∷◌, drop, if◌then◌else◌, Option, Some, None}
 use Rattle.bx_entry.specs.Registry.{Registered, hex_digits}
-use Rattle.bx_roster.specs.Live.{live_in}
 
 -- a client id ends in the digits of its session's number
 abbrev pub IsNamed : Registered → Type 0
@@ -35,10 +34,3 @@ known_at number (r ∷ rs) = if r.number == number then Some (known_of r) else k
 abbrev pub due_at : ℕ → List Registered → Option ℕ
 due_at number [] = None
 due_at number (r ∷ rs) = if r.number == number then Some r.due else due_at number rs
-
--- a table with room for as many live sessions as there may be, so many of them live
-pub record IsKept (slots : List Registered) (capacity limit count opened : ℕ) : Type 0 where
-  pub room : limit ≤ capacity
-  pub fits : count ≤ limit
-  pub counted : count ≡ length (live_in slots)
-  pub table : IsTable 0 opened slots

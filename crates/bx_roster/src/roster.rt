@@ -1,170 +1,182 @@
-//! The sessions in the order of their numbers.
-ghost use Rattle.std.specs.Prelude.{◌≡◌, ◌+◌, ◌<◌, ◌≤◌, ◌^◌, ◌++◌, ◌∷◌, [], ℕ, length, option_map, slice_index_or, vec_capacity, vec_len, ◌⊎◌, IfOk, IfSome, IfNone};
-ghost use Rattle.bx_entry.specs.Registry.{Registered, closed, extended};
-ghost use Rattle.bx_roster.specs.Live.{Members, live_in, with_live};
-ghost use Rattle.bx_roster.specs.Tables.{AllLive, IsAbsent, IsTable, due_at, known_at};
-ghost use Rattle.bx_roster.specs.Queues.{IsRoster};
+//! The live sessions by number.
+ghost use Rattle.std.specs.Prelude.{◌≡◌, ◌+◌, ◌<◌, ◌≤◌, ◌^◌, ◌++◌, ◌∷◌, [], length, true, false, option_map, OnOk, OnErr};
+ghost use Rattle.indexmap.specs.IndexMap.{values};
+ghost use Rattle.bx_entry.specs.Registry.{closed, extended};
+ghost use Rattle.bx_roster.specs.Live.{live_in, with_live};
+ghost use Rattle.bx_roster.specs.Tables.{AllLive, IsTable, due_at, known_at, known_of};
+ghost use Rattle.bx_roster.specs.Queues.{AllFiled, IsRoster, entries};
 ghost use Rattle.bx_roster.specs.Edits.{IsNext};
+ghost use Rattle.bx_roster.specs.Kept.{later, sessions_in};
 
-use crate::session::{Known, Session};
-use std::alloc::{AllocError, Global};
+use crate::due_queue::DueQueue;
+use crate::session::Session;
+use indexmap::IndexMap;
+use std::alloc::{AllocFailed, Global};
 use std::marker::Model;
 
-/// The sessions in the order of their numbers. A session that is closed stays in its slot until there is no
-/// slot left. There is room from the first on, for twice as many as may be live.
+/// The live sessions by number, and perhaps a vacant record for the next one. Contracts see the sessions in the order of their
+/// numbers, whatever the order in the map, and whether there is a vacant record. So the map never has more than one record
+/// more than there are live sessions.
 #[derive(Drop)]
 pub(crate) struct Roster {
-    slots: Vec<Session>,
+    records: IndexMap<u64, Option<Session>>,
     limit: usize,
     count: usize,
     opened: u64,
 }
 
 impl Model for Roster {
-    ghost use Rattle.std.specs.Prelude.{vec_capacity};
-    ghost use Rattle.bx_roster.specs.Live.{Members, live_in};
-    ghost use Rattle.bx_roster.specs.Tables.{IsKept};
+    ghost use Rattle.std.specs.Prelude.{◌+◌, is_some, nat_eq};
+    ghost use Rattle.indexmap.specs.IndexMap.{get, index_map_len};
+    ghost use Rattle.bx_roster.specs.Kept.{IsKept, sessions_to};
+    ghost use Rattle.bx_roster.specs.Live.{Prepared};
 
-    ghost Value = { Members };
+    ghost Value = { Prepared };
 
-    ghost view = { λ t. record { limit = t.limit; opened = t.opened; live = live_in t.slots.items } };
+    ghost view = { λ t. record {
+      members = record { limit = t.limit; opened = t.opened; live = sessions_to (get nat_eq t.records) t.opened };
+      ready = is_some (get nat_eq t.records (t.opened + 1));
+    } };
 
-    ghost invariant = { λ t. IsKept t.slots.items (vec_capacity t.slots) t.limit t.count t.opened };
+    ghost invariant = { λ t. IsKept (get nat_eq t.records) (index_map_len t.records) t.limit t.count t.opened };
 }
 
 impl Roster {
     /// No session was opened; so many may be live.
-    pub(crate) fn new(alloc: Global, limit: usize) -> Result<Roster, AllocError>
-        ensures { IfOk result (λ t. t ≡ record { limit = limit; opened = 0; live = [] }) }
+    pub(crate) fn new(alloc: Global, limit: usize) -> Roster
+        ensures { result ≡ record { members = record { limit = limit; opened = 0; live = [] }; ready = false } }
     {
-        Ok(Roster {
-            slots: Vec::with_capacity(alloc, limit.saturating_mul(2))?,
+        Roster {
+            records: IndexMap::new(alloc),
             limit,
             count: 0,
             opened: 0,
-        })
+        }
     }
 
     /// How many sessions are live, and how many were opened.
     pub(crate) fn counts(&self) -> (usize, u64)
-        ensures live { result.0 ≡ length self.now.live }
-        ensures opened { result.1 ≡ self.now.opened }
-        ensures room { length self.now.live ≤ self.now.limit }
-        ensures table { IsTable 0 self.now.opened self.now.live }
-        ensures all { AllLive self.now.live }
-        ensures limit { self.now.limit < 2 ^ 64 }
+        ensures live { result.0 ≡ length self.now.members.live }
+        ensures opened { result.1 ≡ self.now.members.opened }
+        ensures room { length self.now.members.live ≤ self.now.members.limit }
+        ensures table { IsTable 0 self.now.members.opened self.now.members.live }
+        ensures all { AllLive self.now.members.live }
+        ensures limit { self.now.members.limit < 2 ^ 64 }
     {
         (self.count, self.opened)
     }
 
-    /// What is known of the live session with this number.
-    pub(crate) fn known_at(&self, number: u64) -> Option<Known<'_>>
-        ensures { option_map (λ k. (k.client.now, k.ack)) result ≡ known_at number self.now.live }
+    /// The live session with this number.
+    pub(crate) fn find(&self, number: u64) -> Option<&Session>
+        ensures known { option_map (λ s. known_of s.now) result ≡ known_at number self.now.members.live }
+        ensures due { option_map (λ s. s.now.due) result ≡ due_at number self.now.members.live }
     {
-        let slot = position_of(self.slots.as_slice(), number)?;
-        let session = &self.slots[slot];
-        if session.live {
-            Some(session.known())
-        } else {
-            None
+        match self.records.get(&number)? {
+            Some(session) => Some(session),
+            None => None,
         }
     }
 
-    /// The due moment of the live session with this number.
+    /// The due moment of the live session with this number, in milliseconds.
     pub(crate) fn due_of(&self, number: u64) -> Option<u64>
-        ensures { result ≡ due_at number self.now.live }
+        ensures { result ≡ due_at number self.now.members.live }
     {
-        let slot = position_of(self.slots.as_slice(), number)?;
-        let session = &self.slots[slot];
-        if session.live {
-            Some(session.due)
-        } else {
-            None
-        }
+        Some(self.find(number)?.due)
     }
 
-    /// The sessions, closed ones among them.
-    pub(crate) fn slots(&self) -> &[Session]
-        ensures { live_in result.now ≡ self.now.live }
+    /// Files each session in a queue that has none and room for all of them.
+    pub(crate) fn file_all(&self, queue: &mut DueQueue)
+        requires empty { entries queue.old ≡ [] }
+        requires few { length self.now.members.live ≤ queue.old.room }
+        ensures filed { AllFiled (entries queue.new) self.now.members.live }
+        ensures count { length (entries queue.new) ≤ length self.now.members.live }
+        ensures room { queue.new.room ≡ queue.old.room }
     {
-        self.slots.as_slice()
+        file_each(queue, &self.records);
     }
 
-    /// Adds a session.
+    /// Puts a vacant record under the next number, where there is none.
+    pub(crate) fn prepare(&mut self) -> Result<(), AllocFailed<(u64, Option<Session>)>>
+        requires { self.old.members.opened + 1 < 2 ^ 64 }
+        ensures members { self.new.members ≡ self.old.members }
+        ensures ready { OnOk result (self.new.ready ≡ true) }
+        ensures refused { OnErr result (self.new ≡ self.old) }
+    {
+        self.records.insert(self.opened + 1, None)?;
+        Ok(())
+    }
+
+    /// Fills the vacant record with a session. It takes no memory.
     pub(crate) fn open(&mut self, session: Session)
-        requires { IsNext self.old session }
-        ensures opened { self.new ≡ record self.old {
-          opened = session.number;
-          live = self.old.live ++ session ∷ [];
+        requires next { IsNext self.old.members session }
+        requires ready { self.old.ready ≡ true }
+        ensures opened { self.new ≡ record {
+          members = record self.old.members {
+            opened = session.number;
+            live = self.old.members.live ++ session ∷ [];
+          };
+          ready = false;
         } }
-        ensures roster { IsRoster self.new }
+        ensures roster { IsRoster self.new.members }
     {
         self.count += 1;
         self.opened = session.number;
-        add_slot(&mut self.slots, session);
+        let Some(vacant) = self.records.get_mut(&session.number) else {
+            return;
+        };
+        *vacant = Some(session);
     }
 
-    /// Moves the due moment of a session on, in milliseconds, never back.
+    /// Moves the due moment of a session on, in milliseconds, never back. It takes no memory.
     pub(crate) fn extend(&mut self, number: u64, due: u64)
-        ensures extended { self.new ≡ with_live self.old (live_in (extended number due self.old.live)) }
-        ensures roster { IsRoster self.new }
+        ensures extended { self.new ≡ record self.old {
+          members = with_live self.old.members (live_in (extended number due self.old.members.live));
+        } }
+        ensures roster { IsRoster self.new.members }
     {
-        if let Some(slot) = position_of(self.slots.as_slice(), number) {
-            let session = &mut self.slots[slot];
-            session.due = session.due.max(due);
-        }
+        let Some(session) = self.records.get_mut(&number) else {
+            return;
+        };
+        move_on(session, due);
     }
 
-    /// Closes a session.
+    /// Closes a session, which leaves the map. It takes no memory.
     pub(crate) fn close(&mut self, number: u64)
-        ensures closed { self.new ≡ with_live self.old (live_in (closed number self.old.live)) }
-        ensures roster { IsRoster self.new }
+        ensures closed { self.new ≡ record self.old {
+          members = with_live self.old.members (live_in (closed number self.old.members.live));
+        } }
+        ensures roster { IsRoster self.new.members }
     {
-        if let Some(slot) = position_of(self.slots.as_slice(), number) {
-            let session = &mut self.slots[slot];
-            if session.live {
-                session.live = false;
-                self.count -= 1;
-            }
+        if number > self.opened {
+            return;
+        }
+        let Some(_closed) = self.records.swap_remove(&number) else {
+            return;
+        };
+        self.count -= 1;
+    }
+}
+
+// Files the sessions among these records.
+fn file_each(queue: &mut DueQueue, records: &IndexMap<u64, Option<Session>>)
+    requires empty { entries queue.old ≡ [] }
+    requires few { length (sessions_in (values records.now)) ≤ queue.old.room }
+    ensures filed { AllFiled (entries queue.new) (sessions_in (values records.now)) }
+    ensures count { length (entries queue.new) ≡ length (sessions_in (values records.now)) }
+    ensures room { queue.new.room ≡ queue.old.room }
+{
+    for record in records.values() {
+        if let Some(session) = record {
+            queue.file(session.due, session.number);
         }
     }
 }
 
-// Adds a session, where there is room for one more that is live.
-fn add_slot(slots: &mut Vec<Session>, session: Session)
-    requires { length (live_in slots.old.items) < vec_capacity slots.old }
-    ensures items { (slots.new.items ≡ slots.old.items ++ session ∷ [])
-        ⊎ (slots.new.items ≡ live_in slots.old.items ++ session ∷ []) }
-    ensures capacity { vec_capacity slots.old ≤ vec_capacity slots.new }
+// Moves the due moment of a session on, never back.
+fn move_on(session: &mut Option<Session>, due: u64)
+    ensures { session.new ≡ option_map (later due) session.old }
 {
-    make_room(slots);
-    let _ = slots.push(session);
-}
-
-// Gives up the slots of closed sessions where no slot is free.
-fn make_room(slots: &mut Vec<Session>)
-    ensures items { (slots.new.items ≡ slots.old.items)
-        ⊎ (slots.new.items ≡ live_in slots.old.items) }
-    ensures capacity { vec_capacity slots.new ≡ vec_capacity slots.old }
-    ensures room { length (live_in slots.old.items) < vec_capacity slots.old
-        → vec_len slots.new < vec_capacity slots.new }
-{
-    if slots.len() >= slots.capacity() {
-        slots.retain(|slot| slot.live);
-    }
-}
-
-// The slot of the session with this number.
-fn position_of(slots: &[Session], number: u64) -> Option<usize>
-    requires { (high : ℕ) × IsTable 0 high slots.now }
-    ensures within { IfSome result (λ slot. slot < length slots.now) }
-    ensures found { IfSome result (λ slot. (d : Registered)
-        → (slice_index_or slots.now slot d).number ≡ number) }
-    ensures absent { IfNone result (IsAbsent number slots.now) }
-{
-    let slot = slots.partition_point(|session| session.number < number);
-    match slots.get(slot) {
-        Some(session) if session.number == number => Some(slot),
-        _ => None,
+    if let Some(session) = session {
+        session.due = session.due.max(due);
     }
 }

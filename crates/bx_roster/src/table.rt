@@ -1,10 +1,11 @@
 //! The table of sessions, with the queue of their due moments.
-ghost use Rattle.std.specs.Prelude.{◌≡◌, ◌+◌, ◌<◌, ◌≤◌, ◌^◌, ◌++◌, ◌∷◌, [], length, fold, nat_lt, option_map, IfOk};
+ghost use Rattle.std.specs.Prelude.{◌≡◌, ◌+◌, ◌<◌, ◌≤◌, ◌^◌, ◌++◌, ◌∷◌, [], length, fold, nat_lt, option_map, true, false, IfOk, OnOk, OnErr};
+ghost use Rattle.std.specs.List.{list_any};
 ghost use Rattle.bx_entry.specs.Registry.{closed, extended, overdue, swept};
-ghost use Rattle.bx_roster.specs.Live.{Members, live_in, with_live};
+ghost use Rattle.bx_roster.specs.Live.{live_in, with_live};
 ghost use Rattle.bx_roster.specs.Tables.{AllLive, IsTable, known_at};
 ghost use Rattle.bx_roster.specs.Queues.{AllFiled, IsFrom, IsRoster, Queue, entries, is_past, past_numbers};
-ghost use Rattle.bx_roster.specs.Edits.{CanEdit, CanEditBy, CanEditEach, IsNext, edited, edited_by};
+ghost use Rattle.bx_roster.specs.Edits.{CanEdit, CanEditBy, CanEditEach, IsNext, edited, edited_by, is_open, opened_by, opened_by_each, opens, room_of};
 
 use crate::due_queue::{Due, DueQueue};
 use crate::edit::{Edit, Edits};
@@ -27,53 +28,71 @@ pub struct Table {
 }
 
 impl Model for Table {
-    ghost use Rattle.bx_roster.specs.Live.{Members};
+    ghost use Rattle.bx_roster.specs.Live.{Prepared};
     ghost use Rattle.bx_roster.specs.Queues.{IsQueued};
 
-    ghost Value = { Members };
+    ghost Value = { Prepared };
 
     ghost view = { λ t. t.roster };
 
-    ghost invariant = { λ t. IsQueued t.roster t.queue };
+    ghost invariant = { λ t. IsQueued t.roster.members t.queue };
 }
 
 impl Table {
-    /// A table to which no session came, with room for as many live sessions as the limit says. An error means that
-    /// memory was refused.
+    /// A table to which no session came, with room in the queue for as many live sessions as the limit says. An error means
+    /// that memory was refused.
     pub fn new(alloc: Global, limit: usize) -> Result<Table, AllocError>
-        ensures { IfOk result (λ t. t ≡ record { limit = limit; opened = 0; live = [] }) }
+        ensures { IfOk result (λ t. t ≡ record { members = record { limit = limit; opened = 0; live = [] }; ready = false }) }
     {
         Ok(Table {
-            roster: Roster::new(alloc, limit)?,
+            roster: Roster::new(alloc, limit),
             queue: DueQueue::new(alloc, limit.saturating_mul(2))?,
         })
     }
 
     /// How many sessions are live, and how many were opened.
     pub fn counts(&self) -> (usize, u64)
-        ensures live { result.0 ≡ length self.now.live }
-        ensures opened { result.1 ≡ self.now.opened }
-        ensures room { length self.now.live ≤ self.now.limit }
-        ensures table { IsTable 0 self.now.opened self.now.live }
-        ensures all { AllLive self.now.live }
-        ensures limit { self.now.limit < 2 ^ 64 }
+        ensures live { result.0 ≡ length self.now.members.live }
+        ensures opened { result.1 ≡ self.now.members.opened }
+        ensures room { length self.now.members.live ≤ self.now.members.limit }
+        ensures table { IsTable 0 self.now.members.opened self.now.members.live }
+        ensures all { AllLive self.now.members.live }
+        ensures limit { self.now.members.limit < 2 ^ 64 }
     {
         self.roster.counts()
     }
 
     /// What is known of the live session with this number.
     pub fn known_at(&self, number: u64) -> Option<Known<'_>>
-        ensures { option_map (λ k. (k.client.now, k.ack)) result ≡ known_at number self.now.live }
+        ensures { option_map (λ k. (k.client.now, k.ack)) result ≡ known_at number self.now.members.live }
     {
-        self.roster.known_at(number)
+        Some(self.roster.find(number)?.known())
+    }
+
+    /// Makes a record for the session that these edits open, where they open one; a record that is there already is left. An
+    /// error means that memory was refused, and nothing changes then.
+    pub fn prepare(&mut self, edits: &[Edit]) -> Result<(), AllocError>
+        requires { self.old.members.opened + 1 < 2 ^ 64 }
+        ensures members { self.new.members ≡ self.old.members }
+        ensures room { OnOk result (opened_by_each edits.now ≤ 1 → opened_by_each edits.now ≤ room_of self.new.ready) }
+        ensures refused { OnErr result (self.new ≡ self.old) }
+    {
+        if opens_one(edits) {
+            self.roster.prepare()?;
+        }
+        Ok(())
     }
 
     // Adds a session.
     fn open(&mut self, session: Session)
-        requires { IsNext self.old session }
-        ensures { self.new ≡ record self.old {
-          opened = session.number;
-          live = self.old.live ++ session ∷ [];
+        requires next { IsNext self.old.members session }
+        requires ready { self.old.ready ≡ true }
+        ensures { self.new ≡ record {
+          members = record self.old.members {
+            opened = session.number;
+            live = self.old.members.live ++ session ∷ [];
+          };
+          ready = false;
         } }
     {
         make_room(&mut self.queue, &self.roster);
@@ -83,22 +102,27 @@ impl Table {
 
     // Moves the due moment of a session on, never back.
     fn extend(&mut self, number: u64, due: u64)
-        ensures { self.new ≡ with_live self.old (live_in (extended number due self.old.live)) }
+        ensures { self.new ≡ record self.old {
+          members = with_live self.old.members (live_in (extended number due self.old.members.live));
+        } }
     {
         self.roster.extend(number, due);
     }
 
     // Closes a session.
     fn close(&mut self, number: u64)
-        ensures { self.new ≡ with_live self.old (live_in (closed number self.old.live)) }
+        ensures { self.new ≡ record self.old {
+          members = with_live self.old.members (live_in (closed number self.old.members.live));
+        } }
     {
         self.roster.close(number);
     }
 
-    /// Makes these edits.
+    /// Makes these edits, of which one may open a session where a record was prepared for it. It takes no memory.
     pub fn apply(&mut self, edits: Edits)
-        requires { CanEditBy self.old edits }
-        ensures { self.new ≡ edited_by self.old edits }
+        requires can { CanEditBy self.old.members edits }
+        requires room { opens edits ≤ room_of self.old.ready }
+        ensures { self.new.members ≡ edited_by self.old.members edits }
     {
         match edits {
             Edits::Each(edits) => self.edit(edits),
@@ -108,8 +132,9 @@ impl Table {
 
     // Makes these edits in order.
     fn edit(&mut self, edits: Sequence<Edit>)
-        requires { CanEditEach self.old edits }
-        ensures { self.new ≡ fold edited self.old edits }
+        requires can { CanEditEach self.old.members edits }
+        requires room { opened_by_each edits ≤ room_of self.old.ready }
+        ensures { self.new.members ≡ fold edited self.old.members edits }
     {
         for edit in edits.into_vec() {
             self.edit_once(edit);
@@ -117,8 +142,10 @@ impl Table {
     }
 
     fn edit_once(&mut self, edit: Edit)
-        requires { CanEdit self.old edit }
-        ensures { self.new ≡ edited self.old edit }
+        requires can { CanEdit self.old.members edit }
+        requires room { opened_by edit ≤ room_of self.old.ready }
+        ensures members { self.new.members ≡ edited self.old.members edit }
+        ensures room { room_of self.old.ready ≡ room_of self.new.ready + opened_by edit }
     {
         match edit {
             Edit::Open(session) => self.open(session),
@@ -131,7 +158,7 @@ impl Table {
     /// sessions that are filed before it, and at no other. An error means that memory was refused.
     pub fn overdue(&mut self, alloc: Global, moment: u64) -> Result<Sequence<u64>, AllocError>
         ensures same { self.new ≡ self.old }
-        ensures overdue { IfOk result (λ numbers. numbers ≡ overdue moment self.old.live) }
+        ensures overdue { IfOk result (λ numbers. numbers ≡ overdue moment self.old.members.live) }
     {
         self.queue.expire(moment);
         let mut numbers = past_numbers(alloc, &self.roster, self.queue.late(), moment)?;
@@ -143,11 +170,18 @@ impl Table {
 
     // Closes the sessions that were due before this moment.
     fn sweep(&mut self, moment: u64)
-        ensures { self.new ≡ with_live self.old (live_in (swept moment self.old.live)) }
+        ensures { self.new.members ≡ with_live self.old.members (live_in (swept moment self.old.members.live)) }
     {
         self.queue.expire(moment);
         settle_late(&mut self.roster, &mut self.queue, moment);
     }
+}
+
+// Whether one of these edits opens a session.
+fn opens_one(edits: &[Edit]) -> bool
+    ensures { result ≡ list_any is_open edits.now }
+{
+    edits.iter().any(|edit| matches!(edit, Edit::Open(_)))
 }
 
 // The numbers of those entries whose session was due before this moment.
@@ -157,7 +191,7 @@ fn past_numbers(
     late: &[Due],
     moment: u64,
 ) -> Result<Vec<u64>, AllocError>
-    ensures { IfOk result (λ numbers. numbers.items ≡ past_numbers moment roster.now.live late.now) }
+    ensures { IfOk result (λ numbers. numbers.items ≡ past_numbers moment roster.now.members.live late.now) }
 {
     let mut numbers = Vec::new(alloc);
     for due in late {
@@ -179,12 +213,12 @@ fn is_past(due: Option<u64>, moment: u64) -> bool
 
 // Closes the sessions of late entries that were due before this moment, and files those again that are due later.
 fn settle_late(roster: &mut Roster, queue: &mut DueQueue, moment: u64)
-    requires roster { IsRoster roster.old }
-    requires filed { AllFiled (entries queue.old) roster.old.live }
+    requires roster { IsRoster roster.old.members }
+    requires filed { AllFiled (entries queue.old) roster.old.members.live }
     requires from { IsFrom moment queue.old.waiting }
-    ensures roster { IsRoster roster.new }
-    ensures filed { AllFiled (entries queue.new) roster.new.live }
-    ensures swept { roster.new ≡ with_live roster.old (live_in (swept moment roster.old.live)) }
+    ensures roster { IsRoster roster.new.members }
+    ensures filed { AllFiled (entries queue.new) roster.new.members.live }
+    ensures swept { roster.new.members ≡ with_live roster.old.members (live_in (swept moment roster.old.members.live)) }
     ensures room { queue.new.room ≡ queue.old.room }
 {
     while let Some(due) = queue.take_late() {
@@ -194,12 +228,12 @@ fn settle_late(roster: &mut Roster, queue: &mut DueQueue, moment: u64)
 
 // Closes the session of an entry that was taken out, or files it again if it is due later.
 fn settle(roster: &mut Roster, queue: &mut DueQueue, due: Due, moment: u64)
-    requires roster { IsRoster roster.old }
-    requires filed { AllFiled (due ∷ entries queue.old) roster.old.live }
+    requires roster { IsRoster roster.old.members }
+    requires filed { AllFiled (due ∷ entries queue.old) roster.old.members.live }
     requires free { length (entries queue.old) < queue.old.room }
-    ensures roster { IsRoster roster.new }
-    ensures filed { AllFiled (entries queue.new) roster.new.live }
-    ensures swept { with_live roster.new (live_in (swept moment roster.new.live)) ≡ with_live roster.old (live_in (swept moment roster.old.live)) }
+    ensures roster { IsRoster roster.new.members }
+    ensures filed { AllFiled (entries queue.new) roster.new.members.live }
+    ensures swept { with_live roster.new.members (live_in (swept moment roster.new.members.live)) ≡ with_live roster.old.members (live_in (swept moment roster.old.members.live)) }
     ensures from { IsFrom moment queue.old.waiting → IsFrom moment queue.new.waiting }
     ensures late { queue.new.late ≡ queue.old.late }
     ensures room { queue.new.room ≡ queue.old.room }
@@ -214,29 +248,14 @@ fn settle(roster: &mut Roster, queue: &mut DueQueue, due: Due, moment: u64)
 // Files the live sessions anew where no room is left, which gives up the entries of closed ones. As there is room for
 // twice as many as may be live, as many can be opened before that comes again.
 fn make_room(queue: &mut DueQueue, roster: &Roster)
-    requires filed { AllFiled (entries queue.old) roster.now.live }
-    requires few { length roster.now.live < queue.old.room }
-    ensures filed { AllFiled (entries queue.new) roster.now.live }
+    requires filed { AllFiled (entries queue.old) roster.now.members.live }
+    requires few { length roster.now.members.live < queue.old.room }
+    ensures filed { AllFiled (entries queue.new) roster.now.members.live }
     ensures room { queue.new.room ≡ queue.old.room }
     ensures free { length (entries queue.new) < queue.new.room }
 {
     if !queue.has_room() {
         queue.clear();
-        file_each(queue, roster.slots());
-    }
-}
-
-// Files the sessions that are live.
-fn file_each(queue: &mut DueQueue, slots: &[Session])
-    requires empty { entries queue.old ≡ [] }
-    requires few { length (live_in slots.now) ≤ queue.old.room }
-    ensures filed { AllFiled (entries queue.new) (live_in slots.now) }
-    ensures count { length (entries queue.new) ≡ length (live_in slots.now) }
-    ensures room { queue.new.room ≡ queue.old.room }
-{
-    for slot in slots {
-        if slot.live {
-            queue.file(slot.due, slot.number);
-        }
+        roster.file_all(queue);
     }
 }

@@ -108,13 +108,13 @@ fn check_plan(rt: &impl Abort, alloc: Global, plan: &Plan) -> Result<(), Fail> {
     Ok(())
 }
 
-fn plan_of_first(alloc: Global, registry: &Registry) -> Result<Plan, AdmitFault> {
+fn plan_of_first(alloc: Global, registry: &mut Registry) -> Result<Plan, AdmitFault> {
     let messages = [hello(alloc)?];
     registry.plan(alloc, 0, 0, messages.as_slice())
 }
 
 // A plan that is not committed.
-fn check_unchanged(rt: &impl Abort, alloc: Global, registry: &Registry) -> Result<(), Fail> {
+fn check_unchanged(rt: &impl Abort, alloc: Global, registry: &mut Registry) -> Result<(), Fail> {
     check_plan(rt, alloc, &plan_of_first(alloc, registry)?)?;
     same(rt, registry.entries(), 0, "entries");
     same(rt, registry.live(1), false, "session 1");
@@ -148,7 +148,7 @@ fn check_closed(rt: &impl Abort, alloc: Global, registry: &mut Registry) -> Resu
 }
 
 // Why a request without messages is refused at this moment, if it is.
-fn fault_at(alloc: Global, registry: &Registry, moment: u64) -> Option<AdmitFault> {
+fn fault_at(alloc: Global, registry: &mut Registry, moment: u64) -> Option<AdmitFault> {
     registry.plan(alloc, moment, 0, &[]).err()
 }
 
@@ -189,7 +189,7 @@ fn check_room(rt: &impl Abort, alloc: Global, registry: &mut Registry) -> Result
 #[test]
 fn a_plan_changes_nothing(rt: HostRuntime) -> Result<(), Fail> {
     let alloc = rt.alloc();
-    check_unchanged(&rt, alloc, &Registry::new(alloc, config(2))?)
+    check_unchanged(&rt, alloc, &mut Registry::new(alloc, config(2))?)
 }
 
 #[test]

@@ -153,7 +153,7 @@ fn told(alloc: Global, plan: &Plan) -> Result<String, AllocError> {
 }
 
 // What a request of these messages comes to, as text.
-fn told_of(alloc: Global, registry: &Registry, sent: &[Sent]) -> Result<String, Fail> {
+fn told_of(alloc: Global, registry: &mut Registry, sent: &[Sent]) -> Result<String, Fail> {
     let messages = to_messages(alloc, sent)?;
     let plan = registry.plan(alloc, 0, 0, messages.as_slice())?;
     Ok(told(alloc, &plan)?)
@@ -162,7 +162,7 @@ fn told_of(alloc: Global, registry: &Registry, sent: &[Sent]) -> Result<String, 
 fn check_request(
     rt: &impl Abort,
     alloc: Global,
-    registry: &Registry,
+    registry: &mut Registry,
     sent: &[Sent],
     wanted: &str,
 ) -> Result<(), Fail> {
@@ -178,9 +178,9 @@ fn the_last_message_of_one_session_rides(rt: HostRuntime) -> Result<(), Fail> {
         ride: true,
         anonymous: true,
     };
-    let registry = registry(alloc, options)?;
+    let mut registry = registry(alloc, options)?;
     for (sent, wanted) in &REQUESTS {
-        check_request(&rt, alloc, &registry, *sent, *wanted)?;
+        check_request(&rt, alloc, &mut registry, *sent, *wanted)?;
     }
     Ok(())
 }
@@ -192,6 +192,6 @@ fn no_message_rides_unless_it_is_asked_for(rt: HostRuntime) -> Result<(), Fail> 
         ride: false,
         anonymous: true,
     };
-    let registry = registry(alloc, options)?;
-    check_request(&rt, alloc, &registry, &[Sent::Publish(1)], "ready;")
+    let mut registry = registry(alloc, options)?;
+    check_request(&rt, alloc, &mut registry, &[Sent::Publish(1)], "ready;")
 }

@@ -70,7 +70,7 @@ impl Admission {
         let plan = self
             .ledger
             .plan(alloc, placing, arrival.moment, arrival.nonce, &messages)?;
-        Ok(self.take_in(plan)?)
+        Ok(take_in(&mut self.ledger, &mut self.backlog, plan)?)
     }
 
     /// Takes a tick into the list.
@@ -79,31 +79,7 @@ impl Admission {
         ensures refused { IfSome (refusal_of (length self.old.list) (read_input (Tick moment))) (λ refusal. result ≡ Err (Refused refusal)) }
     {
         let plan = self.ledger.plan_tick(alloc, moment)?;
-        Ok(self.take_in(plan)?)
-    }
-
-    // Takes what was planned at this very admission into the list.
-    fn take_in(&mut self, plan: Plan) -> Result<Admitted, AllocError>
-        requires change { LeadsTo self.old.config self.old.list plan.change plan.elements }
-        requires entries { entries self.old.config (self.old.list ++ plan.elements)
-            ≡ entries self.old.config self.old.list ++ plan.batch.entries }
-        ensures taken { IfOk result (λ a. (a ≡ record { first = plan.batch.first; slots = plan.slots })
-            × (self.new ≡ record self.old { list = self.old.list ++ plan.elements })) }
-        ensures refused { OnErr result (self.new ≡ self.old) }
-    {
-        let Plan {
-            batch,
-            slots,
-            elements,
-            change,
-        } = plan;
-        self.backlog.reserve(batch.entries.len())?;
-        self.ledger.commit(change, &elements);
-        self.backlog.append(batch.entries);
-        Ok(Admitted {
-            first: batch.first,
-            slots,
-        })
+        Ok(take_in(&mut self.ledger, &mut self.backlog, plan)?)
     }
 
     /// How long the list is.
@@ -169,4 +145,31 @@ impl Admission {
     {
         self.backlog.bring_up(rt, alloc, gate, workers, shards)
     }
+}
+
+// Takes what was planned at this very ledger into its list, and the entries into the backlog.
+fn take_in(
+    ledger: &mut Ledger,
+    backlog: &mut Backlog,
+    plan: Plan,
+) -> Result<Admitted, AllocError>
+    requires { LeadsTo ledger.old plan.change plan.elements }
+    ensures taken { IfOk result (λ a. (a ≡ record { first = plan.batch.first; slots = plan.slots })
+        × (ledger.new ≡ record ledger.old { list = ledger.old.list ++ plan.elements; ready = ledger.new.ready })
+        × (backlog.new.contents ≡ record { all = backlog.old.contents.all ++ plan.batch.entries; first = backlog.old.contents.first })) }
+    ensures refused { OnErr result ((ledger.new ≡ ledger.old) × (backlog.new.contents ≡ backlog.old.contents)) }
+{
+    let Plan {
+        batch,
+        slots,
+        elements,
+        change,
+    } = plan;
+    backlog.reserve(batch.entries.len())?;
+    ledger.commit(change, &elements);
+    backlog.append(batch.entries);
+    Ok(Admitted {
+        first: batch.first,
+        slots,
+    })
 }

@@ -11,7 +11,7 @@ pub returns-in-Some-clause-filed : goal.returns-in-Some-clause-filed
 returns-in-Some-clause-filed c =
     let q = c.args.queue.now in
     let new = c.file.new.self in
-    let ms = c.args.roster.now in
+    let ms = c.args.roster.now.members in
     let d : Due = record { moment = record { 0 = c.in-Some.moved }; number = c.args.due.number } in
     filed-permuted (d ∷ entries q) (entries new) ms.live
     (entries-filed d q.late q.waiting new.late new.waiting c.file.ensures.late c.file.ensures.waiting)
@@ -24,14 +24,14 @@ returns-in-Some-clause-from c =
     (All-cons (λ (x : Due). c.args.moment ≤ x.moment.0) d c.args.queue.now.waiting c.if-moved-moment.true from)
 
 pub returns-in-Some-2-clause-filed : goal.returns-in-Some-2-clause-filed
-returns-in-Some-2-clause-filed c = rw c.close.ensures.closed (filed-gone c.args.due (entries c.args.queue.now) c.args.roster.now.live c.requires.filed)
+returns-in-Some-2-clause-filed c = rw c.close.ensures.closed (filed-gone c.args.due (entries c.args.queue.now) c.args.roster.now.members.live c.requires.filed)
 
 pub returns-in-Some-2-clause-swept : goal.returns-in-Some-2-clause-swept
 returns-in-Some-2-clause-swept c =
-    let ms = c.args.roster.now in
+    let ms = c.args.roster.now.members in
     rw c.close.ensures.closed
     (ap (with_live ms) (closed-swept c.args.due.number c.args.moment c.in-Some.moved 0 ms.opened ms.live c.if-moved-moment.false c.requires.roster.table (sym c.in-Some.ensures)))
 
 pub returns-in-None-clause-filed : goal.returns-in-None-clause-filed
 returns-in-None-clause-filed c =
-    filed-absent c.args.due (entries c.args.queue.now) c.args.roster.now.live (none-absent c.args.due.number c.args.roster.now.live (sym c.in-None.ensures)) c.requires.filed
+    filed-absent c.args.due (entries c.args.queue.now) c.args.roster.now.members.live (none-absent c.args.due.number c.args.roster.now.members.live (sym c.in-None.ensures)) c.requires.filed

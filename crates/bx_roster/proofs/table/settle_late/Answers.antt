@@ -8,7 +8,7 @@ pub settle-requires-clause-filed : goal.settle-requires-clause-filed
 settle-requires-clause-filed c =
     let q = c.loop-due.queue in
     let new = c.take_late.new.self in
-    filed-permuted (entries q) (c.in-Some.due ∷ entries new) c.loop-due.roster.live (entries-taken c.in-Some.due q.late q.waiting new.late new.waiting c.in-Some.ensures.late c.in-Some.ensures.waiting)
+    filed-permuted (entries q) (c.in-Some.due ∷ entries new) c.loop-due.roster.members.live (entries-taken c.in-Some.due q.late q.waiting new.late new.waiting c.in-Some.ensures.late c.in-Some.ensures.waiting)
     c.loop-due.invariant.1
 
 pub returns-clause-filed : goal.returns-clause-filed
@@ -17,10 +17,10 @@ returns-clause-filed c =
     let new = c.take_late.new.self in
     let ended = c.in_default.ensures.late in
     let same : entries q ≡ entries new = ap (λ (ds : List Due). ds ++ q.waiting) (ended.0 ∙ sym ended.1) ∙ ap (λ (ds : List Due). new.late ++ ds) (sym c.in_default.ensures.waiting) in
-    subst (λ (ds : List Due). AllFiled ds c.loop-due.roster.live) same c.loop-due.invariant.1
+    subst (λ (ds : List Due). AllFiled ds c.loop-due.roster.members.live) same c.loop-due.invariant.1
 
 pub returns-clause-swept : goal.returns-clause-swept
 returns-clause-swept c =
     let i = c.loop-due.invariant in
     let q = c.loop-due.queue in
-    sym (settled c.args.moment q.late q.waiting c.loop-due.roster c.in_default.ensures.late.0 i.2 i.1 i.0.all) ∙ i.4
+    sym (settled c.args.moment q.late q.waiting c.loop-due.roster.members c.in_default.ensures.late.0 i.2 i.1 i.0.all) ∙ i.4

@@ -1,8 +1,7 @@
 use Rattle.std.proofs.Common.{◌≡◌, [], ◌∷◌, ◌++◌, List, ap, ◌∙◌, subst}
 use Rattle.bx_entry.specs.Listing.{Listed, Tick}
 use Rattle.bx_entry.specs.declared.entry.Entry.{Entry}
-use Rattle.bx_registry.specs.Changes.{IsPlannedAt, changed}
-use Rattle.bx_registry.specs.Rolls.{Roll, next}
+use Rattle.bx_registry.specs.Changes.{CanCommit, Standing}
 use Rattle.bx_admission.specs.Ledgers.{Continues, Ledger}
 use Rattle.bx_admission.specs.declared.plan.Plan.{Plan}
 use Rattle.bx_admission.proofs.Planning.{continues}
@@ -18,6 +17,6 @@ returns-clause-continues c =
     let same : c.plan_tick.new.self ≡ inside.registry = c.plan_tick.ensures.same in
     let made : Plan = record { batch = record { first = planned.entry.place; entries = c.push.new.self }; slots = c.new.result; elements = c.tick.new.self; change = planned.change } in
     subst (λ (l : Ledger). Continues l made) c.self.view_is
-    (continues inside.shards inside.registry inside.listing added made c.self.invariant.2 elements (ap (λ (e : Entry). e.place) c.in_ok-planned.ensures.entry)
+    (continues inside.shards inside.registry.roll inside.listing added inside.registry.ready made c.self.invariant.2 elements (ap (λ (e : Entry). e.place) c.in_ok-planned.ensures.entry)
     (one ∙ ap (λ (e : Entry). e ∷ []) c.in_ok-planned.ensures.entry)
-    (subst (λ (r : Roll). IsPlannedAt r planned.change) same c.in_ok-planned.ensures.planned) (subst (λ (r : Roll). changed r planned.change ≡ next inside.registry (Tick c.args.moment)) same c.in_ok-planned.ensures.change))
+    (subst (λ (s : Standing). CanCommit s planned.change) same c.in_ok-planned.ensures.planned) c.in_ok-planned.ensures.change)

@@ -10,7 +10,7 @@ use Rattle.bx_registry.proofs.draft.Draft.known_at.Goals as goal
 pub returns : goal.returns
 returns c =
     let n = c.args.number in
-    let base : Members = c.self.inside.table.now in
+    let base : Members = c.self.inside.table.now.members in
     let es : List Edit = c.self.inside.edits in
     let all = known_at-all n base es c.self.invariant.start c.self.invariant.can in
     let whole = take_all c.loop-edit.edit-index c.as_slice-edit-items.result.now c.loop-edit-test.false ∙ c.as_slice-edit-items.ensures in

@@ -23,7 +23,7 @@ returns-in_err-known c =
     let text : List ℕ = c.args.client.now in
     let n : ℕ = c.number_in-number.result in
     let number : n ≡ number_in text = c.number_in-number.ensures ∙ ap number_in c.as_str.ensures in
-    let base : Drafted = record { base = c.self.inside.table.now; edits = c.self.inside.edits } in
+    let base : Drafted = record { base = c.self.inside.table.now.members; edits = c.self.inside.edits } in
     let finds : Finds (members_of c.args.self.now).live text (known_at n (members_of c.args.self.now).live) =
     subst (λ (d : Drafted). Finds (members_of d).live text (known_at n (members_of d).live)) c.self.view_is (found base text n c.self.invariant number) in
     rw c.from_residual.ensures (finds.1 (λ k e is. none-some (known_at n (members_of c.args.self.now).live) k c.in_err-known.ensures e))
@@ -33,7 +33,7 @@ returns-then-eq c =
     let text : List ℕ = c.args.client.now in
     let n : ℕ = c.number_in-number.result in
     let number : n ≡ number_in text = c.number_in-number.ensures ∙ ap number_in c.as_str.ensures in
-    let base : Drafted = record { base = c.self.inside.table.now; edits = c.self.inside.edits } in
+    let base : Drafted = record { base = c.self.inside.table.now.members; edits = c.self.inside.edits } in
     let finds : Finds (members_of c.args.self.now).live text (known_at n (members_of c.args.self.now).live) =
     subst (λ (d : Drafted). Finds (members_of d).live text (known_at n (members_of d).live)) c.self.view_is (found base text n c.self.invariant number) in
     let same : c.as_str-2.result.now ≡ c.as_str-3.result.now = (bytes_eq-Decides c.as_str-2.result.now c.as_str-3.result.now).0 (sym c.if-eq.ensures) in
@@ -46,7 +46,7 @@ returns-else-eq c =
     let text : List ℕ = c.args.client.now in
     let n : ℕ = c.number_in-number.result in
     let number : n ≡ number_in text = c.number_in-number.ensures ∙ ap number_in c.as_str.ensures in
-    let base : Drafted = record { base = c.self.inside.table.now; edits = c.self.inside.edits } in
+    let base : Drafted = record { base = c.self.inside.table.now.members; edits = c.self.inside.edits } in
     let finds : Finds (members_of c.args.self.now).live text (known_at n (members_of c.args.self.now).live) =
     subst (λ (d : Drafted). Finds (members_of d).live text (known_at n (members_of d).live)) c.self.view_is (found base text n c.self.invariant number) in
     finds.1 (λ k e is.

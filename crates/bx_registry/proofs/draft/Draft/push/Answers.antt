@@ -11,13 +11,13 @@ use Rattle.bx_registry.proofs.draft.Draft.push.Goals as goal
 pub overflow_add-count : goal.overflow_add-count
 overflow_add-count c =
     let next : IsNext (members_of c.args.self.now) c.in-Open.session = subst (λ (e : Edit). CanEdit (members_of c.args.self.now) e) c.in-Open.is c.requires in
-    let room : length (fold edited c.self.inside.table.now c.self.inside.edits).live < (fold edited c.self.inside.table.now c.self.inside.edits).limit =
+    let room : length (fold edited c.self.inside.table.now.members c.self.inside.edits).live < (fold edited c.self.inside.table.now.members c.self.inside.edits).limit =
     subst (λ (d : Drafted). length (members_of d).live < (members_of d).limit) (sym c.self.view_is) next.room in
-    omega (arith, room, c.self.invariant.counted, c.self.invariant.limit, limit-same c.self.inside.table.now c.self.inside.edits)
+    omega (arith, room, c.self.invariant.counted, c.self.invariant.limit, limit-same c.self.inside.table.now.members c.self.inside.edits)
 
 pub invariant_of-self-2 : goal.invariant_of-self-2
 invariant_of-self-2 c =
-    let base : Members = c.self.inside.table.now in
+    let base : Members = c.self.inside.table.now.members in
     let es : List Edit = c.self.inside.edits in
     let can : CanEdit (fold edited base es) c.args.edit = subst (λ (d : Drafted). CanEdit (members_of d) c.args.edit) (sym c.self.view_is) c.requires in
     let items = c.in_ok-push.ensures.ok in

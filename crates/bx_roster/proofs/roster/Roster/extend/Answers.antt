@@ -1,33 +1,50 @@
-use Rattle.std.proofs.Common.{◌≡◌, ◌<◌, List, length, get_or, set, ap, sym, subst, ◌∙◌}
-use Rattle.bx_entry.specs.Registry.{Registered, extended}
-use Rattle.bx_roster.specs.Live.{live_in, with_live}
-use Rattle.bx_roster.proofs.Slots.{extended-slot, extended-kept, roster-kept, live_in-extend, extend-none}
+use Rattle.std.proofs.Common.{◌+◌, ℕ, List, length, Option, Some, is_some, refl, sym, ap, subst, ◌∙◌}
+use Rattle.bx_entry.specs.Registry.{Registered}
+use Rattle.bx_roster.specs.Kept.{IsKept, session_of, sessions_to}
+use Rattle.bx_roster.proofs.Kept.{under, made, Changed, changed-by, extended-same, moved-kept, moved-live, moved-ready, kept-roster}
 use Rattle.bx_roster.proofs.roster.Roster.extend.Goals as goal
 
-abbrev found : goal.After-self-1 → Registered
-found c = let s = c.session.inside in record { number = s.number; client = s.client; ack = s.ack; due = s.due; live = s.live }
-
-written : (c : goal.After-self-1) → set c.self.inside.slots.items c.in-Some.slot (record (found c) { due = c.max-session-inside.result }) ≡ extended c.args.number c.args.due c.self.inside.slots.items
-written c =
-    let rs : List Registered = c.self.inside.slots.items in
-    let i = c.in-Some.slot in
-    let x = found c in
-    let is : x ≡ get_or rs i x = subst (λ (r : Registered). r ≡ get_or rs i r) (sym c.session.view_is) c.index_mut-session.ensures.value in
-    let within : i < length rs = subst (λ (ss : List Registered). i < length ss) c.as_slice.ensures.value c.in-Some.ensures.within in
-    let number = ap (λ (r : Registered). r.number) is ∙ ap (λ (ss : List Registered). (get_or ss i x).number) (sym c.as_slice.ensures.value) ∙ c.in-Some.ensures.found x in
-    extended-slot c.args.number c.args.due c.max-session-inside.result rs i x c.self.inside.opened c.self.invariant.table within is number c.max-session-inside.ensures
-
-pub invariant_of-self : goal.invariant_of-self
-invariant_of-self c = rw (written c) (extended-kept c.args.number c.args.due c.self.invariant)
-
-pub returns-in-Some-clause-extended : goal.returns-in-Some-clause-extended
-returns-in-Some-clause-extended c = rw (← c.self.view_is, written c) (ap (λ (live : List Registered). with_live (record { limit = c.self.inside.limit; opened = c.self.inside.opened; live = live_in c.self.inside.slots.items }) live) (live_in-extend c.args.number c.args.due c.self.inside.slots.items))
-
 pub returns-in_default-clause-extended : goal.returns-in_default-clause-extended
-returns-in_default-clause-extended c = rw (← c.self.view_is) (ap (λ (live : List Registered). with_live (record { limit = c.self.inside.limit; opened = c.self.inside.opened; live = live_in c.self.inside.slots.items }) live) (extend-none c.args.number c.args.due c.self.inside.slots.items (rw (← c.as_slice.ensures.value) c.in_default.ensures.absent)))
+returns-in_default-clause-extended c =
+    let i = c.self.inside in
+    let same = ap (λ m. m.entries) c.get_mut.follows.holds-at-none in
+    let none = extended-same c.self.invariant c.args.number c.args.due (ap session_of (sym c.in_default.ensures.value)) in
+    rw (← c.self.view_is) (made i.limit refl (ap (λ (es : List (ℕ × Option Registered)). sessions_to (under es) i.opened) same ∙ none) (ap (λ (es : List (ℕ × Option Registered)). is_some (under es (i.opened + 1))) same))
 
-pub returns-in-Some-clause-roster : goal.returns-in-Some-clause-roster
-returns-in-Some-clause-roster c = rw (written c) (roster-kept (extended-kept c.args.number c.args.due c.self.invariant))
+pub invariant_of-self-2 : goal.invariant_of-self-2
+invariant_of-self-2 c =
+    let n = c.args.number in
+    let before = under c.self.inside.records.entries in
+    let after = under (c.get_mut.follows.lender c.move_on.new.session).entries in
+    let there = sym c.in-Some.ensures.value in
+    let wrote = c.get_mut.follows.holds c.move_on.new.session in
+    let updates = wrote.3 (ap is_some there) in
+    let changed = subst (λ (o : Option Registered). Changed before after n (Some o)) c.move_on.ensures (changed-by before after n (Some c.move_on.new.session) updates.0) in
+    moved-kept c.self.invariant n c.args.due c.in-Some.session.now there changed wrote.2
+
+pub returns-clause-extended : goal.returns-clause-extended
+returns-clause-extended c =
+    let n = c.args.number in
+    let before = under c.self.inside.records.entries in
+    let after = under (c.get_mut.follows.lender c.move_on.new.session).entries in
+    let there = sym c.in-Some.ensures.value in
+    let updates = (c.get_mut.follows.holds c.move_on.new.session).3 (ap is_some there) in
+    let changed = subst (λ (o : Option Registered). Changed before after n (Some o)) c.move_on.ensures (changed-by before after n (Some c.move_on.new.session) updates.0) in
+    rw (← c.self.view_is) (made c.self.inside.limit refl (moved-live c.self.invariant n c.args.due c.in-Some.session.now there changed) (ap is_some (moved-ready c.self.invariant n c.args.due c.in-Some.session.now there changed)))
 
 pub returns-in_default-clause-roster : goal.returns-in_default-clause-roster
-returns-in_default-clause-roster c = rw (← c.self.view_is) (roster-kept c.self.invariant)
+returns-in_default-clause-roster c =
+    let i = c.self.inside in
+    let same = ap (λ m. m.entries) c.get_mut.follows.holds-at-none in
+    kept-roster (subst (λ (es : List (ℕ × Option Registered)). IsKept (under es) (length es) i.limit i.count i.opened) (sym same) c.self.invariant)
+
+pub returns-clause-roster : goal.returns-clause-roster
+returns-clause-roster c =
+    let n = c.args.number in
+    let before = under c.self.inside.records.entries in
+    let after = under (c.get_mut.follows.lender c.move_on.new.session).entries in
+    let there = sym c.in-Some.ensures.value in
+    let wrote = c.get_mut.follows.holds c.move_on.new.session in
+    let updates = wrote.3 (ap is_some there) in
+    let changed = subst (λ (o : Option Registered). Changed before after n (Some o)) c.move_on.ensures (changed-by before after n (Some c.move_on.new.session) updates.0) in
+    kept-roster (moved-kept c.self.invariant n c.args.due c.in-Some.session.now there changed wrote.2)

@@ -1,33 +1,43 @@
-use Rattle.std.proofs.Common.{◌≡◌, ◌<◌, ◌+◌, ℕ, List, length, ap, sym, subst, ◌∙◌, arith}
+use Rattle.std.proofs.Common.{◌≡◌, ◌+◌, ◌<◌, length, Some, is_some, sym, ap, subst, ◌∙◌, arith}
 use Rattle.bx_entry.specs.Registry.{Registered}
-use Rattle.bx_roster.specs.Live.{live_in, Members}
-use Rattle.bx_roster.proofs.Slots.{added-kept, added-live, roster-kept}
+use Rattle.bx_roster.specs.Live.{Prepared}
+use Rattle.bx_roster.specs.Kept.{sessions_to}
+use Rattle.bx_roster.proofs.Kept.{under, made, changed-by, opened-kept, opened-live, opened-next, kept-roster}
 use Rattle.bx_roster.proofs.roster.Roster.open.Goals as goal
 
-pub invariant_of-self : goal.invariant_of-self
-invariant_of-self c =
+pub invariant_of-self-2 : goal.invariant_of-self-2
+invariant_of-self-2 c =
+    let i = c.self.inside in
     let k = c.self.invariant in
-    let s : Registered = c.args.session in
-    let room : length (live_in c.self.inside.slots.items) < c.self.inside.limit = subst (λ (m : Members). length m.live < m.limit) (sym c.self.view_is) c.requires.room in
-    let less : c.self.inside.count < c.self.inside.limit = omega (arith, k.counted, room) in
-    let number : s.number ≡ c.self.inside.opened + 1 = subst (λ (m : Members). s.number ≡ m.opened + 1) (sym c.self.view_is) c.requires.number in
-    let same : c.session.inside.number ≡ s.number = ap (λ (r : Registered). r.number) c.session.view_is in
-    rw same (added-kept c.self.inside.slots.items c.add_slot.new.slots.items s k c.add_slot.ensures.items c.add_slot.ensures.capacity less number c.requires.named c.requires.live)
+    let s = c.args.session in
+    let own : s.number ≡ c.session.inside.number = ap (λ (r : Registered). r.number) (sym c.session.view_is) in
+    let wrote = c.get_mut.follows.holds (Some s) in
+    let updates = wrote.3 (ap is_some (sym c.in-Some.ensures.value)) in
+    let next : s.number ≡ i.opened + 1 = c.requires.next.number ∙ ap (λ (v : Prepared). v.members.opened + 1) (sym c.self.view_is) in
+    let room : length (sessions_to (under i.records.entries) i.opened) < i.limit = subst (λ (v : Prepared). length v.members.live < v.members.limit) (sym c.self.view_is) c.requires.next.room in
+    let ready = ap (λ (v : Prepared). v.ready) c.self.view_is ∙ c.requires.ready in
+    opened-kept k s own (sym own ∙ next) (changed-by _ _ c.session.inside.number (Some (Some s)) updates.0) wrote.2 ready (omega (arith, room, k.counted)) c.requires.next.named c.requires.next.live
 
 pub returns-clause-opened : goal.returns-clause-opened
 returns-clause-opened c =
-    let same : c.session.inside.number ≡ c.args.session.number = ap (λ (r : Registered). r.number) c.session.view_is in
-    let live = added-live c.self.inside.slots.items c.add_slot.new.slots.items c.args.session c.add_slot.ensures.items c.requires.live in
-    rw (← c.self.view_is) (
-    ap (λ (n : ℕ). let m : Members = record { limit = c.self.inside.limit; opened = n; live = live_in c.add_slot.new.slots.items } in m) same
-    ∙ ap (λ (ys : List Registered). let m : Members = record { limit = c.self.inside.limit; opened = c.args.session.number; live = ys } in m) live)
+    let i = c.self.inside in
+    let k = c.self.invariant in
+    let s = c.args.session in
+    let own : s.number ≡ c.session.inside.number = ap (λ (r : Registered). r.number) (sym c.session.view_is) in
+    let updates = (c.get_mut.follows.holds (Some s)).3 (ap is_some (sym c.in-Some.ensures.value)) in
+    let changed = changed-by _ _ c.session.inside.number (Some (Some s)) updates.0 in
+    let next : s.number ≡ i.opened + 1 = c.requires.next.number ∙ ap (λ (v : Prepared). v.members.opened + 1) (sym c.self.view_is) in
+    rw (← c.self.view_is) (made i.limit (sym own) (opened-live k s own (sym own ∙ next) changed) (ap is_some (opened-next k s own (sym own ∙ next) changed)))
 
 pub returns-clause-roster : goal.returns-clause-roster
 returns-clause-roster c =
+    let i = c.self.inside in
     let k = c.self.invariant in
-    let s : Registered = c.args.session in
-    let room : length (live_in c.self.inside.slots.items) < c.self.inside.limit = subst (λ (m : Members). length m.live < m.limit) (sym c.self.view_is) c.requires.room in
-    let less : c.self.inside.count < c.self.inside.limit = omega (arith, k.counted, room) in
-    let number : s.number ≡ c.self.inside.opened + 1 = subst (λ (m : Members). s.number ≡ m.opened + 1) (sym c.self.view_is) c.requires.number in
-    let same : c.session.inside.number ≡ s.number = ap (λ (r : Registered). r.number) c.session.view_is in
-    rw same (roster-kept (added-kept c.self.inside.slots.items c.add_slot.new.slots.items s k c.add_slot.ensures.items c.add_slot.ensures.capacity less number c.requires.named c.requires.live))
+    let s = c.args.session in
+    let own : s.number ≡ c.session.inside.number = ap (λ (r : Registered). r.number) (sym c.session.view_is) in
+    let wrote = c.get_mut.follows.holds (Some s) in
+    let updates = wrote.3 (ap is_some (sym c.in-Some.ensures.value)) in
+    let next : s.number ≡ i.opened + 1 = c.requires.next.number ∙ ap (λ (v : Prepared). v.members.opened + 1) (sym c.self.view_is) in
+    let room : length (sessions_to (under i.records.entries) i.opened) < i.limit = subst (λ (v : Prepared). length v.members.live < v.members.limit) (sym c.self.view_is) c.requires.next.room in
+    let ready = ap (λ (v : Prepared). v.ready) c.self.view_is ∙ c.requires.ready in
+    kept-roster (opened-kept k s own (sym own ∙ next) (changed-by _ _ c.session.inside.number (Some (Some s)) updates.0) wrote.2 ready (omega (arith, room, k.counted)) c.requires.next.named c.requires.next.live)

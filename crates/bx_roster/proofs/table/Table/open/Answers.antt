@@ -14,6 +14,6 @@ invariant_of-self c =
     let due : s.due ≡ c.args.session.due = ap (λ (r : Registered). r.due) c.session.view_is in record {
       roster = c.open.ensures.roster;
       filed = rw c.open.ensures.opened
-          (filed-push d q.late q.waiting new.late new.waiting c.self.inside.roster.live c.args.session c.file.ensures.late c.file.ensures.waiting number due c.make_room.ensures.filed);
+          (filed-push d q.late q.waiting new.late new.waiting c.self.inside.roster.members.live c.args.session c.file.ensures.late c.file.ensures.waiting number due c.make_room.ensures.filed);
       room = rw c.open.ensures.opened (omega (arith, c.file.ensures.room, c.make_room.ensures.room, c.self.invariant.room));
     }

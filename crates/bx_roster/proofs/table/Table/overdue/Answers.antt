@@ -1,7 +1,7 @@
 use Rattle.std.proofs.Common.{ap, ◌∙◌, arith}
 use Rattle.std.proofs.lemmas.List.Filters.{dedup_is}
 use Rattle.bx_entry.specs.Registry.{overdue}
-use Rattle.bx_roster.specs.Live.{Members}
+use Rattle.bx_roster.specs.Live.{Members, Prepared}
 use Rattle.bx_roster.specs.Queues.{entries, past_numbers}
 use Rattle.bx_roster.proofs.Dues.{filed-permuted}
 use Rattle.bx_roster.proofs.Past.{past-overdue}
@@ -10,20 +10,20 @@ use Rattle.bx_roster.proofs.table.Table.overdue.Goals as goal
 pub invariant_of-self : goal.invariant_of-self
 invariant_of-self c = record {
   roster = c.self.invariant.roster;
-  filed = filed-permuted (entries c.self.inside.queue) (entries c.expire.new.self) c.self.inside.roster.live c.expire.ensures.same c.self.invariant.filed;
+  filed = filed-permuted (entries c.self.inside.queue) (entries c.expire.new.self) c.self.inside.roster.members.live c.expire.ensures.same c.self.invariant.filed;
   room = omega (arith, c.self.invariant.room, c.expire.ensures.room);
 }
 
 pub invariant_of-self-2 : goal.invariant_of-self-2
 invariant_of-self-2 c = record {
   roster = c.self.invariant.roster;
-  filed = filed-permuted (entries c.self.inside.queue) (entries c.expire.new.self) c.self.inside.roster.live c.expire.ensures.same c.self.invariant.filed;
+  filed = filed-permuted (entries c.self.inside.queue) (entries c.expire.new.self) c.self.inside.roster.members.live c.expire.ensures.same c.self.invariant.filed;
   room = omega (arith, c.self.invariant.room, c.expire.ensures.room);
 }
 
 pub returns-clause-overdue : goal.returns-clause-overdue
 returns-clause-overdue c =
-    let ms : Members = c.self.inside.roster in
+    let ms : Members = c.self.inside.roster.members in
     let q = c.expire.new.self in
     let filed = filed-permuted (entries c.self.inside.queue) (entries q) ms.live c.expire.ensures.same c.self.invariant.filed in
     c.from_vec.ensures
@@ -31,4 +31,4 @@ returns-clause-overdue c =
     c.expire.ensures.from filed c.self.invariant.roster.table c.self.invariant.roster.all
     (c.in_ok-numbers.ensures ∙ ap (past_numbers c.args.moment ms.live) c.late.ensures)
     c.sort_unstable.ensures.permutation c.sort_unstable.ensures.sorted (dedup_is _ _ _ c.dedup.ensures.filtered)
-    ∙ ap (λ (m : Members). overdue c.args.moment m.live) c.self.view_is
+    ∙ ap (λ (v : Prepared). overdue c.args.moment v.members.live) c.self.view_is

@@ -1,0 +1,75 @@
+-- A request opens at most one session.
+use Rattle.std.proofs.Common.{◌≡◌, ℕ, ◌+◌, ◌≤◌, Bool, true, false, List, [], ◌∷◌, fold, refl, sym, ap, ◌∙◌, arith, true≢false}
+use Rattle.std.specs.Prelude.{◌&&◌, ◌||◌, ◌==◌, max, length, if◌then◌else◌, Option, Some, None, is_some}
+use Rattle.bx_names.specs.Faults.{first_case}
+use Rattle.bx_advice.specs.declared.config.Config.{Config}
+use Rattle.bx_advice.specs.declared.error.Error.{Error}
+use Rattle.bx_advice.specs.declared.error.Error.TheVariants.{SecondHandshake}
+use Rattle.bx_message.specs.declared.message.Message.{Message}
+use Rattle.bx_message.specs.MessageKinds.{message_kind_of, is_handshake}
+use Rattle.bx_entry.specs.Listing.{Posted, Post, listed_from, request}
+use Rattle.bx_entry.specs.declared.senders.Senders.{Senders}
+use Rattle.bx_entry.specs.Registry.{Registered, cases_of, named_by, refusal}
+use Rattle.bx_roster.specs.Live.{Members}
+use Rattle.bx_roster.specs.Edits.{CanEdit, CanEditEach, edited, opened_by, opened_by_each}
+use Rattle.bx_roster.specs.declared.edit.Edit.{Edit}
+use Rattle.bx_roster.specs.declared.edit.Edit.TheVariants.{Open, Extend, Close}
+use Rattle.bx_roster.specs.declared.edit.Edits.TheVariants.{Each}
+use Rattle.bx_registry.specs.Rolls.{Roll, after, judged_by, next, unnamed}
+use Rattle.bx_registry.specs.Changes.{changed}
+use Rattle.bx_registry.proofs.Judging.{handshake-kind}
+
+-- how many sessions may be opened behind the messages of which it is said whether a handshake was seen
+abbrev left : Bool → ℕ
+left seen = if seen then 0 else 1
+
+left-more : (seen h : Bool) → left (seen || h) ≤ left seen
+left-more true h = omega arith
+left-more false true = omega arith
+left-more false false = omega arith
+
+-- ---- a message
+
+second-refused : (config : Config) (sessions : List Registered) (p : Posted) → is_handshake p.message ≡ true → p.second ≡ true → refusal config sessions p ≡ Some SecondHandshake
+second-refused config sessions p h second =
+    ap (λ kind. first_case (cases_of config sessions p kind)) (handshake-kind p.message h) ∙ rw second refl
+
+unnamed-once : (config : Config) (ms : Members) (moment : ℕ) (p : Posted) (seen h : Bool) → (p.second ≡ true → h ≡ true → ⊥) → p.second ≡ (seen && h) →
+    (unnamed config ms moment p h).members.opened + left (seen || h) ≤ ms.opened + left seen
+unnamed-once config ms moment p true true other second = absurd (other second refl)
+unnamed-once config ms moment p false true other second = omega arith
+unnamed-once config ms moment p seen false other second = omega (arith, left-more seen false)
+
+judged-once : (config : Config) (ms : Members) (senders : Senders) (moment : ℕ) (p : Posted) (seen : Bool) → p.second ≡ (seen && is_handshake p.message) →
+    (sender : Option Registered) (fault : Option Error) → refusal config ms.live p ≡ fault →
+    (judged_by config ms senders moment p sender fault).members.opened + left (seen || is_handshake p.message) ≤ ms.opened + left seen
+judged-once config ms senders moment p seen second sender (Some error) is = omega (arith, left-more seen (is_handshake p.message))
+judged-once config ms senders moment p seen second (Some s) None is = omega (arith, left-more seen (is_handshake p.message))
+judged-once config ms senders moment p seen second None None is =
+    unnamed-once config ms moment p seen (is_handshake p.message) (λ twice h. true≢false (ap is_some (sym (second-refused config ms.live p h twice) ∙ is))) second
+
+-- ---- a request
+
+after-once : (roll : Roll) (moment nonce : ℕ) (sole seen : Bool) (ms : List Message) → (after roll (listed_from moment nonce sole seen ms)).members.opened ≤ roll.members.opened + left seen
+after-once roll moment nonce sole seen [] = omega arith
+after-once roll moment nonce sole seen (m ∷ ms) =
+    let p : Posted = record { message = m; moment = moment; nonce = nonce; sole = sole; last = length ms == 0; second = seen && is_handshake m } in
+    let live = roll.members.live in
+    let one = judged-once roll.config roll.members roll.senders (max roll.clock moment) p seen refl (named_by live (message_kind_of m.channel) m) (refusal roll.config live p) refl in
+    omega (arith, after-once (next roll (Post p)) moment nonce sole (seen || is_handshake m) ms, one)
+
+-- ---- the edits that were planned for it
+
+opened-edit : (ms : Members) (e : Edit) → CanEdit ms e → (edited ms e).opened ≡ ms.opened + opened_by e
+opened-edit ms (Open s) can = can.number
+opened-edit ms (Extend n due) can = omega arith
+opened-edit ms (Close n) can = omega arith
+
+opened-edits : (ms : Members) (es : List Edit) → CanEditEach ms es → (fold edited ms es).opened ≡ ms.opened + opened_by_each es
+opened-edits ms [] can = omega arith
+opened-edits ms (e ∷ es) can = omega (arith, opened-edits (edited ms e) es can.1, opened-edit ms e can.0)
+
+pub few-opened : (roll : Roll) (moment nonce : ℕ) (ms : List Message) (es : List Edit) (now end : ℕ) → CanEditEach roll.members es →
+    changed roll (record { edits = Each es; clock = now; length = end }) ≡ after roll (request moment nonce ms) → opened_by_each es ≤ 1
+few-opened roll moment nonce ms es now end can same =
+    omega (arith, opened-edits roll.members es can, ap (λ (r : Roll). r.members.opened) same, after-once roll moment nonce (length ms == 1) false ms)

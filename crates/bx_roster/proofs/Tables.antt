@@ -1,0 +1,95 @@
+-- Tables of sessions, and what a change of the session of a number makes of them.
+use Rattle.std.proofs.Common.{◌≡◌, ◌≢◌, ℕ, ◌<◌, ◌≤◌, Bool, true, false, List, [], ◌∷◌, ◌++◌, map, refl, ap, ◌∙◌, cond, arith, ne_eqb}
+use Rattle.std.specs.Prelude.{◌==◌, max, if◌then◌else◌}
+use Rattle.std.specs.List.{filter}
+use Rattle.bx_entry.specs.Registry.{Registered}
+use Rattle.bx_roster.specs.Live.{live_in}
+use Rattle.bx_roster.specs.Tables.{IsNamed, IsTable, IsAbsent, AllLive}
+
+-- ---- tables
+
+pub IsTable-bounds : (low high : ℕ) (rs : List Registered) → IsTable low high rs → low ≤ high
+IsTable-bounds low high [] t = t
+IsTable-bounds low high (r ∷ rs) t = omega (arith, IsTable-bounds r.number high rs t.2, t.0)
+
+pub IsTable-lower : (low low' high : ℕ) (rs : List Registered) → low' ≤ low → IsTable low high rs → IsTable low' high rs
+IsTable-lower low low' high [] le t = omega (arith, t)
+IsTable-lower low low' high (r ∷ rs) le t = (omega (arith, t.0), t.1, t.2)
+
+pub IsTable-absent : (low high n : ℕ) (rs : List Registered) → n ≤ low → IsTable low high rs → IsAbsent n rs
+IsTable-absent low high n [] le t = tt
+IsTable-absent low high n (r ∷ rs) le t =
+    let below : n < r.number = omega (arith, t.0) in
+    let ne : r.number ≢ n = omega arith in
+    (ne, IsTable-absent r.number high n rs (omega arith) t.2)
+
+IsTable-filter-by : (low high : ℕ) (r : Registered) (rs kept : List Registered) (b : Bool) → low < r.number → IsNamed r → IsTable r.number high kept → IsTable low high (cond b (r ∷ kept) kept)
+IsTable-filter-by low high r rs kept true below named t = (below, named, t)
+IsTable-filter-by low high r rs kept false below named t = IsTable-lower r.number low high kept (omega arith) t
+
+pub IsTable-filter : (low high : ℕ) (p : Registered → Bool) (rs : List Registered) → IsTable low high rs → IsTable low high (filter p rs)
+IsTable-filter low high p [] t = t
+IsTable-filter low high p (r ∷ rs) t = IsTable-filter-by low high r rs (filter p rs) (p r) t.0 t.1 (IsTable-filter r.number high p rs t.2)
+
+pub IsTable-map : (low high : ℕ) (g : Registered → Registered) (rs : List Registered) → ((r : Registered) → (g r).number ≡ r.number) → ((r : Registered) → (g r).client ≡ r.client) →
+    IsTable low high rs → IsTable low high (map g rs)
+IsTable-map low high g [] number client t = t
+IsTable-map low high g (r ∷ rs) number client t =
+    (omega (arith, number r, t.0), rw (number r, client r) t.1, rw (number r) (IsTable-map r.number high g rs number client t.2))
+
+pub IsTable-push : (low high : ℕ) (rs : List Registered) (s : Registered) → high < s.number → IsNamed s → IsTable low high rs → IsTable low s.number (rs ++ s ∷ [])
+IsTable-push low high [] s above named t = (omega (arith, t), named, omega arith)
+IsTable-push low high (r ∷ rs) s above named t = (t.0, t.1, IsTable-push r.number high rs s above named t.2)
+
+-- ---- one session by its number
+
+module _ (n : ℕ) (f : Registered → Registered) where
+  -- the change of the session with this number
+  abbrev pub changing : Registered → Registered
+  changing r = if r.number == n then f r else r
+
+  pub map-absent : (rs : List Registered) → IsAbsent n rs → map changing rs ≡ rs
+  map-absent [] a = refl
+  map-absent (r ∷ rs) a = rw (ne_eqb r.number n a.0) (ap (λ (ys : List Registered). r ∷ ys) (map-absent rs a.1))
+
+-- ---- those that are live
+
+AllLive-by : (r : Registered) (kept : List Registered) → AllLive kept → (b : Bool) → r.live ≡ b → AllLive (cond b (r ∷ kept) kept)
+AllLive-by r kept all true e = (e, all)
+AllLive-by r kept all false e = all
+
+pub AllLive-live : (rs : List Registered) → AllLive (live_in rs)
+AllLive-live [] = tt
+AllLive-live (r ∷ rs) = AllLive-by r (live_in rs) (AllLive-live rs) r.live refl
+
+pub live_in-all : (rs : List Registered) → AllLive rs → live_in rs ≡ rs
+live_in-all [] all = refl
+live_in-all (r ∷ rs) all = ap (λ (b : Bool). cond b (r ∷ live_in rs) (live_in rs)) all.0 ∙ ap (λ (ys : List Registered). r ∷ ys) (live_in-all rs all.1)
+
+-- ---- a due moment that moves on
+
+pub changed-due : (n due : ℕ) (r : Registered) (b : Bool) → r.due ≤ (if b then record r { due = max r.due due } else r).due
+changed-due n due r true = omega arith
+changed-due n due r false = omega arith
+
+pub changed-number : (due : ℕ) (r : Registered) (b : Bool) → (if b then record r { due = max r.due due } else r).number ≡ r.number
+changed-number due r true = refl
+changed-number due r false = refl
+
+pub changed-client : (due : ℕ) (r : Registered) (b : Bool) → (if b then record r { due = max r.due due } else r).client ≡ r.client
+changed-client due r true = refl
+changed-client due r false = refl
+
+-- ---- a session that is closed
+
+pub closing-due : (r : Registered) (b : Bool) → r.due ≤ (if b then record r { live = false } else r).due
+closing-due r true = omega arith
+closing-due r false = omega arith
+
+pub closing-number : (r : Registered) (b : Bool) → (if b then record r { live = false } else r).number ≡ r.number
+closing-number r true = refl
+closing-number r false = refl
+
+pub closing-client : (r : Registered) (b : Bool) → (if b then record r { live = false } else r).client ≡ r.client
+closing-client r true = refl
+closing-client r false = refl
