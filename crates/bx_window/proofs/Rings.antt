@@ -1,5 +1,5 @@
 -- What a ring holds, as its front grows.
-use Rattle.std.proofs.Common.{◌≡◌, ℕ, zero, suc, ◌+◌, ◌-◌, ◌<◌, ◌≤◌, List, [], ◌∷◌, ◌++◌, length, drop, map, slice_index_or, slice_get, Bool, true, false, nat_lt, ◌==◌, Some, None, refl, ap, sym, ◌∙◌, subst, arith, length-append}
+use Rattle.std.proofs.Common.{◌≡◌, ℕ, zero, suc, ◌+◌, ◌-◌, ◌<◌, ◌≤◌, List, [], ◌∷◌, ◌++◌, length, drop, map, slice_index_or, slice_get, Bool, true, false, nat_lt, Some, None, refl, ap, sym, ◌∙◌, subst, arith, length-append}
 use Rattle.std.proofs.lemmas.Bool.Decides.{nat_tests}
 use Rattle.std.proofs.lemmas.List.{map-append, length-map}
 use Rattle.std.proofs.Math.Seq.{take-append_seam}
@@ -10,7 +10,7 @@ use Rattle.bx_entry.specs.declared.entry.Batch.{Batch}
 use Rattle.bx_window.specs.declared.batch.Bundle.{Bundle}
 use Rattle.bx_window.specs.declared.law.Step.{Step}
 use Rattle.bx_window.specs.Places.{IsOf, Spans, Continues}
-use Rattle.bx_window.specs.Steps.{adding, trimming, list_of, firsts_of, begin_of, before, next_of, ends_in, ends_of, IsNewest, IsTrimmed}
+use Rattle.bx_window.specs.Steps.{adding, trimming, list_of, firsts_of, begin_of, before, ends_in, ends_of, IsNewest, IsTrimmed}
 use Rattle.bx_window.proofs.Firsts.{kept_all}
 use Rattle.bx_window.proofs.Lists.{end_is, list_of-adding, firsts_of_adding, firsts_of_trimming, list_of_trimming}
 use Rattle.bx_window.proofs.Places.{many_elements}
@@ -126,16 +126,6 @@ pub ends_bundle : (config : Config) (log : List Step) (b : Bundle) → Continues
 ends_bundle config log b c =
     let all = ap length (list_of-adding log b.elements) in
     omega (arith, all, length-append (list_of log) b.elements, many_elements config (list_of log) b c, c.first)
-
--- no step was added, and none was dropped
-pub nothing_trimmed : IsTrimmed [] 0
-nothing_trimmed = record { same = refl; firsts = refl }
-
-pub next_added : (log : List Step) (s : Step) → next_of log (log ++ s ∷ []) ≡ log ++ s ∷ []
-next_added log s =
-    let more = length-append log (s ∷ []) in
-    let t : (length (log ++ s ∷ []) == length log + 1) ≡ true = grind (arith, nat_tests, more) in
-    rw t refl
 
 -- a place of the window lies between the first batch and the end behind the last one
 pub inside_all : (log : List Step) (n place : ℕ) → n ≡ length (firsts_of log) → begin_of log ≤ place → place < length (list_of log)

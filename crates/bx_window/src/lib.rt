@@ -7,6 +7,7 @@ mod law;
 mod published;
 mod reader;
 mod ring;
+mod showing;
 mod writer;
 
 pub use batch::{Bundle, entry_of};

@@ -18,6 +18,7 @@ use crate::law::{Naming, Step};
 use crate::published::{Change, Published, Trimmed};
 use crate::reader::{LogReader, Memory};
 use crate::ring::{Ring, drop_first};
+use crate::showing::{Late, catch_up, make_room, show};
 use bx_entry::Batch;
 use bx_listing::Listing;
 use circular_buffer::HeapCircularBuffer;
@@ -45,8 +46,7 @@ pub struct Writer<J: Naming, R: Wait + Drop, T: Absorb<O, State = [Step; 0]> + D
     handle: WriteHandle<T, O, R>,
     book: Book<J>,
     firsts: HeapCircularBuffer<u64>,
-    // The last change, where the operation that shows it was refused.
-    late: Option<O>,
+    late: Option<Late<O>>,
 }
 
 impl<J: Naming, R: Wait + Drop, T: Absorb<O, State = [Step; 0]> + Drop, O: Drop> Model
@@ -167,7 +167,7 @@ impl<J: Naming, R: Wait + Drop> Writer<J, R, Ring<J>, Change<J>> {
     /// waits for the readers that are inside the ring. Where no memory is left, nothing changes; a trim that drops nothing
     /// takes none, and waits for nobody.
     #[tactic(auto, using(crate::proofs::Lists::begin_of_trimming, crate::proofs::Lists::list_of_trimming, crate::proofs::Lists::firsts_of_trimming))]
-    pub fn trim(&mut self, alloc: Global, n: u64) -> Result<(), Memory>
+    pub fn trim(&mut self, _alloc: Global, n: u64) -> Result<(), Memory>
         requires steps { length self.old < 2 ^ 62 }
         ensures grows { IsPrefix self.old self.new }
         ensures list { list_of self.new ≡ list_of self.old }
@@ -189,64 +189,6 @@ impl<J: Naming, R: Wait + Drop> Writer<J, R, Ring<J>, Change<J>> {
         drop_first(&mut self.firsts, count);
         Ok(())
     }
-}
-
-// Shows readers a change, which comes back where the operation is refused: they see then what they saw.
-fn show<J: Naming, R: Wait + Drop>(
-    handle: &mut WriteHandle<Ring<J>, Change<J>, R>,
-    change: Change<J>,
-) -> Option<Change<J>>
-    requires { pending handle.old ≡ [] }
-    ensures pending { pending handle.new ≡ [] }
-    ensures shown { IfNone result ((published handle.new).front ≡ after (published handle.old).front change) }
-    ensures back { IfSome result (λ c. (c ≡ change) × (published handle.new ≡ published handle.old)) }
-{
-    match handle.append(change) {
-        Ok(()) => {
-            let _ = handle.publish();
-            None
-        }
-        Err(change) => Some(change),
-    }
-}
-
-// Shows readers the change that is late, if one is. Says whether none is late then.
-fn catch_up<J: Naming, R: Wait + Drop>(
-    handle: &mut WriteHandle<Ring<J>, Change<J>, R>,
-    late: &mut Option<Change<J>>,
-) -> bool
-    requires { pending handle.old ≡ [] }
-    ensures pending { pending handle.new ≡ [] }
-    ensures none { IsTrue result → late.new ≡ None }
-    ensures shown { (log : List Step) → IsShown after log late.old (published handle.old).front → IsShown after log late.new (published handle.new).front }
-{
-    match late.take() {
-        Some(change) => {
-            *late = show(handle, change);
-            late.is_none()
-        }
-        None => true,
-    }
-}
-
-// Makes room for the operations that stand in the log of `left_right` at once, which are two at most: the last one, until the next
-// publish has brought it to the other ring, and the next one. So no memory is asked for later.
-fn make_room<J: Naming, R: Wait + Drop>(
-    handle: &mut WriteHandle<Ring<J>, Change<J>, R>,
-    front: &Front<J>,
-) -> Result<(), AllocError>
-    requires pending { pending handle.old ≡ [] }
-    requires empty { (front.now ≡ []) × ((published handle.old).front ≡ []) }
-    ensures pending { IfOk result (λ _. pending handle.new ≡ []) }
-    ensures shown { IfOk result (λ _. (published handle.new).front ≡ []) }
-{
-    for _ in 0..2 {
-        let nothing = Change::Trim(Trimmed::new(0, front.again()));
-        if show(handle, nothing).is_some() {
-            return Err(AllocError);
-        }
-    }
-    Ok(())
 }
 
 // The batch under a count of owners, with its elements. Where no memory is left, the bundle comes back.
