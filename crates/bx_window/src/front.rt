@@ -1,9 +1,9 @@
 //! How much of the log was seen, and the writer's end of it.
-ghost use Rattle.std.specs.Prelude.{◌≡◌, ◌+◌, ◌<◌, ◌≤◌, ◌^◌, ◌++◌, ◌∷◌, ◌⊎◌, ◌↔◌, [], length, IsTrue, IfSome};
+ghost use Rattle.std.specs.Prelude.{◌≡◌, ◌+◌, ◌<◌, ◌≤◌, ◌^◌, ◌++◌, ◌∷◌, ◌⊎◌, ◌↔◌, ◌==◌, [], length, IsTrue, IfSome};
 ghost use mathlib.Core.List.{IsPrefix};
 ghost use Rattle.bx_advice.specs.Limits.{greatest_length};
 ghost use Rattle.logbook.specs.Pages.{may_write};
-ghost use Rattle.bx_window.specs.Steps.{adding, trimming, stepping, list_of, begin_of};
+ghost use Rattle.bx_window.specs.Steps.{adding, trimming, stepping, list_of, begin_of, before};
 ghost use Rattle.bx_window.specs.Rules.{head_of};
 
 use crate::law::{Add, Asked, Law, Logged, Naming, Nothing, Open, Spare, Whole};
@@ -272,5 +272,14 @@ impl<J: Naming> Front<J> {
         let mut both = self.seen.again();
         both.learn(&other.seen);
         other.steps <= self.steps
+    }
+
+    // Whether it has the steps of the other and one more.
+    #[tactic(auto, using(crate::proofs::Fronts::before_prefix))]
+    pub(crate) fn follows(&self, other: &Front<J>) -> bool
+        ensures next { IsTrue result → before self.now ≡ other.now }
+        ensures steps { result ≡ (length self.now == length other.now + 1) }
+    {
+        self.covers(other) && self.steps - other.steps == 1
     }
 }

@@ -7,12 +7,13 @@ mod law;
 mod published;
 mod reader;
 mod ring;
+mod showing;
 mod writer;
 
 pub use batch::{Bundle, entry_of};
 pub use front::{Book, Front, Note, Opened};
 pub use law::{Law, Logged, Naming, Step};
-pub use published::Published;
+pub use published::{Change, Published, Trimmed};
 pub use reader::{LogReader, Memory, Next};
-pub use ring::{Change, Operation, Ring};
+pub use ring::{Kept, Ring};
 pub use writer::{LogWriter, MAX_BATCHES, Refusal, Writer, log_pair};

@@ -1,26 +1,31 @@
 //! The writer of the window: it publishes batches, and drops those that lie below a place.
-ghost use Rattle.std.specs.Prelude.{◌≡◌, ◌+◌, ◌<◌, ◌≤◌, ◌^◌, ◌++◌, ◌∷◌, [], length, drop, slice_index_or, IfOk, IfErr, OnOk, OnErr};
+ghost use Rattle.std.specs.Prelude.{◌≡◌, ◌+◌, ◌<◌, ◌≤◌, ◌^◌, ◌++◌, ◌∷◌, [], length, drop, slice_index_or, List, None, IsTrue, IfNone, IfSome, IfOk, IfErr, OnOk, OnErr};
+ghost use Rattle.left_right.specs.Handles.{published, pending};
 ghost use mathlib.Core.List.{IsPrefix};
 ghost use Rattle.std.specs.Arc.{arc_value};
 ghost use Rattle.std.specs.List.{All};
 ghost use Rattle.bx_advice.specs.Limits.{greatest_length};
 ghost use Rattle.bx_window.specs.Places.{Continues};
 ghost use Rattle.bx_window.specs.Steps.{adding, list_of, firsts_of, below};
+ghost use Rattle.bx_window.specs.declared.law.Step.{Step};
+ghost use Rattle.bx_window.specs.Changes.{after};
+ghost use Rattle.bx_window.specs.Showing.{IsShown};
 ghost use Rattle.bx_window.specs.Refusals.{IsFair};
 
 use crate::batch::Bundle;
 use crate::front::{Book, Front, Note, Opened};
-use crate::law::Naming;
-use crate::published::Published;
+use crate::law::{Naming, Step};
+use crate::published::{Change, Published, Trimmed};
 use crate::reader::{LogReader, Memory};
-use crate::ring::{Change, Operation, Ring};
+use crate::ring::{Ring, drop_first};
+use crate::showing::{Late, catch_up, make_room, show};
 use bx_entry::Batch;
 use bx_listing::Listing;
 use circular_buffer::HeapCircularBuffer;
 use left_right::{Absorb, WriteHandle};
 use std::alloc::{AllocError, Global};
 use std::marker::Model;
-use std::sync::{Arc, OnceLock, Wait};
+use std::sync::{Arc, Wait};
 
 /// How many batches the window has at most: a shard that stands still keeps no more of them. (This server's choice.)
 pub const MAX_BATCHES: usize = 4096;
@@ -34,28 +39,33 @@ pub enum Refusal {
     Memory,
 }
 
-/// The writer, over any value that is published. Contracts see it as the steps of the log.
+/// The writer, over any value that is published and shows steps. Contracts see it as the steps of the log: what is published shows
+/// all of them, but for the change that is late.
 #[derive(Drop)]
-pub struct Writer<J: Naming, R: Wait + Drop, T: Absorb<O> + Drop, O: Drop> {
+pub struct Writer<J: Naming, R: Wait + Drop, T: Absorb<O, State = [Step; 0]> + Drop, O: Drop> {
     handle: WriteHandle<T, O, R>,
     book: Book<J>,
     firsts: HeapCircularBuffer<u64>,
+    late: Option<Late<O>>,
 }
 
-impl<J: Naming, R: Wait + Drop, T: Absorb<O> + Drop, O: Drop> Model for Writer<J, R, T, O> {
-    ghost use Rattle.std.specs.Prelude.{◌≡◌, List};
+impl<J: Naming, R: Wait + Drop, T: Absorb<O, State = [Step; 0]> + Drop, O: Drop> Model
+    for Writer<J, R, T, O> {
+    ghost use Rattle.std.specs.Prelude.{◌≡◌, [], List};
+    ghost use Rattle.left_right.specs.Handles.{published, pending};
     ghost use Rattle.bx_window.specs.declared.law.Step.{Step};
     ghost use Rattle.bx_window.specs.Steps.{firsts_of};
+    ghost use Rattle.bx_window.specs.Showing.{IsShown};
 
     ghost Value = { List Step };
 
     ghost view = { λ w. w.book };
 
-    ghost invariant = { λ w. (w.firsts.items ≡ firsts_of w.book) × (w.firsts.capacity ≡ 4096) };
+    ghost invariant = { λ w. (w.firsts.items ≡ firsts_of w.book) × (w.firsts.capacity ≡ 4096) × (pending w.handle ≡ []) × IsShown T.applied w.book w.late (T.state (published w.handle)) };
 }
 
 /// The writer of a window: the one value that publishes to it. Contracts see it as the steps of the log.
-pub type LogWriter<J, R> = Writer<J, R, Ring<J>, Operation<J>>;
+pub type LogWriter<J, R> = Writer<J, R, Ring<J>, Change<J>>;
 
 /// The writer and so many readers of an opened window, of an empty list. `Err` where no memory is left. (So too where another
 /// had begun the window's log, which nothing can do.)
@@ -78,9 +88,8 @@ pub fn log_pair<J: Naming, R: Wait + Drop>(
     let first = empty_ring(alloc, &front)?;
     let second = empty_ring(alloc, &front)?;
     let firsts = HeapCircularBuffer::with_capacity(alloc, MAX_BATCHES)?;
-    let handle: WriteHandle<Ring<J>, Operation<J>, R> = WriteHandle::new(
-        alloc, rt, first, second, readers,
-    )?;
+    let mut handle = WriteHandle::new(alloc, rt, first, second, readers)?;
+    make_room(&mut handle, &front)?;
     let mut all = Vec::new(alloc);
     for _ in 0..readers {
         let reader = LogReader::over(handle.handle()?, front.again());
@@ -90,19 +99,23 @@ pub fn log_pair<J: Naming, R: Wait + Drop>(
         handle,
         book,
         firsts,
+        late: None,
     };
     Ok((writer, all))
 }
 
 // A ring without batches.
-fn empty_ring<J: Naming>(alloc: Global, front: &Front<J>) -> Result<Ring<J>, AllocError> {
+fn empty_ring<J: Naming>(alloc: Global, front: &Front<J>) -> Result<Ring<J>, AllocError>
+    requires { front.now ≡ [] }
+    ensures { IfOk result (λ r. r.front ≡ []) }
+{
     Ok(Ring {
         batches: HeapCircularBuffer::with_capacity(alloc, MAX_BATCHES)?,
         front: front.again(),
     })
 }
 
-impl<J: Naming, R: Wait + Drop> Writer<J, R, Ring<J>, Operation<J>> {
+impl<J: Naming, R: Wait + Drop> Writer<J, R, Ring<J>, Change<J>> {
     /// All that was published, to tell a reader. It takes no memory, so it cannot fail.
     pub fn tell(&self) -> Note<J>
         ensures { result ≡ self.now }
@@ -123,7 +136,7 @@ impl<J: Naming, R: Wait + Drop> Writer<J, R, Ring<J>, Operation<J>> {
     /// Publishes a batch, which readers then find at its places. It waits for the readers that are inside the ring. Where it
     /// is refused, the batch comes back: `Full` where the window has `MAX_BATCHES` batches, `Memory` where no memory is left.
     /// The batch has entries, begins where the list ends, and they are those of its elements behind the list.
-    #[tactic(auto, using(crate::proofs::Places::stands_newest, crate::proofs::Places::many_elements, crate::proofs::Lists::firsts_of_adding, crate::proofs::Rooms::room_full))]
+    #[tactic(auto, using(crate::proofs::Places::stands_newest, crate::proofs::Places::many_elements, crate::proofs::Lists::firsts_of_adding, crate::proofs::Rooms::room_full, crate::proofs::Rings::newest_bundle, crate::proofs::Rings::ends_bundle))]
     pub fn publish(&mut self, alloc: Global, bundle: Bundle) -> Result<(), (Bundle, Refusal)>
         requires continues { Continues J.config (list_of self.old) bundle }
         requires places { length (list_of self.old) + length bundle.batch.entries ≤ greatest_length }
@@ -134,9 +147,9 @@ impl<J: Naming, R: Wait + Drop> Writer<J, R, Ring<J>, Operation<J>> {
         if self.firsts.len() >= MAX_BATCHES {
             return Err((bundle, Refusal::Full));
         }
-        let Ok(slot) = reserve(alloc, &mut self.handle) else {
+        if !catch_up(&mut self.handle, &mut self.late) {
             return Err((bundle, Refusal::Memory));
-        };
+        }
         let (batch, elements) = match shared(alloc, bundle) {
             Ok(parts) => parts,
             Err(bundle) => return Err((bundle, Refusal::Memory)),
@@ -144,8 +157,8 @@ impl<J: Naming, R: Wait + Drop> Writer<J, R, Ring<J>, Operation<J>> {
         let first = batch.first;
         let count = batch.entries.len() as u64;
         self.book.add(&elements, count);
-        let change = Change::Add(Published::new(batch, self.book.front()));
-        show(&mut self.handle, &slot, change);
+        let published = Published::new(batch, self.book.front());
+        self.late = show(&mut self.handle, Change::Add(published));
         put_last(&mut self.firsts, first);
         Ok(())
     }
@@ -154,7 +167,7 @@ impl<J: Naming, R: Wait + Drop> Writer<J, R, Ring<J>, Operation<J>> {
     /// waits for the readers that are inside the ring. Where no memory is left, nothing changes; a trim that drops nothing
     /// takes none, and waits for nobody.
     #[tactic(auto, using(crate::proofs::Lists::begin_of_trimming, crate::proofs::Lists::list_of_trimming, crate::proofs::Lists::firsts_of_trimming))]
-    pub fn trim(&mut self, alloc: Global, n: u64) -> Result<(), Memory>
+    pub fn trim(&mut self, _alloc: Global, n: u64) -> Result<(), Memory>
         requires steps { length self.old < 2 ^ 62 }
         ensures grows { IsPrefix self.old self.new }
         ensures list { list_of self.new ≡ list_of self.old }
@@ -167,35 +180,15 @@ impl<J: Naming, R: Wait + Drop> Writer<J, R, Ring<J>, Operation<J>> {
             return Ok(());
         }
         let begin = first_at(&self.firsts, count, end);
-        let slot = reserve(alloc, &mut self.handle)?;
+        if !catch_up(&mut self.handle, &mut self.late) {
+            return Err(Memory);
+        }
         self.book.trim(count as u64, begin);
-        show(&mut self.handle, &slot, Change::Trim(self.book.front()));
+        let trimmed = Trimmed::new(count, self.book.front());
+        self.late = show(&mut self.handle, Change::Trim(trimmed));
         drop_first(&mut self.firsts, count);
         Ok(())
     }
-}
-
-// Appends an operation that has no change yet. All that may be refused is done with this: `show` fills the operation
-// and takes no memory. One that is never filled changes nothing, and the next publish takes it out of the log of
-// operations.
-fn reserve<J: Naming, R: Wait + Drop>(
-    alloc: Global,
-    handle: &mut WriteHandle<Ring<J>, Operation<J>, R>,
-) -> Result<Operation<J>, Memory> {
-    let slot = Arc::new(alloc, OnceLock::new()).map_err(|_| Memory)?;
-    let operation = Arc::try_clone(&slot).map_err(|_| Memory)?;
-    handle.append(operation).map_err(|_| Memory)?;
-    Ok(slot)
-}
-
-// Fills an operation that was reserved, and shows readers what it changes.
-fn show<J: Naming, R: Wait + Drop>(
-    handle: &mut WriteHandle<Ring<J>, Operation<J>, R>,
-    slot: &Operation<J>,
-    change: Change<J>,
-) {
-    let _ = slot.try_set(change);
-    let _ = handle.publish();
 }
 
 // The batch under a count of owners, with its elements. Where no memory is left, the bundle comes back.
@@ -243,14 +236,4 @@ fn put_last(firsts: &mut HeapCircularBuffer<u64>, first: u64)
     ensures capacity { firsts.new.capacity ≡ firsts.old.capacity }
 {
     firsts.push_back(first);
-}
-
-// Drops so many at the front.
-fn drop_first(firsts: &mut HeapCircularBuffer<u64>, count: usize)
-    ensures items { firsts.new.items ≡ drop count firsts.old.items }
-    ensures capacity { firsts.new.capacity ≡ firsts.old.capacity }
-{
-    for _ in 0..count {
-        firsts.pop_front();
-    }
 }

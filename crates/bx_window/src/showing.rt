@@ -1,0 +1,78 @@
+//! How readers are shown a change.
+ghost use Rattle.std.specs.Prelude.{◌≡◌, [], List, None, IsTrue, IfNone, IfSome, IfOk};
+ghost use Rattle.left_right.specs.Handles.{published, pending};
+ghost use Rattle.bx_window.specs.declared.law.Step.{Step};
+ghost use Rattle.bx_window.specs.Changes.{after};
+ghost use Rattle.bx_window.specs.Showing.{IsShown};
+
+use crate::front::Front;
+use crate::law::Naming;
+use crate::published::{Change, Trimmed};
+use crate::ring::Ring;
+use left_right::WriteHandle;
+use std::alloc::AllocError;
+use std::sync::Wait;
+
+/// A change that readers are not shown yet, since the operation that shows it was refused. None is made but there.
+#[derive(Drop)]
+pub(crate) struct Late<O: Drop> {
+    change: O,
+}
+
+/// Shows readers a change. Where the operation is refused they see what they saw, and the change is late.
+pub(crate) fn show<J: Naming, R: Wait + Drop>(
+    handle: &mut WriteHandle<Ring<J>, Change<J>, R>,
+    change: Change<J>,
+) -> Option<Late<Change<J>>>
+    requires { pending handle.old ≡ [] }
+    ensures pending { pending handle.new ≡ [] }
+    ensures shown { IfNone result ((published handle.new).front ≡ after (published handle.old).front change) }
+    ensures late { IfSome result (λ l. (l.change ≡ change) × (published handle.new ≡ published handle.old)) }
+{
+    match handle.append(change) {
+        Ok(()) => {
+            let _ = handle.publish();
+            None
+        }
+        Err(change) => Some(Late { change }),
+    }
+}
+
+/// Shows readers the change that is late, if one is. Says whether none is late then.
+pub(crate) fn catch_up<J: Naming, R: Wait + Drop>(
+    handle: &mut WriteHandle<Ring<J>, Change<J>, R>,
+    late: &mut Option<Late<Change<J>>>,
+) -> bool
+    requires { pending handle.old ≡ [] }
+    ensures pending { pending handle.new ≡ [] }
+    ensures none { IsTrue result → late.new ≡ None }
+    ensures shown { (log : List Step) → IsShown after log late.old (published handle.old).front → IsShown after log late.new (published handle.new).front }
+{
+    match late.take() {
+        Some(Late { change }) => {
+            *late = show(handle, change);
+            late.is_none()
+        }
+        None => true,
+    }
+}
+
+/// Makes room for the operations that stand in the log of `left_right` at once, which are two at most: the last one, until the next
+/// publish has brought it to the other ring, and the next one. So no change asks for memory when it is shown.
+pub(crate) fn make_room<J: Naming, R: Wait + Drop>(
+    handle: &mut WriteHandle<Ring<J>, Change<J>, R>,
+    front: &Front<J>,
+) -> Result<(), AllocError>
+    requires pending { pending handle.old ≡ [] }
+    requires empty { (front.now ≡ []) × ((published handle.old).front ≡ []) }
+    ensures pending { IfOk result (λ _. pending handle.new ≡ []) }
+    ensures shown { IfOk result (λ _. (published handle.new).front ≡ []) }
+{
+    for _ in 0..2 {
+        let nothing = Change::Trim(Trimmed::new(0, front.again()));
+        if show(handle, nothing).is_some() {
+            return Err(AllocError);
+        }
+    }
+    Ok(())
+}
