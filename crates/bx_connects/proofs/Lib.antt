@@ -1,3 +1,4 @@
 pub mod ConnectLemmas
 pub mod DeadlineLemmas
 pub mod HoldLemmas
+pub mod WakingLemmas

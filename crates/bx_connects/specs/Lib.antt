@@ -1,2 +1,3 @@
 pub mod Connects
 pub mod Deadlines
+pub mod Waking

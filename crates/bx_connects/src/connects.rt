@@ -5,9 +5,11 @@ ghost use Rattle.std.specs.Option.{option_or};
 ghost use Rattle.futures.specs.declared.task.waker.Waker.{Waker};
 ghost use Rattle.bx_connects.specs.declared.connects.ConnectState.TheVariants.{Filed, Held};
 ghost use Rattle.bx_connects.specs.Connects.{AreApart, IsDue, IsHeldUntil, completed, connect_at, count_filed_below, count_held, filed_answer, filed_as, filing, filing_at, held_by, known_as, swept, taken_from, unswept, unwatched, watched, with_waker};
+ghost use Rattle.bx_connects.specs.Waking.{AreWoken, waker_of};
 
 use crate::filing::Filing;
 use crate::held::{HeldConnect, HeldConnects};
+use crate::wakers::Wakers;
 use crate::watch::Watch;
 use bx_message::{Answer, Sequence, SharedEvent};
 use bx_session::Answered;
@@ -15,7 +17,6 @@ use futures::task::Waker;
 use indexmap::IndexMap;
 use std::alloc::{AllocError, Global};
 use std::marker::Model;
-use std::mem;
 
 /// What became of a connect, as contracts see it. A waker stands beside a held connect alone, so that no filed answer has
 /// one left.
@@ -56,14 +57,11 @@ pub struct FiledAnswer {
 /// among them, which are never held. The room
 /// for a connect's answer and for a waker is there from the first on, so that filing is not refused for want of memory.
 ///
-/// Where a held connect is answered, the waker beside it goes to a list of those that are to be woken. Whoever has the
-/// answers filed takes that list by `take_wakers` and drops it, after it has let go of the lock that lies round the connects.
-/// Where there is no memory for one more in the list, the waker is woken at once. Contracts do not see the list.
+/// Where a held connect is answered or forgotten, the waker beside it goes to the caller's list of those that are to be woken.
 #[derive(Drop)]
 pub struct Connects {
     held: HeldConnects,
     filed: IndexMap<u64, FiledAnswer>,
-    wakers: Vec<Waker>,
 }
 
 impl Model for Connects {
@@ -86,7 +84,6 @@ impl Connects {
         Connects {
             held: HeldConnects::new(alloc),
             filed: IndexMap::new(alloc),
-            wakers: Vec::new(alloc),
         }
     }
 
@@ -107,23 +104,25 @@ impl Connects {
         self.held.hold(place, session, deadline)
     }
 
-    /// Nothing is known of the connect at this place any longer.
-    pub fn forget(&mut self, place: u64)
-        ensures { (p : ℕ) → connect_at self.new p ≡ (if nat_eq place p then None else connect_at self.old p) }
+    /// Nothing is known of the connect at this place any longer. A waker beside it is to be woken.
+    pub fn forget(&mut self, place: u64, wakers: &mut Wakers)
+        ensures forgotten { (p : ℕ) → connect_at self.new p ≡ (if nat_eq place p then None else connect_at self.old p) }
+        ensures woken { wakers.new ≡ wakers.old ++ option_to_list (waker_of (connect_at self.old place)) }
     {
-        if self.held.release(place).is_none() {
-            drop(self.filed.swap_remove(&place));
+        match self.held.release(place) {
+            Some(HeldConnect { waker, .. }) => wakers.push_if(waker),
+            None => drop(self.filed.swap_remove(&place)),
         }
     }
 
-    /// Files the answer to a held connect, which the entry at this place gives. A waker beside it is from then on among those
-    /// that `take_wakers` gives.
-    pub fn file(&mut self, place: u64, answered: Answered)
+    /// Files the answer to a held connect, which the entry at this place gives. A waker beside it is to be woken.
+    pub fn file(&mut self, place: u64, answered: Answered, wakers: &mut Wakers)
         ensures filed { (p : ℕ) → connect_at self.new p
             ≡ (if nat_eq answered.place p then filed_as place answered.answer (connect_at self.old answered.place)
             else connect_at self.old p) }
         ensures fewer { (session : ℕ) → (deadline : Option ℕ) → (waker : Option Waker)
             → connect_at self.old answered.place ≡ Some (Held session deadline waker) → count_held self.new < count_held self.old }
+        ensures woken { wakers.new ≡ wakers.old ++ option_to_list (waker_of (connect_at self.old answered.place)) }
     {
         let Answered {
             place: connect,
@@ -137,7 +136,7 @@ impl Connects {
                     answer,
                 };
                 self.filed.insert(connect, filed).unwrap();
-                add_waker(&mut self.wakers, waker);
+                wakers.push_if(waker);
             }
             None => {
                 if let Some(earlier) = self.filed.get_mut(&connect) {
@@ -176,20 +175,14 @@ impl Connects {
         }
     }
 
-    /// Files an answer, where there is one.
-    pub fn file_if(&mut self, place: u64, answered: Option<Answered>)
-        ensures { (p : ℕ) → connect_at self.new p ≡ filing place answered (connect_at self.old) p }
+    /// Files an answer, where there is one. A waker beside its connect is to be woken.
+    pub fn file_if(&mut self, place: u64, answered: Option<Answered>, wakers: &mut Wakers)
+        ensures filed { (p : ℕ) → connect_at self.new p ≡ filing place answered (connect_at self.old) p }
+        ensures woken { AreWoken (connect_at self.old) (connect_at self.new) wakers.old wakers.new }
     {
         if let Some(answered) = answered {
-            self.file(place, answered);
+            self.file(place, answered, wakers);
         }
-    }
-
-    /// The wakers of those whose connects were answered since the last call. They are woken where they are dropped.
-    pub fn take_wakers(&mut self, alloc: Global) -> Vec<Waker>
-        ensures { self.new ≡ self.old }
-    {
-        mem::replace(&mut self.wakers, Vec::new(alloc))
     }
 
     /// The session of a held connect whose deadline is this moment, in milliseconds, or before it.
@@ -323,12 +316,5 @@ impl Connects {
         ensures { result ≡ is_some (connect_at self.now place) }
     {
         self.held.has(place) || self.filed.contains_key(&place)
-    }
-}
-
-// A waker more is to be woken. Where there is no memory for it, it is woken at once.
-fn add_waker(wakers: &mut Vec<Waker>, waker: Option<Waker>) {
-    if let Some(waker) = waker {
-        drop(wakers.push(waker));
     }
 }

@@ -5,8 +5,10 @@ mod connects;
 mod deadlines;
 mod filing;
 mod held;
+mod wakers;
 mod watch;
 
 pub use connects::{ConnectState, Connects, FiledAnswer};
 pub use filing::Filing;
+pub use wakers::Wakers;
 pub use watch::Watch;

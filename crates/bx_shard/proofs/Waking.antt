@@ -5,6 +5,10 @@ use Rattle.futures.specs.declared.task.waker.Waker.{Waker}
 use Rattle.bx_lists.proofs.Tests.{either}
 use Rattle.bx_connects.specs.declared.connects.ConnectState.{ConnectState}
 use Rattle.bx_connects.specs.declared.connects.ConnectState.TheVariants as states
+use Rattle.bx_advice.specs.declared.config.Config.{Config}
+use Rattle.bx_entry.specs.Keeping.{Kept}
+use Rattle.bx_connects.specs.Waking.{waker_of}
+use Rattle.bx_shard.specs.Following.{completed_by}
 use Rattle.bx_connects.specs.Connects.{session_at, unwatched, with_waker}
 use Rattle.bx_shard.specs.Sessions.{held_until}
 use Rattle.bx_shard.specs.States.{connect_in}
@@ -78,3 +82,10 @@ refines_shut setup list taken shard n old new h w sound = record {
   gone = λ p t c. let g = h.gone p t c in (g.0, w.connects p ∙ ap (option_map unwatched) g.1);
   owned = λ p m k. h.owned p m (sym (ap session_at (w.connects p) ∙ unwatched_session (connect_in old p)) ∙ k);
 }
+
+-- the events of a session change no waker
+pub completed_waker : (config : Config) (k : Option Kept) (o : Option ConnectState) → waker_of (completed_by config k o) ≡ waker_of o
+completed_waker config None o = refl
+completed_waker config (Some k) None = refl
+completed_waker config (Some k) (Some (states.Held session deadline waker)) = refl
+completed_waker config (Some k) (Some (states.Filed session place answer)) = refl

@@ -1,23 +1,27 @@
 //! Each entry, as the sessions of a shard follow it.
 ghost use Rattle.std.specs.Prelude.{◌≡◌, ◌≤◌, ◌<◌, ℕ, true, None, OnOk, OnErr, IsOk};
 ghost use Rattle.bx_connects.specs.Connects.{connect_at};
+ghost use Rattle.bx_connects.specs.Waking.{AreWoken};
 ghost use Rattle.bx_shard.specs.Following.{Followed, alone, rides_of};
 ghost use Rattle.bx_shard.specs.Sessions.{AreCountable, AreCounted, AreHeld, kept_in};
 ghost use Rattle.bx_shard.specs.States.{takes_no_memory, takes_none_by};
 
 use crate::sessions::Sessions;
+use bx_connects::Wakers;
 use bx_entry::{Entry, EntryKind};
 use bx_session::PendingConnect;
 use std::alloc::{AllocError, Global};
 
 impl Sessions {
     /// Does what an entry says; `stands` tells whether a session that it opens stands here. A rider is answered behind the
-    /// rest. Where memory is refused nothing changes that can be seen.
+    /// rest. The wakers beside connects that are answered are to be woken. Where memory is refused nothing changes that can be
+    /// seen, and so no waker more is to be woken.
     pub(crate) fn follow(
         &mut self,
         alloc: Global,
         entry: &Entry,
         stands: bool,
+        wakers: &mut Wakers,
     ) -> Result<(), AllocError>
         requires fresh { connect_at self.old.connects entry.now.place ≡ None }
         requires counted { AreCounted self.old }
@@ -26,17 +30,18 @@ impl Sessions {
         ensures done { OnOk result (Followed stands entry.now self.old self.new) }
         ensures refused { OnErr result (((n : ℕ) → kept_in self.new n ≡ kept_in self.old n)
             × ((p : ℕ) → connect_at self.new.connects p ≡ connect_at self.old.connects p)) }
+        ensures woken { AreWoken (connect_at self.old.connects) (connect_at self.new.connects) wakers.old wakers.new }
         ensures free { takes_no_memory entry.now ≡ true → IsOk result }
         ensures counted { AreCounted self.new }
         ensures held { AreHeld self.new }
         ensures config { self.new.config ≡ self.old.config }
     {
         let Some(rider) = self.rider_here(entry) else {
-            return self.follow_alone(alloc, entry, stands);
+            return self.follow_alone(alloc, entry, stands, wakers);
         };
         let room = self.prepare_ride(alloc, entry.place, rider)?;
-        if let Err(error) = self.follow_alone(alloc, entry, stands) {
-            self.connects.forget(entry.place);
+        if let Err(error) = self.follow_alone(alloc, entry, stands, wakers) {
+            self.connects.forget(entry.place, wakers);
             return Err(error);
         }
         self.ride(entry.place, rider.session, room);
@@ -44,7 +49,13 @@ impl Sessions {
     }
 
     // Does what an entry says, but for its rider.
-    fn follow_alone(&mut self, alloc: Global, entry: &Entry, stands: bool) -> Result<(), AllocError>
+    fn follow_alone(
+        &mut self,
+        alloc: Global,
+        entry: &Entry,
+        stands: bool,
+        wakers: &mut Wakers,
+    ) -> Result<(), AllocError>
         requires fresh { rides_of entry.now ≡ None → connect_at self.old.connects entry.now.place ≡ None }
         requires counted { AreCounted self.old }
         requires held { AreHeld self.old }
@@ -52,6 +63,7 @@ impl Sessions {
         ensures done { OnOk result (Followed stands (alone entry.now) self.old self.new) }
         ensures refused { OnErr result (((n : ℕ) → kept_in self.new n ≡ kept_in self.old n)
             × ((p : ℕ) → connect_at self.new.connects p ≡ connect_at self.old.connects p)) }
+        ensures woken { AreWoken (connect_at self.old.connects) (connect_at self.new.connects) wakers.old wakers.new }
         ensures free { takes_none_by entry.now.kind ≡ true → IsOk result }
         ensures counted { AreCounted self.new }
         ensures held { AreHeld self.new }
@@ -74,7 +86,7 @@ impl Sessions {
                     let (place, moment) = (entry.place, entry.moment);
                     let id = id.as_ref();
                     let connect = PendingConnect::new(alloc, place, client, id, moment, *hold)?;
-                    self.connect(alloc, *session, connect, *acked)?;
+                    self.connect(alloc, *session, connect, *acked, wakers)?;
                 }
             }
             EntryKind::Subscribe { session, patterns } => {
@@ -83,12 +95,12 @@ impl Sessions {
             EntryKind::Unsubscribe { session, patterns } => {
                 self.unsubscribe(*session, patterns.as_slice());
             }
-            EntryKind::Publish(event) => self.publish(alloc, entry.place, event)?,
-            EntryKind::Disconnect { session } => self.disconnect(entry.place, *session),
+            EntryKind::Publish(event) => self.publish(alloc, entry.place, event, wakers)?,
+            EntryKind::Disconnect { session } => self.disconnect(entry.place, *session, wakers),
             EntryKind::Refused => {}
             EntryKind::Tick(numbers) => {
-                self.end_holds(entry.place, entry.moment);
-                self.close_all(numbers.as_slice());
+                self.end_holds(entry.place, entry.moment, wakers);
+                self.close_all(numbers.as_slice(), wakers);
             }
         }
         Ok(())

@@ -10,7 +10,7 @@ mod sessions;
 mod shard;
 mod tick;
 
-pub use bx_connects::{Filing, Watch};
+pub use bx_connects::{Filing, Wakers, Watch};
 pub use laws::{
     filed_is_given, opened_is_fresh, refines_at_first, refines_beside, refines_beside_swept,
     refines_longer, refines_onwards, refines_shut, refines_still, refines_swept, refines_taken,

@@ -4,12 +4,14 @@ ghost use Rattle.bx_entry.specs.Keeping.{Kept, after};
 ghost use Rattle.bx_entry.specs.Sessions.{received, subscribed, unsubscribed};
 ghost use Rattle.bx_session.specs.Views.{Countable};
 ghost use Rattle.bx_connects.specs.Connects.{connect_at};
+ghost use Rattle.bx_connects.specs.Waking.{AreWoken};
 ghost use Rattle.bx_shard.specs.Effects.{answers_by, filing_each};
 ghost use Rattle.bx_shard.specs.Publishing.{IsPacked, published_at};
 ghost use Rattle.bx_shard.specs.Sessions.{AreCounted, AreHeld, HasRoom, kept_in};
 
 use crate::publish::Parcel;
 use crate::sessions::Sessions;
+use bx_connects::Wakers;
 use bx_names::Pattern;
 use bx_session::Delivery;
 use std::alloc::{AllocError, Global};
@@ -62,8 +64,8 @@ impl Sessions {
     }
 
     /// What is in a parcel for a session that is here and that has not overflowed. Where the session overflows, its patterns
-    /// are in force no longer.
-    pub(crate) fn receive(&mut self, place: u64, parcel: Parcel)
+    /// are in force no longer. The waker beside a connect that is answered is to be woken.
+    pub(crate) fn receive(&mut self, place: u64, parcel: Parcel, wakers: &mut Wakers)
         requires here { IfSome (kept_in self.old parcel.number) (λ (k : Kept). (k.overflow ≡ false) × Countable k) }
         requires packed { IsPacked self.old parcel }
         ensures sessions { (n : ℕ) → kept_in self.new n
@@ -71,6 +73,7 @@ impl Sessions {
             else kept_in self.old n) }
         ensures connects { (p : ℕ) → connect_at self.new.connects p
             ≡ filing_each place (answers_by (received self.old.config (published_at place parcel.event)) (kept_in self.old parcel.number)) (connect_at self.old.connects) p }
+        ensures woken { AreWoken (connect_at self.old.connects) (connect_at self.new.connects) wakers.old wakers.new }
         ensures room { (n : ℕ) → nat_eq parcel.number n ≡ false → HasRoom self.old n → HasRoom self.new n }
         ensures config { self.new.config ≡ self.old.config }
         ensures counted { AreCounted self.old → AreCounted self.new }
@@ -86,7 +89,7 @@ impl Sessions {
         };
         match session.deliver(&self.config, place, event, further) {
             Delivery::Waits => {}
-            Delivery::Given(answered) => self.connects.file(place, answered),
+            Delivery::Given(answered) => self.connects.file(place, answered, wakers),
             Delivery::Overflowed => {
                 self.tree.remove_all(number);
             }

@@ -6,6 +6,7 @@ ghost use Rattle.bx_names.specs.Kinds.{is_broadcast};
 ghost use Rattle.bx_session.specs.declared.answered.Answered.{Answered};
 ghost use Rattle.bx_connects.specs.declared.connects.ConnectState.TheVariants.{Filed};
 ghost use Rattle.bx_connects.specs.Connects.{connect_at, session_at};
+ghost use Rattle.bx_connects.specs.Waking.{AreWoken};
 ghost use Rattle.bx_entry.specs.Keeping.{after};
 ghost use Rattle.bx_entry.specs.Sessions.{published};
 ghost use Rattle.bx_shard.specs.Effects.{answers_by};
@@ -13,6 +14,7 @@ ghost use Rattle.bx_shard.specs.Publishing.{AllReady, IsPacked, Turns, numbers_o
 ghost use Rattle.bx_shard.specs.Sessions.{AreCounted, AreCountable, AreHeld, kept_in, patterns_in};
 
 use crate::sessions::Sessions;
+use bx_connects::Wakers;
 use bx_message::SharedEvent;
 use bx_names::{ChannelKind, kind_of};
 use std::alloc::{AllocError, Global};
@@ -79,26 +81,28 @@ impl Sessions {
         Ok(parcels)
     }
 
-    // Hands out the parcels in order.
-    fn hand_out(&mut self, place: u64, parcels: Vec<Parcel>)
+    // Hands out the parcels in order. The wakers beside connects that are answered are to be woken.
+    fn hand_out(&mut self, place: u64, parcels: Vec<Parcel>, wakers: &mut Wakers)
         requires ready { AllReady self.old parcels.items }
         requires tied { AreHeld self.old }
         requires counted { AreCounted self.old }
         ensures turns { Turns self.old.config place parcels.items self.old self.new }
+        ensures woken { AreWoken (connect_at self.old.connects) (connect_at self.new.connects) wakers.old wakers.new }
         ensures counted { AreCounted self.new }
     {
         for parcel in parcels {
-            self.receive(place, parcel);
+            self.receive(place, parcel, wakers);
         }
     }
 
     /// A publish at this place of the list: each session that has a pattern which matches its channel gets the event, or
-    /// none does, where memory is refused.
+    /// none does, where memory is refused. The wakers beside connects that are answered are to be woken.
     pub(crate) fn publish(
         &mut self,
         alloc: Global,
         place: u64,
         event: &SharedEvent,
+        wakers: &mut Wakers,
     ) -> Result<(), AllocError>
         requires counted { AreCounted self.old }
         requires held { AreHeld self.old }
@@ -112,13 +116,14 @@ impl Sessions {
             → Contains (answers_by (published self.old.config (published_at place event.now)) (kept_in self.old n)) a → a.place ≢ p)
             → connect_at self.new.connects p ≡ connect_at self.old.connects p) }
         ensures refused { OnErr result (((n : ℕ) → kept_in self.new n ≡ kept_in self.old n) × (self.new.connects ≡ self.old.connects)) }
+        ensures woken { AreWoken (connect_at self.old.connects) (connect_at self.new.connects) wakers.old wakers.new }
         ensures counted { AreCounted self.new }
         ensures held { AreHeld self.new }
         ensures config { self.new.config ≡ self.old.config }
     {
         let numbers = self.receivers(alloc, event)?;
         let parcels = self.pack(alloc, numbers.as_slice(), event)?;
-        self.hand_out(place, parcels);
+        self.hand_out(place, parcels, wakers);
         Ok(())
     }
 }

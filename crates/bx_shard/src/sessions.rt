@@ -1,5 +1,5 @@
 //! The sessions that stand in a shard.
-ghost use Rattle.std.specs.Prelude.{◌≡◌, ◌<◌, ◌-◌, ℕ, nat_eq, Some, None, [], ◌∷◌, length, option_map, is_some, if◌then◌else◌, OnOk, OnErr, IfOk, IfSome, true, false, Option, not, ◌&&◌, ◌||◌};
+ghost use Rattle.std.specs.Prelude.{◌≡◌, ◌<◌, ◌-◌, ℕ, nat_eq, Some, None, [], ◌∷◌, length, option_map, is_some, if◌then◌else◌, OnOk, OnErr, IfOk, IfSome, true, false, Option, not, ◌&&◌, ◌||◌, ◌++◌, option_to_list};
 ghost use Rattle.std.specs.Map.{keys_of};
 ghost use Rattle.std.specs.Option.{option_or};
 ghost use Rattle.bx_tree.specs.Patterns.{patterns_of};
@@ -11,11 +11,12 @@ ghost use Rattle.bx_session.specs.declared.answered.Answered.{Answered};
 ghost use Rattle.futures.specs.declared.task.waker.Waker.{Waker};
 ghost use Rattle.bx_connects.specs.declared.connects.ConnectState.TheVariants.{Held};
 ghost use Rattle.bx_connects.specs.Connects.{connect_at, count_held, filed_as, held_by};
+ghost use Rattle.bx_connects.specs.Waking.{AreWoken, waker_of};
 ghost use Rattle.bx_shard.specs.Sessions.{AreClean, AreCounted, AreHeld, HasRoom, kept_in, patterns_in};
 ghost use Rattle.bx_shard.specs.Effects.{answers_by, connect_filing, filing_each, forgetting, held_in};
 
 use bx_advice::Config;
-use bx_connects::Connects;
+use bx_connects::{Connects, Wakers};
 use bx_message::SharedEvent;
 use bx_names::Pattern;
 use bx_session::{Answered, Connection, PendingConnect, Session};
@@ -71,13 +72,14 @@ impl Sessions {
         Ok(())
     }
 
-    /// A connect of a session. Nothing was known of that connect.
+    /// A connect of a session. Nothing was known of that connect. The waker beside a connect that is answered by it is to be woken.
     pub(crate) fn connect(
         &mut self,
         alloc: Global,
         number: u64,
         connect: PendingConnect,
         acked: Option<u64>,
+        wakers: &mut Wakers,
     ) -> Result<(), AllocError>
         requires fresh { connect_at self.old.connects connect.place ≡ None }
         requires countable { IfSome (kept_in self.old number) Countable }
@@ -87,6 +89,7 @@ impl Sessions {
             ≡ connect_filing number connect (connected self.old.config connect acked) (kept_in self.old number) (connect_at self.old.connects) p) }
         ensures err { OnErr result (((n : ℕ) → kept_in self.new n ≡ kept_in self.old n)
             × ((p : ℕ) → connect_at self.new.connects p ≡ connect_at self.old.connects p)) }
+        ensures woken { AreWoken (connect_at self.old.connects) (connect_at self.new.connects) wakers.old wakers.new }
         ensures others { (self.new.config ≡ self.old.config) × (self.new.tree ≡ self.old.tree) }
         ensures counted { AreCounted self.old → AreCounted self.new }
         ensures held { AreHeld self.old → AreHeld self.new }
@@ -103,12 +106,12 @@ impl Sessions {
                     answered,
                 },
             ) => {
-                self.connects.file_if(place, superseded);
-                self.connects.file_if(place, answered);
+                self.connects.file_if(place, superseded, wakers);
+                self.connects.file_if(place, answered, wakers);
                 Ok(())
             }
             Err(error) => {
-                self.connects.forget(place);
+                self.connects.forget(place, wakers);
                 Err(error)
             }
         }
@@ -133,8 +136,8 @@ impl Sessions {
         session.further(event)
     }
 
-    /// Ends the hold of a session where it ends at this moment or ended before.
-    pub(crate) fn tick(&mut self, place: u64, moment: u64, number: u64)
+    /// Ends the hold of a session where it ends at this moment or ended before. The waker beside its connect is to be woken.
+    pub(crate) fn tick(&mut self, place: u64, moment: u64, number: u64, wakers: &mut Wakers)
         ensures sessions { (n : ℕ) → kept_in self.new n
             ≡ (if nat_eq number n then option_map (after (expired self.old.config place moment)) (kept_in self.old number) else kept_in self.old n) }
         ensures connects { (p : ℕ) → connect_at self.new.connects p
@@ -143,6 +146,7 @@ impl Sessions {
             → answers_by (expired self.old.config place moment) (kept_in self.old number) ≡ a ∷ []
             → connect_at self.old.connects a.place ≡ Some (Held session deadline waker)
             → count_held self.new.connects < count_held self.old.connects }
+        ensures woken { AreWoken (connect_at self.old.connects) (connect_at self.new.connects) wakers.old wakers.new }
         ensures others { (self.new.config ≡ self.old.config) × (self.new.tree ≡ self.old.tree) }
         ensures counted { AreCounted self.old → AreCounted self.new }
         ensures held { AreHeld self.old → AreHeld self.new }
@@ -151,16 +155,18 @@ impl Sessions {
             return;
         };
         if let Some(answered) = session.tick(&self.config, moment) {
-            self.connects.file(place, answered);
+            self.connects.file(place, answered, wakers);
         }
     }
 
-    /// Closes a session that a tick ends. A connect that it still held is known no longer.
-    pub(crate) fn close(&mut self, number: u64)
+    /// Closes a session that a tick ends. A connect that it still held is known no longer, and the waker beside that is to be
+    /// woken.
+    pub(crate) fn close(&mut self, number: u64, wakers: &mut Wakers)
         ensures sessions { (n : ℕ) → kept_in self.new n ≡ (if nat_eq number n then None else kept_in self.old n) }
         ensures patterns { (n : ℕ) → patterns_in self.new n ≡ (if nat_eq number n then [] else patterns_in self.old n) }
         ensures connects { (p : ℕ) → connect_at self.new.connects p
             ≡ forgetting (held_in (kept_in self.old number)) (connect_at self.old.connects) p }
+        ensures woken { AreWoken (connect_at self.old.connects) (connect_at self.new.connects) wakers.old wakers.new }
         ensures config { self.new.config ≡ self.old.config }
         ensures counted { AreCounted self.old → AreCounted self.new }
         ensures held { AreHeld self.old → AreHeld self.new }
@@ -170,16 +176,17 @@ impl Sessions {
             return;
         };
         if let Some(place) = session.held_place() {
-            self.connects.forget(place);
+            self.connects.forget(place, wakers);
         }
     }
 
-    /// Closes a session, whose held connect is answered as one that left.
-    pub(crate) fn disconnect(&mut self, place: u64, number: u64)
+    /// Closes a session, whose held connect is answered as one that left. The waker beside that is to be woken.
+    pub(crate) fn disconnect(&mut self, place: u64, number: u64, wakers: &mut Wakers)
         ensures sessions { (n : ℕ) → kept_in self.new n ≡ (if nat_eq number n then None else kept_in self.old n) }
         ensures patterns { (n : ℕ) → patterns_in self.new n ≡ (if nat_eq number n then [] else patterns_in self.old n) }
         ensures connects { (p : ℕ) → connect_at self.new.connects p
             ≡ filing_each place (answers_by (released self.old.config place Disconnected) (kept_in self.old number)) (connect_at self.old.connects) p }
+        ensures woken { AreWoken (connect_at self.old.connects) (connect_at self.new.connects) wakers.old wakers.new }
         ensures config { self.new.config ≡ self.old.config }
         ensures counted { AreCounted self.old → AreCounted self.new }
         ensures held { AreHeld self.old → AreHeld self.new }
@@ -189,7 +196,7 @@ impl Sessions {
             return;
         };
         let answered = session.close(&self.config);
-        self.connects.file_if(place, answered);
+        self.connects.file_if(place, answered, wakers);
     }
 
     /// The configuration.
@@ -273,13 +280,14 @@ impl Sessions {
         }
     }
 
-    /// Files an answer that the entry at this place gave, under a connect that is known.
-    pub fn file(&mut self, place: u64, answered: Answered)
+    /// Files an answer that the entry at this place gave, under a connect that is known. A waker beside that is to be woken.
+    pub fn file(&mut self, place: u64, answered: Answered, wakers: &mut Wakers)
         ensures connects { (p : ℕ) → connect_at self.new.connects p
             ≡ (if nat_eq answered.place p then filed_as place answered.answer (connect_at self.old.connects p)
             else connect_at self.old.connects p) }
+        ensures woken { wakers.new ≡ wakers.old ++ option_to_list (waker_of (connect_at self.old.connects answered.place)) }
         ensures others { (self.new.config ≡ self.old.config) × (self.new.by_number ≡ self.old.by_number) × (self.new.tree ≡ self.old.tree) }
     {
-        self.connects.file(place, answered);
+        self.connects.file(place, answered, wakers);
     }
 }

@@ -6,7 +6,7 @@ ghost use Rattle.bx_shard.specs.Sessions.{AreCounted, AreHeld, Fits, has_formed_
 
 use crate::sessions::Sessions;
 use bx_advice::Config;
-use bx_connects::{Connects, Filing, Watch};
+use bx_connects::{Connects, Filing, Wakers, Watch};
 use bx_entry::{Entry, EntryKind, Placing, Ticket};
 use bx_message::Answer;
 use bx_session::Session;
@@ -45,6 +45,7 @@ impl<P: Placing> Shard<P> {
     ghost use Rattle.bx_entry.specs.declared.entry.Entry.{Entry};
     ghost use Rattle.bx_connects.specs.Connects.{count_filed_below, filed_answer, watched};
     ghost use Rattle.bx_connects.specs.declared.connects.ConnectState.TheVariants.{Filed};
+    ghost use Rattle.bx_connects.specs.Waking.{AreWoken};
     ghost use Rattle.bx_shard.specs.Refining.{Took};
     ghost use Rattle.bx_shard.specs.States.{Applied, IsAsBefore, IsSound, Swept, Watched, WasShut, connect_in, opens_in, session_in, takes_no_memory};
     ghost use Rattle.bx_shard.specs.Seen.{setup_in, state};
@@ -88,16 +89,25 @@ impl<P: Placing> Shard<P> {
     /// Applies the next entry of the list, which has at most 2^62. Where memory is refused the shard is as before,
     /// however many sessions the entry reaches. An unsubscription, a disconnect, a refused message and a tick take no
     /// memory, unless it is a rider.
-    pub fn apply(&mut self, alloc: Global, entry: &Entry) -> Result<(), AllocError>
+    ///
+    /// The wakers beside connects that are answered are put into the list, each once, and no others: whoever applies entries
+    /// drops the list, which wakes them, once it has let go of the lock that lies round the shard. Where memory is refused none is.
+    pub fn apply(
+        &mut self,
+        alloc: Global,
+        entry: &Entry,
+        wakers: &mut Wakers,
+    ) -> Result<(), AllocError>
         requires next { entry.now.place ≡ self.old.place }
         requires end { entry.now.place < greatest_length }
         ensures done { OnOk result (Applied (state P.place_of self.old) entry.now (state P.place_of self.new)) }
         ensures refused { OnErr result (IsAsBefore (state P.place_of self.old) (state P.place_of self.new)) }
         ensures free { takes_no_memory entry.now ≡ true → IsOk result }
+        ensures woken { AreWoken (connect_in (state P.place_of self.old)) (connect_in (state P.place_of self.new)) wakers.old wakers.new }
         ensures sound { IsSound (state P.place_of self.new) }
     {
         let stands = self.opens_here(&entry.kind);
-        self.sessions.follow(alloc, entry, stands)?;
+        self.sessions.follow(alloc, entry, stands, wakers)?;
         self.place += 1;
         Ok(())
     }
@@ -161,14 +171,6 @@ impl<P: Placing> Shard<P> {
         self.sessions
             .connects
             .watch(ticket.place, waker, self.is_shut)
-    }
-
-    /// The wakers of those whose connects were answered since the last call. Whoever applies entries takes them and drops
-    /// them, which wakes them, once it has let go of the lock that lies round the shard.
-    pub fn take_wakers(&mut self, alloc: Global) -> Vec<Waker>
-        ensures { self.new ≡ self.old }
-    {
-        self.sessions.connects.take_wakers(alloc)
     }
 
     /// Drops the answers that were filed by entries below this place and that nobody took, and says how many they were.

@@ -6,16 +6,18 @@ ghost use Rattle.bx_entry.specs.Sessions.{expired};
 ghost use Rattle.bx_session.specs.declared.answered.Answered.{Answered};
 ghost use Rattle.bx_connects.specs.declared.connects.ConnectState.TheVariants.{Filed};
 ghost use Rattle.bx_connects.specs.Connects.{connect_at, session_at};
+ghost use Rattle.bx_connects.specs.Waking.{AreWoken};
 ghost use Rattle.bx_shard.specs.Effects.{answers_by};
 ghost use Rattle.bx_shard.specs.Sessions.{AreCounted, AreHeld, kept_in};
 ghost use Rattle.bx_shard.specs.States.{let_go};
 
 use crate::sessions::Sessions;
+use bx_connects::Wakers;
 
 impl Sessions {
     /// Ends each hold that ends at this moment or ended before, as a tick at this place of the list does. It costs the
-    /// holds that end, not the sessions that are here.
-    pub(crate) fn end_holds(&mut self, place: u64, moment: u64)
+    /// holds that end, not the sessions that are here. The wakers beside their connects are to be woken.
+    pub(crate) fn end_holds(&mut self, place: u64, moment: u64, wakers: &mut Wakers)
         requires held { AreHeld self.old }
         ensures sessions { (n : ℕ) → kept_in self.new n ≡ option_map (after (expired self.old.config place moment)) (kept_in self.old n) }
         ensures given { (n : ℕ) → (a : Answered) → Contains (answers_by (expired self.old.config place moment) (kept_in self.old n)) a
@@ -23,27 +25,29 @@ impl Sessions {
         ensures known { (p : ℕ) → session_at (connect_at self.new.connects p) ≡ session_at (connect_at self.old.connects p) }
         ensures kept { (p : ℕ) → ((n : ℕ) → (a : Answered) → Contains (answers_by (expired self.old.config place moment) (kept_in self.old n)) a → a.place ≢ p)
             → connect_at self.new.connects p ≡ connect_at self.old.connects p }
+        ensures woken { AreWoken (connect_at self.old.connects) (connect_at self.new.connects) wakers.old wakers.new }
         ensures counted { AreCounted self.old → AreCounted self.new }
         ensures held { AreHeld self.new }
         ensures config { self.new.config ≡ self.old.config }
     {
         while let Some(number) = self.connects.first_due(moment) {
-            self.tick(place, moment, number);
+            self.tick(place, moment, number, wakers);
         }
     }
 
-    /// Closes these sessions.
-    pub(crate) fn close_all(&mut self, numbers: &[u64])
+    /// Closes these sessions. The wakers beside connects that they still held are to be woken.
+    pub(crate) fn close_all(&mut self, numbers: &[u64], wakers: &mut Wakers)
         requires held { AreHeld self.old }
         ensures sessions { (n : ℕ) → kept_in self.new n
             ≡ (if list_any (λ m. m == n) numbers.now then None else kept_in self.old n) }
         ensures connects { (p : ℕ) → connect_at self.new.connects p ≡ let_go numbers.now (connect_at self.old.connects p) }
+        ensures woken { AreWoken (connect_at self.old.connects) (connect_at self.new.connects) wakers.old wakers.new }
         ensures counted { AreCounted self.old → AreCounted self.new }
         ensures held { AreHeld self.new }
         ensures config { self.new.config ≡ self.old.config }
     {
         for number in numbers {
-            self.close(*number);
+            self.close(*number, wakers);
         }
     }
 }

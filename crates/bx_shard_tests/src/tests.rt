@@ -6,7 +6,7 @@ use bx_message::{
     reply_text,
 };
 use bx_names::{ChannelName, Pattern};
-use bx_shard::{Shard, Watch};
+use bx_shard::{Shard, Wakers, Watch};
 use futures::task::{Poll, Source, Waker};
 use futures::test::MockTask;
 use std::alloc::{AllocError, Global};
@@ -117,8 +117,9 @@ fn rides(alloc: Global, deed: Deed) -> Result<Option<Rider>, AllocError> {
     Ok(Some(Rider { session, reply }))
 }
 
-// Applies entries that say this.
-fn apply(alloc: Global, shard: &mut Shard<ByRemainder>, deeds: &[Deed]) -> Result<(), Fail> {
+// Applies entries that say this, and gives the wakers of those whose connects are answered by it.
+fn apply(alloc: Global, shard: &mut Shard<ByRemainder>, deeds: &[Deed]) -> Result<Wakers, Fail> {
+    let mut wakers = Wakers::new(alloc);
     for deed in deeds {
         let place = shard.place();
         if place > MOST_ENTRIES {
@@ -131,9 +132,9 @@ fn apply(alloc: Global, shard: &mut Shard<ByRemainder>, deeds: &[Deed]) -> Resul
             kind,
             rides: rides(alloc, *deed)?,
         };
-        shard.apply(alloc, &entry)?;
+        shard.apply(alloc, &entry, &mut wakers)?;
     }
-    Ok(())
+    Ok(wakers)
 }
 
 // The only shard, after entries that say this.
@@ -141,7 +142,7 @@ fn shard(alloc: Global, deeds: &[Deed]) -> Result<Shard<ByRemainder>, Fail> {
     let config = Config::new(1, 30_000, 0, 10_000).ok_or("no configuration")?;
     let placing = Arc::new(alloc, ByRemainder)?;
     let mut shard = Shard::new(alloc, 0, config, placing);
-    apply(alloc, &mut shard, deeds)?;
+    drop(apply(alloc, &mut shard, deeds)?);
     Ok(shard)
 }
 
@@ -184,14 +185,8 @@ fn check_stored<R: Abort>(
     Ok(())
 }
 
-// These tasks are woken where the wakers are dropped that the shard then gives, and not before. It gives them once.
-fn check_woken<R: Abort>(
-    rt: &R,
-    alloc: Global,
-    shard: &mut Shard<ByRemainder>,
-    tasks: &[&MockTask],
-) {
-    let wakers = shard.take_wakers(alloc);
+// These tasks are woken where these wakers are dropped, and not before.
+fn check_woken<R: Abort>(rt: &R, wakers: Wakers, tasks: &[&MockTask]) {
     assert_eq!(rt; wakers.len(), tasks.len());
     for task in tasks {
         assert!(rt; !task.is_woken());
@@ -200,7 +195,6 @@ fn check_woken<R: Abort>(
     for task in tasks {
         assert!(rt; was_woken(task));
     }
-    assert!(rt; shard.take_wakers(alloc).is_empty());
 }
 
 // The answer to the connect at this place, which is taken: the texts of its events and of its reply.
@@ -221,7 +215,7 @@ fn taken(
 }
 
 // While the connect at place 3 is held, no answer is given, and a waker is stored; once it is answered, that waker is given
-// to be woken, and the answer is given once.
+// to be woken, once, and the answer is given once.
 fn check_answered<R: Abort>(
     rt: &R,
     alloc: Global,
@@ -230,8 +224,10 @@ fn check_answered<R: Abort>(
 ) -> Result<(), Fail> {
     assert!(rt; shard.take(ticket(3)).is_none());
     check_stored(rt, shard, 3, task)?;
-    apply(alloc, shard, &[Deed::Publish("/a/b")])?;
-    check_woken(rt, alloc, shard, &[task]);
+    let wakers = apply(alloc, shard, &[Deed::Publish("/a/b")])?;
+    check_woken(rt, wakers, &[task]);
+    let none = apply(alloc, shard, &[Deed::Publish("/a/b")])?;
+    check_woken(rt, none, &[]);
     assert!(rt; matches!(watch(shard, 3, task)?, Watch::Ready(_)));
     let answer = taken(alloc, shard, 3)?.ok_or("no answer")?;
     assert_eq!(rt; answer.as_slice(), ANSWER.as_bytes());
@@ -263,7 +259,7 @@ fn check_ridden<R: Abort>(
     let answer = taken(alloc, shard, 3)?.ok_or("no answer")?;
     assert_eq!(rt; answer.as_slice(), RIDE.as_bytes());
     assert!(rt; shard.take(ticket(3)).is_none());
-    apply(alloc, shard, &[Deed::Connect(1)])?;
+    drop(apply(alloc, shard, &[Deed::Connect(1)])?);
     check_stored(rt, shard, 4, task)
 }
 
@@ -281,7 +277,7 @@ fn an_answer_wakes_who_waits_for_it(rt: HostRuntime) -> Result<(), Fail> {
     check_answered(&rt, alloc, &mut shard(alloc, &HELD)?, &task)
 }
 
-// Two connects are answered before the wakers are taken: both tasks are woken where those are dropped, and neither before.
+// Two connects are answered before the wakers are dropped: both tasks are woken there, and neither before.
 fn check_both<R: Abort>(
     rt: &R,
     alloc: Global,
@@ -291,8 +287,8 @@ fn check_both<R: Abort>(
 ) -> Result<(), Fail> {
     check_stored(rt, shard, 4, first)?;
     check_stored(rt, shard, 5, second)?;
-    apply(alloc, shard, &ANSWERS)?;
-    check_woken(rt, alloc, shard, &[first, second]);
+    let wakers = apply(alloc, shard, &ANSWERS)?;
+    check_woken(rt, wakers, &[first, second]);
     Ok(())
 }
 
@@ -320,8 +316,8 @@ fn check_replaced<R: Abort>(
     drop(replaced);
     assert!(rt; was_woken(older));
     assert!(rt; !newer.is_woken());
-    apply(alloc, shard, &[Deed::Publish("/a/b")])?;
-    check_woken(rt, alloc, shard, &[newer]);
+    let wakers = apply(alloc, shard, &[Deed::Publish("/a/b")])?;
+    check_woken(rt, wakers, &[newer]);
     assert!(rt; !was_woken(older));
     assert!(rt; shard.take(ticket(3)).is_some());
     assert!(rt; !was_woken(newer));
@@ -355,8 +351,8 @@ fn check_shut<R: Abort>(
         );
         assert!(rt; was_woken(first), "the waker is given back, and dropped");
     }
-    apply(alloc, shard, &ANSWERS)?;
-    assert!(rt; shard.take_wakers(alloc).is_empty());
+    let wakers = apply(alloc, shard, &ANSWERS)?;
+    assert_eq!(rt; wakers.len(), 0);
     assert!(rt; !was_woken(first) && !was_woken(second));
     for place in [4, 5] {
         assert!(rt; shard.take(ticket(place)).is_some(), "place {place}");
@@ -396,7 +392,7 @@ fn a_sweep_drops_what_was_filed_before(rt: HostRuntime) -> Result<(), Fail> {
     let alloc = rt.alloc();
     let task = MockTask::new(&rt)?;
     let mut filed = shard(alloc, &BOTH_HELD)?;
-    apply(alloc, &mut filed, &ANSWERS)?;
+    drop(apply(alloc, &mut filed, &ANSWERS)?);
     check_kept(&rt, &mut filed, &task)
 }
 
@@ -404,10 +400,10 @@ fn a_sweep_drops_what_was_filed_before(rt: HostRuntime) -> Result<(), Fail> {
 fn a_sweep_counts_what_it_drops(rt: HostRuntime) -> Result<(), Fail> {
     let alloc = rt.alloc();
     let mut one = shard(alloc, &HELD)?;
-    apply(alloc, &mut one, &[Deed::Publish("/a/b")])?;
+    drop(apply(alloc, &mut one, &[Deed::Publish("/a/b")])?);
     check_sweeps(&rt, &mut one, &[(4, 0), (5, 1), (5, 0)]);
     let mut two = shard(alloc, &BOTH_HELD)?;
-    apply(alloc, &mut two, &ANSWERS)?;
+    drop(apply(alloc, &mut two, &ANSWERS)?);
     check_sweeps(&rt, &mut two, &[(8, 2), (8, 0)]);
     Ok(())
 }

@@ -6,7 +6,7 @@ ghost use Rattle.bx_workers.specs.Upward.{AreConsecutive, AreWithin, BroughtUp, 
 use crate::count::WorkerCount;
 use crate::gate::Gate;
 use bx_entry::{Entry, Placing};
-use bx_shard::Shard;
+use bx_shard::{Shard, Wakers};
 use std::alloc::{AllocError, Global};
 use std::thread;
 use std::thread::Threads;
@@ -65,7 +65,8 @@ fn catch_up_each<P: Placing>(alloc: Global, shards: &mut [Shard<P>], entries: &[
     }
 }
 
-// Applies those of the entries that the shard lacks, in order, up to the one that is refused memory.
+// Applies those of the entries that the shard lacks, in order, up to the one that is refused memory. Who waits for what is
+// answered by that is woken at the end.
 fn catch_up<P: Placing>(
     alloc: Global,
     shard: &mut Shard<P>,
@@ -77,8 +78,9 @@ fn catch_up<P: Placing>(
     ensures went_on { WentOn P.place_of entries.now shard.old shard.new }
     ensures level { IfOk result (λ _. is_behind entries.now shard.new ≡ false) }
 {
+    let mut wakers = Wakers::new(alloc);
     for entry in lacking(shard, entries) {
-        shard.apply(alloc, entry)?;
+        shard.apply(alloc, entry, &mut wakers)?;
     }
     Ok(())
 }

@@ -2,6 +2,7 @@ use Rattle.std.proofs.Common.{◌==◌, nat_eq, None, cond, get_or, ap, ◌∙�
 use Rattle.std.specs.List.{list_any}
 use Rattle.std.proofs.lemmas.List.{take_all}
 use Rattle.bx_connects.specs.Connects.{connect_at}
+use Rattle.bx_connects.proofs.WakingLemmas.{woken_onwards, woken_still}
 use Rattle.bx_shard.specs.Sessions.{kept_in}
 use Rattle.bx_shard.specs.States.{let_go}
 use Rattle.bx_shard.proofs.Closing.{closing_parts, gone_more, let_go_more, let_go_none, parted_from}
@@ -14,6 +15,7 @@ loop-number-init c = record {
   counted = λ counted. counted;
   held = c.requires.held;
   config = refl;
+  woken = woken_still (connect_at c.args.self.now.connects) (connect_at c.args.self.now.connects) c.args.wakers.now (λ p. refl);
 }
 
 pub loop-number-preserved : goal.loop-number-preserved
@@ -32,6 +34,7 @@ loop-number-preserved c =
       counted = λ counted. c.close.ensures.counted (loop.counted counted);
       held = c.close.ensures.held loop.held;
       config = c.close.ensures.config ∙ loop.config;
+      woken = woken_onwards (connect_at c.args.self.now.connects) (connect_at before.connects) (connect_at c.close.new.self.connects) c.args.wakers.now c.loop-number.wakers c.close.new.wakers loop.woken c.close.ensures.woken;
     }
 
 pub returns-clause-sessions : goal.returns-clause-sessions

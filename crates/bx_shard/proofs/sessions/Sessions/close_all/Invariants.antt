@@ -1,6 +1,7 @@
 use Rattle.std.proofs.Common.{◌≡◌, ◌==◌, ℕ, None, take, if◌then◌else◌}
 use Rattle.std.specs.List.{list_any}
 use Rattle.bx_connects.specs.Connects.{connect_at}
+use Rattle.bx_connects.specs.Waking.{AreWoken}
 use Rattle.bx_shard.specs.Sessions.{AreCounted, AreHeld, kept_in}
 use Rattle.bx_shard.specs.States.{let_go}
 use Rattle.bx_shard.proofs.sessions.Sessions.close_all.Given as goal
@@ -12,4 +13,5 @@ invariant-loop-number l = record {
   counted : AreCounted l.initial.self → AreCounted l.self;
   held : AreHeld l.self;
   config : l.self.config ≡ l.initial.self.config;
+  woken : AreWoken (connect_at l.initial.self.connects) (connect_at l.self.connects) l.initial.wakers l.wakers;
 }

@@ -1,5 +1,6 @@
 use Rattle.std.proofs.Common.{Some, cond, nat_eq, option_map, ap, ◌∙◌, refl}
 use Rattle.bx_connects.specs.Connects.{connect_at}
+use Rattle.bx_connects.proofs.WakingLemmas.{woken_onwards, woken_still}
 use Rattle.bx_entry.specs.Keeping as keeping
 use Rattle.bx_entry.specs.Sessions.{expired}
 use Rattle.bx_shard.specs.Effects.{answers_by, filing_each}
@@ -13,6 +14,7 @@ loop-number-init c = record {
   counted = λ counted. counted;
   held = c.requires.held;
   config = refl;
+  woken = woken_still (connect_at c.args.self.now.connects) (connect_at c.args.self.now.connects) c.args.wakers.now (λ p. refl);
 }
 
 pub loop-number-smaller : goal.loop-number-smaller
@@ -40,6 +42,7 @@ loop-number-preserved c =
       counted = λ counted. c.tick.ensures.counted (loop.counted counted);
       held = c.tick.ensures.held loop.held;
       config = c.tick.ensures.others.0 ∙ loop.config;
+      woken = woken_onwards (connect_at old.connects) (connect_at before.connects) (connect_at after.connects) c.args.wakers.now c.loop-number.wakers c.tick.new.wakers loop.woken c.tick.ensures.woken;
     }
 
 pub returns-clause-sessions : goal.returns-clause-sessions

@@ -1,5 +1,6 @@
 use Rattle.std.proofs.Common.{◌≡◌}
 use Rattle.bx_connects.specs.Connects.{connect_at, count_held}
+use Rattle.bx_connects.specs.Waking.{AreWoken}
 use Rattle.bx_shard.specs.Sessions.{AreCounted, AreHeld, kept_in}
 use Rattle.bx_shard.proofs.Ticking.{AreTicked}
 use Rattle.bx_shard.proofs.sessions.Sessions.end_holds.Given as goal
@@ -10,6 +11,7 @@ invariant-loop-number l = record {
   counted : AreCounted l.initial.self → AreCounted l.self;
   held : AreHeld l.self;
   config : l.self.config ≡ l.initial.self.config;
+  woken : AreWoken (connect_at l.initial.self.connects) (connect_at l.self.connects) l.initial.wakers l.wakers;
 }
 
 abbrev pub decreases-loop-number : goal.decreases-loop-number

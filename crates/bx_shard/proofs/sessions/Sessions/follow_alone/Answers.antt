@@ -1,4 +1,6 @@
 use Rattle.std.proofs.Common.{rules, ℕ, List, ap, sym, ◌∙◌}
+use Rattle.bx_connects.specs.Connects.{connect_at}
+use Rattle.bx_connects.proofs.WakingLemmas.{woken_onwards}
 use Rattle.bx_entry.specs.declared.entry.EntryKind.TheVariants as kinds
 use Rattle.bx_shard.proofs.Followed.{followed_connect, followed_disconnect, followed_publish, followed_tick}
 use Rattle.bx_shard.proofs.sessions.Sessions.follow_alone.Goals as goal
@@ -29,3 +31,8 @@ returns-in-Tick-clause-done c =
     followed_tick c.args.stands c.args.entry.now c.as_slice-in-Tick.result.now c.args.self.now c.end_holds.new.self c.close_all.new.self
     (c.in-Tick.is ∙ ap (λ (ns : List ℕ). kinds.Tick ns) (sym c.as_slice-in-Tick.ensures))
     h.sessions h.given h.kept h.known h.config k.sessions k.connects k.config c.requires.counted (k.counted (h.counted c.requires.counted)) k.held
+
+pub returns-in-Tick-clause-woken : goal.returns-in-Tick-clause-woken
+returns-in-Tick-clause-woken c =
+    woken_onwards (connect_at c.args.self.now.connects) (connect_at c.end_holds.new.self.connects) (connect_at c.close_all.new.self.connects)
+    c.args.wakers.now c.end_holds.new.wakers c.close_all.new.wakers c.end_holds.ensures.woken c.close_all.ensures.woken

@@ -2,6 +2,7 @@ use Rattle.std.proofs.Common.{◌≡◌, ℕ, nat_eq, false, cond, option_map, s
 use Rattle.bx_entry.specs.Keeping.{after}
 use Rattle.bx_entry.specs.Sessions.{received}
 use Rattle.bx_connects.specs.Connects.{connect_at}
+use Rattle.bx_connects.proofs.WakingLemmas.{woken_onwards}
 use Rattle.bx_shard.specs.Effects.{answers_by, filing_each}
 use Rattle.bx_shard.specs.Publishing.{AllReady, Turn, Turns, published_at}
 use Rattle.bx_shard.specs.Sessions.{kept_in}
@@ -31,4 +32,5 @@ loop-parcel-preserved c =
       one.counted kept.2,
       one.config ∙ kept.3,
       (λ last rest_turns. kept.4 last (subst (λ l. Turns c.args.self.now.config c.args.place l old last) (sym steps) (new, turn, rest_turns))),
+      woken_onwards (connect_at c.args.self.now.connects) (connect_at old.connects) (connect_at new.connects) c.args.wakers.now c.loop-parcel.wakers c.receive.new.wakers kept.5 one.woken,
     )
