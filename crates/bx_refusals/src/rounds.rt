@@ -190,18 +190,18 @@ fn first<R: Threads + Sync>(
     (once, again): (Arc<ByRemainder>, Arc<ByRemainder>),
     outs: &mut Vec<Out>,
 ) -> Result<Round<ByRemainder>, Unlike> {
-    let round = dealt(rt, alloc, worked, outs)?;
+    let round = begun(rt, alloc, worked, outs)?;
     match worked.shards {
         None => Ok(round),
         Some(shards) => match ShardCount::new(shards) {
-            Some(shards) => dealt_anew(rt, alloc, round, shards, once, again),
+            Some(shards) => redistributed(rt, alloc, round, shards, once, again),
             None => Err(Unlike::Wrong("too many shards")),
         },
     }
 }
 
 // A round of two shards that has taken in the first requests.
-fn dealt<R: Threads + Sync>(
+fn begun<R: Threads + Sync>(
     rt: &R,
     alloc: Global,
     worked: Worked,
@@ -221,7 +221,7 @@ fn placing(alloc: Global) -> Result<Arc<ByRemainder>, Unlike> {
 }
 
 // The round with its sessions among so many shards. Where memory was refused, the sessions of the round that came back are redistributed.
-fn dealt_anew<R: Threads + Sync>(
+fn redistributed<R: Threads + Sync>(
     rt: &R,
     alloc: Global,
     round: Round<ByRemainder>,
@@ -231,11 +231,11 @@ fn dealt_anew<R: Threads + Sync>(
 ) -> Result<Round<ByRemainder>, Unlike> {
     match round.reshard(rt, alloc, shards, once) {
         Ok(round) => Ok(round),
-        Err((round, _)) => dealt_again(rt, alloc, round, shards, again),
+        Err((round, _)) => redistributed_again(rt, alloc, round, shards, again),
     }
 }
 
-fn dealt_again<R: Threads + Sync>(
+fn redistributed_again<R: Threads + Sync>(
     rt: &R,
     alloc: Global,
     round: Round<ByRemainder>,
@@ -244,7 +244,7 @@ fn dealt_again<R: Threads + Sync>(
 ) -> Result<Round<ByRemainder>, Unlike> {
     match round.reshard(rt, alloc, shards, placing) {
         Ok(round) => Ok(round),
-        Err(_) => Err(Unlike::Wrong("not dealt anew")),
+        Err(_) => Err(Unlike::Wrong("not redistributed")),
     }
 }
 
@@ -300,7 +300,7 @@ fn go_on<R: Threads + Sync>(
 ) -> Result<(), Unlike> {
     let front = written(alloc, outs)?;
     let Some(rest) = inputs.get(admitted..) else {
-        return Err(Unlike::Wrong("more was dealt with than there is"));
+        return Err(Unlike::Wrong("more was taken in than there is"));
     };
     if refused_behind(rt, alloc, round, rest, outs)?.is_some() {
         return Err(Unlike::Wrong("refused once more"));
@@ -320,15 +320,15 @@ fn refused_behind<R: Threads + Sync>(
     inputs: &[Input],
     outs: &mut Vec<Out>,
 ) -> Result<Option<usize>, Unlike> {
-    let dealt = round.intake();
-    if dealt > MOST_INPUTS || inputs.len() > MOST_INPUTS {
+    let before = round.intake();
+    if before > MOST_INPUTS || inputs.len() > MOST_INPUTS {
         return Err(Unlike::Wrong("too many inputs"));
     }
     match round.run(rt, alloc, &OpenGate, inputs, outs) {
         Ok(()) => Ok(None),
-        Err(RoundFault::Memory { admitted }) if round.intake() == dealt.saturating_add(admitted) =>
+        Err(RoundFault::Memory { admitted }) if round.intake() == before.saturating_add(admitted) =>
             { Ok(Some(admitted)) }
-        Err(_) => Err(Unlike::Wrong("another number was dealt with")),
+        Err(_) => Err(Unlike::Wrong("another number was taken in")),
     }
 }
 

@@ -452,7 +452,7 @@ fn workers_run_beside_one_another(rt: HostRuntime) -> Result<(), Fail> {
 }
 
 // Among four shards, deals with the crowd and all inputs but the last one, so that a connect is held, and then goes on with 64.
-fn dealt_anew<R: Threads + Sync, G: Gate + Sync>(
+fn redistributed<R: Threads + Sync, G: Gate + Sync>(
     rt: &R,
     alloc: Global,
     gate: &G,
@@ -507,14 +507,14 @@ fn answer_held<R: Abort + Threads + Sync, G: Gate + Sync>(
 }
 
 // The held connect goes with its session: behind the move the last input gives the right outs.
-fn check_dealt_anew<R: Abort + Threads + Sync, G: Gate + Sync>(
+fn check_redistributed<R: Abort + Threads + Sync, G: Gate + Sync>(
     rt: &R,
     alloc: Global,
     before: &G,
     behind: &G,
 ) -> Result<(), Fail> {
     let mut outs = Vec::new(alloc);
-    let mut round = dealt_anew(rt, alloc, before, &mut outs)?;
+    let mut round = redistributed(rt, alloc, before, &mut outs)?;
     answer_held(rt, alloc, behind, &mut round, &mut outs)?;
     check(rt, alloc, &outs, &OUTS)
 }
@@ -585,7 +585,7 @@ fn as_many_threads_run_as_workers(rt: HostRuntime) -> Result<(), Fail> {
 fn more_shards_have_more_workers(rt: HostRuntime) -> Result<(), Fail> {
     let alloc = rt.alloc();
     let (four, all) = (meeting_of(0b1111), meeting_of(0xffff));
-    check_dealt_anew(&rt, alloc, &four, &all)?;
+    check_redistributed(&rt, alloc, &four, &all)?;
     check_met(&rt, &four);
     check_met(&rt, &all);
     Ok(())
