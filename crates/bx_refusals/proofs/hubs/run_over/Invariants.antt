@@ -1,5 +1,5 @@
 use Rattle.bx_entry.specs.Placings.{by_remainder}
-use Rattle.bx_refusals.proofs.hubs.run.Given as goal
+use Rattle.bx_refusals.proofs.hubs.run_over.Given as goal
 
 -- the book that was just opened, with its configuration and placing
 abbrev pub ghosts-serves : goal.ghosts-serves
