@@ -128,7 +128,7 @@ fn post<J: Naming, H: Wait + Drop, R: Wait>(
     pass: &mut Pass<J>,
     body: String,
 ) -> Option<u64> {
-    let posted = hub.post(rt, alloc, pass, &arrival(body)).ok()?;
+    let posted = hub.post(rt, alloc, pass, arrival(body)).ok()?;
     let mut events = 0u64;
     for slot in posted.slots.into_vec() {
         if let Slot::Waiting(ticket) = slot {

@@ -90,9 +90,9 @@ impl<J: Naming, P: Placing, G: Gate + Drop, H: Wait + Drop, R: Wait + Drop> Held
                 self.is_done = true;
                 Some(Ok(answer))
             }
-            Err(fault) => {
+            Err(stopped) => {
                 self.is_done = true;
-                Some(Err(fault.into()))
+                Some(Err(stopped.fault().into()))
             }
         }
     }

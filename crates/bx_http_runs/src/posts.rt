@@ -36,7 +36,7 @@ fn entries<J: Naming, H: Wait + Drop, R: Wait>(
     hub: &Served<J, H>,
 ) -> Result<u64> {
     let nothing = nothing(alloc)?;
-    match &hub.post(rt, alloc, &mut hub.pass(), &nothing) {
+    match &hub.post(rt, alloc, &mut hub.pass(), nothing) {
         Ok(posted) => Ok(posted.first),
         Err(_) => Err(anyhow!("not posted")),
     }

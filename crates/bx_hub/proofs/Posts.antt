@@ -1,6 +1,6 @@
 -- What a request or a tick adds to the front of a pass, and why it is refused.
-use Rattle.std.proofs.Common.{◌≡◌, ℕ, ◌+◌, ◌<◌, ◌≤◌, Some, None, List, [], ◌∷◌, ◌++◌, length, take, drop, refl, sym, ap, ◌∙◌, subst, arith, inl, inr, length-append}
-use Rattle.std.specs.Prelude.{Result, Ok, Err, IfErr, IfOk, IsErrAnd, OnErr}
+use Rattle.std.proofs.Common.{◌≡◌, ℕ, ◌+◌, ◌<◌, ◌≤◌, None, List, [], ◌∷◌, ◌++◌, length, take, drop, refl, sym, ap, ◌∙◌, subst, arith, inl, inr, length-append}
+use Rattle.std.specs.Prelude.{Result, Ok, Err, IfErr, IsErrAnd, OnErr}
 use Rattle.std.proofs.lemmas.List.{drop_at}
 use mathlib.Core.List.{IsPrefix}
 use Rattle.bx_admission.specs.Ledgers.{Continues, Ledger}
@@ -21,7 +21,7 @@ use Rattle.bx_window.specs.Places as places
 use Rattle.bx_window.specs.Steps.{list_of}
 use Rattle.bx_window.specs.declared.law.Step.{Step}
 use Rattle.bx_hub.specs.Faults.{of_planning}
-use Rattle.bx_hub.specs.Posts.{AreSlotsAt, IsAdmittedAt, IsFullFor, IsOverrun, IsRefused, IsUnpublished, WasFullFor}
+use Rattle.bx_hub.specs.Posts.{AreSlotsAt, IsAdmittedAt, IsFullFor, IsRefused, IsUnpublished, IsWithoutRoom, WasFullFor}
 use Rattle.bx_hub.specs.declared.fault.PostFault.{PostFault}
 use Rattle.bx_hub.specs.declared.fault.PostFault.TheVariants.{Body, Closed, BadMoment, Ended, Behind, Overrun, Memory}
 use Rattle.bx_window.proofs.Fronts.{prefix_self, prefix_trans}
@@ -116,16 +116,16 @@ unpublished_result input list writer unchanged whole new (Err e) allowed is some
     let there : list ≡ list_of new = is ∙ ap list_of (sym (same.1)) in
     unpublished input e new (subst (λ (xs : List Listed). refusal_of (length xs) input ≡ None) there allowed) some u
 
--- where it was full, and a shard is overrun
-pub overrun : (input : ReadInput) (f : PostFault) (before front : List Step) → IsPrefix before front → WasFullFor input before → IsOverrun f front → IsRefused input f front
-overrun input (Body fault) before front p was o = absurd o
-overrun input Closed before front p was o = absurd o
-overrun input BadMoment before front p was o = absurd o
-overrun input Ended before front p was o = absurd o
-overrun input (Behind first) before front p was o = absurd o
-overrun input (Overrun shard place) before front p was o =
+-- where it was full, and there is no room now
+pub without_room : (input : ReadInput) (f : PostFault) (before front : List Step) → IsPrefix before front → WasFullFor input before → IsWithoutRoom f front → IsRefused input f front
+without_room input (Body fault) before front p was o = absurd o
+without_room input Closed before front p was o = absurd o
+without_room input BadMoment before front p was o = absurd o
+without_room input Ended before front p was o = absurd o
+without_room input (Behind first) before front p was o = absurd o
+without_room input (Overrun shard place) before front p was o =
     (record { before = was.before; first = was.first; begins = prefix_trans was.before before front was.begins p; full = was.full }, o)
-overrun input Memory before front p was o = absurd o
+without_room input Memory before front p was o = tt
 
 -- what was refused since the window is full
 pub was_full : {T : Type 0} (input : ReadInput) (first : ℕ) (front : List Step) (r : Result T PostFault) → r ≡ Err (Behind first) → IfErr r (λ e. IsRefused input e front) → WasFullFor input front

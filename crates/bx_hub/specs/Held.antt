@@ -1,5 +1,5 @@
 -- What lies under a shard's lock.
-use Rattle.std.specs.Prelude.{ℕ, ◌≡◌, ◌≤◌, List, length, Option, None, option_map}
+use Rattle.std.specs.Prelude.{ℕ, ◌≡◌, ◌≤◌, ◌++◌, ◌∷◌, List, [], length, Option, Some, None, option_map, Result, Ok, Err}
 use mathlib.Core.List.{IsPrefix}
 use Rattle.bx_advice.specs.declared.config.Config.{Config}
 use Rattle.bx_entry.specs.Answers.{answer}
@@ -33,6 +33,12 @@ pub record Stands (setup : Setup) (h : Held) : Type 0 where
 -- what lies under a shard's lock, with the shard's state
 abbrev pub held_of : {J P : Type 0} {g : Naming.Ghosts J} {h : Placing.Ghosts P} → Desk J P g h → Held
 held_of {J} {P} {g} {h} d = record { seen = d.reader; told = d.note; taken = d.taken; state = state h.place_of d.shard }
+
+-- the places of the answers that were taken, once this was said of the ticket of this place
+abbrev pub taken_by : {E : Type 0} → Result (Option Answer) E → ℕ → List ℕ → List ℕ
+taken_by (Ok (Some a)) place taken = taken ++ place ∷ []
+taken_by (Ok None) place taken = taken
+taken_by (Err e) place taken = taken
 
 -- what one thread gives over the list of a log to the message at a place
 abbrev pub answer_over : Config → List Step → ℕ → Option Answer

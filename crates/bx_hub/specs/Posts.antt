@@ -50,6 +50,16 @@ IsOverrun (Behind first) front = ⊥
 IsOverrun (Overrun shard place) front = place < begin_of front
 IsOverrun Memory front = ⊥
 
+-- so it is, or memory was refused
+abbrev pub IsWithoutRoom : PostFault → List Step → Type 0
+IsWithoutRoom (Body fault) front = ⊥
+IsWithoutRoom Closed front = ⊥
+IsWithoutRoom BadMoment front = ⊥
+IsWithoutRoom Ended front = ⊥
+IsWithoutRoom (Behind first) front = ⊥
+IsWithoutRoom (Overrun shard place) front = place < begin_of front
+IsWithoutRoom Memory front = Unit {0}
+
 -- Why an input is refused, by the front that the pass has then seen: its documents can't be read; its moment is above the greatest; the list, or
 -- the log of its publishes and trims, has an end; the window has 4096 batches, the oldest of which begins at the place that is told; or the window was
 -- full, and now begins past the place that is told, where a shard stands.

@@ -10,6 +10,7 @@ ghost use Rattle.bx_hub.specs.Posts.{AreSlotsAt, IsAdmittedAt, IsRefused, IsUnpu
 
 use crate::fault::PostFault;
 use crate::least::Least;
+use crate::reading::Reading;
 use bx_admission::{Ledger, Plan};
 use bx_advice::Config;
 use bx_entry::{Placing, Slot};
@@ -57,8 +58,43 @@ impl<J: Naming, R: Wait + Drop> Admission<J, R> {
         })
     }
 
-    /// Takes the messages of a request into the list. A request without messages adds nothing.
+    /// Takes the messages of a request into the list, which uses the request up; where it is refused, it comes back. A request without
+    /// messages adds nothing.
     pub(crate) fn post<P: Placing>(
+        &mut self,
+        alloc: Global,
+        placing: &P,
+        pass: &mut Note<J>,
+        reading: Reading,
+    ) -> Result<Admitted, (Reading, PostFault)>
+        requires placing { P.place_of placing.now ≡ J.placing }
+        ensures seen { IsPrefix pass.old pass.new }
+        ensures admitted { IfOk result (λ a. IsAdmittedAt (Request reading.arrival.moment reading.arrival.nonce reading.messages.items) a.first pass.old pass.new) }
+        ensures slots { IfOk result (λ a. AreSlotsAt (placed_by J.config J.config.shards J.placing) (Request reading.arrival.moment reading.arrival.nonce reading.messages.items) a.first pass.new a.slots) }
+        ensures back { IfErr result (λ r. r.0 ≡ reading) }
+        ensures refused { IfErr result (λ r. IsRefused (Request reading.arrival.moment reading.arrival.nonce reading.messages.items) r.1 pass.new) }
+        ensures grown { IfOk result (λ a. (a.first ≡ length (list_of self.old.writer)) × (list_of self.new.writer ≡ list_of self.old.writer ++ added_by (Request reading.arrival.moment reading.arrival.nonce reading.messages.items)) × (pass.new ≡ self.new.writer)) }
+        ensures same { OnErr result (list_of self.new.writer ≡ list_of self.old.writer) }
+        ensures closed { IfErr result (λ r. (r.1 ≡ faults.Closed → self.old.closed ≡ true) × (self.old.closed ≡ true → r.1 ≡ faults.Closed)) }
+        ensures open { OnOk result (self.old.closed ≡ false) }
+        ensures kept { self.new.closed ≡ self.old.closed }
+    {
+        let listed = self.list(
+            alloc,
+            placing,
+            pass,
+            reading.moment(),
+            reading.nonce(),
+            reading.messages(),
+        );
+        match listed {
+            Ok(admitted) => Ok(admitted),
+            Err(fault) => Err((reading, fault)),
+        }
+    }
+
+    // Takes messages into the list. No messages add nothing.
+    fn list<P: Placing>(
         &mut self,
         alloc: Global,
         placing: &P,
@@ -183,6 +219,13 @@ impl<J: Naming, R: Wait + Drop> Admission<J, R> {
             Ok(()) => Ok(()),
             Err(_) => Err(AllocError),
         }
+    }
+
+    /// Whether it takes no more entries.
+    pub(crate) fn is_closed(&self) -> bool
+        ensures { result ≡ self.now.closed }
+    {
+        self.closed
     }
 
     /// No more entries.

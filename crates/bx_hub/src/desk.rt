@@ -19,6 +19,7 @@ mod watch;
 use crate::activity::Activity;
 use crate::brought::Brought;
 use crate::fault::HubFault;
+use crate::stopped::Stopped;
 use bx_advice::Config;
 use bx_entry::{Batch, Placing, Ticket};
 use bx_history::{History, Lists};
@@ -47,7 +48,7 @@ pub(crate) struct Desk<J: Naming, P: Placing> {
 }
 
 impl<J: Naming, P: Placing> Desk<J, P> {
-    ghost use Rattle.bx_hub.specs.Held.{IsLevelWithout, Stands, answer_over, held_of};
+    ghost use Rattle.bx_hub.specs.Held.{IsLevelWithout, Stands, answer_over, held_of, taken_by};
     ghost use Rattle.bx_hub.specs.Watches.{IsBack, IsLeftOrBack, told};
     ghost use Rattle.bx_hub.specs.Lying.{IfStored, waker_of};
     ghost use Rattle.bx_shard.specs.Refining.{swept_places};
@@ -234,9 +235,9 @@ impl<J: Naming, P: Placing> Desk<J, P> {
         }
     }
 
-    /// The answer that is filed under a ticket, which is taken with that: it is given once. It is what the list of the
-    /// longest note that was brought gives.
-    pub(crate) fn take(&mut self, ticket: Ticket) -> Option<Answer>
+    // The answer that is filed under a ticket, which is taken with that: it is given once. It is what the list of the
+    // longest note that was brought gives.
+    fn take(&mut self, ticket: Ticket) -> Option<Answer>
         ensures answer { IfSome result (λ a. answer_over J.config self.old.note ticket.place ≡ Some a) }
         ensures filed { result ≡ (if nat_eq ticket.shard self.old.shard.index then filed_answer (connect_in (state P.place_of self.old.shard) ticket.place) else None) }
         ensures taken { self.new.taken ≡ (if is_some result then self.old.taken ++ ticket.place ∷ [] else self.old.taken) }
@@ -261,13 +262,14 @@ impl<J: Naming, P: Placing> Desk<J, P> {
         gate: &G,
         pass: &mut Note<J>,
         ticket: Ticket,
-    ) -> Result<Option<Answer>, HubFault>
+    ) -> Result<Option<Answer>, Stopped<J>>
         requires { ticket.shard ≡ self.old.shard.index }
         ensures seen { IsPrefix pass.old pass.new }
         ensures answer { IfOk result (λ o. IfSome o (λ a. answer_over J.config pass.new ticket.place ≡ Some a)) }
         ensures none { IfOk result (λ o. IfNone o (IsLevelWithout (placed_by J.config J.config.shards J.placing) ticket pass.new)) }
         ensures filed { IfSome (filed_answer (connect_in (state P.place_of self.old.shard) ticket.place)) (λ a. result ≡ Ok (Some a)) }
-        ensures stopped { IfErr result (λ f. IsStopped f ticket.shard pass.new × IsStoppedIn self.old.activity f) }
+        ensures taken { self.new.taken ≡ taken_by result ticket.place self.old.taken }
+        ensures stopped { IfErr result (λ s. IsStopped s.fault ticket.shard pass.new × IsStoppedIn self.old.activity s.fault) }
         ensures kept { (self.new.shard.index ≡ self.old.shard.index) × (self.new.activity ≡ self.old.activity) }
     {
         if let Some(answer) = self.take(ticket) {
@@ -281,7 +283,7 @@ impl<J: Naming, P: Placing> Desk<J, P> {
             }
             Err(fault) => {
                 *pass = self.front();
-                Err(fault)
+                Err(Stopped::of(self, fault))
             }
         }
     }

@@ -14,9 +14,12 @@ use crate::desk::{Desk, Watch};
 use crate::fault::{HubFault, PostFault, Posted, Ticked};
 use crate::least::{Least, Stood};
 use crate::pass::Pass;
+use crate::reading::Reading;
+use crate::refused::Refused;
+use crate::stopped::Stopped;
 use bx_advice::Config;
-use bx_entry::{Arrival, Placing, Ticket, read_messages};
-use bx_message::{Answer, Message};
+use bx_entry::{Arrival, Placing, Ticket};
+use bx_message::Answer;
 use bx_window::{Naming, Note, Opened, log_pair};
 use bx_workers::Gate;
 use futures::task::Waker;
@@ -45,7 +48,7 @@ impl<J: Naming, P: Placing, G: Gate + Drop, R: Wait + Drop> Hub<J, P, G, R> {
     ghost use Rattle.bx_entry.specs.Inputs as read;
     ghost use Rattle.bx_hub.specs.Bringing.{IsOfAll};
     ghost use Rattle.bx_hub.specs.Held.{IsLevelWithout, answer_over};
-    ghost use Rattle.bx_hub.specs.Posts.{AreSlotsAt, IsAdmittedAt, IsOverrun, IsRefused};
+    ghost use Rattle.bx_hub.specs.Posts.{AreSlotsAt, IsAdmittedAt, IsOverrun, IsRefused, IsWithoutRoom};
     ghost use Rattle.bx_hub.specs.Watches.{IsLeftOrBack};
     ghost use Rattle.bx_hub.specs.declared.desk.watch.Watch.TheVariants as watches;
 
@@ -96,30 +99,24 @@ impl<J: Naming, P: Placing, G: Gate + Drop, R: Wait + Drop> Hub<J, P, G, R> {
 
     /// Takes the messages of a request into the list, and brings each shard up. It is refused, in this order, where its
     /// documents cannot be read as messages, the hub was closed, its moment is above the greatest that is taken, the list
-    /// would become too long, or the window is full. A request without messages adds nothing. Who waits for a connect that
-    /// it answers is woken under no shard's lock.
+    /// would become too long, or the window is full. A request without messages adds nothing. To list a request uses it up;
+    /// one that is refused comes back. Who waits for a connect that it answers is woken under no shard's lock.
     pub fn post<W: Wait>(
         &self,
         rt: &W,
         alloc: Global,
         pass: &mut Pass<J>,
-        arrival: &Arrival,
-    ) -> Result<Posted<J>, PostFault>
+        arrival: Arrival,
+    ) -> Result<Posted<J>, Refused<J>>
         ensures seen { IsPrefix pass.old pass.new }
-        ensures admitted { IfOk result (λ p. IsAdmittedAt (read_input (inputs.Post arrival.now)) p.first pass.old pass.new) }
-        ensures slots { IfOk result (λ p. AreSlotsAt (placed_by J.config J.config.shards J.placing) (read_input (inputs.Post arrival.now)) p.first pass.new p.slots) }
-        ensures refused { IfErr result (λ f. IsRefused (read_input (inputs.Post arrival.now)) f pass.new) }
+        ensures admitted { IfOk result (λ p. IsAdmittedAt (read_input (inputs.Post arrival)) p.first pass.old pass.new) }
+        ensures slots { IfOk result (λ p. AreSlotsAt (placed_by J.config J.config.shards J.placing) (read_input (inputs.Post arrival)) p.first pass.new p.slots) }
+        ensures back { IfErr result (λ r. r.arrival ≡ arrival) }
+        ensures refused { IfErr result (λ r. IsRefused (read_input (inputs.Post arrival)) r.fault pass.new) }
         ensures behind { IfOk result (λ p. IsOfAll J.config.shards pass.new p.brought) }
     {
-        let messages = read_messages(alloc, &arrival.bodies)?;
-        let Admitted { first, slots } = self.admit(
-            rt,
-            alloc,
-            &mut pass.front,
-            arrival.moment,
-            arrival.nonce,
-            &messages,
-        )?;
+        let reading = Reading::of(alloc, arrival)?;
+        let Admitted { first, slots } = self.admit(rt, alloc, &mut pass.front, reading)?;
         let brought = self.bring_all(rt, alloc, &pass.front);
         Ok(Posted {
             first,
@@ -157,25 +154,26 @@ impl<J: Naming, P: Placing, G: Gate + Drop, R: Wait + Drop> Hub<J, P, G, R> {
         rt: &W,
         alloc: Global,
         pass: &mut Note<J>,
-        moment: u64,
-        nonce: u128,
-        messages: &[Message],
-    ) -> Result<Admitted, PostFault>
+        reading: Reading,
+    ) -> Result<Admitted, Refused<J>>
         ensures seen { IsPrefix pass.old pass.new }
-        ensures admitted { IfOk result (λ a. IsAdmittedAt (Request moment nonce messages.now) a.first pass.old pass.new) }
-        ensures slots { IfOk result (λ a. AreSlotsAt (placed_by J.config J.config.shards J.placing) (Request moment nonce messages.now) a.first pass.new a.slots) }
-        ensures refused { IfErr result (λ f. IsRefused (Request moment nonce messages.now) f pass.new) }
+        ensures admitted { IfOk result (λ a. IsAdmittedAt (Request reading.arrival.moment reading.arrival.nonce reading.messages.items) a.first pass.old pass.new) }
+        ensures slots { IfOk result (λ a. AreSlotsAt (placed_by J.config J.config.shards J.placing) (Request reading.arrival.moment reading.arrival.nonce reading.messages.items) a.first pass.new a.slots) }
+        ensures back { IfErr result (λ r. r.arrival ≡ reading.arrival) }
+        ensures refused { IfErr result (λ r. IsRefused (Request reading.arrival.moment reading.arrival.nonce reading.messages.items) r.fault pass.new) }
     {
         let mut admission = self.admission.lock(rt);
-        match admission.post(alloc, &*self.placing, pass, moment, nonce, messages) {
+        let reading = match admission.post(alloc, &*self.placing, pass, reading) {
+            Ok(admitted) => return Ok(admitted),
+            Err((reading, PostFault::Behind { .. })) => reading,
+            Err((reading, fault)) => return Err(Refused::of(&*admission, reading, fault)),
+        };
+        if let Err(fault) = self.make_room(rt, alloc, &mut admission, pass) {
+            return Err(Refused::of(&*admission, reading, fault));
+        }
+        match admission.post(alloc, &*self.placing, pass, reading) {
             Ok(admitted) => Ok(admitted),
-            Err(PostFault::Behind { .. }) => {
-                if let Some(least) = self.bring_least(rt, alloc, pass)? {
-                    admission.trim(alloc, &least)?;
-                }
-                admission.post(alloc, &*self.placing, pass, moment, nonce, messages)
-            }
-            Err(fault) => Err(fault),
+            Err((reading, fault)) => Err(Refused::of(&*admission, reading, fault)),
         }
     }
 
@@ -195,13 +193,29 @@ impl<J: Naming, P: Placing, G: Gate + Drop, R: Wait + Drop> Hub<J, P, G, R> {
         match admission.tick(alloc, pass, moment) {
             Ok(admitted) => Ok(admitted),
             Err(PostFault::Behind { .. }) => {
-                if let Some(least) = self.bring_least(rt, alloc, pass)? {
-                    admission.trim(alloc, &least)?;
-                }
+                self.make_room(rt, alloc, &mut admission, pass)?;
                 admission.tick(alloc, pass, moment)
             }
             Err(fault) => Err(fault),
         }
+    }
+
+    // Lets the full window go of what all shards have passed, once they were brought up.
+    fn make_room<W: Wait>(
+        &self,
+        rt: &W,
+        alloc: Global,
+        admission: &mut Admission<J, R>,
+        pass: &mut Note<J>,
+    ) -> Result<(), PostFault>
+        ensures seen { IsPrefix pass.old pass.new }
+        ensures refused { IfErr result (λ f. IsWithoutRoom f pass.new) }
+        ensures kept { admission.new.closed ≡ admission.old.closed }
+    {
+        if let Some(least) = self.bring_least(rt, alloc, pass)? {
+            admission.trim(alloc, &least)?;
+        }
+        Ok(())
     }
 
     // Lets the window go of what all shards have passed. Where there is no memory for that, the next tick does it.
@@ -306,12 +320,12 @@ impl<J: Naming, P: Placing, G: Gate + Drop, R: Wait + Drop> Hub<J, P, G, R> {
         alloc: Global,
         pass: &mut Pass<J>,
         ticket: Ticket,
-    ) -> Result<Option<Answer>, HubFault>
+    ) -> Result<Option<Answer>, Stopped<J>>
         ensures seen { IsPrefix pass.old pass.new }
         ensures answer { IfOk result (λ o. IfSome o (λ a. answer_over J.config pass.new ticket.place ≡ Some a)) }
         ensures none { IfOk result (λ o. IfNone o ((J.config.shards ≤ ticket.shard)
             ⊎ IsLevelWithout (placed_by J.config J.config.shards J.placing) ticket pass.new)) }
-        ensures stopped { IfErr result (λ f. IsStopped f ticket.shard pass.new) }
+        ensures stopped { IfErr result (λ s. IsStopped s.fault ticket.shard pass.new) }
     {
         if ticket.shard >= self.desks.len() {
             return Ok(None);
@@ -324,9 +338,7 @@ impl<J: Naming, P: Placing, G: Gate + Drop, R: Wait + Drop> Hub<J, P, G, R> {
                 drop(wakers);
                 answer
             }
-            Err(other) => Err(HubFault::Misplaced {
-                found: other.index(),
-            }),
+            Err(other) => Err(Stopped::misplaced(&*other, &ticket.shard)),
         }
     }
 

@@ -10,6 +10,9 @@ mod fault;
 mod hub;
 mod least;
 mod pass;
+mod reading;
+mod refused;
+mod stopped;
 
 pub use brought::Round;
 pub use bx_workers::{Gate, OpenGate};
@@ -17,3 +20,5 @@ pub use desk::{Left, Watch};
 pub use fault::{HubFault, Lagging, PostFault, Posted, Ticked};
 pub use hub::Hub;
 pub use pass::Pass;
+pub use refused::Refused;
+pub use stopped::Stopped;

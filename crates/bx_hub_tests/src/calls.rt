@@ -69,7 +69,7 @@ pub enum Found {
     Other,
 }
 
-/// A call was refused.
+/// A call was refused, or was not where it should be.
 #[derive(Clone, Copy, Debug)]
 pub struct Refused;
 
@@ -86,6 +86,16 @@ pub fn arrival(alloc: Global, body: &str) -> Result<Arrival, AllocError> {
         nonce: 0,
         bodies: Bodies::Whole(body.as_bytes().to_vec(alloc)?),
     })
+}
+
+/// Whether a request is one of this body, at moment 0.
+pub fn is_of(arrival: &Arrival, body: &str) -> bool {
+    match &arrival.bodies {
+        Bodies::Whole(text) => {
+            text.as_slice() == body.as_bytes() && arrival.moment == 0 && arrival.nonce == 0
+        }
+        Bodies::Decoded(_) => false,
+    }
 }
 
 // The ticket of the first connect or rider that waits.
@@ -107,22 +117,40 @@ pub fn post<J: Naming, P: Placing, G: Gate + Drop, H: Wait + Drop, R: Wait>(
     body: &str,
 ) -> Result<(u64, Option<Ticket>), Refused> {
     let arrival = arrival(alloc, body)?;
-    match hub.post(rt, alloc, pass, &arrival) {
+    match hub.post(rt, alloc, pass, arrival) {
         Ok(posted) => Ok((posted.first, ticket_of(posted.slots.as_slice()))),
         Err(_) => Err(Refused),
     }
 }
 
-/// Why a post of this body is refused, if it is.
+/// Posts a request that is refused: why, and the request that comes back.
+pub fn refuse<J: Naming, P: Placing, G: Gate + Drop, H: Wait + Drop, R: Wait>(
+    rt: &R,
+    alloc: Global,
+    hub: &Hub<J, P, G, H>,
+    pass: &mut Pass<J>,
+    arrival: Arrival,
+) -> Result<(PostFault, Arrival), Refused> {
+    match hub.post(rt, alloc, pass, arrival) {
+        Ok(_) => Err(Refused),
+        Err(refused) => Ok((refused.fault(), refused.into_arrival())),
+    }
+}
+
+/// Why a post of this body is refused, if it is. What comes back then is the request that was posted.
 pub fn refusal<J: Naming, P: Placing, G: Gate + Drop, H: Wait + Drop, R: Wait>(
     rt: &R,
     alloc: Global,
     hub: &Hub<J, P, G, H>,
     pass: &mut Pass<J>,
     body: &str,
-) -> Result<Option<PostFault>, AllocError> {
+) -> Result<Option<PostFault>, Refused> {
     let arrival = arrival(alloc, body)?;
-    Ok(hub.post(rt, alloc, pass, &arrival).err())
+    match hub.post(rt, alloc, pass, arrival) {
+        Ok(_) => Ok(None),
+        Err(refused) if is_of(refused.arrival(), body) => Ok(Some(refused.fault())),
+        Err(_) => Err(Refused),
+    }
 }
 
 // The text of an answer: its events, and then its reply.
@@ -184,7 +212,10 @@ pub fn fault_of<J: Naming, P: Placing, G: Gate + Drop, H: Wait + Drop, R: Wait>(
     pass: &mut Pass<J>,
     ticket: Ticket,
 ) -> Option<HubFault> {
-    hub.poll_answer(rt, alloc, pass, ticket).err()
+    match hub.poll_answer(rt, alloc, pass, ticket) {
+        Ok(_) => None,
+        Err(stopped) => Some(stopped.fault()),
+    }
 }
 
 /// Opens the first session, subscribes it, and gives the ticket of its connect, which is held.

@@ -4,11 +4,11 @@ ghost use Rattle.bx_entry.specs.Placings.{by_remainder};
 
 use crate::calls::{
     ANSWER, Found, HANDSHAKE, PING, PUBLISH_OWN, RIDDEN, Refused, SUBSCRIBE, arrival, fault_of,
-    find, hold, post, publish, refusal,
+    find, hold, is_of, post, publish, refuse,
 };
 use crate::same::same;
 use bx_advice::{Config, Options};
-use bx_entry::{ByRemainder, Placing};
+use bx_entry::{Arrival, ByRemainder, Placing};
 use bx_hub::{Gate, Hub, HubFault, Lagging, OpenGate, Pass, PostFault};
 use bx_window::{Naming, Opened};
 use std::alloc::Global;
@@ -17,6 +17,18 @@ use std::process::Abort;
 use std::sync::{Arc, Wait};
 use std::test::*;
 
+// Where a request stands, and which shards stayed behind it; none where it is refused.
+fn taken<J: Naming, P: Placing, G: Gate + Drop, H: Wait + Drop, R: Wait>(
+    rt: &R,
+    alloc: Global,
+    hub: &Hub<J, P, G, H>,
+    pass: &mut Pass<J>,
+    arrival: Arrival,
+) -> Option<(u64, Lagging)> {
+    let posted = hub.post(rt, alloc, pass, arrival).ok()?;
+    Some((posted.first, posted.brought.behind()))
+}
+
 // Where a ping stands, and which shards stayed behind it; none where it is refused.
 fn ping<J: Naming, P: Placing, G: Gate + Drop, H: Wait + Drop, R: Wait>(
     rt: &R,
@@ -24,9 +36,7 @@ fn ping<J: Naming, P: Placing, G: Gate + Drop, H: Wait + Drop, R: Wait>(
     hub: &Hub<J, P, G, H>,
     pass: &mut Pass<J>,
 ) -> Option<(u64, Lagging)> {
-    let arrival = arrival(alloc, PING).ok()?;
-    let posted = hub.post(rt, alloc, pass, &arrival).ok()?;
-    Some((posted.first, posted.brought.behind()))
+    taken(rt, alloc, hub, pass, arrival(alloc, PING).ok()?)
 }
 
 // Which shards stayed behind a request without messages; none where it is refused.
@@ -36,9 +46,8 @@ fn empty<J: Naming, P: Placing, G: Gate + Drop, H: Wait + Drop, R: Wait>(
     hub: &Hub<J, P, G, H>,
     pass: &mut Pass<J>,
 ) -> Option<Lagging> {
-    let arrival = arrival(alloc, "[]").ok()?;
-    let posted = hub.post(rt, alloc, pass, &arrival).ok()?;
-    Some(posted.brought.behind())
+    let (_, behind) = taken(rt, alloc, hub, pass, arrival(alloc, "[]").ok()?)?;
+    Some(behind)
 }
 
 // How many pings in a row are taken, each at the next place from 0 on and with these shards behind it, up to so many.
@@ -58,8 +67,8 @@ fn pings<J: Naming, P: Placing, G: Gate + Drop, H: Wait + Drop, R: Wait>(
     most
 }
 
-// A paused shard that has all of the list is not behind. While it is paused the window fills up, and from then on each post is behind, until the shard goes on. No shard has an
-// index past the last one.
+// A paused shard that has all of the list is not behind. While it is paused the window fills up, and from then on each post is behind, until the shard goes on. A post that is
+// refused comes back and can be made again. No shard has an index past the last one.
 fn fills<J: Naming, P: Placing, G: Gate + Drop, H: Wait + Drop, R: Wait + Abort>(
     rt: &R,
     alloc: Global,
@@ -84,21 +93,19 @@ fn fills<J: Naming, P: Placing, G: Gate + Drop, H: Wait + Drop, R: Wait + Abort>
         4_096,
         "pings",
     );
-    let full = Some(PostFault::Behind { first: 0 });
-    same(rt, refusal(rt, alloc, hub, pass, PING)?, full, "a ping");
-    same(
-        rt,
-        refusal(rt, alloc, hub, pass, PING)?,
-        full,
-        "another ping",
-    );
+    let full = PostFault::Behind { first: 0 };
+    let (fault, pinging) = refuse(rt, alloc, hub, pass, arrival(alloc, PING)?)?;
+    same(rt, fault, full, "a ping");
+    let (fault, pinging) = refuse(rt, alloc, hub, pass, pinging)?;
+    same(rt, fault, full, "the same ping");
+    same(rt, is_of(&pinging, PING), true, "the ping that comes back");
     same(rt, hub.resume(rt, 2), false, "resume 2");
     same(rt, hub.resume(rt, 0), true, "resume 0");
     same(
         rt,
-        ping(rt, alloc, hub, pass),
+        taken(rt, alloc, hub, pass, pinging),
         Some((4_096, Lagging::none())),
-        "a ping that is resumed",
+        "the ping that came back, once the shard goes on",
     );
     Ok(())
 }

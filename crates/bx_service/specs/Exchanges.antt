@@ -12,10 +12,10 @@ use Rattle.bx_cut.specs.declared.bodies.Bodies.{Bodies}
 use Rattle.bx_message.specs.declared.reply.Item.{Item}
 use Rattle.bx_transport.specs.Transports.{post_taken, get_taken}
 use Rattle.bx_transport.specs.declared.error.TransportError.{TransportError}
+use Rattle.bx_service.specs.declared.backend.Declined.{Declined}
 use Rattle.bx_service.specs.declared.backend.Unanswered.{Unanswered}
 use Rattle.bx_service.specs.declared.exchange.State.{State}
 use Rattle.bx_service.specs.declared.exchange.State.TheVariants.{Collecting, Asked, Held, Refused}
-use Rattle.bx_message.specs.declared.status.Status.{Status}
 use Rattle.bx_message.specs.declared.status.Status.TheVariants.{Unavailable}
 use Rattle.bx_service.specs.Responses.{IsAnswer, IsRefusal}
 use Rattle.bx_transport.specs.Statuses.{transport_status}
@@ -39,16 +39,16 @@ module _ {I : Type 0} (gives : I → Gathered → Type 0) where
   abbrev pub ForFuture : Option (List ℕ) → I → Sent → Type 0
   ForFuture callback items sent = (gathered : Gathered) × (gives items gathered × ForItems callback gathered sent)
 
-  -- the response for what was said of the documents: that for the future of their items, or the status with which they are refused
-  abbrev pub ForOutcome : Option (List ℕ) → Result I Status → Sent → Type 0
+  -- the response for what was said of the documents: that for the future of their items, or the status by which they are refused
+  abbrev pub ForOutcome : Option (List ℕ) → Result I Declined → Sent → Type 0
   ForOutcome callback (Ok items) sent = ForFuture callback items sent
-  ForOutcome callback (Err status) sent = IsRefusal status sent
+  ForOutcome callback (Err declined) sent = IsRefusal declined.status sent
 
-  module _ (admits : Bodies → Result I Status → Type 0) where
+  module _ (admits : Bodies → Result I Declined → Type 0) where
     -- the response for these documents: that for something that the backend may say of them
     abbrev pub ForDocuments : Option (List ℕ) → List (List ℕ) → Sent → Type 0
     ForDocuments callback documents sent =
-        (bodies : Bodies) × ((texts_of bodies ≡ documents) × ((outcome : Result I Status) × (admits bodies outcome × ForOutcome callback outcome sent)))
+        (bodies : Bodies) × ((texts_of bodies ≡ documents) × ((outcome : Result I Declined) × (admits bodies outcome × ForOutcome callback outcome sent)))
 
     -- the response for a body as it is taken: that for its documents, or the status of one that carries none
     abbrev pub ForBody : Result (List (List ℕ)) TransportError → Sent → Type 0

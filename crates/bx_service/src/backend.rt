@@ -6,7 +6,7 @@ ghost use Rattle.bx_cut.specs.Bodies.{texts_of};
 ghost use Rattle.bx_service.specs.Gatherings.{AreSlotsFor, IsRefusedWith};
 ghost use Rattle.bx_message.specs.declared.status.Status.TheVariants.{Unavailable};
 ghost use Rattle.bx_cut.specs.declared.bodies.Bodies.{Bodies};
-ghost use Rattle.bx_message.specs.declared.status.Status.{Status};
+ghost use Rattle.bx_service.specs.declared.backend.Declined.{Declined};
 
 use crate::gathering::Gathering;
 use crate::status::post_status;
@@ -56,6 +56,15 @@ impl From<HeldFault> for Unanswered {
     }
 }
 
+/// Documents that were not taken, and the status by which their request is refused.
+#[derive(Drop)]
+pub struct Declined {
+    /// The status.
+    pub status: Status,
+    /// The documents, as they were handed in.
+    pub bodies: Bodies,
+}
+
 /// Answers requests by their documents. A service asks no more of the server of messages, so that its own types do not name
 /// what that is made of.
 pub trait Backend: Drop {
@@ -63,11 +72,12 @@ pub trait Backend: Drop {
     type Items: Future<Output = Result<Vec<Item>, Unanswered>>;
 
     // Holds of the documents of a request and of what may be said of them.
-    ghost admits: { Self → Bodies → Result Self.Items Status → Type 0 } = { λ _ _ _. ⊤ };
+    ghost admits: { Self → Bodies → Result Self.Items Declined → Type 0 } = { λ _ _ _. ⊤ };
 
-    /// Takes the documents of a request, or says with which status it is refused.
-    fn admit(&self, bodies: Bodies) -> Result<Self::Items, Status>
+    /// Takes the documents of a request, or gives them back with the status by which it is refused.
+    fn admit(&self, bodies: Bodies) -> Result<Self::Items, Declined>
         ensures can_poll { IfOk result Self.Items.can_poll }
+        ensures back { IfErr result (λ d. d.bodies ≡ bodies) }
         ensures admitted { admits self.now bodies result };
 }
 
@@ -112,26 +122,33 @@ where
     type Items = Gathering<J, P, G, R>;
 
     // Nothing of the response is there yet, and its slots are what one thread gives for the request with these documents; or
-    // the request is refused. Without memory for one more handle of the hub it is admitted, and unavailable.
+    // the request is refused and its documents come back. Without memory for one more handle of the hub it is unavailable.
     ghost admits = { λ backend bodies outcome.
         IfOk outcome (λ g. (g.items.items ≡ []) × (g.held ≡ None)
         × AreSlotsFor (C.tells backend.clock) (N.draws backend.nonces) (placed_by J.config J.config.shards J.placing) (texts_of bodies) g.pass (into_iter_items g.slots))
-        × IfErr outcome (λ status. (status ≡ Unavailable) ⊎ IsRefusedWith (C.tells backend.clock) (N.draws backend.nonces) (texts_of bodies) status) };
+        × IfErr outcome (λ d. (d.bodies ≡ bodies)
+        × ((d.status ≡ Unavailable) ⊎ IsRefusedWith (C.tells backend.clock) (N.draws backend.nonces) (texts_of bodies) d.status)) };
 
-    fn admit(&self, bodies: Bodies) -> Result<Gathering<J, P, G, R>, Status> {
+    // What may fail for other reasons than the hub's comes before the post, so what is refused is not listed.
+    fn admit(&self, bodies: Bodies) -> Result<Gathering<J, P, G, R>, Declined> {
+        let Ok(hub) = Arc::try_clone(&self.hub) else {
+            return Err(Declined {
+                status: Status::Unavailable,
+                bodies,
+            });
+        };
         let arrival = Arrival {
             moment: self.clock.now(),
             nonce: self.nonces.next(),
             bodies,
         };
         let mut pass = self.hub.pass();
-        let posted = match self.hub.post(&self.rt, self.alloc, &mut pass, &arrival) {
-            Ok(posted) => posted,
-            Err(fault) => return Err(post_status(fault)),
-        };
-        match Arc::try_clone(&self.hub) {
-            Ok(hub) => Ok(Gathering::new(self.rt, self.alloc, hub, pass, posted.slots)),
-            Err(_) => Err(Status::Unavailable),
+        match self.hub.post(&self.rt, self.alloc, &mut pass, arrival) {
+            Ok(posted) => Ok(Gathering::new(self.rt, self.alloc, hub, pass, posted.slots)),
+            Err(refused) => Err(Declined {
+                status: post_status(refused.fault()),
+                bodies: refused.into_arrival().bodies,
+            }),
         }
     }
 }

@@ -153,7 +153,7 @@ where
 {
     match backend.admit(bodies) {
         Ok(items) => State::Held { callback, items },
-        Err(status) => State::Refused(status),
+        Err(declined) => State::Refused(declined.status),
     }
 }
 

@@ -9,7 +9,7 @@ mod route;
 mod service;
 mod status;
 
-pub use backend::{Backend, Clock, HubBackend, Nonces, Unanswered};
+pub use backend::{Backend, Clock, Declined, HubBackend, Nonces, Unanswered};
 pub use exchange::Exchange;
 pub use gathering::Gathering;
 pub use service::{BayeuxService, ServiceFault};

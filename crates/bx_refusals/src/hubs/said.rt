@@ -100,8 +100,10 @@ pub fn post<J: Naming, H: Wait + Drop, R: Wait>(
     body: &str,
 ) -> Result<PostEnd, Unlike> {
     let arrival = arrival(alloc, body)?;
-    let posted = match hub.post(rt, alloc, pass, &arrival) {
-        Err(PostFault::Memory) => hub.post(rt, alloc, pass, &arrival),
+    let posted = match hub.post(rt, alloc, pass, arrival) {
+        Err(refused) if refused.fault() == PostFault::Memory => {
+            hub.post(rt, alloc, pass, refused.into_arrival())
+        }
         posted => posted,
     };
     let Ok(posted) = posted else {
@@ -172,7 +174,9 @@ pub fn poll<J: Naming, H: Wait + Drop, R: Wait>(
     ticket: Ticket,
 ) -> Result<Option<Answer>, Unlike> {
     let answer = match hub.poll_answer(rt, alloc, pass, ticket) {
-        Err(HubFault::Memory) => hub.poll_answer(rt, alloc, pass, ticket),
+        Err(stopped) if stopped.fault() == HubFault::Memory => {
+            hub.poll_answer(rt, alloc, pass, ticket)
+        }
         answer => answer,
     };
     answer.map_err(|_| Unlike::Wrong("no telling"))

@@ -26,7 +26,7 @@ impl<J: Naming, R: Wait + Drop> Count for HubList<J, R> {
         let nothing = arrival(alloc, "[]")?;
         match self
             .hub
-            .post(&self.rt, alloc, &mut self.hub.pass(), &nothing)
+            .post(&self.rt, alloc, &mut self.hub.pass(), nothing)
         {
             Ok(posted) => Ok(posted.first),
             Err(_) => Err(Unlike::Wrong("not counted")),

@@ -100,7 +100,7 @@ impl<J: Naming, H: Wait + Drop, R: Wait + Copy + Drop> Bench<J, H, R> {
             bodies: Bodies::Whole(body.as_bytes().to_vec(self.alloc)?),
         };
         self.hub
-            .post(&self.rt, self.alloc, &mut self.pass, &arrival)
+            .post(&self.rt, self.alloc, &mut self.pass, arrival)
             .map_err(|_| "refused")?;
         Ok(())
     }

@@ -9,7 +9,7 @@ use Rattle.bx_window.specs.Steps.{list_of}
 use Rattle.bx_hub.specs.Posts.{AreSlotsAt, IsAdmittedAt}
 use Rattle.bx_hub.specs.declared.admission.Admitted.{Admitted}
 use Rattle.bx_hub.proofs.Posts.{IsSlotted, admitted_by, none_added, slots_by, unpublished_result}
-use Rattle.bx_hub.proofs.admission.Admission.post.Goals as goal
+use Rattle.bx_hub.proofs.admission.Admission.list.Goals as goal
 
 pub publish-requires-clause-some : goal.publish-requires-clause-some
 publish-requires-clause-some g c =

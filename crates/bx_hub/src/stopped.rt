@@ -1,0 +1,53 @@
+//! Why a question for an answer is refused.
+ghost use Rattle.std.specs.Prelude.{◌≡◌, ◌≢◌};
+ghost use Rattle.bx_hub.specs.Faults.{IsStopped, IsStoppedIn};
+ghost use Rattle.bx_hub.specs.declared.fault.HubFault.TheVariants as faults;
+
+use crate::desk::Desk;
+use crate::fault::HubFault;
+use bx_entry::Placing;
+use bx_window::Naming;
+use std::marker::PhantomData;
+
+/// Why there is no telling whether an answer is filed. None is made but by a look at the shard, which the fault holds of.
+#[derive(Drop)]
+pub struct Stopped<J: Naming> {
+    fault: HubFault,
+    of: PhantomData<J>,
+}
+
+impl<J: Naming> Stopped<J> {
+    /// This shard is stopped by this.
+    pub(crate) fn of<P: Placing>(desk: &Desk<J, P>, fault: HubFault) -> Stopped<J>
+        requires stopped { IsStopped fault desk.now.shard.index desk.now.reader }
+        requires activity { IsStoppedIn desk.now.activity fault }
+        ensures { result.fault ≡ fault }
+    {
+        let _ = desk;
+        Stopped {
+            fault,
+            of: PhantomData,
+        }
+    }
+
+    /// No shard of this index was found: another one stood under its lock.
+    pub(crate) fn misplaced<P: Placing>(desk: &Desk<J, P>, index: &usize) -> Stopped<J>
+        requires { desk.now.shard.index ≢ index.now }
+        ensures { result.fault ≡ faults.Misplaced desk.now.shard.index }
+    {
+        let _ = index;
+        Stopped {
+            fault: HubFault::Misplaced {
+                found: desk.index(),
+            },
+            of: PhantomData,
+        }
+    }
+
+    /// Why there is no telling.
+    pub fn fault(&self) -> HubFault
+        ensures { result ≡ self.now.fault }
+    {
+        self.fault
+    }
+}
