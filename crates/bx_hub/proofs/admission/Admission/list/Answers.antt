@@ -1,8 +1,9 @@
 use Rattle.std.proofs.Common.{◌≡◌, ℕ, ◌+◌, ◌<◌, ◌++◌, [], ◌∙◌, List, length, sym, ap, subst, arith, append-nil}
 use Rattle.std.proofs.lemmas.Result.{IfOk-weaker}
 use Rattle.bx_admission.proofs.Faults.{planned_taken}
+use Rattle.bx_admission.specs.Ledgers.{Ledger}
 use Rattle.bx_admission.specs.Slots.{placed_by}
-use Rattle.bx_entry.specs.Inputs.{ReadInput, Request, added_by}
+use Rattle.bx_entry.specs.Inputs.{ReadInput, Request, added_by, refusal_of}
 use Rattle.bx_entry.specs.Listing.{Listed}
 use Rattle.bx_entry.proofs.RequestLemmas.{length-listed}
 use Rattle.bx_window.specs.Steps.{list_of}
@@ -25,8 +26,10 @@ returns-then-count-eq0-clause-admitted g c =
     let none : p.elements ≡ [] = none_added p.elements (omega (arith, many, c.if-count-eq0.true)) in
     let is : d.ledger.list ≡ list_of c.tell.new.pass = d.listed ∙ ap list_of (sym c.in_ok-tell.ensures.whole.0) in
     let same : list_of c.tell.new.pass ≡ list_of c.tell.new.pass ++ p.elements = sym (append-nil (list_of c.tell.new.pass)) ∙ ap (λ (xs : List Listed). list_of c.tell.new.pass ++ xs) (sym none) in
-    admitted_by input d.ledger p c.args.pass.now c.tell.new.pass c.tell.new.pass is c.in_ok-plan.ensures.continues c.in_ok-plan.ensures.elements
-    (planned_taken c.args.moment (length d.ledger.list + length c.args.messages.now) c.plan.result p c.in_ok-plan.was c.plan.ensures.fault) c.tell.ensures.seen same
+    let kept : c.plan.new.self.list ≡ d.ledger.list = ap (λ (l : Ledger). l.list) c.plan.ensures.same in
+    let allowed = planned_taken c.args.moment (length d.ledger.list + length c.args.messages.now) c.plan.result p c.in_ok-plan.was c.plan.ensures.fault in
+    admitted_by input c.plan.new.self p c.args.pass.now c.tell.new.pass c.tell.new.pass (kept ∙ is) c.in_ok-plan.ensures.continues c.in_ok-plan.ensures.elements
+    (ap (λ (xs : List Listed). refusal_of (length xs) input) kept ∙ allowed) c.tell.ensures.seen same
 
 pub returns-clause-admitted : goal.returns-clause-admitted
 returns-clause-admitted g c =
@@ -35,10 +38,12 @@ returns-clause-admitted g c =
     let new = c.publish.new.pass in
     let input : ReadInput = Request c.args.moment c.args.nonce c.args.messages.now in
     let is : d.ledger.list ≡ list_of c.tell.new.pass = d.listed ∙ ap list_of (sym c.in_ok-tell.ensures.whole.0) in
+    let kept : c.plan.new.self.list ≡ d.ledger.list = ap (λ (l : Ledger). l.list) c.plan.ensures.same in
     let allowed = planned_taken c.args.moment (length d.ledger.list + length c.args.messages.now) c.plan.result p c.in_ok-plan.was c.plan.ensures.fault in
     IfOk-weaker c.publish.result (λ a. (a ≡ record { first = p.batch.first; slots = p.slots }) × (list_of new ≡ list_of c.tell.new.pass ++ p.elements)) (λ a. IsAdmittedAt input a.first c.args.pass.now new)
     (λ a t. subst (λ (n : ℕ). IsAdmittedAt input n c.args.pass.now new) (ap (λ (x : Admitted). x.first) (sym t.0))
-    (admitted_by input d.ledger p c.args.pass.now c.tell.new.pass new is c.in_ok-plan.ensures.continues c.in_ok-plan.ensures.elements allowed c.tell.ensures.seen t.1)) c.publish.ensures.taken
+    (admitted_by input c.plan.new.self p c.args.pass.now c.tell.new.pass new (kept ∙ is) c.in_ok-plan.ensures.continues c.in_ok-plan.ensures.elements
+    (ap (λ (xs : List Listed). refusal_of (length xs) input) kept ∙ allowed) c.tell.ensures.seen t.1)) c.publish.ensures.taken
 
 pub returns-clause-slots : goal.returns-clause-slots
 returns-clause-slots g c =
@@ -49,10 +54,12 @@ returns-clause-slots g c =
     let placing : ℕ → ℕ → ℕ = g.J.Naming.placing in
     let input : ReadInput = Request c.args.moment c.args.nonce c.args.messages.now in
     let is : d.ledger.list ≡ list_of c.tell.new.pass = d.listed ∙ ap list_of (sym c.in_ok-tell.ensures.whole.0) in
+    let kept : c.plan.new.self.list ≡ d.ledger.list = ap (λ (l : Ledger). l.list) c.plan.ensures.same in
+    let first : p.batch.first ≡ length d.ledger.list = c.in_ok-plan.ensures.continues.first ∙ ap (λ (xs : List Listed). length xs) kept in
     let slots = subst (λ (f : ℕ → ℕ → ℕ). IsSlotted f d.ledger p) c.requires.placing c.in_ok-plan.ensures.slots in
     IfOk-weaker c.publish.result (λ a. (a ≡ record { first = p.batch.first; slots = p.slots }) × (list_of new ≡ list_of c.tell.new.pass ++ p.elements)) (λ a. AreSlotsAt (placed_by config config.shards placing) input a.first new a.slots)
     (λ a t. subst (λ (x : Admitted). AreSlotsAt (placed_by config config.shards placing) input x.first new x.slots) (sym t.0)
-    (slots_by placing config input d.ledger p c.tell.new.pass new d.config d.counted is c.in_ok-plan.ensures.continues.first slots c.in_ok-plan.ensures.elements t.1)) c.publish.ensures.taken
+    (slots_by placing config input d.ledger p c.tell.new.pass new d.config d.counted is first slots c.in_ok-plan.ensures.elements t.1)) c.publish.ensures.taken
 
 pub returns-clause-refused : goal.returns-clause-refused
 returns-clause-refused g c =
