@@ -8,7 +8,7 @@ ghost use Rattle.bx_reshard.specs.Heirs.{AreAllClean, IsEmptyOf, SameConnects, S
 use bx_advice::Config;
 use bx_names::Pattern;
 use bx_session::{Answered, Session};
-use bx_shard::Sessions;
+use bx_shard::{Sessions, Wakers};
 use std::alloc::{AllocError, Global};
 
 /// The sessions of each of some shards that are being made.
@@ -89,8 +89,8 @@ impl Heirs {
         }
     }
 
-    /// Files the answer to a connect for which room was made.
-    pub(crate) fn file(&mut self, slot: usize, place: u64, answered: Answered)
+    /// Files the answer to a connect for which room was made. A waker beside that is to be woken.
+    pub(crate) fn file(&mut self, slot: usize, place: u64, answered: Answered, wakers: &mut Wakers)
         requires within { slot < length self.old.shards.items }
         ensures connects { (k p : ℕ) → connect_of self.new.shards.items k p
             ≡ (if nat_eq slot k && nat_eq answered.place p then filed_as place answered.answer (connect_of self.old.shards.items k p)
@@ -98,7 +98,7 @@ impl Heirs {
         ensures sessions { SameSessions self.old.shards.items self.new.shards.items }
     {
         if let Some(heir) = self.shards.get_mut(slot) {
-            heir.file(place, answered);
+            heir.file(place, answered, wakers);
         }
     }
 }

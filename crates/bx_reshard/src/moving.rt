@@ -8,7 +8,7 @@ use bx_advice::ShardCount;
 use bx_connects::{Connects, FiledAnswer};
 use bx_entry::Placing;
 use bx_session::{Answered, Session};
-use bx_shard::Shard;
+use bx_shard::{Shard, Wakers};
 use indexmap::IndexMap;
 
 /// Moves these sessions to the shards where they are placed.
@@ -29,12 +29,14 @@ pub(crate) fn move_sessions<P: Placing>(
     }
 }
 
-/// Moves the answers that are filed to the shards where their sessions are placed.
+/// Moves the answers that are filed to the shards where their sessions are placed. Wakers beside the connects for which room was
+/// made there are to be woken.
 pub(crate) fn move_answers<P: Placing>(
     heirs: &mut Heirs,
     mut connects: Connects,
     placing: &P,
     count: ShardCount,
+    wakers: &mut Wakers,
 )
     requires many { length heirs.old.shards.items ≡ count }
     ensures connects { (k p : ℕ) → connect_of heirs.new.shards.items k p
@@ -51,7 +53,7 @@ pub(crate) fn move_answers<P: Placing>(
             place: connect,
             answer,
         };
-        heirs.file(placing.place(session, count.get()), place, answered);
+        heirs.file(placing.place(session, count.get()), place, answered, wakers);
     }
 }
 
@@ -61,6 +63,7 @@ pub(crate) fn move_all<P: Placing + Drop>(
     shards: Vec<Shard<P>>,
     placing: &P,
     count: ShardCount,
+    wakers: &mut Wakers,
 )
     requires many { length heirs.old.shards.items ≡ count }
     ensures { AreMoved (P.place_of placing.now) count (map (λ s. s.sessions) shards.items) heirs.old.shards.items heirs.new.shards.items }
@@ -68,6 +71,6 @@ pub(crate) fn move_all<P: Placing + Drop>(
     for shard in shards {
         let (by_number, connects) = shard.into_parts();
         move_sessions(heirs, by_number, placing, count);
-        move_answers(heirs, connects, placing, count);
+        move_answers(heirs, connects, placing, count, wakers);
     }
 }

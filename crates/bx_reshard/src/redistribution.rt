@@ -10,7 +10,7 @@ use crate::making::{Room, copy_handle, finish};
 use crate::moving::move_all;
 use bx_advice::ShardCount;
 use bx_entry::Placing;
-use bx_shard::Shard;
+use bx_shard::{Shard, Wakers};
 use std::alloc::{AllocError, Global};
 use std::sync::Arc;
 
@@ -30,7 +30,10 @@ pub fn redistribute<P: Placing + Drop>(
     ensures refused { IfErr result (λ e. e.0 ≡ shards) }
 {
     match make_room(alloc, &shards, count, &placing) {
-        Ok(room) => Ok(move_in(room, shards, count, &*placing)),
+        Ok(room) => {
+            let mut wakers = Wakers::new(alloc);
+            Ok(move_in(room, shards, count, &*placing, &mut wakers))
+        }
         Err(error) => Err((shards, error)),
     }
 }
@@ -64,12 +67,13 @@ fn move_in<P: Placing + Drop>(
     shards: Vec<Shard<P>>,
     count: ShardCount,
     placing: &P,
+    wakers: &mut Wakers,
 ) -> Vec<Shard<P>>
     requires ready { IsReady P.place_of placing.now count shards.items room }
     requires alike { AreAlike (map (state P.place_of) shards.items) }
     requires apart { AreApart (map (state P.place_of) shards.items) }
     ensures { Redistributed (P.place_of placing.now) count (map (state P.place_of) shards.items) (map (state P.place_of) result.items) }
 {
-    move_all(&mut room.heirs, shards, placing, count);
+    move_all(&mut room.heirs, shards, placing, count, wakers);
     finish(room, count)
 }
