@@ -4,3 +4,4 @@ pub mod Lists
 pub mod Lying
 pub mod Places
 pub mod Posts
+pub mod Waking

@@ -7,7 +7,8 @@ use Rattle.bx_connects.specs.declared.connects.ConnectState.TheVariants.{Held, F
 use Rattle.bx_connects.specs.declared.watch.Watch.{Watch}
 use Rattle.bx_connects.specs.declared.watch.Watch.TheVariants.{Stored, Ready, Unknown, Shut}
 use Rattle.bx_shard.specs.States.{State, Watched, connect_in}
-use Rattle.bx_hub.specs.Lying.{IfStored, waker_of}
+use Rattle.bx_connects.specs.Waking.{waker_of}
+use Rattle.bx_hub.specs.Lying.{IfStored}
 use Rattle.futures.specs.declared.task.waker.Waker.{Waker}
 
 -- where it is stored, it lies there

@@ -5,3 +5,4 @@ pub mod Lagging
 pub mod Lying
 pub mod Posts
 pub mod Watches
+pub mod Waking

@@ -1,12 +1,12 @@
 //! What came of bringing the shards up to a note.
-ghost use Rattle.std.specs.Prelude.{◌≡◌, ◌≢◌, ◌≤◌, ◌<◌, ◌++◌, ◌∷◌, [], length, Option, Some, IfSome, IfNone};
+ghost use Rattle.std.specs.Prelude.{◌≡◌, ◌≢◌, ◌≤◌, ◌<◌, ◌++◌, ◌∷◌, [], length, Option, Some, None, IfSome, IfNone};
 ghost use mathlib.Core.List.{IsPrefix};
 ghost use Rattle.bx_hub.specs.Faults.{IsStopped, IsStoppedIn};
 ghost use Rattle.bx_hub.specs.Lagging.{lagging_of};
 ghost use Rattle.bx_hub.specs.declared.fault.HubFault.TheVariants as faults;
 ghost use Rattle.bx_window.specs.Steps.{list_of};
 
-use crate::desk::Desk;
+use crate::desk::{Desk, Woken};
 use crate::fault::{HubFault, Lagging};
 use bx_entry::Placing;
 use bx_history::History;
@@ -14,21 +14,23 @@ use bx_window::{Naming, Note};
 use std::snapshot::Snapshot;
 
 /// What came of bringing one shard up to a note: it learnt the note, and stands at its end or stays below it, stopped by what is
-/// told. None is made but by a look at the shard.
+/// told; and which wakers it put into the caller's list. None is made but by a look at the shard.
 #[derive(Drop)]
 pub(crate) struct Brought<J: Naming> {
     index: Snapshot<usize>,
     note: Snapshot<Note<J>>,
     stays: Option<HubFault>,
+    woken: Option<Woken>,
 }
 
 impl<J: Naming> Brought<J> {
-    /// How this shard stands to the note.
+    /// How this shard stands to the note, and which wakers it put into the caller's list.
     pub(crate) fn of<P: Placing>(
         desk: &Desk<J, P>,
         index: &usize,
         note: &Note<J>,
         stays: Option<HubFault>,
+        woken: Woken,
     ) -> Brought<J>
         requires index { index.now ≡ desk.now.shard.index }
         requires told { IsPrefix note.now desk.now.note }
@@ -38,16 +40,18 @@ impl<J: Naming> Brought<J> {
         ensures index { result.index.value ≡ desk.now.shard.index }
         ensures note { result.note.value ≡ note.now }
         ensures stays { result.stays ≡ stays }
+        ensures woken { result.woken ≡ Some woken }
     {
         let _ = desk;
         Brought {
             index: Snapshot::of(index),
             note: Snapshot::of(note),
             stays,
+            woken: Some(woken),
         }
     }
 
-    /// No shard of this index was found: another one stood under its lock.
+    /// No shard of this index was found: another one stood under its lock. No waker was put anywhere.
     pub(crate) fn misplaced<P: Placing>(
         desk: &Desk<J, P>,
         index: &usize,
@@ -57,6 +61,7 @@ impl<J: Naming> Brought<J> {
         ensures index { result.index.value ≡ index.now }
         ensures note { result.note.value ≡ note.now }
         ensures stays { result.stays ≡ Some (faults.Misplaced desk.now.shard.index) }
+        ensures woken { result.woken ≡ None }
     {
         Brought {
             index: Snapshot::of(index),
@@ -64,6 +69,7 @@ impl<J: Naming> Brought<J> {
             stays: Some(HubFault::Misplaced {
                 found: desk.index(),
             }),
+            woken: None,
         }
     }
 }

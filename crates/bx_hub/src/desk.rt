@@ -1,8 +1,9 @@
 //! What lies under a shard's lock.
-ghost use Rattle.std.specs.Prelude.{◌≡◌, ◌+◌, ◌<◌, ◌≤◌, ◌⊎◌, ◌++◌, ◌∷◌, [], length, take, nat_eq, if◌then◌else◌, is_some, true, Ok, Some, None, OnOk, IfOk, IfErr, IfSome, IfNone};
+ghost use Rattle.std.specs.Prelude.{◌≡◌, ◌+◌, ◌<◌, ◌≤◌, ◌⊎◌, ◌++◌, ◌∷◌, [], length, take, nat_eq, ℕ, if◌then◌else◌, is_some, true, Ok, Some, None, OnOk, IfOk, IfErr, IfSome, IfNone};
 ghost use Rattle.std.specs.Arc.{arc_value};
 ghost use mathlib.Core.List.{IsPrefix};
 ghost use Rattle.bx_connects.specs.Connects.{count_filed_below, filed_answer, watched};
+ghost use Rattle.bx_connects.specs.Waking.{AreWoken, waker_of};
 ghost use Rattle.bx_shard.specs.Refining.{Refines};
 ghost use Rattle.bx_shard.specs.Props.{holds_props};
 ghost use Rattle.bx_shard.specs.Seen.{state};
@@ -15,15 +16,17 @@ ghost use Rattle.bx_hub.specs.declared.activity.Activity.TheVariants.{Active, Pa
 ghost use Rattle.bx_hub.specs.declared.fault.HubFault.TheVariants as faults;
 
 mod watch;
+mod woken;
 
 use crate::activity::Activity;
 use crate::brought::Brought;
-use crate::fault::HubFault;
+use crate::fault::{HubFault, PostFault};
+use crate::least::Stood;
 use bx_advice::Config;
 use bx_entry::{Batch, Placing, Ticket};
 use bx_history::{History, Lists};
 use bx_message::Answer;
-use bx_shard::Shard;
+use bx_shard::{Shard, Wakers};
 use bx_window::{LogReader, Naming, Next, Note, entry_of};
 use bx_workers::Gate;
 use futures::task::Waker;
@@ -31,6 +34,8 @@ use std::alloc::Global;
 use std::snapshot::Snapshot;
 use std::sync::Arc;
 pub use watch::{Left, Watch};
+pub(crate) use woken::Woken;
+use woken::listed;
 
 /// A shard, with its reader of the window and the longest note that was brought to it. It holds what the definition's
 /// shard of its index holds after so many entries of the list that the reader has seen.
@@ -49,7 +54,9 @@ pub(crate) struct Desk<J: Naming, P: Placing> {
 impl<J: Naming, P: Placing> Desk<J, P> {
     ghost use Rattle.bx_hub.specs.Held.{IsLevelWithout, Stands, answer_over, held_of};
     ghost use Rattle.bx_hub.specs.Watches.{IsBack, IsLeftOrBack, told};
-    ghost use Rattle.bx_hub.specs.Lying.{IfStored, waker_of};
+    ghost use Rattle.bx_hub.specs.Lying.{IfStored};
+    ghost use Rattle.bx_hub.specs.Posts.{IsOverrun};
+    ghost use Rattle.bx_hub.specs.Waking.{put_of};
     ghost use Rattle.bx_shard.specs.Refining.{swept_places};
 
     /// The shard of this index, which has applied nothing.
@@ -98,13 +105,14 @@ impl<J: Naming, P: Placing> Desk<J, P> {
         self.shard.index()
     }
 
-    /// Brings the shard up to the longest note, this one included; its gate is passed before and after. A shard that is closed
-    /// or paused learns the note alone.
-    pub(crate) fn bring<G: Gate>(
+    // Brings the shard up to the longest note, this one included; its gate is passed before and after. A shard that is closed
+    // or paused learns the note alone. The wakers beside connects that are answered are put into the list, and no others.
+    fn bring<G: Gate>(
         &mut self,
         alloc: Global,
         gate: &G,
         note: &Note<J>,
+        wakers: &mut Wakers,
     ) -> Result<(), HubFault>
         ensures old { IsPrefix self.old.note self.new.note }
         ensures told { IsPrefix note.now self.new.note }
@@ -113,6 +121,7 @@ impl<J: Naming, P: Placing> Desk<J, P> {
         ensures stopped { IfErr result (λ f. IsStopped f self.old.shard.index self.new.reader × IsStoppedIn self.old.activity f) }
         ensures active { OnOk result (self.old.activity ≡ Active) }
         ensures still { (self.old.activity ≡ Active → ⊥) → self.new.shard ≡ self.old.shard }
+        ensures woken { AreWoken (connect_in (state P.place_of self.old.shard)) (connect_in (state P.place_of self.new.shard)) wakers.old wakers.new }
         ensures kept { (self.new.shard.index ≡ self.old.shard.index) × (self.new.taken ≡ self.old.taken) × (self.new.activity ≡ self.old.activity) }
     {
         self.learn(note);
@@ -121,32 +130,66 @@ impl<J: Naming, P: Placing> Desk<J, P> {
             Activity::Paused => Err(HubFault::Paused),
             Activity::Active => {
                 gate.before(self.index());
-                let brought = self.go_on(alloc);
+                let brought = self.go_on(alloc, wakers);
                 gate.after(self.index());
                 brought
             }
         }
     }
 
-    /// Brings the shard up to the longest note, as `bring` does, and says how it then stands to this one.
+    /// Brings the shard up to the longest note, this one included, and says how it then stands to this one, and which wakers it
+    /// put into the list: those beside the connects that are answered. The gate of the shard is passed before and after. A shard
+    /// that is closed or paused learns the note alone.
     #[tactic(auto, using(crate::proofs::Lists::list_length))]
     pub(crate) fn bring_to<G: Gate>(
         &mut self,
         alloc: Global,
         gate: &G,
         note: &Note<J>,
+        wakers: &mut Wakers,
     ) -> Brought<J>
         ensures index { result.index.value ≡ self.old.shard.index }
         ensures note { result.note.value ≡ note.now }
         ensures stopped { IfSome result.stays (λ f. IsStopped f self.old.shard.index self.new.reader × IsStoppedIn self.old.activity f) }
+        ensures woken { AreWoken (connect_in (state P.place_of self.old.shard)) (connect_in (state P.place_of self.new.shard)) wakers.old wakers.new }
+        ensures put { wakers.new ≡ wakers.old ++ put_of result.woken }
         ensures kept { (self.new.shard.index ≡ self.old.shard.index) × (self.new.taken ≡ self.old.taken) × (self.new.activity ≡ self.old.activity) }
     {
-        let brought = self.bring(alloc, gate, note);
+        let before = listed(wakers);
+        let brought = self.bring(alloc, gate, note, wakers);
         let stays = match brought {
             Err(fault) if self.place() < note.len() => Some(fault),
             _ => None,
         };
-        Brought::of(self, &self.index(), note, stays)
+        let woken = Woken::since(before, wakers);
+        Brought::of(self, &self.index(), note, stays, woken)
+    }
+
+    /// Brings the shard up to the longest note, as `bring_to` does, and says where it then stands, and which wakers it put into
+    /// the list. It is refused where the shard is overrun; the pass then has seen all that the shard's reader has.
+    pub(crate) fn stand<G: Gate>(
+        &mut self,
+        alloc: Global,
+        gate: &G,
+        pass: &mut Note<J>,
+        wakers: &mut Wakers,
+    ) -> (Result<Stood<J>, PostFault>, Woken)
+        ensures seen { IsPrefix pass.old pass.new }
+        ensures stood { IfOk result.0 (λ s. s.index.value ≡ self.old.shard.index) }
+        ensures still { OnOk result.0 (pass.new ≡ pass.old) }
+        ensures overrun { IfErr result.0 (λ f. IsOverrun f pass.new) }
+        ensures put { wakers.new ≡ wakers.old ++ result.1 }
+    {
+        let before = listed(wakers);
+        let brought = self.bring(alloc, gate, pass, wakers);
+        let woken = Woken::since(before, wakers);
+        match brought {
+            Err(HubFault::Overrun { shard, place }) => {
+                *pass = self.front();
+                (Err(PostFault::Overrun { shard, place }), woken)
+            }
+            _ => (Ok(Stood::of(self)), woken),
+        }
     }
 
     // Learns a note.
@@ -161,8 +204,9 @@ impl<J: Naming, P: Placing> Desk<J, P> {
     }
 
     // Applies the entries up to the end of the longest note, batch by batch.
-    fn go_on(&mut self, alloc: Global) -> Result<(), HubFault>
+    fn go_on(&mut self, alloc: Global, wakers: &mut Wakers) -> Result<(), HubFault>
         ensures told { self.new.note ≡ self.old.note }
+        ensures woken { AreWoken (connect_in (state P.place_of self.old.shard)) (connect_in (state P.place_of self.new.shard)) wakers.old wakers.new }
         ensures end { OnOk result (self.new.shard.place ≡ length (list_of self.new.note)) }
         ensures stopped { IfErr result (λ f. IsStopped f self.old.shard.index self.new.reader × IsStoppedIn Active f) }
         ensures kept { (self.new.shard.index ≡ self.old.shard.index) × (self.new.taken ≡ self.old.taken) × (self.new.activity ≡ self.old.activity) }
@@ -170,7 +214,7 @@ impl<J: Naming, P: Placing> Desk<J, P> {
         let end = self.note.len();
         while self.place() < end {
             let batch = self.next_batch()?;
-            self.apply_batch(alloc, &batch, end)?;
+            self.apply_batch(alloc, &batch, end, wakers)?;
         }
         Ok(())
     }
@@ -195,12 +239,19 @@ impl<J: Naming, P: Placing> Desk<J, P> {
     }
 
     // Applies the entries of a batch from the next one on, as far as the end.
-    fn apply_batch(&mut self, alloc: Global, batch: &Batch, end: u64) -> Result<(), HubFault>
+    fn apply_batch(
+        &mut self,
+        alloc: Global,
+        batch: &Batch,
+        end: u64,
+        wakers: &mut Wakers,
+    ) -> Result<(), HubFault>
         requires place { IsOf batch.now self.old.shard.place }
         requires stands { StandsIn J.config (list_of self.old.reader) batch.now }
         requires end { (self.old.shard.place < end) × (end ≡ length (list_of self.old.note)) }
         ensures same { (self.new.note ≡ self.old.note) × (self.new.reader ≡ self.old.reader) }
         ensures onward { OnOk result (self.old.shard.place < self.new.shard.place) }
+        ensures woken { AreWoken (connect_in (state P.place_of self.old.shard)) (connect_in (state P.place_of self.new.shard)) wakers.old wakers.new }
         ensures stopped { IfErr result (λ f. f ≡ faults.Memory) }
         ensures kept { (self.new.shard.index ≡ self.old.shard.index) × (self.new.taken ≡ self.old.taken) × (self.new.activity ≡ self.old.activity) }
     {
@@ -209,26 +260,33 @@ impl<J: Naming, P: Placing> Desk<J, P> {
         let last = first + left.min(end - first);
         let mut place = first;
         while place < last {
-            self.step(alloc, batch, place)?;
+            self.step(alloc, batch, place, wakers)?;
             place += 1;
         }
         Ok(())
     }
 
     // Applies the next entry.
-    fn step(&mut self, alloc: Global, batch: &Batch, place: u64) -> Result<(), HubFault>
+    fn step(
+        &mut self,
+        alloc: Global,
+        batch: &Batch,
+        place: u64,
+        wakers: &mut Wakers,
+    ) -> Result<(), HubFault>
         requires next { place ≡ self.old.shard.place }
         requires place { IsOf batch.now place }
         requires stands { StandsIn J.config (list_of self.old.reader) batch.now }
         requires within { place < length (list_of self.old.note) }
         ensures same { (self.new.note ≡ self.old.note) × (self.new.reader ≡ self.old.reader) }
         ensures ok { OnOk result (self.new.shard.place ≡ place + 1) }
+        ensures woken { AreWoken (connect_in (state P.place_of self.old.shard)) (connect_in (state P.place_of self.new.shard)) wakers.old wakers.new }
         ensures stopped { IfErr result (λ f. f ≡ faults.Memory) }
         ensures kept { (self.new.shard.index ≡ self.old.shard.index) × (self.new.taken ≡ self.old.taken) × (self.new.activity ≡ self.old.activity) }
     {
         // Read for the prover: the contract of `len` bounds the length of the list, and so the next place.
         let _end = self.note.len();
-        match self.shard.apply(alloc, entry_of(batch, place)) {
+        match self.shard.apply(alloc, entry_of(batch, place), wakers) {
             Ok(()) => Ok(()),
             Err(_) => Err(HubFault::Memory),
         }
@@ -240,6 +298,7 @@ impl<J: Naming, P: Placing> Desk<J, P> {
         ensures answer { IfSome result (λ a. answer_over J.config self.old.note ticket.place ≡ Some a) }
         ensures filed { result ≡ (if nat_eq ticket.shard self.old.shard.index then filed_answer (connect_in (state P.place_of self.old.shard) ticket.place) else None) }
         ensures taken { self.new.taken ≡ (if is_some result then self.old.taken ++ ticket.place ∷ [] else self.old.taken) }
+        ensures waiting { (p : ℕ) → waker_of (connect_in (state P.place_of self.new.shard) p) ≡ waker_of (connect_in (state P.place_of self.old.shard) p) }
         ensures same { (self.new.note ≡ self.old.note) × (self.new.reader ≡ self.old.reader) × (self.new.activity ≡ self.old.activity) }
         ensures stands { (self.new.shard.index ≡ self.old.shard.index) × (self.new.shard.place ≡ self.old.shard.place) }
     {
@@ -253,14 +312,40 @@ impl<J: Naming, P: Placing> Desk<J, P> {
     }
 
     /// Gives the answer that is filed under a ticket; else brings the shard up to the longest note, the pass's included, and
-    /// looks again. The pass then has seen no less than that note.
-    #[tactic(auto, using(crate::proofs::Held::over_longer))]
+    /// looks again. The pass then has seen no less than that note. Says which wakers it put into the list: those beside the
+    /// connects that are answered.
     pub(crate) fn poll<G: Gate>(
         &mut self,
         alloc: Global,
         gate: &G,
         pass: &mut Note<J>,
         ticket: Ticket,
+        wakers: &mut Wakers,
+    ) -> (Result<Option<Answer>, HubFault>, Woken)
+        requires { ticket.shard ≡ self.old.shard.index }
+        ensures seen { IsPrefix pass.old pass.new }
+        ensures answer { IfOk result.0 (λ o. IfSome o (λ a. answer_over J.config pass.new ticket.place ≡ Some a)) }
+        ensures none { IfOk result.0 (λ o. IfNone o (IsLevelWithout (placed_by J.config J.config.shards J.placing) ticket pass.new)) }
+        ensures filed { IfSome (filed_answer (connect_in (state P.place_of self.old.shard) ticket.place)) (λ a. result.0 ≡ Ok (Some a)) }
+        ensures stopped { IfErr result.0 (λ f. IsStopped f ticket.shard pass.new × IsStoppedIn self.old.activity f) }
+        ensures woken { AreWoken (connect_in (state P.place_of self.old.shard)) (connect_in (state P.place_of self.new.shard)) wakers.old wakers.new }
+        ensures put { wakers.new ≡ wakers.old ++ result.1 }
+        ensures kept { (self.new.shard.index ≡ self.old.shard.index) × (self.new.activity ≡ self.old.activity) }
+    {
+        let before = listed(wakers);
+        let answer = self.look(alloc, gate, pass, ticket, wakers);
+        (answer, Woken::since(before, wakers))
+    }
+
+    // Gives the answer, as `poll` does.
+    #[tactic(auto, using(crate::proofs::Held::over_longer))]
+    fn look<G: Gate>(
+        &mut self,
+        alloc: Global,
+        gate: &G,
+        pass: &mut Note<J>,
+        ticket: Ticket,
+        wakers: &mut Wakers,
     ) -> Result<Option<Answer>, HubFault>
         requires { ticket.shard ≡ self.old.shard.index }
         ensures seen { IsPrefix pass.old pass.new }
@@ -268,13 +353,14 @@ impl<J: Naming, P: Placing> Desk<J, P> {
         ensures none { IfOk result (λ o. IfNone o (IsLevelWithout (placed_by J.config J.config.shards J.placing) ticket pass.new)) }
         ensures filed { IfSome (filed_answer (connect_in (state P.place_of self.old.shard) ticket.place)) (λ a. result ≡ Ok (Some a)) }
         ensures stopped { IfErr result (λ f. IsStopped f ticket.shard pass.new × IsStoppedIn self.old.activity f) }
+        ensures woken { AreWoken (connect_in (state P.place_of self.old.shard)) (connect_in (state P.place_of self.new.shard)) wakers.old wakers.new }
         ensures kept { (self.new.shard.index ≡ self.old.shard.index) × (self.new.activity ≡ self.old.activity) }
     {
         if let Some(answer) = self.take(ticket) {
             *pass = pass.longer(&self.note);
             return Ok(Some(answer));
         }
-        match self.bring(alloc, gate, pass) {
+        match self.bring(alloc, gate, pass, wakers) {
             Ok(()) => {
                 *pass = self.note.again();
                 Ok(self.take(ticket))
@@ -284,15 +370,6 @@ impl<J: Naming, P: Placing> Desk<J, P> {
                 Err(fault)
             }
         }
-    }
-
-    /// The wakers of those whose connects were answered since the last call. They are to be dropped, which wakes them, once the
-    /// shard's lock is let go.
-    pub(crate) fn take_wakers(&mut self, alloc: Global) -> Vec<Waker>
-        ensures same { (self.new.shard ≡ self.old.shard) × (self.new.note ≡ self.old.note) × (self.new.reader ≡ self.old.reader) }
-        ensures kept { (self.new.taken ≡ self.old.taken) × (self.new.activity ≡ self.old.activity) }
-    {
-        self.shard.take_wakers(alloc)
     }
 
     /// Leaves a waker beside a held connect, as the shard does, and says so.

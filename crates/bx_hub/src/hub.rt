@@ -1,5 +1,5 @@
 //! The calls of the hub: which locks each takes, and in which order.
-ghost use Rattle.std.specs.Prelude.{◌≡◌, ◌≢◌, ◌⊎◌, ◌≤◌, ◌<◌, [], length, Some, IfOk, IfErr, IfSome, IfNone, nat_lt};
+ghost use Rattle.std.specs.Prelude.{◌≡◌, ◌≢◌, ◌⊎◌, ◌≤◌, ◌<◌, ◌++◌, [], length, Ok, None, Some, IsErr, OnOk, IfOk, IfErr, IfSome, IfNone, nat_lt};
 ghost use Rattle.std.specs.Arc.{arc_value};
 ghost use mathlib.Core.List.{IsPrefix};
 ghost use Rattle.bx_admission.specs.Slots.{placed_by};
@@ -10,13 +10,14 @@ ghost use Rattle.bx_hub.specs.Faults.{IsStopped};
 
 use crate::admission::{Admission, Admitted};
 use crate::brought::{Brought, Round};
-use crate::desk::{Desk, Watch};
+use crate::desk::{Desk, Watch, Woken};
 use crate::fault::{HubFault, PostFault, Posted, Ticked};
 use crate::least::{Least, Stood};
 use crate::pass::Pass;
 use bx_advice::Config;
 use bx_entry::{Arrival, Placing, Ticket, read_messages};
 use bx_message::{Answer, Message};
+use bx_shard::Wakers;
 use bx_window::{Naming, Note, Opened, log_pair};
 use bx_workers::Gate;
 use futures::task::Waker;
@@ -46,6 +47,7 @@ impl<J: Naming, P: Placing, G: Gate + Drop, R: Wait + Drop> Hub<J, P, G, R> {
     ghost use Rattle.bx_hub.specs.Bringing.{IsOfAll};
     ghost use Rattle.bx_hub.specs.Held.{IsLevelWithout, answer_over};
     ghost use Rattle.bx_hub.specs.Posts.{AreSlotsAt, IsAdmittedAt, IsOverrun, IsRefused};
+    ghost use Rattle.bx_hub.specs.Waking.{put_of};
     ghost use Rattle.bx_hub.specs.Watches.{IsLeftOrBack};
     ghost use Rattle.bx_hub.specs.declared.desk.watch.Watch.TheVariants as watches;
 
@@ -219,7 +221,7 @@ impl<J: Naming, P: Placing, G: Gate + Drop, R: Wait + Drop> Hub<J, P, G, R> {
     }
 
     // Brings each shard up to the end of what was seen, and tells the least place where one stands; none where a shard is not found.
-    // Who waited for what is answered by that is woken once the shard's lock is let go.
+    // Who waited for what a shard answers is woken once its lock is let go.
     fn bring_least<W: Wait>(
         &self,
         rt: &W,
@@ -232,23 +234,41 @@ impl<J: Naming, P: Placing, G: Gate + Drop, R: Wait + Drop> Hub<J, P, G, R> {
     {
         let mut least = Least::new(pass.len());
         for index in 0..self.desks.len() {
-            let Ok(mut guard) = self.desk(rt, index) else {
+            let mut wakers = Wakers::new(alloc);
+            let (stood, _woken) = self.stand_one(rt, alloc, index, pass, &mut wakers);
+            let Some(stood) = stood? else {
                 return Ok(None);
             };
-            let desk = &mut *guard;
-            let brought = desk.bring(alloc, &self.gate, pass);
-            let stood = Stood::of(desk);
-            let front = desk.front();
-            let wakers = desk.take_wakers(alloc);
-            drop(guard);
-            drop(wakers);
-            if let Err(HubFault::Overrun { shard, place }) = brought {
-                *pass = front;
-                return Err(PostFault::Overrun { shard, place });
-            }
             least.add(stood);
         }
         Ok(Some(least))
+    }
+
+    // Brings a shard up to the end of what was seen, and tells where it stands; nothing where it is not found. The wakers of those
+    // who waited for what it answers are put into the list, which whoever made it drops once the shard's lock is let go.
+    fn stand_one<W: Wait>(
+        &self,
+        rt: &W,
+        alloc: Global,
+        index: usize,
+        pass: &mut Note<J>,
+        wakers: &mut Wakers,
+    ) -> (Result<Option<Stood<J>>, PostFault>, Option<Woken>)
+        requires { index < length self.now.desks.items }
+        ensures seen { IsPrefix pass.old pass.new }
+        ensures stood { IfOk result.0 (λ o. IfSome o (λ s. s.index.value ≡ index)) }
+        ensures still { OnOk result.0 (pass.new ≡ pass.old) }
+        ensures overrun { IfErr result.0 (λ f. IsOverrun f pass.new) }
+        ensures put { wakers.new ≡ wakers.old ++ put_of result.1 }
+        ensures asked { IfNone result.1 (result.0 ≡ Ok None) }
+    {
+        match self.desk(rt, index) {
+            Ok(mut desk) => {
+                let (stood, woken) = desk.stand(alloc, &self.gate, pass, wakers);
+                (stood.map(Some), Some(woken))
+            }
+            Err(_) => (Ok(None), None),
+        }
     }
 
     // Brings each shard up to the note, and says what came of it.
@@ -257,24 +277,28 @@ impl<J: Naming, P: Placing, G: Gate + Drop, R: Wait + Drop> Hub<J, P, G, R> {
     {
         let mut round = Round::new(note);
         for index in 0..self.desks.len() {
-            round.add(self.bring_one(rt, alloc, index, note));
+            let mut wakers = Wakers::new(alloc);
+            round.add(self.bring_one(rt, alloc, index, note, &mut wakers));
         }
         round
     }
 
-    // Brings a shard up to the note. Who waited for what is answered by that is woken once the shard's lock is let go.
-    fn bring_one<W: Wait>(&self, rt: &W, alloc: Global, index: usize, note: &Note<J>) -> Brought<J>
+    // Brings a shard up to the note. The wakers of those who waited for what it answers are put into the list, which whoever made
+    // it drops once the shard's lock is let go.
+    fn bring_one<W: Wait>(
+        &self,
+        rt: &W,
+        alloc: Global,
+        index: usize,
+        note: &Note<J>,
+        wakers: &mut Wakers,
+    ) -> Brought<J>
         requires { index < length self.now.desks.items }
-        ensures { (result.index.value ≡ index) × (result.note.value ≡ note.now) }
+        ensures brought { (result.index.value ≡ index) × (result.note.value ≡ note.now) }
+        ensures put { wakers.new ≡ wakers.old ++ put_of result.woken }
     {
         match self.desk(rt, index) {
-            Ok(mut desk) => {
-                let brought = desk.bring_to(alloc, &self.gate, note);
-                let wakers = desk.take_wakers(alloc);
-                drop(desk);
-                drop(wakers);
-                brought
-            }
+            Ok(mut desk) => desk.bring_to(alloc, &self.gate, note, wakers),
             Err(other) => Brought::misplaced(&*other, &index, note),
         }
     }
@@ -316,17 +340,40 @@ impl<J: Naming, P: Placing, G: Gate + Drop, R: Wait + Drop> Hub<J, P, G, R> {
         if ticket.shard >= self.desks.len() {
             return Ok(None);
         }
+        let mut wakers = Wakers::new(alloc);
+        let (answer, _woken) = self.poll_one(rt, alloc, &mut pass.front, ticket, &mut wakers);
+        answer
+    }
+
+    // The answer, from a shard that is there, as `poll_answer` gives it. The wakers of those who waited for what the shard answers are
+    // put into the list, which whoever made it drops once the shard's lock is let go.
+    fn poll_one<W: Wait>(
+        &self,
+        rt: &W,
+        alloc: Global,
+        pass: &mut Note<J>,
+        ticket: Ticket,
+        wakers: &mut Wakers,
+    ) -> (Result<Option<Answer>, HubFault>, Option<Woken>)
+        requires { ticket.shard < length self.now.desks.items }
+        ensures seen { IsPrefix pass.old pass.new }
+        ensures answer { IfOk result.0 (λ o. IfSome o (λ a. answer_over J.config pass.new ticket.place ≡ Some a)) }
+        ensures none { IfOk result.0 (λ o. IfNone o (IsLevelWithout (placed_by J.config J.config.shards J.placing) ticket pass.new)) }
+        ensures stopped { IfErr result.0 (λ f. IsStopped f ticket.shard pass.new) }
+        ensures put { wakers.new ≡ wakers.old ++ put_of result.1 }
+        ensures asked { IfNone result.1 (IsErr result.0) }
+    {
         match self.desk(rt, ticket.shard) {
             Ok(mut desk) => {
-                let answer = desk.poll(alloc, &self.gate, &mut pass.front, ticket);
-                let wakers = desk.take_wakers(alloc);
-                drop(desk);
-                drop(wakers);
-                answer
+                let (answer, woken) = desk.poll(alloc, &self.gate, pass, ticket, wakers);
+                (answer, Some(woken))
             }
-            Err(other) => Err(HubFault::Misplaced {
-                found: other.index(),
-            }),
+            Err(other) => (
+                Err(HubFault::Misplaced {
+                    found: other.index(),
+                }),
+                None,
+            ),
         }
     }
 

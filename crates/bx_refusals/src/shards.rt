@@ -4,7 +4,7 @@ use crate::unlike::Unlike;
 use bx_entry::{ByRemainder, Entry, EntryKind, Ticket};
 use bx_message::{Answer, Event, RawJson, Sequence, SharedEvent, Text};
 use bx_names::{ChannelName, Pattern};
-use bx_shard::Shard;
+use bx_shard::{Shard, Wakers};
 use std::alloc::Global;
 use std::sync::Arc;
 
@@ -177,14 +177,15 @@ fn apply(alloc: Global, shard: &mut Shard<ByRemainder>, kind: EntryKind) -> Resu
         kind,
         rides: None,
     };
-    if shard.apply(alloc, &entry).is_ok() {
+    let mut wakers = Wakers::new(alloc);
+    if shard.apply(alloc, &entry, &mut wakers).is_ok() {
         return Ok(());
     }
     if shard.place() != place {
         return Err(Unlike::Wrong("a refused entry moves its shard"));
     }
     shard
-        .apply(alloc, &entry)
+        .apply(alloc, &entry, &mut wakers)
         .map_err(|_| Unlike::Wrong("not applied"))
 }
 

@@ -15,7 +15,7 @@ use bx_entry::{Arrival, Entry, Input, Placing, Ticket};
 use bx_history::History;
 use bx_message::Answer;
 use bx_reshard::redistribute;
-use bx_shard::{Filing, Shard};
+use bx_shard::{Filing, Shard, Wakers};
 use bx_workers::{Gate, WorkerCount};
 use std::alloc::{AllocError, Global};
 use std::sync::Arc;
@@ -291,7 +291,7 @@ impl<P: Placing> World<P> {
     }
 }
 
-// Applies the next entry of the list to a shard, where the entries from its place on are kept.
+// Applies the next entry of the list to a shard, where the entries from its place on are kept. Nobody waits for its answers.
 fn apply_next<P: Placing>(alloc: Global, shard: &mut Shard<P>, admission: &Admission) -> Applied
     requires kept { admission.now.first ≤ shard.old.place }
     requires end { length admission.now.list ≤ greatest_length }
@@ -300,7 +300,7 @@ fn apply_next<P: Placing>(alloc: Global, shard: &mut Shard<P>, admission: &Admis
     let Some(entry) = admission.entry(shard.place()) else {
         return Applied::Level;
     };
-    match shard.apply(alloc, entry) {
+    match shard.apply(alloc, entry, &mut Wakers::new(alloc)) {
         Ok(()) => Applied::Done,
         Err(_) => Applied::Memory,
     }

@@ -32,7 +32,7 @@ pub struct Left<J: Naming> {
 }
 
 impl<J: Naming> Left<J> {
-    ghost use Rattle.bx_hub.specs.Lying.{waker_of};
+    ghost use Rattle.bx_connects.specs.Waking.{waker_of};
     ghost use Rattle.bx_shard.specs.Seen.{state};
     ghost use Rattle.bx_shard.specs.States.{connect_in};
 

@@ -1,10 +1,14 @@
 use Rattle.std.proofs.Common.{◌≡◌, ◌≤◌, ◌-◌, length}
+use Rattle.bx_connects.specs.Waking.{AreWoken}
+use Rattle.bx_shard.specs.Seen.{state}
+use Rattle.bx_shard.specs.States.{connect_in}
 use Rattle.bx_window.specs.Steps.{list_of}
 use Rattle.bx_hub.proofs.desk.Desk.go_on.Given as goal
 
 abbrev pub invariant-loop-alloc : goal.invariant-loop-alloc
 invariant-loop-alloc g l = (l.self.note ≡ l.initial.self.note) × (l.self.shard.place ≤ l.end) × (l.self.shard.index ≡ l.initial.self.shard.index)
     × (l.self.taken ≡ l.initial.self.taken) × (l.self.activity ≡ l.initial.self.activity)
+    × AreWoken (connect_in (state g.P.Placing.place_of l.initial.self.shard)) (connect_in (state g.P.Placing.place_of l.self.shard)) l.initial.wakers l.wakers
 
 abbrev pub decreases-loop-alloc : goal.decreases-loop-alloc
 decreases-loop-alloc g l = l.end - l.self.shard.place
