@@ -7,4 +7,4 @@ use Rattle.bx_service.proofs.backend.HubBackendBackend.admit.Goals as goal
 pub new-requires : goal.new-requires
 new-requires g c =
     let config = g.J.Naming.config in
-    slots_below (placed_by config config.shards g.J.Naming.placing) (request_of c.now.result c.next.result (texts_of c.args.bodies)) c.in-Ok.posted.first c.pass-pass.result c.post.new.pass c.in-Ok.posted.slots c.in-Ok.ensures.admitted c.in-Ok.ensures.slots
+    slots_below (placed_by config config.shards g.J.Naming.placing) (request_of c.now.result c.next.result (texts_of c.args.bodies)) c.in-Ok-post.posted.first c.pass-pass.result c.post.new.pass c.in-Ok-post.posted.slots c.in-Ok-post.ensures.admitted c.in-Ok-post.ensures.slots
