@@ -164,9 +164,9 @@ impl<J: Naming, R: Wait + Drop> Writer<J, R, Ring<J>, Change<J>> {
     }
 
     /// Drops the batches that lie wholly below the place n, and no other: readers then find `Overrun` at their places. It
-    /// waits for the readers that are inside the ring. Where no memory is left, nothing changes; a trim that drops nothing
-    /// takes none, and waits for nobody.
-    #[tactic(auto, using(crate::proofs::Lists::begin_of_trimming, crate::proofs::Lists::list_of_trimming, crate::proofs::Lists::firsts_of_trimming))]
+    /// waits for the readers that are inside the ring. It takes no memory. `Err` where an earlier change is late and refused
+    /// again, and nothing changes then; a trim that drops nothing waits for nobody.
+    #[tactic(auto, using(crate::proofs::Lists::begin_of_trimming, crate::proofs::Lists::list_of_trimming, crate::proofs::Lists::firsts_of_trimming, crate::proofs::Rings::trimmed))]
     pub fn trim(&mut self, _alloc: Global, n: u64) -> Result<(), Memory>
         requires steps { length self.old < 2 ^ 62 }
         ensures grows { IsPrefix self.old self.new }
