@@ -179,6 +179,7 @@ impl<J: Naming, P: Placing> Desk<J, P> {
         ensures stood { IfOk result.0 (λ s. s.index.value ≡ self.old.shard.index) }
         ensures still { OnOk result.0 (pass.new ≡ pass.old) }
         ensures overrun { IfErr result.0 (λ f. IsOverrun f pass.new) }
+        ensures woken { AreWoken (connect_in (state P.place_of self.old.shard)) (connect_in (state P.place_of self.new.shard)) wakers.old wakers.new }
         ensures put { wakers.new ≡ wakers.old ++ result.1 }
     {
         let before = listed(wakers);

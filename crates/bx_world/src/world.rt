@@ -300,7 +300,8 @@ fn apply_next<P: Placing>(alloc: Global, shard: &mut Shard<P>, admission: &Admis
     let Some(entry) = admission.entry(shard.place()) else {
         return Applied::Level;
     };
-    match shard.apply(alloc, entry, &mut Wakers::new(alloc)) {
+    let mut wakers = Wakers::new(alloc);
+    match shard.apply(alloc, entry, &mut wakers) {
         Ok(()) => Applied::Done,
         Err(_) => Applied::Memory,
     }

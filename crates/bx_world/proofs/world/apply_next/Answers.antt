@@ -20,8 +20,8 @@ apply-requires-clause-end g c =
     let placed : c.in-Some.entry.now.place ≡ c.args.shard.now.place = entry_placed a.config a.list c.args.shard.now.place c.in-Some.entry.now there in
     subst (λ (n : ℕ). n < greatest_length) (sym placed) (place_before c.args.shard.now.place _ greatest_length (place_within a.config a.list c.args.shard.now.place c.in-Some.entry.now there) c.requires.end)
 
-pub returns-in-Err : goal.returns-in-Err
-returns-in-Err g c =
+pub returns : goal.returns
+returns g c =
     let a = c.args.admission.now in record {
       entry = c.in-Some.entry.now;
       next = sym (ap (slice_get (entries a.config a.list)) c.place.ensures.place) ∙ sym c.in-Some.ensures;
