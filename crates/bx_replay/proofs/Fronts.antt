@@ -2,9 +2,15 @@
 use Rattle.std.proofs.Common.{◌≡◌, ℕ, suc, ◌+◌, ◌<◌, Option, Some, None, List, [], ◌∷◌, ◌++◌, length, map, take, drop, drop-cons, take-append-drop, get_or, slice_get, Result, Ok, Err, refl, sym, ap, ◌∙◌, subst, append-nil, append_assoc, arith}
 use Rattle.std.proofs.lemmas.Grind.{flat_map-append}
 use Rattle.std.proofs.lemmas.List.{map-append}
-use Rattle.std.specs.Prelude.{IfSome, IsErr, OnErr, option_map, string_bytes}
+use Rattle.std.specs.Prelude.{IfErr, IfSome, IsErr, OnErr, option_map, string_bytes}
 use Rattle.std.proofs.Common.{Global, String}
 use Rattle.std.specs.Io.KnownBytes.{Appends}
+use Rattle.bx_script.specs.Output.{IsWriteFault}
+use Rattle.bx_script.specs.declared.error.ScriptFault.{ScriptFault}
+use Rattle.bx_script.specs.declared.error.ScriptFault.TheVariants.{Memory, Read, Write}
+use Rattle.bx_script.specs.declared.lines.Lines.{Lines}
+use Rattle.bx_script.specs.declared.output.Output.{Output}
+use Rattle.bx_replay.specs.Faults.{IsReplayFault}
 use Rattle.bx_replay.specs.Kept.{AreKept, IsKept, held_texts}
 use Rattle.bx_replay.specs.Serving.{Served, HandsFront, Prints, PrintsFront, Reads, seen_lines}
 use Rattle.bx_replay.specs.declared.kept.PendingLine.{PendingLine}
@@ -173,3 +179,10 @@ pub fault_known : {A E : Type 0} (config other : Config) (bytes a b : Option (Li
     IfSome bytes (λ bs. Writes a b r (replay_text config bs))
 fault_known config other None a b r same e f = tt
 fault_known config other (Some bs) a b r same e f = fault_writes a b r (replay_text config bs) (replay_text other bs) (ap (λ (c : Config). replay_text c bs) (sym same)) e f
+
+-- a write that fails behind the last line is why the replay ends
+pub written_behind : {T R W : Type 0} (lines : Lines R) (output : Output W) (r : Result T ScriptFault) → IfErr r (IsWriteFault output) → IfErr r (IsReplayFault lines output)
+written_behind lines output (Ok x) why = tt
+written_behind lines output (Err Memory) why = tt
+written_behind lines output (Err Read) why = absurd why
+written_behind lines output (Err Write) why = why

@@ -1,6 +1,6 @@
 use Rattle.std.proofs.Common.{◌∙◌}
 use Rattle.bx_fanout.specs.Rounds.{setup_in}
-use Rattle.bx_replay.proofs.Fronts.{fault_known, none_known}
+use Rattle.bx_replay.proofs.Fronts.{fault_known, none_known, written_behind}
 use Rattle.bx_replay.proofs.Steps.{replayed}
 use Rattle.bx_script.specs.Output.{written}
 use Rattle.bx_script.specs.Lines.{unread}
@@ -24,3 +24,6 @@ returns-clause-text g c =
     let e = c.in_ok-server.ensures in
     replayed c.args.config (setup_in s.round).config (unread g.R.Read.remaining c.args.lines.now) s.lines (written g.W.Write.contents c.args.writer.now) (written g.W.Write.contents c.answer_all.new.writer) (written g.W.Write.contents c.finish.new.writer) c.finish.result
     (e.config ∙ c.in_ok-first.ensures.config) e.all e.prints c.finish.ensures.text
+
+pub returns-clause-reason : goal.returns-clause-reason
+returns-clause-reason g c = written_behind c.answer_all.new.lines c.finish.new.writer c.finish.result c.finish.ensures.reason
