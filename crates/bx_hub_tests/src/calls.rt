@@ -146,10 +146,14 @@ pub fn refusal<J: Naming, P: Placing, G: Gate + Drop, H: Wait + Drop, R: Wait>(
     body: &str,
 ) -> Result<Option<PostFault>, Refused> {
     let arrival = arrival(alloc, body)?;
-    match hub.post(rt, alloc, pass, arrival) {
-        Ok(_) => Ok(None),
-        Err(refused) if is_of(refused.arrival(), body) => Ok(Some(refused.fault())),
-        Err(_) => Err(Refused),
+    let (fault, back) = match hub.post(rt, alloc, pass, arrival) {
+        Ok(_) => return Ok(None),
+        Err(refused) => (refused.fault(), refused.into_arrival()),
+    };
+    if is_of(&back, body) {
+        Ok(Some(fault))
+    } else {
+        Err(Refused)
     }
 }
 
