@@ -99,17 +99,17 @@ pub fn post<J: Naming, H: Wait + Drop, R: Wait>(
     place: u64,
     body: &str,
 ) -> Result<PostEnd, Unlike> {
-    let arrival = arrival(alloc, body)?;
-    let posted = match hub.post(rt, alloc, pass, arrival) {
-        Err(refused) if refused.fault() == PostFault::Memory => {
-            hub.post(rt, alloc, pass, refused.into_arrival())
-        }
-        posted => posted,
+    let refused = match hub.post(rt, alloc, pass, arrival(alloc, body)?) {
+        Ok(posted) => return end_of(alloc, said, place, posted),
+        Err(refused) => refused,
     };
-    let Ok(posted) = posted else {
+    if refused.fault() != PostFault::Memory {
         return Err(Unlike::Wrong("not posted"));
-    };
-    end_of(alloc, said, place, posted)
+    }
+    match hub.post(rt, alloc, pass, refused.into_arrival()) {
+        Ok(posted) => end_of(alloc, said, place, posted),
+        Err(_) => Err(Unlike::Wrong("refused once more")),
+    }
 }
 
 fn end_of<J: Naming>(
@@ -173,11 +173,15 @@ pub fn poll<J: Naming, H: Wait + Drop, R: Wait>(
     pass: &mut Pass<J>,
     ticket: Ticket,
 ) -> Result<Option<Answer>, Unlike> {
-    let answer = match hub.poll_answer(rt, alloc, pass, ticket) {
-        Err(stopped) if stopped.fault() == HubFault::Memory => {
-            hub.poll_answer(rt, alloc, pass, ticket)
-        }
-        answer => answer,
+    let stopped = match hub.poll_answer(rt, alloc, pass, ticket) {
+        Ok(answer) => return Ok(answer),
+        Err(stopped) => stopped,
     };
-    answer.map_err(|_| Unlike::Wrong("no telling"))
+    if stopped.fault() != HubFault::Memory {
+        return Err(Unlike::Wrong("no telling"));
+    }
+    match hub.poll_answer(rt, alloc, pass, ticket) {
+        Ok(answer) => Ok(answer),
+        Err(_) => Err(Unlike::Wrong("refused once more")),
+    }
 }
