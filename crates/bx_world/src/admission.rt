@@ -148,11 +148,7 @@ impl Admission {
 }
 
 // Takes what was planned at this very ledger into its list, and the entries into the backlog.
-fn take_in(
-    ledger: &mut Ledger,
-    backlog: &mut Backlog,
-    plan: Plan,
-) -> Result<Admitted, AllocError>
+fn take_in(ledger: &mut Ledger, backlog: &mut Backlog, plan: Plan) -> Result<Admitted, AllocError>
     requires { LeadsTo ledger.old plan.change plan.elements }
     ensures taken { IfOk result (λ a. (a ≡ record { first = plan.batch.first; slots = plan.slots })
         × (ledger.new ≡ record ledger.old { list = ledger.old.list ++ plan.elements; ready = ledger.new.ready })
