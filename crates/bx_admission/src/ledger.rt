@@ -22,8 +22,8 @@ use std::marker::Model;
 /// Who is live, and among how many shards sessions are placed. Contracts see the list of all that was admitted, which the
 /// program does not keep.
 ///
-/// What a request or a tick comes to is planned first, which changes nothing, and then committed, which takes no memory
-/// and refuses nothing.
+/// What a request or a tick comes to is planned first, which leaves the list as it is and has a record made for a session that is
+/// opened, and then committed, which takes no memory and refuses nothing.
 #[derive(Drop)]
 pub struct Ledger {
     registry: Registry,

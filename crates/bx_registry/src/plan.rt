@@ -36,7 +36,7 @@ pub struct TickPlan {
     pub change: Change,
 }
 
-/// Why nothing is planned. The registry is as before then.
+/// Why nothing is planned. The roll is as before then.
 #[derive(Clone, Copy, Debug, PartialEq, Eq)]
 pub enum AdmitFault {
     /// The moment is above the greatest that is taken.

@@ -22,8 +22,8 @@ use std::marker::Model;
 /// Who is live: the only place where a message is judged. Contracts see it as the roll of the registry that the
 /// messages and ticks so far lead to.
 ///
-/// What a request or a tick comes to is planned first, which changes nothing, and then committed, which takes no
-/// memory and refuses nothing.
+/// What a request or a tick comes to is planned first, which leaves the roll as it is and has a record made for a session that
+/// is opened, and then committed, which takes no memory and refuses nothing.
 #[derive(Drop)]
 pub struct Registry {
     config: Config,
