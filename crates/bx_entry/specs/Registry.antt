@@ -67,6 +67,22 @@ pub record Registry : Type 0 where
 abbrev pub empty_registry : Registry
 empty_registry = record { clock = 0; sessions = []; senders = NoneYet; judged = [] }
 
+-- what a rule asks: the sessions, how many were ever opened, and whose the messages so far of the request at hand are
+pub record State : Type 0 where
+  pub sessions : List Registered
+  pub opened : ℕ
+  pub senders : Senders
+
+-- what an element comes to: the state behind it, the kind of its entry and the rider that it is, the session whose accepted message it is, the hold
+-- granted to it, and its slot
+pub record Verdict : Type 0 where
+  pub state : State
+  pub kind : EntryKind
+  pub rides : Option Rider
+  pub sender : Option ℕ
+  pub hold : ℕ
+  pub slot : PlaceSlot
+
 -- ---- ids
 
 -- the last `width` hexadecimal digits of n, lower case
@@ -179,6 +195,10 @@ refusal config sessions p = first_case (cases_of config sessions p (message_kind
 abbrev pub hold_of : Config → Posted → ℕ
 hold_of config p = if p.sole && is_connect p.message then min config.timeout (unwrap_or p.message.timeout config.timeout) else 0
 
+-- when a session is due by a message at this moment that is held so long
+abbrev pub due_of : Config → ℕ → ℕ → ℕ
+due_of config moment hold = moment + hold + config.max_interval
+
 -- an accepted message of a session moves its due moment on, never back
 abbrev pub extended : ℕ → ℕ → List Registered → List Registered
 extended number due sessions = map (λ (r : Registered). if r.number == number then record r { due = max r.due due } else r) sessions
@@ -263,31 +283,34 @@ abbrev pub slot_with : Option Rider → PlaceSlot → PlaceSlot
 slot_with None slot = slot
 slot_with (Some rider) slot = Waiting rider.session
 
--- ---- one element after another
-
--- this found at the next place
-abbrev pub found_at : Registry → ℕ → EntryKind → Option Rider → Option ℕ → ℕ → PlaceSlot → Judged
-found_at r moment kind rides sender hold slot =
-    record { entry = record { place = length r.judged; moment = moment; kind = kind; rides = rides }; sender = sender; hold = hold; slot = slot_with rides slot }
-
--- the registry with one more place
-abbrev pub noted : Registry → ℕ → List Registered → Senders → Judged → Registry
-noted r moment sessions senders found = record { clock = moment; sessions = sessions; senders = senders; judged = r.judged ++ found ∷ [] }
+-- ---- what an element comes to
 
 -- a refused message changes nothing but the list
-abbrev pub refused : Config → Registry → ℕ → Posted → Error → Option Registered → Registry
-refused config r moment p error sender =
-    noted r moment r.sessions (senders_behind p Mixed) (found_at r moment Refused None None 0
-    (Ready (reply_to config (message_kind_of p.message.channel) p.message (option_map (λ (s : Registered). s.client) sender) (Failed error) replies.NoAck)))
+abbrev pub refused : Config → State → Posted → Error → Option Registered → Verdict
+refused config state p error sender = record {
+  state = record state { senders = senders_behind p Mixed };
+  kind = Refused;
+  rides = None;
+  sender = None;
+  hold = 0;
+  slot = Ready (reply_to config (message_kind_of p.message.channel) p.message (option_map (λ (s : Registered). s.client) sender) (Failed error) replies.NoAck);
+}
+
+-- a session as it is opened
+abbrev pub newcomer : Config → ℕ → Posted → ℕ → Registered
+newcomer config moment p number =
+    record { number = number; client = client_id p.nonce number; ack = is_ack p.message.ack; due = due_of config moment 0; live = true }
 
 -- a new session, under the next number
-abbrev pub opened : Config → Registry → ℕ → Posted → ℕ → Bool → Registry
-opened config r moment p number ack =
-    noted r moment
-    (r.sessions ++ record { number = number; client = client_id p.nonce number; ack = ack; due = moment + config.max_interval; live = true } ∷ [])
-    (senders_behind p Mixed)
-    (found_at r moment (Opened number ack) None (Some number) 0
-    (Ready (reply_to config MessageKind.Handshake p.message (Some (client_id p.nonce number)) advice.Opened (if ack then replies.AckTrue else replies.NoAck))))
+abbrev pub opened : Config → State → ℕ → Posted → ℕ → Verdict
+opened config state moment p number = record {
+  state = record { sessions = state.sessions ++ newcomer config moment p number ∷ []; opened = number; senders = senders_behind p Mixed };
+  kind = Opened number (is_ack p.message.ack);
+  rides = None;
+  sender = Some number;
+  hold = 0;
+  slot = Ready (reply_to config MessageKind.Handshake p.message (Some (client_id p.nonce number)) advice.Opened (if is_ack p.message.ack then replies.AckTrue else replies.NoAck));
+}
 
 -- the entry's kind for an accepted message of a live session (no such message is a handshake or to an unknown meta channel)
 abbrev pub kind_for : MessageKind → Posted → Registered → ℕ → EntryKind
@@ -319,14 +342,24 @@ left_by MessageKind.Disconnect number sessions = closed number sessions
 left_by MessageKind.Publish number sessions = sessions
 left_by MessageKind.UnknownMeta number sessions = sessions
 
+-- the rider that an accepted message of a live session is, if it is one
+abbrev pub rider_by : Config → Senders → MessageKind → Posted → Registered → Option Rider
+rider_by config senders message_kind p s = rider_for (is_rider config senders message_kind p s) s.number (slot_for config message_kind p s)
+
 -- an accepted message of a live session
-abbrev pub served : Config → Registry → ℕ → Posted → MessageKind → Registered → ℕ → Registry
-served config r moment p message_kind s hold =
-    noted r moment
-    (left_by message_kind s.number (extended s.number (moment + hold + config.max_interval) r.sessions))
-    (senders_behind p (joined r.senders s.number))
-    (found_at r moment (kind_for message_kind p s hold) (rider_for (is_rider config r.senders message_kind p s) s.number (slot_for config message_kind p s)) (Some s.number) hold
-    (slot_for config message_kind p s))
+abbrev pub served : Config → State → ℕ → Posted → MessageKind → Registered → ℕ → Verdict
+served config state moment p message_kind s hold = record {
+  state = record {
+    sessions = left_by message_kind s.number (extended s.number (due_of config moment hold) state.sessions);
+    opened = state.opened;
+    senders = senders_behind p (joined state.senders s.number);
+  };
+  kind = kind_for message_kind p s hold;
+  rides = rider_by config state.senders message_kind p s;
+  sender = Some s.number;
+  hold = hold;
+  slot = slot_with (rider_by config state.senders message_kind p s) (slot_for config message_kind p s);
+}
 
 -- the entry's kind for an accepted message of no session (no such message is any but a publish)
 abbrev pub sessionless_kind : MessageKind → Message → EntryKind
@@ -339,25 +372,30 @@ sessionless_kind MessageKind.Publish m = Publish (event_of m)
 sessionless_kind MessageKind.UnknownMeta m = Refused
 
 -- an accepted message of no session changes no session, and has its success at once
-abbrev pub sessionless : Config → Registry → ℕ → Posted → MessageKind → Registry
-sessionless config r moment p message_kind =
-    noted r moment r.sessions (senders_behind p Mixed) (found_at r moment (sessionless_kind message_kind p.message) None None 0
-    (Ready (reply_to config message_kind p.message None Done replies.NoAck)))
+abbrev pub sessionless : Config → State → Posted → MessageKind → Verdict
+sessionless config state p message_kind = record {
+  state = record state { senders = senders_behind p Mixed };
+  kind = sessionless_kind message_kind p.message;
+  rides = None;
+  sender = None;
+  hold = 0;
+  slot = Ready (reply_to config message_kind p.message None Done replies.NoAck);
+}
 
 -- an accepted message that names no session: a handshake opens one, any other is a message of none
-abbrev pub unnamed : Config → Registry → ℕ → Posted → Bool → Registry
-unnamed config r moment p true = opened config r moment p (length r.sessions + 1) (is_ack p.message.ack)
-unnamed config r moment p false = sessionless config r moment p (message_kind_of p.message.channel)
+abbrev pub unnamed : Config → State → ℕ → Posted → Bool → Verdict
+unnamed config state moment p true = opened config state moment p (state.opened + 1)
+unnamed config state moment p false = sessionless config state p (message_kind_of p.message.channel)
 
 -- an accepted message, by the session that it names
-abbrev pub accepted : Config → Registry → ℕ → Posted → Option Registered → Registry
-accepted config r moment p None = unnamed config r moment p (is_handshake p.message)
-accepted config r moment p (Some s) = served config r moment p (message_kind_of p.message.channel) s (hold_of config p)
+abbrev pub accepted : Config → State → ℕ → Posted → Option Registered → Verdict
+accepted config state moment p None = unnamed config state moment p (is_handshake p.message)
+accepted config state moment p (Some s) = served config state moment p (message_kind_of p.message.channel) s (hold_of config p)
 
 -- a message is refused or accepted
-abbrev pub judged_by : Config → Registry → ℕ → Posted → Option Registered → Option Error → Registry
-judged_by config r moment p sender (Some error) = refused config r moment p error sender
-judged_by config r moment p sender None = accepted config r moment p sender
+abbrev pub judged_by : Config → State → ℕ → Posted → Option Registered → Option Error → Verdict
+judged_by config state moment p sender (Some error) = refused config state p error sender
+judged_by config state moment p sender None = accepted config state moment p sender
 
 -- the session that a message names; a handshake names none
 abbrev pub named_by : List Registered → MessageKind → Message → Option Registered
@@ -369,13 +407,40 @@ named_by sessions MessageKind.Disconnect m = sender_of sessions m.client
 named_by sessions MessageKind.Publish m = sender_of sessions m.client
 named_by sessions MessageKind.UnknownMeta m = None
 
--- what is found of the next element: it has the greatest moment so far, and is judged by the sessions before it
+-- what a message comes to at this moment
+abbrev pub verdict : Config → State → ℕ → Posted → Verdict
+verdict config state moment p =
+    judged_by config state moment p (named_by state.sessions (message_kind_of p.message.channel) p.message) (refusal config state.sessions p)
+
+-- a tick closes the sessions that are overdue
+abbrev pub tick_verdict : State → ℕ → Verdict
+tick_verdict state moment = record {
+  state = record state { sessions = swept moment state.sessions };
+  kind = Tick (overdue moment state.sessions);
+  rides = None;
+  sender = None;
+  hold = 0;
+  slot = NoSlot;
+}
+
+-- ---- one element after another
+
+-- what was found at this place
+abbrev pub found_at : ℕ → ℕ → Verdict → Judged
+found_at place moment v = record { entry = record { place = place; moment = moment; kind = v.kind; rides = v.rides }; sender = v.sender; hold = v.hold; slot = v.slot }
+
+-- the registry with one more place
+abbrev pub noted : Registry → ℕ → Verdict → Registry
+noted r moment v = record { clock = moment; sessions = v.state.sessions; senders = v.state.senders; judged = r.judged ++ found_at (length r.judged) moment v ∷ [] }
+
+-- what a rule asks of the registry
+abbrev pub state_of : Registry → State
+state_of r = record { sessions = r.sessions; opened = length r.sessions; senders = r.senders }
+
+-- the next element has the greatest moment so far, and is judged by the sessions before it
 abbrev pub judge : Config → Registry → Listed → Registry
-judge config r (Post p) =
-    judged_by config r (max r.clock p.moment) p (named_by r.sessions (message_kind_of p.message.channel) p.message) (refusal config r.sessions p)
-judge config r (messages.Tick moment) =
-    let now = max r.clock moment in
-    noted r now (swept now r.sessions) r.senders (found_at r now (Tick (overdue now r.sessions)) None None 0 NoSlot)
+judge config r (Post p) = noted r (max r.clock p.moment) (verdict config (state_of r) (max r.clock p.moment) p)
+judge config r (messages.Tick moment) = noted r (max r.clock moment) (tick_verdict (state_of r) (max r.clock moment))
 
 -- the registry after the whole list
 abbrev pub registry : Config → List Listed → Registry

@@ -10,7 +10,7 @@ use Rattle.bx_entry.specs.Listing as messages
 use Rattle.bx_entry.specs.declared.entry.Entry.{Entry}
 use Rattle.bx_entry.specs.declared.entry.EntryKind.{EntryKind}
 use Rattle.bx_entry.specs.declared.entry.EntryKind.TheVariants.{Publish}
-use Rattle.bx_entry.specs.Registry.{Registry, Registered, Judged, PlaceSlot, Ready, Waiting, NoSlot, event_of, kind_for, judge, judged_by, named_by, refusal, hold_of, registry, empty_registry, entries_of, unnamed, sessionless_kind}
+use Rattle.bx_entry.specs.Registry.{Registry, Registered, Judged, PlaceSlot, Ready, Waiting, NoSlot, event_of, kind_for, judge, judged_by, named_by, refusal, hold_of, registry, empty_registry, entries_of, unnamed, sessionless_kind, noted, state_of}
 use Rattle.bx_entry.specs.Sessions.{Publication, Filed, session, unopened}
 use Rattle.bx_entry.specs.Answers.{PlacedAnswer, answer_of, events_of, answer_by, answer_at}
 use Rattle.bx_theory.specs.Laws.{Each, EachOf, Slice, PlacesFrom}
@@ -63,11 +63,11 @@ record JudgedFrom (r t : Registry) (x : Listed) : Type 0 where
   judged : t.judged ≡ r.judged ++ found ∷ []
   post : OfPost x found.entry.kind
 
-unnamed_post : (config : Config) (r : Registry) (moment : ℕ) (p : Posted) (b : Bool) → JudgedFrom r (unnamed config r moment p b) (Post p)
+unnamed_post : (config : Config) (r : Registry) (moment : ℕ) (p : Posted) (b : Bool) → JudgedFrom r (noted r moment (unnamed config (state_of r) moment p b)) (Post p)
 unnamed_post config r moment p true = record { found = _; judged = refl; post = λ e k. cc }
 unnamed_post config r moment p false = record { found = _; judged = refl; post = sessionless_of_post (message_kind_of p.message.channel) p refl }
 
-judged_by_post : (config : Config) (r : Registry) (moment : ℕ) (p : Posted) (sender : Option Registered) (error : Option Error) → JudgedFrom r (judged_by config r moment p sender error) (Post p)
+judged_by_post : (config : Config) (r : Registry) (moment : ℕ) (p : Posted) (sender : Option Registered) (error : Option Error) → JudgedFrom r (noted r moment (judged_by config (state_of r) moment p sender error)) (Post p)
 judged_by_post config r moment p sender (Some error) = record { found = _; judged = refl; post = λ e k. cc }
 judged_by_post config r moment p None None = unnamed_post config r moment p (is_handshake p.message)
 judged_by_post config r moment p (Some s) None = record { found = _; judged = refl; post = kind_of_post (message_kind_of p.message.channel) p s (hold_of config p) refl }

@@ -6,6 +6,7 @@ use Rattle.std.proofs.lemmas.List.{length-map}
 use Rattle.std.proofs.lemmas.List.Sums.{fold-append}
 use Rattle.std.proofs.lemmas.Bool.{eqb-false}
 use Rattle.bx_entry.specs.Registry.{Registered, extended, closed}
+use Rattle.bx_roster.proofs.Sessions.{AllLive-push}
 use Rattle.bx_roster.specs.Live.{Members, live_in}
 use Rattle.bx_roster.specs.Tables.{IsTable, AllLive, known_of, known_at}
 use Rattle.bx_roster.specs.Edits.{edited, CanEdit, CanEditEach, IsNext}
@@ -20,10 +21,6 @@ use Rattle.bx_registry.specs.Drafts.{IsDrafted, known_after}
 pub can-more : (ms : Members) (es : List Edit) (e : Edit) → CanEditEach ms es → CanEdit (fold edited ms es) e → CanEditEach ms (es ++ e ∷ [])
 can-more ms [] e can one = (one, tt)
 can-more ms (x ∷ es) e can one = (can.0, can-more (edited ms x) es e can.1 one)
-
-AllLive-push : (rs : List Registered) (s : Registered) → AllLive rs → s.live ≡ true → AllLive (rs ++ s ∷ [])
-AllLive-push [] s all e = (e, tt)
-AllLive-push (r ∷ rs) s all e = (all.0, AllLive-push rs s all.1 e)
 
 extend-all : (n due : ℕ) (rs : List Registered) → AllLive rs → live_in (extended n due rs) ≡ extended n due rs
 extend-all n due rs all = live_in-extended n due rs ∙ ap (extended n due) (live_in-all rs all)

@@ -1,5 +1,5 @@
 -- What a message comes to, by the edit, the entry and the slot that are made for it.
-use Rattle.std.proofs.Common.{◌≡◌, ℕ, ◌+◌, ◌<◌, ◌^◌, Bool, true, false, List, [], ◌∷◌, length, refl, sym, ap, subst, ◌∙◌, cond, arith, Result, Ok, Err, eq-eqb}
+use Rattle.std.proofs.Common.{◌≡◌, ℕ, ◌+◌, ◌<◌, ◌^◌, Bool, true, false, List, [], ◌∷◌, ◌++◌, length, refl, sym, ap, subst, ◌∙◌, cond, arith, Result, Ok, Err, eq-eqb}
 use Rattle.std.specs.Prelude.{◌&&◌, ◌==◌, not, nat_le, max, Option, Some, None, IsSome, IfOk, MatchOption, is_some, option_map, if◌then◌else◌}
 use Rattle.std.specs.Str.{bytes_eq}
 use Rattle.std.proofs.lemmas.Bool.{cond-true, leb-false}
@@ -25,13 +25,14 @@ use Rattle.bx_entry.specs.declared.entry.Rider.{Rider}
 use Rattle.bx_entry.specs.declared.senders.Senders.{Senders}
 use Rattle.bx_entry.specs.declared.senders.Senders.TheVariants.{Mixed}
 use Rattle.bx_entry.specs.declared.entry.EntryKind.TheVariants as entries
-use Rattle.bx_entry.specs.Registry.{Registered, is_version, is_polling, cases_of, client_id, closed, count_live, extended, hold_of, is_ack, is_rider, joined, kind_for, left_by, live_with_id, named_by, refusal, rider_for, sender_of, senders_behind, slot_for, slot_with, PlaceSlot}
+use Rattle.bx_entry.specs.Registry.{due_of, newcomer, rider_by, sessionless_kind, verdict, judged_by, unnamed, Registered, is_version, is_polling, cases_of, client_id, closed, count_live, extended, hold_of, is_ack, is_rider, joined, kind_for, left_by, live_with_id, named_by, refusal, rider_for, sender_of, senders_behind, slot_for, slot_with, PlaceSlot}
 use Rattle.bx_roster.specs.Live.{Members, live_in, with_live}
 use Rattle.bx_roster.specs.Tables.{known_of, known_at, AllLive}
 use Rattle.bx_roster.specs.Edits.{edited, CanEdit}
 use Rattle.bx_roster.specs.declared.edit.Edit.TheVariants.{Open}
+use Rattle.bx_roster.proofs.Sessions.{AllLive-push}
 use Rattle.bx_roster.proofs.Tables.{live_in-all}
-use Rattle.bx_registry.specs.Rolls.{newcomer, ridden, verdict, judged_by, unnamed}
+use Rattle.bx_registry.specs.Rolls.{members_after, state_of}
 use Rattle.bx_registry.specs.Drafts.{IsSender}
 use Rattle.bx_registry.specs.Plans.{planned_at}
 use Rattle.bx_registry.specs.Judgements.{edit_for, IsRidden, IsVerdict}
@@ -45,13 +46,17 @@ all_four (Err e) P Q R S X f p q r s = tt
 
 -- ---- a refused message
 
-pub refused-verdict : (config : Config) (ms : Members) (senders : Senders) (moment place : ℕ) (p : Posted) (error : Error) (j : Judgement) (client : Option (List ℕ)) →
+-- the sessions of a table are as they were where nothing comes of them
+same-members : (ms : Members) → AllLive ms.live → ms ≡ record ms { live = live_in ms.live }
+same-members ms all = ap (λ (live : List Registered). record ms { live = live }) (sym (live_in-all ms.live all))
+
+pub refused-verdict : (config : Config) (ms : Members) (senders : Senders) (moment place : ℕ) (p : Posted) (error : Error) (j : Judgement) (client : Option (List ℕ)) → AllLive ms.live →
     refusal config ms.live p ≡ Some error → client ≡ option_map (λ (s : Registered). s.client) (named_by ms.live (message_kind_of p.message.channel) p.message) →
     j.edit ≡ None → (j.kind ≡ entries.Refused) × (j.rides ≡ None) → j.senders ≡ senders_behind p Mixed →
     j.slot ≡ Ready (reply_to config (message_kind_of p.message.channel) p.message client (Failed error) replies.NoAck) →
-    IsVerdict ms place (verdict config ms senders moment p) j
-refused-verdict config ms senders moment place p error j client is who e f behind g = rw is record {
-  members = rw e refl;
+    IsVerdict ms place (verdict config (state_of ms senders) moment p) j
+refused-verdict config ms senders moment place p error j client all is who e f behind g = rw is record {
+  members = rw e (same-members ms all);
   can = rw e tt;
   behind = behind;
   what = f.0;
@@ -80,19 +85,37 @@ pub opened-verdict : (config : Config) (ms : Members) (senders : Senders) (momen
     refusal config ms.live p ≡ None → named_by ms.live (message_kind_of p.message.channel) p.message ≡ None →
     j.edit ≡ Some (Open (newcomer config moment p n)) → (j.kind ≡ entries.Opened n (is_ack p.message.ack)) × (j.rides ≡ None) → j.senders ≡ senders_behind p Mixed →
     j.slot ≡ Ready (reply_to config Handshake p.message (Some (client_id p.nonce n)) advice.Opened (if is_ack p.message.ack then replies.AckTrue else replies.NoAck)) →
-    IsVerdict ms place (verdict config ms senders moment p) j
+    IsVerdict ms place (verdict config (state_of ms senders) moment p) j
 opened-verdict config ms senders moment place n p j all limit number small opens is who e f behind g =
     let full = room config ms.live p (subst (λ (k : MessageKind). first_case (cases_of config ms.live p k) ≡ None) (handshake-kind p.message opens) is) in
     let free : length ms.live < ms.limit = omega (arith, leb-false config.limits.sessions (count_live ms.live) full, limit, ap length (live_in-all ms.live all)) in
-    let one : IsVerdict ms place (unnamed config ms moment p true) j = record {
-      members = rw (e, number) refl;
+    let one : IsVerdict ms place (unnamed config (state_of ms senders) moment p true) j = record {
+      members = rw (e, number) (same-members (record ms { opened = ms.opened + 1; live = ms.live ++ newcomer config moment p (ms.opened + 1) ∷ [] }) (AllLive-push ms.live _ all refl));
       can = rw (e, number) (record { room = free; number = refl; small = rw (← number) small; named = drop-client_id p.nonce (ms.opened + 1); live = refl }, tt);
       behind = behind;
       what = rw (f.0, number) refl;
       rider = f.1;
       answer = rw (g, number) refl;
     } in
-    rw (is, who) (subst (λ (b : Bool). IsVerdict ms place (unnamed config ms moment p b) j) (sym opens) one)
+    rw (is, who) (subst (λ (b : Bool). IsVerdict ms place (unnamed config (state_of ms senders) moment p b) j) (sym opens) one)
+
+-- ---- a message of no session
+
+pub sessionless-verdict : (config : Config) (ms : Members) (senders : Senders) (moment place : ℕ) (p : Posted) (j : Judgement) → AllLive ms.live →
+    is_handshake p.message ≡ false → refusal config ms.live p ≡ None → named_by ms.live (message_kind_of p.message.channel) p.message ≡ None →
+    j.edit ≡ None → (j.kind ≡ sessionless_kind (message_kind_of p.message.channel) p.message) × (j.rides ≡ None) → j.senders ≡ senders_behind p Mixed →
+    j.slot ≡ Ready (reply_to config (message_kind_of p.message.channel) p.message None advice.Done replies.NoAck) →
+    IsVerdict ms place (verdict config (state_of ms senders) moment p) j
+sessionless-verdict config ms senders moment place p j all other is who e f behind g =
+    let one : IsVerdict ms place (unnamed config (state_of ms senders) moment p false) j = record {
+      members = rw e (same-members ms all);
+      can = rw e tt;
+      behind = behind;
+      what = f.0;
+      rider = f.1;
+      answer = rw g refl;
+    } in
+    rw (is, who) (subst (λ (b : Bool). IsVerdict ms place (unnamed config (state_of ms senders) moment p b) j) (sym other) one)
 
 -- ---- the session that is named
 
@@ -188,37 +211,37 @@ slot-for config Publish p s r e f = refl
 slot-for config UnknownMeta p s r e f = refl
 
 ridden-for : (config : Config) (senders : Senders) (message_kind : MessageKind) (p : Posted) (s : Sender) (r : Registered) → r.number ≡ s.number → r.client ≡ s.client.now → r.ack ≡ s.ack →
-    ridden config senders p message_kind (named s) ≡ ridden config senders p message_kind r
+    rider_by config senders message_kind p (named s) ≡ rider_by config senders message_kind p r
 ridden-for config senders message_kind p s r e f a =
     ap (λ (answer : PlaceSlot). rider_for (is_rider config senders message_kind p (named s)) s.number answer) (slot-for config message_kind p s r e f) ∙ rw (e, a) refl
 
 served-by : (config : Config) (ms : Members) (senders : Senders) (moment place due : ℕ) (p : Posted) (s : Sender) (o : Option Registered) (j : Judgement) →
-    o ≡ named_by ms.live (message_kind_of p.message.channel) p.message → IsSender o s.number s.client.now s.ack → due ≡ moment + hold_of config p + config.max_interval →
+    o ≡ named_by ms.live (message_kind_of p.message.channel) p.message → IsSender o s.number s.client.now s.ack → due ≡ due_of config moment (hold_of config p) →
     j.edit ≡ Some (edit_for (message_kind_of p.message.channel) s.number due) → j.kind ≡ kind_for (message_kind_of p.message.channel) p (named s) (hold_of config p) →
     j.senders ≡ senders_behind p (joined senders s.number) →
-    IsRidden place (ridden config senders p (message_kind_of p.message.channel) (named s)) (slot_for config (message_kind_of p.message.channel) p (named s)) j.rides j.slot →
-    IsVerdict ms place (judged_by config ms senders moment p o None) j
+    IsRidden place (rider_by config senders (message_kind_of p.message.channel) p (named s)) (slot_for config (message_kind_of p.message.channel) p (named s)) j.rides j.slot →
+    IsVerdict ms place (judged_by config (state_of ms senders) moment p o None) j
 served-by config ms senders moment place due p s None j is who d e f behind g = absurd who
 served-by config ms senders moment place due p s (Some r) j is who d e f behind g =
     let message_kind = message_kind_of p.message.channel in
     let some : IsSome (known_at s.number ms.live) = rw (← who.0) (named-at r ms.live message_kind p.message (sym is)) in
-    let ridden = ridden-for config senders message_kind p s r who.0 who.1 who.2 in
+    let rider = ridden-for config senders message_kind p s r who.0 who.1 who.2 in
     let slot = slot-for config message_kind p s r who.0 who.1 in
     record {
-      members = rw (e, d, ← who.0) (edited-for ms message_kind r.number (moment + hold_of config p + config.max_interval));
+      members = rw (e, d, ← who.0) (edited-for ms message_kind r.number (due_of config moment (hold_of config p)));
       can = rw e (can-for ms message_kind s.number due some, tt);
       behind = behind ∙ ap (λ (n : ℕ). senders_behind p (joined senders n)) (sym who.0);
       what = f ∙ kind-for message_kind p s r (hold_of config p) who.0 who.1;
-      rider = g.same ∙ ridden;
-      answer = sym (ap (λ (rider : Option Rider). planned_at place (slot_with rider (slot_for config message_kind p (named s)))) ridden
+      rider = g.same ∙ rider;
+      answer = sym (ap (λ (rider : Option Rider). planned_at place (slot_with rider (slot_for config message_kind p (named s)))) rider
           ∙ ap (λ (answer : PlaceSlot). planned_at place (slot_with (rider_for (is_rider config senders message_kind p r) r.number (slot_for config message_kind p r)) answer)) slot) ∙ g.answered;
     }
 
 pub served-verdict : (config : Config) (ms : Members) (senders : Senders) (moment place : ℕ) (p : Posted) (s : Sender) (j : Judgement) →
     refusal config ms.live p ≡ None → IsSender (named_by ms.live (message_kind_of p.message.channel) p.message) s.number s.client.now s.ack →
-    j.edit ≡ Some (edit_for (message_kind_of p.message.channel) s.number (moment + hold_of config p + config.max_interval)) → j.kind ≡ kind_for (message_kind_of p.message.channel) p (named s) (hold_of config p) →
+    j.edit ≡ Some (edit_for (message_kind_of p.message.channel) s.number (due_of config moment (hold_of config p))) → j.kind ≡ kind_for (message_kind_of p.message.channel) p (named s) (hold_of config p) →
     j.senders ≡ senders_behind p (joined senders s.number) →
-    IsRidden place (ridden config senders p (message_kind_of p.message.channel) (named s)) (slot_for config (message_kind_of p.message.channel) p (named s)) j.rides j.slot →
-    IsVerdict ms place (verdict config ms senders moment p) j
+    IsRidden place (rider_by config senders (message_kind_of p.message.channel) p (named s)) (slot_for config (message_kind_of p.message.channel) p (named s)) j.rides j.slot →
+    IsVerdict ms place (verdict config (state_of ms senders) moment p) j
 served-verdict config ms senders moment place p s j is who e f behind g =
-    rw is (served-by config ms senders moment place (moment + hold_of config p + config.max_interval) p s (named_by ms.live (message_kind_of p.message.channel) p.message) j refl who refl e f behind g)
+    rw is (served-by config ms senders moment place (due_of config moment (hold_of config p)) p s (named_by ms.live (message_kind_of p.message.channel) p.message) j refl who refl e f behind g)

@@ -9,13 +9,13 @@ use Rattle.bx_message.specs.declared.message.Message.{Message}
 use Rattle.bx_message.specs.MessageKinds.{message_kind_of, is_handshake}
 use Rattle.bx_entry.specs.Listing.{Posted, Post, listed_from, request}
 use Rattle.bx_entry.specs.declared.senders.Senders.{Senders}
-use Rattle.bx_entry.specs.Registry.{Registered, cases_of, named_by, refusal}
+use Rattle.bx_entry.specs.Registry.{Registered, State, cases_of, judged_by, named_by, refusal, unnamed}
 use Rattle.bx_roster.specs.Live.{Members}
 use Rattle.bx_roster.specs.Edits.{CanEdit, CanEditEach, edited, opened_by, opened_by_each}
 use Rattle.bx_roster.specs.declared.edit.Edit.{Edit}
 use Rattle.bx_roster.specs.declared.edit.Edit.TheVariants.{Open, Extend, Close}
 use Rattle.bx_roster.specs.declared.edit.Edits.TheVariants.{Each}
-use Rattle.bx_registry.specs.Rolls.{Roll, after, judged_by, next, unnamed}
+use Rattle.bx_registry.specs.Rolls.{Roll, after, next, state_of}
 use Rattle.bx_registry.specs.Changes.{changed}
 use Rattle.bx_registry.proofs.Judging.{handshake-kind}
 
@@ -34,19 +34,19 @@ second-refused : (config : Config) (sessions : List Registered) (p : Posted) →
 second-refused config sessions p h second =
     ap (λ kind. first_case (cases_of config sessions p kind)) (handshake-kind p.message h) ∙ rw second refl
 
-unnamed-once : (config : Config) (ms : Members) (moment : ℕ) (p : Posted) (seen h : Bool) → (p.second ≡ true → h ≡ true → ⊥) → p.second ≡ (seen && h) →
-    (unnamed config ms moment p h).members.opened + left (seen || h) ≤ ms.opened + left seen
-unnamed-once config ms moment p true true other second = absurd (other second refl)
-unnamed-once config ms moment p false true other second = omega arith
-unnamed-once config ms moment p seen false other second = omega (arith, left-more seen false)
+unnamed-once : (config : Config) (state : State) (moment : ℕ) (p : Posted) (seen h : Bool) → (p.second ≡ true → h ≡ true → ⊥) → p.second ≡ (seen && h) →
+    (unnamed config state moment p h).state.opened + left (seen || h) ≤ state.opened + left seen
+unnamed-once config state moment p true true other second = absurd (other second refl)
+unnamed-once config state moment p false true other second = omega arith
+unnamed-once config state moment p seen false other second = omega (arith, left-more seen false)
 
-judged-once : (config : Config) (ms : Members) (senders : Senders) (moment : ℕ) (p : Posted) (seen : Bool) → p.second ≡ (seen && is_handshake p.message) →
-    (sender : Option Registered) (fault : Option Error) → refusal config ms.live p ≡ fault →
-    (judged_by config ms senders moment p sender fault).members.opened + left (seen || is_handshake p.message) ≤ ms.opened + left seen
-judged-once config ms senders moment p seen second sender (Some error) is = omega (arith, left-more seen (is_handshake p.message))
-judged-once config ms senders moment p seen second (Some s) None is = omega (arith, left-more seen (is_handshake p.message))
-judged-once config ms senders moment p seen second None None is =
-    unnamed-once config ms moment p seen (is_handshake p.message) (λ twice h. true≢false (ap is_some (sym (second-refused config ms.live p h twice) ∙ is))) second
+judged-once : (config : Config) (state : State) (moment : ℕ) (p : Posted) (seen : Bool) → p.second ≡ (seen && is_handshake p.message) →
+    (sender : Option Registered) (fault : Option Error) → refusal config state.sessions p ≡ fault →
+    (judged_by config state moment p sender fault).state.opened + left (seen || is_handshake p.message) ≤ state.opened + left seen
+judged-once config state moment p seen second sender (Some error) is = omega (arith, left-more seen (is_handshake p.message))
+judged-once config state moment p seen second (Some s) None is = omega (arith, left-more seen (is_handshake p.message))
+judged-once config state moment p seen second None None is =
+    unnamed-once config state moment p seen (is_handshake p.message) (λ twice h. true≢false (ap is_some (sym (second-refused config state.sessions p h twice) ∙ is))) second
 
 -- ---- a request
 
@@ -55,7 +55,7 @@ after-once roll moment nonce sole seen [] = omega arith
 after-once roll moment nonce sole seen (m ∷ ms) =
     let p : Posted = record { message = m; moment = moment; nonce = nonce; sole = sole; last = length ms == 0; second = seen && is_handshake m } in
     let live = roll.members.live in
-    let one = judged-once roll.config roll.members roll.senders (max roll.clock moment) p seen refl (named_by live (message_kind_of m.channel) m) (refusal roll.config live p) refl in
+    let one = judged-once roll.config (state_of roll.members roll.senders) (max roll.clock moment) p seen refl (named_by live (message_kind_of m.channel) m) (refusal roll.config live p) refl in
     omega (arith, after-once (next roll (Post p)) moment nonce sole (seen || is_handshake m) ms, one)
 
 -- ---- the edits that were planned for it

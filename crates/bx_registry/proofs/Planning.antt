@@ -10,9 +10,9 @@ use Rattle.bx_entry.specs.Listing.{Posted, Listed, Post, listed_from, request}
 use Rattle.bx_entry.specs.declared.entry.Entry.{Entry}
 use Rattle.bx_entry.specs.declared.senders.Senders.{Senders}
 use Rattle.bx_entry.specs.declared.senders.Senders.TheVariants.{Mixed, NoneYet}
-use Rattle.bx_entry.specs.Registry.{Registered, named_by, refusal, senders_behind}
+use Rattle.bx_entry.specs.Registry.{Registered, State, Verdict, judged_by, named_by, refusal, senders_behind, unnamed, verdict}
 use Rattle.bx_roster.specs.Live.{Members}
-use Rattle.bx_registry.specs.Rolls.{Verdict, Roll, after, found, next, step, verdict, judged_by, unnamed}
+use Rattle.bx_registry.specs.Rolls.{Roll, after, found, next, state_of, step}
 use Rattle.bx_registry.specs.Drafts.{Drafted, members_of}
 use Rattle.std.proofs.lemmas.Bool.{ltb-false}
 use Rattle.bx_roster.specs.Edits.{CanEditEach, edited, edited_by}
@@ -26,39 +26,30 @@ use Rattle.bx_registry.specs.Plans.{checked, fault_of, entries_in, slots_in}
 use Rattle.bx_registry.specs.Planners.{IsFoundAt, IsPlannedBy, roll_between, roll_with}
 use Rattle.bx_registry.specs.declared.plan.Planned.{Planned}
 
-unnamed-limit : (config : Config) (ms : Members) (moment : ℕ) (p : Posted) (b : Bool) → (unnamed config ms moment p b).members.limit ≡ ms.limit
-unnamed-limit config ms moment p true = refl
-unnamed-limit config ms moment p false = refl
+unnamed-opened : (config : Config) (state : State) (moment : ℕ) (p : Posted) (b : Bool) → (unnamed config state moment p b).state.opened ≤ state.opened + 1
+unnamed-opened config state moment p true = omega arith
+unnamed-opened config state moment p false = omega arith
 
-judged-limit : (config : Config) (ms : Members) (senders : Senders) (moment : ℕ) (p : Posted) (sender : Option Registered) (fault : Option Error) → (judged_by config ms senders moment p sender fault).members.limit ≡ ms.limit
-judged-limit config ms senders moment p sender (Some error) = refl
-judged-limit config ms senders moment p None None = unnamed-limit config ms moment p (is_handshake p.message)
-judged-limit config ms senders moment p (Some s) None = refl
+judged-opened : (config : Config) (state : State) (moment : ℕ) (p : Posted) (sender : Option Registered) (fault : Option Error) → (judged_by config state moment p sender fault).state.opened ≤ state.opened + 1
+judged-opened config state moment p sender (Some error) = omega arith
+judged-opened config state moment p None None = unnamed-opened config state moment p (is_handshake p.message)
+judged-opened config state moment p (Some s) None = omega arith
 
-unnamed-opened : (config : Config) (ms : Members) (moment : ℕ) (p : Posted) (b : Bool) → (unnamed config ms moment p b).members.opened ≤ ms.opened + 1
-unnamed-opened config ms moment p true = omega arith
-unnamed-opened config ms moment p false = omega arith
-
-judged-opened : (config : Config) (ms : Members) (senders : Senders) (moment : ℕ) (p : Posted) (sender : Option Registered) (fault : Option Error) → (judged_by config ms senders moment p sender fault).members.opened ≤ ms.opened + 1
-judged-opened config ms senders moment p sender (Some error) = omega arith
-judged-opened config ms senders moment p None None = unnamed-opened config ms moment p (is_handshake p.message)
-judged-opened config ms senders moment p (Some s) None = omega arith
-
-unnamed-behind : (config : Config) (ms : Members) (moment : ℕ) (p : Posted) (b : Bool) → (unnamed config ms moment p b).senders ≡ senders_behind p Mixed
-unnamed-behind config ms moment p true = refl
-unnamed-behind config ms moment p false = refl
+unnamed-behind : (config : Config) (state : State) (moment : ℕ) (p : Posted) (b : Bool) → (unnamed config state moment p b).state.senders ≡ senders_behind p Mixed
+unnamed-behind config state moment p true = refl
+unnamed-behind config state moment p false = refl
 
 -- behind a request's last message the senders are none
-judged-last : (config : Config) (ms : Members) (senders : Senders) (moment : ℕ) (p : Posted) (sender : Option Registered) (fault : Option Error) → p.last ≡ true → (judged_by config ms senders moment p sender fault).senders ≡ NoneYet
-judged-last config ms senders moment p sender (Some error) last = rw last refl
-judged-last config ms senders moment p None None last = unnamed-behind config ms moment p (is_handshake p.message) ∙ rw last refl
-judged-last config ms senders moment p (Some s) None last = rw last refl
+judged-last : (config : Config) (state : State) (moment : ℕ) (p : Posted) (sender : Option Registered) (fault : Option Error) → p.last ≡ true → (judged_by config state moment p sender fault).state.senders ≡ NoneYet
+judged-last config state moment p sender (Some error) last = rw last refl
+judged-last config state moment p None None last = unnamed-behind config state moment p (is_handshake p.message) ∙ rw last refl
+judged-last config state moment p (Some s) None last = rw last refl
 
 after-last : (roll : Roll) (moment nonce : ℕ) (sole seen : Bool) (m : Message) (ms : List Message) → (after roll (listed_from moment nonce sole seen (m ∷ ms))).senders ≡ NoneYet
 after-last roll moment nonce sole seen m [] =
     let p : Posted = record { message = m; moment = moment; nonce = nonce; sole = sole; last = true; second = seen && is_handshake m } in
     let live = roll.members.live in
-    judged-last roll.config roll.members roll.senders (max roll.clock moment) p (named_by live (message_kind_of m.channel) m) (refusal roll.config live p) refl
+    judged-last roll.config (state_of roll.members roll.senders) (max roll.clock moment) p (named_by live (message_kind_of m.channel) m) (refusal roll.config live p) refl
 after-last roll moment nonce sole seen m (n ∷ ms) =
     let p : Posted = record { message = m; moment = moment; nonce = nonce; sole = sole; last = length (n ∷ ms) == 0; second = seen && is_handshake m } in
     after-last (next roll (Post p)) moment nonce sole (seen || is_handshake m) n ms
@@ -81,16 +72,16 @@ pub record SoFar (config : Config) (before base : Members) (clock first : ℕ) (
 
 pub one_next : (config : Config) (before base : Members) (clock first : ℕ) (list rest : List Listed) (d e : Drafted) (senders behind : Senders) (now place : ℕ) (es : List Entry) (ss : List Planned) (p : Posted) (entry : Entry) (slot : Planned) →
     SoFar config before base clock first list (Post p ∷ rest) d senders now place es ss → max now p.moment ≤ greatest_moment → e.base ≡ d.base →
-    IsFoundAt place (max now p.moment) (verdict config (members_of d) senders (max now p.moment) p) (members_of e) behind entry slot →
+    IsFoundAt place (max now p.moment) (members_of d) (verdict config (state_of (members_of d) senders) (max now p.moment) p) (members_of e) behind entry slot →
     SoFar config before base clock first list rest e behind (max now p.moment) (place + 1) (es ++ entry ∷ []) (ss ++ slot ∷ [])
 one_next config before base clock first list rest d e senders behind now place es ss p entry slot so le same f =
     let later = max now p.moment in
-    let o : Verdict = verdict config (members_of d) senders later p in
+    let o : Verdict = verdict config (state_of (members_of d) senders) later p in
     let old : Roll = roll_with config (members_of d) senders now place in
     let new : Roll = roll_with config (members_of e) behind later (place + 1) in
     let ms : Members = members_of d in
     let roll : next old (Post p) ≡ new =
-    ap (λ (x : Members). roll_with config x o.senders later (place + 1)) (sym f.members) ∙ ap (λ (x : Senders). roll_with config (members_of e) x later (place + 1)) (sym f.behind) in
+    ap (λ (x : Members). roll_with config x o.state.senders later (place + 1)) (sym f.members) ∙ ap (λ (x : Senders). roll_with config (members_of e) x later (place + 1)) (sym f.behind) in
     let sender = named_by ms.live (message_kind_of p.message.channel) p.message in
     let fault = refusal config ms.live p in
     let here : slots_in (found old (Post p ∷ rest)) ≡ slot ∷ slots_in (found (next old (Post p)) rest) = rw f.answer refl in
@@ -105,8 +96,8 @@ one_next config before base clock first list rest d e senders behind now place e
           ∙ ap (λ (xs : List Planned). ss ++ xs) (sym here)
           ∙ so.slots;
       same = same ∙ so.same;
-      limit = ap (λ (x : Members). x.limit) f.members ∙ judged-limit config ms senders later p sender fault ∙ so.limit;
-      opened = omega (arith, ap (λ (x : Members). x.opened) f.members, judged-opened config ms senders later p sender fault, so.opened);
+      limit = ap (λ (x : Members). x.limit) f.members ∙ so.limit;
+      opened = omega (arith, ap (λ (x : Members). x.opened) f.members, judged-opened config (state_of ms senders) later p sender fault, so.opened);
       moment = le;
       end = omega (arith, so.end);
     }

@@ -14,11 +14,11 @@ use Rattle.bx_message.specs.declared.message.TextMember.TheVariants.{Absent, Not
 use Rattle.bx_message.specs.MessageKinds.{message_kind_of, is_handshake}
 use Rattle.bx_entry.specs.Listing.{Posted, Listed, Post}
 use Rattle.bx_entry.specs.Listing as messages
-use Rattle.bx_entry.specs.Registry.{Registered, Registry, Judged, judge, judged_by, refusal, cases_of, sender_of, named_by, count_live, extended, closed, left_by, overdue, hold_of, joined, senders_behind, unnamed}
+use Rattle.bx_entry.specs.Registry.{State, due_of, Registered, Registry, Judged, judge, judged_by, refusal, cases_of, sender_of, named_by, count_live, extended, closed, left_by, overdue, hold_of, joined, senders_behind, unnamed, noted, state_of, Verdict, verdict}
 use Rattle.bx_entry.specs.declared.senders.Senders.{Senders}
 use Rattle.bx_entry.specs.declared.senders.Senders.TheVariants.{Mixed}
 use Rattle.bx_roster.specs.Live.{live_in}
-use Rattle.bx_registry.specs.Rolls.{Roll, roll_of, step, next, after, found, noted, verdict, Verdict, tick_verdict}
+use Rattle.bx_registry.specs.Rolls.{Roll, roll_of, step, next, after, found}
 use Rattle.bx_registry.specs.Rolls as rolls
 use Rattle.bx_registry.specs.Laws.{GoesOn, StepsAgree, RunsAgree}
 use Rattle.bx_roster.proofs.Live.{live_in-live, live_in-extended, live_in-closed, live_in-swept}
@@ -88,26 +88,34 @@ same_roll config limit moment senders e f g = cc
 one_more : (js : List Judged) (j : Judged) → length (js ++ j ∷ []) ≡ length js + 1
 one_more js j = length-append js (j ∷ [])
 
--- the registry after an element, as an outcome of its roll says it
+-- the registry after an element, as a verdict on its roll says it
 pub record Went (config : Config) (r : Registry) (moment : ℕ) (o : Verdict) (s : Registry) : Type 0 where
-  pub roll : (noted (roll_of config r) moment o).roll ≡ roll_of config s
-  pub judged : s.judged ≡ r.judged ++ (noted (roll_of config r) moment o).found ∷ []
+  pub roll : (rolls.noted (roll_of config r) moment o).roll ≡ roll_of config s
+  pub judged : s.judged ≡ r.judged ++ (rolls.noted (roll_of config r) moment o).found ∷ []
 
-goes-unnamed : (config : Config) (r : Registry) (moment : ℕ) (p : Posted) (b : Bool) → Went config r moment (rolls.unnamed config (roll_of config r).members moment p b) (unnamed config r moment p b)
+-- what a rule asks of a registry's roll
+abbrev asked : Config → Registry → State
+asked config r = rolls.state_of (roll_of config r).members r.senders
+
+live_in-push : (sessions : List Registered) (r : Registered) → live_in (live_in sessions ++ r ∷ []) ≡ live_in (sessions ++ r ∷ [])
+live_in-push sessions r =
+    filter-append is_live (live_in sessions) (r ∷ []) ∙ ap (λ (rs : List Registered). rs ++ live_in (r ∷ [])) (live_in-live sessions) ∙ sym (filter-append is_live sessions (r ∷ []))
+
+goes-unnamed : (config : Config) (r : Registry) (moment : ℕ) (p : Posted) (b : Bool) → Went config r moment (unnamed config (asked config r) moment p b) (noted r moment (unnamed config (state_of r) moment p b))
 goes-unnamed config r moment p true = record {
-  roll = same_roll config config.limits.sessions moment (senders_behind p Mixed) (sym (length-append r.sessions (_ ∷ []))) (sym (filter-append is_live r.sessions (_ ∷ []))) (sym (one_more r.judged _));
+  roll = same_roll config config.limits.sessions moment (senders_behind p Mixed) (sym (length-append r.sessions (_ ∷ []))) (live_in-push r.sessions _) (sym (one_more r.judged _));
   judged = refl;
 }
-goes-unnamed config r moment p false = record { roll = same_roll config config.limits.sessions moment (senders_behind p Mixed) refl refl (sym (one_more r.judged _)); judged = refl }
+goes-unnamed config r moment p false = record { roll = same_roll config config.limits.sessions moment (senders_behind p Mixed) refl (live_in-live r.sessions) (sym (one_more r.judged _)); judged = refl }
 
 goes-by : (config : Config) (r : Registry) (moment : ℕ) (p : Posted) (sender : Option Registered) (fault : Option Error) →
-    Went config r moment (rolls.judged_by config (roll_of config r).members r.senders moment p sender fault) (judged_by config r moment p sender fault)
-goes-by config r moment p sender (Some error) = record { roll = same_roll config config.limits.sessions moment (senders_behind p Mixed) refl refl (sym (one_more r.judged _)); judged = refl }
+    Went config r moment (judged_by config (asked config r) moment p sender fault) (noted r moment (judged_by config (state_of r) moment p sender fault))
+goes-by config r moment p sender (Some error) = record { roll = same_roll config config.limits.sessions moment (senders_behind p Mixed) refl (live_in-live r.sessions) (sym (one_more r.judged _)); judged = refl }
 goes-by config r moment p None None = goes-unnamed config r moment p (is_handshake p.message)
 goes-by config r moment p (Some s) None = record {
   roll = same_roll config config.limits.sessions moment (senders_behind p (joined r.senders s.number))
-      (sym (length-left_by (message_kind_of p.message.channel) s.number (moment + hold_of config p + config.max_interval) r.sessions))
-      (left_by-live (message_kind_of p.message.channel) s.number (moment + hold_of config p + config.max_interval) r.sessions)
+      (sym (length-left_by (message_kind_of p.message.channel) s.number (due_of config moment (hold_of config p)) r.sessions))
+      (left_by-live (message_kind_of p.message.channel) s.number (due_of config moment (hold_of config p)) r.sessions)
       (sym (one_more r.judged _));
   judged = refl;
 }
@@ -117,7 +125,7 @@ goes config r (Post p) =
     let moment = max r.clock p.moment in
     let message_kind = message_kind_of p.message.channel in
     let named = named_by r.sessions message_kind p.message in
-    let went : Went config r moment (verdict config (roll_of config r).members r.senders moment p) (judge config r (Post p)) =
+    let went : Went config r moment (verdict config (asked config r) moment p) (judge config r (Post p)) =
     rw (refusal-live config r.sessions p, named_by-live r.sessions message_kind p.message) (goes-by config r moment p named (refusal config r.sessions p)) in
     record { roll = went.roll; judged = went.judged }
 goes config r (messages.Tick moment) = record {

@@ -8,12 +8,12 @@ use Rattle.bx_message.specs.declared.message.TextMember.{TextMember}
 use Rattle.bx_message.specs.declared.message_kind.MessageKind.{MessageKind}
 use Rattle.bx_message.specs.declared.message_kind.MessageKind.TheVariants as message_kinds
 use Rattle.bx_entry.specs.declared.entry.Rider.{Rider}
-use Rattle.bx_entry.specs.Registry.{PlaceSlot, needs_session, slot_with}
+use Rattle.bx_entry.specs.Registry.{PlaceSlot, Verdict, needs_session, slot_with}
 use Rattle.bx_roster.specs.Live.{Members}
 use Rattle.bx_roster.specs.Edits.{edited, CanEditEach}
 use Rattle.bx_roster.specs.declared.edit.Edit.{Edit}
 use Rattle.bx_roster.specs.declared.edit.Edit.TheVariants.{Extend, Close}
-use Rattle.bx_registry.specs.Rolls.{Verdict}
+use Rattle.bx_registry.specs.Rolls.{members_after}
 use Rattle.bx_registry.specs.Plans.{planned_at}
 use Rattle.bx_registry.specs.declared.plan.Planned.{Planned}
 use Rattle.bx_registry.specs.declared.judge.Judgement.{Judgement}
@@ -40,9 +40,9 @@ is_needed config message_kinds.UnknownMeta client = true
 
 -- the edit, if there is one, the senders, the kind of the entry, its rider and the slot are those of the outcome at this place
 pub record IsVerdict (ms : Members) (place : ℕ) (o : Verdict) (j : Judgement) : Type 0 where
-  pub members : fold edited ms (option_to_list j.edit) ≡ o.members
+  pub members : fold edited ms (option_to_list j.edit) ≡ members_after ms o
   pub can : CanEditEach ms (option_to_list j.edit)
-  pub behind : j.senders ≡ o.senders
+  pub behind : j.senders ≡ o.state.senders
   pub what : j.kind ≡ o.kind
   pub rider : j.rides ≡ o.rides
   pub answer : planned_at place o.slot ≡ Some j.slot

@@ -7,14 +7,15 @@ use Rattle.bx_entry.specs.declared.entry.Entry.{Entry}
 use Rattle.bx_entry.specs.declared.senders.Senders.{Senders}
 use Rattle.bx_entry.specs.declared.senders.Senders.TheVariants.{NoneYet}
 use Rattle.bx_roster.specs.Live.{Members}
-use Rattle.bx_registry.specs.Rolls.{Verdict, Roll, after, found}
+use Rattle.bx_entry.specs.Registry.{Verdict}
+use Rattle.bx_registry.specs.Rolls.{Roll, after, found, members_after}
 use Rattle.bx_registry.specs.Plans.{planned_at, entries_in, slots_in}
 use Rattle.bx_registry.specs.declared.plan.Planned.{Planned}
 
--- the sessions, the senders, the entry and the answer are those of the outcome at this place
-pub record IsFoundAt (place moment : ℕ) (o : Verdict) (ms : Members) (senders : Senders) (entry : Entry) (slot : Planned) : Type 0 where
-  pub members : ms ≡ o.members
-  pub behind : senders ≡ o.senders
+-- the sessions, the senders, the entry and the answer are those that the verdict on these sessions says at this place
+pub record IsFoundAt (place moment : ℕ) (before : Members) (o : Verdict) (ms : Members) (senders : Senders) (entry : Entry) (slot : Planned) : Type 0 where
+  pub members : ms ≡ members_after before o
+  pub behind : senders ≡ o.state.senders
   pub noted : entry ≡ record { place = place; moment = moment; kind = o.kind; rides = o.rides }
   pub answer : planned_at place o.slot ≡ Some slot
 

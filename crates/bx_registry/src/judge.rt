@@ -12,11 +12,11 @@ ghost use Rattle.bx_message.specs.declared.reply.AckReply.TheVariants as replies
 ghost use Rattle.bx_message.specs.declared.message_kind.MessageKind.TheVariants as message_kinds;
 ghost use Rattle.bx_message.specs.Replies.{reply_to};
 ghost use Rattle.bx_entry.specs.declared.entry.EntryKind.TheVariants as entries;
-ghost use Rattle.bx_entry.specs.Registry.{Registered, acked_by, client_id, event_of, PlaceSlot, hold_of, is_ack, is_rider, joined, kind_for, may_ride, patterns_of, rider_for, senders_behind, sessionless_kind, slot_for, slot_with};
+ghost use Rattle.bx_entry.specs.Registry.{acked_by, client_id, due_of, event_of, newcomer, PlaceSlot, hold_of, is_ack, is_rider, joined, kind_for, may_ride, patterns_of, rider_by, rider_for, senders_behind, sessionless_kind, slot_for, verdict};
 ghost use Rattle.bx_entry.specs.declared.senders.Senders.TheVariants.{Mixed};
 ghost use Rattle.bx_roster.specs.declared.edit.Edit.TheVariants as edits;
 ghost use Rattle.bx_registry.specs.Postings.{posted_of};
-ghost use Rattle.bx_registry.specs.Rolls.{newcomer, ridden, verdict};
+ghost use Rattle.bx_registry.specs.Rolls.{state_of};
 ghost use Rattle.bx_entry.specs.Listing as messages;
 ghost use Rattle.bx_registry.specs.Drafts.{members_of, named};
 ghost use Rattle.bx_registry.specs.Plans.{planned_at};
@@ -63,7 +63,7 @@ pub(crate) fn judge(
     requires limit { (members_of draft.now).limit ≡ config.now.limits.sessions }
     requires number { (members_of draft.now).opened + 1 < 2 ^ 64 }
     ensures { IfOk result (λ j. IsVerdict (members_of draft.now) place
-        (verdict config.now (members_of draft.now) senders moment (posted_of posted.entry)) j) }
+        (verdict config.now (state_of (members_of draft.now) senders) moment (posted_of posted.entry)) j) }
 {
     let sender = draft.named_by(posted.message_kind, posted.message);
     let (live, opened) = draft.counts();
@@ -175,13 +175,13 @@ fn serve(
     requires readable { AreReadable posted.message_kind posted.message.now }
     requires moment { moment ≤ greatest_moment }
     ensures edit { IfOk result (λ j. j.edit ≡ Some (edit_for posted.entry.message_kind sender.now.number
-        (moment + hold_of config.now (posted_of posted.entry) + config.now.max_interval))) }
+        (due_of config.now moment (hold_of config.now (posted_of posted.entry))))) }
     ensures kind { IfOk result (λ j. j.kind
         ≡ kind_for posted.entry.message_kind (posted_of posted.entry) (named sender.now) (hold_of config.now (posted_of posted.entry))) }
     ensures senders { IfOk result (λ j.
         j.senders ≡ senders_behind (posted_of posted.entry) (joined senders sender.now.number)) }
     ensures slot { IfOk result (λ j. IsRidden place
-        (ridden config.now senders (posted_of posted.entry) posted.entry.message_kind (named sender.now))
+        (rider_by config.now senders posted.entry.message_kind (posted_of posted.entry) (named sender.now))
         (slot_for config.now posted.entry.message_kind (posted_of posted.entry) (named sender.now)) j.rides j.slot) }
 {
     let message_kind = posted.message_kind;
@@ -414,7 +414,7 @@ fn hold_of(config: &Config, posted: Posted<'_>) -> u64
 fn due_after(config: &Config, moment: u64, hold: u64) -> u64
     requires moment { moment ≤ greatest_moment }
     requires hold { hold < 2 ^ 32 }
-    ensures { result ≡ moment + hold + config.now.max_interval }
+    ensures { result ≡ due_of config.now moment hold }
 {
     let interval = config.max_interval;
     moment + hold + u64::from(interval)

@@ -4,7 +4,8 @@ ghost use Rattle.bx_advice.specs.Limits.{greatest_length, greatest_moment};
 ghost use Rattle.bx_message.specs.MessageKinds.{is_handshake};
 ghost use Rattle.bx_entry.specs.Listing.{request};
 ghost use Rattle.bx_entry.specs.declared.entry.Entry.{Entry};
-ghost use Rattle.bx_registry.specs.Rolls.{Roll, after, found, verdict};
+ghost use Rattle.bx_entry.specs.Registry.{verdict};
+ghost use Rattle.bx_registry.specs.Rolls.{Roll, after, found, state_of};
 ghost use Rattle.bx_registry.specs.Drafts.{members_of};
 ghost use Rattle.bx_registry.specs.Postings.{posted_of};
 ghost use Rattle.bx_registry.specs.Plans.{entries_in, planned_at, slots_in};
@@ -119,8 +120,8 @@ fn plan_next(
     requires limit { (members_of draft.old).limit ≡ config.now.limits.sessions }
     requires opened { (members_of draft.old).opened ≤ greatest_length }
     ensures base { draft.new.base ≡ draft.old.base }
-    ensures found { IfOk result (λ r. IsFoundAt place clock
-        (verdict config.now (members_of draft.old) senders clock (posted_of posted.entry)) (members_of draft.new) r.2 r.0 r.1) }
+    ensures found { IfOk result (λ r. IsFoundAt place clock (members_of draft.old)
+        (verdict config.now (state_of (members_of draft.old) senders) clock (posted_of posted.entry)) (members_of draft.new) r.2 r.0 r.1) }
 {
     let Judgement {
         edit,

@@ -27,7 +27,7 @@ IsTable-above low high n (r ∷ rs) lt t =
     bound low high [] t = t
     bound low high (r ∷ rs) t = omega (arith, bound r.number high rs t.2, t.0)
 
-AllLive-push : (rs : List Registered) (s : Registered) → AllLive rs → s.live ≡ true → AllLive (rs ++ s ∷ [])
+pub AllLive-push : (rs : List Registered) (s : Registered) → AllLive rs → s.live ≡ true → AllLive (rs ++ s ∷ [])
 AllLive-push [] s a l = (l, tt)
 AllLive-push (r ∷ rs) s a l = (a.0, AllLive-push rs s a.1 l)
 

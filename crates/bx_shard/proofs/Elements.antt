@@ -15,7 +15,7 @@ use Rattle.bx_entry.specs.Listing as messages
 use Rattle.bx_entry.specs.declared.entry.Entry.{Entry}
 use Rattle.bx_entry.specs.declared.entry.EntryKind.{EntryKind}
 use Rattle.bx_entry.specs.declared.entry.EntryKind.TheVariants.{Opened, Connect, Subscribe, Unsubscribe, Publish, Disconnect, Refused, Tick}
-use Rattle.bx_entry.specs.Registry.{Registry, Registered, Judged, judge, judged_by, kind_for, left_by, extended, swept, overdue, is_overdue, named_by, refusal, hold_of, registry, empty_registry, entries_of, entries, unnamed, sessionless_kind, PlaceSlot, Ready, Waiting, NoSlot, is_rider, rider_for, slot_for}
+use Rattle.bx_entry.specs.Registry.{due_of, Registry, Registered, Judged, judge, judged_by, kind_for, left_by, extended, swept, overdue, is_overdue, named_by, refusal, hold_of, registry, empty_registry, entries_of, entries, unnamed, sessionless_kind, PlaceSlot, Ready, Waiting, NoSlot, is_rider, rider_for, slot_for, noted, state_of}
 use Rattle.bx_entry.specs.declared.entry.Rider.{Rider}
 use Rattle.bx_entry.specs.Sessions.{Session, ended, ridden, ridden_by, rider_of, step_by, step, unopened, session}
 use Rattle.bx_shard.proofs.Rides.{rider_of_none}
@@ -158,9 +158,9 @@ served_rides config place n number other (Disconnect m) rides own s is = is
 served_rides config place n number other Refused rides own s is = is
 served_rides config place n number other (Tick numbers) rides own s is = is
 
-unnamed_adds : (config : Config) (r : Registry) (moment : ℕ) (p : Posted) (b : Bool) → Adds config r (unnamed config r moment p b)
+unnamed_adds : (config : Config) (r : Registry) (moment : ℕ) (p : Posted) (b : Bool) → Adds config r (noted r moment (unnamed config (state_of r) moment p b))
 unnamed_adds config r moment p true =
-    let many : length (unnamed config r moment p true).sessions ≡ length r.sessions + 1 = length_push r.sessions _ in
+    let many : length (noted r moment (unnamed config (state_of r) moment p true)).sessions ≡ length r.sessions + 1 = length_push r.sessions _ in
     record {
       found = _;
       judged = refl;
@@ -180,14 +180,14 @@ unnamed_adds config r moment p false =
       longer = omega arith;
     }
 
-judged_by_adds : (config : Config) (r : Registry) (moment : ℕ) (p : Posted) (sender : Option Registered) (error : Option Error) → ((q : Registered) → sender ≡ Some q → q.number < 1 + length r.sessions) → Adds config r (judged_by config r moment p sender error)
+judged_by_adds : (config : Config) (r : Registry) (moment : ℕ) (p : Posted) (sender : Option Registered) (error : Option Error) → ((q : Registered) → sender ≡ Some q → q.number < 1 + length r.sessions) → Adds config r (noted r moment (judged_by config (state_of r) moment p sender error))
 judged_by_adds config r moment p sender (Some error) h = record { found = _; judged = refl; sessions = sym (append-nil (numbers r.sessions)); new = λ n l. refl; fresh = λ n l. refl; longer = omega arith }
 judged_by_adds config r moment p None None h = unnamed_adds config r moment p (is_handshake p.message)
 judged_by_adds config r moment p (Some q) None h =
     let c : MessageKind = message_kind_of p.message.channel in
-    let t : Registry = judged_by config r moment p (Some q) None in
-    let same : numbers (judged_by config r moment p (Some q) None).sessions ≡ numbers r.sessions = served_sessions (message_kind_of p.message.channel) q.number (moment + hold_of config p + config.max_interval) r.sessions in
-    let many : length (judged_by config r moment p (Some q) None).sessions ≡ length r.sessions = same_length r.sessions t.sessions same in
+    let t : Registry = noted r moment (judged_by config (state_of r) moment p (Some q) None) in
+    let same : numbers (noted r moment (judged_by config (state_of r) moment p (Some q) None)).sessions ≡ numbers r.sessions = served_sessions (message_kind_of p.message.channel) q.number (due_of config moment (hold_of config p)) r.sessions in
+    let many : length (noted r moment (judged_by config (state_of r) moment p (Some q) None)).sessions ≡ length r.sessions = same_length r.sessions t.sessions same in
     record {
       found = _;
       judged = refl;

@@ -13,7 +13,7 @@ use Rattle.bx_entry.specs.declared.entry.Entry.{Entry}
 use Rattle.bx_entry.specs.declared.entry.EntryKind.{EntryKind}
 use Rattle.bx_entry.specs.declared.entry.EntryKind.TheVariants.{Opened, Connect, Subscribe, Unsubscribe, Publish, Disconnect, Refused}
 use Rattle.bx_entry.specs.declared.entry.EntryKind.TheVariants as entries
-use Rattle.bx_entry.specs.Registry.{Registry, Registered, Judged, PlaceSlot, Waiting, judge, judged_by, kind_for, slot_for, slot_with, rider_for, is_rider, named_by, refusal, hold_of, registry, empty_registry, entries_of, unnamed, sessionless_kind, Ready}
+use Rattle.bx_entry.specs.Registry.{Registry, Registered, Judged, PlaceSlot, Waiting, judge, judged_by, kind_for, slot_for, slot_with, rider_for, is_rider, named_by, refusal, hold_of, registry, empty_registry, entries_of, unnamed, sessionless_kind, Ready, noted, state_of}
 use Rattle.bx_entry.specs.declared.entry.Rider.{Rider}
 use Rattle.bx_entry.specs.Sessions.{rider_of, session, unopened}
 use Rattle.bx_shard.specs.States.{connecting, riding}
@@ -72,11 +72,11 @@ sessionless_waits reply MessageKind.Disconnect m = tt
 sessionless_waits reply MessageKind.Publish m = tt
 sessionless_waits reply MessageKind.UnknownMeta m = tt
 
-unnamed_waits : (config : Config) (r : Registry) (moment : ℕ) (p : Posted) (b : Bool) → EachWaits r.judged → EachWaits (unnamed config r moment p b).judged
+unnamed_waits : (config : Config) (r : Registry) (moment : ℕ) (p : Posted) (b : Bool) → EachWaits r.judged → EachWaits (noted r moment (unnamed config (state_of r) moment p b)).judged
 unnamed_waits config r moment p true d = waits_push r.judged _ d (tt, tt)
 unnamed_waits config r moment p false d = waits_push r.judged _ d (sessionless_waits _ (message_kind_of p.message.channel) p.message, tt)
 
-judged_by_waits : (config : Config) (r : Registry) (moment : ℕ) (p : Posted) (sender : Option Registered) (error : Option Error) → EachWaits r.judged → EachWaits (judged_by config r moment p sender error).judged
+judged_by_waits : (config : Config) (r : Registry) (moment : ℕ) (p : Posted) (sender : Option Registered) (error : Option Error) → EachWaits r.judged → EachWaits (noted r moment (judged_by config (state_of r) moment p sender error)).judged
 judged_by_waits config r moment p sender (Some error) d = waits_push r.judged _ d (tt, tt)
 judged_by_waits config r moment p None None d = unnamed_waits config r moment p (is_handshake p.message) d
 judged_by_waits config r moment p (Some s) None d =

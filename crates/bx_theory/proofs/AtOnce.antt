@@ -16,7 +16,7 @@ use Rattle.bx_message.specs.MessageKinds.{message_kind_of, is_connect, is_handsh
 use Rattle.bx_entry.specs.Listing.{Listed, Post, Posted, listed_from}
 use Rattle.bx_entry.specs.declared.entry.Entry.{Entry}
 use Rattle.bx_entry.specs.declared.entry.EntryKind.TheVariants.{Connect}
-use Rattle.bx_entry.specs.Registry.{Registry, Registered, Judged, Ready, Waiting, judge, judged_by, served, slot_for, slot_with, rider_for, is_rider, is_one, joined, may_ride, kind_for, named_by, refusal, hold_of, acked_by, registry, empty_registry, entries_of, unnamed}
+use Rattle.bx_entry.specs.Registry.{Registry, Registered, Judged, Ready, Waiting, judge, judged_by, served, slot_for, slot_with, rider_for, is_rider, is_one, joined, may_ride, kind_for, named_by, refusal, hold_of, acked_by, registry, empty_registry, entries_of, unnamed, noted, state_of}
 use Rattle.bx_entry.specs.declared.entry.Rider.{Rider}
 use Rattle.bx_entry.specs.declared.entry.EntryKind.{EntryKind}
 use Rattle.bx_entry.specs.Sessions.{Session, Publication, Pending, Filed, filing, answered, released, acknowledged, given, gives, holding, idle, answered_or_held, connected, step, session, unopened, is_live, ridden, ridden_by, ride_filing, step_by, rider_of}
@@ -168,33 +168,33 @@ may_not : (config : Config) (r : Registry) (p : Posted) (c : MessageKind) (s : R
 may_not config r p c s h = ap (λ (b : Bool). config.ride && (p.last && (not s.ack && (is_one (joined r.senders s.number) && b)))) h ∙ leaves_unridden config.ride p.last (not s.ack) (is_one (joined r.senders s.number))
 
 pub rider_served : (config : Config) (r : Registry) (moment : ℕ) (p : Posted) (c : MessageKind) (s : Registered) (hold : ℕ) → is_live (session config s.number (entries_of r)).stage ≡ true →
-    (rider : Rider) → (found_of config r moment p c s hold).entry.rides ≡ Some rider → There (answer_in config (served config r moment p c s hold) (length r.judged))
+    (rider : Rider) → (found_of config r moment p c s hold).entry.rides ≡ Some rider → There (answer_in config (noted r moment (served config (state_of r) moment p c s hold)) (length r.judged))
 rider_served config r moment p c s hold live rider e =
     let j : Judged = found_of config r moment p c s hold in
-    let es : entries_of (served config r moment p c s hold) ≡ entries_of r ++ (found_of config r moment p c s hold).entry ∷ [] = map-append (λ (j : Judged). j.entry) r.judged (found_of config r moment p c s hold ∷ []) in
-    last_there config r (served config r moment p c s hold) (found_of config r moment p c s hold) refl
+    let es : entries_of (noted r moment (served config (state_of r) moment p c s hold)) ≡ entries_of r ++ (found_of config r moment p c s hold).entry ∷ [] = map-append (λ (j : Judged). j.entry) r.judged (found_of config r moment p c s hold ∷ []) in
+    last_there config r (noted r moment (served config (state_of r) moment p c s hold)) (found_of config r moment p c s hold) refl
     (subst (λ (xs : List Entry). There (answer_by config xs (length r.judged) (found_of config r moment p c s hold).slot)) (sym es)
     (rider_slot config (entries_of r) (length r.judged) moment p c s hold (is_rider config r.senders c p s) (may_not config r p c s) live rider e))
 
 served_there : (config : Config) (r : Registry) (moment : ℕ) (p : Posted) (c : MessageKind) (s : Registered) → is_live (session config s.number (entries_of r)).stage ≡ true →
-    There (answer_by config (entries_of (served config r moment p c s 0)) (length r.judged) (found_of config r moment p c s 0).slot)
+    There (answer_by config (entries_of (noted r moment (served config (state_of r) moment p c s 0))) (length r.judged) (found_of config r moment p c s 0).slot)
 served_there config r moment p c s live =
-    let es : entries_of (served config r moment p c s 0) ≡ entries_of r ++ (found_of config r moment p c s 0).entry ∷ [] = map-append (λ (j : Judged). j.entry) r.judged (found_of config r moment p c s 0 ∷ []) in
+    let es : entries_of (noted r moment (served config (state_of r) moment p c s 0)) ≡ entries_of r ++ (found_of config r moment p c s 0).entry ∷ [] = map-append (λ (j : Judged). j.entry) r.judged (found_of config r moment p c s 0 ∷ []) in
     subst (λ (xs : List Entry). There (answer_by config xs (length r.judged) (found_of config r moment p c s 0).slot)) (sym es)
     (served_slot config (entries_of r) (length r.judged) moment p c s (is_rider config r.senders c p s) (may_not config r p c s) live)
 
-accepted_there : (config : Config) (r : Registry) (moment : ℕ) (p : Posted) (s : Registered) (hold : ℕ) → hold ≡ 0 → is_live (session config s.number (entries_of r)).stage ≡ true → There (answer_in config (served config r moment p (message_kind_of p.message.channel) s hold) (length r.judged))
+accepted_there : (config : Config) (r : Registry) (moment : ℕ) (p : Posted) (s : Registered) (hold : ℕ) → hold ≡ 0 → is_live (session config s.number (entries_of r)).stage ≡ true → There (answer_in config (noted r moment (served config (state_of r) moment p (message_kind_of p.message.channel) s hold)) (length r.judged))
 accepted_there config r moment p s hold h live =
     let c : MessageKind = message_kind_of p.message.channel in
-    subst (λ (n : ℕ). There (answer_in config (served config r moment p (message_kind_of p.message.channel) s n) (length r.judged))) (sym h)
-    (last_there config r (served config r moment p c s 0) _ refl (served_there config r moment p c s live))
+    subst (λ (n : ℕ). There (answer_in config (noted r moment (served config (state_of r) moment p (message_kind_of p.message.channel) s n)) (length r.judged))) (sym h)
+    (last_there config r (noted r moment (served config (state_of r) moment p c s 0)) _ refl (served_there config r moment p c s live))
 
-unnamed_there : (config : Config) (r : Registry) (moment : ℕ) (p : Posted) (b : Bool) → There (answer_in config (unnamed config r moment p b) (length r.judged))
-unnamed_there config r moment p true = last_there config r (unnamed config r moment p true) _ refl (record { answer = _; is = refl })
-unnamed_there config r moment p false = last_there config r (unnamed config r moment p false) _ refl (record { answer = _; is = refl })
+unnamed_there : (config : Config) (r : Registry) (moment : ℕ) (p : Posted) (b : Bool) → There (answer_in config (noted r moment (unnamed config (state_of r) moment p b)) (length r.judged))
+unnamed_there config r moment p true = last_there config r (noted r moment (unnamed config (state_of r) moment p true)) _ refl (record { answer = _; is = refl })
+unnamed_there config r moment p false = last_there config r (noted r moment (unnamed config (state_of r) moment p false)) _ refl (record { answer = _; is = refl })
 
-judged_by_there : (config : Config) (r : Registry) (moment : ℕ) (p : Posted) (sender : Option Registered) (error : Option Error) → p.sole ≡ false → ((s : Registered) → sender ≡ Some s → is_live (session config s.number (entries_of r)).stage ≡ true) → There (answer_in config (judged_by config r moment p sender error) (length r.judged))
-judged_by_there config r moment p sender (Some error) h live = last_there config r (judged_by config r moment p sender (Some error)) _ refl (record { answer = _; is = refl })
+judged_by_there : (config : Config) (r : Registry) (moment : ℕ) (p : Posted) (sender : Option Registered) (error : Option Error) → p.sole ≡ false → ((s : Registered) → sender ≡ Some s → is_live (session config s.number (entries_of r)).stage ≡ true) → There (answer_in config (noted r moment (judged_by config (state_of r) moment p sender error)) (length r.judged))
+judged_by_there config r moment p sender (Some error) h live = last_there config r (noted r moment (judged_by config (state_of r) moment p sender (Some error))) _ refl (record { answer = _; is = refl })
 judged_by_there config r moment p None None h live = unnamed_there config r moment p (is_handshake p.message)
 judged_by_there config r moment p (Some s) None h live = accepted_there config r moment p s (hold_of config p) (cond-false (p.sole && is_connect p.message) _ 0 (ap (λ (b : Bool). b && is_connect p.message) h)) (live s refl)
 

@@ -17,7 +17,7 @@ use Rattle.bx_message.specs.declared.message.Message.{Message}
 use Rattle.bx_entry.specs.Listing.{Listed, Post, Posted}
 use Rattle.bx_entry.specs.Listing as messages
 use Rattle.bx_entry.specs.declared.entry.Entry.{Entry}
-use Rattle.bx_entry.specs.Registry.{Registry, Registered, PlaceSlot, Ready, Waiting, NoSlot, slot_for, rider_for, is_rider, judge, judged_by, kind_for, left_by, extended, swept, overdue, is_overdue, named_by, refusal, hold_of, is_ack, acked_by, patterns_of, event_of, opened, registry, empty_registry, entries_of, unnamed, sessionless_kind}
+use Rattle.bx_entry.specs.Registry.{due_of, Registry, Registered, PlaceSlot, Ready, Waiting, NoSlot, slot_for, rider_for, is_rider, judge, judged_by, kind_for, left_by, extended, swept, overdue, is_overdue, named_by, refusal, hold_of, is_ack, acked_by, patterns_of, event_of, opened, registry, empty_registry, entries_of, unnamed, sessionless_kind, noted, state_of}
 use Rattle.bx_entry.specs.declared.entry.Rider.{Rider}
 use Rattle.bx_entry.specs.declared.entry.EntryKind.{EntryKind}
 use Rattle.bx_entry.specs.Sessions.{Session, Publication, Pending, Stage, Unopened, Live, Closed, is_live, stage_after, answered, unheld, released, acknowledged, with_batch, formed, forgotten, gives, given, portion, holding, idle, answered_or_held, connected, subscribed, unsubscribed, gives_one, with_event, delivered_to, delivered, overflowed, is_hit, has_room, published, expired_from, expired, ended, closed_by, disconnected, begun, step_by, step, unopened, session, ridden, is_riding, ridden_by, rider_of}
@@ -220,40 +220,40 @@ record Goes (config : Config) (number : ℕ) (s : Session) (r t : Registry) : Ty
 
 -- what an accepted message's entry leaves held
 served_holding : (config : Config) (place moment : ℕ) (c : MessageKind) (p : Posted) (q : Registered) (hold number : ℕ) (s : Session) (rs : List Registered) → s.number ≡ number → ((q.number == s.number) ≡ true → s.stage ≡ Live) → Holding number s rs →
-    Holding number (step_by config place moment s (kind_for c p q hold)) (left_by c q.number (extended q.number (moment + hold + config.max_interval) rs))
+    Holding number (step_by config place moment s (kind_for c p q hold)) (left_by c q.number (extended q.number (due_of config moment hold) rs))
 served_holding config place moment c p q hold number s rs same live h = by c
   where
     due : ℕ
-    due = moment + hold + config.max_interval
+    due = due_of config moment hold
 
-    rises : (d : MessageKind) → Rises number rs (left_by d q.number (extended q.number (moment + hold + config.max_interval) rs))
-    rises d b g = left_rises d number q.number (extended q.number (moment + hold + config.max_interval) rs) b (extended_rises number q.number (moment + hold + config.max_interval) rs b g)
+    rises : (d : MessageKind) → Rises number rs (left_by d q.number (extended q.number (due_of config moment hold) rs))
+    rises d b g = left_rises d number q.number (extended q.number (due_of config moment hold) rs) b (extended_rises number q.number (due_of config moment hold) rs b g)
 
-    here : (q.number == s.number) ≡ true → DueFrom number (moment + hold) (extended q.number (moment + hold + config.max_interval) rs)
-    here e = subst (λ (n : ℕ). DueFrom n (moment + hold) (extended q.number (moment + hold + config.max_interval) rs)) (eqb-true q.number s.number e ∙ same) (extended_here q.number (moment + hold + config.max_interval) (moment + hold) rs (omega arith))
+    here : (q.number == s.number) ≡ true → DueFrom number (moment + hold) (extended q.number (due_of config moment hold) rs)
+    here e = subst (λ (n : ℕ). DueFrom n (moment + hold) (extended q.number (due_of config moment hold) rs)) (eqb-true q.number s.number e ∙ same) (extended_here q.number (due_of config moment hold) (moment + hold) rs (omega arith))
 
-    keep : (d : MessageKind) (u : Session) → u.held ≡ s.held → u.stage ≡ s.stage → Holding number (cond (q.number == s.number) u s) (left_by d q.number (extended q.number (moment + hold + config.max_interval) rs))
-    keep d u e f = still number s (cond (q.number == s.number) u s) rs (left_by d q.number (extended q.number (moment + hold + config.max_interval) rs)) (cond_both (q.number == s.number) u s (StillHeld s) (λ g. same_still s u h.live e f) (λ g. same_still s s h.live refl refl)) (rises d) h
+    keep : (d : MessageKind) (u : Session) → u.held ≡ s.held → u.stage ≡ s.stage → Holding number (cond (q.number == s.number) u s) (left_by d q.number (extended q.number (due_of config moment hold) rs))
+    keep d u e f = still number s (cond (q.number == s.number) u s) rs (left_by d q.number (extended q.number (due_of config moment hold) rs)) (cond_both (q.number == s.number) u s (StillHeld s) (λ g. same_still s u h.live e f) (λ g. same_still s s h.live refl refl)) (rises d) h
 
-    stay : (d : MessageKind) → Holding number s (left_by d q.number (extended q.number (moment + hold + config.max_interval) rs))
-    stay d = still number s s rs (left_by d q.number (extended q.number (moment + hold + config.max_interval) rs)) (same_still s s h.live refl refl) (rises d) h
+    stay : (d : MessageKind) → Holding number s (left_by d q.number (extended q.number (due_of config moment hold) rs))
+    stay d = still number s s rs (left_by d q.number (extended q.number (due_of config moment hold) rs)) (same_still s s h.live refl refl) (rises d) h
 
-    by : (d : MessageKind) → Holding number (step_by config place moment s (kind_for d p q hold)) (left_by d q.number (extended q.number (moment + hold + config.max_interval) rs))
+    by : (d : MessageKind) → Holding number (step_by config place moment s (kind_for d p q hold)) (left_by d q.number (extended q.number (due_of config moment hold) rs))
     by MessageKind.Handshake = stay MessageKind.Handshake
     by MessageKind.Connect =
         let x : Pending = record { place = place; client = q.client; id = p.message.id; moment = moment; hold = hold } in
-        connected_holds config x (acked_by p.message.ack) number s rs (extended q.number (moment + hold + config.max_interval) rs) (q.number == s.number) live here (rises MessageKind.Connect) h
+        connected_holds config x (acked_by p.message.ack) number s rs (extended q.number (due_of config moment hold) rs) (q.number == s.number) live here (rises MessageKind.Connect) h
     by MessageKind.Subscribe = keep MessageKind.Subscribe (subscribed config (patterns_of p.message) s)
         (subscribed_by config (patterns_of p.message) s (λ (u : Session). u.held ≡ s.held) refl refl refl)
         (subscribed_by config (patterns_of p.message) s (λ (u : Session). u.stage ≡ s.stage) refl refl refl)
     by MessageKind.Unsubscribe = keep MessageKind.Unsubscribe (unsubscribed (patterns_of p.message) s) refl refl
     by MessageKind.Disconnect =
         let x : Session = disconnected config place s in
-        still number s (cond (q.number == s.number) (disconnected config place s) s) rs (left_by MessageKind.Disconnect q.number (extended q.number (moment + hold + config.max_interval) rs))
+        still number s (cond (q.number == s.number) (disconnected config place s) s) rs (left_by MessageKind.Disconnect q.number (extended q.number (due_of config moment hold) rs))
         (cond_both (q.number == s.number) x s (StillHeld s) (λ g. none_still s x (released_from_held config place Disconnected s s.held refl)) (λ g. same_still s s h.live refl refl)) (rises MessageKind.Disconnect) h
     by MessageKind.Publish =
         let e : Publication = record { place = place; event = event_of p.message } in
-        still number s (published config e s) rs (extended q.number (moment + hold + config.max_interval) rs) (published_still config e s h.live) (rises MessageKind.Publish) h
+        still number s (published config e s) rs (extended q.number (due_of config moment hold) rs) (published_still config e s h.live) (rises MessageKind.Publish) h
     by MessageKind.UnknownMeta = stay MessageKind.UnknownMeta
 
 served_over : (config : Config) (place moment : ℕ) (c : MessageKind) (p : Posted) (q : Registered) (hold : ℕ) (s : Session) → ((q.number == s.number) ≡ true → s.stage ≡ Live) → s.stage ≡ Closed → s.held ≡ None →
@@ -280,10 +280,10 @@ served_idle config place moment MessageKind.UnknownMeta p q hold s live c = refl
 
 -- a session that is opened with the next number isn't held by anyone yet
 opened_goes : (config : Config) (number : ℕ) (s : Session) (r : Registry) (moment : ℕ) (p : Posted) → s.number ≡ number → (length r.sessions < number → is_live s.stage ≡ false) → Holding number s r.sessions →
-    Goes config number s r (opened config r moment p (length r.sessions + 1) (is_ack p.message.ack))
+    Goes config number s r (noted r moment (opened config (state_of r) moment p (length r.sessions + 1)))
 opened_goes config number s r moment p same fresh h =
     let n : ℕ = length r.sessions + 1 in
-    let t : Registry = opened config r moment p (length r.sessions + 1) (is_ack p.message.ack) in
+    let t : Registry = noted r moment (opened config (state_of r) moment p (length r.sessions + 1)) in
     let u : Session = cond (n == s.number) (begun (is_ack p.message.ack) s s.stage) s in
     let keeps : StillHeld s (cond (length r.sessions + 1 == s.number) (begun (is_ack p.message.ack) s s.stage) s) =
     cond_both (length r.sessions + 1 == s.number) (begun (is_ack p.message.ack) s s.stage) s (StillHeld s) (λ g. begun_still (is_ack p.message.ack) s s.stage refl h.live) (λ g. same_still s s h.live refl refl) in
@@ -361,11 +361,11 @@ ride_idle config place k b n slot s u same c live e =
 -- ---- a message
 
 unnamed_goes : (config : Config) (number : ℕ) (s : Session) (r : Registry) (moment : ℕ) (p : Posted) (b : Bool) → s.number ≡ number → (length r.sessions < number → is_live s.stage ≡ false) → Holding number s r.sessions →
-    Goes config number s r (unnamed config r moment p b)
+    Goes config number s r (noted r moment (unnamed config (state_of r) moment p b))
 unnamed_goes config number s r moment p true same fresh h = opened_goes config number s r moment p same fresh h
 unnamed_goes config number s r moment p false same fresh h = record {
   entry = _;
-  more = entries_push r (unnamed config r moment p false) _ refl;
+  more = entries_push r (noted r moment (unnamed config (state_of r) moment p false)) _ refl;
   holding = ride_holding config (length r.judged) number _ _ _ (sessionless_holding config (length r.judged) moment (message_kind_of p.message.channel) p.message number s r.sessions h);
   over = λ c n. ride_over config (length r.judged) s _ _ (sessionless_over config (length r.judged) moment (message_kind_of p.message.channel) p.message s c n);
   idle = λ c n. (let e : (step_by config (length r.judged) moment s (sessionless_kind (message_kind_of p.message.channel) p.message)).answers ≡ s.answers =
@@ -375,12 +375,12 @@ unnamed_goes config number s r moment p false same fresh h = record {
 }
 
 judged_by_goes : (config : Config) (number : ℕ) (s : Session) (r : Registry) (moment : ℕ) (p : Posted) (sender : Option Registered) (error : Option Error) → s.number ≡ number → (length r.sessions < number → is_live s.stage ≡ false) →
-    ((q : Registered) → sender ≡ Some q → (q.number == s.number) ≡ true → s.stage ≡ Live) → Holding number s r.sessions → Goes config number s r (judged_by config r moment p sender error)
-judged_by_goes config number s r moment p sender (Some error) same fresh live h = record { entry = _; more = entries_push r (judged_by config r moment p sender (Some error)) _ refl; holding = h; over = λ c n. over_same s c n; idle = λ c n. refl }
+    ((q : Registered) → sender ≡ Some q → (q.number == s.number) ≡ true → s.stage ≡ Live) → Holding number s r.sessions → Goes config number s r (noted r moment (judged_by config (state_of r) moment p sender error))
+judged_by_goes config number s r moment p sender (Some error) same fresh live h = record { entry = _; more = entries_push r (noted r moment (judged_by config (state_of r) moment p sender (Some error))) _ refl; holding = h; over = λ c n. over_same s c n; idle = λ c n. refl }
 judged_by_goes config number s r moment p None None same fresh live h = unnamed_goes config number s r moment p (is_handshake p.message) same fresh h
 judged_by_goes config number s r moment p (Some q) None same fresh live h = record {
   entry = _;
-  more = entries_push r (judged_by config r moment p (Some q) None) _ refl;
+  more = entries_push r (noted r moment (judged_by config (state_of r) moment p (Some q) None)) _ refl;
   holding = ride_holding config (length r.judged) number _ _ _ (served_holding config (length r.judged) moment (message_kind_of p.message.channel) p q (hold_of config p) number s r.sessions same (live q refl) h);
   over = λ c n. ride_over config (length r.judged) s _ _ (served_over config (length r.judged) moment (message_kind_of p.message.channel) p q (hold_of config p) s (live q refl) c n);
   idle = λ c n. ride_idle config (length r.judged) (kind_for (message_kind_of p.message.channel) p q (hold_of config p)) (is_rider config r.senders (message_kind_of p.message.channel) p q) q.number (slot_for config (message_kind_of p.message.channel) p q) s

@@ -12,22 +12,13 @@ use Rattle.bx_message.specs.declared.message_kind.MessageKind.{MessageKind}
 use Rattle.bx_entry.specs.Listing.{Listed, Post, Posted}
 use Rattle.bx_message.specs.MessageKinds.{message_kind_of, is_handshake}
 use Rattle.bx_entry.specs.Listing as messages
-use Rattle.bx_entry.specs.Registry.{Registry, Registered, Judged, judge, judged_by, refused, opened, served, left_by, is_overdue, named_by, sender_of, refusal, hold_of, is_ack, client_id, empty_registry, unnamed, sessionless}
+use Rattle.bx_entry.specs.Registry.{due_of, newcomer, Registry, Registered, Judged, judge, judged_by, refused, opened, served, left_by, is_overdue, named_by, sender_of, refusal, hold_of, is_ack, client_id, empty_registry, unnamed, sessionless, noted, state_of}
 use Rattle.bx_theory.specs.Readings.{is_from, given_moments, EachSession, DueReading, moment_of, ClockReading}
 
 -- ---- the clock
 
-unnamed_clock : (config : Config) (r : Registry) (moment : ℕ) (p : Posted) (b : Bool) → (unnamed config r moment p b).clock ≡ moment
-unnamed_clock config r moment p true = refl
-unnamed_clock config r moment p false = refl
-
-judged_by_clock : (config : Config) (r : Registry) (moment : ℕ) (p : Posted) (sender : Option Registered) (error : Option Error) → (judged_by config r moment p sender error).clock ≡ moment
-judged_by_clock config r moment p sender (Some error) = refl
-judged_by_clock config r moment p None None = unnamed_clock config r moment p (is_handshake p.message)
-judged_by_clock config r moment p (Some s) None = refl
-
 judge_clock : (config : Config) (r : Registry) (x : Listed) → (judge config r x).clock ≡ max r.clock (moment_of x)
-judge_clock config r (Post p) = judged_by_clock config r (max r.clock p.moment) p (named_by r.sessions (message_kind_of p.message.channel) p.message) (refusal config r.sessions p)
+judge_clock config r (Post p) = refl
 judge_clock config r (messages.Tick moment) = refl
 
 clock_run : (config : Config) (r : Registry) (xs : List Listed) → (fold (judge config) r xs).clock ≡ fold max r.clock (map moment_of xs)
@@ -94,22 +85,22 @@ named_session P rs MessageKind.UnknownMeta m r e d = cc
 -- ---- what a session's messages gave
 
 -- the session's moments with one more place
-moments_push : (config : Config) (number : ℕ) (js : List Judged) (j : Judged) → given_moments config number (js ++ j ∷ []) ≡ given_moments config number js ++ cond (is_from number j.sender) ((j.entry.moment + j.hold + config.max_interval) ∷ []) []
-moments_push config number [] j = cond_both (is_from number j.sender) ((j.entry.moment + j.hold + config.max_interval) ∷ []) [] (λ (ms : List ℕ). given_moments config number (j ∷ []) ≡ ms)
-    (λ h. ap (map (λ (k : Judged). k.entry.moment + k.hold + config.max_interval)) (cond-true (is_from number j.sender) (j ∷ []) [] h))
-    (λ h. ap (map (λ (k : Judged). k.entry.moment + k.hold + config.max_interval)) (cond-false (is_from number j.sender) (j ∷ []) [] h))
+moments_push : (config : Config) (number : ℕ) (js : List Judged) (j : Judged) → given_moments config number (js ++ j ∷ []) ≡ given_moments config number js ++ cond (is_from number j.sender) ((due_of config j.entry.moment j.hold) ∷ []) []
+moments_push config number [] j = cond_both (is_from number j.sender) ((due_of config j.entry.moment j.hold) ∷ []) [] (λ (ms : List ℕ). given_moments config number (j ∷ []) ≡ ms)
+    (λ h. ap (map (λ (k : Judged). due_of config k.entry.moment k.hold)) (cond-true (is_from number j.sender) (j ∷ []) [] h))
+    (λ h. ap (map (λ (k : Judged). due_of config k.entry.moment k.hold)) (cond-false (is_from number j.sender) (j ∷ []) [] h))
 moments_push config number (i ∷ js) j =
-    let B : Bool → Type 0 = λ b. map (λ (k : Judged). k.entry.moment + k.hold + config.max_interval) (cond b (i ∷ filter (λ (k : Judged). is_from number k.sender) (js ++ j ∷ [])) (filter (λ (k : Judged). is_from number k.sender) (js ++ j ∷ [])))
-    ≡ map (λ (k : Judged). k.entry.moment + k.hold + config.max_interval) (cond b (i ∷ filter (λ (k : Judged). is_from number k.sender) js) (filter (λ (k : Judged). is_from number k.sender) js)) ++ cond (is_from number j.sender) ((j.entry.moment + j.hold + config.max_interval) ∷ []) [] in
-    elim (is_from number i.sender) as B [ true ↦ ap (λ (ms : List ℕ). (i.entry.moment + i.hold + config.max_interval) ∷ ms) (moments_push config number js j) | false ↦ moments_push config number js j ]
+    let B : Bool → Type 0 = λ b. map (λ (k : Judged). due_of config k.entry.moment k.hold) (cond b (i ∷ filter (λ (k : Judged). is_from number k.sender) (js ++ j ∷ [])) (filter (λ (k : Judged). is_from number k.sender) (js ++ j ∷ [])))
+    ≡ map (λ (k : Judged). due_of config k.entry.moment k.hold) (cond b (i ∷ filter (λ (k : Judged). is_from number k.sender) js) (filter (λ (k : Judged). is_from number k.sender) js)) ++ cond (is_from number j.sender) ((due_of config j.entry.moment j.hold) ∷ []) [] in
+    elim (is_from number i.sender) as B [ true ↦ ap (λ (ms : List ℕ). (due_of config i.entry.moment i.hold) ∷ ms) (moments_push config number js j) | false ↦ moments_push config number js j ]
 
 abbrev greatest : Config → ℕ → List Judged → ℕ
 greatest config number js = fold max 0 (given_moments config number js)
 
-greatest_push : (config : Config) (number : ℕ) (js : List Judged) (j : Judged) → greatest config number (js ++ j ∷ []) ≡ cond (is_from number j.sender) (max (greatest config number js) (j.entry.moment + j.hold + config.max_interval)) (greatest config number js)
+greatest_push : (config : Config) (number : ℕ) (js : List Judged) (j : Judged) → greatest config number (js ++ j ∷ []) ≡ cond (is_from number j.sender) (max (greatest config number js) (due_of config j.entry.moment j.hold)) (greatest config number js)
 greatest_push config number js j =
-    ap (fold max 0) (moments_push config number js j) ∙ fold-append max 0 (given_moments config number js) (cond (is_from number j.sender) ((j.entry.moment + j.hold + config.max_interval) ∷ []) [])
-    ∙ (elim (is_from number j.sender) as (λ b. fold max (greatest config number js) (cond b ((j.entry.moment + j.hold + config.max_interval) ∷ []) []) ≡ cond b (max (greatest config number js) (j.entry.moment + j.hold + config.max_interval)) (greatest config number js)) [ true ↦ refl | false ↦ refl ])
+    ap (fold max 0) (moments_push config number js j) ∙ fold-append max 0 (given_moments config number js) (cond (is_from number j.sender) ((due_of config j.entry.moment j.hold) ∷ []) [])
+    ∙ (elim (is_from number j.sender) as (λ b. fold max (greatest config number js) (cond b ((due_of config j.entry.moment j.hold) ∷ []) []) ≡ cond b (max (greatest config number js) (due_of config j.entry.moment j.hold)) (greatest config number js)) [ true ↦ refl | false ↦ refl ])
 
 -- ---- the invariant
 
@@ -143,7 +134,7 @@ nothing_given config n js d = ap (fold max 0) (none js d)
   where
     none : (is : List Judged) → EachJudged (λ j. SenderBelow n j.sender) is → given_moments config n is ≡ []
     none [] e = refl
-    none (j ∷ is) e = ap (map (λ (k : Judged). k.entry.moment + k.hold + config.max_interval)) (cond-false (is_from n j.sender) (j ∷ filter (λ (k : Judged). is_from n k.sender) is) (filter (λ (k : Judged). is_from n k.sender) is) (not_from n j.sender e.0)) ∙ none is e.1
+    none (j ∷ is) e = ap (map (λ (k : Judged). due_of config k.entry.moment k.hold)) (cond-false (is_from n j.sender) (j ∷ filter (λ (k : Judged). is_from n k.sender) is) (filter (λ (k : Judged). is_from n k.sender) is) (not_from n j.sender e.0)) ∙ none is e.1
 
 record Due (config : Config) (r : Registry) : Type 0 where
   numbers : NumberedFrom 1 r.sessions
@@ -155,7 +146,7 @@ due_without : (config : Config) (r : Registry) (f : Registered → Registered) (
     j.sender ≡ None → t.sessions ≡ map f r.sessions → t.judged ≡ r.judged ++ j ∷ [] → Due config r → Due config t
 due_without config r f j t number due none sessions judged d =
     let same : (s : Registered) → s.due ≡ greatest config s.number r.judged → (f s).due ≡ greatest config (f s).number (r.judged ++ j ∷ []) =
-    λ s h. due s ∙ h ∙ sym (greatest_push config (f s).number r.judged j ∙ ap (λ (o : Option ℕ). cond (is_from (f s).number o) (max (greatest config (f s).number r.judged) (j.entry.moment + j.hold + config.max_interval)) (greatest config (f s).number r.judged)) none ∙ ap (λ (n : ℕ). greatest config n r.judged) (number s)) in
+    λ s h. due s ∙ h ∙ sym (greatest_push config (f s).number r.judged j ∙ ap (λ (o : Option ℕ). cond (is_from (f s).number o) (max (greatest config (f s).number r.judged) (due_of config j.entry.moment j.hold)) (greatest config (f s).number r.judged)) none ∙ ap (λ (n : ℕ). greatest config n r.judged) (number s)) in
     let len : length (map f r.sessions) ≡ length r.sessions = length-map r.sessions f in
     record {
       numbers = subst (NumberedFrom 1) (sym sessions) (numbered_through f 1 r.sessions number d.numbers);
@@ -177,28 +168,28 @@ pub same_all : (rs : List Registered) → rs ≡ map (λ (s : Registered). s) rs
 same_all [] = refl
 same_all (r ∷ rs) = ap (λ (qs : List Registered). r ∷ qs) (same_all rs)
 
-refused_due : (config : Config) (r : Registry) (moment : ℕ) (p : Posted) (error : Error) (sender : Option Registered) → Due config r → Due config (refused config r moment p error sender)
-refused_due config r moment p error sender d = due_without config r (λ s. s) _ (refused config r moment p error sender) (λ s. refl) (λ s. refl) refl (same_all r.sessions) refl d
+refused_due : (config : Config) (r : Registry) (moment : ℕ) (p : Posted) (error : Error) (sender : Option Registered) → Due config r → Due config (noted r moment (refused config (state_of r) p error sender))
+refused_due config r moment p error sender d = due_without config r (λ s. s) _ (noted r moment (refused config (state_of r) p error sender)) (λ s. refl) (λ s. refl) refl (same_all r.sessions) refl d
 
 -- a message of no session
-sessionless_due : (config : Config) (r : Registry) (moment : ℕ) (p : Posted) (c : MessageKind) → Due config r → Due config (sessionless config r moment p c)
-sessionless_due config r moment p c d = due_without config r (λ s. s) _ (sessionless config r moment p c) (λ s. refl) (λ s. refl) refl (same_all r.sessions) refl d
+sessionless_due : (config : Config) (r : Registry) (moment : ℕ) (p : Posted) (c : MessageKind) → Due config r → Due config (noted r moment (sessionless config (state_of r) p c))
+sessionless_due config r moment p c d = due_without config r (λ s. s) _ (noted r moment (sessionless config (state_of r) p c)) (λ s. refl) (λ s. refl) refl (same_all r.sessions) refl d
 
 tick_due : (config : Config) (r : Registry) (moment : ℕ) → Due config r → Due config (judge config r (messages.Tick moment))
 tick_due config r moment d = due_without config r (λ s. cond (is_overdue (max r.clock moment) s) (record s { live = false }) s) _ (judge config r (messages.Tick moment)) (swept_number (max r.clock moment)) (swept_due (max r.clock moment)) refl refl refl d
 
 -- a new session
-opened_due : (config : Config) (r : Registry) (moment : ℕ) (p : Posted) → Due config r → Due config (opened config r moment p (length r.sessions + 1) (is_ack p.message.ack))
+opened_due : (config : Config) (r : Registry) (moment : ℕ) (p : Posted) → Due config r → Due config (noted r moment (opened config (state_of r) moment p (length r.sessions + 1)))
 opened_due config r moment p d =
-    let t : Registry = opened config r moment p (length r.sessions + 1) (is_ack p.message.ack) in
-    let new : Registered = record { number = length r.sessions + 1; client = client_id p.nonce (length r.sessions + 1); ack = is_ack p.message.ack; due = moment + config.max_interval; live = true } in
+    let t : Registry = noted r moment (opened config (state_of r) moment p (length r.sessions + 1)) in
+    let new : Registered = newcomer config moment p (length r.sessions + 1) in
     let many : length (r.sessions ++ new ∷ []) ≡ length r.sessions + 1 = length_push r.sessions new in
     let old : (s : Registered) → s.number < 1 + length r.sessions → s.due ≡ greatest config s.number r.judged → s.due ≡ greatest config s.number t.judged =
-    λ s l h. h ∙ sym (greatest_push config s.number r.judged _ ∙ cond-false (s.number == length r.sessions + 1) (max (greatest config s.number r.judged) (moment + 0 + config.max_interval)) (greatest config s.number r.judged) (ne_eqb s.number (length r.sessions + 1) (λ e. omega arith))) in
-    let fresh : moment + config.max_interval ≡ greatest config (length r.sessions + 1) t.judged =
+    λ s l h. h ∙ sym (greatest_push config s.number r.judged _ ∙ cond-false (s.number == length r.sessions + 1) (max (greatest config s.number r.judged) (due_of config moment 0)) (greatest config s.number r.judged) (ne_eqb s.number (length r.sessions + 1) (λ e. omega arith))) in
+    let fresh : due_of config moment 0 ≡ greatest config (length r.sessions + 1) t.judged =
     let none : greatest config (length r.sessions + 1) r.judged ≡ 0 = nothing_given config (length r.sessions + 1) r.judged d.senders in
-    let more : max (greatest config (length r.sessions + 1) r.judged) (moment + 0 + config.max_interval) ≡ moment + config.max_interval = omega (arith, none) in
-    sym (greatest_push config (length r.sessions + 1) r.judged _ ∙ cond-true (length r.sessions + 1 == length r.sessions + 1) (max (greatest config (length r.sessions + 1) r.judged) (moment + 0 + config.max_interval)) (greatest config (length r.sessions + 1) r.judged) (eq-eqb (length r.sessions + 1) (length r.sessions + 1) refl) ∙ more) in
+    let more : max (greatest config (length r.sessions + 1) r.judged) (due_of config moment 0) ≡ due_of config moment 0 = omega (arith, none) in
+    sym (greatest_push config (length r.sessions + 1) r.judged _ ∙ cond-true (length r.sessions + 1 == length r.sessions + 1) (max (greatest config (length r.sessions + 1) r.judged) (due_of config moment 0)) (greatest config (length r.sessions + 1) r.judged) (eq-eqb (length r.sessions + 1) (length r.sessions + 1) refl) ∙ more) in
     record {
       numbers = numbered_push 1 r.sessions new (omega arith) d.numbers;
       senders = subst (λ (n : ℕ). EachJudged (λ i. SenderBelow (n + 1) i.sender) t.judged) (sym many)
@@ -241,15 +232,15 @@ left_length MessageKind.Disconnect number rs = length-map rs _
 left_length MessageKind.Publish number rs = refl
 left_length MessageKind.UnknownMeta number rs = refl
 
-served_due : (config : Config) (r : Registry) (moment : ℕ) (p : Posted) (c : MessageKind) (s : Registered) (hold : ℕ) → s.number < 1 + length r.sessions → Due config r → Due config (served config r moment p c s hold)
+served_due : (config : Config) (r : Registry) (moment : ℕ) (p : Posted) (c : MessageKind) (s : Registered) (hold : ℕ) → s.number < 1 + length r.sessions → Due config r → Due config (noted r moment (served config (state_of r) moment p c s hold))
 served_due config r moment p c s hold below d =
-    let t : Registry = served config r moment p c s hold in
-    let f : Registered → Registered = λ q. cond (q.number == s.number) (record q { due = max q.due (moment + hold + config.max_interval) }) q in
-    let f_number : (q : Registered) → (f q).number ≡ q.number = λ q. let u : Registered = record q { due = max q.due (moment + hold + config.max_interval) } in cond_both (q.number == s.number) u q (λ (v : Registered). v.number ≡ q.number) (λ e. refl) (λ e. refl) in
-    let f_due : (q : Registered) → (f q).due ≡ cond (q.number == s.number) (max q.due (moment + hold + config.max_interval)) q.due =
-    λ q. (elim (q.number == s.number) as (λ b. (let u : Registered = record q { due = max q.due (moment + hold + config.max_interval) } in cond b u q).due ≡ cond b (max q.due (moment + hold + config.max_interval)) q.due) [ true ↦ refl | false ↦ refl ]) in
+    let t : Registry = noted r moment (served config (state_of r) moment p c s hold) in
+    let f : Registered → Registered = λ q. cond (q.number == s.number) (record q { due = max q.due (due_of config moment hold) }) q in
+    let f_number : (q : Registered) → (f q).number ≡ q.number = λ q. let u : Registered = record q { due = max q.due (due_of config moment hold) } in cond_both (q.number == s.number) u q (λ (v : Registered). v.number ≡ q.number) (λ e. refl) (λ e. refl) in
+    let f_due : (q : Registered) → (f q).due ≡ cond (q.number == s.number) (max q.due (due_of config moment hold)) q.due =
+    λ q. (elim (q.number == s.number) as (λ b. (let u : Registered = record q { due = max q.due (due_of config moment hold) } in cond b u q).due ≡ cond b (max q.due (due_of config moment hold)) q.due) [ true ↦ refl | false ↦ refl ]) in
     let step : (q : Registered) → q.due ≡ greatest config q.number r.judged → (f q).due ≡ greatest config (f q).number t.judged =
-    λ q h. f_due q ∙ ap (λ (n : ℕ). cond (q.number == s.number) (max n (moment + hold + config.max_interval)) n) h ∙ sym (greatest_push config q.number r.judged _) ∙ sym (ap (λ (n : ℕ). greatest config n t.judged) (f_number q)) in
+    λ q h. f_due q ∙ ap (λ (n : ℕ). cond (q.number == s.number) (max n (due_of config moment hold)) n) h ∙ sym (greatest_push config q.number r.judged _) ∙ sym (ap (λ (n : ℕ). greatest config n t.judged) (f_number q)) in
     let len : length t.sessions ≡ length r.sessions = left_length c s.number (map f r.sessions) ∙ length-map r.sessions f in
     record {
       numbers = left_numbers c s.number 1 (map f r.sessions) (numbered_through f 1 r.sessions f_number d.numbers);
@@ -258,11 +249,11 @@ served_due config r moment p c s hold below d =
       due = left_each (λ q. q.due ≡ greatest config q.number t.judged) c s.number (map f r.sessions) (λ q h. h) (each_session_through (λ q. q.due ≡ greatest config q.number r.judged) (λ q. q.due ≡ greatest config q.number t.judged) f r.sessions step d.due);
     }
 
-unnamed_due : (config : Config) (r : Registry) (moment : ℕ) (p : Posted) (b : Bool) → Due config r → Due config (unnamed config r moment p b)
+unnamed_due : (config : Config) (r : Registry) (moment : ℕ) (p : Posted) (b : Bool) → Due config r → Due config (noted r moment (unnamed config (state_of r) moment p b))
 unnamed_due config r moment p true d = opened_due config r moment p d
 unnamed_due config r moment p false d = sessionless_due config r moment p (message_kind_of p.message.channel) d
 
-judged_by_due : (config : Config) (r : Registry) (moment : ℕ) (p : Posted) (sender : Option Registered) (error : Option Error) → ((s : Registered) → sender ≡ Some s → s.number < 1 + length r.sessions) → Due config r → Due config (judged_by config r moment p sender error)
+judged_by_due : (config : Config) (r : Registry) (moment : ℕ) (p : Posted) (sender : Option Registered) (error : Option Error) → ((s : Registered) → sender ≡ Some s → s.number < 1 + length r.sessions) → Due config r → Due config (noted r moment (judged_by config (state_of r) moment p sender error))
 judged_by_due config r moment p sender (Some error) h d = refused_due config r moment p error sender d
 judged_by_due config r moment p None None h d = unnamed_due config r moment p (is_handshake p.message) d
 judged_by_due config r moment p (Some s) None h d = served_due config r moment p (message_kind_of p.message.channel) s (hold_of config p) (h s refl) d

@@ -13,7 +13,7 @@ use Rattle.bx_entry.specs.Listing.{Listed, Post, Posted}
 use Rattle.bx_message.specs.MessageKinds.{message_kind_of, is_handshake}
 use Rattle.bx_entry.specs.Listing as messages
 use Rattle.bx_entry.specs.declared.entry.Entry.{Entry}
-use Rattle.bx_entry.specs.Registry.{Registry, Registered, Judged, PlaceSlot, Ready, Waiting, NoSlot, judge, judged_by, named_by, refusal, registry, empty_registry, entries_of, unnamed}
+use Rattle.bx_entry.specs.Registry.{Registry, Registered, Judged, PlaceSlot, Ready, Waiting, NoSlot, judge, judged_by, named_by, refusal, registry, empty_registry, entries_of, unnamed, noted, state_of}
 use Rattle.bx_entry.specs.Sessions.{Filed, step, session, unopened}
 use Rattle.bx_entry.specs.Answers.{PlacedAnswer, answer_of, filed_for, answer_by, answer_at, answer}
 use Rattle.bx_theory.specs.Laws.{Each, AnswersStay, PlacesFrom, EntriesInOrder}
@@ -29,17 +29,8 @@ record Notes (r t : Registry) : Type 0 where
   judged : t.judged ≡ r.judged ++ found ∷ []
   place : found.entry.place ≡ length r.judged
 
-unnamed_notes : (config : Config) (r : Registry) (moment : ℕ) (p : Posted) (b : Bool) → Notes r (unnamed config r moment p b)
-unnamed_notes config r moment p true = record { found = _; judged = refl; place = refl }
-unnamed_notes config r moment p false = record { found = _; judged = refl; place = refl }
-
-judged_by_notes : (config : Config) (r : Registry) (moment : ℕ) (p : Posted) (sender : Option Registered) (error : Option Error) → Notes r (judged_by config r moment p sender error)
-judged_by_notes config r moment p sender (Some error) = record { found = _; judged = refl; place = refl }
-judged_by_notes config r moment p None None = unnamed_notes config r moment p (is_handshake p.message)
-judged_by_notes config r moment p (Some s) None = record { found = _; judged = refl; place = refl }
-
 judge_notes : (config : Config) (r : Registry) (x : Listed) → Notes r (judge config r x)
-judge_notes config r (Post p) = judged_by_notes config r (max r.clock p.moment) p (named_by r.sessions (message_kind_of p.message.channel) p.message) (refusal config r.sessions p)
+judge_notes config r (Post p) = record { found = _; judged = refl; place = refl }
 judge_notes config r (messages.Tick moment) = record { found = _; judged = refl; place = refl }
 
 abbrev entry_of : Judged → Entry

@@ -15,7 +15,7 @@ use Rattle.bx_message.specs.MessageKinds.{message_kind_of, is_handshake}
 use Rattle.bx_entry.specs.Listing as messages
 use Rattle.bx_entry.specs.declared.entry.Entry.{Entry}
 use Rattle.bx_entry.specs.declared.entry.EntryKind.TheVariants.{Opened, Refused, Tick}
-use Rattle.bx_entry.specs.Registry.{Registry, Registered, Judged, PlaceSlot, Ready, NoSlot, found_at, slot_for, rider_for, is_rider, judge, judged_by, refused, opened, served, extended, closed, overdue, is_overdue, named_by, refusal, hold_of, is_ack, client_id, kind_for, empty_registry, entries_of, registry, unnamed, sessionless, sessionless_kind}
+use Rattle.bx_entry.specs.Registry.{due_of, newcomer, tick_verdict, Registry, Registered, Judged, PlaceSlot, Ready, NoSlot, found_at, slot_for, rider_for, is_rider, judge, judged_by, refused, opened, served, extended, closed, overdue, is_overdue, named_by, refusal, hold_of, is_ack, client_id, kind_for, empty_registry, entries_of, registry, unnamed, sessionless, sessionless_kind, noted, state_of}
 use Rattle.bx_message.specs.Replies.{reply_to}
 use Rattle.bx_message.specs.declared.reply.AckReply.TheVariants as replies
 use Rattle.bx_theory.specs.Readings.{opens_by, closes, since_opening, unclosed, EachSession, SameLive}
@@ -85,12 +85,11 @@ all_stay : (f : Registered → Registered) (e : Entry) (rs : List Registered) �
 all_stay f e [] h c = tt
 all_stay f e (s ∷ rs) h c = (h s ∙ sym (ap (λ b. s.live && not b) (c s.number) ∙ (elim s.live as (λ b. (b && true) ≡ b) [ true ↦ refl | false ↦ refl ])), all_stay f e rs h c)
 
-refused_agrees : (config : Config) (r : Registry) (moment : ℕ) (p : Posted) (error : Error) (sender : Option Registered) → Agrees r → Agrees (refused config r moment p error sender)
+refused_agrees : (config : Config) (r : Registry) (moment : ℕ) (p : Posted) (error : Error) (sender : Option Registered) → Agrees r → Agrees (noted r moment (refused config (state_of r) p error sender))
 refused_agrees config r moment p error sender a =
-    let t : Registry = refused config r moment p error sender in
+    let t : Registry = noted r moment (refused config (state_of r) p error sender) in
     let e : Entry = record { place = length r.judged; moment = moment; kind = Refused; rides = None } in
-    let s : PlaceSlot = Ready (reply_to config (message_kind_of p.message.channel) p.message (option_map (λ (s : Registered). s.client) sender) (Failed error) replies.NoAck) in
-    agrees_without r (λ s. s) (found_at r moment Refused None None 0 s) t (λ s. refl) (λ n. refl) (same_all r.sessions) refl (all_stay (λ s. s) e r.sessions (λ s. refl) (λ n. refl)) a
+    agrees_without r (λ s. s) (found_at (length r.judged) moment (refused config (state_of r) p error sender)) t (λ s. refl) (λ n. refl) (same_all r.sessions) refl (all_stay (λ s. s) e r.sessions (λ s. refl) (λ n. refl)) a
 
 -- ---- a tick
 
@@ -133,7 +132,7 @@ tick_agrees config r moment a =
     let e : Entry = record { place = length r.judged; moment = now; kind = Tick (overdue now r.sessions); rides = None } in
     let one : (s : Registered) → list_any (λ m. m == s.number) (overdue now r.sessions) ≡ is_overdue now s → (cond (is_overdue now s) (record s { live = false }) s).live ≡ (s.live && not (closes s.number e)) =
     λ s h. swept_live now s ∙ ap (λ b. s.live && not b) (sym h) in
-    agrees_without r (λ s. cond (is_overdue now s) (record s { live = false }) s) (found_at r now (Tick (overdue now r.sessions)) None None 0 NoSlot) t (swept_number now) (λ n. refl) refl refl
+    agrees_without r (λ s. cond (is_overdue now s) (record s { live = false }) s) (found_at (length r.judged) now (tick_verdict (state_of r) now)) t (swept_number now) (λ n. refl) refl refl
     (each_session_map (λ s. list_any (λ m. m == s.number) (overdue now r.sessions) ≡ is_overdue now s) (λ s. (cond (is_overdue now s) (record s { live = false }) s).live ≡ (s.live && not (closes s.number e))) r.sessions one (named_overdue now 1 r.sessions a.numbers)) a
 
 -- ---- a new session
@@ -146,11 +145,11 @@ both_each : (P Q R : Registered → Type 0) (rs : List Registered) → ((s : Reg
 both_each P Q R [] h a b = tt
 both_each P Q R (s ∷ rs) h a b = (h s a.0 b.0, both_each P Q R rs h a.1 b.1)
 
-opened_agrees : (config : Config) (r : Registry) (moment : ℕ) (p : Posted) → Agrees r → Agrees (opened config r moment p (length r.sessions + 1) (is_ack p.message.ack))
+opened_agrees : (config : Config) (r : Registry) (moment : ℕ) (p : Posted) → Agrees r → Agrees (noted r moment (opened config (state_of r) moment p (length r.sessions + 1)))
 opened_agrees config r moment p a =
     let number : ℕ = length r.sessions + 1 in
-    let t : Registry = opened config r moment p number (is_ack p.message.ack) in
-    let new : Registered = record { number = number; client = client_id p.nonce number; ack = is_ack p.message.ack; due = moment + config.max_interval; live = true } in
+    let t : Registry = noted r moment (opened config (state_of r) moment p number) in
+    let new : Registered = newcomer config moment p number in
     let e : Entry = record { place = length r.judged; moment = moment; kind = Opened number (is_ack p.message.ack); rides = None } in
     let more : entries_of t ≡ entries_of r ++ e ∷ [] = map-append (λ (k : Judged). k.entry) r.judged _ in
     let old : (s : Registered) → s.number < 1 + length r.sessions → s.live ≡ reading s.number (entries_of r) → s.live ≡ reading s.number (entries_of t) =
@@ -213,16 +212,16 @@ served_close r number due j t opens shuts sessions judged a =
 
 -- what is found of it
 abbrev pub found_of : Config → Registry → ℕ → Posted → MessageKind → Registered → ℕ → Judged
-found_of config r moment p c s hold = found_at r moment (kind_for c p s hold) (rider_for (is_rider config r.senders c p s) s.number (slot_for config c p s)) (Some s.number) hold (slot_for config c p s)
+found_of config r moment p c s hold = found_at (length r.judged) moment (served config (state_of r) moment p c s hold)
 
-served_agrees : (config : Config) (r : Registry) (moment : ℕ) (p : Posted) (c : MessageKind) (s : Registered) (hold : ℕ) → Agrees r → Agrees (served config r moment p c s hold)
-served_agrees config r moment p MessageKind.Handshake s hold a = served_stay r s.number (moment + hold + config.max_interval) (found_of config r moment p MessageKind.Handshake s hold) (served config r moment p MessageKind.Handshake s hold) (λ n. refl) (λ n. refl) refl refl a
-served_agrees config r moment p MessageKind.Connect s hold a = served_stay r s.number (moment + hold + config.max_interval) (found_of config r moment p MessageKind.Connect s hold) (served config r moment p MessageKind.Connect s hold) (λ n. refl) (λ n. refl) refl refl a
-served_agrees config r moment p MessageKind.Subscribe s hold a = served_stay r s.number (moment + hold + config.max_interval) (found_of config r moment p MessageKind.Subscribe s hold) (served config r moment p MessageKind.Subscribe s hold) (λ n. refl) (λ n. refl) refl refl a
-served_agrees config r moment p MessageKind.Unsubscribe s hold a = served_stay r s.number (moment + hold + config.max_interval) (found_of config r moment p MessageKind.Unsubscribe s hold) (served config r moment p MessageKind.Unsubscribe s hold) (λ n. refl) (λ n. refl) refl refl a
-served_agrees config r moment p MessageKind.Disconnect s hold a = served_close r s.number (moment + hold + config.max_interval) (found_of config r moment p MessageKind.Disconnect s hold) (served config r moment p MessageKind.Disconnect s hold) (λ n. refl) (λ n. refl) refl refl a
-served_agrees config r moment p MessageKind.Publish s hold a = served_stay r s.number (moment + hold + config.max_interval) (found_of config r moment p MessageKind.Publish s hold) (served config r moment p MessageKind.Publish s hold) (λ n. refl) (λ n. refl) refl refl a
-served_agrees config r moment p MessageKind.UnknownMeta s hold a = served_stay r s.number (moment + hold + config.max_interval) (found_of config r moment p MessageKind.UnknownMeta s hold) (served config r moment p MessageKind.UnknownMeta s hold) (λ n. refl) (λ n. refl) refl refl a
+served_agrees : (config : Config) (r : Registry) (moment : ℕ) (p : Posted) (c : MessageKind) (s : Registered) (hold : ℕ) → Agrees r → Agrees (noted r moment (served config (state_of r) moment p c s hold))
+served_agrees config r moment p MessageKind.Handshake s hold a = served_stay r s.number (due_of config moment hold) (found_of config r moment p MessageKind.Handshake s hold) (noted r moment (served config (state_of r) moment p MessageKind.Handshake s hold)) (λ n. refl) (λ n. refl) refl refl a
+served_agrees config r moment p MessageKind.Connect s hold a = served_stay r s.number (due_of config moment hold) (found_of config r moment p MessageKind.Connect s hold) (noted r moment (served config (state_of r) moment p MessageKind.Connect s hold)) (λ n. refl) (λ n. refl) refl refl a
+served_agrees config r moment p MessageKind.Subscribe s hold a = served_stay r s.number (due_of config moment hold) (found_of config r moment p MessageKind.Subscribe s hold) (noted r moment (served config (state_of r) moment p MessageKind.Subscribe s hold)) (λ n. refl) (λ n. refl) refl refl a
+served_agrees config r moment p MessageKind.Unsubscribe s hold a = served_stay r s.number (due_of config moment hold) (found_of config r moment p MessageKind.Unsubscribe s hold) (noted r moment (served config (state_of r) moment p MessageKind.Unsubscribe s hold)) (λ n. refl) (λ n. refl) refl refl a
+served_agrees config r moment p MessageKind.Disconnect s hold a = served_close r s.number (due_of config moment hold) (found_of config r moment p MessageKind.Disconnect s hold) (noted r moment (served config (state_of r) moment p MessageKind.Disconnect s hold)) (λ n. refl) (λ n. refl) refl refl a
+served_agrees config r moment p MessageKind.Publish s hold a = served_stay r s.number (due_of config moment hold) (found_of config r moment p MessageKind.Publish s hold) (noted r moment (served config (state_of r) moment p MessageKind.Publish s hold)) (λ n. refl) (λ n. refl) refl refl a
+served_agrees config r moment p MessageKind.UnknownMeta s hold a = served_stay r s.number (due_of config moment hold) (found_of config r moment p MessageKind.UnknownMeta s hold) (noted r moment (served config (state_of r) moment p MessageKind.UnknownMeta s hold)) (λ n. refl) (λ n. refl) refl refl a
 
 -- ---- a message of no session
 
@@ -245,17 +244,17 @@ none_closed MessageKind.Disconnect m place moment n = refl
 none_closed MessageKind.Publish m place moment n = refl
 none_closed MessageKind.UnknownMeta m place moment n = refl
 
-sessionless_agrees : (config : Config) (r : Registry) (moment : ℕ) (p : Posted) (c : MessageKind) → Agrees r → Agrees (sessionless config r moment p c)
+sessionless_agrees : (config : Config) (r : Registry) (moment : ℕ) (p : Posted) (c : MessageKind) → Agrees r → Agrees (noted r moment (sessionless config (state_of r) p c))
 sessionless_agrees config r moment p c a =
     let e : Entry = record { place = length r.judged; moment = moment; kind = sessionless_kind c p.message; rides = None } in
-    agrees_without r (λ s. s) (found_at r moment (sessionless_kind c p.message) None None 0 (Ready (reply_to config c p.message None Done replies.NoAck))) (sessionless config r moment p c) (λ s. refl) (none_opened c p.message) (same_all r.sessions) refl
+    agrees_without r (λ s. s) (found_at (length r.judged) moment (sessionless config (state_of r) p c)) (noted r moment (sessionless config (state_of r) p c)) (λ s. refl) (none_opened c p.message) (same_all r.sessions) refl
     (all_stay (λ s. s) e r.sessions (λ s. refl) (none_closed c p.message (length r.judged) moment)) a
 
-unnamed_agrees : (config : Config) (r : Registry) (moment : ℕ) (p : Posted) (b : Bool) → Agrees r → Agrees (unnamed config r moment p b)
+unnamed_agrees : (config : Config) (r : Registry) (moment : ℕ) (p : Posted) (b : Bool) → Agrees r → Agrees (noted r moment (unnamed config (state_of r) moment p b))
 unnamed_agrees config r moment p true a = opened_agrees config r moment p a
 unnamed_agrees config r moment p false a = sessionless_agrees config r moment p (message_kind_of p.message.channel) a
 
-judged_by_agrees : (config : Config) (r : Registry) (moment : ℕ) (p : Posted) (sender : Option Registered) (error : Option Error) → Agrees r → Agrees (judged_by config r moment p sender error)
+judged_by_agrees : (config : Config) (r : Registry) (moment : ℕ) (p : Posted) (sender : Option Registered) (error : Option Error) → Agrees r → Agrees (noted r moment (judged_by config (state_of r) moment p sender error))
 judged_by_agrees config r moment p sender (Some error) a = refused_agrees config r moment p error sender a
 judged_by_agrees config r moment p None None a = unnamed_agrees config r moment p (is_handshake p.message) a
 judged_by_agrees config r moment p (Some s) None a = served_agrees config r moment p (message_kind_of p.message.channel) s (hold_of config p) a

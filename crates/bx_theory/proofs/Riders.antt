@@ -21,7 +21,7 @@ use Rattle.bx_entry.specs.declared.entry.EntryKind.{EntryKind}
 use Rattle.bx_entry.specs.declared.entry.EntryKind.TheVariants.{Connect, Subscribe, Unsubscribe, Publish, Disconnect, Refused, Tick}
 use Rattle.bx_entry.specs.declared.entry.EntryKind.TheVariants as entries
 use Rattle.bx_entry.specs.Sessions.{Session, Publication, Pending, Stage, Unopened, Live, Closed, answered, unheld, released_from, released, cleared, acknowledged, portion, with_batch, formed, forgotten, gives, given, holding, idle, answered_or_held, connected, subscribed, unsubscribed, with_event, delivered_to, delivered, overflowed, is_hit, has_room, published, expired_from, expired, ended, closed_by, disconnected, begun, step_by, step, unopened, session, rider_of, Filed}
-use Rattle.bx_entry.specs.Registry.{Registry, Registered, Judged, PlaceSlot, Ready, Waiting, NoSlot, is_ack, extended, swept, is_overdue, opened, served, rider_for, is_rider, is_one, joined, may_ride, slot_for, judge, judged_by, named_by, refusal, hold_of, registry, empty_registry, entries_of, unnamed}
+use Rattle.bx_entry.specs.Registry.{due_of, Registry, Registered, Judged, PlaceSlot, Ready, Waiting, NoSlot, is_ack, extended, swept, is_overdue, opened, served, rider_for, is_rider, is_one, joined, may_ride, slot_for, judge, judged_by, named_by, refusal, hold_of, registry, empty_registry, entries_of, unnamed, noted, state_of}
 use Rattle.bx_theory.specs.Laws.{NoRidersUnasked, RidesPlain, RidersArePlain, LastAnswer, LastGiven, Repetition}
 use Rattle.bx_theory.specs.Readings.{opens_by, closes_by, since_opening, EachSession}
 use Rattle.bx_theory.proofs.Counts.{subscribed_by, ride_both, rider_of_both, all_in_step, unopened_in_step}
@@ -45,11 +45,11 @@ no_rider : (b : Bool) (n : ℕ) (slot : PlaceSlot) → b ≡ false → rider_for
 no_rider true n slot h = cc
 no_rider false n slot h = refl
 
-unnamed_none : (config : Config) (r : Registry) (moment : ℕ) (p : Posted) (b : Bool) → AddsNone r (unnamed config r moment p b)
+unnamed_none : (config : Config) (r : Registry) (moment : ℕ) (p : Posted) (b : Bool) → AddsNone r (noted r moment (unnamed config (state_of r) moment p b))
 unnamed_none config r moment p true = record { found = _; judged = refl; none = refl }
 unnamed_none config r moment p false = record { found = _; judged = refl; none = refl }
 
-judged_by_none : (config : Config) (r : Registry) (moment : ℕ) (p : Posted) (sender : Option Registered) (error : Option Error) → config.ride ≡ false → AddsNone r (judged_by config r moment p sender error)
+judged_by_none : (config : Config) (r : Registry) (moment : ℕ) (p : Posted) (sender : Option Registered) (error : Option Error) → config.ride ≡ false → AddsNone r (noted r moment (judged_by config (state_of r) moment p sender error))
 judged_by_none config r moment p sender (Some error) h = record { found = _; judged = refl; none = refl }
 judged_by_none config r moment p None None h = unnamed_none config r moment p (is_handshake p.message)
 judged_by_none config r moment p (Some s) None h = record {
@@ -243,30 +243,30 @@ rides_plain config r c p s h =
     let b = and_parts p.last (not s.ack && (is_one (joined r.senders s.number) && may_ride c)) a.1 in
     not-true s.ack (and_parts (not s.ack) (is_one (joined r.senders s.number) && may_ride c) b.1).0
 
-served_knows : (config : Config) (r : Registry) (moment : ℕ) (p : Posted) (c : MessageKind) (s : Registered) (hold : ℕ) → Acks config (entries_of r) s.number s.ack → Knows config r → Knows config (served config r moment p c s hold)
+served_knows : (config : Config) (r : Registry) (moment : ℕ) (p : Posted) (c : MessageKind) (s : Registered) (hold : ℕ) → Acks config (entries_of r) s.number s.ack → Knows config r → Knows config (noted r moment (served config (state_of r) moment p c s hold))
 served_knows config r moment p c s hold a k =
     let j : Judged = found_of config r moment p c s hold in
     let P : ℕ → Bool → Type 0 = λ n ack. Acks config (entries_of r ++ (found_of config r moment p c s hold).entry ∷ []) n ack in
-    knows_next config r (served config r moment p c s hold) (found_of config r moment p c s hold) refl
-    (left_each (λ q. Acks config (entries_of r ++ (found_of config r moment p c s hold).entry ∷ []) q.number q.ack) c s.number (extended s.number (moment + hold + config.max_interval) r.sessions) (λ q h. h)
-    (extended_acks P s.number (moment + hold + config.max_interval) r.sessions (sessions_on config r (found_of config r moment p c s hold).entry k)))
+    knows_next config r (noted r moment (served config (state_of r) moment p c s hold)) (found_of config r moment p c s hold) refl
+    (left_each (λ q. Acks config (entries_of r ++ (found_of config r moment p c s hold).entry ∷ []) q.number q.ack) c s.number (extended s.number (due_of config moment hold) r.sessions) (λ q h. h)
+    (extended_acks P s.number (due_of config moment hold) r.sessions (sessions_on config r (found_of config r moment p c s hold).entry k)))
     (rides_of config (entries_of r) (is_rider config r.senders c p s) s.number (slot_for config c p s) (λ h. subst (Acks config (entries_of r) s.number) (rides_plain config r c p s h) a)) k
 
-opened_knows : (config : Config) (r : Registry) (moment : ℕ) (p : Posted) → since_opening (length r.sessions + 1) (entries_of r) ≡ None → Knows config r → Knows config (opened config r moment p (length r.sessions + 1) (is_ack p.message.ack))
+opened_knows : (config : Config) (r : Registry) (moment : ℕ) (p : Posted) → since_opening (length r.sessions + 1) (entries_of r) ≡ None → Knows config r → Knows config (noted r moment (opened config (state_of r) moment p (length r.sessions + 1)))
 opened_knows config r moment p n k =
     let number : ℕ = length r.sessions + 1 in
     let e : Entry = record { place = length r.judged; moment = moment; kind = entries.Opened (length r.sessions + 1) (is_ack p.message.ack); rides = None } in
-    knows_next config r (opened config r moment p (length r.sessions + 1) (is_ack p.message.ack)) _ refl
+    knows_next config r (noted r moment (opened config (state_of r) moment p (length r.sessions + 1))) _ refl
     (each_session_push (λ s. Acks config (entries_of r ++ e ∷ []) s.number s.ack) r.sessions _ (sessions_on config r e k)
     (acks_new config (entries_of r) (length r.judged) moment (length r.sessions + 1) (is_ack p.message.ack) n)) tt k
 
-unnamed_knows : (config : Config) (r : Registry) (moment : ℕ) (p : Posted) (b : Bool) → since_opening (length r.sessions + 1) (entries_of r) ≡ None → Knows config r → Knows config (unnamed config r moment p b)
+unnamed_knows : (config : Config) (r : Registry) (moment : ℕ) (p : Posted) (b : Bool) → since_opening (length r.sessions + 1) (entries_of r) ≡ None → Knows config r → Knows config (noted r moment (unnamed config (state_of r) moment p b))
 unnamed_knows config r moment p true n k = opened_knows config r moment p n k
-unnamed_knows config r moment p false n k = knows_next config r (unnamed config r moment p false) _ refl (sessions_on config r _ k) tt k
+unnamed_knows config r moment p false n k = knows_next config r (noted r moment (unnamed config (state_of r) moment p false)) _ refl (sessions_on config r _ k) tt k
 
 judged_by_knows : (config : Config) (r : Registry) (moment : ℕ) (p : Posted) (sender : Option Registered) (error : Option Error) → since_opening (length r.sessions + 1) (entries_of r) ≡ None →
-    ((s : Registered) → sender ≡ Some s → Acks config (entries_of r) s.number s.ack) → Knows config r → Knows config (judged_by config r moment p sender error)
-judged_by_knows config r moment p sender (Some error) n h k = knows_next config r (judged_by config r moment p sender (Some error)) _ refl (sessions_on config r _ k) tt k
+    ((s : Registered) → sender ≡ Some s → Acks config (entries_of r) s.number s.ack) → Knows config r → Knows config (noted r moment (judged_by config (state_of r) moment p sender error))
+judged_by_knows config r moment p sender (Some error) n h k = knows_next config r (noted r moment (judged_by config (state_of r) moment p sender (Some error))) _ refl (sessions_on config r _ k) tt k
 judged_by_knows config r moment p None None n h k = unnamed_knows config r moment p (is_handshake p.message) n k
 judged_by_knows config r moment p (Some s) None n h k = served_knows config r moment p (message_kind_of p.message.channel) s (hold_of config p) (h s refl) k
 

@@ -20,7 +20,7 @@ use Rattle.bx_entry.specs.declared.entry.EntryKind.{EntryKind}
 use Rattle.bx_entry.specs.declared.entry.EntryKind.TheVariants as entries
 use Rattle.bx_entry.specs.declared.senders.Senders.{Senders}
 use Rattle.bx_entry.specs.declared.senders.Senders.TheVariants.{NoneYet, Only, Mixed}
-use Rattle.bx_entry.specs.Registry.{Registry, Registered, Judged, PlaceSlot, Ready, Waiting, NoSlot, is_one, joined, senders_behind, may_ride, is_rider, rider_for, kind_for, slot_for, judge, judged_by, named_by, refusal, hold_of, registry, empty_registry, entries_of, entries, unnamed}
+use Rattle.bx_entry.specs.Registry.{Registry, Registered, Judged, PlaceSlot, Ready, Waiting, NoSlot, is_one, joined, senders_behind, may_ride, is_rider, rider_for, kind_for, slot_for, judge, judged_by, named_by, refusal, hold_of, registry, empty_registry, entries_of, entries, unnamed, noted, state_of}
 use Rattle.bx_entry.specs.Sessions.{Session, Stage, Unopened, Live, is_live, portion, session, step, step_by, rider_of, is_riding, ridden, ridden_by}
 use Rattle.bx_theory.specs.Readings.{is_from, opens_by}
 use Rattle.bx_theory.specs.Riding.{found_behind, is_own, may_have_rider, IsRiderOf, rider_session, RiderReading, NothingRidesBeside, OthersNeverRide, GivesRider, RiderGiven}
@@ -204,7 +204,7 @@ record Judging (config : Config) (es : List Entry) (js : List Judged) (p : Poste
 opened_own : (n m : ℕ) → ((n == m) && not (m == n)) ≡ true → ⊥
 opened_own n m h = let a = and_parts (n == m) (not (m == n)) h in both_ways (m == n) (not-true (m == n) a.1) (eq-eqb m n (sym (eqb-true n m a.0)))
 
-unnamed_judging : (config : Config) (es : List Entry) (js : List Judged) (r : Registry) (moment : ℕ) (p : Posted) (b : Bool) → Judging config es js p r (unnamed config r moment p b)
+unnamed_judging : (config : Config) (es : List Entry) (js : List Judged) (r : Registry) (moment : ℕ) (p : Posted) (b : Bool) → Judging config es js p r (noted r moment (unnamed config (state_of r) moment p b))
 unnamed_judging config es js r moment p true = record {
   found = _;
   judged = refl;
@@ -223,7 +223,7 @@ unnamed_judging config es js r moment p false = record {
 }
 
 judged_by_judging : (config : Config) (es : List Entry) (js : List Judged) (r : Registry) (moment : ℕ) (p : Posted) (sender : Option Registered) (error : Option Error) → Says r.senders js →
-    ((s : Registered) → sender ≡ Some s → (session config s.number es).ack ≡ s.ack) → Judging config es js p r (judged_by config r moment p sender error)
+    ((s : Registered) → sender ≡ Some s → (session config s.number es).ack ≡ s.ack) → Judging config es js p r (noted r moment (judged_by config (state_of r) moment p sender error))
 judged_by_judging config es js r moment p sender (Some error) says acks = record {
   found = _;
   judged = refl;
@@ -256,11 +256,11 @@ record Behind (p : Posted) (t : Registry) : Type 0 where
   now : Senders
   senders : t.senders ≡ senders_behind p now
 
-unnamed_behind : (config : Config) (r : Registry) (moment : ℕ) (p : Posted) (b : Bool) → Behind p (unnamed config r moment p b)
+unnamed_behind : (config : Config) (r : Registry) (moment : ℕ) (p : Posted) (b : Bool) → Behind p (noted r moment (unnamed config (state_of r) moment p b))
 unnamed_behind config r moment p true = record { now = _; senders = refl }
 unnamed_behind config r moment p false = record { now = _; senders = refl }
 
-judged_by_behind : (config : Config) (r : Registry) (moment : ℕ) (p : Posted) (sender : Option Registered) (error : Option Error) → Behind p (judged_by config r moment p sender error)
+judged_by_behind : (config : Config) (r : Registry) (moment : ℕ) (p : Posted) (sender : Option Registered) (error : Option Error) → Behind p (noted r moment (judged_by config (state_of r) moment p sender error))
 judged_by_behind config r moment p sender (Some error) = record { now = _; senders = refl }
 judged_by_behind config r moment p None None = unnamed_behind config r moment p (is_handshake p.message)
 judged_by_behind config r moment p (Some s) None = record { now = _; senders = refl }
@@ -433,11 +433,11 @@ served_unridden config r moment p c s hold h =
     absurd (both_ways (may_ride c) (sym (carried_kind c p s hold) ∙ h) w.1))
     (λ b. ap (λ (rides : Bool). rider_for rides s.number (slot_for config c p s)) b)
 
-unnamed_unridden : (config : Config) (r : Registry) (moment : ℕ) (p : Posted) (b : Bool) → AddsUnridden r (unnamed config r moment p b)
+unnamed_unridden : (config : Config) (r : Registry) (moment : ℕ) (p : Posted) (b : Bool) → AddsUnridden r (noted r moment (unnamed config (state_of r) moment p b))
 unnamed_unridden config r moment p true = record { found = _; judged = refl; unridden = λ h. refl }
 unnamed_unridden config r moment p false = record { found = _; judged = refl; unridden = λ h. refl }
 
-judged_by_unridden : (config : Config) (r : Registry) (moment : ℕ) (p : Posted) (sender : Option Registered) (error : Option Error) → AddsUnridden r (judged_by config r moment p sender error)
+judged_by_unridden : (config : Config) (r : Registry) (moment : ℕ) (p : Posted) (sender : Option Registered) (error : Option Error) → AddsUnridden r (noted r moment (judged_by config (state_of r) moment p sender error))
 judged_by_unridden config r moment p sender (Some error) = record { found = _; judged = refl; unridden = λ h. refl }
 judged_by_unridden config r moment p None None = unnamed_unridden config r moment p (is_handshake p.message)
 judged_by_unridden config r moment p (Some s) None = record {

@@ -14,7 +14,7 @@ use Rattle.bx_message.specs.MessageKinds.{message_kind_of, is_handshake}
 use Rattle.bx_entry.specs.Listing.{Listed, Post, Posted}
 use Rattle.bx_entry.specs.Listing as messages
 use Rattle.bx_entry.specs.declared.entry.Entry.{Entry}
-use Rattle.bx_entry.specs.Registry.{Registry, Registered, Judged, judge, judged_by, sender_of, named_by, refusal, registry, empty_registry, entries_of, unnamed}
+use Rattle.bx_entry.specs.Registry.{Registry, Registered, Judged, judge, judged_by, sender_of, named_by, refusal, registry, empty_registry, entries_of, unnamed, noted, state_of}
 use Rattle.bx_theory.specs.Readings.{opens_by, since_opening, unclosed, AcceptedWhileLive}
 use Rattle.bx_theory.proofs.Dues.{named_session}
 use Rattle.bx_theory.proofs.Lives.{same_live}
@@ -54,14 +54,14 @@ record FoundGood (r t : Registry) : Type 0 where
   judged : t.judged ≡ r.judged ++ found ∷ []
   good : Good r.judged found
 
-unnamed_good : (config : Config) (r : Registry) (moment : ℕ) (p : Posted) (b : Bool) → FoundGood r (unnamed config r moment p b)
+unnamed_good : (config : Config) (r : Registry) (moment : ℕ) (p : Posted) (b : Bool) → FoundGood r (noted r moment (unnamed config (state_of r) moment p b))
 unnamed_good config r moment p true = record { found = _; judged = refl; good = λ number s o. absurd (opens number s o) }
   where
     opens : (number : ℕ) → {m : ℕ} → Some m ≡ Some number → (m == number) ≡ false → ⊥
     opens number {m = m} s o = let same : m ≡ number = cc in both_ways (m == number) o (eq-eqb m number same)
 unnamed_good config r moment p false = record { found = _; judged = refl; good = λ number s o. cc }
 
-judged_by_good : (config : Config) (r : Registry) (moment : ℕ) (p : Posted) (sender : Option Registered) (error : Option Error) → ((s : Registered) → sender ≡ Some s → live_by s.number (entries_of r) ≡ true) → FoundGood r (judged_by config r moment p sender error)
+judged_by_good : (config : Config) (r : Registry) (moment : ℕ) (p : Posted) (sender : Option Registered) (error : Option Error) → ((s : Registered) → sender ≡ Some s → live_by s.number (entries_of r) ≡ true) → FoundGood r (noted r moment (judged_by config (state_of r) moment p sender error))
 judged_by_good config r moment p sender (Some error) h = record { found = _; judged = refl; good = λ number s o. cc }
 judged_by_good config r moment p None None h = unnamed_good config r moment p (is_handshake p.message)
 judged_by_good config r moment p (Some q) None h = record { found = _; judged = refl; good = λ number s o. (let same : q.number ≡ number = cc in subst (λ (n : ℕ). live_by n (entries_of r) ≡ true) same (h q refl)) }

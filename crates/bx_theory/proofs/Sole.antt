@@ -11,7 +11,7 @@ use Rattle.bx_message.specs.MessageKinds.{message_kind_of, is_handshake}
 use Rattle.bx_entry.specs.Listing.{Listed, Post, Posted, listed_from}
 use Rattle.bx_entry.specs.Inputs.{ReadInput, Request, Unread, Tick, refusal_of, added_by}
 use Rattle.bx_entry.specs.declared.input.Refusal.{Refusal}
-use Rattle.bx_entry.specs.Registry.{Registry, Registered, Judged, PlaceSlot, Ready, Waiting, NoSlot, judge, judged_by, slot_for, slot_with, rider_for, is_rider, named_by, refusal, hold_of, registry, empty_registry, entries_of, unnamed}
+use Rattle.bx_entry.specs.Registry.{Registry, Registered, Judged, PlaceSlot, Ready, Waiting, NoSlot, judge, judged_by, slot_for, slot_with, rider_for, is_rider, named_by, refusal, hold_of, registry, empty_registry, entries_of, unnamed, noted, state_of}
 use Rattle.bx_entry.specs.Sessions.{is_live, session}
 use Rattle.bx_entry.specs.declared.entry.Rider.{Rider}
 use Rattle.bx_entry.specs.Answers.{answer_by, answer_at, answer_in, answer}
@@ -100,11 +100,11 @@ slot_with_is true n (Waiting number) h = h
 slot_with_is true n NoSlot h = h
 slot_with_is false n slot h = h
 
-unnamed_adds : (config : Config) (r : Registry) (moment : ℕ) (p : Posted) (b : Bool) → Adds config r (unnamed config r moment p b)
+unnamed_adds : (config : Config) (r : Registry) (moment : ℕ) (p : Posted) (b : Bool) → Adds config r (noted r moment (unnamed config (state_of r) moment p b))
 unnamed_adds config r moment p true = record { found = _; judged = refl; slot = tt; rider = λ rider e. cc }
 unnamed_adds config r moment p false = record { found = _; judged = refl; slot = tt; rider = λ rider e. cc }
 
-judged_by_adds : (config : Config) (r : Registry) (moment : ℕ) (p : Posted) (sender : Option Registered) (error : Option Error) → ((s : Registered) → sender ≡ Some s → is_live (session config s.number (entries_of r)).stage ≡ true) → Adds config r (judged_by config r moment p sender error)
+judged_by_adds : (config : Config) (r : Registry) (moment : ℕ) (p : Posted) (sender : Option Registered) (error : Option Error) → ((s : Registered) → sender ≡ Some s → is_live (session config s.number (entries_of r)).stage ≡ true) → Adds config r (noted r moment (judged_by config (state_of r) moment p sender error))
 judged_by_adds config r moment p sender (Some error) live = record { found = _; judged = refl; slot = tt; rider = λ rider e. cc }
 judged_by_adds config r moment p None None live = unnamed_adds config r moment p (is_handshake p.message)
 judged_by_adds config r moment p (Some s) None live = record {

@@ -17,7 +17,7 @@ use Rattle.bx_entry.specs.Listing as messages
 use Rattle.bx_entry.specs.declared.entry.Entry.{Entry}
 use Rattle.bx_entry.specs.declared.entry.EntryKind.{EntryKind}
 use Rattle.bx_entry.specs.declared.entry.EntryKind.TheVariants.{Opened, Connect, Subscribe, Unsubscribe, Publish, Disconnect, Refused, Tick}
-use Rattle.bx_entry.specs.Registry.{Registered, Registry, Judged, event_of, registry, entries_of, entries}
+use Rattle.bx_entry.specs.Registry.{due_of, Registered, Registry, Judged, event_of, registry, entries_of, entries}
 use Rattle.bx_names.specs.InForce.{in_force, with_pattern}
 use Rattle.bx_entry.specs.Sessions.{Session, Pending, Filed, Publication, ack_given, is_live, is_hit, has_room, pending_count, step, session, Closed}
 
@@ -186,7 +186,7 @@ is_from number (Some n) = number == n
 
 -- what the messages of the session gave, one after another
 abbrev pub given_moments : Config → ℕ → List Judged → List ℕ
-given_moments config number js = map (λ (j : Judged). j.entry.moment + j.hold + config.max_interval) (filter (λ (j : Judged). is_from number j.sender) js)
+given_moments config number js = map (λ (j : Judged). due_of config j.entry.moment j.hold) (filter (λ (j : Judged). is_from number j.sender) js)
 
 -- P holds of each session
 abbrev pub EachSession : (Registered → Type 0) → List Registered → Type 0

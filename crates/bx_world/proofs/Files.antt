@@ -12,7 +12,7 @@ use Rattle.bx_message.specs.declared.message_kind.MessageKind.{MessageKind}
 use Rattle.bx_entry.specs.Listing.{Listed, Post, Posted}
 use Rattle.bx_message.specs.MessageKinds.{message_kind_of, is_handshake}
 use Rattle.bx_entry.specs.Listing as messages
-use Rattle.bx_entry.specs.Registry.{Registry, Registered, Judged, PlaceSlot, Ready, Waiting, NoSlot, judge, judged_by, served, slot_for, slot_with, rider_for, is_rider, left_by, extended, swept, is_overdue, named_by, refusal, hold_of, registry, empty_registry, entries_of, unnamed}
+use Rattle.bx_entry.specs.Registry.{due_of, Registry, Registered, Judged, PlaceSlot, Ready, Waiting, NoSlot, judge, judged_by, served, slot_for, slot_with, rider_for, is_rider, left_by, extended, swept, is_overdue, named_by, refusal, hold_of, registry, empty_registry, entries_of, unnamed, noted, state_of}
 use Rattle.bx_entry.specs.declared.input.Input.{Input}
 use Rattle.bx_entry.specs.Sessions.{Session, Filed, session}
 use Rattle.bx_entry.specs.Answers.{PlacedAnswer, answer_of, answer_by, answer_at}
@@ -99,19 +99,19 @@ slot_ridden true number (Waiting session) rs h s = s
 slot_ridden true number NoSlot rs h s = s
 slot_ridden false number slot rs h s = s
 
-served_waiters : (config : Config) (r : Registry) (moment : ℕ) (p : Posted) (c : MessageKind) (s : Registered) (hold : ℕ) → has s.number r.sessions ≡ true → Waiters r → Waiters (served config r moment p c s hold)
+served_waiters : (config : Config) (r : Registry) (moment : ℕ) (p : Posted) (c : MessageKind) (s : Registered) (hold : ℕ) → has s.number r.sessions ≡ true → Waiters r → Waiters (noted r moment (served config (state_of r) moment p c s hold))
 served_waiters config r moment p c s hold here w =
-    let due : ℕ = moment + hold + config.max_interval in
+    let due : ℕ = due_of config moment hold in
     let ts : List Registered = left_by c s.number (extended s.number due r.sessions) in
-    let same : (n : ℕ) → has n r.sessions ≡ true → has n (left_by c s.number (extended s.number (moment + hold + config.max_interval) r.sessions)) ≡ true =
+    let same : (n : ℕ) → has n r.sessions ≡ true → has n (left_by c s.number (extended s.number (due_of config moment hold) r.sessions)) ≡ true =
     λ n h. left_has c s.number n (extended s.number due r.sessions) ∙ extended_has s.number due n r.sessions ∙ h in
     waiters_push r ts _ same (slot_ridden (is_rider config r.senders c p s) s.number (slot_for config c p s) ts (same s.number here) (slot_served config c p s ts (same s.number here))) w
 
-unnamed_waiters : (config : Config) (r : Registry) (moment : ℕ) (p : Posted) (b : Bool) → Waiters r → Waiters (unnamed config r moment p b)
-unnamed_waiters config r moment p true w = waiters_push r (unnamed config r moment p true).sessions _ (λ n g. has_push n r.sessions _ g) tt w
+unnamed_waiters : (config : Config) (r : Registry) (moment : ℕ) (p : Posted) (b : Bool) → Waiters r → Waiters (noted r moment (unnamed config (state_of r) moment p b))
+unnamed_waiters config r moment p true w = waiters_push r (noted r moment (unnamed config (state_of r) moment p true)).sessions _ (λ n g. has_push n r.sessions _ g) tt w
 unnamed_waiters config r moment p false w = waiters_push r r.sessions _ (λ n g. g) tt w
 
-judged_by_waiters : (config : Config) (r : Registry) (moment : ℕ) (p : Posted) (sender : Option Registered) (error : Option Error) → ((s : Registered) → sender ≡ Some s → has s.number r.sessions ≡ true) → Waiters r → Waiters (judged_by config r moment p sender error)
+judged_by_waiters : (config : Config) (r : Registry) (moment : ℕ) (p : Posted) (sender : Option Registered) (error : Option Error) → ((s : Registered) → sender ≡ Some s → has s.number r.sessions ≡ true) → Waiters r → Waiters (noted r moment (judged_by config (state_of r) moment p sender error))
 judged_by_waiters config r moment p sender (Some error) h w = waiters_push r r.sessions _ (λ n g. g) tt w
 judged_by_waiters config r moment p None None h w = unnamed_waiters config r moment p (is_handshake p.message) w
 judged_by_waiters config r moment p (Some s) None h w = served_waiters config r moment p (message_kind_of p.message.channel) s (hold_of config p) (h s refl) w

@@ -11,7 +11,7 @@ use Rattle.bx_entry.specs.Listing.{Listed, Post, Posted, listed_from}
 use Rattle.bx_entry.specs.Listing as messages
 use Rattle.bx_entry.specs.Inputs.{ReadInput, Request, Unread, Tick, added_by}
 use Rattle.bx_entry.specs.Requests.{read_input}
-use Rattle.bx_entry.specs.Registry.{Registry, Registered, Judged, PlaceSlot, Ready, Waiting, NoSlot, judge, judged_by, slot_for, slot_with, rider_for, is_rider, named_by, refusal, registry, empty_registry, entries_of, unnamed}
+use Rattle.bx_entry.specs.Registry.{Registry, Registered, Judged, PlaceSlot, Ready, Waiting, NoSlot, judge, judged_by, slot_for, slot_with, rider_for, is_rider, named_by, refusal, registry, empty_registry, entries_of, unnamed, noted, state_of}
 use Rattle.bx_entry.specs.Answers.{answer_at, answer_by}
 use Rattle.bx_entry.specs.declared.entry.Slot.{Slot}
 use Rattle.bx_entry.specs.declared.input.Input.{Input}
@@ -67,11 +67,11 @@ record Slots (x : Listed) (r t : Registry) : Type 0 where
   judged : t.judged ≡ r.judged ++ found ∷ []
   slotted : Slotted x found.slot
 
-unnamed_slots : (config : Config) (r : Registry) (moment : ℕ) (p : Posted) (b : Bool) → Slots (Post p) r (unnamed config r moment p b)
+unnamed_slots : (config : Config) (r : Registry) (moment : ℕ) (p : Posted) (b : Bool) → Slots (Post p) r (noted r moment (unnamed config (state_of r) moment p b))
 unnamed_slots config r moment p true = record { found = _; judged = refl; slotted = tt }
 unnamed_slots config r moment p false = record { found = _; judged = refl; slotted = tt }
 
-judged_by_slots : (config : Config) (r : Registry) (moment : ℕ) (p : Posted) (sender : Option Registered) (error : Option Error) → Slots (Post p) r (judged_by config r moment p sender error)
+judged_by_slots : (config : Config) (r : Registry) (moment : ℕ) (p : Posted) (sender : Option Registered) (error : Option Error) → Slots (Post p) r (noted r moment (judged_by config (state_of r) moment p sender error))
 judged_by_slots config r moment p sender (Some error) = record { found = _; judged = refl; slotted = tt }
 judged_by_slots config r moment p None None = unnamed_slots config r moment p (is_handshake p.message)
 judged_by_slots config r moment p (Some s) None = record { found = _; judged = refl; slotted = ridden_message (is_rider config r.senders (message_kind_of p.message.channel) p s) s.number (slot_for config (message_kind_of p.message.channel) p s) p (slot_for_message config (message_kind_of p.message.channel) p s) }

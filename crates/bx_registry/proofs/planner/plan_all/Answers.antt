@@ -8,7 +8,8 @@ use Rattle.bx_entry.specs.Listing.{Listed, Posted, listed_from, request}
 use Rattle.bx_entry.specs.declared.senders.Senders.{Senders}
 use Rattle.bx_roster.specs.Live.{Members}
 use Rattle.bx_registry.specs.Postings.{posted_of}
-use Rattle.bx_registry.specs.Rolls.{verdict}
+use Rattle.bx_entry.specs.Registry.{verdict}
+use Rattle.bx_registry.specs.Rolls.{state_of}
 use Rattle.bx_registry.specs.Planners.{IsFoundAt, roll_between}
 use Rattle.bx_registry.specs.Drafts.{members_of}
 use Rattle.bx_entry.proofs.RequestLemmas.{length-listed}
@@ -50,9 +51,9 @@ loop-message-preserved c =
     subst (λ (ys : List Message). SoFar config before base c.args.start.clock c.args.start.place list (listed_from moment nonce sole seen ys) d senders now place c.loop-message.entries c.loop-message.slots) rest c.loop-message.invariant.1 in
     let posted : posted_of c.posted_at-posted.result ≡ p =
     c.posted_at-posted.ensures ∙ ap (λ (k : ℕ). record p { last = k == 0 }) left in
-    let found : IsFoundAt place (max now moment) (verdict config (members_of d) senders (max now moment) p) (members_of c.plan_next.new.draft) c.in_ok-entry.behind c.in_ok-entry.entry c.in_ok-entry.slot =
-    subst (λ (k : ℕ). IsFoundAt place k (verdict config (members_of d) senders k p) (members_of c.plan_next.new.draft) c.in_ok-entry.behind c.in_ok-entry.entry c.in_ok-entry.slot) c.max-now.ensures
-    (subst (λ (q : Posted). IsFoundAt place c.max-now.result (verdict config (members_of d) senders c.max-now.result q) (members_of c.plan_next.new.draft) c.in_ok-entry.behind c.in_ok-entry.entry c.in_ok-entry.slot) posted c.in_ok-entry.ensures.found) in
+    let found : IsFoundAt place (max now moment) (members_of d) (verdict config (state_of (members_of d) senders) (max now moment) p) (members_of c.plan_next.new.draft) c.in_ok-entry.behind c.in_ok-entry.entry c.in_ok-entry.slot =
+    subst (λ (k : ℕ). IsFoundAt place k (members_of d) (verdict config (state_of (members_of d) senders) k p) (members_of c.plan_next.new.draft) c.in_ok-entry.behind c.in_ok-entry.entry c.in_ok-entry.slot) c.max-now.ensures
+    (subst (λ (q : Posted). IsFoundAt place c.max-now.result (members_of d) (verdict config (state_of (members_of d) senders) c.max-now.result q) (members_of c.plan_next.new.draft) c.in_ok-entry.behind c.in_ok-entry.entry c.in_ok-entry.slot) posted c.in_ok-entry.ensures.found) in
     let handshake : c.is_handshake-seen.result ≡ is_handshake x =
     c.is_handshake-seen.ensures x (c.posted_at-posted.result.by_channel ∙ ap (λ (q : Posted). message_kind_of q.message.channel) c.posted_at-posted.ensures) in
     let le : max now moment ≤ greatest_moment = omega (arith, c.loop-message.invariant.1.moment, c.requires.moment) in (
