@@ -2,7 +2,7 @@
 use Rattle.std.specs.Prelude.{ℕ, ◌≡◌}
 use Rattle.std.proofs.Common.{lit≤}
 use Rattle.bx_advice.specs.declared.config.Limits.{Limits}
-use Rattle.bx_advice.specs.declared.config.TheConstants.{MAX_MOMENT, MAX_LENGTH}
+use Rattle.bx_advice.specs.declared.config.TheConstants.{MAX_MOMENT, MAX_LENGTH, STANDARD_BATCH, STANDARD_EVENTS, STANDARD_PATTERNS, STANDARD_SESSIONS, STANDARD_TEXTS}
 
 -- the greatest moment that is taken
 abbrev pub greatest_moment : ℕ
@@ -14,7 +14,14 @@ greatest_length = MAX_LENGTH
 
 -- the limits of this server
 abbrev pub standard_limits : Limits
-standard_limits = record { events = 1024; patterns = 1024; batch = 256; sessions = 65536; texts = 64; some_batch = lit≤ tt }
+standard_limits = record {
+  events = STANDARD_EVENTS;
+  patterns = STANDARD_PATTERNS;
+  batch = STANDARD_BATCH;
+  sessions = STANDARD_SESSIONS;
+  texts = STANDARD_TEXTS;
+  some_batch = lit≤ tt;
+}
 
 -- the limits are those of this server
 pub record IsStandard (limits : Limits) : Type 0 where

@@ -1,4 +1,5 @@
 ghost use Rattle.std.specs.Prelude.{◌≤◌};
+ghost use Rattle.bx_advice.specs.declared.config.TheConstants.{MAX_SHARDS};
 
 use crate::options::Options;
 use std::marker::Model;
@@ -34,13 +35,28 @@ pub struct Limits {
     pub ghost some_batch: { 1 ≤ batch },
 }
 
+/// How many events may wait for a session where nothing else is configured.
+pub const STANDARD_EVENTS: usize = 1024;
+
+/// How many patterns may be in force for a session.
+pub const STANDARD_PATTERNS: usize = 1024;
+
+/// How many events one connect may be given.
+pub const STANDARD_BATCH: usize = 256;
+
+/// How many sessions may be live.
+pub const STANDARD_SESSIONS: usize = 65_536;
+
+/// How many texts the `subscription` of one message may have.
+pub const STANDARD_TEXTS: usize = 64;
+
 /// The limits of this server.
 pub const STANDARD_LIMITS: Limits = Limits {
-    events: 1024,
-    patterns: 1024,
-    batch: 256,
-    sessions: 65_536,
-    texts: 64,
+    events: STANDARD_EVENTS,
+    patterns: STANDARD_PATTERNS,
+    batch: STANDARD_BATCH,
+    sessions: STANDARD_SESSIONS,
+    texts: STANDARD_TEXTS,
 };
 
 /// How the server is run. Times are in milliseconds.
@@ -62,7 +78,7 @@ pub struct Config {
     /// Whether a publish that has no client id is accepted, as a message of no session.
     pub anonymous: bool,
     pub ghost some_shard: { 1 ≤ shards },
-    pub ghost shards_in_range: { shards ≤ 64 },
+    pub ghost shards_in_range: { shards ≤ MAX_SHARDS },
 }
 
 /// Among how many shards sessions are placed: 1 to [`MAX_SHARDS`]. Contracts see the number.
@@ -73,12 +89,13 @@ pub struct ShardCount {
 
 impl Model for ShardCount {
     ghost use Rattle.std.specs.Prelude.{ℕ, ◌≤◌};
+    ghost use Rattle.bx_advice.specs.declared.config.TheConstants.{MAX_SHARDS};
 
     ghost Value = { ℕ };
 
     ghost view = { λ s. s.count };
 
-    ghost invariant = { λ s. (1 ≤ s.count) × (s.count ≤ 64) };
+    ghost invariant = { λ s. (1 ≤ s.count) × (s.count ≤ MAX_SHARDS) };
 
     ghost inverse = { λ n. record { count = n } };
 }
@@ -88,7 +105,7 @@ impl ShardCount {
 
     /// So many shards; none where they are not 1 to [`MAX_SHARDS`].
     pub fn new(count: usize) -> Option<ShardCount>
-        ensures valid { IsSome result ↔ ((1 ≤ count) × (count ≤ 64)) }
+        ensures valid { IsSome result ↔ ((1 ≤ count) × (count ≤ MAX_SHARDS)) }
         ensures count { IfSome result (λ s. s ≡ count) }
     {
         if count < 1 || count > MAX_SHARDS {
@@ -101,7 +118,7 @@ impl ShardCount {
     pub fn get(self) -> usize
         ensures same { result ≡ self }
         ensures some { 1 ≤ result }
-        ensures in_range { result ≤ 64 }
+        ensures in_range { result ≤ MAX_SHARDS }
     {
         self.count
     }
@@ -114,7 +131,7 @@ impl Config {
     /// The configuration with these settings, the times in milliseconds, and the standard limits, in which events go
     /// out with connects alone and a publish needs a client id; none where `shards` is not 1 to [`MAX_SHARDS`].
     pub fn new(shards: usize, timeout: u32, interval: u32, max_interval: u32) -> Option<Config>
-        ensures valid { IsSome result ↔ ((1 ≤ shards) × (shards ≤ 64)) }
+        ensures valid { IsSome result ↔ ((1 ≤ shards) × (shards ≤ MAX_SHARDS)) }
         ensures shards { IfSome result (λ c. c.shards ≡ shards) }
         ensures times { IfSome result (λ c.
             (c.timeout ≡ timeout) × (c.interval ≡ interval) × (c.max_interval ≡ max_interval)) }
@@ -146,7 +163,7 @@ impl Config {
     /// The same, with so many events that may wait for each session; none where they are not 1 to
     /// [`MAX_EVENTS`].
     pub fn with_limit(self, events: u32) -> Option<Config>
-        ensures valid { IsSome result ↔ ((1 ≤ events) × (events ≤ 65536)) }
+        ensures valid { IsSome result ↔ ((1 ≤ events) × (events ≤ MAX_EVENTS)) }
         ensures limit { IfSome result (λ c. c ≡ record self { limits = record self.limits { events = events } }) }
     {
         if events < 1 || events > MAX_EVENTS {

@@ -42,15 +42,6 @@ impl Model for Window {
     ghost invariant = { λ w. (events_of w.queue ≡ w.events.items) × (w.out ≤ length w.events.items) };
 }
 
-/// Why an event was not taken.
-#[derive(Clone, Copy, Debug, PartialEq, Eq)]
-pub enum PushError {
-    /// As many events wait or are outstanding as are taken.
-    Overflow,
-    /// Memory was refused.
-    Memory,
-}
-
 /// What a connect is given: the outstanding batch, and its number.
 #[derive(Drop)]
 pub struct Given<'a> {
@@ -85,26 +76,6 @@ impl Window {
         ensures { result ≡ length self.now.contents.queue }
     {
         self.events.len()
-    }
-
-    /// Adds the event of the publish at this place. It is refused where `limit` events are there; the window is
-    /// as before then, and where memory is refused.
-    pub fn push(&mut self, place: u64, event: SharedEvent, limit: usize) -> Result<(), PushError>
-        ensures ok { OnOk result (self.new.contents ≡ with_event (record { place = place; event = event }) self.old.contents) }
-        ensures overflow { IsErrOf result PushError.Overflow ↔ IsTrue (not (has_room limit self.old.contents)) }
-        ensures memory { IsErrOf result PushError.Memory → self.old.spare ≡ 0 }
-        ensures err { OnErr result (self.new.contents ≡ self.old.contents) }
-    {
-        if self.is_full(limit) {
-            return Err(PushError::Overflow);
-        }
-        match self.reserve(1) {
-            Ok(()) => {
-                self.push_reserved(place, event);
-                Ok(())
-            }
-            Err(_) => Err(PushError::Memory),
-        }
     }
 
     /// Makes room for so many more events, so that they can be added without memory.

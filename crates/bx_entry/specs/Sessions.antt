@@ -248,9 +248,13 @@ published config e s = if is_hit s e.event then received config e s else s
 
 -- ---- the ends
 
+-- the moment at which the hold of a connect ends
+abbrev pub deadline : Pending → ℕ
+deadline p = p.moment + p.hold
+
 -- whether the hold of a connect ends at this moment or ended before
 abbrev pub ends_by : ℕ → Pending → Bool
-ends_by moment p = nat_le (p.moment + p.hold) moment
+ends_by moment p = nat_le (deadline p) moment
 
 -- a tick at or past the end of this hold, if there is one, ends it
 abbrev pub expired_from : Config → ℕ → ℕ → Session → Option Pending → Session

@@ -10,6 +10,7 @@ use Rattle.bx_window.specs.declared.law.Step.{Step}
 use Rattle.bx_window.specs.Steps.{list_of, firsts_of, begin_of}
 use Rattle.bx_hub.specs.declared.fault.PostFault.{PostFault}
 use Rattle.bx_hub.specs.declared.fault.PostFault.TheVariants.{Body, Closed, BadMoment, Ended, Behind, Overrun, Memory}
+use Rattle.bx_window.specs.declared.writer.TheConstants.{MAX_BATCHES}
 
 -- The input is not to be refused at this place, which isn't below what the pass had seen; and from there on the front that the pass has then seen
 -- is what the input adds.
@@ -25,7 +26,7 @@ AreSlotsAt setup input first front slots = slots ≡ admitted_slots setup (take 
 
 -- the window of this front has 4096 batches, the oldest of which begins at this place
 abbrev pub IsFull : ℕ → List Step → Type 0
-IsFull first front = (length (firsts_of front) ≡ 4096) × (begin_of front ≡ first) × (first + 4096 ≤ length (list_of front))
+IsFull first front = (length (firsts_of front) ≡ MAX_BATCHES) × (begin_of front ≡ first) × (first + MAX_BATCHES ≤ length (list_of front))
 
 -- nothing else refuses the input at the end of this front; it adds something, and the window is full
 pub record IsFullFor (input : ReadInput) (first : ℕ) (front : List Step) : Type 0 where

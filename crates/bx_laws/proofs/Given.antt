@@ -13,6 +13,7 @@ use Rattle.bx_entry.specs.declared.entry.EntryKind.TheVariants.{Publish}
 use Rattle.bx_entry.specs.Registry.{Registry, Registered, Judged, PlaceSlot, Ready, Waiting, NoSlot, event_of, kind_for, judge, judged_by, named_by, refusal, hold_of, registry, empty_registry, entries_of, unnamed, sessionless_kind, noted, state_of}
 use Rattle.bx_entry.specs.Sessions.{Publication, Filed, session, unopened}
 use Rattle.bx_entry.specs.Answers.{PlacedAnswer, answer_of, events_of, answer_by, answer_at}
+use Rattle.bx_theory.proofs.Verdicts.{by_verdict}
 use Rattle.bx_theory.specs.Laws.{Each, EachOf, Slice, PlacesFrom}
 use Rattle.bx_theory.specs.Events.{GetsPublish, EachEvent, WasPublished, GivenWasPublished}
 use Rattle.bx_theory.proofs.Counts.{unopened_in_step}
@@ -63,17 +64,15 @@ record JudgedFrom (r t : Registry) (x : Listed) : Type 0 where
   judged : t.judged ≡ r.judged ++ found ∷ []
   post : OfPost x found.entry.kind
 
-unnamed_post : (config : Config) (r : Registry) (moment : ℕ) (p : Posted) (b : Bool) → JudgedFrom r (noted r moment (unnamed config (state_of r) moment p b)) (Post p)
-unnamed_post config r moment p true = record { found = _; judged = refl; post = λ e k. cc }
-unnamed_post config r moment p false = record { found = _; judged = refl; post = sessionless_of_post (message_kind_of p.message.channel) p refl }
-
-judged_by_post : (config : Config) (r : Registry) (moment : ℕ) (p : Posted) (sender : Option Registered) (error : Option Error) → JudgedFrom r (noted r moment (judged_by config (state_of r) moment p sender error)) (Post p)
-judged_by_post config r moment p sender (Some error) = record { found = _; judged = refl; post = λ e k. cc }
-judged_by_post config r moment p None None = unnamed_post config r moment p (is_handshake p.message)
-judged_by_post config r moment p (Some s) None = record { found = _; judged = refl; post = kind_of_post (message_kind_of p.message.channel) p s (hold_of config p) refl }
-
 judge_post : (config : Config) (r : Registry) (x : Listed) → JudgedFrom r (judge config r x) x
-judge_post config r (Post p) = judged_by_post config r (max r.clock p.moment) p (named_by r.sessions (message_kind_of p.message.channel) p.message) (refusal config r.sessions p)
+judge_post config r (Post p) =
+    let c : MessageKind = message_kind_of p.message.channel in
+    record {
+      found = _;
+      judged = refl;
+      post = by_verdict (λ v. OfPost (Post p) v.kind) config (state_of r) (max r.clock p.moment) p (named_by r.sessions c p.message) (refusal config r.sessions p)
+          (λ error e k. cc) (λ e k. cc) (sessionless_of_post c p refl) (λ s h. kind_of_post c p s (hold_of config p) refl);
+    }
 judge_post config r (messages.Tick moment) = record { found = _; judged = refl; post = λ e k. cc }
 
 record Paired (xs : List Listed) (r t : Registry) : Type 0 where

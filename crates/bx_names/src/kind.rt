@@ -1,5 +1,5 @@
 ghost use Rattle.std.specs.Prelude.{◌≡◌};
-ghost use Rattle.bx_names.specs.Kinds.{kind_of};
+ghost use Rattle.bx_names.specs.Kinds.{is_meta, is_service, kind_of};
 
 /// What a channel is for, which its name's beginning says (Bayeux 1.0, channel names).
 #[derive(Clone, Copy, Debug, PartialEq, Eq, Hash)]
@@ -16,11 +16,25 @@ pub enum ChannelKind {
 pub fn kind_of(text: &str) -> ChannelKind
     ensures { result ≡ kind_of text.now }
 {
-    if text.starts_with("/meta/") {
+    if is_meta(text) {
         ChannelKind::Meta
-    } else if text.starts_with("/service/") {
+    } else if is_service(text) {
         ChannelKind::Service
     } else {
         ChannelKind::Broadcast
     }
+}
+
+/// Whether a text begins as the names of meta channels do (Bayeux 1.0, meta channels).
+pub fn is_meta(text: &str) -> bool
+    ensures { result ≡ is_meta text.now }
+{
+    text.starts_with("/meta/")
+}
+
+/// Whether a text begins as the names of service channels do (Bayeux 1.0, service channels).
+pub fn is_service(text: &str) -> bool
+    ensures { result ≡ is_service text.now }
+{
+    text.starts_with("/service/")
 }

@@ -32,7 +32,7 @@ use Rattle.bx_roster.specs.Edits.{edited, CanEdit}
 use Rattle.bx_roster.specs.declared.edit.Edit.TheVariants.{Open}
 use Rattle.bx_roster.proofs.Sessions.{AllLive-push}
 use Rattle.bx_roster.proofs.Tables.{live_in-all}
-use Rattle.bx_registry.specs.Rolls.{members_after, state_of}
+use Rattle.bx_registry.specs.Rolls.{state_of}
 use Rattle.bx_registry.specs.Drafts.{IsSender}
 use Rattle.bx_registry.specs.Plans.{planned_at}
 use Rattle.bx_registry.specs.Judgements.{edit_for, IsRidden, IsVerdict}

@@ -8,7 +8,6 @@ use Rattle.bx_advice.specs.declared.error.Error.TheVariants.{SecondHandshake}
 use Rattle.bx_message.specs.declared.message.Message.{Message}
 use Rattle.bx_message.specs.MessageKinds.{message_kind_of, is_handshake}
 use Rattle.bx_entry.specs.Listing.{Posted, Post, listed_from, request}
-use Rattle.bx_entry.specs.declared.senders.Senders.{Senders}
 use Rattle.bx_entry.specs.Registry.{Registered, State, cases_of, judged_by, named_by, refusal, unnamed}
 use Rattle.bx_roster.specs.Live.{Members}
 use Rattle.bx_roster.specs.Edits.{CanEdit, CanEditEach, edited, opened_by, opened_by_each}

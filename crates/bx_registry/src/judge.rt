@@ -3,7 +3,6 @@ ghost use Rattle.std.specs.Prelude.{◌≡◌, ◌+◌, ◌<◌, ◌≤◌, ◌^
 ghost use Rattle.std.specs.Option.{option_copied};
 ghost use Rattle.bx_names.specs.Faults.{name_fault, pattern_fault};
 ghost use Rattle.bx_names.specs.Globs.{Glob, glob_of};
-ghost use Rattle.bx_names.specs.Kinds.{is_service};
 ghost use Rattle.bx_names.specs.Segments.{segments};
 ghost use Rattle.bx_advice.specs.declared.advice.Outcome.TheVariants.{Failed};
 ghost use Rattle.bx_advice.specs.declared.advice.Outcome.TheVariants as advice;
@@ -33,7 +32,7 @@ use bx_message::{
     AckMember, AckReply, Event, Message, MessageKind, RawJson, Reply, Sequence, SharedEvent, Text,
     share_json,
 };
-use bx_names::{ChannelName, NameError, Pattern};
+use bx_names::{ChannelName, NameError, Pattern, is_service};
 use bx_roster::{Edit, Session};
 use std::alloc::{AllocError, AllocFailed, Global};
 
@@ -442,12 +441,6 @@ fn patterns_of(alloc: Global, message: &Message) -> Result<Sequence<Pattern>, Al
         }
     }
     Ok(patterns)
-}
-
-fn is_service(text: &str) -> bool
-    ensures { result ≡ is_service text.now }
-{
-    text.starts_with("/service/")
 }
 
 // A text without a fault reads as a pattern, where there is memory.

@@ -10,7 +10,7 @@ ghost use Rattle.bx_registry.specs.Postings.{posted_of};
 use crate::posted::Posted;
 use bx_advice::{Config, Error};
 use bx_message::{Message, MessageKind, Text, TextMember};
-use bx_names::{ChannelKind, kind_of, name_fault, pattern_fault};
+use bx_names::{ChannelKind, is_meta, kind_of, name_fault, pattern_fault};
 
 /// Why a message is refused, where so many sessions are live, and it is `known` whether it names one
 /// of them: the first line that holds. They stand in the order of the errors.
@@ -143,10 +143,4 @@ fn has_meta(message: &Message) -> bool
         .as_slice()
         .iter()
         .any(|text| is_meta(text.as_str()))
-}
-
-fn is_meta(text: &str) -> bool
-    ensures { result ≡ is_meta text.now }
-{
-    text.starts_with("/meta/")
 }

@@ -6,7 +6,7 @@ use Rattle.bx_advice.specs.declared.advice.Outcome.{Outcome}
 use Rattle.bx_advice.specs.Limits.{greatest_length}
 use Rattle.bx_entry.specs.Answers.{events_of}
 use Rattle.bx_entry.specs.Keeping.{Kept}
-use Rattle.bx_entry.specs.Sessions.{Filed, Pending}
+use Rattle.bx_entry.specs.Sessions.{Filed, Pending, deadline}
 use Rattle.bx_message.specs.Replies.{connect_reply}
 use Rattle.bx_message.specs.declared.event.Event.{Event}
 use Rattle.bx_message.specs.declared.reply.AckReply.{AckReply}
@@ -41,7 +41,7 @@ pending place client id moment hold = record { place = place; client = client; i
 
 -- the moment at which a hold ends, if it is a number of 64 bits
 abbrev pub deadline_of : Pending → Option ℕ
-deadline_of p = if nat_lt (p.moment + p.hold) (2 ^ 64) then Some (p.moment + p.hold) else None
+deadline_of p = if nat_lt (deadline p) (2 ^ 64) then Some (deadline p) else None
 
 -- ---- answers
 

@@ -18,6 +18,7 @@ use Rattle.bx_entry.specs.declared.entry.Rider.{Rider}
 use Rattle.bx_entry.specs.Sessions.{rider_of, session, unopened}
 use Rattle.bx_shard.specs.States.{connecting, riding}
 use Rattle.bx_shard.proofs.Rides.{rider_of_none}
+use Rattle.bx_theory.proofs.Verdicts.{by_verdict}
 use Rattle.bx_theory.specs.Laws.{PlacesFrom}
 use Rattle.bx_theory.proofs.Runs.{EachEntry}
 use Rattle.bx_theory.proofs.Places.{Only, Allowed, AllowedRide, run_only, only_unopened}
@@ -72,19 +73,13 @@ sessionless_waits reply MessageKind.Disconnect m = tt
 sessionless_waits reply MessageKind.Publish m = tt
 sessionless_waits reply MessageKind.UnknownMeta m = tt
 
-unnamed_waits : (config : Config) (r : Registry) (moment : ℕ) (p : Posted) (b : Bool) → EachWaits r.judged → EachWaits (noted r moment (unnamed config (state_of r) moment p b)).judged
-unnamed_waits config r moment p true d = waits_push r.judged _ d (tt, tt)
-unnamed_waits config r moment p false d = waits_push r.judged _ d (sessionless_waits _ (message_kind_of p.message.channel) p.message, tt)
-
-judged_by_waits : (config : Config) (r : Registry) (moment : ℕ) (p : Posted) (sender : Option Registered) (error : Option Error) → EachWaits r.judged → EachWaits (noted r moment (judged_by config (state_of r) moment p sender error)).judged
-judged_by_waits config r moment p sender (Some error) d = waits_push r.judged _ d (tt, tt)
-judged_by_waits config r moment p None None d = unnamed_waits config r moment p (is_handshake p.message) d
-judged_by_waits config r moment p (Some s) None d =
-    let c : MessageKind = message_kind_of p.message.channel in
-    waits_push r.judged _ d (served_waits config (is_rider config r.senders c p s) c p s (hold_of config p), slot_rides (rider_for (is_rider config r.senders c p s) s.number (slot_for config c p s)) (slot_for config c p s))
-
 judge_waits : (config : Config) (r : Registry) (x : Listed) → EachWaits r.judged → EachWaits (judge config r x).judged
-judge_waits config r (Post p) d = judged_by_waits config r (max r.clock p.moment) p (named_by r.sessions (message_kind_of p.message.channel) p.message) (refusal config r.sessions p) d
+judge_waits config r (Post p) d =
+    let c : MessageKind = message_kind_of p.message.channel in
+    let moment : ℕ = max r.clock p.moment in
+    by_verdict (λ v. EachWaits (noted r moment v).judged) config (state_of r) moment p (named_by r.sessions c p.message) (refusal config r.sessions p)
+    (λ e. waits_push r.judged _ d (tt, tt)) (waits_push r.judged _ d (tt, tt)) (waits_push r.judged _ d (sessionless_waits _ c p.message, tt))
+    (λ s e. waits_push r.judged _ d (served_waits config (is_rider config r.senders c p s) c p s (hold_of config p), slot_rides (rider_for (is_rider config r.senders c p s) s.number (slot_for config c p s)) (slot_for config c p s)))
 judge_waits config r (messages.Tick moment) d = waits_push r.judged _ d (tt, tt)
 
 run_waits : (config : Config) (r : Registry) (xs : List Listed) → EachWaits r.judged → EachWaits (fold (judge config) r xs).judged

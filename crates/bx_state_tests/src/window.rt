@@ -4,7 +4,7 @@ ghost use Rattle.std.specs.Prelude.{◌≡◌};
 use crate::same::same;
 use crate::session::{event, push_numbers};
 use bx_advice::MAX_EVENTS;
-use bx_batches::{PushError, Window};
+use bx_batches::Window;
 use std::alloc::Global;
 use std::process::Abort;
 use std::test::Fail;
@@ -19,8 +19,8 @@ const MANY: u64 = 1_000_000;
 enum Move {
     // Events with consecutive numbers as their data: the first number, and how many.
     Push(u64, u64),
-    // One more is refused.
-    Refuse(u64),
+    // No further one is taken.
+    Full,
     // So many at the most are the next batch, where none is outstanding.
     Give(usize),
     Acknowledge(u64),
@@ -41,10 +41,16 @@ fn text_of(alloc: Global, window: &Window) -> Result<String, Fail> {
     Ok(text)
 }
 
+fn push(alloc: Global, window: &mut Window, place: u64, number: u64) -> Result<(), Fail> {
+    let event = event(alloc, number)?;
+    window.reserve(1)?;
+    window.push_reserved(place, event);
+    Ok(())
+}
+
 fn push_all(alloc: Global, window: &mut Window, first: u64, count: u64) -> Result<(), Fail> {
     for i in 0..count {
-        let pushed = window.push(i, event(alloc, first.saturating_add(i))?, LIMIT);
-        pushed.map_err(|_| "the window is full")?;
+        push(alloc, window, i, first.saturating_add(i))?;
     }
     Ok(())
 }
@@ -52,11 +58,7 @@ fn push_all(alloc: Global, window: &mut Window, first: u64, count: u64) -> Resul
 fn apply(rt: &impl Abort, alloc: Global, window: &mut Window, step: Move) -> Result<(), Fail> {
     match step {
         Move::Push(first, count) => push_all(alloc, window, first, count)?,
-        Move::Refuse(number) => {
-            same(rt, window.is_full(LIMIT), true, step);
-            let refused = window.push(number, event(alloc, number)?, LIMIT);
-            assert_eq!(rt; refused, Err(PushError::Overflow));
-        }
+        Move::Full => same(rt, window.is_full(LIMIT), true, step),
         Move::Give(most) => {
             if window.given().number < MANY {
                 window.give(most);
@@ -103,13 +105,13 @@ fn a_batch_is_given_until_it_is_acknowledged(rt: HostRuntime) -> Result<(), Fail
 
 const FULL: [(Move, &str); 4] = [
     (Move::Push(0, 1_024), "1024, batch 0 of 0: none;"),
-    (Move::Refuse(1_024), "1024, batch 0 of 0: none;"),
+    (Move::Full, "1024, batch 0 of 0: none;"),
     (Move::Give(256), "1024, batch 1 of 256: 0..255;"),
     (Move::Acknowledge(1), "768, batch 1 of 0: none;"),
 ];
 
 #[test]
-fn a_full_window_refuses(rt: HostRuntime) -> Result<(), Fail> {
+fn a_full_window_takes_no_more(rt: HostRuntime) -> Result<(), Fail> {
     let alloc = rt.alloc();
     run(&rt, alloc, &mut Window::new(alloc), &FULL)
 }
@@ -118,11 +120,10 @@ fn a_full_window_refuses(rt: HostRuntime) -> Result<(), Fail> {
 fn check_most(rt: &impl Abort, alloc: Global, window: &mut Window) -> Result<(), Fail> {
     let most = MAX_EVENTS as usize;
     for place in 0..u64::from(MAX_EVENTS) {
-        let pushed = window.push(place, event(alloc, place)?, most);
-        pushed.map_err(|_| "the window is full")?;
+        same(rt, window.is_full(most), false, "room");
+        push(alloc, window, place, place)?;
     }
-    let refused = window.push(0, event(alloc, 0)?, most);
-    assert_eq!(rt; refused, Err(PushError::Overflow));
+    same(rt, window.is_full(most), true, "full");
     same(rt, window.len(), most, "length");
     Ok(())
 }

@@ -13,6 +13,7 @@ use Rattle.bx_entry.specs.Listing.{Listed, Post, Posted}
 use Rattle.bx_message.specs.MessageKinds.{message_kind_of, is_handshake}
 use Rattle.bx_entry.specs.Listing as messages
 use Rattle.bx_entry.specs.Registry.{due_of, newcomer, Registry, Registered, Judged, judge, judged_by, refused, opened, served, left_by, is_overdue, named_by, sender_of, refusal, hold_of, is_ack, client_id, empty_registry, unnamed, sessionless, noted, state_of}
+use Rattle.bx_theory.proofs.Verdicts.{by_verdict}
 use Rattle.bx_theory.specs.Readings.{is_from, given_moments, EachSession, DueReading, moment_of, ClockReading}
 
 -- ---- the clock
@@ -249,18 +250,14 @@ served_due config r moment p c s hold below d =
       due = left_each (λ q. q.due ≡ greatest config q.number t.judged) c s.number (map f r.sessions) (λ q h. h) (each_session_through (λ q. q.due ≡ greatest config q.number r.judged) (λ q. q.due ≡ greatest config q.number t.judged) f r.sessions step d.due);
     }
 
-unnamed_due : (config : Config) (r : Registry) (moment : ℕ) (p : Posted) (b : Bool) → Due config r → Due config (noted r moment (unnamed config (state_of r) moment p b))
-unnamed_due config r moment p true d = opened_due config r moment p d
-unnamed_due config r moment p false d = sessionless_due config r moment p (message_kind_of p.message.channel) d
-
-judged_by_due : (config : Config) (r : Registry) (moment : ℕ) (p : Posted) (sender : Option Registered) (error : Option Error) → ((s : Registered) → sender ≡ Some s → s.number < 1 + length r.sessions) → Due config r → Due config (noted r moment (judged_by config (state_of r) moment p sender error))
-judged_by_due config r moment p sender (Some error) h d = refused_due config r moment p error sender d
-judged_by_due config r moment p None None h d = unnamed_due config r moment p (is_handshake p.message) d
-judged_by_due config r moment p (Some s) None h d = served_due config r moment p (message_kind_of p.message.channel) s (hold_of config p) (h s refl) d
-
 judge_due : (config : Config) (r : Registry) (x : Listed) → Due config r → Due config (judge config r x)
-judge_due config r (Post p) d = judged_by_due config r (max r.clock p.moment) p (named_by r.sessions (message_kind_of p.message.channel) p.message) (refusal config r.sessions p)
-    (λ s e. named_session (λ q. q.number < 1 + length r.sessions) r.sessions (message_kind_of p.message.channel) p.message s e (numbered_below 1 r.sessions d.numbers)) d
+judge_due config r (Post p) d =
+    let moment : ℕ = max r.clock p.moment in
+    let named : Option Registered = named_by r.sessions (message_kind_of p.message.channel) p.message in
+    by_verdict (λ v. Due config (noted r moment v)) config (state_of r) moment p named (refusal config r.sessions p) (λ e. refused_due config r moment p e named d)
+    (opened_due config r moment p d) (sessionless_due config r moment p (message_kind_of p.message.channel) d)
+    (λ s e. served_due config r moment p (message_kind_of p.message.channel) s (hold_of config p)
+    (named_session (λ q. q.number < 1 + length r.sessions) r.sessions (message_kind_of p.message.channel) p.message s e (numbered_below 1 r.sessions d.numbers)) d)
 judge_due config r (messages.Tick moment) d = tick_due config r moment d
 
 run_due : (config : Config) (r : Registry) (xs : List Listed) → Due config r → Due config (fold (judge config) r xs)

@@ -26,3 +26,4 @@ pub mod Sole
 pub mod Ascending
 pub mod Riders
 pub mod Riding
+pub mod Verdicts

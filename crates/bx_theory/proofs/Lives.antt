@@ -19,6 +19,7 @@ use Rattle.bx_entry.specs.Registry.{due_of, newcomer, tick_verdict, Registry, Re
 use Rattle.bx_message.specs.Replies.{reply_to}
 use Rattle.bx_message.specs.declared.reply.AckReply.TheVariants as replies
 use Rattle.bx_theory.specs.Readings.{opens_by, closes, since_opening, unclosed, EachSession, SameLive}
+use Rattle.bx_theory.proofs.Verdicts.{by_verdict}
 use Rattle.bx_theory.proofs.Dues.{NumberedFrom, each_session_map, each_session_push, each_session_through, numbered_through, numbered_push, numbered_below, same_all, swept_number}
 
 reading : ℕ → List Entry → Bool
@@ -250,17 +251,13 @@ sessionless_agrees config r moment p c a =
     agrees_without r (λ s. s) (found_at (length r.judged) moment (sessionless config (state_of r) p c)) (noted r moment (sessionless config (state_of r) p c)) (λ s. refl) (none_opened c p.message) (same_all r.sessions) refl
     (all_stay (λ s. s) e r.sessions (λ s. refl) (none_closed c p.message (length r.judged) moment)) a
 
-unnamed_agrees : (config : Config) (r : Registry) (moment : ℕ) (p : Posted) (b : Bool) → Agrees r → Agrees (noted r moment (unnamed config (state_of r) moment p b))
-unnamed_agrees config r moment p true a = opened_agrees config r moment p a
-unnamed_agrees config r moment p false a = sessionless_agrees config r moment p (message_kind_of p.message.channel) a
-
-judged_by_agrees : (config : Config) (r : Registry) (moment : ℕ) (p : Posted) (sender : Option Registered) (error : Option Error) → Agrees r → Agrees (noted r moment (judged_by config (state_of r) moment p sender error))
-judged_by_agrees config r moment p sender (Some error) a = refused_agrees config r moment p error sender a
-judged_by_agrees config r moment p None None a = unnamed_agrees config r moment p (is_handshake p.message) a
-judged_by_agrees config r moment p (Some s) None a = served_agrees config r moment p (message_kind_of p.message.channel) s (hold_of config p) a
-
 judge_agrees : (config : Config) (r : Registry) (x : Listed) → Agrees r → Agrees (judge config r x)
-judge_agrees config r (Post p) a = judged_by_agrees config r (max r.clock p.moment) p (named_by r.sessions (message_kind_of p.message.channel) p.message) (refusal config r.sessions p) a
+judge_agrees config r (Post p) a =
+    let moment : ℕ = max r.clock p.moment in
+    let named : Option Registered = named_by r.sessions (message_kind_of p.message.channel) p.message in
+    by_verdict (λ v. Agrees (noted r moment v)) config (state_of r) moment p named (refusal config r.sessions p) (λ e. refused_agrees config r moment p e named a)
+    (opened_agrees config r moment p a) (sessionless_agrees config r moment p (message_kind_of p.message.channel) a)
+    (λ s h. served_agrees config r moment p (message_kind_of p.message.channel) s (hold_of config p) a)
 judge_agrees config r (messages.Tick moment) a = tick_agrees config r moment a
 
 run_agrees : (config : Config) (r : Registry) (xs : List Listed) → Agrees r → Agrees (fold (judge config) r xs)

@@ -24,6 +24,7 @@ use Rattle.bx_entry.specs.Sessions.{Session, Publication, Pending, Stage, Unopen
 use Rattle.bx_entry.specs.Registry.{due_of, Registry, Registered, Judged, PlaceSlot, Ready, Waiting, NoSlot, is_ack, extended, swept, is_overdue, opened, served, rider_for, is_rider, is_one, joined, may_ride, slot_for, judge, judged_by, named_by, refusal, hold_of, registry, empty_registry, entries_of, unnamed, noted, state_of}
 use Rattle.bx_theory.specs.Laws.{NoRidersUnasked, RidesPlain, RidersArePlain, LastAnswer, LastGiven, Repetition}
 use Rattle.bx_theory.specs.Readings.{opens_by, closes_by, since_opening, EachSession}
+use Rattle.bx_theory.proofs.Verdicts.{by_verdict}
 use Rattle.bx_theory.proofs.Counts.{subscribed_by, ride_both, rider_of_both, all_in_step, unopened_in_step}
 use Rattle.bx_theory.proofs.Batches.{acks_with_batch}
 use Rattle.bx_theory.proofs.Once.{formed_acks}
@@ -35,39 +36,21 @@ use Rattle.bx_theory.proofs.Lives.{found_of, opened_later, entries_push}
 
 -- ---- none is there unasked
 
--- one more place without a rider
-record AddsNone (r t : Registry) : Type 0 where
-  found : Judged
-  judged : t.judged ≡ r.judged ++ found ∷ []
-  none : found.entry.rides ≡ None
-
 no_rider : (b : Bool) (n : ℕ) (slot : PlaceSlot) → b ≡ false → rider_for b n slot ≡ None
 no_rider true n slot h = cc
 no_rider false n slot h = refl
 
-unnamed_none : (config : Config) (r : Registry) (moment : ℕ) (p : Posted) (b : Bool) → AddsNone r (noted r moment (unnamed config (state_of r) moment p b))
-unnamed_none config r moment p true = record { found = _; judged = refl; none = refl }
-unnamed_none config r moment p false = record { found = _; judged = refl; none = refl }
-
-judged_by_none : (config : Config) (r : Registry) (moment : ℕ) (p : Posted) (sender : Option Registered) (error : Option Error) → config.ride ≡ false → AddsNone r (noted r moment (judged_by config (state_of r) moment p sender error))
-judged_by_none config r moment p sender (Some error) h = record { found = _; judged = refl; none = refl }
-judged_by_none config r moment p None None h = unnamed_none config r moment p (is_handshake p.message)
-judged_by_none config r moment p (Some s) None h = record {
-  found = found_of config r moment p (message_kind_of p.message.channel) s (hold_of config p);
-  judged = refl;
-  none = no_rider (is_rider config r.senders (message_kind_of p.message.channel) p s) s.number (slot_for config (message_kind_of p.message.channel) p s)
-      (ap (λ (b : Bool). b && (p.last && (not s.ack && (is_one (joined r.senders s.number) && may_ride (message_kind_of p.message.channel))))) h);
-}
-
-judge_none : (config : Config) (r : Registry) (x : Listed) → config.ride ≡ false → AddsNone r (judge config r x)
-judge_none config r (Post p) h = judged_by_none config r (max r.clock p.moment) p (named_by r.sessions (message_kind_of p.message.channel) p.message) (refusal config r.sessions p) h
-judge_none config r (messages.Tick moment) h = record { found = _; judged = refl; none = refl }
+judge_none : (config : Config) (r : Registry) (x : Listed) → config.ride ≡ false → EachJudged (λ j. j.entry.rides ≡ None) r.judged → EachJudged (λ j. j.entry.rides ≡ None) (judge config r x).judged
+judge_none config r (Post p) h d =
+    let c : MessageKind = message_kind_of p.message.channel in
+    each_judged_push (λ j. j.entry.rides ≡ None) r.judged _ d
+    (by_verdict (λ v. v.rides ≡ None) config (state_of r) (max r.clock p.moment) p (named_by r.sessions c p.message) (refusal config r.sessions p) (λ e. refl) refl refl
+    (λ s e. no_rider (is_rider config r.senders c p s) s.number (slot_for config c p s) (ap (λ (b : Bool). b && (p.last && (not s.ack && (is_one (joined r.senders s.number) && may_ride c)))) h)))
+judge_none config r (messages.Tick moment) h d = each_judged_push (λ j. j.entry.rides ≡ None) r.judged _ d refl
 
 run_none : (config : Config) (r : Registry) (xs : List Listed) → config.ride ≡ false → EachJudged (λ j. j.entry.rides ≡ None) r.judged → EachJudged (λ j. j.entry.rides ≡ None) (fold (judge config) r xs).judged
 run_none config r [] h d = d
-run_none config r (x ∷ xs) h d =
-    let a : AddsNone r (judge config r x) = judge_none config r x h in
-    run_none config (judge config r x) xs h (subst (EachJudged (λ j. j.entry.rides ≡ None)) (sym a.judged) (each_judged_push (λ j. j.entry.rides ≡ None) r.judged a.found d a.none))
+run_none config r (x ∷ xs) h d = run_none config (judge config r x) xs h (judge_none config r x h d)
 
 -- what holds of each entry
 pub entries_all : (P : Entry → Type 0) (js : List Judged) → EachJudged (λ j. P j.entry) js → AllByRecursion P (map (λ (j : Judged). j.entry) js)
@@ -260,22 +243,16 @@ opened_knows config r moment p n k =
     (each_session_push (λ s. Acks config (entries_of r ++ e ∷ []) s.number s.ack) r.sessions _ (sessions_on config r e k)
     (acks_new config (entries_of r) (length r.judged) moment (length r.sessions + 1) (is_ack p.message.ack) n)) tt k
 
-unnamed_knows : (config : Config) (r : Registry) (moment : ℕ) (p : Posted) (b : Bool) → since_opening (length r.sessions + 1) (entries_of r) ≡ None → Knows config r → Knows config (noted r moment (unnamed config (state_of r) moment p b))
-unnamed_knows config r moment p true n k = opened_knows config r moment p n k
-unnamed_knows config r moment p false n k = knows_next config r (noted r moment (unnamed config (state_of r) moment p false)) _ refl (sessions_on config r _ k) tt k
-
-judged_by_knows : (config : Config) (r : Registry) (moment : ℕ) (p : Posted) (sender : Option Registered) (error : Option Error) → since_opening (length r.sessions + 1) (entries_of r) ≡ None →
-    ((s : Registered) → sender ≡ Some s → Acks config (entries_of r) s.number s.ack) → Knows config r → Knows config (noted r moment (judged_by config (state_of r) moment p sender error))
-judged_by_knows config r moment p sender (Some error) n h k = knows_next config r (noted r moment (judged_by config (state_of r) moment p sender (Some error))) _ refl (sessions_on config r _ k) tt k
-judged_by_knows config r moment p None None n h k = unnamed_knows config r moment p (is_handshake p.message) n k
-judged_by_knows config r moment p (Some s) None n h k = served_knows config r moment p (message_kind_of p.message.channel) s (hold_of config p) (h s refl) k
-
 judge_knows : (config : Config) (ys : List Listed) (x : Listed) → Knows config (registry config ys) → Knows config (judge config (registry config ys) x)
 judge_knows config ys (Post p) k =
     let r : Registry = registry config ys in
-    judged_by_knows config r (max r.clock p.moment) p (named_by r.sessions (message_kind_of p.message.channel) p.message) (refusal config r.sessions p)
-    (opened_later config ys (length (registry config ys).sessions + 1) (omega arith))
-    (λ s e. named_session (λ q. Acks config (entries_of (registry config ys)) q.number q.ack) r.sessions (message_kind_of p.message.channel) p.message s e k.sessions) k
+    let moment : ℕ = max r.clock p.moment in
+    let c : MessageKind = message_kind_of p.message.channel in
+    by_verdict (λ v. Knows config (noted r moment v)) config (state_of r) moment p (named_by r.sessions c p.message) (refusal config r.sessions p)
+    (λ e. knows_next config r _ _ refl (sessions_on config r _ k) tt k)
+    (opened_knows config r moment p (opened_later config ys (length r.sessions + 1) (omega arith)) k)
+    (knows_next config r _ _ refl (sessions_on config r _ k) tt k)
+    (λ s e. served_knows config r moment p c s (hold_of config p) (named_session (λ q. Acks config (entries_of (registry config ys)) q.number q.ack) r.sessions c p.message s e k.sessions) k)
 judge_knows config ys (messages.Tick moment) k =
     let r : Registry = registry config ys in
     knows_next config r (judge config r (messages.Tick moment)) _ refl

@@ -20,10 +20,11 @@ use Rattle.bx_entry.specs.declared.entry.EntryKind.{EntryKind}
 use Rattle.bx_entry.specs.declared.entry.EntryKind.TheVariants as entries
 use Rattle.bx_entry.specs.declared.senders.Senders.{Senders}
 use Rattle.bx_entry.specs.declared.senders.Senders.TheVariants.{NoneYet, Only, Mixed}
-use Rattle.bx_entry.specs.Registry.{Registry, Registered, Judged, PlaceSlot, Ready, Waiting, NoSlot, is_one, joined, senders_behind, may_ride, is_rider, rider_for, kind_for, slot_for, judge, judged_by, named_by, refusal, hold_of, registry, empty_registry, entries_of, entries, unnamed, noted, state_of}
+use Rattle.bx_entry.specs.Registry.{found_at, Registry, Registered, Judged, PlaceSlot, Ready, Waiting, NoSlot, is_one, joined, senders_behind, may_ride, is_rider, rider_for, kind_for, slot_for, judge, judged_by, named_by, refusal, hold_of, registry, empty_registry, entries_of, entries, unnamed, noted, state_of}
 use Rattle.bx_entry.specs.Sessions.{Session, Stage, Unopened, Live, is_live, portion, session, step, step_by, rider_of, is_riding, ridden, ridden_by}
 use Rattle.bx_theory.specs.Readings.{is_from, opens_by}
 use Rattle.bx_theory.specs.Riding.{found_behind, is_own, may_have_rider, IsRiderOf, rider_session, RiderReading, NothingRidesBeside, OthersNeverRide, GivesRider, RiderGiven}
+use Rattle.bx_theory.proofs.Verdicts.{by_verdict}
 use Rattle.bx_theory.proofs.Dues.{EachJudged, each_judged_push, named_session}
 use Rattle.bx_theory.proofs.Lists.{Longer, longer, judged_length}
 use Rattle.bx_theory.proofs.Lives.{found_of}
@@ -252,23 +253,11 @@ judging config ys zs js p says =
 
 -- ---- behind whole inputs nothing is known of the next request
 
-record Behind (p : Posted) (t : Registry) : Type 0 where
-  now : Senders
-  senders : t.senders ≡ senders_behind p now
-
-unnamed_behind : (config : Config) (r : Registry) (moment : ℕ) (p : Posted) (b : Bool) → Behind p (noted r moment (unnamed config (state_of r) moment p b))
-unnamed_behind config r moment p true = record { now = _; senders = refl }
-unnamed_behind config r moment p false = record { now = _; senders = refl }
-
-judged_by_behind : (config : Config) (r : Registry) (moment : ℕ) (p : Posted) (sender : Option Registered) (error : Option Error) → Behind p (noted r moment (judged_by config (state_of r) moment p sender error))
-judged_by_behind config r moment p sender (Some error) = record { now = _; senders = refl }
-judged_by_behind config r moment p None None = unnamed_behind config r moment p (is_handshake p.message)
-judged_by_behind config r moment p (Some s) None = record { now = _; senders = refl }
-
 last_ends : (config : Config) (r : Registry) (p : Posted) → p.last ≡ true → (judge config r (Post p)).senders ≡ NoneYet
 last_ends config r p h =
-    let b : Behind p (judge config r (Post p)) = judged_by_behind config r (max r.clock p.moment) p (named_by r.sessions (message_kind_of p.message.channel) p.message) (refusal config r.sessions p) in
-    b.senders ∙ ap (λ (last : Bool). cond last NoneYet b.now) h
+    let none : (x : Senders) → senders_behind p x ≡ NoneYet = λ x. ap (λ (last : Bool). cond last NoneYet x) h in
+    by_verdict (λ v. v.state.senders ≡ NoneYet) config (state_of r) (max r.clock p.moment) p (named_by r.sessions (message_kind_of p.message.channel) p.message) (refusal config r.sessions p)
+    (λ e. none _) (none _) (none _) (λ s e. none _)
 
 request_ends : (config : Config) (r : Registry) (moment nonce : ℕ) (sole seen : Bool) (m : Message) (ms : List Message) → (fold (judge config) r (listed_from moment nonce sole seen (m ∷ ms))).senders ≡ NoneYet
 request_ends config r moment nonce sole seen m [] = last_ends config r (record { message = m; moment = moment; nonce = nonce; sole = sole; last = true; second = seen && is_handshake m }) refl
@@ -417,11 +406,6 @@ nothing_rides_beside config inputs moment nonce ms more before other behind firs
 abbrev Unridden : Judged → Type 0
 Unridden j = may_have_rider j.entry.kind ≡ false → j.entry.rides ≡ None
 
-record AddsUnridden (r t : Registry) : Type 0 where
-  found : Judged
-  judged : t.judged ≡ r.judged ++ found ∷ []
-  unridden : Unridden found
-
 served_unridden : (config : Config) (r : Registry) (moment : ℕ) (p : Posted) (c : MessageKind) (s : Registered) (hold : ℕ) → Unridden (found_of config r moment p c s hold)
 served_unridden config r moment p c s hold h =
     either (is_rider config r.senders c p s) (rider_for (is_rider config r.senders c p s) s.number (slot_for config c p s) ≡ None)
@@ -433,28 +417,18 @@ served_unridden config r moment p c s hold h =
     absurd (both_ways (may_ride c) (sym (carried_kind c p s hold) ∙ h) w.1))
     (λ b. ap (λ (rides : Bool). rider_for rides s.number (slot_for config c p s)) b)
 
-unnamed_unridden : (config : Config) (r : Registry) (moment : ℕ) (p : Posted) (b : Bool) → AddsUnridden r (noted r moment (unnamed config (state_of r) moment p b))
-unnamed_unridden config r moment p true = record { found = _; judged = refl; unridden = λ h. refl }
-unnamed_unridden config r moment p false = record { found = _; judged = refl; unridden = λ h. refl }
-
-judged_by_unridden : (config : Config) (r : Registry) (moment : ℕ) (p : Posted) (sender : Option Registered) (error : Option Error) → AddsUnridden r (noted r moment (judged_by config (state_of r) moment p sender error))
-judged_by_unridden config r moment p sender (Some error) = record { found = _; judged = refl; unridden = λ h. refl }
-judged_by_unridden config r moment p None None = unnamed_unridden config r moment p (is_handshake p.message)
-judged_by_unridden config r moment p (Some s) None = record {
-  found = found_of config r moment p (message_kind_of p.message.channel) s (hold_of config p);
-  judged = refl;
-  unridden = served_unridden config r moment p (message_kind_of p.message.channel) s (hold_of config p);
-}
-
-judge_unridden : (config : Config) (r : Registry) (x : Listed) → AddsUnridden r (judge config r x)
-judge_unridden config r (Post p) = judged_by_unridden config r (max r.clock p.moment) p (named_by r.sessions (message_kind_of p.message.channel) p.message) (refusal config r.sessions p)
-judge_unridden config r (messages.Tick moment) = record { found = _; judged = refl; unridden = λ h. refl }
+judge_unridden : (config : Config) (r : Registry) (x : Listed) → EachJudged Unridden r.judged → EachJudged Unridden (judge config r x).judged
+judge_unridden config r (Post p) d =
+    let c : MessageKind = message_kind_of p.message.channel in
+    let moment : ℕ = max r.clock p.moment in
+    each_judged_push Unridden r.judged _ d
+    (by_verdict (λ v. Unridden (found_at (length r.judged) moment v)) config (state_of r) moment p (named_by r.sessions c p.message) (refusal config r.sessions p) (λ e h. refl) (λ h. refl) (λ h. refl)
+    (λ s e. served_unridden config r moment p c s (hold_of config p)))
+judge_unridden config r (messages.Tick moment) d = each_judged_push Unridden r.judged _ d (λ h. refl)
 
 run_unridden : (config : Config) (r : Registry) (xs : List Listed) → EachJudged Unridden r.judged → EachJudged Unridden (fold (judge config) r xs).judged
 run_unridden config r [] d = d
-run_unridden config r (x ∷ xs) d =
-    let a : AddsUnridden r (judge config r x) = judge_unridden config r x in
-    run_unridden config (judge config r x) xs (subst (EachJudged Unridden) (sym a.judged) (each_judged_push Unridden r.judged a.found d a.unridden))
+run_unridden config r (x ∷ xs) d = run_unridden config (judge config r x) xs (judge_unridden config r x d)
 
 pub others_never_ride : OthersNeverRide
 others_never_ride config list = entries_all (λ (e : Entry). may_have_rider e.kind ≡ false → e.rides ≡ None) (registry config list).judged (run_unridden config empty_registry list tt)

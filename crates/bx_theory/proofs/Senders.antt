@@ -1,5 +1,5 @@
 -- An accepted message stands where its session is live.
-use Rattle.std.proofs.Common.{◌≡◌, ℕ, max, Bool, true, false, ◌&&◌, Option, Some, None, List, [], ◌∷◌, ◌++◌, map, find, ◌==◌, refl, sym, ap, ◌∙◌, subst, append-nil, append_assoc, eq-eqb}
+use Rattle.std.proofs.Common.{length, ◌≡◌, ℕ, max, Bool, true, false, ◌&&◌, Option, Some, None, List, [], ◌∷◌, ◌++◌, map, find, ◌==◌, refl, sym, ap, ◌∙◌, subst, append-nil, append_assoc, eq-eqb}
 use Rattle.std.proofs.lemmas.Bool.{cond-true, cond-false, and_parts, both_ways}
 use Rattle.std.proofs.lemmas.List.Sums.{fold-append}
 use Rattle.std.specs.Str.{bytes_eq}
@@ -14,8 +14,9 @@ use Rattle.bx_message.specs.MessageKinds.{message_kind_of, is_handshake}
 use Rattle.bx_entry.specs.Listing.{Listed, Post, Posted}
 use Rattle.bx_entry.specs.Listing as messages
 use Rattle.bx_entry.specs.declared.entry.Entry.{Entry}
-use Rattle.bx_entry.specs.Registry.{Registry, Registered, Judged, judge, judged_by, sender_of, named_by, refusal, registry, empty_registry, entries_of, unnamed, noted, state_of}
+use Rattle.bx_entry.specs.Registry.{found_at, Registry, Registered, Judged, judge, judged_by, sender_of, named_by, refusal, registry, empty_registry, entries_of, unnamed, noted, state_of}
 use Rattle.bx_theory.specs.Readings.{opens_by, since_opening, unclosed, AcceptedWhileLive}
+use Rattle.bx_theory.proofs.Verdicts.{by_verdict}
 use Rattle.bx_theory.proofs.Dues.{named_session}
 use Rattle.bx_theory.proofs.Lives.{same_live}
 
@@ -54,17 +55,9 @@ record FoundGood (r t : Registry) : Type 0 where
   judged : t.judged ≡ r.judged ++ found ∷ []
   good : Good r.judged found
 
-unnamed_good : (config : Config) (r : Registry) (moment : ℕ) (p : Posted) (b : Bool) → FoundGood r (noted r moment (unnamed config (state_of r) moment p b))
-unnamed_good config r moment p true = record { found = _; judged = refl; good = λ number s o. absurd (opens number s o) }
-  where
-    opens : (number : ℕ) → {m : ℕ} → Some m ≡ Some number → (m == number) ≡ false → ⊥
-    opens number {m = m} s o = let same : m ≡ number = cc in both_ways (m == number) o (eq-eqb m number same)
-unnamed_good config r moment p false = record { found = _; judged = refl; good = λ number s o. cc }
-
-judged_by_good : (config : Config) (r : Registry) (moment : ℕ) (p : Posted) (sender : Option Registered) (error : Option Error) → ((s : Registered) → sender ≡ Some s → live_by s.number (entries_of r) ≡ true) → FoundGood r (noted r moment (judged_by config (state_of r) moment p sender error))
-judged_by_good config r moment p sender (Some error) h = record { found = _; judged = refl; good = λ number s o. cc }
-judged_by_good config r moment p None None h = unnamed_good config r moment p (is_handshake p.message)
-judged_by_good config r moment p (Some q) None h = record { found = _; judged = refl; good = λ number s o. (let same : q.number ≡ number = cc in subst (λ (n : ℕ). live_by n (entries_of r) ≡ true) same (h q refl)) }
+-- a handshake opens the session that it is of
+own_opening : (number m : ℕ) → Some m ≡ Some number → (m == number) ≡ false → ⊥
+own_opening number m s o = let same : m ≡ number = cc in both_ways (m == number) o (eq-eqb m number same)
 
 -- by the entries before it
 pub sender_reads : (config : Config) (ys : List Listed) (p : Posted) (s : Registered) → named_by (registry config ys).sessions (message_kind_of p.message.channel) p.message ≡ Some s → live_by s.number (entries_of (registry config ys)) ≡ true
@@ -75,8 +68,14 @@ sender_reads config ys p s e =
 judge_good : (config : Config) (ys : List Listed) (x : Listed) → FoundGood (registry config ys) (judge config (registry config ys) x)
 judge_good config ys (Post p) =
     let r : Registry = registry config ys in
-    judged_by_good config r (max r.clock p.moment) p (named_by r.sessions (message_kind_of p.message.channel) p.message) (refusal config r.sessions p)
-    (λ s e. sender_reads config ys p s e)
+    let c : MessageKind = message_kind_of p.message.channel in
+    record {
+      found = _;
+      judged = refl;
+      good = by_verdict (λ v. Good r.judged (found_at (length r.judged) (max r.clock p.moment) v)) config (state_of r) (max r.clock p.moment) p (named_by r.sessions c p.message) (refusal config r.sessions p)
+          (λ e number s o. cc) (λ number s o. absurd (own_opening number _ s o)) (λ number s o. cc)
+          (λ q e number s o. (let same : q.number ≡ number = cc in subst (λ (n : ℕ). live_by n (entries_of r) ≡ true) same (sender_reads config ys p q e)));
+    }
 judge_good config ys (messages.Tick moment) = record { found = _; judged = refl; good = λ number s o. cc }
 
 -- ---- all elements

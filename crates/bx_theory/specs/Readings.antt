@@ -19,7 +19,7 @@ use Rattle.bx_entry.specs.declared.entry.EntryKind.{EntryKind}
 use Rattle.bx_entry.specs.declared.entry.EntryKind.TheVariants.{Opened, Connect, Subscribe, Unsubscribe, Publish, Disconnect, Refused, Tick}
 use Rattle.bx_entry.specs.Registry.{due_of, Registered, Registry, Judged, event_of, registry, entries_of, entries}
 use Rattle.bx_names.specs.InForce.{in_force, with_pattern}
-use Rattle.bx_entry.specs.Sessions.{Session, Pending, Filed, Publication, ack_given, is_live, is_hit, has_room, pending_count, step, session, Closed}
+use Rattle.bx_entry.specs.Sessions.{Session, Pending, Filed, Publication, ack_given, is_live, is_hit, has_room, pending_count, step, session, Closed, deadline}
 
 -- ---- live: opened, and not closed since
 
@@ -97,7 +97,7 @@ ends_by config s p moment (Unsubscribe n ps) = false
 ends_by config s p moment (Publish e) = is_hit s e && has_room config s
 ends_by config s p moment (Disconnect n) = n == s.number
 ends_by config s p moment Refused = false
-ends_by config s p moment (Tick numbers) = nat_le (p.moment + p.hold) moment
+ends_by config s p moment (Tick numbers) = nat_le (deadline p) moment
 
 -- the same of an entry
 abbrev pub ends : Config → Session → Pending → Entry → Bool

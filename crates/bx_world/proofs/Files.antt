@@ -16,6 +16,7 @@ use Rattle.bx_entry.specs.Registry.{due_of, Registry, Registered, Judged, PlaceS
 use Rattle.bx_entry.specs.declared.input.Input.{Input}
 use Rattle.bx_entry.specs.Sessions.{Session, Filed, session}
 use Rattle.bx_entry.specs.Answers.{PlacedAnswer, answer_of, answer_by, answer_at}
+use Rattle.bx_theory.proofs.Verdicts.{by_verdict}
 use Rattle.bx_theory.specs.Readings.{EachSession}
 use Rattle.bx_shard.specs.Shards.{Setup, shard_at, sessions_in, stands_in, is_taken}
 use Rattle.bx_world.specs.Worlds.{WorldState, IsOutput, Runs, after, filed_under}
@@ -107,18 +108,13 @@ served_waiters config r moment p c s hold here w =
     λ n h. left_has c s.number n (extended s.number due r.sessions) ∙ extended_has s.number due n r.sessions ∙ h in
     waiters_push r ts _ same (slot_ridden (is_rider config r.senders c p s) s.number (slot_for config c p s) ts (same s.number here) (slot_served config c p s ts (same s.number here))) w
 
-unnamed_waiters : (config : Config) (r : Registry) (moment : ℕ) (p : Posted) (b : Bool) → Waiters r → Waiters (noted r moment (unnamed config (state_of r) moment p b))
-unnamed_waiters config r moment p true w = waiters_push r (noted r moment (unnamed config (state_of r) moment p true)).sessions _ (λ n g. has_push n r.sessions _ g) tt w
-unnamed_waiters config r moment p false w = waiters_push r r.sessions _ (λ n g. g) tt w
-
-judged_by_waiters : (config : Config) (r : Registry) (moment : ℕ) (p : Posted) (sender : Option Registered) (error : Option Error) → ((s : Registered) → sender ≡ Some s → has s.number r.sessions ≡ true) → Waiters r → Waiters (noted r moment (judged_by config (state_of r) moment p sender error))
-judged_by_waiters config r moment p sender (Some error) h w = waiters_push r r.sessions _ (λ n g. g) tt w
-judged_by_waiters config r moment p None None h w = unnamed_waiters config r moment p (is_handshake p.message) w
-judged_by_waiters config r moment p (Some s) None h w = served_waiters config r moment p (message_kind_of p.message.channel) s (hold_of config p) (h s refl) w
-
 judge_waiters : (config : Config) (r : Registry) (x : Listed) → Waiters r → Waiters (judge config r x)
-judge_waiters config r (Post p) w = judged_by_waiters config r (max r.clock p.moment) p (named_by r.sessions (message_kind_of p.message.channel) p.message) (refusal config r.sessions p)
-    (λ s e. named_session (λ q. has q.number r.sessions ≡ true) r.sessions (message_kind_of p.message.channel) p.message s e (each_has r.sessions)) w
+judge_waiters config r (Post p) w =
+    let c : MessageKind = message_kind_of p.message.channel in
+    let moment : ℕ = max r.clock p.moment in
+    by_verdict (λ v. Waiters (noted r moment v)) config (state_of r) moment p (named_by r.sessions c p.message) (refusal config r.sessions p)
+    (λ e. waiters_push r r.sessions _ (λ n g. g) tt w) (waiters_push r _ _ (λ n g. has_push n r.sessions _ g) tt w) (waiters_push r r.sessions _ (λ n g. g) tt w)
+    (λ s e. served_waiters config r moment p c s (hold_of config p) (named_session (λ q. has q.number r.sessions ≡ true) r.sessions c p.message s e (each_has r.sessions)) w)
 judge_waiters config r (messages.Tick moment) w = let now : ℕ = max r.clock moment in waiters_push r (swept now r.sessions) _ (λ n g. swept_has now n r.sessions ∙ g) tt w
 
 run_waiters : (config : Config) (r : Registry) (xs : List Listed) → Waiters r → Waiters (fold (judge config) r xs)

@@ -26,6 +26,7 @@ use Rattle.bx_world.specs.declared.step.StepOut.{StepOut}
 use Rattle.bx_world.specs.declared.step.StepOut.TheVariants.{Admitted, NotAdmitted, Applied, Level, Taken, OutOfMemory}
 use Rattle.bx_world.specs.Headline.{EachSlot, IsAdmitted, RepliedBy, Replied, EachReplied, RepliesAreAnswers}
 use Rattle.bx_world.proofs.Takes.{Longer, run_longer}
+use Rattle.bx_theory.proofs.Verdicts.{by_verdict}
 use Rattle.bx_theory.proofs.Lists.{judged_more, judged_length}
 
 -- ---- every message has a slot, and no tick has one
@@ -67,17 +68,15 @@ record Slots (x : Listed) (r t : Registry) : Type 0 where
   judged : t.judged ≡ r.judged ++ found ∷ []
   slotted : Slotted x found.slot
 
-unnamed_slots : (config : Config) (r : Registry) (moment : ℕ) (p : Posted) (b : Bool) → Slots (Post p) r (noted r moment (unnamed config (state_of r) moment p b))
-unnamed_slots config r moment p true = record { found = _; judged = refl; slotted = tt }
-unnamed_slots config r moment p false = record { found = _; judged = refl; slotted = tt }
-
-judged_by_slots : (config : Config) (r : Registry) (moment : ℕ) (p : Posted) (sender : Option Registered) (error : Option Error) → Slots (Post p) r (noted r moment (judged_by config (state_of r) moment p sender error))
-judged_by_slots config r moment p sender (Some error) = record { found = _; judged = refl; slotted = tt }
-judged_by_slots config r moment p None None = unnamed_slots config r moment p (is_handshake p.message)
-judged_by_slots config r moment p (Some s) None = record { found = _; judged = refl; slotted = ridden_message (is_rider config r.senders (message_kind_of p.message.channel) p s) s.number (slot_for config (message_kind_of p.message.channel) p s) p (slot_for_message config (message_kind_of p.message.channel) p s) }
-
 judge_slots : (config : Config) (r : Registry) (x : Listed) → Slots x r (judge config r x)
-judge_slots config r (Post p) = judged_by_slots config r (max r.clock p.moment) p (named_by r.sessions (message_kind_of p.message.channel) p.message) (refusal config r.sessions p)
+judge_slots config r (Post p) =
+    let c : MessageKind = message_kind_of p.message.channel in
+    record {
+      found = _;
+      judged = refl;
+      slotted = by_verdict (λ v. Slotted (Post p) v.slot) config (state_of r) (max r.clock p.moment) p (named_by r.sessions c p.message) (refusal config r.sessions p) (λ e. tt) tt tt
+          (λ s e. ridden_message (is_rider config r.senders c p s) s.number (slot_for config c p s) p (slot_for_message config c p s));
+    }
 judge_slots config r (messages.Tick moment) = record { found = _; judged = refl; slotted = tt }
 
 record Adds (xs : List Listed) (r t : Registry) : Type 0 where
