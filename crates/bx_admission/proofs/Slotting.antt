@@ -6,7 +6,7 @@ use Rattle.std.proofs.lemmas.List.{length-map, map-append}
 use Rattle.bx_advice.specs.declared.config.Config.{Config}
 use Rattle.bx_entry.specs.declared.entry.Slot.{Slot}
 use Rattle.bx_entry.specs.Listing.{Listed, Post, Tick}
-use Rattle.bx_entry.specs.Registry.{Judged, PlaceSlot, Ready, Waiting, NoSlot, registry}
+use Rattle.bx_entry.specs.Registry.{Judged, PlaceSlot, Ready, registry}
 use Rattle.bx_theory.proofs.Lists.{judged_length}
 use Rattle.bx_registry.specs.Plans.{planned_at, slots_in}
 use Rattle.bx_registry.specs.Rolls.{Roll, found, next, step}
@@ -19,8 +19,7 @@ use Rattle.bx_admission.proofs.Planning.{judged_on}
 answered : (setup : Setup) (place : ℕ) (slot : PlaceSlot) (rest : List Planned) →
     map (placed_slot setup.placing setup.shards) (cons_option (planned_at place slot) rest) ≡ given_by setup place slot ++ map (placed_slot setup.placing setup.shards) rest
 answered setup place (Ready reply) rest = refl
-answered setup place (Waiting session) rest = refl
-answered setup place NoSlot rest = refl
+answered setup place _ rest = refl
 
 all_answered : (setup : Setup) (roll : Roll) (added : List Listed) →
     map (placed_slot setup.placing setup.shards) (slots_in (found roll added)) ≡ given_from setup roll.length (map (λ (j : Judged). j.slot) (found roll added))

@@ -1,7 +1,7 @@
 -- The advice that goes with each outcome of a message.
 use Rattle.std.specs.Prelude.{Option, Some, None, option_map}
 use Rattle.bx_advice.specs.declared.error.Error.{Error}
-use Rattle.bx_advice.specs.declared.error.Error.TheVariants.{UnknownMetaChannel, SecondHandshake, UnsupportedVersion, NoSupportedConnectionType, TooManySessions, NoClientId, UnknownClient, UnknownConnectionType, InvalidChannel, InvalidPattern, TooManyPatterns, SubscriptionDenied, MissingSubscription, MissingData, SupersededConnect, QueueOverflow}
+use Rattle.bx_advice.specs.declared.error.Error.TheVariants.{UnsupportedVersion, NoSupportedConnectionType, TooManySessions, NoClientId, UnknownClient, QueueOverflow}
 use Rattle.bx_advice.specs.declared.config.Config.{Config}
 use Rattle.bx_advice.specs.declared.advice.Advice.{Advice}
 use Rattle.bx_advice.specs.declared.advice.Reconnect.{Reconnect}
@@ -19,22 +19,13 @@ instead c reconnect = record { interval = c.interval; reconnect = reconnect; tim
 
 -- After an error: a new handshake where the session is gone, can't go on or found no room; nothing more where this client can't be served; else no advice.
 abbrev pub reconnect_of : Error → Option Reconnect
-reconnect_of UnknownMetaChannel = None
-reconnect_of SecondHandshake = None
 reconnect_of UnsupportedVersion = Some Never
 reconnect_of NoSupportedConnectionType = Some Never
 reconnect_of TooManySessions = Some Handshake
 reconnect_of NoClientId = Some Handshake
 reconnect_of UnknownClient = Some Handshake
-reconnect_of UnknownConnectionType = None
-reconnect_of InvalidChannel = None
-reconnect_of InvalidPattern = None
-reconnect_of TooManyPatterns = None
-reconnect_of SubscriptionDenied = None
-reconnect_of MissingSubscription = None
-reconnect_of MissingData = None
-reconnect_of SupersededConnect = None
 reconnect_of QueueOverflow = Some Handshake
+reconnect_of _ = None
 
 -- the advice that goes with each case
 abbrev pub advice_of : Config → Outcome → Option Advice

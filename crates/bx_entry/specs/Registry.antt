@@ -259,13 +259,10 @@ is_one Mixed = false
 
 -- what a session's waiting events may go out before: the reply of any message but a connect or a disconnect (a handshake is of no session yet)
 abbrev pub may_ride : MessageKind → Bool
-may_ride MessageKind.Handshake = false
-may_ride MessageKind.Connect = false
 may_ride MessageKind.Subscribe = true
 may_ride MessageKind.Unsubscribe = true
-may_ride MessageKind.Disconnect = false
 may_ride MessageKind.Publish = true
-may_ride MessageKind.UnknownMeta = false
+may_ride _ = false
 
 -- whether an accepted message is a rider: its request's last, where all of them are accepted ones of this session, which does not acknowledge
 abbrev pub is_rider : Config → Senders → MessageKind → Posted → Registered → Bool
@@ -334,13 +331,8 @@ slot_for config MessageKind.UnknownMeta p s = Ready (reply_to config MessageKind
 
 -- a disconnect ends its session
 abbrev pub left_by : MessageKind → ℕ → List Registered → List Registered
-left_by MessageKind.Handshake number sessions = sessions
-left_by MessageKind.Connect number sessions = sessions
-left_by MessageKind.Subscribe number sessions = sessions
-left_by MessageKind.Unsubscribe number sessions = sessions
 left_by MessageKind.Disconnect number sessions = closed number sessions
-left_by MessageKind.Publish number sessions = sessions
-left_by MessageKind.UnknownMeta number sessions = sessions
+left_by _ number sessions = sessions
 
 -- the rider that an accepted message of a live session is, if it is one
 abbrev pub rider_by : Config → Senders → MessageKind → Posted → Registered → Option Rider
@@ -363,13 +355,8 @@ served config state moment p message_kind s hold = record {
 
 -- the entry's kind for an accepted message of no session (no such message is any but a publish)
 abbrev pub sessionless_kind : MessageKind → Message → EntryKind
-sessionless_kind MessageKind.Handshake m = Refused
-sessionless_kind MessageKind.Connect m = Refused
-sessionless_kind MessageKind.Subscribe m = Refused
-sessionless_kind MessageKind.Unsubscribe m = Refused
-sessionless_kind MessageKind.Disconnect m = Refused
 sessionless_kind MessageKind.Publish m = Publish (event_of m)
-sessionless_kind MessageKind.UnknownMeta m = Refused
+sessionless_kind _ m = Refused
 
 -- an accepted message of no session changes no session, and has its success at once
 abbrev pub sessionless : Config → State → Posted → MessageKind → Verdict
@@ -400,12 +387,8 @@ judged_by config state moment p sender None = accepted config state moment p sen
 -- the session that a message names; a handshake names none
 abbrev pub named_by : List Registered → MessageKind → Message → Option Registered
 named_by sessions MessageKind.Handshake m = None
-named_by sessions MessageKind.Connect m = sender_of sessions m.client
-named_by sessions MessageKind.Subscribe m = sender_of sessions m.client
-named_by sessions MessageKind.Unsubscribe m = sender_of sessions m.client
-named_by sessions MessageKind.Disconnect m = sender_of sessions m.client
-named_by sessions MessageKind.Publish m = sender_of sessions m.client
 named_by sessions MessageKind.UnknownMeta m = None
+named_by sessions _ m = sender_of sessions m.client
 
 -- what a message comes to at this moment
 abbrev pub verdict : Config → State → ℕ → Posted → Verdict

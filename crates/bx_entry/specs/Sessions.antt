@@ -8,7 +8,7 @@ use Rattle.bx_names.specs.Kinds.{is_broadcast}
 use Rattle.bx_advice.specs.declared.error.Error.TheVariants.{SupersededConnect, QueueOverflow}
 use Rattle.bx_advice.specs.declared.config.Config.{Config}
 use Rattle.bx_advice.specs.declared.advice.Outcome.{Outcome}
-use Rattle.bx_advice.specs.declared.advice.Outcome.TheVariants.{Opened, Connected, Disconnected, Done, Failed}
+use Rattle.bx_advice.specs.declared.advice.Outcome.TheVariants.{Connected, Disconnected, Failed}
 use Rattle.bx_message.specs.declared.event.Event.{Event}
 use Rattle.bx_message.specs.declared.reply.Reply.{Reply}
 use Rattle.bx_message.specs.declared.reply.AckReply.{AckReply}
@@ -107,11 +107,9 @@ batch s = outstanding (window_in s)
 
 -- a connect's success in an acknowledging session carries the number of the last batch formed
 abbrev pub ack_given : Bool → ℕ → Outcome → AckReply
-ack_given ack num Opened = NoAck
 ack_given ack num Connected = if ack then AckNumber num else NoAck
 ack_given ack num Disconnected = if ack then AckNumber num else NoAck
-ack_given ack num Done = NoAck
-ack_given ack num (Failed error) = NoAck
+ack_given ack num _ = NoAck
 
 -- the answer to a connect at this place
 abbrev pub filing : Config → Pending → ℕ → List Publication → Outcome → Session → Filed
@@ -314,14 +312,10 @@ ridden_by config place s (Some rider) = if is_riding rider s then ridden config 
 
 -- the rider of an entry of this kind, which is a subscription, an unsubscription or a publish
 abbrev pub rider_of : EntryKind → Option Rider → Option Rider
-rider_of (entries.Opened n ack) rides = None
-rider_of (Connect n client id acked hold) rides = None
 rider_of (Subscribe n ps) rides = rides
 rider_of (Unsubscribe n ps) rides = rides
 rider_of (Publish e) rides = rides
-rider_of (Disconnect n) rides = None
-rider_of Refused rides = None
-rider_of (Tick numbers) rides = None
+rider_of _ rides = None
 
 -- ---- one entry after another
 

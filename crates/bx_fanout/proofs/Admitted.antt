@@ -29,13 +29,11 @@ use Rattle.bx_fanout.proofs.Stages.{length-numbers}
 
 asked : (len : ℕ) (input : ReadInput) → length (places_of (intake_as len input None) input) ≡ asked_by input
 asked len (Request moment nonce ms) = length-numbers len (length (request moment nonce ms)) ∙ length-listed moment nonce (length ms == 1) false ms
-asked len (Unread fault) = refl
-asked len (Tick moment) = refl
+asked len _ = refl
 
 refused-asked : (len : ℕ) (input : ReadInput) (refusal : Refusal) → length (places_of (intake_as len input (Some refusal)) input) ≡ 0
 refused-asked len (Request moment nonce ms) refusal = refl
-refused-asked len (Unread fault) refusal = refl
-refused-asked len (Tick moment) refusal = refl
+refused-asked len _ refusal = refl
 
 -- ---- what the admission says
 

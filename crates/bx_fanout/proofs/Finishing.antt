@@ -44,21 +44,18 @@ intake-at setup inputs w rows stage n added is i = subst (λ (s : Stage). IsStag
 -- where none are, outs are given
 pub giving-at : (setup : Setup) (inputs : List ReadInput) (w : WorldState) (rows : List Row) (stage : Stage) (added : List runs.Out) → is_collecting stage ≡ false →
     IsStaged setup inputs w rows stage added → IsGiving setup inputs w rows (map seen_out (own stage)) added
-giving-at setup inputs w rows Idle added none i = i
 giving-at setup inputs w rows (Collecting n) added none i = cc
-giving-at setup inputs w rows (Complete n) added none i = i
+giving-at setup inputs w rows _ added none i = i
 
 pub staged-at : (setup : Setup) (inputs : List ReadInput) (w : WorldState) (rows : List Row) (stage : Stage) (added : List runs.Out) → is_collecting stage ≡ false →
     IsGiving setup inputs w rows (map seen_out (own stage)) added → IsStaged setup inputs w rows stage added
-staged-at setup inputs w rows Idle added none i = i
 staged-at setup inputs w rows (Collecting n) added none i = cc
-staged-at setup inputs w rows (Complete n) added none i = i
+staged-at setup inputs w rows _ added none i = i
 
 -- and where none is left of the last input, nothing is
 pub idle-at : (stage : Stage) → is_collecting stage ≡ false → own stage ≡ [] → stage ≡ Idle
 idle-at Idle none left = refl
-idle-at (Collecting n) none left = cc
-idle-at (Complete n) none left = cc
+idle-at _ none left = cc
 
 -- what lies behind the first of them
 pub behind-is : (xs ys all now : List Out) (k : ℕ) → k ≡ length xs → all ≡ xs ++ ys → now ≡ all → take (length now - k) (drop k now) ≡ ys

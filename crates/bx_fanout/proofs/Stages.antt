@@ -153,8 +153,7 @@ length-numbers place (suc n) = ap (λ (m : ℕ). suc m) (length-numbers (place +
 -- so many messages of an input stand at places that are in order
 places-are : (d : Intake) (input : ReadInput) (n : ℕ) → n ≡ length (places_of d input) → places_of d input ≡ numbers_from d.first n
 places-are d (Request moment nonce ms) n e = ap (numbers_from d.first) (sym (e ∙ length-numbers d.first d.count))
-places-are d (Unread fault) n e = ap (numbers_from d.first) (sym e)
-places-are d (Tick moment) n e = ap (numbers_from d.first) (sym e)
+places-are d _ n e = ap (numbers_from d.first) (sym e)
 
 pub intake-input : (len : ℕ) (input : ReadInput) (o : Option Refusal) → (intake_as len input o).input ≡ input
 intake-input len input None = refl

@@ -47,10 +47,7 @@ level-last (Some g ∷ stays) = ap (one_more g) (level-last stays)
 
 counted : (f : HubFault) (l : Lagging) → count_of (one_more f l) ≡ count_of l + 1
 counted stops.Closed l = omega arith
-counted stops.Paused l = omega arith
-counted (stops.Overrun s p) l = omega arith
-counted stops.Memory l = omega arith
-counted (stops.Misplaced m) l = omega arith
+counted _ l = omega arith
 
 -- no more stay behind than there are
 pub few_lag : (stays : List (Option HubFault)) → count_of (lagging_of stays) ≤ length stays

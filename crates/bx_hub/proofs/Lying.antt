@@ -21,9 +21,7 @@ lies_after false waker (Some (Filed session place answer)) = tt
 
 stored_map : {P Q : Type 0} (w : Watch) → (P → Q) → IfStored w P → IfStored w Q
 stored_map (Stored older) f p = f p
-stored_map (Ready waker) f p = tt
-stored_map (Unknown waker) f p = tt
-stored_map (Shut waker) f p = tt
+stored_map _ f p = tt
 
 itself : (n : ℕ) → nat_eq n n ≡ true
 itself n = eq-eqb n n refl

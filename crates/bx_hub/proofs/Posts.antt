@@ -97,13 +97,11 @@ refused_by input moment end faults.Ended front same is = inl (same ∙ is)
 refused_by input moment end faults.Memory front same is = tt
 
 pub unpublished : (input : ReadInput) (f : PostFault) (front : List Step) → refusal_of (length (list_of front)) input ≡ None → 0 < length (added_by input) → IsUnpublished f front → IsRefused input f front
-unpublished input (Body fault) front allowed some u = absurd u
 unpublished input Closed front allowed some u = tt
-unpublished input BadMoment front allowed some u = absurd u
 unpublished input Ended front allowed some u = inr u
 unpublished input (Behind first) front allowed some u = record { allowed = allowed; some = some; full = u }
-unpublished input (Overrun shard place) front allowed some u = absurd u
 unpublished input Memory front allowed some u = tt
+unpublished input _ front allowed some u = absurd u
 
 pub err_refused : {T : Type 0} (input : ReadInput) (f : PostFault) (front : List Step) (r : Result T PostFault) → IsErrAnd r (λ e. e ≡ f) → IsRefused input f front → IfErr r (λ e. IsRefused input e front)
 err_refused input f front (Ok x) is refused = absurd is
@@ -118,14 +116,10 @@ unpublished_result input list writer unchanged whole new (Err e) allowed is some
 
 -- where it was full, and there is no room now
 pub without_room : (input : ReadInput) (f : PostFault) (before front : List Step) → IsPrefix before front → WasFullFor input before → IsWithoutRoom f front → IsRefused input f front
-without_room input (Body fault) before front p was o = absurd o
-without_room input Closed before front p was o = absurd o
-without_room input BadMoment before front p was o = absurd o
-without_room input Ended before front p was o = absurd o
-without_room input (Behind first) before front p was o = absurd o
 without_room input (Overrun shard place) before front p was o =
     (record { before = was.before; first = was.first; begins = prefix_trans was.before before front was.begins p; full = was.full }, o)
 without_room input Memory before front p was o = tt
+without_room input _ before front p was o = absurd o
 
 -- what was refused since the window is full
 pub was_full : {T : Type 0} (input : ReadInput) (first : ℕ) (front : List Step) (r : Result T PostFault) → r ≡ Err (Behind first) → IfErr r (λ e. IsRefused input e front) → WasFullFor input front

@@ -40,11 +40,9 @@ one_more (stops.Misplaced found) l = record l { misplaced = l.misplaced + 1 }
 -- where the shard of this index is overrun, it is this one that is told, and the window of this front begins past its place; where another is found
 -- under its lock, it is another
 abbrev pub IsStopped : HubFault → ℕ → List Step → Type 0
-IsStopped stops.Closed index front = Unit {0}
-IsStopped stops.Paused index front = Unit {0}
 IsStopped (stops.Overrun shard place) index front = (shard ≡ index) × (place < begin_of front)
-IsStopped stops.Memory index front = Unit {0}
 IsStopped (stops.Misplaced found) index front = found ≢ index
+IsStopped _ index front = Unit {0}
 
 -- a closed shard is stopped by that, a paused one by that, and one that is active by neither
 abbrev pub IsStoppedIn : Activity → HubFault → Type 0

@@ -43,23 +43,14 @@ pub record WasFullFor (input : ReadInput) (front : List Step) : Type 0 where
 
 -- some shard stands at the place that is told, and the window of this front begins past it
 abbrev pub IsOverrun : PostFault → List Step → Type 0
-IsOverrun (Body fault) front = ⊥
-IsOverrun Closed front = ⊥
-IsOverrun BadMoment front = ⊥
-IsOverrun Ended front = ⊥
-IsOverrun (Behind first) front = ⊥
 IsOverrun (Overrun shard place) front = place < begin_of front
-IsOverrun Memory front = ⊥
+IsOverrun _ front = ⊥
 
 -- so it is, or memory was refused
 abbrev pub IsWithoutRoom : PostFault → List Step → Type 0
-IsWithoutRoom (Body fault) front = ⊥
-IsWithoutRoom Closed front = ⊥
-IsWithoutRoom BadMoment front = ⊥
-IsWithoutRoom Ended front = ⊥
-IsWithoutRoom (Behind first) front = ⊥
 IsWithoutRoom (Overrun shard place) front = place < begin_of front
 IsWithoutRoom Memory front = Unit {0}
+IsWithoutRoom _ front = ⊥
 
 -- Why an input is refused, by the front that the pass has then seen: its documents can't be read; its moment is above the greatest; the list, or
 -- the log of its publishes and trims, has an end; the window has 4096 batches, the oldest of which begins at the place that is told; or the window was
@@ -75,10 +66,7 @@ IsRefused input Memory front = Unit {0}
 
 -- Why what was planned is not published, by the same front.
 abbrev pub IsUnpublished : PostFault → List Step → Type 0
-IsUnpublished (Body fault) front = ⊥
-IsUnpublished Closed front = ⊥
-IsUnpublished BadMoment front = ⊥
 IsUnpublished Ended front = 2 ^ 62 ≤ length front
 IsUnpublished (Behind first) front = IsFull first front
-IsUnpublished (Overrun shard place) front = ⊥
 IsUnpublished Memory front = Unit {0}
+IsUnpublished _ front = ⊥

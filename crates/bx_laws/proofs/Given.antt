@@ -42,22 +42,12 @@ Pairs (x ∷ xs) [] = ⊥
 Pairs (x ∷ xs) (j ∷ js) = OfPost x j.entry.kind × Pairs xs js
 
 kind_of_post : (c : MessageKind) (p : Posted) (s : Registered) (hold : ℕ) → message_kind_of p.message.channel ≡ c → OfPost (Post p) (kind_for c p s hold)
-kind_of_post MessageKind.Handshake p s hold h = λ e k. cc
-kind_of_post MessageKind.Connect p s hold h = λ e k. cc
-kind_of_post MessageKind.Subscribe p s hold h = λ e k. cc
-kind_of_post MessageKind.Unsubscribe p s hold h = λ e k. cc
-kind_of_post MessageKind.Disconnect p s hold h = λ e k. cc
 kind_of_post MessageKind.Publish p s hold h = λ e k. record { message = p; posted = refl; message_kind = h; event = (let same : event_of p.message ≡ e = cc in sym same) }
-kind_of_post MessageKind.UnknownMeta p s hold h = λ e k. cc
+kind_of_post _ p s hold h = λ e k. cc
 
 sessionless_of_post : (c : MessageKind) (p : Posted) → message_kind_of p.message.channel ≡ c → OfPost (Post p) (sessionless_kind c p.message)
-sessionless_of_post MessageKind.Handshake p h = λ e k. cc
-sessionless_of_post MessageKind.Connect p h = λ e k. cc
-sessionless_of_post MessageKind.Subscribe p h = λ e k. cc
-sessionless_of_post MessageKind.Unsubscribe p h = λ e k. cc
-sessionless_of_post MessageKind.Disconnect p h = λ e k. cc
 sessionless_of_post MessageKind.Publish p h = λ e k. record { message = p; posted = refl; message_kind = h; event = (let same : event_of p.message ≡ e = cc in sym same) }
-sessionless_of_post MessageKind.UnknownMeta p h = λ e k. cc
+sessionless_of_post _ p h = λ e k. cc
 
 record JudgedFrom (r t : Registry) (x : Listed) : Type 0 where
   found : Judged

@@ -22,8 +22,7 @@ use Rattle.bx_theory.proofs.Closings.{closed_by_held}
 
 begun_held : (ack : Bool) (s : Session) (stage : Stage) → (begun ack s stage).held ≡ s.held
 begun_held ack s Unopened = refl
-begun_held ack s Live = refl
-begun_held ack s Closed = refl
+begun_held ack s _ = refl
 
 either_held : (b : Bool) (t s : Session) (p : Option Pending) → t.held ≡ p → s.held ≡ p → (cond b t s).held ≡ p
 either_held b t s p h g = cond_both b t s (λ (u : Session). u.held ≡ p) (λ e. h) (λ e. g)
@@ -134,18 +133,15 @@ taken_here config p now given outcome b s t e a = subst (Ends config p now given
 
 step_by_here : (config : Config) (e : Entry) (s : Session) (p : Pending) (k : EntryKind) → s.held ≡ Some p → ends_by config s p e.moment k ≡ true →
     Ends config p e.place (ending_events e.place k) (ending_outcome k) s (step_by config e.place e.moment s k)
-step_by_here config e s p (entries.Opened n ack) h d = cc
 step_by_here config e s p (Connect n client id acked hold) h d =
     let q : Pending = record { place = e.place; client = client; id = id; moment = e.moment; hold = hold } in
     taken_here config p e.place [] (Failed SupersededConnect) (n == s.number) s (connected config q acked s) d (connected_here config q acked s p h)
-step_by_here config e s p (Subscribe n ps) h d = cc
-step_by_here config e s p (Unsubscribe n ps) h d = cc
 step_by_here config e s p (Publish v) h d = published_here config (record { place = e.place; event = v }) s p h d
 step_by_here config e s p (Disconnect n) h d =
     taken_here config p e.place [] Disconnected (n == s.number) s (disconnected config e.place s) d
     (ended_here config p e.place [] Disconnected s (released config e.place Disconnected s) (released_here config e.place Disconnected s p h))
-step_by_here config e s p Refused h d = cc
 step_by_here config e s p (Tick numbers) h d = closed_by_here config p e.place [] Connected numbers s (expired config e.place e.moment s) (expired_here config e.place e.moment s p h d)
+step_by_here config e s p _ h d = cc
 
 pub ending_reading : EndingReading
 ending_reading config s p es e h n d =

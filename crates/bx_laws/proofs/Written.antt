@@ -231,9 +231,8 @@ Above n no_members = Unit {0}
 Above n (values.member k d ms) = (stands_behind n k ≡ true) × Above n ms
 
 last_branch : {A : Type 0} (o : Ordering) (a b c : A) → match_ordering o false false true ≡ true → match_ordering o a b c ≡ c
-last_branch Less a b c e = cc
-last_branch Equal a b c e = cc
 last_branch Greater a b c e = refl
+last_branch _ a b c e = cc
 
 put_last : (n : List ℕ) (d : Data) (ms : Members) → Above n ms → put n d ms ≡ joined_members ms (values.member n d no_members)
 put_last n d no_members h = refl

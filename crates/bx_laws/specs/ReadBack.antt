@@ -101,29 +101,18 @@ ext_data (AckNumber n) = Some (ack_object (count n))
 
 -- the error, where there is one
 abbrev pub error_data : Outcome → Option Data
-error_data Opened = None
-error_data Connected = None
-error_data Disconnected = None
-error_data Done = None
 error_data (Failed error) = Some (string (error_text error))
+error_data _ = None
 
 -- whether there is none
 abbrev pub succeeds : Outcome → Bool
-succeeds Opened = true
-succeeds Connected = true
-succeeds Disconnected = true
-succeeds Done = true
 succeeds (Failed error) = false
+succeeds _ = true
 
 -- only replies to handshakes carry the types and the version
 abbrev pub for_handshake : MessageKind → Data → Option Data
 for_handshake MessageKind.Handshake d = Some d
-for_handshake MessageKind.Connect d = None
-for_handshake MessageKind.Subscribe d = None
-for_handshake MessageKind.Unsubscribe d = None
-for_handshake MessageKind.Disconnect d = None
-for_handshake MessageKind.Publish d = None
-for_handshake MessageKind.UnknownMeta d = None
+for_handshake _ d = None
 
 -- the two connection types
 abbrev pub connection_types : Data

@@ -1,5 +1,5 @@
 -- Which numbers a list has, and that ascending lists with the same numbers are the same.
-use Rattle.std.proofs.Common.{◌≡◌, ◌≢◌, ℕ, ◌<◌, ◌≤◌, Bool, true, false, List, [], ◌∷◌, map, refl, sym, ap, subst, ◌∙◌, cond, arith, inl, inr, eqb, eq-eqb, eqb-true, ne_eqb}
+use Rattle.std.proofs.Common.{◌≡◌, ◌≢◌, ℕ, ◌<◌, ◌≤◌, Bool, true, false, List, [], ◌∷◌, refl, sym, ap, subst, ◌∙◌, cond, arith, inl, inr, eqb, eq-eqb, eqb-true, ne_eqb}
 use Rattle.std.specs.Prelude.{◌&&◌, ◌||◌, ◌==◌, ◌⊎◌}
 use Rattle.std.specs.List.{AllByRecursion, Contains, dedup, filter}
 use Rattle.std.specs.List.Sorted.{IsStrictlySortedBy}

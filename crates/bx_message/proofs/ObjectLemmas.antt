@@ -1,6 +1,6 @@
 -- Objects and arrays that are written piece by piece, and what they are when they are ended.
 use Rattle.std.proofs.Common.{◌≡◌, ℕ, ◌+◌, ◌<◌, List, [], ◌∷◌, ◌++◌, length, take, map, get_or, refl, sym, ap, ◌∙◌, arith, append_assoc}
-use Rattle.std.proofs.Common.{cond, Result, Ok, Err, OnOk, is_ok, Bool, true, false, not, ◌&&◌, ◌||◌, ◌==◌, nat_lt, eq-eqb}
+use Rattle.std.proofs.Common.{cond, Result, Ok, Err, OnOk, is_ok, Bool, true, false, not, ◌||◌, ◌==◌, nat_lt, eq-eqb}
 use Rattle.std.proofs.lemmas.Bool.{true≢false, ltb-false, and_parts}
 use Rattle.std.specs.List.{join_with_byte, list_all}
 use Rattle.json.specs.Run.{is_plain}
@@ -13,7 +13,7 @@ use Rattle.bx_message.specs.Objects.{OpenObject, opened, resumed, with_name, wit
 use Rattle.bx_message.specs.Texts.{member, object}
 use Rattle.bx_advice.specs.Errors.{error_text}
 use Rattle.bx_advice.specs.declared.error.Error.{Error}
-use Rattle.bx_advice.specs.declared.error.Error.TheVariants.{UnknownMetaChannel, SecondHandshake, UnsupportedVersion, NoSupportedConnectionType, TooManySessions, NoClientId, UnknownClient, UnknownConnectionType, InvalidChannel, InvalidPattern, TooManyPatterns, SubscriptionDenied, MissingSubscription, MissingData, SupersededConnect, QueueOverflow}
+use Rattle.bx_advice.specs.declared.error.Error.TheVariants.{UnknownMetaChannel}
 
 -- ---- one token
 
@@ -130,21 +130,7 @@ plain_pushed out s e =
 -- none of them needs an escape
 pub error_plain : (error : Error) → list_all is_plain (error_text error) ≡ true
 error_plain UnknownMetaChannel = refl
-error_plain SecondHandshake = refl
-error_plain UnsupportedVersion = refl
-error_plain NoSupportedConnectionType = refl
-error_plain TooManySessions = refl
-error_plain NoClientId = refl
-error_plain UnknownClient = refl
-error_plain UnknownConnectionType = refl
-error_plain InvalidChannel = refl
-error_plain InvalidPattern = refl
-error_plain TooManyPatterns = refl
-error_plain SubscriptionDenied = refl
-error_plain MissingSubscription = refl
-error_plain MissingData = refl
-error_plain SupersededConnect = refl
-error_plain QueueOverflow = refl
+error_plain _ = refl
 
 -- ---- appending
 

@@ -5,29 +5,21 @@ use Rattle.bx_advice.specs.declared.advice.Outcome.{Outcome}
 use Rattle.bx_advice.specs.Advice.{advice_of}
 use Rattle.bx_message.specs.declared.message.Message.{Message}
 use Rattle.bx_message.specs.declared.message_kind.MessageKind.{MessageKind}
-use Rattle.bx_message.specs.declared.message_kind.MessageKind.TheVariants.{Handshake, Connect, Subscribe, Unsubscribe, Disconnect, Publish, UnknownMeta}
+use Rattle.bx_message.specs.declared.message_kind.MessageKind.TheVariants.{Connect, Subscribe, Unsubscribe, Publish, UnknownMeta}
 use Rattle.bx_message.specs.declared.reply.AckReply.{AckReply}
 use Rattle.bx_message.specs.declared.reply.Reply.{Reply}
 
 -- the reply to a message of this kind carries the client id, where its session is known
 abbrev pub client_for : MessageKind → Option (List ℕ) → Option (List ℕ)
-client_for Handshake client = client
-client_for Connect client = client
-client_for Subscribe client = client
-client_for Unsubscribe client = client
-client_for Disconnect client = client
 client_for Publish client = None
 client_for UnknownMeta client = None
+client_for _ client = client
 
 -- subscriptions and unsubscriptions repeat the member, in a refusal too
 abbrev pub subscription_for : MessageKind → Option (List ℕ) → Option (List ℕ)
-subscription_for Handshake subscription = None
-subscription_for Connect subscription = None
 subscription_for Subscribe subscription = subscription
 subscription_for Unsubscribe subscription = subscription
-subscription_for Disconnect subscription = None
-subscription_for Publish subscription = None
-subscription_for UnknownMeta subscription = None
+subscription_for _ subscription = None
 
 -- the reply to a message that is answered at its own place; the client id is that of its session, or none
 abbrev pub reply_to : Config → MessageKind → Message → Option (List ℕ) → Outcome → AckReply → Reply

@@ -7,7 +7,7 @@ use Rattle.bx_advice.specs.declared.advice.Advice.{Advice}
 use Rattle.bx_advice.specs.declared.advice.Reconnect.{Reconnect}
 use Rattle.bx_advice.specs.declared.advice.Reconnect.TheVariants.{Retry, Handshake, Never}
 use Rattle.bx_advice.specs.declared.advice.Outcome.{Outcome}
-use Rattle.bx_advice.specs.declared.advice.Outcome.TheVariants.{Opened, Connected, Disconnected, Done, Failed}
+use Rattle.bx_advice.specs.declared.advice.Outcome.TheVariants.{Failed}
 use Rattle.bx_message.specs.declared.message_kind.MessageKind.{MessageKind}
 use Rattle.bx_message.specs.declared.event.Event.{Event}
 use Rattle.bx_message.specs.declared.reply.Reply.{Reply}
@@ -73,39 +73,23 @@ ack_member (AckNumber n) = member (codes "ext") (object (member (codes "ack") (d
 
 -- the error, where there is one
 abbrev pub error_member : Outcome → List (List ℕ)
-error_member Opened = []
-error_member Connected = []
-error_member Disconnected = []
-error_member Done = []
 error_member (Failed error) = member (codes "error") (quoted (error_text error)) ∷ []
+error_member _ = []
 
 -- `true` unless there is an error
 abbrev pub success_text : Outcome → List ℕ
-success_text Opened = codes "true"
-success_text Connected = codes "true"
-success_text Disconnected = codes "true"
-success_text Done = codes "true"
 success_text (Failed error) = codes "false"
+success_text _ = codes "true"
 
 -- only replies to handshakes carry the types and the version, and they carry them always
 abbrev pub types_member : MessageKind → List (List ℕ)
 types_member MessageKind.Handshake = member (codes "supportedConnectionTypes") (array (quoted (codes "long-polling") ∷ quoted (codes "callback-polling") ∷ [])) ∷ []
-types_member MessageKind.Connect = []
-types_member MessageKind.Subscribe = []
-types_member MessageKind.Unsubscribe = []
-types_member MessageKind.Disconnect = []
-types_member MessageKind.Publish = []
-types_member MessageKind.UnknownMeta = []
+types_member _ = []
 
 -- the protocol's version
 abbrev pub version_member : MessageKind → List (List ℕ)
 version_member MessageKind.Handshake = member (codes "version") (quoted (codes "1.0")) ∷ []
-version_member MessageKind.Connect = []
-version_member MessageKind.Subscribe = []
-version_member MessageKind.Unsubscribe = []
-version_member MessageKind.Disconnect = []
-version_member MessageKind.Publish = []
-version_member MessageKind.UnknownMeta = []
+version_member _ = []
 
 -- what only replies to handshakes carry
 abbrev pub handshake_members : MessageKind → List (List ℕ)

@@ -101,8 +101,7 @@ pushed-close base es new e m k n {count} {opened} d is what can f g =
 
 limit-edited : (ms : Members) (e : Edit) → (edited ms e).limit ≡ ms.limit
 limit-edited ms (Open s) = refl
-limit-edited ms (Extend n due) = refl
-limit-edited ms (Close n) = refl
+limit-edited ms _ = refl
 
 pub limit-same : (ms : Members) (es : List Edit) → (fold edited ms es).limit ≡ ms.limit
 limit-same ms [] = refl

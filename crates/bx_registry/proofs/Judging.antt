@@ -16,7 +16,7 @@ use Rattle.bx_message.specs.declared.message_kind.MessageKind.{MessageKind}
 use Rattle.bx_message.specs.declared.message_kind.MessageKind.TheVariants.{Handshake, Connect, Subscribe, Unsubscribe, Disconnect, Publish, UnknownMeta}
 use Rattle.bx_message.specs.declared.message.Message.{Message}
 use Rattle.bx_message.specs.declared.message.TextMember.{TextMember}
-use Rattle.bx_message.specs.declared.message.TextMember.TheVariants.{Absent, NotText, Text}
+use Rattle.bx_message.specs.declared.message.TextMember.TheVariants.{Text}
 use Rattle.bx_message.specs.declared.reply.AckReply.TheVariants as replies
 use Rattle.bx_message.specs.MessageKinds.{message_kind_of, is_handshake}
 use Rattle.bx_message.specs.Replies.{reply_to}
@@ -147,18 +147,13 @@ found-at r [] text e = cc
 found-at r (s ∷ rs) text e = found-at-by r s rs text (found-at r rs text) (s.live && bytes_eq s.client text) e
 
 sender-at : (r : Registered) (rs : List Registered) (client : TextMember) → sender_of rs client ≡ Some r → IsSome (known_at r.number rs)
-sender-at r rs Absent e = cc
-sender-at r rs NotText e = cc
 sender-at r rs (Text text) e = found-at r rs text e
+sender-at r rs _ e = cc
 
 named-at : (r : Registered) (rs : List Registered) (message_kind : MessageKind) (m : Message) → named_by rs message_kind m ≡ Some r → IsSome (known_at r.number rs)
 named-at r rs Handshake m e = cc
-named-at r rs Connect m e = sender-at r rs m.client e
-named-at r rs Subscribe m e = sender-at r rs m.client e
-named-at r rs Unsubscribe m e = sender-at r rs m.client e
-named-at r rs Disconnect m e = sender-at r rs m.client e
-named-at r rs Publish m e = sender-at r rs m.client e
 named-at r rs UnknownMeta m e = cc
+named-at r rs _ m e = sender-at r rs m.client e
 
 -- ---- an accepted message of a session
 
@@ -175,40 +170,25 @@ closed-extended n due [] = refl
 closed-extended n due (r ∷ rs) = closing-extended n due r (r.number == n) refl (closed n (extended n due rs)) (closed n rs) (closed-extended n due rs)
 
 edited-for : (ms : Members) (message_kind : MessageKind) (n due : ℕ) → edited ms (edit_for message_kind n due) ≡ with_live ms (live_in (left_by message_kind n (extended n due ms.live)))
-edited-for ms Handshake n due = refl
-edited-for ms Connect n due = refl
-edited-for ms Subscribe n due = refl
-edited-for ms Unsubscribe n due = refl
 edited-for ms Disconnect n due = ap (with_live ms) (sym (closed-extended n due ms.live))
-edited-for ms Publish n due = refl
-edited-for ms UnknownMeta n due = refl
+edited-for ms _ n due = refl
 
 can-for : (ms : Members) (message_kind : MessageKind) (n due : ℕ) → IsSome (known_at n ms.live) → CanEdit ms (edit_for message_kind n due)
-can-for ms Handshake n due some = tt
-can-for ms Connect n due some = tt
-can-for ms Subscribe n due some = tt
-can-for ms Unsubscribe n due some = tt
 can-for ms Disconnect n due some = some
-can-for ms Publish n due some = tt
-can-for ms UnknownMeta n due some = tt
+can-for ms _ n due some = tt
 
 kind-for : (message_kind : MessageKind) (p : Posted) (s : Sender) (r : Registered) (hold : ℕ) → r.number ≡ s.number → r.client ≡ s.client.now → kind_for message_kind p (named s) hold ≡ kind_for message_kind p r hold
-kind-for Handshake p s r hold e f = refl
 kind-for Connect p s r hold e f = rw (e, f) refl
 kind-for Subscribe p s r hold e f = rw e refl
 kind-for Unsubscribe p s r hold e f = rw e refl
 kind-for Disconnect p s r hold e f = rw e refl
-kind-for Publish p s r hold e f = refl
-kind-for UnknownMeta p s r hold e f = refl
+kind-for _ p s r hold e f = refl
 
 slot-for : (config : Config) (message_kind : MessageKind) (p : Posted) (s : Sender) (r : Registered) → r.number ≡ s.number → r.client ≡ s.client.now → slot_for config message_kind p (named s) ≡ slot_for config message_kind p r
-slot-for config Handshake p s r e f = rw f refl
 slot-for config Connect p s r e f = rw e refl
-slot-for config Subscribe p s r e f = rw f refl
-slot-for config Unsubscribe p s r e f = rw f refl
-slot-for config Disconnect p s r e f = rw f refl
 slot-for config Publish p s r e f = refl
 slot-for config UnknownMeta p s r e f = refl
+slot-for config _ p s r e f = rw f refl
 
 ridden-for : (config : Config) (senders : Senders) (message_kind : MessageKind) (p : Posted) (s : Sender) (r : Registered) → r.number ≡ s.number → r.client ≡ s.client.now → r.ack ≡ s.ack →
     rider_by config senders message_kind p (named s) ≡ rider_by config senders message_kind p r

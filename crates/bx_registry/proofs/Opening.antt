@@ -12,7 +12,7 @@ use Rattle.bx_entry.specs.Registry.{Registered, State, cases_of, judged_by, name
 use Rattle.bx_roster.specs.Live.{Members}
 use Rattle.bx_roster.specs.Edits.{CanEdit, CanEditEach, edited, opened_by, opened_by_each}
 use Rattle.bx_roster.specs.declared.edit.Edit.{Edit}
-use Rattle.bx_roster.specs.declared.edit.Edit.TheVariants.{Open, Extend, Close}
+use Rattle.bx_roster.specs.declared.edit.Edit.TheVariants.{Open}
 use Rattle.bx_roster.specs.declared.edit.Edits.TheVariants.{Each}
 use Rattle.bx_registry.specs.Rolls.{Roll, after, next, state_of}
 use Rattle.bx_registry.specs.Changes.{changed}
@@ -61,8 +61,7 @@ after-once roll moment nonce sole seen (m ∷ ms) =
 
 opened-edit : (ms : Members) (e : Edit) → CanEdit ms e → (edited ms e).opened ≡ ms.opened + opened_by e
 opened-edit ms (Open s) can = can.number
-opened-edit ms (Extend n due) can = omega arith
-opened-edit ms (Close n) can = omega arith
+opened-edit ms _ can = omega arith
 
 opened-edits : (ms : Members) (es : List Edit) → CanEditEach ms es → (fold edited ms es).opened ≡ ms.opened + opened_by_each es
 opened-edits ms [] can = omega arith

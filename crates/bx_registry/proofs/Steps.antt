@@ -7,10 +7,10 @@ use Rattle.bx_names.specs.Faults.{first_case}
 use Rattle.bx_advice.specs.declared.config.Config.{Config}
 use Rattle.bx_advice.specs.declared.error.Error.{Error}
 use Rattle.bx_message.specs.declared.message_kind.MessageKind.{MessageKind}
-use Rattle.bx_message.specs.declared.message_kind.MessageKind.TheVariants.{Handshake, Connect, Subscribe, Unsubscribe, Disconnect, Publish, UnknownMeta}
+use Rattle.bx_message.specs.declared.message_kind.MessageKind.TheVariants.{Handshake, Disconnect, UnknownMeta}
 use Rattle.bx_message.specs.declared.message.Message.{Message}
 use Rattle.bx_message.specs.declared.message.TextMember.{TextMember}
-use Rattle.bx_message.specs.declared.message.TextMember.TheVariants.{Absent, NotText, Text}
+use Rattle.bx_message.specs.declared.message.TextMember.TheVariants.{Text}
 use Rattle.bx_message.specs.MessageKinds.{message_kind_of, is_handshake}
 use Rattle.bx_entry.specs.Listing.{Posted, Listed, Post}
 use Rattle.bx_entry.specs.Listing as messages
@@ -31,54 +31,35 @@ count_live-live : (sessions : List Registered) → count_live (live_in sessions)
 count_live-live sessions = ap length (live_in-live sessions)
 
 pub sender_of-live : (sessions : List Registered) (client : TextMember) → sender_of (live_in sessions) client ≡ sender_of sessions client
-sender_of-live sessions Absent = refl
-sender_of-live sessions NotText = refl
 sender_of-live sessions (Text client) = find-more is_live _ sessions
+sender_of-live sessions _ = refl
 
 cases_of-live : (config : Config) (sessions : List Registered) (p : Posted) (message_kind : MessageKind) → cases_of config (live_in sessions) p message_kind ≡ cases_of config sessions p message_kind
 cases_of-live config sessions p Handshake = rw count_live-live refl
-cases_of-live config sessions p Connect = rw sender_of-live refl
-cases_of-live config sessions p Subscribe = rw sender_of-live refl
-cases_of-live config sessions p Unsubscribe = rw sender_of-live refl
-cases_of-live config sessions p Disconnect = rw sender_of-live refl
-cases_of-live config sessions p Publish = rw sender_of-live refl
 cases_of-live config sessions p UnknownMeta = refl
+cases_of-live config sessions p _ = rw sender_of-live refl
 
 pub refusal-live : (config : Config) (sessions : List Registered) (p : Posted) → refusal config (live_in sessions) p ≡ refusal config sessions p
 refusal-live config sessions p = ap first_case (cases_of-live config sessions p (message_kind_of p.message.channel))
 
 named_by-live : (sessions : List Registered) (message_kind : MessageKind) (m : Message) → named_by (live_in sessions) message_kind m ≡ named_by sessions message_kind m
 named_by-live sessions Handshake m = refl
-named_by-live sessions Connect m = sender_of-live sessions m.client
-named_by-live sessions Subscribe m = sender_of-live sessions m.client
-named_by-live sessions Unsubscribe m = sender_of-live sessions m.client
-named_by-live sessions Disconnect m = sender_of-live sessions m.client
-named_by-live sessions Publish m = sender_of-live sessions m.client
 named_by-live sessions UnknownMeta m = refl
+named_by-live sessions _ m = sender_of-live sessions m.client
 
 pub overdue-live : (moment : ℕ) (sessions : List Registered) → overdue moment (live_in sessions) ≡ overdue moment sessions
 overdue-live moment sessions = ap (map (λ (r : Registered). r.number)) (filter-more is_live _ sessions)
 
 left_by-live : (message_kind : MessageKind) (number due : ℕ) (sessions : List Registered) →
     live_in (left_by message_kind number (extended number due (live_in sessions))) ≡ live_in (left_by message_kind number (extended number due sessions))
-left_by-live Handshake number due sessions = ap live_in (sym (live_in-extended number due sessions)) ∙ live_in-live (extended number due sessions)
-left_by-live Connect number due sessions = ap live_in (sym (live_in-extended number due sessions)) ∙ live_in-live (extended number due sessions)
-left_by-live Subscribe number due sessions = ap live_in (sym (live_in-extended number due sessions)) ∙ live_in-live (extended number due sessions)
-left_by-live Unsubscribe number due sessions = ap live_in (sym (live_in-extended number due sessions)) ∙ live_in-live (extended number due sessions)
 left_by-live Disconnect number due sessions = ap (λ ss. live_in (closed number ss)) (sym (live_in-extended number due sessions)) ∙ live_in-closed number (extended number due sessions)
-left_by-live Publish number due sessions = ap live_in (sym (live_in-extended number due sessions)) ∙ live_in-live (extended number due sessions)
-left_by-live UnknownMeta number due sessions = ap live_in (sym (live_in-extended number due sessions)) ∙ live_in-live (extended number due sessions)
+left_by-live _ number due sessions = ap live_in (sym (live_in-extended number due sessions)) ∙ live_in-live (extended number due sessions)
 
 -- ---- one element
 
 length-left_by : (message_kind : MessageKind) (number due : ℕ) (sessions : List Registered) → length (left_by message_kind number (extended number due sessions)) ≡ length sessions
-length-left_by Handshake number due sessions = length-map sessions _
-length-left_by Connect number due sessions = length-map sessions _
-length-left_by Subscribe number due sessions = length-map sessions _
-length-left_by Unsubscribe number due sessions = length-map sessions _
 length-left_by Disconnect number due sessions = length-map (extended number due sessions) _ ∙ length-map sessions _
-length-left_by Publish number due sessions = length-map sessions _
-length-left_by UnknownMeta number due sessions = length-map sessions _
+length-left_by _ number due sessions = length-map sessions _
 
 same_roll : (config : Config) (limit moment : ℕ) (senders : Senders) {opened opened' : ℕ} {live live' : List Registered} {len len' : ℕ} → opened ≡ opened' → live ≡ live' → len ≡ len' →
     let roll : Roll = record { config = config; members = record { limit = limit; opened = opened; live = live }; clock = moment; length = len; senders = senders } in

@@ -20,23 +20,13 @@ use Rattle.bx_registry.specs.declared.judge.Judgement.{Judgement}
 
 -- an accepted message of a session moves its due moment on; a disconnect closes the session
 abbrev pub edit_for : MessageKind → ℕ → ℕ → Edit
-edit_for message_kinds.Handshake number due = Extend number due
-edit_for message_kinds.Connect number due = Extend number due
-edit_for message_kinds.Subscribe number due = Extend number due
-edit_for message_kinds.Unsubscribe number due = Extend number due
 edit_for message_kinds.Disconnect number due = Close number
-edit_for message_kinds.Publish number due = Extend number due
-edit_for message_kinds.UnknownMeta number due = Extend number due
+edit_for _ number due = Extend number due
 
 -- whether a message of this kind, with this client id, has to be of a session, where it is no handshake
 abbrev pub is_needed : Config → MessageKind → TextMember → Bool
-is_needed config message_kinds.Handshake client = true
-is_needed config message_kinds.Connect client = true
-is_needed config message_kinds.Subscribe client = true
-is_needed config message_kinds.Unsubscribe client = true
-is_needed config message_kinds.Disconnect client = true
 is_needed config message_kinds.Publish client = needs_session config client
-is_needed config message_kinds.UnknownMeta client = true
+is_needed config _ client = true
 
 -- the edit, if there is one, the senders, the kind of the entry, its rider and the slot are those of the outcome at this place
 pub record IsVerdict (ms : Members) (place : ℕ) (o : Verdict) (j : Judgement) : Type 0 where
@@ -58,10 +48,7 @@ has_fault texts = list_any (λ text. is_some (pattern_fault text)) texts
 
 -- where a message of this kind names patterns, each of them reads as one; where it is a publish, its channel reads as a name
 abbrev pub AreReadable : MessageKind → Message → Type 0
-AreReadable message_kinds.Handshake message = ⊤
-AreReadable message_kinds.Connect message = ⊤
 AreReadable message_kinds.Subscribe message = has_fault message.texts ≡ false
 AreReadable message_kinds.Unsubscribe message = has_fault message.texts ≡ false
-AreReadable message_kinds.Disconnect message = ⊤
 AreReadable message_kinds.Publish message = is_some (name_fault message.channel) ≡ false
-AreReadable message_kinds.UnknownMeta message = ⊤
+AreReadable _ message = ⊤

@@ -113,11 +113,10 @@ record Adds (config : Config) (ls : List Line) (l : Line) : Type 0 where
   adds : AddsOuts config (inputs_in ls) l more
 
 adds_some : (config : Config) (ls : List Line) (l : Line) → 0 < config.limits.batch → Adds config ls l
-adds_some config ls Bad room = record { more = []; adds = tt }
-adds_some config ls (Rejected status) room = record { more = []; adds = tt }
 adds_some config ls (Accepted callback input) room = record {
   more = whole_at (length (inputs_in ls)) (wholes config (inputs_in ls ++ input ∷ []));
   adds = outs_last config (inputs_in ls) input room;
+adds_some config ls _ room = record { more = []; adds = tt }
 }
 adds_some config ls (Resharded shards) room = record { more = []; adds = tt }
 

@@ -25,10 +25,8 @@ seen_lines ls = map said_by ls
 
 -- among how many shards the sessions stand after a line
 abbrev pub shards_after : script.Line → ℕ → ℕ
-shards_after Bad before = before
-shards_after (Rejected status) before = before
-shards_after (Accepted callback input) before = before
 shards_after (Resharded shards) before = shards
+shards_after _ before = before
 
 -- What more lines print.
 pub record Prints (config : Config) (old new : List script.Line) (before after : Option (List ℕ)) : Type 0 where

@@ -6,7 +6,7 @@ use Rattle.std.specs.List.Sorted.{IsPermutation}
 use Rattle.std.specs.BinaryHeap.{IsUpperBound}
 use Rattle.std.specs.Ordering.{is_lt, nat_cmp, ordering_then}
 use Rattle.std.specs.declared.cmp.Ordering.{Ordering}
-use Rattle.std.specs.declared.cmp.Ordering.TheVariants.{Less, Equal, Greater}
+use Rattle.std.specs.declared.cmp.Ordering.TheVariants.{Less}
 use Rattle.std.proofs.Math.Bool.{and-false, or-true}
 use Rattle.std.proofs.lemmas.Map.Keys.{ge_from_not_lt}
 use Rattle.std.proofs.lemmas.Bool.Decides.{nat_tests}
@@ -230,8 +230,7 @@ closed-swept n m due low high rs late t is =
 
 first-not-lt : (a b : Ordering) → is_lt (ordering_then a b) ≡ false → is_lt a ≡ false
 first-not-lt Less b e = e
-first-not-lt Equal b e = refl
-first-not-lt Greater b e = refl
+first-not-lt _ b e = refl
 
 -- no entry stands before the first one
 pub from-first : (m : ℕ) (x : Due) (es : List Due) → m ≤ x.moment.0 → IsUpperBound due_order x es → IsFrom m es

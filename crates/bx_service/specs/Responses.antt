@@ -13,12 +13,8 @@ use Rattle.bx_message.specs.Statuses.{code_of}
 
 -- the fields of a response without a body: where the method is not allowed, those that are
 abbrev pub refusal_fields : Status → Entries FieldValue
-refusal_fields Ok = []
-refusal_fields BadRequest = []
-refusal_fields NotFound = []
 refusal_fields MethodNotAllowed = insert [] (codes "allow") (plain_value (codes "GET, POST"))
-refusal_fields TooLarge = []
-refusal_fields Unavailable = []
+refusal_fields _ = []
 
 -- it has this status, and no body
 pub record IsRefusal (status : Status) (response : Response (Full (List ℕ))) : Type 0 where

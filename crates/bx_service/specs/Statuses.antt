@@ -32,9 +32,6 @@ body_status bodies.Memory = Unavailable
 -- of what the hub refuses; of what is not admitted that of its refusal
 abbrev pub post_status : PostFault → Status
 post_status (posts.Body fault) = refusal_status (refusals.Body fault)
-post_status posts.Closed = Unavailable
 post_status posts.BadMoment = refusal_status refusals.BadMoment
 post_status posts.Ended = refusal_status refusals.Ended
-post_status (posts.Behind first) = Unavailable
-post_status (posts.Overrun shard place) = Unavailable
-post_status posts.Memory = Unavailable
+post_status _ = Unavailable

@@ -13,7 +13,7 @@ use Rattle.bx_entry.specs.declared.entry.Entry.{Entry}
 use Rattle.bx_entry.specs.declared.entry.EntryKind.{EntryKind}
 use Rattle.bx_entry.specs.declared.entry.EntryKind.TheVariants as entries
 use Rattle.bx_entry.specs.Answers.{PlacedAnswer, events_of}
-use Rattle.bx_entry.specs.Sessions.{Session, Publication, Pending, Filed, Stage, Unopened, Live, Closed, filing, answered, unheld, released_from, released, acknowledged, portion, given, gives, gives_one, idle, answered_or_held, connected, overflowed, subscribed, is_hit, has_room, with_event, delivered_to, delivered, published, expired_from, closed_by, begun, step_by, is_riding, ride_filing, ridden, ridden_by, rider_of}
+use Rattle.bx_entry.specs.Sessions.{Session, Publication, Pending, Filed, Stage, Unopened, filing, answered, unheld, released_from, released, acknowledged, portion, given, gives, gives_one, idle, answered_or_held, connected, overflowed, subscribed, is_hit, has_room, with_event, delivered_to, delivered, published, expired_from, closed_by, begun, step_by, is_riding, ride_filing, ridden, ridden_by, rider_of}
 use Rattle.bx_entry.specs.declared.entry.Rider.{Rider}
 use Rattle.bx_entry.specs.Keeping.{Kept, resumed, kept_answers}
 use Rattle.bx_session.specs.Views.{answered_of}
@@ -85,8 +85,7 @@ closed_h place numbers t h = cond_both (list_any (λ n. n == t.number) numbers) 
 
 begun_h : (place : ℕ) (ack : Bool) (t : Session) (s : Stage) → HereIn place t → HereIn place (begun ack t s)
 begun_h place ack t Unopened h = h
-begun_h place ack t Live h = h
-begun_h place ack t Closed h = h
+begun_h place ack t _ h = h
 
 step_h : (config : Config) (place moment : ℕ) (t : Session) (kind : EntryKind) → HereIn place t → HereIn place (step_by config place moment t kind)
 step_h config place moment t (entries.Opened n ack) h = cond_both (n == t.number) (begun ack t t.stage) t (HereIn place) (λ g. begun_h place ack t t.stage h) (λ g. h)

@@ -11,7 +11,7 @@ use Rattle.bx_advice.specs.declared.error.Error.TheVariants.{SupersededConnect}
 use Rattle.bx_entry.specs.declared.entry.Entry.{Entry}
 use Rattle.bx_entry.specs.declared.entry.EntryKind.{EntryKind}
 use Rattle.bx_entry.specs.declared.entry.EntryKind.TheVariants as entries
-use Rattle.bx_entry.specs.Sessions.{Session, Publication, Pending, Stage, Unopened, Live, Closed, unopened, released_from, released, acknowledged, portion, gives, idle, answered_or_held, connected, overflowed, with_patterns, subscribed, is_hit, has_room, with_event, delivered_to, delivered, published, expired_from, closed_by, begun, step_by, is_riding, ridden, ridden_by, rider_of, step, session}
+use Rattle.bx_entry.specs.Sessions.{Session, Publication, Pending, Stage, Unopened, unopened, released_from, released, acknowledged, portion, gives, idle, answered_or_held, connected, overflowed, with_patterns, subscribed, is_hit, has_room, with_event, delivered_to, delivered, published, expired_from, closed_by, begun, step_by, is_riding, ridden, ridden_by, rider_of, step, session}
 use Rattle.bx_entry.specs.declared.entry.Rider.{Rider}
 use Rattle.bx_entry.specs.Keeping.{Kept, resumed, kept_step}
 
@@ -63,8 +63,7 @@ closed_n n numbers t r = cond_both (list_any (λ m. m == t.number) numbers) _ t 
 
 begun_n : (ack : Bool) (t : Session) (stage : Stage) → Raised t.num (begun ack t stage)
 begun_n ack t Unopened = omega arith
-begun_n ack t Live = omega arith
-begun_n ack t Closed = omega arith
+begun_n ack t _ = omega arith
 
 step_n : (config : Config) (place moment : ℕ) (t : Session) (kind : EntryKind) → Raised t.num (step_by config place moment t kind)
 step_n config place moment t (entries.Opened n ack) = cond_both (n == t.number) _ t (Raised t.num) (λ h. begun_n ack t t.stage) (λ h. omega arith)

@@ -6,7 +6,7 @@ use Rattle.std.proofs.lemmas.Bool.Decides.{leb_tells}
 use Rattle.bx_advice.specs.declared.config.Config.{Config}
 use Rattle.bx_entry.specs.declared.entry.Entry.{Entry}
 use Rattle.bx_entry.specs.declared.entry.EntryKind.{EntryKind}
-use Rattle.bx_entry.specs.declared.entry.EntryKind.TheVariants.{Opened, Connect, Subscribe, Unsubscribe, Publish, Disconnect, Refused, Tick}
+use Rattle.bx_entry.specs.declared.entry.EntryKind.TheVariants.{Opened}
 use Rattle.bx_entry.specs.Keeping.{Kept, kept, kept_step}
 use Rattle.bx_entry.specs.Sessions.{is_live, unopened}
 use Rattle.bx_session.proofs.NumberLemmas.{numbers_step}
@@ -35,13 +35,7 @@ passed a b h = by (leb_tells a b)
 -- a session that an entry opens has formed none
 opening_none : (stands : Bool) (kind : EntryKind) (n : ℕ) → IfSome (opening stands kind n) (λ (k : Kept). k.num ≡ 0)
 opening_none stands (Opened m ack) n = cond_both ((m == n) && stands) (Some (kept (unopened m))) None (λ o. IfSome o (λ (k : Kept). k.num ≡ 0)) (λ h. refl) (λ h. tt)
-opening_none stands (Connect m client id acked hold) n = tt
-opening_none stands (Subscribe m patterns) n = tt
-opening_none stands (Unsubscribe m patterns) n = tt
-opening_none stands (Publish e) n = tt
-opening_none stands (Disconnect m) n = tt
-opening_none stands Refused n = tt
-opening_none stands (Tick numbers) n = tt
+opening_none stands _ n = tt
 
 module _ (config : Config) (stands : Bool) (e : Entry) (n count : ℕ) where
   stepped_few : (k : Kept) → k.num ≤ count → has_formed_at_most (count + 1) (if_live (kept_step config k e)) ≡ true

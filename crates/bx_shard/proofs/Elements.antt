@@ -14,7 +14,7 @@ use Rattle.bx_entry.specs.Listing.{Listed, Post, Posted}
 use Rattle.bx_entry.specs.Listing as messages
 use Rattle.bx_entry.specs.declared.entry.Entry.{Entry}
 use Rattle.bx_entry.specs.declared.entry.EntryKind.{EntryKind}
-use Rattle.bx_entry.specs.declared.entry.EntryKind.TheVariants.{Opened, Connect, Subscribe, Unsubscribe, Publish, Disconnect, Refused, Tick}
+use Rattle.bx_entry.specs.declared.entry.EntryKind.TheVariants.{Opened, Subscribe, Unsubscribe, Publish}
 use Rattle.bx_entry.specs.Registry.{due_of, Registry, Registered, Judged, judge, judged_by, kind_for, left_by, extended, swept, overdue, is_overdue, named_by, refusal, hold_of, registry, empty_registry, entries_of, entries, unnamed, sessionless_kind, PlaceSlot, Ready, Waiting, NoSlot, is_rider, rider_for, slot_for, noted, state_of}
 use Rattle.bx_entry.specs.declared.entry.Rider.{Rider}
 use Rattle.bx_entry.specs.Sessions.{Session, ended, ridden, ridden_by, rider_of, step_by, step, unopened, session}
@@ -31,26 +31,15 @@ numbers rs = map (λ (r : Registered). r.number) rs
 
 abbrev pub opened_numbers : EntryKind → List ℕ
 opened_numbers (Opened n ack) = n ∷ []
-opened_numbers (Connect n client id acked hold) = []
-opened_numbers (Subscribe n ps) = []
-opened_numbers (Unsubscribe n ps) = []
-opened_numbers (Publish e) = []
-opened_numbers (Disconnect n) = []
-opened_numbers Refused = []
-opened_numbers (Tick ns) = []
+opened_numbers _ = []
 
 numbers_through : (f : Registered → Registered) (rs : List Registered) → ((r : Registered) → (f r).number ≡ r.number) → numbers (map f rs) ≡ numbers rs
 numbers_through f [] h = refl
 numbers_through f (r ∷ rs) h = ap (λ (n : ℕ). n ∷ numbers (map f rs)) (h r) ∙ ap (λ (ns : List ℕ). r.number ∷ ns) (numbers_through f rs h)
 
 left_same : (c : MessageKind) (number : ℕ) (rs : List Registered) → numbers (left_by c number rs) ≡ numbers rs
-left_same MessageKind.Handshake number rs = refl
-left_same MessageKind.Connect number rs = refl
-left_same MessageKind.Subscribe number rs = refl
-left_same MessageKind.Unsubscribe number rs = refl
 left_same MessageKind.Disconnect number rs = numbers_through (λ s. cond (s.number == number) (record s { live = false }) s) rs (λ s. let t : Registered = record s { live = false } in cond_both (s.number == number) t s (λ (u : Registered). u.number ≡ s.number) (λ e. refl) (λ e. refl))
-left_same MessageKind.Publish number rs = refl
-left_same MessageKind.UnknownMeta number rs = refl
+left_same _ number rs = refl
 
 extended_same : (number due : ℕ) (rs : List Registered) → numbers (extended number due rs) ≡ numbers rs
 extended_same number due rs = numbers_through (λ s. cond (s.number == number) (record s { due = max s.due due }) s) rs (λ s. let t : Registered = record s { due = max s.due due } in cond_both (s.number == number) t s (λ (u : Registered). u.number ≡ s.number) (λ e. refl) (λ e. refl))
@@ -77,58 +66,30 @@ served_sessions c number due rs = left_same c number (extended number due rs) �
 
 no_opening : (c : MessageKind) (p : Posted) (q : Registered) (hold : ℕ) → opened_numbers (kind_for c p q hold) ≡ []
 no_opening MessageKind.Handshake p q hold = refl
-no_opening MessageKind.Connect p q hold = refl
-no_opening MessageKind.Subscribe p q hold = refl
-no_opening MessageKind.Unsubscribe p q hold = refl
-no_opening MessageKind.Disconnect p q hold = refl
-no_opening MessageKind.Publish p q hold = refl
-no_opening MessageKind.UnknownMeta p q hold = refl
+no_opening _ p q hold = refl
 
 not_opened : (n : ℕ) (c : MessageKind) (p : Posted) (q : Registered) (hold : ℕ) → opens_by n (kind_for c p q hold) ≡ false
 not_opened n MessageKind.Handshake p q hold = refl
-not_opened n MessageKind.Connect p q hold = refl
-not_opened n MessageKind.Subscribe p q hold = refl
-not_opened n MessageKind.Unsubscribe p q hold = refl
-not_opened n MessageKind.Disconnect p q hold = refl
-not_opened n MessageKind.Publish p q hold = refl
-not_opened n MessageKind.UnknownMeta p q hold = refl
+not_opened n _ p q hold = refl
 
 served_fresh : (config : Config) (place moment : ℕ) (c : MessageKind) (p : Posted) (q : Registered) (hold n : ℕ) → (q.number == n) ≡ false → step_by config place moment (unopened n) (kind_for c p q hold) ≡ unopened n
 served_fresh config place moment MessageKind.Handshake p q hold n h = refl
-served_fresh config place moment MessageKind.Connect p q hold n h = cond-false (q.number == n) _ (unopened n) h
-served_fresh config place moment MessageKind.Subscribe p q hold n h = cond-false (q.number == n) _ (unopened n) h
-served_fresh config place moment MessageKind.Unsubscribe p q hold n h = cond-false (q.number == n) _ (unopened n) h
-served_fresh config place moment MessageKind.Disconnect p q hold n h = cond-false (q.number == n) _ (unopened n) h
 served_fresh config place moment MessageKind.Publish p q hold n h = refl
 served_fresh config place moment MessageKind.UnknownMeta p q hold n h = refl
+served_fresh config place moment _ p q hold n h = cond-false (q.number == n) _ (unopened n) h
 
 -- a message of no session opens none
 sessionless_none : (c : MessageKind) (m : Message) → opened_numbers (sessionless_kind c m) ≡ []
 sessionless_none MessageKind.Handshake m = refl
-sessionless_none MessageKind.Connect m = refl
-sessionless_none MessageKind.Subscribe m = refl
-sessionless_none MessageKind.Unsubscribe m = refl
-sessionless_none MessageKind.Disconnect m = refl
-sessionless_none MessageKind.Publish m = refl
-sessionless_none MessageKind.UnknownMeta m = refl
+sessionless_none _ m = refl
 
 sessionless_new : (n : ℕ) (c : MessageKind) (m : Message) → opens_by n (sessionless_kind c m) ≡ false
 sessionless_new n MessageKind.Handshake m = refl
-sessionless_new n MessageKind.Connect m = refl
-sessionless_new n MessageKind.Subscribe m = refl
-sessionless_new n MessageKind.Unsubscribe m = refl
-sessionless_new n MessageKind.Disconnect m = refl
-sessionless_new n MessageKind.Publish m = refl
-sessionless_new n MessageKind.UnknownMeta m = refl
+sessionless_new n _ m = refl
 
 sessionless_fresh : (config : Config) (place moment : ℕ) (c : MessageKind) (m : Message) (n : ℕ) → step_by config place moment (unopened n) (sessionless_kind c m) ≡ unopened n
 sessionless_fresh config place moment MessageKind.Handshake m n = refl
-sessionless_fresh config place moment MessageKind.Connect m n = refl
-sessionless_fresh config place moment MessageKind.Subscribe m n = refl
-sessionless_fresh config place moment MessageKind.Unsubscribe m n = refl
-sessionless_fresh config place moment MessageKind.Disconnect m n = refl
-sessionless_fresh config place moment MessageKind.Publish m n = refl
-sessionless_fresh config place moment MessageKind.UnknownMeta m n = refl
+sessionless_fresh config place moment _ m n = refl
 
 -- a rider is one of the session whose message it is
 abbrev RiderIs : ℕ → Option Rider → Type 0
@@ -149,14 +110,10 @@ ridden_other config place n number other (Some rider) own s is =
 
 -- it is none of a session that is not opened yet
 served_rides : (config : Config) (place n number : ℕ) → (number == n) ≡ false → (kind : EntryKind) (rides : Option Rider) → RiderIs number rides → (s : Session) → s ≡ unopened n → ridden_by config place s (rider_of kind rides) ≡ unopened n
-served_rides config place n number other (Opened m ack) rides own s is = is
-served_rides config place n number other (Connect m client id acked hold) rides own s is = is
 served_rides config place n number other (Subscribe m ps) rides own s is = ridden_other config place n number other rides own s is
 served_rides config place n number other (Unsubscribe m ps) rides own s is = ridden_other config place n number other rides own s is
 served_rides config place n number other (Publish e) rides own s is = ridden_other config place n number other rides own s is
-served_rides config place n number other (Disconnect m) rides own s is = is
-served_rides config place n number other Refused rides own s is = is
-served_rides config place n number other (Tick numbers) rides own s is = is
+served_rides config place n number other _ rides own s is = is
 
 unnamed_adds : (config : Config) (r : Registry) (moment : ℕ) (p : Posted) (b : Bool) → Adds config r (noted r moment (unnamed config (state_of r) moment p b))
 unnamed_adds config r moment p true =

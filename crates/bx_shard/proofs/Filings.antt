@@ -7,7 +7,7 @@ use Rattle.bx_advice.specs.declared.config.Config.{Config}
 use Rattle.bx_entry.specs.Listing.{Listed}
 use Rattle.bx_entry.specs.declared.entry.Entry.{Entry}
 use Rattle.bx_entry.specs.declared.entry.EntryKind.{EntryKind}
-use Rattle.bx_entry.specs.declared.entry.EntryKind.TheVariants.{Opened, Connect, Subscribe, Unsubscribe, Publish, Disconnect, Refused, Tick}
+use Rattle.bx_entry.specs.declared.entry.EntryKind.TheVariants.{Opened}
 use Rattle.bx_entry.specs.Registry.{Registry, judge, registry, entries_of, Waiting}
 use Rattle.bx_entry.specs.Sessions.{Session, Live, is_live, step_by, step, unopened, session, Filed}
 use Rattle.bx_entry.specs.Keeping.{Kept, kept, StepsAlike, kept_answers}
@@ -102,13 +102,7 @@ opened_nothing config setup shard ys x (Opened n ack) a h =
     ap (λ (u : Session). u.answers) (session_next config n ys x a ∙ ap (λ (u : Session). step config u a.found.entry) (all_fresh config ys n past))
     ∙ ap (λ (k : EntryKind). (step config (unopened n) (record a.found.entry { kind = k })).answers) h ∙ none in
     cond_both (stands_in setup shard n) (n ∷ []) [] (λ (ms : List ℕ). flat_map A ms ≡ []) (λ g. append-nil (A n) ∙ here) (λ g. refl)
-opened_nothing config setup shard ys x (Connect n client id acked hold) a h = refl
-opened_nothing config setup shard ys x (Subscribe n ps) a h = refl
-opened_nothing config setup shard ys x (Unsubscribe n ps) a h = refl
-opened_nothing config setup shard ys x (Publish e) a h = refl
-opened_nothing config setup shard ys x (Disconnect n) a h = refl
-opened_nothing config setup shard ys x Refused a h = refl
-opened_nothing config setup shard ys x (Tick ns) a h = refl
+opened_nothing config setup shard ys x _ a h = refl
 
 -- what the live ones give is what all give
 live_answers : (config : Config) (ys : List Listed) (x : Listed) (ns : List ℕ) → 0 < config.limits.batch → (a : Adds config (registry config ys) (judge config (registry config ys) x)) →

@@ -12,7 +12,7 @@ use Rattle.bx_entry.specs.declared.entry.Entry.{Entry}
 use Rattle.bx_entry.specs.declared.entry.EntryKind.{EntryKind}
 use Rattle.bx_entry.specs.declared.entry.EntryKind.TheVariants as kinds
 use Rattle.bx_entry.specs.Keeping.{Kept, after, kept, resumed}
-use Rattle.bx_entry.specs.Sessions.{Closed, Live, Pending, Session, Stage, Unopened, admitted, begun, closed_by, connected, disconnected, ended, expired, is_live, published, released, stage_after, step, subscribed, unheld, unopened, unsubscribed}
+use Rattle.bx_entry.specs.Sessions.{Live, Pending, Session, Stage, Unopened, admitted, begun, closed_by, connected, disconnected, ended, expired, is_live, published, released, stage_after, step, subscribed, unheld, unopened, unsubscribed}
 use Rattle.bx_session.specs.declared.answered.Answered.{Answered}
 use Rattle.bx_session.specs.Views.{answered_of, deadline_of, pending}
 use Rattle.bx_connects.specs.declared.connects.ConnectState.{ConnectState}
@@ -177,8 +177,7 @@ followed_opened_here stands e m ack old new kind here gone sessions others count
 
     begun_answers : (k : Kept) (stage : Stage) → (begun ack (resumed k) stage).answers ≡ []
     begun_answers k Unopened = refl
-    begun_answers k Live = refl
-    begun_answers k Closed = refl
+    begun_answers k _ = refl
 
     nothing : (n : ℕ) (a : Answered) (o : Option Kept) → IsCounted n o (patterns_in old n) → Contains (answers_by (λ s. step old.config s follows) o) a → ⊥
     nothing n a None c there = nowhere a there

@@ -13,7 +13,7 @@ use Rattle.bx_entry.specs.declared.entry.EntryKind.{EntryKind}
 use Rattle.bx_entry.specs.declared.entry.Rider.{Rider}
 use Rattle.bx_entry.specs.declared.entry.EntryKind.TheVariants.{Opened, Connect, Subscribe, Unsubscribe, Publish, Disconnect, Refused, Tick}
 use Rattle.bx_entry.specs.Keeping.{Kept, after, answers_of, resumed}
-use Rattle.bx_entry.specs.Sessions.{Closed, Live, Pending, Publication, Session, Stage, Unopened, admitted, begun, connected, ended, expired, is_hit, is_riding, received, released, ridden, ridden_by, ride_filing, rider_of, step, step_by, subscribed, unheld}
+use Rattle.bx_entry.specs.Sessions.{Pending, Publication, Session, Stage, Unopened, admitted, begun, connected, ended, expired, is_hit, is_riding, received, released, ridden, ridden_by, ride_filing, rider_of, step, step_by, subscribed, unheld}
 use Rattle.bx_session.specs.declared.answered.Answered.{Answered}
 use Rattle.bx_session.specs.Views.{answered_of, deadline_of, pending}
 use Rattle.bx_session.proofs.ConnectLemmas.{connected_answers}
@@ -53,8 +53,7 @@ of_own false k t a there = absurd (nowhere a there)
 
 begun_nothing : (ack : Bool) (k : Kept) (stage : Stage) (a : Answered) → Contains (map answered_of (begun ack (resumed k) stage).answers) a → ⊥
 begun_nothing ack k Unopened a there = nowhere a there
-begun_nothing ack k Live a there = nowhere a there
-begun_nothing ack k Closed a there = nowhere a there
+begun_nothing ack k _ a there = nowhere a there
 
 connected_due : (config : Config) (p : Pending) (acked : Option ℕ) (k : Kept) (a : Answered) → Contains (map answered_of (connected config p acked (resumed k)).answers) a → Due p.place k.held a
 connected_due config p acked k a there =
@@ -89,17 +88,13 @@ answers_due config place moment k a (Tick numbers) there =
 -- an entry that may be a rider answers itself nothing but a connect that is held
 pub rider_due : (config : Config) (place moment : ℕ) (k : Kept) (a : Answered) (kind : EntryKind) (rides : Option Rider) (rider : Rider) → rider_of kind rides ≡ Some rider →
     Contains (map answered_of (step_by config place moment (resumed k) kind).answers) a → HoldsIt k.held a.place
-rider_due config place moment k a (Opened m ack) rides rider is there = absurd (let no : None ≡ Some rider = is in cc)
-rider_due config place moment k a (Connect m client id acked hold) rides rider is there = absurd (let no : None ≡ Some rider = is in cc)
 rider_due config place moment k a (Subscribe m patterns) rides rider is there =
     absurd (nowhere a (subst (λ given. Contains (map answered_of given) a) (subscribed_quiet k config patterns) (of_own (m == k.number) k (subscribed config patterns (resumed k)) a there)))
 rider_due config place moment k a (Unsubscribe m patterns) rides rider is there = absurd (nowhere a (of_own (m == k.number) k _ a there))
 rider_due config place moment k a (Publish event) rides rider is there =
     let e : Publication = record { place = place; event = event } in
     held_due k (received config e (resumed k)) a (received_e config e k) (of_own (is_hit (resumed k) event) k (received config e (resumed k)) a there)
-rider_due config place moment k a (Disconnect m) rides rider is there = absurd (let no : None ≡ Some rider = is in cc)
-rider_due config place moment k a Refused rides rider is there = absurd (let no : None ≡ Some rider = is in cc)
-rider_due config place moment k a (Tick numbers) rides rider is there = absurd (let no : None ≡ Some rider = is in cc)
+rider_due config place moment k a _ rides rider is there = absurd (let no : None ≡ Some rider = is in cc)
 
 -- the answer to a rider is to the entry itself
 ridden_due : (config : Config) (place : ℕ) (k : Kept) (a : Answered) (t : Session) (rides : Option Rider) → (Contains (map answered_of t.answers) a → Due place k.held a) → Contains (map answered_of (ridden_by config place t rides).answers) a → Due place k.held a

@@ -98,13 +98,7 @@ opened_found setup index place moment rides m (Opened n ack) =
     and_true : (b : Bool) → (b && true) ≡ b
     and_true true = refl
     and_true false = refl
-opened_found setup index place moment rides m (Connect n client id acked hold) = refl
-opened_found setup index place moment rides m (Subscribe n patterns) = refl
-opened_found setup index place moment rides m (Unsubscribe n patterns) = refl
-opened_found setup index place moment rides m (Publish e) = refl
-opened_found setup index place moment rides m (Disconnect n) = refl
-opened_found setup index place moment rides m Refused = refl
-opened_found setup index place moment rides m (Tick numbers) = refl
+opened_found setup index place moment rides m _ = refl
 
 -- a session that is there is as the entry leaves it, whatever the entry opens
 onward_first : (config : Config) (stands : Bool) (place moment : ℕ) (rides : Option Rider) (m : ℕ) (k : Kept) (kind : EntryKind) → k.stage ≡ Live →
@@ -212,35 +206,25 @@ let_go_none numbers (Some (states.Filed session place answer)) h = absurd (let n
 
 -- no answer is filed or lost by it
 begun_filed : (s : State) (e : Entry) (kind : EntryKind) (p : ℕ) → connect_in s e.place ≡ None → filed_with_place (begun (session_in s) (connect_in s) e kind p) ≡ filed_with_place (connect_in s p)
-begun_filed s e (Opened m ack) p fresh = refl
 begun_filed s e (Connect m client id acked hold) p fresh =
     let P : Option ConnectState → Type 0 = λ o. filed_with_place o ≡ filed_with_place (connect_in s p) in
     cond_both (is_some (session_in s m)) (holding m (pending e.place client id e.moment hold) (connect_in s) p) (connect_in s p) P
     (λ h. cond_both (nat_eq e.place p) (held_by m (deadline_of (pending e.place client id e.moment hold))) (connect_in s p) P
     (λ t. sym (ap filed_with_place (subst (λ (q : ℕ). connect_in s q ≡ None) (eqb-true e.place p t) fresh))) (λ t. refl))
     (λ h. refl)
-begun_filed s e (Subscribe m patterns) p fresh = refl
-begun_filed s e (Unsubscribe m patterns) p fresh = refl
-begun_filed s e (Publish event) p fresh = refl
-begun_filed s e (Disconnect m) p fresh = refl
-begun_filed s e Refused p fresh = refl
 begun_filed s e (Tick numbers) p fresh = let_go_filed numbers (connect_in s p)
+begun_filed s e _ p fresh = refl
 
 -- and nothing is known of any but the entry's own, where nothing was
 pub begun_none : (s : State) (e : Entry) (kind : EntryKind) (p : ℕ) → connect_in s p ≡ None → p ≢ e.place → begun (session_in s) (connect_in s) e kind p ≡ None
-begun_none s e (Opened m ack) p none other = none
 begun_none s e (Connect m client id acked hold) p none other =
     let P : Option ConnectState → Type 0 = λ o. o ≡ None in
     cond_both (is_some (session_in s m)) (holding m (pending e.place client id e.moment hold) (connect_in s) p) (connect_in s p) P
     (λ h. cond_both (nat_eq e.place p) (held_by m (deadline_of (pending e.place client id e.moment hold))) (connect_in s p) P
     (λ t. absurd (other (sym (eqb-true e.place p t)))) (λ t. none))
     (λ h. none)
-begun_none s e (Subscribe m patterns) p none other = none
-begun_none s e (Unsubscribe m patterns) p none other = none
-begun_none s e (Publish event) p none other = none
-begun_none s e (Disconnect m) p none other = none
-begun_none s e Refused p none other = none
 begun_none s e (Tick numbers) p none other = let_go_none numbers (connect_in s p) none
+begun_none s e _ p none other = none
 
 -- ---- one entry of the list
 

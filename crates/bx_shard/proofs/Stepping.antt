@@ -8,7 +8,7 @@ use Rattle.bx_advice.specs.declared.config.Config.{Config}
 use Rattle.bx_entry.specs.Listing.{Listed}
 use Rattle.bx_entry.specs.declared.entry.Entry.{Entry}
 use Rattle.bx_entry.specs.declared.entry.EntryKind.{EntryKind}
-use Rattle.bx_entry.specs.declared.entry.EntryKind.TheVariants.{Opened, Connect, Subscribe, Unsubscribe, Publish, Disconnect, Refused, Tick}
+use Rattle.bx_entry.specs.declared.entry.EntryKind.TheVariants.{Opened}
 use Rattle.bx_entry.specs.Registry.{Registry, Registered, judge, registry, entries_of}
 use Rattle.bx_entry.specs.Sessions.{Session, Stage, Unopened, Live, Closed, is_live, rider_of, stage_after, step, step_by, unopened, session}
 use Rattle.bx_theory.specs.Readings.{opens_by, closes_by, EachSession}
@@ -148,13 +148,7 @@ opening_step setup shard ys x (Opened n ack) room a h =
           ∙ ap (λ (k : Kept). cond (is_live k.stage) (k ∷ none) none) (kept_steps setup.config (unopened n) a.found.entry).state
       | false ↦ refl
     ])
-opening_step setup shard ys x (Connect n client id acked hold) room a h = refl
-opening_step setup shard ys x (Subscribe n ps) room a h = refl
-opening_step setup shard ys x (Unsubscribe n ps) room a h = refl
-opening_step setup shard ys x (Publish e) room a h = refl
-opening_step setup shard ys x (Disconnect n) room a h = refl
-opening_step setup shard ys x Refused room a h = refl
-opening_step setup shard ys x (Tick ns) room a h = refl
+opening_step setup shard ys x _ room a h = refl
 
 shard_next : (setup : Setup) (shard : ℕ) (ys : List Listed) (x : Listed) → 0 < setup.config.limits.batch → (a : Adds setup.config (registry setup.config ys) (judge setup.config (registry setup.config ys) x)) →
     held_over setup shard (ys ++ x ∷ []) ≡ steps setup.config a.found.entry (held_over setup shard ys ++ opening_by setup shard a.found.entry.kind)

@@ -1,8 +1,8 @@
 -- What shards hold once the answer to a connect was taken from one of them.
-use Rattle.std.proofs.Common.{◌≡◌, ℕ, ◌<◌, Bool, true, false, ◌||◌, is_some, Option, Some, None, List, [], ◌∷◌, ◌++◌, length, take, drop, map, filter, find, flat_map, option_map, slice_get, nat_eq, nat_lt, ◌==◌, not, refl, sym, ap, ◌∙◌, subst, arith, eqb-true, eq-eqb, ltb-true, ltb-false}
+use Rattle.std.proofs.Common.{◌≢◌, ◌≡◌, ℕ, ◌<◌, Bool, true, false, ◌||◌, is_some, Option, Some, None, List, [], ◌∷◌, ◌++◌, length, take, drop, map, filter, find, flat_map, option_map, slice_get, nat_eq, nat_lt, ◌==◌, not, refl, sym, ap, ◌∙◌, subst, arith, eqb-true, eq-eqb, ltb-true, ltb-false}
 use Rattle.std.proofs.lemmas.Bool.{both_ways, cond-true, cond-false, or_right}
 use Rattle.std.proofs.lemmas.List.{take-append-drop}
-use Rattle.std.proofs.lemmas.List.Folds.{find-append}
+use Rattle.std.proofs.lemmas.List.Folds.{find-append, list_any-append}
 use Rattle.std.specs.Option.{IsSome, option_or}
 use Rattle.bx_lists.proofs.Tests.{either}
 use Rattle.bx_advice.specs.declared.config.Config.{Config}
@@ -16,7 +16,7 @@ use Rattle.bx_connects.specs.declared.connects.ConnectState.{ConnectState}
 use Rattle.bx_connects.specs.declared.connects.ConnectState.TheVariants as states
 use Rattle.bx_connects.specs.Connects.{filed_answer, session_at, taken_from}
 use Rattle.bx_shard.specs.Shards.{Setup, is_taken, sessions_in, shard_at, stands_in}
-use Rattle.bx_shard.specs.States.{IsSound, State, connect_in}
+use Rattle.bx_shard.specs.States.{IsSound, State, connect_in, session_in}
 use Rattle.bx_shard.specs.Refining.{Refines, RefinesBeside, RefinesTaken, IsConnectOf, IsOwn, filed_with_place}
 use Rattle.bx_shard.proofs.Untaken.{find_untaken, found_kept}
 use Rattle.bx_shard.proofs.Waits.{WaitsAt, answered_waits}
@@ -27,9 +27,17 @@ pub taken_own : (taken : List ℕ) (place : ℕ) → is_taken (taken ++ place �
 taken_own [] place = ap (λ (b : Bool). b || false) (eq-eqb place place refl)
 taken_own (t ∷ ts) place = or_right (t == place) (is_taken (ts ++ place ∷ []) place) (taken_own ts place)
 
-taken_other : (taken : List ℕ) (place p : ℕ) → nat_eq place p ≡ false → is_taken (taken ++ place ∷ []) p ≡ is_taken taken p
-taken_other [] place p h = ap (λ (b : Bool). b || false) h
-taken_other (t ∷ ts) place p h = ap (λ (b : Bool). (t == p) || b) (taken_other ts place p h)
+-- those that were taken before, and these
+taken_too : (taken places : List ℕ) (p : ℕ) → is_taken places p ≡ true → is_taken (taken ++ places) p ≡ true
+taken_too taken places p h = list_any-append (λ (t : ℕ). t == p) taken places ∙ or_right (is_taken taken p) (is_taken places p) h
+
+taken_before : (taken places : List ℕ) (p : ℕ) → is_taken places p ≡ false → is_taken (taken ++ places) p ≡ is_taken taken p
+taken_before taken places p h =
+    list_any-append (λ (t : ℕ). t == p) taken places ∙ ap (λ (b : Bool). is_taken taken p || b) h ∙ (elim (is_taken taken p) as (λ (b : Bool). (b || false) ≡ b) [ true ↦ refl | false ↦ refl ])
+
+-- one place
+is_one : (place p : ℕ) (b : Bool) → is_taken (place ∷ []) p ≡ b → nat_eq place p ≡ b
+is_one place p b h = sym (elim (nat_eq place p) as (λ (c : Bool). (c || false) ≡ c) [ true ↦ refl | false ↦ refl ]) ∙ h
 
 -- ---- what is found among the answers that weren't taken
 
@@ -44,11 +52,10 @@ none_taken taken p fs h =
     let P : Option Filed → Type 0 = λ o. find_of p (untaken taken fs) ≡ o → o ≡ None in
     (elim (find_of p (untaken taken fs)) as P [ None ↦ λ e. refl | Some f ↦ λ e. absurd (both_ways (is_taken taken p) (found_kept taken p fs f e).1 h) ]) refl
 
-same_found : (taken : List ℕ) (place p : ℕ) (fs : List Filed) → nat_eq place p ≡ false →
-    find_of p (filter (λ (f : Filed). not (is_taken (taken ++ place ∷ []) f.connect)) fs) ≡ find_of p (filter (λ (f : Filed). not (is_taken taken f.connect)) fs)
-same_found taken place p fs h =
-    let more : List ℕ = taken ++ place ∷ [] in
-    let same : is_taken (taken ++ place ∷ []) p ≡ is_taken taken p = taken_other taken place p h in
+same_found : (taken places : List ℕ) (p : ℕ) (fs : List Filed) → is_taken places p ≡ false → find_of p (untaken (taken ++ places) fs) ≡ find_of p (untaken taken fs)
+same_found taken places p fs h =
+    let more : List ℕ = taken ++ places in
+    let same : is_taken (taken ++ places) p ≡ is_taken taken p = taken_before taken places p h in
     either (is_taken taken p) (find_of p (untaken more fs) ≡ find_of p (untaken taken fs))
     (λ t. none_taken more p fs (same ∙ t) ∙ sym (none_taken taken p fs t))
     (λ u. find_untaken more p fs (same ∙ u) ∙ sym (find_untaken taken p fs u))
@@ -139,53 +146,59 @@ connect_of_known setup list taken shard n p s h some =
     let at_some : (f : Filed) → P (Some f) = λ f a b. connect_of_filed setup list taken shard n p f a in
     (elim (find_of p (shard_at setup list taken shard n).filed) as P [ None ↦ at_none | Some f ↦ at_some f ]) refl (h.filed p)
 
--- ---- the shard from which it was taken
+-- ---- the shard from which answers were taken
 
-pub refines_taken : RefinesTaken
-refines_taken setup list taken shard n place old new room h some took sound =
-    let more : List ℕ = taken ++ place ∷ [] in
+-- the answers to the connects at these places are gone, and nothing else has changed
+pub record AreGone (places : List ℕ) (old new : State) : Type 0 where
+  pub setup_is : new.setup ≡ old.setup
+  pub index_is : new.index ≡ old.index
+  pub place_is : new.place ≡ old.place
+  pub sessions : (n : ℕ) → session_in new n ≡ session_in old n
+  pub filed : (p : ℕ) → is_taken places p ≡ true → IsSome (filed_answer (connect_in old p))
+  pub here : (p : ℕ) → is_taken places p ≡ true → connect_in new p ≡ None
+  pub there : (p : ℕ) → is_taken places p ≡ false → connect_in new p ≡ connect_in old p
+
+pub refines_gone : (setup : Setup) (list : List Listed) (taken places : List ℕ) (shard n : ℕ) (old new : State) → Refines setup list taken shard n old → AreGone places old new → IsSound new →
+    Refines setup list (taken ++ places) shard n new
+refines_gone setup list taken places shard n old new h gone sound =
+    let more : List ℕ = taken ++ places in
     let fs : List Filed = flat_map (λ (s : Session). s.answers) (sessions_in setup list shard n) in
-    let below : place < n = let l : place < old.place = filed_below old place h.sound some in omega (arith, l, h.place_is) in
-    let here : (p : ℕ) → nat_eq place p ≡ true → connect_in new p ≡ None =
-    λ p e. took.connects p ∙ cond-true (nat_eq place p) (taken_from (connect_in old place)) (connect_in old p) e ∙ gone_from (connect_in old place) some in
-    let there : (p : ℕ) → nat_eq place p ≡ false → connect_in new p ≡ connect_in old p =
-    λ p e. took.connects p ∙ cond-false (nat_eq place p) (taken_from (connect_in old place)) (connect_in old p) e in
+    let below : (p : ℕ) → is_taken places p ≡ true → p < n = λ p e. let l : p < old.place = filed_below old p h.sound (gone.filed p e) in omega (arith, l, h.place_is) in
     record {
-      setup_is = took.setup_is ∙ h.setup_is;
-      index_is = took.index_is ∙ h.index_is;
-      place_is = took.place_is ∙ h.place_is;
+      setup_is = gone.setup_is ∙ h.setup_is;
+      index_is = gone.index_is ∙ h.index_is;
+      place_is = gone.place_is ∙ h.place_is;
       within = h.within;
       sound = sound;
-      sessions = λ m. took.sessions m ∙ h.sessions m;
-      filed = λ p. either (nat_eq place p) (filed_with_place (connect_in new p) ≡ option_map answer_of (find_of p (untaken more fs)))
-          (λ e. ap filed_with_place (here p e) ∙ sym (ap (option_map answer_of) (none_taken more p fs (subst (λ (q : ℕ). is_taken more q ≡ true) (eqb-true place p e) (taken_own taken place)))))
-          (λ e. ap filed_with_place (there p e) ∙ h.filed p ∙ sym (ap (option_map answer_of) (same_found taken place p fs e)));
-      known = λ p t. either (nat_eq place p) (p < length list)
-          (λ e. let same : place ≡ p = eqb-true place p e in omega (arith, same, below, h.within))
-          (λ e. h.known p (sym (taken_other taken place p e) ∙ t));
-      gone = λ p t c. either (nat_eq place p) ((p < n) × (connect_in new p ≡ None))
-          (λ e. let same : place ≡ p = eqb-true place p e in (omega (arith, same, below), here p e))
-          (λ e. let g = h.gone p (sym (taken_other taken place p e) ∙ t) c in (g.0, there p e ∙ g.1));
-      owned = λ p m k. either (nat_eq place p) (IsOwn setup list shard p m)
-          (λ e. absurd (let no : None ≡ Some m = sym (ap session_at (here p e)) ∙ k in cc))
-          (λ e. h.owned p m (sym (ap session_at (there p e)) ∙ k));
+      sessions = λ m. gone.sessions m ∙ h.sessions m;
+      filed = λ p. either (is_taken places p) (filed_with_place (connect_in new p) ≡ option_map answer_of (find_of p (untaken more fs)))
+          (λ e. ap filed_with_place (gone.here p e) ∙ sym (ap (option_map answer_of) (none_taken more p fs (taken_too taken places p e))))
+          (λ e. ap filed_with_place (gone.there p e) ∙ h.filed p ∙ sym (ap (option_map answer_of) (same_found taken places p fs e)));
+      known = λ p t. either (is_taken places p) (p < length list) (λ e. omega (arith, below p e, h.within)) (λ e. h.known p (sym (taken_before taken places p e) ∙ t));
+      gone = λ p t c. either (is_taken places p) ((p < n) × (connect_in new p ≡ None))
+          (λ e. (below p e, gone.here p e))
+          (λ e. let g = h.gone p (sym (taken_before taken places p e) ∙ t) c in (g.0, gone.there p e ∙ g.1));
+      owned = λ p m k. either (is_taken places p) (IsOwn setup list shard p m)
+          (λ e. absurd (let no : None ≡ Some m = sym (ap session_at (gone.here p e)) ∙ k in cc))
+          (λ e. h.owned p m (sym (ap session_at (gone.there p e)) ∙ k));
     }
 
 -- ---- the others
 
-pub refines_beside : RefinesBeside
-refines_beside setup list taken shard n place s other m beside room h some apart g =
-    let more : List ℕ = taken ++ place ∷ [] in
-    let fs : List Filed = flat_map (λ (s : Session). s.answers) (sessions_in setup list other m) in
-    let below : place < length list = let l : place < s.place = filed_below s place h.sound some in omega (arith, l, h.place_is, h.within) in
-    let mine : IsConnectOf setup list shard place = connect_of_known setup list taken shard n place s h some in
-    let foreign : IsConnectOf setup list other place → ⊥ = λ c. apart (one_shard setup list other shard place c mine) in
-    let P : Option Filed → Type 0 = λ o. find_of place (shard_at setup list taken other m).filed ≡ o → o ≡ None in
-    let at_some : (f : Filed) → P (Some f) = λ f e. absurd (foreign (connect_of_filed setup list taken other m place f e)) in
-    let none : find_of place (shard_at setup list taken other m).filed ≡ None =
-    (elim (find_of place (shard_at setup list taken other m).filed) as P [ None ↦ λ e. refl | Some f ↦ at_some f ]) refl in
-    let at_place : filed_with_place (connect_in beside place) ≡ option_map answer_of (find_of place (untaken more fs)) =
-    g.filed place ∙ ap (option_map answer_of) (none ∙ sym (none_taken more place fs (taken_own taken place))) in
+pub refines_beside_gone : (setup : Setup) (list : List Listed) (taken places : List ℕ) (shard n : ℕ) (s : State) (other m : ℕ) (beside : State) → Refines setup list taken shard n s →
+    ((p : ℕ) → is_taken places p ≡ true → IsSome (filed_answer (connect_in s p))) → other ≢ shard → Refines setup list taken other m beside → Refines setup list (taken ++ places) other m beside
+refines_beside_gone setup list taken places shard n s other m beside h some apart g =
+    let more : List ℕ = taken ++ places in
+    let fs : List Filed = flat_map (λ (t : Session). t.answers) (sessions_in setup list other m) in
+    let below : (p : ℕ) → is_taken places p ≡ true → p < length list =
+    λ p e. let l : p < s.place = filed_below s p h.sound (some p e) in omega (arith, l, h.place_is, h.within) in
+    let foreign : (p : ℕ) → is_taken places p ≡ true → IsConnectOf setup list other p → ⊥ =
+    λ p e c. apart (one_shard setup list other shard p c (connect_of_known setup list taken shard n p s h (some p e))) in
+    let none : (p : ℕ) → is_taken places p ≡ true → find_of p (shard_at setup list taken other m).filed ≡ None =
+    λ p e.
+    let P : Option Filed → Type 0 = λ o. find_of p (shard_at setup list taken other m).filed ≡ o → o ≡ None in
+    let at_some : (f : Filed) → P (Some f) = λ f k. absurd (foreign p e (connect_of_filed setup list taken other m p f k)) in
+    (elim (find_of p (shard_at setup list taken other m).filed) as P [ None ↦ λ k. refl | Some f ↦ at_some f ]) refl in
     record {
       setup_is = g.setup_is;
       index_is = g.index_is;
@@ -193,14 +206,31 @@ refines_beside setup list taken shard n place s other m beside room h some apart
       within = g.within;
       sound = g.sound;
       sessions = g.sessions;
-      filed = λ p. either (nat_eq place p) (filed_with_place (connect_in beside p) ≡ option_map answer_of (find_of p (untaken more fs)))
-          (λ e. subst (λ (q : ℕ). filed_with_place (connect_in beside q) ≡ option_map answer_of (find_of q (untaken more fs))) (eqb-true place p e) at_place)
-          (λ e. g.filed p ∙ sym (ap (option_map answer_of) (same_found taken place p fs e)));
-      known = λ p t. either (nat_eq place p) (p < length list)
-          (λ e. let same : place ≡ p = eqb-true place p e in omega (arith, same, below))
-          (λ e. g.known p (sym (taken_other taken place p e) ∙ t));
-      gone = λ p t c. either (nat_eq place p) ((p < m) × (connect_in beside p ≡ None))
-          (λ e. absurd (foreign (subst (IsConnectOf setup list other) (sym (eqb-true place p e)) c)))
-          (λ e. g.gone p (sym (taken_other taken place p e) ∙ t) c);
+      filed = λ p. either (is_taken places p) (filed_with_place (connect_in beside p) ≡ option_map answer_of (find_of p (untaken more fs)))
+          (λ e. g.filed p ∙ ap (option_map answer_of) (none p e ∙ sym (none_taken more p fs (taken_too taken places p e))))
+          (λ e. g.filed p ∙ sym (ap (option_map answer_of) (same_found taken places p fs e)));
+      known = λ p t. either (is_taken places p) (p < length list) (λ e. below p e) (λ e. g.known p (sym (taken_before taken places p e) ∙ t));
+      gone = λ p t c. either (is_taken places p) ((p < m) × (connect_in beside p ≡ None)) (λ e. absurd (foreign p e c)) (λ e. g.gone p (sym (taken_before taken places p e) ∙ t) c);
       owned = g.owned;
     }
+
+-- ---- one answer that was taken
+
+filed_one : (place : ℕ) (s : State) → IsSome (filed_answer (connect_in s place)) → (p : ℕ) → is_taken (place ∷ []) p ≡ true → IsSome (filed_answer (connect_in s p))
+filed_one place s some p e = subst (λ (q : ℕ). IsSome (filed_answer (connect_in s q))) (eqb-true place p (is_one place p true e)) some
+
+pub refines_taken : RefinesTaken
+refines_taken setup list taken shard n place old new room h some took sound =
+    refines_gone setup list taken (place ∷ []) shard n old new h
+    (record {
+      setup_is = took.setup_is;
+      index_is = took.index_is;
+      place_is = took.place_is;
+      sessions = took.sessions;
+      filed = filed_one place old some;
+      here = λ p e. took.connects p ∙ cond-true (nat_eq place p) (taken_from (connect_in old place)) (connect_in old p) (is_one place p true e) ∙ gone_from (connect_in old place) some;
+      there = λ p e. took.connects p ∙ cond-false (nat_eq place p) (taken_from (connect_in old place)) (connect_in old p) (is_one place p false e);
+    }) sound
+
+pub refines_beside : RefinesBeside
+refines_beside setup list taken shard n place s other m beside room h some apart g = refines_beside_gone setup list taken (place ∷ []) shard n s other m beside h (filed_one place s some) apart g

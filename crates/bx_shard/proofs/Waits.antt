@@ -2,18 +2,17 @@
 use Rattle.std.proofs.Common.{◌≡◌, ℕ, zero, suc, max, Option, Some, None, List, [], ◌∷◌, ◌++◌, length, map, fold, option_map, slice_get, refl, sym, ap, ◌∙◌, subst, eqb-true, append_assoc, Bool, true, false}
 use Rattle.std.proofs.lemmas.List.{length_push}
 use Rattle.bx_advice.specs.declared.config.Config.{Config}
-use Rattle.bx_advice.specs.declared.error.Error.{Error}
 use Rattle.bx_message.specs.declared.message_kind.MessageKind.{MessageKind}
 use Rattle.bx_message.specs.declared.message.Message.{Message}
 use Rattle.bx_message.specs.declared.reply.Reply.{Reply}
 use Rattle.bx_entry.specs.Listing.{Listed, Post, Posted}
-use Rattle.bx_message.specs.MessageKinds.{message_kind_of, is_handshake}
+use Rattle.bx_message.specs.MessageKinds.{message_kind_of}
 use Rattle.bx_entry.specs.Listing as messages
 use Rattle.bx_entry.specs.declared.entry.Entry.{Entry}
 use Rattle.bx_entry.specs.declared.entry.EntryKind.{EntryKind}
 use Rattle.bx_entry.specs.declared.entry.EntryKind.TheVariants.{Opened, Connect, Subscribe, Unsubscribe, Publish, Disconnect, Refused}
 use Rattle.bx_entry.specs.declared.entry.EntryKind.TheVariants as entries
-use Rattle.bx_entry.specs.Registry.{Registry, Registered, Judged, PlaceSlot, Waiting, judge, judged_by, kind_for, slot_for, slot_with, rider_for, is_rider, named_by, refusal, hold_of, registry, empty_registry, entries_of, unnamed, sessionless_kind, Ready, noted, state_of}
+use Rattle.bx_entry.specs.Registry.{Registry, Registered, Judged, PlaceSlot, Waiting, judge, kind_for, slot_for, slot_with, rider_for, is_rider, named_by, refusal, hold_of, registry, empty_registry, entries_of, sessionless_kind, Ready, noted, state_of}
 use Rattle.bx_entry.specs.declared.entry.Rider.{Rider}
 use Rattle.bx_entry.specs.Sessions.{rider_of, session, unopened}
 use Rattle.bx_shard.specs.States.{connecting, riding}
@@ -25,14 +24,8 @@ use Rattle.bx_theory.proofs.Places.{Only, Allowed, AllowedRide, run_only, only_u
 use Rattle.bx_theory.proofs.Lists.{entries_in_order}
 
 abbrev WaitsBy : PlaceSlot → EntryKind → Type 0
-WaitsBy slot (Opened n ack) = Unit {0}
 WaitsBy slot (Connect n client id acked hold) = slot ≡ Waiting n
-WaitsBy slot (Subscribe n ps) = Unit {0}
-WaitsBy slot (Unsubscribe n ps) = Unit {0}
-WaitsBy slot (Publish e) = Unit {0}
-WaitsBy slot (Disconnect n) = Unit {0}
-WaitsBy slot Refused = Unit {0}
-WaitsBy slot (entries.Tick numbers) = Unit {0}
+WaitsBy slot _ = Unit {0}
 
 -- so does that of a rider
 abbrev RidesBy : PlaceSlot → Option Rider → Type 0
@@ -66,12 +59,7 @@ slot_rides (Some rider) slot = refl
 
 sessionless_waits : (reply : Reply) (c : MessageKind) (m : Message) → WaitsBy (Ready reply) (sessionless_kind c m)
 sessionless_waits reply MessageKind.Handshake m = tt
-sessionless_waits reply MessageKind.Connect m = tt
-sessionless_waits reply MessageKind.Subscribe m = tt
-sessionless_waits reply MessageKind.Unsubscribe m = tt
-sessionless_waits reply MessageKind.Disconnect m = tt
-sessionless_waits reply MessageKind.Publish m = tt
-sessionless_waits reply MessageKind.UnknownMeta m = tt
+sessionless_waits reply _ m = tt
 
 judge_waits : (config : Config) (r : Registry) (x : Listed) → EachWaits r.judged → EachWaits (judge config r x).judged
 judge_waits config r (Post p) d =
@@ -141,14 +129,8 @@ answered_waits config number xs =
 -- ---- the slot of a connect
 
 slot_waits : (slot : PlaceSlot) (k : EntryKind) (m : ℕ) → WaitsBy slot k → connecting k ≡ Some m → slot ≡ Waiting m
-slot_waits slot (Opened n ack) m w h = cc
 slot_waits slot (Connect n client id acked hold) m w h = let same : n ≡ m = cc in w ∙ ap Waiting same
-slot_waits slot (Subscribe n ps) m w h = cc
-slot_waits slot (Unsubscribe n ps) m w h = cc
-slot_waits slot (Publish e) m w h = cc
-slot_waits slot (Disconnect n) m w h = cc
-slot_waits slot Refused m w h = cc
-slot_waits slot (entries.Tick numbers) m w h = cc
+slot_waits slot _ m w h = cc
 
 judged_waits : (js : List Judged) (n m : ℕ) (e : Entry) → EachWaits js → slice_get (map (λ (j : Judged). j.entry) js) n ≡ Some e → connecting e.kind ≡ Some m → WaitsAt js m n
 judged_waits [] n m e w h k = absurd (let no : None ≡ Some e = h in cc)

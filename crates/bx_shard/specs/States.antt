@@ -5,7 +5,7 @@ use Rattle.std.specs.Option.{option_and_then, option_or}
 use Rattle.bx_advice.specs.declared.config.Config.{Config}
 use Rattle.bx_entry.specs.declared.entry.Entry.{Entry}
 use Rattle.bx_entry.specs.declared.entry.EntryKind.{EntryKind}
-use Rattle.bx_entry.specs.declared.entry.EntryKind.TheVariants.{Opened, Connect, Subscribe, Unsubscribe, Publish, Disconnect, Refused, Tick}
+use Rattle.bx_entry.specs.declared.entry.EntryKind.TheVariants.{Opened, Connect, Unsubscribe, Disconnect, Refused, Tick}
 use Rattle.bx_entry.specs.Keeping.{Kept, kept, kept_step}
 use Rattle.bx_entry.specs.Sessions.{is_live, rider_of, step, unopened}
 use Rattle.bx_entry.specs.declared.entry.Rider.{Rider}
@@ -41,13 +41,7 @@ session_in s number = kept_in s.sessions number
 -- the session that an entry of this kind opens, if it stands here, before it is opened
 abbrev pub opening : Bool → EntryKind → ℕ → Option Kept
 opening stands (Opened m ack) n = if (m == n) && stands then Some (kept (unopened m)) else None
-opening stands (Connect m client id acked hold) n = None
-opening stands (Subscribe m patterns) n = None
-opening stands (Unsubscribe m patterns) n = None
-opening stands (Publish e) n = None
-opening stands (Disconnect m) n = None
-opening stands Refused n = None
-opening stands (Tick numbers) n = None
+opening stands _ n = None
 
 -- a session that is live
 abbrev pub if_live : Kept → Option Kept
@@ -68,14 +62,9 @@ let_go numbers (Some (Filed session place answer)) = Some (Filed session place a
 -- The connects with the one that the entry is, where its session is here; it is held at first. A session that a tick closes holds none (in a list
 -- it never does, since a session is due no sooner than its hold ends).
 abbrev pub begun : (ℕ → Option Kept) → (ℕ → Option ConnectState) → Entry → EntryKind → ℕ → Option ConnectState
-begun sessions connects e (Opened m ack) p = connects p
 begun sessions connects e (Connect m client id acked hold) p = if is_some (sessions m) then holding m (pending e.place client id e.moment hold) connects p else connects p
-begun sessions connects e (Subscribe m patterns) p = connects p
-begun sessions connects e (Unsubscribe m patterns) p = connects p
-begun sessions connects e (Publish event) p = connects p
-begun sessions connects e (Disconnect m) p = connects p
-begun sessions connects e Refused p = connects p
 begun sessions connects e (Tick numbers) p = let_go numbers (connects p)
+begun sessions connects e _ p = connects p
 
 -- the entry gives this answer to a connect, or to a rider, of this session
 abbrev pub IsGiven : Config → (ℕ → Option Kept) → Entry → ℕ → Answered → Type 0
@@ -92,14 +81,8 @@ riding rides = option_map (λ (r : Rider). r.session) rides
 
 -- the session of which an entry of this kind is a connect, if it is one
 abbrev pub connecting : EntryKind → Option ℕ
-connecting (Opened m ack) = None
 connecting (Connect m client id acked hold) = Some m
-connecting (Subscribe m patterns) = None
-connecting (Unsubscribe m patterns) = None
-connecting (Publish e) = None
-connecting (Disconnect m) = None
-connecting Refused = None
-connecting (Tick numbers) = None
+connecting _ = None
 
 -- the entry is the connect or the rider at this place, of this one of the sessions
 pub record Connects (sessions : ℕ → Option Kept) (e : Entry) (p m : ℕ) : Type 0 where
@@ -114,13 +97,7 @@ KeepsSessions sessions e old new = (p m : ℕ) → session_at (new p) ≡ Some m
 -- whether an entry of this kind opens a session that stands in the shard
 abbrev pub opens_in : Setup → ℕ → EntryKind → Bool
 opens_in setup index (Opened m ack) = stands_in setup index m
-opens_in setup index (Connect m client id acked hold) = false
-opens_in setup index (Subscribe m patterns) = false
-opens_in setup index (Unsubscribe m patterns) = false
-opens_in setup index (Publish event) = false
-opens_in setup index (Disconnect m) = false
-opens_in setup index Refused = false
-opens_in setup index (Tick numbers) = false
+opens_in setup index _ = false
 
 -- ---- one entry
 
@@ -181,14 +158,11 @@ pub record WasShut (old new : State) : Type 0 where
 
 -- whether an entry of this kind is applied without taking memory, where it is no rider
 abbrev pub takes_none_by : EntryKind → Bool
-takes_none_by (Opened m ack) = false
-takes_none_by (Connect m client id acked hold) = false
-takes_none_by (Subscribe m patterns) = false
 takes_none_by (Unsubscribe m patterns) = true
-takes_none_by (Publish event) = false
 takes_none_by (Disconnect m) = true
 takes_none_by Refused = true
 takes_none_by (Tick numbers) = true
+takes_none_by _ = false
 
 -- whether an entry is
 abbrev pub takes_no_memory : Entry → Bool

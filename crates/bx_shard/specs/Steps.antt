@@ -5,7 +5,7 @@ use Rattle.bx_advice.specs.declared.config.Config.{Config}
 use Rattle.bx_entry.specs.Listing.{Listed}
 use Rattle.bx_entry.specs.declared.entry.Entry.{Entry}
 use Rattle.bx_entry.specs.declared.entry.EntryKind.{EntryKind}
-use Rattle.bx_entry.specs.declared.entry.EntryKind.TheVariants.{Opened, Connect, Subscribe, Unsubscribe, Publish, Disconnect, Refused, Tick}
+use Rattle.bx_entry.specs.declared.entry.EntryKind.TheVariants.{Opened}
 use Rattle.bx_entry.specs.Registry.{entries}
 use Rattle.bx_entry.specs.Sessions.{Filed, is_live, unopened}
 use Rattle.bx_entry.specs.Keeping.{Kept, kept, kept_step, kept_answers}
@@ -16,13 +16,7 @@ use Rattle.bx_shard.specs.Shards.{Setup, is_taken, stands_in, shard_at}
 -- the session that an entry of this kind opens in the shard, as it is kept before
 abbrev pub opening_by : Setup → ℕ → EntryKind → List Kept
 opening_by setup shard (Opened n ack) = if stands_in setup shard n then kept (unopened n) ∷ [] else []
-opening_by setup shard (Connect n client id acked hold) = []
-opening_by setup shard (Subscribe n ps) = []
-opening_by setup shard (Unsubscribe n ps) = []
-opening_by setup shard (Publish e) = []
-opening_by setup shard (Disconnect n) = []
-opening_by setup shard Refused = []
-opening_by setup shard (Tick numbers) = []
+opening_by setup shard _ = []
 
 -- each session of the shard, and the one that the entry opens there, takes a step; those that are live then stay
 abbrev pub stepped : Setup → ℕ → Entry → List Kept → List Kept

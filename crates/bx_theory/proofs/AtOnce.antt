@@ -140,13 +140,11 @@ leaves_unridden false b c d = refl
 
 served_slot : (config : Config) (es : List Entry) (place moment : ℕ) (p : Posted) (c : MessageKind) (s : Registered) (b : Bool) → (may_ride c ≡ false → b ≡ false) → is_live (session config s.number es).stage ≡ true →
     There (answer_by config (es ++ entry_with place moment (kind_for c p s 0) (rider_for b s.number (slot_for config c p s)) ∷ []) place (slot_with (rider_for b s.number (slot_for config c p s)) (slot_for config c p s)))
-served_slot config es place moment p MessageKind.Handshake s b still live = ready_there config es place moment s.number _ _ b (λ h rider. absurd (both_ways b (still refl) h)) live
 served_slot config es place moment p MessageKind.Connect s b still live = connect_there config es place moment s.number s.client p.message.id (acked_by p.message.ack) b
 served_slot config es place moment p MessageKind.Subscribe s b still live = ready_there config es place moment s.number _ _ b (λ h rider. (refl, (step_by_next config place moment (session config s.number es) (kind_for MessageKind.Subscribe p s 0)).stage)) live
 served_slot config es place moment p MessageKind.Unsubscribe s b still live = ready_there config es place moment s.number _ _ b (λ h rider. (refl, (step_by_next config place moment (session config s.number es) (kind_for MessageKind.Unsubscribe p s 0)).stage)) live
-served_slot config es place moment p MessageKind.Disconnect s b still live = ready_there config es place moment s.number _ _ b (λ h rider. absurd (both_ways b (still refl) h)) live
 served_slot config es place moment p MessageKind.Publish s b still live = ready_there config es place moment s.number _ _ b (λ h rider. (refl, (step_by_next config place moment (session config s.number es) (kind_for MessageKind.Publish p s 0)).stage)) live
-served_slot config es place moment p MessageKind.UnknownMeta s b still live = ready_there config es place moment s.number _ _ b (λ h rider. absurd (both_ways b (still refl) h)) live
+served_slot config es place moment p _ s b still live = ready_there config es place moment s.number _ _ b (λ h rider. absurd (both_ways b (still refl) h)) live
 
 no_waiting : {A : Type 0} (b : Bool) (n m : ℕ) (rider : Rider) → rider_for b n (Waiting m) ≡ Some rider → A
 no_waiting true n m rider e = cc

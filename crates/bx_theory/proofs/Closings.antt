@@ -106,8 +106,7 @@ published_still config e s l =
 
 begun_still : (ack : Bool) (s : Session) (stage : Stage) → s.stage ≡ stage → HeldLive s → StillHeld s (begun ack s stage)
 begun_still ack s Unopened h l = λ q e. (e, refl)
-begun_still ack s Live h l = same_still s s l refl refl
-begun_still ack s Closed h l = same_still s s l refl refl
+begun_still ack s _ h l = same_still s s l refl refl
 
 -- only the new connect may be held
 abbrev OnlyHeld : Pending → Session → Type 0
@@ -164,9 +163,8 @@ tick_still config place now s rs (Some p) h hold =
 -- ---- a closed session
 
 pub live_stage : (stage : Stage) → is_live stage ≡ true → stage ≡ Live
-live_stage Unopened h = cc
 live_stage Live h = refl
-live_stage Closed h = cc
+live_stage _ h = cc
 
 over_same : (s : Session) → s.stage ≡ Closed → s.held ≡ None → NothingMore s s
 over_same s c h = record { stage = c; held = h; events = refl; answers = refl }
@@ -177,8 +175,7 @@ over_other s u b c h l = cond_both b u s (NothingMore s) (λ g. absurd (let no :
 
 begun_over : (ack : Bool) (s : Session) (stage : Stage) → s.stage ≡ stage → s.stage ≡ Closed → s.held ≡ None → NothingMore s (begun ack s stage)
 begun_over ack s Unopened h c n = absurd (let no : Unopened ≡ Closed = sym h ∙ c in cc)
-begun_over ack s Live h c n = over_same s c n
-begun_over ack s Closed h c n = over_same s c n
+begun_over ack s _ h c n = over_same s c n
 
 published_over : (config : Config) (e : Publication) (s : Session) → s.stage ≡ Closed → s.held ≡ None → NothingMore s (published config e s)
 published_over config e s c n =
@@ -197,8 +194,7 @@ idle_other s u b c l = cond_both b u s (λ (v : Session). v.answers ≡ s.answer
 
 begun_idle : (ack : Bool) (s : Session) (stage : Stage) → (begun ack s stage).answers ≡ s.answers
 begun_idle ack s Unopened = refl
-begun_idle ack s Live = refl
-begun_idle ack s Closed = refl
+begun_idle ack s _ = refl
 
 published_idle : (config : Config) (e : Publication) (s : Session) → is_live s.stage ≡ false → (published config e s).answers ≡ s.answers
 published_idle config e s c =
@@ -258,25 +254,23 @@ served_holding config place moment c p q hold number s rs same live h = by c
 
 served_over : (config : Config) (place moment : ℕ) (c : MessageKind) (p : Posted) (q : Registered) (hold : ℕ) (s : Session) → ((q.number == s.number) ≡ true → s.stage ≡ Live) → s.stage ≡ Closed → s.held ≡ None →
     NothingMore s (step_by config place moment s (kind_for c p q hold))
-served_over config place moment MessageKind.Handshake p q hold s live c n = over_same s c n
 served_over config place moment MessageKind.Connect p q hold s live c n =
     let x : Pending = record { place = place; client = q.client; id = p.message.id; moment = moment; hold = hold } in over_other s (connected config x (acked_by p.message.ack) s) (q.number == s.number) c n live
 served_over config place moment MessageKind.Subscribe p q hold s live c n = over_other s (subscribed config (patterns_of p.message) s) (q.number == s.number) c n live
 served_over config place moment MessageKind.Unsubscribe p q hold s live c n = over_other s (unsubscribed (patterns_of p.message) s) (q.number == s.number) c n live
 served_over config place moment MessageKind.Disconnect p q hold s live c n = over_other s (disconnected config place s) (q.number == s.number) c n live
 served_over config place moment MessageKind.Publish p q hold s live c n = published_over config (record { place = place; event = event_of p.message }) s c n
-served_over config place moment MessageKind.UnknownMeta p q hold s live c n = over_same s c n
+served_over config place moment _ p q hold s live c n = over_same s c n
 
 served_idle : (config : Config) (place moment : ℕ) (c : MessageKind) (p : Posted) (q : Registered) (hold : ℕ) (s : Session) → ((q.number == s.number) ≡ true → s.stage ≡ Live) → is_live s.stage ≡ false →
     (step_by config place moment s (kind_for c p q hold)).answers ≡ s.answers
-served_idle config place moment MessageKind.Handshake p q hold s live c = refl
 served_idle config place moment MessageKind.Connect p q hold s live c =
     let x : Pending = record { place = place; client = q.client; id = p.message.id; moment = moment; hold = hold } in idle_other s (connected config x (acked_by p.message.ack) s) (q.number == s.number) c live
 served_idle config place moment MessageKind.Subscribe p q hold s live c = idle_other s (subscribed config (patterns_of p.message) s) (q.number == s.number) c live
 served_idle config place moment MessageKind.Unsubscribe p q hold s live c = idle_other s (unsubscribed (patterns_of p.message) s) (q.number == s.number) c live
 served_idle config place moment MessageKind.Disconnect p q hold s live c = idle_other s (disconnected config place s) (q.number == s.number) c live
 served_idle config place moment MessageKind.Publish p q hold s live c = published_idle config (record { place = place; event = event_of p.message }) s c
-served_idle config place moment MessageKind.UnknownMeta p q hold s live c = refl
+served_idle config place moment _ p q hold s live c = refl
 
 -- a session that is opened with the next number isn't held by anyone yet
 opened_goes : (config : Config) (number : ℕ) (s : Session) (r : Registry) (moment : ℕ) (p : Posted) → s.number ≡ number → (length r.sessions < number → is_live s.stage ≡ false) → Holding number s r.sessions →
@@ -301,33 +295,18 @@ opened_goes config number s r moment p same fresh h =
 
 -- a message of no session
 sessionless_holding : (config : Config) (place moment : ℕ) (c : MessageKind) (m : Message) (number : ℕ) (s : Session) (rs : List Registered) → Holding number s rs → Holding number (step_by config place moment s (sessionless_kind c m)) rs
-sessionless_holding config place moment MessageKind.Handshake m number s rs h = h
-sessionless_holding config place moment MessageKind.Connect m number s rs h = h
-sessionless_holding config place moment MessageKind.Subscribe m number s rs h = h
-sessionless_holding config place moment MessageKind.Unsubscribe m number s rs h = h
-sessionless_holding config place moment MessageKind.Disconnect m number s rs h = h
 sessionless_holding config place moment MessageKind.Publish m number s rs h =
     let e : Publication = record { place = place; event = event_of m } in
     still number s (published config e s) rs rs (published_still config e s h.live) (λ b g. g) h
-sessionless_holding config place moment MessageKind.UnknownMeta m number s rs h = h
+sessionless_holding config place moment _ m number s rs h = h
 
 sessionless_over : (config : Config) (place moment : ℕ) (c : MessageKind) (m : Message) (s : Session) → s.stage ≡ Closed → s.held ≡ None → NothingMore s (step_by config place moment s (sessionless_kind c m))
-sessionless_over config place moment MessageKind.Handshake m s c n = over_same s c n
-sessionless_over config place moment MessageKind.Connect m s c n = over_same s c n
-sessionless_over config place moment MessageKind.Subscribe m s c n = over_same s c n
-sessionless_over config place moment MessageKind.Unsubscribe m s c n = over_same s c n
-sessionless_over config place moment MessageKind.Disconnect m s c n = over_same s c n
 sessionless_over config place moment MessageKind.Publish m s c n = published_over config (record { place = place; event = event_of m }) s c n
-sessionless_over config place moment MessageKind.UnknownMeta m s c n = over_same s c n
+sessionless_over config place moment _ m s c n = over_same s c n
 
 sessionless_idle : (config : Config) (place moment : ℕ) (c : MessageKind) (m : Message) (s : Session) → is_live s.stage ≡ false → (step_by config place moment s (sessionless_kind c m)).answers ≡ s.answers
-sessionless_idle config place moment MessageKind.Handshake m s c = refl
-sessionless_idle config place moment MessageKind.Connect m s c = refl
-sessionless_idle config place moment MessageKind.Subscribe m s c = refl
-sessionless_idle config place moment MessageKind.Unsubscribe m s c = refl
-sessionless_idle config place moment MessageKind.Disconnect m s c = refl
 sessionless_idle config place moment MessageKind.Publish m s c = published_idle config (record { place = place; event = event_of m }) s c
-sessionless_idle config place moment MessageKind.UnknownMeta m s c = refl
+sessionless_idle config place moment _ m s c = refl
 
 -- ---- a rider
 

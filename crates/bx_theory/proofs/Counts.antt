@@ -18,7 +18,7 @@ use Rattle.bx_entry.specs.declared.entry.EntryKind.TheVariants.{Connect, Subscri
 use Rattle.bx_entry.specs.declared.entry.EntryKind.TheVariants as entries
 use Rattle.bx_entry.specs.declared.entry.Rider.{Rider}
 use Rattle.bx_message.specs.declared.reply.Reply.{Reply}
-use Rattle.bx_entry.specs.Sessions.{Session, Publication, Pending, Stage, Unopened, Live, Closed, answered, unheld, released_from, released, cleared, acknowledged, portion, batch, with_batch, formed, forgotten, gives, given, holding, idle, answered_or_held, connected, overflowed, with_patterns, subscribed, unsubscribed, gives_one, with_event, delivered_to, delivered, is_live, is_hit, has_room, published, expired_from, expired, stage_after, ended, closed_by, disconnected, begun, step_by, step, unopened, ridden, is_riding, ridden_by, rider_of}
+use Rattle.bx_entry.specs.Sessions.{Session, Publication, Pending, Stage, Unopened, answered, unheld, released_from, released, cleared, acknowledged, portion, batch, with_batch, formed, forgotten, gives, given, holding, idle, answered_or_held, connected, overflowed, with_patterns, subscribed, unsubscribed, gives_one, with_event, delivered_to, delivered, is_live, is_hit, has_room, published, expired_from, expired, stage_after, ended, closed_by, disconnected, begun, step_by, step, unopened, ridden, is_riding, ridden_by, rider_of}
 use Rattle.bx_theory.specs.Laws.{InStep, CountsAgree}
 
 pub no_hold : {A : Type 0} → false ≡ true → A
@@ -257,8 +257,7 @@ expired_from_in config place moment s (Some p) i = cond_both (nat_le (p.moment +
 
 begins_not : (stage : Stage) → stage_after stage ≡ Unopened → stage ≡ Unopened
 begins_not Unopened h = h
-begins_not Live h = cc
-begins_not Closed h = cc
+begins_not _ h = cc
 
 ended_in : (config : Config) (s : Session) → InStep config s → InStep config (ended s)
 ended_in config s i = record { queue = i.queue; emptied = i.emptied; front = i.front; few = i.few; small = i.small; plain = i.plain; fresh = λ h. i.fresh (begins_not s.stage h); idle = i.idle }
@@ -268,8 +267,7 @@ closed_by_in config numbers s i = cond_both (list_any (λ n. n == s.number) numb
 
 begun_in : (config : Config) (ack : Bool) (s : Session) (stage : Stage) → s.stage ≡ stage → InStep config s → InStep config (begun ack s stage)
 begun_in config ack s Unopened h i = record { queue = i.queue; emptied = i.emptied; front = i.front; few = i.few; small = i.small; plain = λ e. i.plain (i.fresh h); fresh = λ e. cc; idle = i.idle }
-begun_in config ack s Live h i = i
-begun_in config ack s Closed h i = i
+begun_in config ack s _ h i = i
 
 pub step_by_in : (config : Config) (place moment : ℕ) (s : Session) (k : EntryKind) → 0 < config.limits.batch → InStep config s → InStep config (step_by config place moment s k)
 step_by_in config place moment s (entries.Opened n ack) room i = cond_both (n == s.number) (begun ack s s.stage) s (InStep config) (λ h. begun_in config ack s s.stage refl i) (λ h. i)

@@ -10,9 +10,9 @@ use Rattle.bx_message.specs.declared.message.TextMember.{TextMember}
 use Rattle.bx_message.specs.declared.message.TextMember.TheVariants.{Absent, NotText, Text}
 use Rattle.bx_message.specs.declared.message_kind.MessageKind.{MessageKind}
 use Rattle.bx_entry.specs.Listing.{Listed, Post, Posted}
-use Rattle.bx_message.specs.MessageKinds.{message_kind_of, is_handshake}
+use Rattle.bx_message.specs.MessageKinds.{message_kind_of}
 use Rattle.bx_entry.specs.Listing as messages
-use Rattle.bx_entry.specs.Registry.{due_of, newcomer, Registry, Registered, Judged, judge, judged_by, refused, opened, served, left_by, is_overdue, named_by, sender_of, refusal, hold_of, is_ack, client_id, empty_registry, unnamed, sessionless, noted, state_of}
+use Rattle.bx_entry.specs.Registry.{due_of, newcomer, Registry, Registered, Judged, judge, refused, opened, served, left_by, is_overdue, named_by, sender_of, refusal, hold_of, empty_registry, sessionless, noted, state_of}
 use Rattle.bx_theory.proofs.Verdicts.{by_verdict}
 use Rattle.bx_theory.specs.Readings.{is_from, given_moments, EachSession, DueReading, moment_of, ClockReading}
 
@@ -216,22 +216,12 @@ left_each P MessageKind.Publish number rs h d = d
 left_each P MessageKind.UnknownMeta number rs h d = d
 
 pub left_numbers : (c : MessageKind) (number n : ℕ) (rs : List Registered) → NumberedFrom n rs → NumberedFrom n (left_by c number rs)
-left_numbers MessageKind.Handshake number n rs d = d
-left_numbers MessageKind.Connect number n rs d = d
-left_numbers MessageKind.Subscribe number n rs d = d
-left_numbers MessageKind.Unsubscribe number n rs d = d
 left_numbers MessageKind.Disconnect number n rs d = numbered_through (λ s. cond (s.number == number) (record s { live = false }) s) n rs (λ s. let t : Registered = record s { live = false } in cond_both (s.number == number) t s (λ (u : Registered). u.number ≡ s.number) (λ e. refl) (λ e. refl)) d
-left_numbers MessageKind.Publish number n rs d = d
-left_numbers MessageKind.UnknownMeta number n rs d = d
+left_numbers _ number n rs d = d
 
 pub left_length : (c : MessageKind) (number : ℕ) (rs : List Registered) → length (left_by c number rs) ≡ length rs
-left_length MessageKind.Handshake number rs = refl
-left_length MessageKind.Connect number rs = refl
-left_length MessageKind.Subscribe number rs = refl
-left_length MessageKind.Unsubscribe number rs = refl
 left_length MessageKind.Disconnect number rs = length-map rs _
-left_length MessageKind.Publish number rs = refl
-left_length MessageKind.UnknownMeta number rs = refl
+left_length _ number rs = refl
 
 served_due : (config : Config) (r : Registry) (moment : ℕ) (p : Posted) (c : MessageKind) (s : Registered) (hold : ℕ) → s.number < 1 + length r.sessions → Due config r → Due config (noted r moment (served config (state_of r) moment p c s hold))
 served_due config r moment p c s hold below d =

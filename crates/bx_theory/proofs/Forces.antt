@@ -13,7 +13,7 @@ use Rattle.bx_entry.specs.declared.entry.EntryKind.TheVariants.{Connect, Subscri
 use Rattle.bx_entry.specs.declared.entry.EntryKind.TheVariants as entries
 use Rattle.bx_names.specs.InForce.{in_force, with_pattern, without_pattern}
 use Rattle.bx_entry.specs.declared.entry.Rider.{Rider}
-use Rattle.bx_entry.specs.Sessions.{Session, Publication, Pending, Stage, Unopened, Live, Closed, connected, with_patterns, subscribed, unsubscribed, with_event, delivered, overflowed, is_hit, has_room, published, expired, ended, closed_by, released, disconnected, begun, step_by, step, unopened, ridden_by, rider_of}
+use Rattle.bx_entry.specs.Sessions.{Session, Publication, Pending, Stage, Unopened, connected, with_patterns, subscribed, unsubscribed, with_event, delivered, overflowed, is_hit, has_room, published, expired, ended, closed_by, released, disconnected, begun, step_by, step, unopened, ridden_by, rider_of}
 use Rattle.bx_theory.specs.Readings.{mention_by, last_of, InForceReading}
 use Rattle.bx_theory.proofs.Keeps.{Keeps, connected_k, delivered_to_k, released_from_k, expired_from_k, ride_k, or_false, or_true}
 use Rattle.bx_theory.proofs.Stages.{step_number}
@@ -110,8 +110,7 @@ either_says c s t p b e f h = cond_both c t s (Says p b) (λ g. kept_says s t p 
 
 begun_says : (ack : Bool) (s : Session) (stage : Stage) (p : Glob) (b : Bool) → Says p b s → Says p b (begun ack s stage)
 begun_says ack s Unopened p b h = h
-begun_says ack s Live p b h = h
-begun_says ack s Closed p b h = h
+begun_says ack s _ p b h = h
 
 closed_by_says : (numbers : List ℕ) (s : Session) (p : Glob) (b : Bool) → Says p b s → Says p b (closed_by numbers s)
 closed_by_says numbers s p b h = cond_both (list_any (λ n. n == s.number) numbers) (ended s) s (Says p b) (λ g. h) (λ g. h)

@@ -16,7 +16,7 @@ use Rattle.bx_entry.specs.declared.entry.EntryKind.{EntryKind}
 use Rattle.bx_entry.specs.declared.entry.EntryKind.TheVariants.{Connect, Subscribe, Unsubscribe, Publish, Disconnect, Refused, Tick}
 use Rattle.bx_entry.specs.declared.entry.EntryKind.TheVariants as entries
 use Rattle.bx_names.specs.InForce.{in_force}
-use Rattle.bx_entry.specs.Sessions.{Session, Publication, Pending, Stage, Unopened, Live, Closed, connected, subscribed, unsubscribed, with_event, delivered, overflowed, is_live, is_hit, has_room, pending_count, published, expired, ended, closed_by, disconnected, begun, step_by, step, unopened, session, rider_of}
+use Rattle.bx_entry.specs.Sessions.{Session, Publication, Pending, Stage, Unopened, connected, subscribed, unsubscribed, with_event, delivered, overflowed, is_live, is_hit, has_room, pending_count, published, expired, ended, closed_by, disconnected, begun, step_by, step, unopened, session, rider_of}
 use Rattle.bx_theory.specs.Readings.{mention_by, last_of}
 use Rattle.bx_theory.specs.Laws.{EachOf, PlacesFrom}
 use Rattle.bx_theory.specs.Events.{IsEvent, GetsPublish, Rising, EventsWerePublished, PublishesAreEvents, EventsRise}
@@ -30,14 +30,8 @@ use Rattle.bx_theory.proofs.Forces.{in_force_reading}
 -- ---- one entry
 
 pub gains_by : Config → Session → ℕ → EntryKind → List Publication
-gains_by config s place (entries.Opened n ack) = []
-gains_by config s place (Connect n client id acked hold) = []
-gains_by config s place (Subscribe n ps) = []
-gains_by config s place (Unsubscribe n ps) = []
 gains_by config s place (Publish e) = cond (is_hit s e && has_room config s) (record { place = place; event = e } ∷ []) []
-gains_by config s place (Disconnect n) = []
-gains_by config s place Refused = []
-gains_by config s place (Tick numbers) = []
+gains_by config s place _ = []
 
 gains : Config → Session → Entry → List Publication
 gains config s e = gains_by config s e.place e.kind
@@ -48,8 +42,7 @@ kept_events b s t e = cond_both b t s (λ (u : Session). u.events ≡ s.events) 
 
 begun_events : (ack : Bool) (s : Session) (stage : Stage) → (begun ack s stage).events ≡ s.events
 begun_events ack s Unopened = refl
-begun_events ack s Live = refl
-begun_events ack s Closed = refl
+begun_events ack s _ = refl
 
 closed_by_events : (numbers : List ℕ) (s : Session) → (closed_by numbers s).events ≡ s.events
 closed_by_events numbers s = cond_both (list_any (λ n. n == s.number) numbers) (ended s) s (λ (u : Session). u.events ≡ s.events) (λ h. refl) (λ h. refl)
@@ -99,14 +92,8 @@ run_more config s (e ∷ es) =
 
 gains_later : (config : Config) (s : Session) (place : ℕ) (k : EntryKind) → LaterAt place (gains_by config s place k)
 unfolding gains_by
-gains_later config s place (entries.Opened n ack) = tt
-gains_later config s place (Connect n client id acked hold) = tt
-gains_later config s place (Subscribe n ps) = tt
-gains_later config s place (Unsubscribe n ps) = tt
 gains_later config s place (Publish e) = let p : Publication = record { place = place; event = e } in cond_both (is_hit s e && has_room config s) (p ∷ []) [] (LaterAt place) (λ h. refl) (λ h. tt)
-gains_later config s place (Disconnect n) = tt
-gains_later config s place Refused = tt
-gains_later config s place (Tick numbers) = tt
+gains_later config s place _ = tt
 
 rising_step : (config : Config) (n : ℕ) (s : Session) (e : Entry) → e.place ≡ n → RisingBelow n s.events → RisingBelow (n + 1) (step config s e).events
 unfolding gains
@@ -201,18 +188,12 @@ each_append P (p ∷ ps) qs d e = (d.0, each_append P ps qs d.1 e)
 gains_gets : (config : Config) (number : ℕ) (before : List Entry) (e : Entry) (behind : List Entry) (k : EntryKind) → e.kind ≡ k →
     EachOf (GetsPublish config number (before ++ e ∷ behind)) (gains_by config (session config number before) e.place k)
 unfolding gains_by
-gains_gets config number before e behind (entries.Opened n ack) h = tt
-gains_gets config number before e behind (Connect n client id acked hold) h = tt
-gains_gets config number before e behind (Subscribe n ps) h = tt
-gains_gets config number before e behind (Unsubscribe n ps) h = tt
 gains_gets config number before e behind (Publish x) h =
     let p : Publication = record { place = e.place; event = x } in
     let s : Session = session config number before in
     cond_both (is_hit s x && has_room config s) (p ∷ []) [] (EachOf (GetsPublish config number (before ++ e ∷ behind)))
     (λ g. (record { before = before; entry = e; behind = behind; split = refl; place = refl; kind = h; gets = hit_reads config number before x g }, tt)) (λ g. tt)
-gains_gets config number before e behind (Disconnect n) h = tt
-gains_gets config number before e behind Refused h = tt
-gains_gets config number before e behind (Tick numbers) h = tt
+gains_gets config number before e behind _ h = tt
 
 gets_run : (config : Config) (number : ℕ) (before es : List Entry) → EachOf (GetsPublish config number (before ++ es)) (session config number before).events →
     EachOf (GetsPublish config number (before ++ es)) (session config number (before ++ es)).events

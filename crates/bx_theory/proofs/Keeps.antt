@@ -16,7 +16,7 @@ use Rattle.bx_entry.specs.declared.entry.EntryKind.TheVariants as entries
 use Rattle.bx_names.specs.InForce.{with_pattern}
 use Rattle.bx_entry.specs.declared.entry.Rider.{Rider}
 use Rattle.bx_message.specs.declared.reply.Reply.{Reply}
-use Rattle.bx_entry.specs.Sessions.{Session, Publication, Pending, Filed, Stage, Unopened, Live, Closed, filing, answered, unheld, released_from, released, cleared, acknowledged, portion, pending_count, with_batch, formed, forgotten, gives, given, holding, idle, answered_or_held, connected, with_patterns, subscribed, unsubscribed, gives_one, with_event, delivered_to, delivered, overflowed, is_hit, has_room, published, expired_from, expired, ended, closed_by, disconnected, begun, step_by, step, unopened, ride_portion, ride_filing, ridden, ridden_by, rider_of}
+use Rattle.bx_entry.specs.Sessions.{Session, Publication, Pending, Filed, Stage, Unopened, filing, answered, unheld, released_from, released, cleared, acknowledged, portion, pending_count, with_batch, formed, forgotten, gives, given, holding, idle, answered_or_held, connected, with_patterns, subscribed, unsubscribed, gives_one, with_event, delivered_to, delivered, overflowed, is_hit, has_room, published, expired_from, expired, ended, closed_by, disconnected, begun, step_by, step, unopened, ride_portion, ride_filing, ridden, ridden_by, rider_of}
 use Rattle.bx_theory.specs.Readings.{overfills_by, some_overfills, OverflowReading, QueueBounded}
 use Rattle.bx_theory.proofs.Counts.{subscribed_by, ride_both}
 
@@ -124,8 +124,7 @@ or_true false = refl
 
 begun_overflow : (ack : Bool) (s : Session) (stage : Stage) → (begun ack s stage).overflow ≡ s.overflow
 begun_overflow ack s Unopened = refl
-begun_overflow ack s Live = refl
-begun_overflow ack s Closed = refl
+begun_overflow ack s _ = refl
 
 published_overflow : (config : Config) (e : Publication) (s : Session) → (published config e s).overflow ≡ (s.overflow || (is_hit s e.event && not (has_room config s)))
 published_overflow config e s = either (is_hit s e.event) ((published config e s).overflow ≡ (s.overflow || (is_hit s e.event && not (has_room config s))))
@@ -192,8 +191,7 @@ delivered_bound config e s h = kept_bound config (with_event e s) (delivered con
 
 begun_bound : (config : Config) (ack : Bool) (s : Session) (stage : Stage) → Bounded config s → Bounded config (begun ack s stage)
 begun_bound config ack s Unopened b = b
-begun_bound config ack s Live b = b
-begun_bound config ack s Closed b = b
+begun_bound config ack s _ b = b
 
 closed_by_bound : (config : Config) (numbers : List ℕ) (s : Session) → Bounded config s → Bounded config (closed_by numbers s)
 closed_by_bound config numbers s b = cond_both (list_any (λ n. n == s.number) numbers) (ended s) s (Bounded config) (λ h. b) (λ h. b)

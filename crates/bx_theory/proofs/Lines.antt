@@ -15,9 +15,7 @@ use Rattle.bx_theory.proofs.Wholes.{Took, took, whole_push, numbers_split, flat_
 
 first_input : (number : ℕ) (l : Line) (ls : List Line) → inputs_from number (l ∷ ls) ≡ inputs_from number (l ∷ []) ++ inputs_from (number + 1) ls
 first_input number Bad ls = refl
-first_input number (Rejected status) ls = refl
-first_input number (Accepted callback input) ls = refl
-first_input number (Resharded shards) ls = refl
+first_input number _ ls = refl
 
 pub inputs_on : (number : ℕ) (ls ms : List Line) → inputs_from number (ls ++ ms) ≡ inputs_from number ls ++ inputs_from (number + length ls) ms
 inputs_on number [] ms = ap (λ (n : ℕ). inputs_from n ms) (let e : number ≡ number + 0 = omega arith in e)

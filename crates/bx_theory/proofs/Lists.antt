@@ -1,5 +1,5 @@
 -- The registry's list grows with the list, and an answer stays.
-use Rattle.std.proofs.Common.{◌≡◌, ℕ, zero, suc, ◌+◌, ◌<◌, ◌≤◌, max, ⊎_elim, Bool, true, Option, Some, None, List, [], ◌∷◌, ◌++◌, length, take, drop, map, find, fold, option_map, slice_get, ◌==◌, refl, sym, ap, ◌∙◌, subst, arith, eqb-true, append-nil, append_assoc, length-take, take-append-drop, take_all, false}
+use Rattle.std.proofs.Common.{◌≡◌, ℕ, zero, suc, ◌+◌, ◌<◌, ◌≤◌, ⊎_elim, Bool, true, Option, Some, None, List, [], ◌∷◌, ◌++◌, length, take, drop, map, find, fold, option_map, slice_get, ◌==◌, refl, sym, ap, ◌∙◌, subst, arith, eqb-true, append-nil, append_assoc, length-take, take-append-drop, take_all}
 use Rattle.std.proofs.lemmas.Bool.{cond-true, cond-false, cases_lt}
 use Rattle.std.proofs.lemmas.List.{map-append, length-map, length_push}
 use Rattle.std.proofs.Math.Seq.{take-append_seam}
@@ -8,12 +8,10 @@ use Rattle.std.proofs.lemmas.List.Folds.{find-append}
 use Rattle.std.specs.Option.{option_or}
 use Rattle.bx_lists.proofs.Tests.{either}
 use Rattle.bx_advice.specs.declared.config.Config.{Config}
-use Rattle.bx_advice.specs.declared.error.Error.{Error}
 use Rattle.bx_entry.specs.Listing.{Listed, Post, Posted}
-use Rattle.bx_message.specs.MessageKinds.{message_kind_of, is_handshake}
 use Rattle.bx_entry.specs.Listing as messages
 use Rattle.bx_entry.specs.declared.entry.Entry.{Entry}
-use Rattle.bx_entry.specs.Registry.{Registry, Registered, Judged, PlaceSlot, Ready, Waiting, NoSlot, judge, judged_by, named_by, refusal, registry, empty_registry, entries_of, unnamed, noted, state_of}
+use Rattle.bx_entry.specs.Registry.{Registry, Judged, PlaceSlot, Ready, Waiting, NoSlot, judge, registry, empty_registry, entries_of}
 use Rattle.bx_entry.specs.Sessions.{Filed, step, session, unopened}
 use Rattle.bx_entry.specs.Answers.{PlacedAnswer, answer_of, filed_for, answer_by, answer_at, answer}
 use Rattle.bx_theory.specs.Laws.{Each, AnswersStay, PlacesFrom, EntriesInOrder}
@@ -100,9 +98,8 @@ filed_more config number place es more a room e =
     ap (filed_for place) g.answers ∙ find_more (λ (f : Filed). f.connect == place) (session config number es).answers g.filed a e
 
 answer_by_more : (config : Config) (es more : List Entry) (place : ℕ) (slot : PlaceSlot) (a : PlacedAnswer) → 0 < config.limits.batch → answer_by config es place slot ≡ Some a → answer_by config (es ++ more) place slot ≡ Some a
-answer_by_more config es more place (Ready reply) a room e = e
 answer_by_more config es more place (Waiting number) a room e = filed_more config number place es more a room e
-answer_by_more config es more place NoSlot a room e = e
+answer_by_more config es more place _ a room e = e
 
 answer_at_more : (config : Config) (es more : List Entry) (place : ℕ) (o u : Option Judged) (a : PlacedAnswer) → 0 < config.limits.batch → ((j : Judged) → o ≡ Some j → u ≡ Some j) →
     answer_at config es place o ≡ Some a → answer_at config (es ++ more) place u ≡ Some a

@@ -1,23 +1,20 @@
 -- Who is live by the registry is live by the entries.
-use Rattle.std.proofs.Common.{◌≡◌, ℕ, ◌+◌, ◌<◌, ◌≤◌, max, Bool, true, false, cond, not, ◌&&◌, ◌||◌, Option, Some, None, List, [], ◌∷◌, ◌++◌, option_map, length, map, filter, fold, nat_lt, ◌==◌, refl, sym, ap, ◌∙◌, subst, arith, eq-eqb, ne_eqb}
+use Rattle.std.proofs.Common.{◌≡◌, ℕ, ◌+◌, ◌<◌, ◌≤◌, max, Bool, true, false, cond, not, ◌&&◌, ◌||◌, Option, Some, None, List, [], ◌∷◌, ◌++◌, length, map, filter, fold, nat_lt, ◌==◌, refl, sym, ap, ◌∙◌, subst, arith, eq-eqb, ne_eqb}
 use Rattle.std.proofs.lemmas.Bool.{cond_both, cond-true, cond-false}
 use Rattle.std.proofs.lemmas.List.{map-append, length-map, length_push}
 use Rattle.std.proofs.lemmas.List.Folds.{list_any-append}
 use Rattle.std.specs.List.{list_any}
 use Rattle.bx_lists.proofs.Tests.{eqb_sym}
 use Rattle.bx_advice.specs.declared.config.Config.{Config}
-use Rattle.bx_advice.specs.declared.advice.Outcome.TheVariants.{Done, Failed}
 use Rattle.bx_advice.specs.declared.error.Error.{Error}
 use Rattle.bx_message.specs.declared.message_kind.MessageKind.{MessageKind}
 use Rattle.bx_message.specs.declared.message.Message.{Message}
 use Rattle.bx_entry.specs.Listing.{Listed, Post, Posted}
-use Rattle.bx_message.specs.MessageKinds.{message_kind_of, is_handshake}
+use Rattle.bx_message.specs.MessageKinds.{message_kind_of}
 use Rattle.bx_entry.specs.Listing as messages
 use Rattle.bx_entry.specs.declared.entry.Entry.{Entry}
 use Rattle.bx_entry.specs.declared.entry.EntryKind.TheVariants.{Opened, Refused, Tick}
-use Rattle.bx_entry.specs.Registry.{due_of, newcomer, tick_verdict, Registry, Registered, Judged, PlaceSlot, Ready, NoSlot, found_at, slot_for, rider_for, is_rider, judge, judged_by, refused, opened, served, extended, closed, overdue, is_overdue, named_by, refusal, hold_of, is_ack, client_id, kind_for, empty_registry, entries_of, registry, unnamed, sessionless, sessionless_kind, noted, state_of}
-use Rattle.bx_message.specs.Replies.{reply_to}
-use Rattle.bx_message.specs.declared.reply.AckReply.TheVariants as replies
+use Rattle.bx_entry.specs.Registry.{due_of, newcomer, tick_verdict, Registry, Registered, Judged, found_at, judge, refused, opened, served, extended, closed, overdue, is_overdue, named_by, refusal, hold_of, is_ack, empty_registry, entries_of, registry, sessionless, sessionless_kind, noted, state_of}
 use Rattle.bx_theory.specs.Readings.{opens_by, closes, since_opening, unclosed, EachSession, SameLive}
 use Rattle.bx_theory.proofs.Verdicts.{by_verdict}
 use Rattle.bx_theory.proofs.Dues.{NumberedFrom, each_session_map, each_session_push, each_session_through, numbered_through, numbered_push, numbered_below, same_all, swept_number}
@@ -229,21 +226,11 @@ served_agrees config r moment p MessageKind.UnknownMeta s hold a = served_stay r
 -- it neither opens a session nor closes one
 none_opened : (c : MessageKind) (m : Message) (n : ℕ) → opens_by n (sessionless_kind c m) ≡ false
 none_opened MessageKind.Handshake m n = refl
-none_opened MessageKind.Connect m n = refl
-none_opened MessageKind.Subscribe m n = refl
-none_opened MessageKind.Unsubscribe m n = refl
-none_opened MessageKind.Disconnect m n = refl
-none_opened MessageKind.Publish m n = refl
-none_opened MessageKind.UnknownMeta m n = refl
+none_opened _ m n = refl
 
 none_closed : (c : MessageKind) (m : Message) (place moment n : ℕ) → closes n (record { place = place; moment = moment; kind = sessionless_kind c m; rides = None }) ≡ false
 none_closed MessageKind.Handshake m place moment n = refl
-none_closed MessageKind.Connect m place moment n = refl
-none_closed MessageKind.Subscribe m place moment n = refl
-none_closed MessageKind.Unsubscribe m place moment n = refl
-none_closed MessageKind.Disconnect m place moment n = refl
-none_closed MessageKind.Publish m place moment n = refl
-none_closed MessageKind.UnknownMeta m place moment n = refl
+none_closed _ m place moment n = refl
 
 sessionless_agrees : (config : Config) (r : Registry) (moment : ℕ) (p : Posted) (c : MessageKind) → Agrees r → Agrees (noted r moment (sessionless config (state_of r) p c))
 sessionless_agrees config r moment p c a =

@@ -15,7 +15,7 @@ use Rattle.bx_entry.specs.declared.entry.EntryKind.TheVariants.{Connect, Subscri
 use Rattle.bx_entry.specs.declared.entry.EntryKind.TheVariants as entries
 use Rattle.bx_entry.specs.declared.entry.Rider.{Rider}
 use Rattle.bx_message.specs.declared.reply.Reply.{Reply}
-use Rattle.bx_entry.specs.Sessions.{Session, Publication, Pending, Filed, Stage, Unopened, Live, Closed, filing, answered, unheld, released_from, released, cleared, acknowledged, portion, batch, with_batch, formed, forgotten, gives, given, holding, idle, answered_or_held, connected, overflowed, subscribed, unsubscribed, gives_one, with_event, delivered_to, delivered, is_hit, has_room, published, expired_from, expired, ended, closed_by, disconnected, begun, step_by, step, ridden, ridden_by, rider_of}
+use Rattle.bx_entry.specs.Sessions.{Session, Publication, Pending, Filed, Stage, Unopened, filing, answered, unheld, released_from, released, cleared, acknowledged, portion, batch, with_batch, formed, forgotten, gives, given, holding, idle, answered_or_held, connected, overflowed, subscribed, unsubscribed, gives_one, with_event, delivered_to, delivered, is_hit, has_room, published, expired_from, expired, ended, closed_by, disconnected, begun, step_by, step, ridden, ridden_by, rider_of}
 use Rattle.bx_theory.specs.Laws.{InStep, Each, Slice}
 use Rattle.bx_theory.proofs.Counts.{subscribed_by, rode, ridden_both, ride_both, step_by_in, few_wait, queue_is, released_in, acknowledged_in, released_from_full, acknowledged_full}
 
@@ -122,8 +122,7 @@ unsubscribed_quiet place ps s = record { number = refl; done = omega arith; num 
 
 pub begun_quiet : (place : ℕ) (ack : Bool) (s : Session) (stage : Stage) → Quiet place s (begun ack s stage)
 begun_quiet place ack s Unopened = record { number = refl; done = omega arith; num = refl; events = refl; filed = []; answers = sym (append-nil s.answers); here = tt; still = λ n o. (refl, refl) }
-begun_quiet place ack s Live = quiet_same place s
-begun_quiet place ack s Closed = quiet_same place s
+begun_quiet place ack s _ = quiet_same place s
 
 cleared_quiet : (place : ℕ) (s : Session) → Quiet place s (cleared s)
 cleared_quiet place s = record { number = refl; done = omega arith; num = refl; events = refl; filed = []; answers = sym (append-nil s.answers); here = tt; still = λ n o. absurd (let l : 0 < 0 = o in omega arith) }

@@ -15,7 +15,7 @@ use Rattle.bx_entry.specs.declared.entry.EntryKind.{EntryKind}
 use Rattle.bx_entry.specs.declared.entry.EntryKind.TheVariants.{Connect, Subscribe, Unsubscribe, Publish, Disconnect, Refused, Tick}
 use Rattle.bx_entry.specs.declared.entry.EntryKind.TheVariants as entries
 use Rattle.bx_message.specs.declared.reply.Reply.{Reply}
-use Rattle.bx_entry.specs.Sessions.{Session, Publication, Pending, Filed, Stage, Unopened, Live, Closed, filing, answered, unheld, released_from, released, cleared, acknowledged, portion, batch, with_batch, formed, forgotten, gives, given, holding, idle, answered_or_held, connected, subscribed, unsubscribed, gives_one, with_event, delivered_to, delivered, overflowed, is_hit, has_room, published, expired_from, expired, ended, closed_by, disconnected, begun, step_by, step, unopened, ridden, rider_of}
+use Rattle.bx_entry.specs.Sessions.{Session, Publication, Pending, Filed, Stage, Unopened, filing, answered, unheld, released_from, released, cleared, acknowledged, portion, batch, with_batch, formed, forgotten, gives, given, holding, idle, answered_or_held, connected, subscribed, unsubscribed, gives_one, with_event, delivered_to, delivered, overflowed, is_hit, has_room, published, expired_from, expired, ended, closed_by, disconnected, begun, step_by, step, unopened, ridden, rider_of}
 use Rattle.bx_theory.specs.Laws.{InStep, given_in, GivenOnce}
 use Rattle.bx_theory.proofs.Counts.{subscribed_by, rode, ridden_both, ride_both, step_by_in, acknowledged_in, released_in, stays_in_step, unopened_in_step, queue_is, released_from_full, acknowledged_full}
 
@@ -100,8 +100,7 @@ closed_by_o numbers s o = cond_both (list_any (λ k. k == s.number) numbers) (en
 
 begun_o : (config : Config) (ack : Bool) (s : Session) (stage : Stage) → s.stage ≡ stage → InStep config s → Once s → Once (begun ack s stage)
 begun_o config ack s Unopened h i o = λ a. o (i.fresh h)
-begun_o config ack s Live h i o = o
-begun_o config ack s Closed h i o = o
+begun_o config ack s _ h i o = o
 
 step_by_o : (config : Config) (place moment : ℕ) (s : Session) (k : EntryKind) → InStep config s → Once s → Once (step_by config place moment s k)
 step_by_o config place moment s (entries.Opened n ack) i o = cond_both (n == s.number) (begun ack s s.stage) s Once (λ h. begun_o config ack s s.stage refl i o) (λ h. o)

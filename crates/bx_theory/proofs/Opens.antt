@@ -11,7 +11,7 @@ use Rattle.bx_advice.specs.declared.config.Config.{Config}
 use Rattle.bx_entry.specs.Listing.{Listed}
 use Rattle.bx_entry.specs.Registry.{Registry, registry}
 use Rattle.bx_entry.specs.Answers.{PlacedAnswer, answer_in}
-use Rattle.bx_entry.specs.Inputs.{ReadInput, Request, Unread, Tick, refusal_of, added_by}
+use Rattle.bx_entry.specs.Inputs.{ReadInput, Request, refusal_of, added_by}
 use Rattle.bx_entry.specs.declared.input.Refusal.{Refusal}
 use Rattle.bx_entry.specs.Runs.{Intake, Taking, taken_as, take_in, taken_in, Out, numbers_from, places_of, latest, has_place, whole_by, Whole, whole_of, wholes_from, wholes_in, wholes, is_at, whole_at, outs}
 use Rattle.bx_theory.proofs.Wholes.{EachIntake, Took, took, beyond, AheadAll, ahead_all, latest_same, latest_later, where_first, where_late, where_none, nowhere, whole_push, wholes_split, whole_append, numbers_split, flat_same, Grows, grows, placed, ends_of, many_of}
@@ -132,8 +132,7 @@ these_at f g intake end last n first (suc count) r h =
 newest_at : (f g : ℕ → Option PlacedAnswer) (intake : List Intake) (end last n : ℕ) (d : Intake) (input : ReadInput) → Round f g intake end last n → end ≤ d.first →
     is_at n (whole_by intake n (map g (places_of d input))) ≡ is_some (latest 0 (map g (places_of d input)))
 newest_at f g intake end last n d (Request moment nonce ms) r h = these_at f g intake end last n d.first d.count r h
-newest_at f g intake end last n d (Unread fault) r h = eq-eqb n n refl
-newest_at f g intake end last n d (Tick moment) r h = eq-eqb n n refl
+newest_at f g intake end last n d _ r h = eq-eqb n n refl
 
 -- ---- filtering
 

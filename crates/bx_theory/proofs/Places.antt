@@ -146,14 +146,8 @@ only_unopened P number = record { held = tt; answers = tt }
 
 -- all places below a bound are allowed
 below_allowed : (bound number place : ℕ) (k : EntryKind) → place < bound → Allowed (λ n. n < bound) number place k
-below_allowed bound number place (entries.Opened n ack) h = tt
 below_allowed bound number place (Connect n client id acked hold) h = λ e. h
-below_allowed bound number place (Subscribe n ps) h = tt
-below_allowed bound number place (Unsubscribe n ps) h = tt
-below_allowed bound number place (Publish e) h = tt
-below_allowed bound number place (Disconnect n) h = tt
-below_allowed bound number place Refused h = tt
-below_allowed bound number place (Tick numbers) h = tt
+below_allowed bound number place _ h = tt
 
 below_rides : (bound number place : ℕ) (rides : Option Rider) → place < bound → AllowedRide (λ n. n < bound) number place rides
 below_rides bound number place None h = tt

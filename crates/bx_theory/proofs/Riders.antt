@@ -7,8 +7,7 @@ use Rattle.std.specs.List.{list_any}
 use Rattle.bx_lists.proofs.Tests.{either}
 use Rattle.std.specs.List.{AllByRecursion}
 use Rattle.bx_advice.specs.declared.config.Config.{Config}
-use Rattle.bx_advice.specs.declared.error.Error.{Error}
-use Rattle.bx_message.specs.MessageKinds.{message_kind_of, is_handshake}
+use Rattle.bx_message.specs.MessageKinds.{message_kind_of}
 use Rattle.bx_entry.specs.Listing.{Listed, Post, Posted}
 use Rattle.bx_entry.specs.Listing as messages
 use Rattle.bx_entry.specs.declared.entry.Entry.{Entry}
@@ -20,8 +19,8 @@ use Rattle.bx_entry.specs.declared.entry.Rider.{Rider}
 use Rattle.bx_entry.specs.declared.entry.EntryKind.{EntryKind}
 use Rattle.bx_entry.specs.declared.entry.EntryKind.TheVariants.{Connect, Subscribe, Unsubscribe, Publish, Disconnect, Refused, Tick}
 use Rattle.bx_entry.specs.declared.entry.EntryKind.TheVariants as entries
-use Rattle.bx_entry.specs.Sessions.{Session, Publication, Pending, Stage, Unopened, Live, Closed, answered, unheld, released_from, released, cleared, acknowledged, portion, with_batch, formed, forgotten, gives, given, holding, idle, answered_or_held, connected, subscribed, unsubscribed, with_event, delivered_to, delivered, overflowed, is_hit, has_room, published, expired_from, expired, ended, closed_by, disconnected, begun, step_by, step, unopened, session, rider_of, Filed}
-use Rattle.bx_entry.specs.Registry.{due_of, Registry, Registered, Judged, PlaceSlot, Ready, Waiting, NoSlot, is_ack, extended, swept, is_overdue, opened, served, rider_for, is_rider, is_one, joined, may_ride, slot_for, judge, judged_by, named_by, refusal, hold_of, registry, empty_registry, entries_of, unnamed, noted, state_of}
+use Rattle.bx_entry.specs.Sessions.{Session, Publication, Pending, Stage, Unopened, answered, unheld, released_from, released, cleared, acknowledged, portion, with_batch, formed, forgotten, gives, given, holding, idle, answered_or_held, connected, subscribed, unsubscribed, with_event, delivered_to, delivered, overflowed, is_hit, has_room, published, expired_from, expired, ended, closed_by, disconnected, begun, step_by, step, unopened, session, rider_of, Filed}
+use Rattle.bx_entry.specs.Registry.{due_of, Registry, Registered, Judged, PlaceSlot, Ready, Waiting, NoSlot, is_ack, extended, swept, is_overdue, opened, served, rider_for, is_rider, is_one, joined, may_ride, slot_for, judge, named_by, refusal, hold_of, registry, empty_registry, entries_of, noted, state_of}
 use Rattle.bx_theory.specs.Laws.{NoRidersUnasked, RidesPlain, RidersArePlain, LastAnswer, LastGiven, Repetition}
 use Rattle.bx_theory.specs.Readings.{opens_by, closes_by, since_opening, EachSession}
 use Rattle.bx_theory.proofs.Verdicts.{by_verdict}
@@ -105,8 +104,7 @@ WasOpened s = s.stage ≡ Unopened → ⊥
 
 begun_a : (ack : Bool) (s : Session) (stage : Stage) → s.stage ≡ stage → WasOpened s → (begun ack s stage).ack ≡ s.ack
 begun_a ack s Unopened h w = absurd (w h)
-begun_a ack s Live h w = refl
-begun_a ack s Closed h w = refl
+begun_a ack s _ h w = refl
 
 either_a : (b : Bool) (s t : Session) → t.ack ≡ s.ack → (cond b t s).ack ≡ s.ack
 either_a b s t e = cond_both b t s (λ (u : Session). u.ack ≡ s.ack) (λ h. e) (λ h. refl)

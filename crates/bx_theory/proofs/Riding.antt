@@ -97,9 +97,8 @@ record Owner (js : List Judged) : Type 0 where
   own : Own number js
 
 one_owner : (x : Senders) (js : List Judged) → Says x js → is_one x ≡ true → Owner js
-one_owner NoneYet js h e = absurd (true≢false (sym e))
 one_owner (Only n) js h e = record { number = n; own = h.1 }
-one_owner Mixed js h e = absurd (true≢false (sym e))
+one_owner _ js h e = absurd (true≢false (sym e))
 
 -- ---- what is found of a message
 
@@ -124,21 +123,11 @@ unowned_reads config es last js j h none = record {
 
 carried_kind : (c : MessageKind) (p : Posted) (s : Registered) (hold : ℕ) → may_have_rider (kind_for c p s hold) ≡ may_ride c
 carried_kind MessageKind.Handshake p s hold = refl
-carried_kind MessageKind.Connect p s hold = refl
-carried_kind MessageKind.Subscribe p s hold = refl
-carried_kind MessageKind.Unsubscribe p s hold = refl
-carried_kind MessageKind.Disconnect p s hold = refl
-carried_kind MessageKind.Publish p s hold = refl
-carried_kind MessageKind.UnknownMeta p s hold = refl
+carried_kind _ p s hold = refl
 
 opens_none : (c : MessageKind) (p : Posted) (s : Registered) (hold n : ℕ) → opens_by n (kind_for c p s hold) ≡ false
 opens_none MessageKind.Handshake p s hold n = refl
-opens_none MessageKind.Connect p s hold n = refl
-opens_none MessageKind.Subscribe p s hold n = refl
-opens_none MessageKind.Unsubscribe p s hold n = refl
-opens_none MessageKind.Disconnect p s hold n = refl
-opens_none MessageKind.Publish p s hold n = refl
-opens_none MessageKind.UnknownMeta p s hold n = refl
+opens_none _ p s hold n = refl
 
 rides_then : (config : Config) (c : MessageKind) (p : Posted) (s : Registered) (b : Bool) → b ≡ true → may_ride c ≡ true → rider_session (rider_for b s.number (slot_for config c p s)) ≡ Some s.number
 rides_then config c p s false e m = absurd (true≢false (sym e))
@@ -437,14 +426,10 @@ others_never_ride config list = entries_all (λ (e : Entry). may_have_rider e.ki
 
 -- an entry with a rider opens and closes nothing
 rider_stays : (number : ℕ) (stage : Stage) (k : EntryKind) (rides : Option Rider) (rider : Rider) → rider_of k rides ≡ Some rider → next_by number stage k ≡ stage
-rider_stays number stage (entries.Opened n ack) rides rider h = cc
-rider_stays number stage (entries.Connect n client id acked hold) rides rider h = cc
 rider_stays number stage (entries.Subscribe n ps) rides rider h = refl
 rider_stays number stage (entries.Unsubscribe n ps) rides rider h = refl
 rider_stays number stage (entries.Publish e) rides rider h = refl
-rider_stays number stage (entries.Disconnect n) rides rider h = cc
-rider_stays number stage entries.Refused rides rider h = cc
-rider_stays number stage (entries.Tick numbers) rides rider h = cc
+rider_stays number stage _ rides rider h = cc
 
 -- so many events of the queue
 rode_gives : (most place : ℕ) (rider : Rider) (s : Session) → GivesRider most place rider s (rode (min most (length s.queue)) place rider.reply s)

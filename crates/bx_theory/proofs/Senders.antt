@@ -1,20 +1,19 @@
 -- An accepted message stands where its session is live.
-use Rattle.std.proofs.Common.{length, ◌≡◌, ℕ, max, Bool, true, false, ◌&&◌, Option, Some, None, List, [], ◌∷◌, ◌++◌, map, find, ◌==◌, refl, sym, ap, ◌∙◌, subst, append-nil, append_assoc, eq-eqb}
+use Rattle.std.proofs.Common.{length, ◌≡◌, ℕ, max, Bool, true, false, ◌&&◌, Some, List, [], ◌∷◌, ◌++◌, map, find, ◌==◌, refl, sym, ap, ◌∙◌, subst, append-nil, append_assoc, eq-eqb}
 use Rattle.std.proofs.lemmas.Bool.{cond-true, cond-false, and_parts, both_ways}
 use Rattle.std.proofs.lemmas.List.Sums.{fold-append}
 use Rattle.std.specs.Str.{bytes_eq}
 use Rattle.bx_lists.proofs.Tests.{either}
 use Rattle.bx_advice.specs.declared.config.Config.{Config}
-use Rattle.bx_advice.specs.declared.error.Error.{Error}
 use Rattle.bx_message.specs.declared.message.Message.{Message}
 use Rattle.bx_message.specs.declared.message.TextMember.{TextMember}
-use Rattle.bx_message.specs.declared.message.TextMember.TheVariants.{Absent, NotText, Text}
+use Rattle.bx_message.specs.declared.message.TextMember.TheVariants.{Text}
 use Rattle.bx_message.specs.declared.message_kind.MessageKind.{MessageKind}
-use Rattle.bx_message.specs.MessageKinds.{message_kind_of, is_handshake}
+use Rattle.bx_message.specs.MessageKinds.{message_kind_of}
 use Rattle.bx_entry.specs.Listing.{Listed, Post, Posted}
 use Rattle.bx_entry.specs.Listing as messages
 use Rattle.bx_entry.specs.declared.entry.Entry.{Entry}
-use Rattle.bx_entry.specs.Registry.{found_at, Registry, Registered, Judged, judge, judged_by, sender_of, named_by, refusal, registry, empty_registry, entries_of, unnamed, noted, state_of}
+use Rattle.bx_entry.specs.Registry.{found_at, Registry, Registered, Judged, judge, sender_of, named_by, refusal, registry, empty_registry, entries_of, state_of}
 use Rattle.bx_theory.specs.Readings.{opens_by, since_opening, unclosed, AcceptedWhileLive}
 use Rattle.bx_theory.proofs.Verdicts.{by_verdict}
 use Rattle.bx_theory.proofs.Dues.{named_session}
@@ -29,18 +28,13 @@ find_passes test (q ∷ rs) r e = either (test q) (test r ≡ true)
     (λ h. find_passes test rs r (sym (cond-false (test q) (Some q) (find test rs) h) ∙ e))
 
 sender_live : (rs : List Registered) (m : TextMember) (r : Registered) → sender_of rs m ≡ Some r → r.live ≡ true
-sender_live rs Absent r e = cc
-sender_live rs NotText r e = cc
 sender_live rs (Text client) r e = (and_parts r.live (bytes_eq r.client client) (find_passes (λ q. q.live && bytes_eq q.client client) rs r e)).0
+sender_live rs _ r e = cc
 
 named_live : (rs : List Registered) (c : MessageKind) (m : Message) (r : Registered) → named_by rs c m ≡ Some r → r.live ≡ true
 named_live rs MessageKind.Handshake m r e = cc
-named_live rs MessageKind.Connect m r e = sender_live rs m.client r e
-named_live rs MessageKind.Subscribe m r e = sender_live rs m.client r e
-named_live rs MessageKind.Unsubscribe m r e = sender_live rs m.client r e
-named_live rs MessageKind.Disconnect m r e = sender_live rs m.client r e
-named_live rs MessageKind.Publish m r e = sender_live rs m.client r e
 named_live rs MessageKind.UnknownMeta m r e = cc
+named_live rs _ m r e = sender_live rs m.client r e
 
 -- ---- one element
 

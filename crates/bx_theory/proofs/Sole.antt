@@ -9,7 +9,7 @@ use Rattle.bx_message.specs.declared.message.Message.{Message}
 use Rattle.bx_message.specs.declared.message_kind.MessageKind.{MessageKind}
 use Rattle.bx_message.specs.MessageKinds.{message_kind_of, is_handshake}
 use Rattle.bx_entry.specs.Listing.{Listed, Post, Posted, listed_from}
-use Rattle.bx_entry.specs.Inputs.{ReadInput, Request, Unread, Tick, refusal_of, added_by}
+use Rattle.bx_entry.specs.Inputs.{ReadInput, Request, refusal_of, added_by}
 use Rattle.bx_entry.specs.declared.input.Refusal.{Refusal}
 use Rattle.bx_entry.specs.Registry.{Registry, Registered, Judged, PlaceSlot, Ready, Waiting, NoSlot, judge, judged_by, slot_for, slot_with, rider_for, is_rider, named_by, refusal, hold_of, registry, empty_registry, entries_of, unnamed, noted, state_of}
 use Rattle.bx_entry.specs.Sessions.{is_live, session}
@@ -74,9 +74,8 @@ run_placed t (i ∷ inputs) e = run_placed (take_in t i) inputs (taken_as_placed
 -- ---- what was found of a message
 
 abbrev IsSlot : PlaceSlot → Type 0
-IsSlot (Ready reply) = Unit {0}
-IsSlot (Waiting number) = Unit {0}
 IsSlot NoSlot = ⊥
+IsSlot _ = Unit {0}
 
 record Adds (config : Config) (r t : Registry) : Type 0 where
   found : Judged
@@ -86,12 +85,7 @@ record Adds (config : Config) (r t : Registry) : Type 0 where
 
 slot_for_is : (config : Config) (c : MessageKind) (p : Posted) (s : Registered) → IsSlot (slot_for config c p s)
 slot_for_is config MessageKind.Handshake p s = tt
-slot_for_is config MessageKind.Connect p s = tt
-slot_for_is config MessageKind.Subscribe p s = tt
-slot_for_is config MessageKind.Unsubscribe p s = tt
-slot_for_is config MessageKind.Disconnect p s = tt
-slot_for_is config MessageKind.Publish p s = tt
-slot_for_is config MessageKind.UnknownMeta p s = tt
+slot_for_is config _ p s = tt
 
 -- a rider waits for its session
 slot_with_is : (b : Bool) (n : ℕ) (slot : PlaceSlot) → IsSlot slot → IsSlot (slot_with (rider_for b n slot) slot)
@@ -213,14 +207,12 @@ request_single config list d moment nonce (m ∷ k ∷ ms) room s n =
 
 stands_single : (config : Config) (list : List Listed) (d : Intake) (input : ReadInput) → 0 < config.limits.batch → Stands list d input → NotWhole config list (places_of d input) → Single config list d input
 stands_single config list d (Request moment nonce ms) room s n = request_single config list d moment nonce ms room s n
-stands_single config list d (Unread fault) room s n = absurd (not_there config list [] n tt)
-stands_single config list d (Tick moment) room s n = absurd (not_there config list [] n tt)
+stands_single config list d _ room s n = absurd (not_there config list [] n tt)
 
 -- nothing is missing where there are no messages
 pub none_missing : (config : Config) (list : List Listed) (d : Intake) (input : ReadInput) → d.count ≡ 0 → is_some (latest 0 (map (answer_in config (registry config list)) (places_of d input))) ≡ true
 none_missing config list d (Request moment nonce ms) h = subst (λ (k : ℕ). is_some (latest 0 (map (answer_in config (registry config list)) (numbers_from d.first k))) ≡ true) (sym h) refl
-none_missing config list d (Unread fault) h = refl
-none_missing config list d (Tick moment) h = refl
+none_missing config list d _ h = refl
 
 is_connect_by : (config : Config) (list : List Listed) (o : Numbered) (refusal : Option Refusal) → 0 < config.limits.batch → o.intake.refusal ≡ refusal → Placed list o.intake refusal →
     is_whole config (registry config list) o ≡ false → IsConnect config list o

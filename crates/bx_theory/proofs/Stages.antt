@@ -43,13 +43,11 @@ pub record Next (s : Session) (k : EntryKind) (t : Session) : Type 0 where
 begun_next : (ack : Bool) (s : Session) (stage : Stage) → s.stage ≡ stage → (begun ack s stage).stage ≡ stage_of_opening stage
 unfolding stage_of_opening
 begun_next ack s Unopened h = refl
-begun_next ack s Live h = h
-begun_next ack s Closed h = h
+begun_next ack s _ h = h
 
 begun_number : (ack : Bool) (s : Session) (stage : Stage) → (begun ack s stage).number ≡ s.number
 begun_number ack s Unopened = refl
-begun_number ack s Live = refl
-begun_number ack s Closed = refl
+begun_number ack s _ = refl
 
 stays_either : (b : Bool) (s t : Session) → Stays s t → Stays s (cond b t s)
 stays_either b s t k = cond_both b t s (Stays s) (λ h. k) (λ h. record { number = refl; stage = refl })
@@ -130,13 +128,7 @@ reads number Closed es = false
 
 apart_by : (number : ℕ) (k : EntryKind) → (opens_by number k && closes_by number k) ≡ false
 apart_by number (entries.Opened n ack) = elim (n == number) as (λ b. (b && false) ≡ false) [ true ↦ refl | false ↦ refl ]
-apart_by number (Connect n client id acked hold) = refl
-apart_by number (Subscribe n ps) = refl
-apart_by number (Unsubscribe n ps) = refl
-apart_by number (Publish e) = refl
-apart_by number (Disconnect n) = refl
-apart_by number Refused = refl
-apart_by number (Tick numbers) = refl
+apart_by number _ = refl
 
 reads_by : (number : ℕ) (stage : Stage) (opens shuts : Bool) (es : List Entry) → (opens && shuts) ≡ false →
     reads number (cond opens (stage_of_opening stage) (cond shuts (stage_after stage) stage)) es
@@ -160,8 +152,7 @@ reads_step number Closed e es = reads_by number Closed (opens_by number e.kind) 
 
 live_none : (number : ℕ) (stage : Stage) → is_live stage ≡ reads number stage []
 live_none number Unopened = refl
-live_none number Live = refl
-live_none number Closed = refl
+live_none number _ = refl
 
 live_run : (config : Config) (s : Session) (es : List Entry) → is_live (fold (step config) s es).stage ≡ reads s.number s.stage es
 live_run config s [] = live_none s.number s.stage

@@ -1,12 +1,11 @@
 -- What holds of each kind of verdict holds of what a message comes to, and so of each that was found.
-use Rattle.std.proofs.Common.{◌≡◌, ℕ, ◌+◌, true, false, List, [], ◌∷◌, ◌++◌, length, fold, refl, subst}
-use Rattle.std.specs.Prelude.{Bool, max, Option, Some, None}
+use Rattle.std.proofs.Common.{◌≡◌, ℕ, ◌+◌, true, false, refl}
+use Rattle.std.specs.Prelude.{Bool, Option, Some, None}
 use Rattle.bx_advice.specs.declared.config.Config.{Config}
 use Rattle.bx_advice.specs.declared.error.Error.{Error}
 use Rattle.bx_message.specs.MessageKinds.{message_kind_of, is_handshake}
-use Rattle.bx_entry.specs.Listing.{Listed, Post, Posted}
-use Rattle.bx_entry.specs.Listing as messages
-use Rattle.bx_entry.specs.Registry.{Registered, Registry, State, Verdict, found_at, hold_of, judge, judged_by, named_by, opened, refusal, refused, served, sessionless, state_of, tick_verdict, unnamed, verdict}
+use Rattle.bx_entry.specs.Listing.{Posted}
+use Rattle.bx_entry.specs.Registry.{Registered, State, Verdict, hold_of, judged_by, opened, refused, served, sessionless, unnamed}
 
 -- refused, a handshake, of no session, or of the session that it names
 pub by_verdict : (P : Verdict → Type 0) (config : Config) (state : State) (moment : ℕ) (p : Posted) (sender : Option Registered) (error : Option Error) →

@@ -9,7 +9,7 @@ use Rattle.bx_advice.specs.declared.config.Config.{Config}
 use Rattle.bx_entry.specs.Listing.{Listed}
 use Rattle.bx_entry.specs.Registry.{Judged, Registry, registry, entries_of}
 use Rattle.bx_entry.specs.Answers.{PlacedAnswer, answer_at, answer_in, answer}
-use Rattle.bx_entry.specs.Inputs.{ReadInput, Request, Unread, Tick, refusal_of, added_by}
+use Rattle.bx_entry.specs.Inputs.{ReadInput, Request, refusal_of, added_by}
 use Rattle.bx_entry.specs.declared.input.Refusal.{Refusal}
 use Rattle.bx_entry.specs.Runs.{Intake, Taking, taken_as, take_in, taken_in, Out, numbers_from, places_of, latest, has_place, whole_by, result_by, Whole, whole_of, wholes_from, wholes, is_at, whole_at}
 use Rattle.bx_theory.specs.Outs.{OutsGrow}
@@ -266,8 +266,7 @@ not_yet end j i f intake first (suc count) none h l = ap (λ (o : Option PlacedA
 not_whole : (config : Config) (end j i : ℕ) (r t : Registry) (intake : List Intake) (d : Intake) (input : ReadInput) → Two config end r t intake → end ≤ d.first → j < i →
     is_at j (whole_by intake i (map (answer_in config r) (places_of d input))) ≡ false
 not_whole config end j i r t intake d (Request moment nonce ms) w h l = not_yet end j i (answer_in config r) intake d.first d.count w.none h l
-not_whole config end j i r t intake d (Unread fault) w h l = ne_eqb i j (λ e. omega arith)
-not_whole config end j i r t intake d (Tick moment) w h l = ne_eqb i j (λ e. omega arith)
+not_whole config end j i r t intake d _ w h l = ne_eqb i j (λ e. omega arith)
 
 back_none : (config : Config) (end j i : ℕ) (r t : Registry) (intake more ds : List Intake) → Two config end r t intake → EachIntake (λ d. end ≤ d.first) ds → j < length intake → j < i →
     whole_at j (wholes_from config t (intake ++ more) i ds) ≡ []

@@ -15,10 +15,8 @@ printed_so_far config ls = printed_from (wholes config (inputs_in ls)) (inputs_f
 
 -- the outs that an input adds; a line that is no input adds none
 abbrev pub AddsOuts : Config → List ReadInput → Line → List Out → Type 0
-AddsOuts config inputs Bad more = ⊤
-AddsOuts config inputs (Rejected status) more = ⊤
 AddsOuts config inputs (Accepted callback input) more = outs config (inputs ++ input ∷ []) ≡ outs config inputs ++ more
-AddsOuts config inputs (Resharded shards) more = ⊤
+AddsOuts config inputs _ more = ⊤
 
 -- what outs print, where the inputs that they belong to are numbered by their lines
 abbrev pub outs_text : List Numbered → List Out → List ℕ

@@ -1,5 +1,5 @@
 -- What the words of a session mean, said of the whole list instead of step by step.
-use Rattle.std.specs.Prelude.{ℕ, ◌+◌, ◌≡◌, ◌≤◌, ◌==◌, ◌&&◌, ◌||◌, not, max, is_some, is_none, Bool, true, false, List, [], ◌∷◌, ◌++◌, length, map, filter, filter_map, fold, nat_le, nat_lt, if◌then◌else◌, Option, Some, None, ⊤}
+use Rattle.std.specs.Prelude.{ℕ, ◌≡◌, ◌≤◌, ◌==◌, ◌&&◌, ◌||◌, not, max, is_some, is_none, Bool, true, false, List, [], ◌∷◌, ◌++◌, length, map, filter, filter_map, fold, nat_le, nat_lt, if◌then◌else◌, Option, Some, None, ⊤}
 use Rattle.std.specs.List.{list_any}
 use Rattle.bx_names.specs.Faults.{name_fault}
 use Rattle.bx_names.specs.Globs.{Glob}
@@ -26,24 +26,13 @@ use Rattle.bx_entry.specs.Sessions.{Session, Pending, Filed, Publication, ack_gi
 -- whether a kind of entry opens the session
 abbrev pub opens_by : ℕ → EntryKind → Bool
 opens_by number (Opened n ack) = n == number
-opens_by number (Connect n client id acked hold) = false
-opens_by number (Subscribe n ps) = false
-opens_by number (Unsubscribe n ps) = false
-opens_by number (Publish e) = false
-opens_by number (Disconnect n) = false
-opens_by number Refused = false
-opens_by number (Tick numbers) = false
+opens_by number _ = false
 
 -- whether a kind of entry closes the session: its disconnect, or a tick that names it
 abbrev pub closes_by : ℕ → EntryKind → Bool
-closes_by number (Opened n ack) = false
-closes_by number (Connect n client id acked hold) = false
-closes_by number (Subscribe n ps) = false
-closes_by number (Unsubscribe n ps) = false
-closes_by number (Publish e) = false
 closes_by number (Disconnect n) = n == number
-closes_by number Refused = false
 closes_by number (Tick numbers) = list_any (λ n. n == number) numbers
+closes_by number _ = false
 
 -- whether an entry closes the session
 abbrev pub closes : ℕ → Entry → Bool
@@ -67,14 +56,9 @@ LiveReading = (config : Config) (number : ℕ) (es : List Entry) → is_live (se
 
 -- what a kind of entry of the session says of a pattern: in, out or nothing
 abbrev pub mention_by : ℕ → Glob → EntryKind → Option Bool
-mention_by number p (Opened n ack) = None
-mention_by number p (Connect n client id acked hold) = None
 mention_by number p (Subscribe n ps) = if (n == number) && in_force ps p then Some true else None
 mention_by number p (Unsubscribe n ps) = if (n == number) && in_force ps p then Some false else None
-mention_by number p (Publish e) = None
-mention_by number p (Disconnect n) = None
-mention_by number p Refused = None
-mention_by number p (Tick numbers) = None
+mention_by number p _ = None
 
 -- the last of some answers, or the first argument
 abbrev pub last_of : Bool → List Bool → Bool
@@ -90,14 +74,11 @@ InForceReading = (config : Config) (number : ℕ) (es : List Entry) (p : Glob) �
 
 -- the entry ends this hold: an event of the session, a newer connect of it, its disconnect, or a tick at or past the deadline
 abbrev pub ends_by : Config → Session → Pending → ℕ → EntryKind → Bool
-ends_by config s p moment (Opened n ack) = false
 ends_by config s p moment (Connect n client id acked hold) = n == s.number
-ends_by config s p moment (Subscribe n ps) = false
-ends_by config s p moment (Unsubscribe n ps) = false
 ends_by config s p moment (Publish e) = is_hit s e && has_room config s
 ends_by config s p moment (Disconnect n) = n == s.number
-ends_by config s p moment Refused = false
 ends_by config s p moment (Tick numbers) = nat_le (deadline p) moment
+ends_by config s p moment _ = false
 
 -- the same of an entry
 abbrev pub ends : Config → Session → Pending → Entry → Bool
@@ -110,26 +91,15 @@ NoneEnds config p s (e ∷ es) = (ends config s p e ≡ false) × NoneEnds confi
 
 -- the events that a held connect is given by the entry that ends its hold: that of a publish, and else none
 abbrev pub ending_events : ℕ → EntryKind → List Publication
-ending_events place (Opened n ack) = []
-ending_events place (Connect n client id acked hold) = []
-ending_events place (Subscribe n ps) = []
-ending_events place (Unsubscribe n ps) = []
 ending_events place (Publish event) = record { place = place; event = event } ∷ []
-ending_events place (Disconnect n) = []
-ending_events place Refused = []
-ending_events place (Tick numbers) = []
+ending_events place _ = []
 
 -- and how it is answered: with an error where a newer connect came, with the success of one that leaves where its session does, and else with that of a
 -- connect (an entry of another kind than these ends no hold)
 abbrev pub ending_outcome : EntryKind → Outcome
-ending_outcome (Opened n ack) = Connected
 ending_outcome (Connect n client id acked hold) = Failed SupersededConnect
-ending_outcome (Subscribe n ps) = Connected
-ending_outcome (Unsubscribe n ps) = Connected
-ending_outcome (Publish event) = Connected
 ending_outcome (Disconnect n) = Disconnected
-ending_outcome Refused = Connected
-ending_outcome (Tick numbers) = Connected
+ending_outcome _ = Connected
 
 -- the connect is answered at the entry's place, before anything else: with those events, in that way, and in an acknowledging session with the number of
 -- the last batch formed
@@ -155,14 +125,9 @@ EndingReading = (config : Config) (s : Session) (p : Pending) (es : List Entry) 
 
 -- whether an entry of this kind finds no room
 abbrev pub overfills_by : Config → Session → EntryKind → Bool
-overfills_by config s (Opened n ack) = false
-overfills_by config s (Connect n client id acked hold) = false
 overfills_by config s (Subscribe n ps) = (n == s.number) && nat_lt config.limits.patterns (length (fold with_pattern s.patterns ps))
-overfills_by config s (Unsubscribe n ps) = false
 overfills_by config s (Publish e) = is_hit s e && not (has_room config s)
-overfills_by config s (Disconnect n) = false
-overfills_by config s Refused = false
-overfills_by config s (Tick numbers) = false
+overfills_by config s _ = false
 
 -- some entry is a hit that finds the queue full, or a subscribe after which too many patterns are in force
 abbrev pub some_overfills : Config → Session → List Entry → Bool

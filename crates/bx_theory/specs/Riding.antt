@@ -7,7 +7,7 @@ use Rattle.bx_entry.specs.Inputs.{ReadInput, Request, added_by}
 use Rattle.bx_entry.specs.Listing.{Listed}
 use Rattle.bx_entry.specs.declared.entry.Entry.{Entry}
 use Rattle.bx_entry.specs.declared.entry.EntryKind.{EntryKind}
-use Rattle.bx_entry.specs.declared.entry.EntryKind.TheVariants.{Opened, Connect, Subscribe, Unsubscribe, Publish, Disconnect, Refused, Tick}
+use Rattle.bx_entry.specs.declared.entry.EntryKind.TheVariants.{Subscribe, Unsubscribe, Publish}
 use Rattle.bx_entry.specs.declared.entry.Rider.{Rider}
 use Rattle.bx_entry.specs.Registry.{Judged, registry, entries}
 use Rattle.bx_entry.specs.Sessions.{Session, Publication, Live, session, step, step_by, rider_of}
@@ -25,14 +25,10 @@ is_own number j = is_from number j.sender && not (opens_by number j.entry.kind)
 
 -- whether an entry of this kind may have a rider: a subscription, an unsubscription or a publish
 abbrev pub may_have_rider : EntryKind → Bool
-may_have_rider (Opened n ack) = false
-may_have_rider (Connect n client id acked hold) = false
 may_have_rider (Subscribe n ps) = true
 may_have_rider (Unsubscribe n ps) = true
 may_have_rider (Publish e) = true
-may_have_rider (Disconnect n) = false
-may_have_rider Refused = false
-may_have_rider (Tick numbers) = false
+may_have_rider _ = false
 
 -- What makes a message a rider of this session, where these stand before it in its request and those behind it: the configuration says so, the session
 -- does not acknowledge, it is the last of its request, each of the request is an accepted one of the session and no handshake, and it is a

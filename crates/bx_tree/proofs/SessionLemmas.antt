@@ -1,5 +1,5 @@
 -- The patterns of one session, after a change of one session's.
-use Rattle.std.proofs.Common.{◌≡◌, ◌≢◌, ℕ, nat_eq, eqb, Bool, true, false, cond, Option, Some, Result, Ok, Err, List, [], ◌∷◌, map, arith, refl, sym, ap, ◌∙◌}
+use Rattle.std.proofs.Common.{◌≡◌, ◌≢◌, ℕ, nat_eq, eqb, Bool, true, false, cond, Option, Some, Result, Ok, Err, List, [], ◌∷◌, map, refl, sym, ap, ◌∙◌}
 use Rattle.std.specs.Option.{option_map_or, unwrap_or}
 use Rattle.std.specs.Result.{is_ok, is_err}
 use Rattle.std.specs.Map.{lookup, set_value}

@@ -9,7 +9,7 @@ use Rattle.bx_names.specs.Globs.{Glob, last_segment, tail_of, ending_in, glob_of
 use Rattle.bx_names.specs.Faults.{pattern_fault, read_name, read_pattern}
 use Rattle.bx_names.specs.Equality.{same_segments-decides}
 use Rattle.bx_names.specs.declared.tail.Tail.{Tail}
-use Rattle.bx_names.specs.declared.tail.Tail.TheVariants.{Exact, One, Many}
+use Rattle.bx_names.specs.declared.tail.Tail.TheVariants.{Exact}
 use Rattle.bx_names.proofs.PathLemmas.{parts-append, parts_some}
 use Rattle.bx_names.proofs.FaultLemmas.{name_text, read_by-ok}
 use Rattle.bx_tree.specs.Whole.{AreWhole}
@@ -45,8 +45,7 @@ some_segment (x ∷ xs) name h = subst (λ (ss : List (List ℕ)). 0 < length ss
 
 whole_ending : (tail : Tail) (ss : List (List ℕ)) → AreWhole ss → AreWhole (ending_in tail ss).segments
 whole_ending Exact ss h = h
-whole_ending One ss h = whole_take (length ss - 1) ss h
-whole_ending Many ss h = whole_take (length ss - 1) ss h
+whole_ending _ ss h = whole_take (length ss - 1) ss h
 
 -- so are a pattern's own
 pub whole_pattern : (text : List ℕ) (p : Glob) → read_pattern text ≡ Ok p → AreWhole p.segments

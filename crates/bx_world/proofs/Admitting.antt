@@ -26,9 +26,8 @@ IsTold refusal (Refused r) = refusal ≡ Some r
 IsTold refusal Memory = Unit {0}
 
 is_told : (refusal : Option Refusal) (fault : AdmitFault) → IsFault refusal fault → IsTold refusal (of_planning fault)
-is_told refusal faults.BadMoment is = is
-is_told refusal faults.Ended is = is
 is_told refusal faults.Memory is = tt
+is_told refusal _ is = is
 
 told : (placing : ℕ → ℕ → ℕ) (old : Admitting) (input : ReadInput) (fault : AdmissionFault) → IsTold (refusal_of (length old.list) input) fault → IsAdmission placing old input (Err fault) old
 told placing old input (Refused refusal) t = (t, refl)

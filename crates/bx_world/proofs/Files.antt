@@ -1,5 +1,5 @@
 -- An answer that a shard has come past is filed there until it is taken, and none is taken twice.
-use Rattle.std.proofs.Common.{◌≡◌, ℕ, zero, suc, ◌+◌, max, ⊎_elim, Bool, true, false, cond, ◌||◌, Option, Some, None, List, [], ◌∷◌, ◌++◌, length, take, drop, map, filter, find, flat_map, fold, option_map, slice_get, slice_index, nat_lt, ◌==◌, refl, sym, ap, ◌∙◌, subst, eqb-true, eq-eqb, take-append-drop, true≢false}
+use Rattle.std.proofs.Common.{◌≡◌, ℕ, zero, suc, max, ⊎_elim, Bool, true, false, cond, ◌||◌, Option, Some, None, List, [], ◌∷◌, ◌++◌, length, take, drop, map, filter, find, flat_map, fold, option_map, slice_get, slice_index, nat_lt, ◌==◌, refl, sym, ap, ◌∙◌, subst, eqb-true, eq-eqb, take-append-drop, true≢false}
 use Rattle.std.proofs.lemmas.Bool.{cond_both, cond-true, cond-false, lt-ltb}
 use Rattle.std.proofs.lemmas.List.Folds.{find-append, list_any-append}
 use Rattle.std.specs.Option.{option_or}
@@ -7,12 +7,11 @@ use Rattle.std.specs.List.{list_any}
 use Rattle.bx_lists.proofs.Tests.{either}
 use Rattle.bx_advice.specs.declared.config.Config.{Config}
 use Rattle.bx_message.specs.declared.reply.Answer.{Answer}
-use Rattle.bx_advice.specs.declared.error.Error.{Error}
 use Rattle.bx_message.specs.declared.message_kind.MessageKind.{MessageKind}
 use Rattle.bx_entry.specs.Listing.{Listed, Post, Posted}
-use Rattle.bx_message.specs.MessageKinds.{message_kind_of, is_handshake}
+use Rattle.bx_message.specs.MessageKinds.{message_kind_of}
 use Rattle.bx_entry.specs.Listing as messages
-use Rattle.bx_entry.specs.Registry.{due_of, Registry, Registered, Judged, PlaceSlot, Ready, Waiting, NoSlot, judge, judged_by, served, slot_for, slot_with, rider_for, is_rider, left_by, extended, swept, is_overdue, named_by, refusal, hold_of, registry, empty_registry, entries_of, unnamed, noted, state_of}
+use Rattle.bx_entry.specs.Registry.{due_of, Registry, Registered, Judged, PlaceSlot, Ready, Waiting, NoSlot, judge, served, slot_for, slot_with, rider_for, is_rider, left_by, extended, swept, is_overdue, named_by, refusal, hold_of, registry, empty_registry, entries_of, noted, state_of}
 use Rattle.bx_entry.specs.declared.input.Input.{Input}
 use Rattle.bx_entry.specs.Sessions.{Session, Filed, session}
 use Rattle.bx_entry.specs.Answers.{PlacedAnswer, answer_of, answer_by, answer_at}
@@ -53,14 +52,12 @@ each_has [] = tt
 each_has (r ∷ rs) = (ap (λ (b : Bool). b || has r.number rs) (eq-eqb r.number r.number refl), each_session_map (λ q. has q.number rs ≡ true) (λ q. has q.number (r ∷ rs) ≡ true) rs (λ q h. or_true (r.number == q.number) (has q.number rs) h) (each_has rs))
 
 abbrev SlotHas : List Registered → PlaceSlot → Type 0
-SlotHas rs (Ready reply) = Unit {0}
 SlotHas rs (Waiting number) = has number rs ≡ true
-SlotHas rs NoSlot = Unit {0}
+SlotHas rs _ = Unit {0}
 
 slot_has : (rs ts : List Registered) (slot : PlaceSlot) → ((n : ℕ) → has n rs ≡ true → has n ts ≡ true) → SlotHas rs slot → SlotHas ts slot
-slot_has rs ts (Ready reply) h s = tt
 slot_has rs ts (Waiting number) h s = h number s
-slot_has rs ts NoSlot h s = tt
+slot_has rs ts _ h s = tt
 
 abbrev Waiters : Registry → Type 0
 Waiters r = EachJudged (λ j. SlotHas r.sessions j.slot) r.judged
@@ -70,13 +67,8 @@ waiters_push : (r : Registry) (ts : List Registered) (j : Judged) → ((n : ℕ)
 waiters_push r ts j h s w = each_judged_push (λ i. SlotHas ts i.slot) r.judged j (each_judged_map (λ i. SlotHas r.sessions i.slot) (λ i. SlotHas ts i.slot) r.judged (λ i g. slot_has r.sessions ts i.slot h g) w) s
 
 left_has : (c : MessageKind) (number n : ℕ) (rs : List Registered) → has n (left_by c number rs) ≡ has n rs
-left_has MessageKind.Handshake number n rs = refl
-left_has MessageKind.Connect number n rs = refl
-left_has MessageKind.Subscribe number n rs = refl
-left_has MessageKind.Unsubscribe number n rs = refl
 left_has MessageKind.Disconnect number n rs = has_map (λ s. cond (s.number == number) (record s { live = false }) s) n rs (λ s. let t : Registered = record s { live = false } in cond_both (s.number == number) t s (λ (u : Registered). u.number ≡ s.number) (λ e. refl) (λ e. refl))
-left_has MessageKind.Publish number n rs = refl
-left_has MessageKind.UnknownMeta number n rs = refl
+left_has _ number n rs = refl
 
 extended_has : (number due n : ℕ) (rs : List Registered) → has n (extended number due rs) ≡ has n rs
 extended_has number due n rs = has_map (λ s. cond (s.number == number) (record s { due = max s.due due }) s) n rs (λ s. let t : Registered = record s { due = max s.due due } in cond_both (s.number == number) t s (λ (u : Registered). u.number ≡ s.number) (λ e. refl) (λ e. refl))
@@ -85,13 +77,8 @@ swept_has : (moment n : ℕ) (rs : List Registered) → has n (swept moment rs) 
 swept_has moment n rs = has_map (λ s. cond (is_overdue moment s) (record s { live = false }) s) n rs (λ s. let t : Registered = record s { live = false } in cond_both (is_overdue moment s) t s (λ (u : Registered). u.number ≡ s.number) (λ e. refl) (λ e. refl))
 
 slot_served : (config : Config) (c : MessageKind) (p : Posted) (s : Registered) (rs : List Registered) → has s.number rs ≡ true → SlotHas rs (slot_for config c p s)
-slot_served config MessageKind.Handshake p s rs h = tt
 slot_served config MessageKind.Connect p s rs h = h
-slot_served config MessageKind.Subscribe p s rs h = tt
-slot_served config MessageKind.Unsubscribe p s rs h = tt
-slot_served config MessageKind.Disconnect p s rs h = tt
-slot_served config MessageKind.Publish p s rs h = tt
-slot_served config MessageKind.UnknownMeta p s rs h = tt
+slot_served config _ p s rs h = tt
 
 -- so it has as a rider
 slot_ridden : (b : Bool) (number : ℕ) (slot : PlaceSlot) (rs : List Registered) → has number rs ≡ true → SlotHas rs slot → SlotHas rs (slot_with (rider_for b number slot) slot)
@@ -249,19 +236,11 @@ take_new setup w t OutOfMemory ps e d = d
 
 admit_taken : (w : WorldState) (input : Input) (out : StepOut) → (after w (Admit input) out).taken ≡ w.taken
 admit_taken w input (Admitted first slots) = refl
-admit_taken w input (NotAdmitted refusal) = refl
-admit_taken w input Applied = refl
-admit_taken w input Level = refl
-admit_taken w input (Taken o) = refl
-admit_taken w input OutOfMemory = refl
+admit_taken w input _ = refl
 
 apply_taken : (w : WorldState) (shard : ℕ) (out : StepOut) → (after w (Apply shard) out).taken ≡ w.taken
 apply_taken w shard (Admitted first slots) = refl
-apply_taken w shard (NotAdmitted refusal) = refl
-apply_taken w shard Applied = refl
-apply_taken w shard Level = refl
-apply_taken w shard (Taken o) = refl
-apply_taken w shard OutOfMemory = refl
+apply_taken w shard _ = refl
 
 step_new : (setup : Setup) (w : WorldState) (step : Step) (out : StepOut) (ps : List ℕ) → IsOutput setup w step out → EachNew (after w step out).taken ps → EachNew w.taken (taken_by step out ++ ps)
 step_new setup w (Admit input) out ps i d = subst (λ (ts : List ℕ). EachNew ts ps) (admit_taken w input out) d

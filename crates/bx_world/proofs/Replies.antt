@@ -3,7 +3,6 @@ use Rattle.std.proofs.Common.{◌≡◌, ℕ, zero, suc, ◌+◌, max, ⊎_elim,
 use Rattle.std.proofs.lemmas.List.{map-append, length-map, drop_at}
 use Rattle.std.proofs.lemmas.List.Sums.{fold-append}
 use Rattle.bx_advice.specs.declared.config.Config.{Config}
-use Rattle.bx_advice.specs.declared.error.Error.{Error}
 use Rattle.bx_message.specs.declared.message_kind.MessageKind.{MessageKind}
 use Rattle.bx_message.specs.declared.message.Message.{Message}
 use Rattle.bx_message.specs.MessageKinds.{message_kind_of, is_handshake}
@@ -11,7 +10,7 @@ use Rattle.bx_entry.specs.Listing.{Listed, Post, Posted, listed_from}
 use Rattle.bx_entry.specs.Listing as messages
 use Rattle.bx_entry.specs.Inputs.{ReadInput, Request, Unread, Tick, added_by}
 use Rattle.bx_entry.specs.Requests.{read_input}
-use Rattle.bx_entry.specs.Registry.{Registry, Registered, Judged, PlaceSlot, Ready, Waiting, NoSlot, judge, judged_by, slot_for, slot_with, rider_for, is_rider, named_by, refusal, registry, empty_registry, entries_of, unnamed, noted, state_of}
+use Rattle.bx_entry.specs.Registry.{Registry, Registered, Judged, PlaceSlot, Ready, Waiting, NoSlot, judge, slot_for, slot_with, rider_for, is_rider, named_by, refusal, registry, empty_registry, entries_of, state_of}
 use Rattle.bx_entry.specs.Answers.{answer_at, answer_by}
 use Rattle.bx_entry.specs.declared.entry.Slot.{Slot}
 use Rattle.bx_entry.specs.declared.input.Input.{Input}
@@ -21,7 +20,7 @@ use Rattle.bx_shard.specs.Shards.{Setup}
 use Rattle.bx_world.specs.Worlds.{WorldState, IsOutput, Runs, after, output_admit}
 use Rattle.bx_admission.specs.Slots.{given_by, given_from, admitted_slots}
 use Rattle.bx_world.specs.declared.step.Step.{Step}
-use Rattle.bx_world.specs.declared.step.Step.TheVariants.{Admit, Apply, Take}
+use Rattle.bx_world.specs.declared.step.Step.TheVariants.{Admit}
 use Rattle.bx_world.specs.declared.step.StepOut.{StepOut}
 use Rattle.bx_world.specs.declared.step.StepOut.TheVariants.{Admitted, NotAdmitted, Applied, Level, Taken, OutOfMemory}
 use Rattle.bx_world.specs.Headline.{EachSlot, IsAdmitted, RepliedBy, Replied, EachReplied, RepliesAreAnswers}
@@ -48,12 +47,7 @@ AllSlotted (x ∷ xs) (j ∷ js) = Slotted x j.slot × AllSlotted xs js
 
 slot_for_message : (config : Config) (c : MessageKind) (p : Posted) (s : Registered) → Slotted (Post p) (slot_for config c p s)
 slot_for_message config MessageKind.Handshake p s = tt
-slot_for_message config MessageKind.Connect p s = tt
-slot_for_message config MessageKind.Subscribe p s = tt
-slot_for_message config MessageKind.Unsubscribe p s = tt
-slot_for_message config MessageKind.Disconnect p s = tt
-slot_for_message config MessageKind.Publish p s = tt
-slot_for_message config MessageKind.UnknownMeta p s = tt
+slot_for_message config _ p s = tt
 
 -- so it has as a rider
 ridden_message : (b : Bool) (number : ℕ) (slot : PlaceSlot) (p : Posted) → Slotted (Post p) slot → Slotted (Post p) (slot_with (rider_for b number slot) slot)
@@ -130,9 +124,8 @@ each_slot setup list place (Post p ∷ xs) (j ∷ js) m a h =
 each_slot setup list place (messages.Tick moment ∷ xs) (j ∷ js) m a h = absurd m
 
 slot_count : (setup : Setup) (place : ℕ) (p : Posted) (slot : PlaceSlot) (rest : List Slot) → Slotted (Post p) slot → length (given_by setup place slot ++ rest) ≡ suc (length rest)
-slot_count setup place p (Ready reply) rest s = refl
-slot_count setup place p (Waiting number) rest s = refl
 slot_count setup place p NoSlot rest s = absurd s
+slot_count setup place p _ rest s = refl
 
 slots_count : (setup : Setup) (place : ℕ) (xs : List Listed) (js : List Judged) → Messages xs → AllSlotted xs js → length (given_from setup place (map (λ (j : Judged). j.slot) js)) ≡ length xs
 slots_count setup place [] [] m a = refl
@@ -143,9 +136,8 @@ slots_count setup place (Post p ∷ xs) (j ∷ js) m a =
 slots_count setup place (messages.Tick moment ∷ xs) (j ∷ js) m a = absurd m
 
 tick_slot : (setup : Setup) (place moment : ℕ) (slot : PlaceSlot) → Slotted (messages.Tick moment) slot → given_from setup place (slot ∷ []) ≡ []
-tick_slot setup place moment (Ready reply) s = absurd s
-tick_slot setup place moment (Waiting number) s = absurd s
 tick_slot setup place moment NoSlot s = refl
+tick_slot setup place moment _ s = absurd s
 
 tick_slots : (setup : Setup) (place moment : ℕ) (js : List Judged) → AllSlotted (messages.Tick moment ∷ []) js → given_from setup place (map (λ (j : Judged). j.slot) js) ≡ []
 tick_slots setup place moment [] a = absurd a
@@ -232,8 +224,7 @@ replied : (setup : Setup) (w : WorldState) (step : Step) (out : StepOut) (last :
 replied setup w (Admit input) out last i l =
     ⊎_elim (λ e. admit_replied setup w input out last (refusal_of (length w.list) (read_input input)) refl e l)
     (λ m. subst (RepliedBy setup last.list input) (sym m.1) tt) i
-replied setup w (Apply shard) out last i l = tt
-replied setup w (Take t) out last i l = tt
+replied setup w _ out last i l = tt
 
 each_replied : (setup : Setup) (w : WorldState) (steps : List Step) (outs : List StepOut) (last : WorldState) → Runs setup w steps outs last → EachReplied setup last.list steps outs
 each_replied setup w [] outs last r = tt

@@ -99,9 +99,8 @@ took_by setup w t (Taken (Some a)) last room e l = let g : option_map given_of (
 took_by setup w t OutOfMemory last room e l = tt
 
 took : (setup : Setup) (w : WorldState) (step : Step) (out : StepOut) (last : WorldState) → 0 < setup.config.limits.batch → IsOutput setup w step out → Longer w last → Took setup.config last.list step out
-took setup w (Admit input) out last room i l = tt
-took setup w (Apply shard) out last room i l = tt
 took setup w (Take t) out last room i l = ⊎_elim (λ e. took_by setup w t out last room e l) (λ m. absurd (true≢false (sym m.0))) i
+took setup w _ out last room i l = tt
 
 each_took : (setup : Setup) (w : WorldState) (steps : List Step) (outs : List StepOut) (last : WorldState) → 0 < setup.config.limits.batch → Runs setup w steps outs last → EachTook setup.config last.list steps outs
 each_took setup w [] outs last room r = tt

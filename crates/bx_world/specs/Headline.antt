@@ -63,11 +63,7 @@ pub record IsAdmitted (setup : Setup) (list : List Listed) (input : ReadInput) (
 -- what was admitted is answered so
 abbrev pub RepliedBy : Setup → List Listed → Input → StepOut → Type 0
 RepliedBy setup list input (Admitted first slots) = IsAdmitted setup list (read_input input) first slots
-RepliedBy setup list input (NotAdmitted refusal) = ⊤
-RepliedBy setup list input Applied = ⊤
-RepliedBy setup list input Level = ⊤
-RepliedBy setup list input (Taken answer) = ⊤
-RepliedBy setup list input OutOfMemory = ⊤
+RepliedBy setup list input _ = ⊤
 
 -- only an admission gives replies at once
 abbrev pub Replied : Setup → List Listed → Step → StepOut → Type 0

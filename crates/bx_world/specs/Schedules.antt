@@ -22,11 +22,7 @@ use Rattle.bx_world.specs.declared.step.StepOut.TheVariants.{Admitted, NotAdmitt
 -- what an admitted input adds to the list
 abbrev pub added_as : Input → StepOut → List Listed
 added_as input (Admitted first slots) = added_by (read_input input)
-added_as input (NotAdmitted refusal) = []
-added_as input Applied = []
-added_as input Level = []
-added_as input (Taken answer) = []
-added_as input OutOfMemory = []
+added_as input _ = []
 
 -- only an admission adds to it
 abbrev pub added_in : Step → StepOut → List Listed
