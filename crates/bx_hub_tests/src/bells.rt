@@ -6,7 +6,7 @@ use crate::calls::{HANDSHAKE, PUBLISH, hold, post};
 use crate::same::same;
 use bx_advice::Config;
 use bx_entry::{ByRemainder, Placing, Ticket};
-use bx_hub::{Gate, Hub, Pass, Watch};
+use bx_hub::{Gate, Hub, Watch};
 use bx_window::{Naming, Opened};
 use futures::task::{Doorbell, Poll, Solo, Source, Waker};
 use libc::net::{EFD_CLOEXEC, eventfd};
@@ -63,6 +63,17 @@ struct Flags {
     ended: AtomicBool,
 }
 
+impl Flags {
+    fn new() -> Flags {
+        Flags {
+            is_armed: AtomicBool::new(false),
+            stands: AtomicBool::new(false),
+            swept: AtomicBool::new(false),
+            ended: AtomicBool::new(false),
+        }
+    }
+}
+
 // Tells when the lock of shard 1 is held for the publish.
 #[derive(Drop)]
 struct Telling {
@@ -93,11 +104,10 @@ fn publishes<J: Naming, P: Placing, G: Gate + Drop, H: Wait + Drop, R: Wait>(
     rt: &R,
     alloc: Global,
     hub: &Hub<J, P, G, H>,
-    mut pass: Pass<J>,
     flags: &Flags,
 ) -> bool {
     flags.is_armed.store(true, Ordering::SeqCst);
-    let posted = post(rt, alloc, hub, &mut pass, PUBLISH).is_ok();
+    let posted = post(rt, alloc, hub, &mut hub.pass(), PUBLISH).is_ok();
     flags.ended.store(true, Ordering::SeqCst);
     posted
 }
@@ -156,10 +166,10 @@ fn beside<
     G: Gate + Drop + Send + Sync,
     H: Wait + Drop + Send,
     R: Threads + Wait + Clock + Abort + Sync,
->(rt: &R, alloc: Global, hub: &Hub<J, P, G, H>, pass: Pass<J>, flags: &Flags, counter: &Counter) {
+>(rt: &R, alloc: Global, hub: &Hub<J, P, G, H>, flags: &Flags, counter: &Counter) {
     let (posted, (stood, told)) = join(
         rt,
-        || publishes(rt, alloc, hub, pass, flags),
+        || publishes(rt, alloc, hub, flags),
         || sweeps_and_lets_go(rt, hub, flags, counter),
     );
     same(rt, (posted, stood), (true, true), "the calls");
@@ -182,7 +192,6 @@ fn rings<
     rt: &R,
     alloc: Global,
     hub: &Hub<J, P, G, H>,
-    pass: Pass<J>,
     ticket: Ticket,
     task: &Solo,
     flags: &Flags,
@@ -194,7 +203,7 @@ fn rings<
     same(rt, counter.fill(), true, "a full counter");
     match task.sleep() {
         Some(asleep) => {
-            beside(rt, alloc, hub, pass, flags, counter);
+            beside(rt, alloc, hub, flags, counter);
             asleep.end();
             Ok(())
         }
@@ -225,10 +234,9 @@ fn held<
     flags: &Flags,
     counter: &Counter,
 ) -> Result<(), Fail> {
-    let mut pass = hub.pass();
-    let ticket = hold(rt, alloc, hub, &mut pass)?;
-    post(rt, alloc, hub, &mut pass, HANDSHAKE)?;
-    rings(rt, alloc, hub, pass, ticket, task, flags, counter)
+    let ticket = hold(rt, alloc, hub, &mut hub.pass())?;
+    post(rt, alloc, hub, &mut hub.pass(), HANDSHAKE)?;
+    rings(rt, alloc, hub, ticket, task, flags, counter)
 }
 
 fn free<J: Naming + Send + Sync, R: Threads + Wait + Clock + Abort + Sync>(
@@ -250,34 +258,35 @@ fn free<J: Naming + Send + Sync, R: Threads + Wait + Clock + Abort + Sync>(
     held(rt, alloc, &hub, task, flags, counter)
 }
 
-#[test]
-fn wakes_wait_for_no_shard(rt: HostRuntime) -> Result<(), Fail> {
-    let alloc = rt.alloc();
+fn frees<R: Threads + Wait + Clock + Abort + Sync>(
+    rt: &R,
+    alloc: Global,
+    task: &Solo,
+    flags: &Arc<Flags, Global>,
+    counter: &Counter,
+) -> Result<(), Fail> {
     let config = Config::new(2, 30_000, 0, 10_000).ok_or("no configuration")?;
     let placing = Arc::new(alloc, ByRemainder)?;
-    let flags = Arc::new(
-        alloc,
-        Flags {
-            is_armed: AtomicBool::new(false),
-            stands: AtomicBool::new(false),
-            swept: AtomicBool::new(false),
-            ended: AtomicBool::new(false),
-        },
-    )?;
     let gate = Telling {
-        flags: Arc::try_clone(&flags)?,
+        flags: Arc::try_clone(flags)?,
     };
-    let (counter, fd) = Counter::new().ok_or("no counter")?;
-    let task = Solo::new(&rt, Doorbell::from_event_fd(fd))?;
     free::<Brand, _>(
-        &rt,
+        rt,
         alloc,
         Opened::new(),
         config,
         placing,
         gate,
-        &task,
-        &flags,
-        &counter,
+        task,
+        flags,
+        counter,
     )
+}
+
+#[test]
+fn wakes_wait_for_no_shard(rt: HostRuntime) -> Result<(), Fail> {
+    let flags = Arc::new(rt.alloc(), Flags::new())?;
+    let (counter, fd) = Counter::new().ok_or("no counter")?;
+    let task = Solo::new(&rt, Doorbell::from_event_fd(fd))?;
+    frees(&rt, rt.alloc(), &task, &flags, &counter)
 }

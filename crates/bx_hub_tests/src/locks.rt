@@ -6,9 +6,9 @@ use crate::calls::{CONNECT, HANDSHAKE, post};
 use crate::same::same;
 use bx_advice::Config;
 use bx_entry::{ByRemainder, Placing};
-use bx_hub::{Gate, Hub, Pass};
+use bx_hub::{Gate, Hub};
 use bx_window::{Naming, Opened};
-use std::alloc::Global;
+use std::alloc::{AllocError, Global};
 use std::marker::Brand;
 use std::process::Abort;
 use std::sync::atomic::{AtomicBool, Ordering};
@@ -68,6 +68,14 @@ struct Holding<C: Clock + Drop> {
     flags: Arc<Flags<C>, Global>,
 }
 
+impl<C: Clock + Drop> Holding<C> {
+    fn of(flags: &Arc<Flags<C>, Global>) -> Result<Holding<C>, AllocError> {
+        Ok(Holding {
+            flags: Arc::try_clone(flags)?,
+        })
+    }
+}
+
 // Holds the tick behind the entries of shard 1, until the post has admission's lock. All that the tick does from then on is to look
 // where the shards stand, and to let the window go of what they have passed.
 impl<C: Clock + Drop> Gate for Holding<C> {
@@ -100,11 +108,10 @@ fn ticks<J: Naming, P: Placing, G: Gate + Drop, H: Wait + Drop, C: Clock + Drop,
     rt: &R,
     alloc: Global,
     hub: &Hub<J, P, G, H>,
-    mut pass: Pass<J>,
     flags: &Flags<C>,
 ) -> bool {
     flags.holds_tick.store(true, Ordering::SeqCst);
-    hub.tick(rt, alloc, &mut pass, 0).is_ok()
+    hub.tick(rt, alloc, &mut hub.pass(), 0).is_ok()
 }
 
 // A connect, which is held while it has admission's lock.
@@ -158,10 +165,10 @@ fn beside<
     H: Wait + Drop + Send,
     C: Clock + Drop + Sync,
     R: Threads + Wait + Abort + Sync,
->(rt: &R, alloc: Global, hub: &Hub<J, P, G, H>, pass: Pass<J>, flags: &Flags<C>) {
+>(rt: &R, alloc: Global, hub: &Hub<J, P, G, H>, flags: &Flags<C>) {
     let (ticked, (posted, swept)) = join(
         rt,
-        || ticks(rt, alloc, hub, pass, flags),
+        || ticks(rt, alloc, hub, flags),
         || posts_and_sweeps(rt, alloc, hub, flags),
     );
     same(rt, (ticked, posted, swept), (true, true, 0), "each call");
@@ -179,9 +186,8 @@ fn stands<
     C: Clock + Drop + Sync,
     R: Threads + Wait + Abort + Sync,
 >(rt: &R, alloc: Global, hub: &Hub<J, P, G, H>, flags: &Flags<C>) -> Result<(), Fail> {
-    let mut pass = hub.pass();
-    post(rt, alloc, hub, &mut pass, HANDSHAKE)?;
-    beside(rt, alloc, hub, pass, flags);
+    post(rt, alloc, hub, &mut hub.pass(), HANDSHAKE)?;
+    beside(rt, alloc, hub, flags);
     Ok(())
 }
 
@@ -206,19 +212,19 @@ fn ordered<
     stands(rt, alloc, &hub, flags)
 }
 
+fn holds<C: Clock + Drop + Send + Sync, R: Threads + Wait + Abort + Sync>(
+    rt: &R,
+    alloc: Global,
+    flags: &Arc<Flags<C>, Global>,
+) -> Result<(), Fail> {
+    let config = Config::new(2, 30_000, 0, 10_000).ok_or("no configuration")?;
+    let placing = Arc::new(alloc, Holding::of(flags)?)?;
+    let gate = Holding::of(flags)?;
+    ordered::<Brand, _, _>(rt, alloc, Opened::new(), config, placing, gate, flags)
+}
+
 #[test]
 fn a_tick_waits_without_a_shard(rt: HostRuntime) -> Result<(), Fail> {
-    let alloc = rt.alloc();
-    let config = Config::new(2, 30_000, 0, 10_000).ok_or("no configuration")?;
-    let flags = Arc::new(alloc, Flags::new(&rt))?;
-    let gate = Holding {
-        flags: Arc::try_clone(&flags)?,
-    };
-    let placing = Arc::new(
-        alloc,
-        Holding {
-            flags: Arc::try_clone(&flags)?,
-        },
-    )?;
-    ordered::<Brand, _, _>(&rt, alloc, Opened::new(), config, placing, gate, &flags)
+    let flags = Arc::new(rt.alloc(), Flags::new(&rt))?;
+    holds(&rt, rt.alloc(), &flags)
 }

@@ -1,5 +1,5 @@
 use Rattle.bx_entry.specs.Placings.{by_remainder}
-use Rattle.bx_hub_tests.proofs.locks.a_tick_waits_without_a_shard.Given as goal
+use Rattle.bx_hub_tests.proofs.locks.holds.Given as goal
 
 -- the book that was just opened, with its configuration and placing
 abbrev pub ghosts-ordered : goal.ghosts-ordered

@@ -1,5 +1,5 @@
 use Rattle.bx_entry.specs.Placings.{by_remainder}
-use Rattle.bx_hub_tests.proofs.bells.wakes_wait_for_no_shard.Given as goal
+use Rattle.bx_hub_tests.proofs.bells.frees.Given as goal
 
 -- the book that was just opened, with its configuration and placing
 abbrev pub ghosts-free : goal.ghosts-free
