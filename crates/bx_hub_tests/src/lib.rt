@@ -2,15 +2,21 @@
 #![tactic(auto)]
 
 #[cfg(test)]
+mod bells;
+#[cfg(test)]
 mod calls;
 #[cfg(test)]
 mod crowd;
 #[cfg(test)]
 mod gates;
 #[cfg(test)]
+mod locks;
+#[cfg(test)]
 mod moves;
 #[cfg(test)]
 mod pauses;
+#[cfg(test)]
+mod rounds;
 #[cfg(test)]
 mod same;
 #[cfg(test)]
