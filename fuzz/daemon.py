@@ -90,6 +90,8 @@ class Response:
 
     def items(self):
         """Returns the array that a response of JSON carries."""
+        if self.status != 200:
+            raise Wrong(f"status {self.status} in place of items: {self.body[:200]!r}")
         return json.loads(self.body)
 
 
