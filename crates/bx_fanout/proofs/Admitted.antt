@@ -2,7 +2,7 @@
 use Rattle.std.proofs.Common.{◌≡◌, ℕ, ◌+◌, ◌<◌, false, List, [], ◌∷◌, ◌++◌, length, map, filter, refl, sym, ap, subst, ◌∙◌, inl, inr, Option, Some, None, append-nil, add-zero, zero-add}
 use Rattle.std.specs.Prelude.{◌==◌}
 use Rattle.bx_entry.proofs.RequestLemmas.{length-listed}
-use Rattle.bx_entry.specs.Inputs.{ReadInput, Request, Tick, Unread, added_by, refusal_of}
+use Rattle.bx_entry.specs.Inputs.{ReadInput, Request, added_by, refusal_of}
 use Rattle.bx_entry.specs.Listing.{Listed, request}
 use Rattle.bx_entry.specs.Requests.{read_input}
 use Rattle.bx_entry.specs.Runs as runs

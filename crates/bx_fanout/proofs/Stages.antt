@@ -6,7 +6,7 @@ use Rattle.std.proofs.lemmas.List.{map-append}
 use Rattle.std.proofs.lemmas.List.Elements.{filter-append}
 use Rattle.bx_advice.specs.declared.config.Config.{Config}
 use Rattle.bx_entry.specs.Answers.{PlacedAnswer, answer, answer_in}
-use Rattle.bx_entry.specs.Inputs.{ReadInput, Request, Tick, Unread, refusal_of}
+use Rattle.bx_entry.specs.Inputs.{ReadInput, Request, refusal_of}
 use Rattle.bx_entry.specs.Listing.{Listed}
 use Rattle.bx_entry.specs.Registry.{Registry, registry}
 use Rattle.bx_entry.specs.Runs as runs

@@ -116,9 +116,8 @@ adds_some : (config : Config) (ls : List Line) (l : Line) → 0 < config.limits.
 adds_some config ls (Accepted callback input) room = record {
   more = whole_at (length (inputs_in ls)) (wholes config (inputs_in ls ++ input ∷ []));
   adds = outs_last config (inputs_in ls) input room;
-adds_some config ls _ room = record { more = []; adds = tt }
 }
-adds_some config ls (Resharded shards) room = record { more = []; adds = tt }
+adds_some config ls _ room = record { more = []; adds = tt }
 
 -- what further lines print stands behind
 record GoesOn (config : Config) (ls more : List Line) : Type 0 where
