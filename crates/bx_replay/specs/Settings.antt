@@ -1,8 +1,6 @@
 -- How a server is run, and which words say so.
 use Rattle.std.specs.Prelude.{ℕ, ◌&&◌, ◌^◌, nat_le, nat_lt, if◌then◌else◌, Bool, List, [], ◌∷◌, codes, Option, Some, None, option_and_then}
-use Rattle.bx_advice.specs.Limits.{standard_limits}
 use Rattle.bx_advice.specs.Options.{options_in}
-use Rattle.bx_advice.specs.declared.config.TheConstants.{MAX_EVENTS, MAX_SHARDS}
 use Rattle.bx_message.specs.Fields.{number_of}
 
 -- times are in milliseconds; `ride`: waiting events ride; `anonymous`: publishes of no session are accepted; `limit`: so many events may wait for each session
@@ -28,26 +26,21 @@ count_in limit digits = option_and_then (λ n. if nat_le 1 n && nat_le n limit t
 abbrev pub time_in : List ℕ → Option ℕ
 time_in digits = option_and_then (λ n. if nat_lt n (2 ^ 32) then Some n else None) (number_of digits)
 
--- how many events may wait: as many as the digits say, or as is standard where there are none
-abbrev pub limit_in : Option (List ℕ) → Option ℕ
-limit_in None = Some standard_limits.events
-limit_in (Some digits) = count_in MAX_EVENTS digits
-
--- what six words say, and a seventh where it is there
-abbrev pub settings_of : List ℕ → List ℕ → List ℕ → List ℕ → List ℕ → List ℕ → Option (List ℕ) → Option Settings
+-- what seven words say
+abbrev pub settings_of : List ℕ → List ℕ → List ℕ → List ℕ → List ℕ → List ℕ → List ℕ → Option Settings
 settings_of shards workers timeout interval max_interval options limit = do
-  s ← count_in MAX_SHARDS shards
+  s ← count_in 64 shards
   w ← count_in 16 workers
   t ← time_in timeout
   i ← time_in interval
   m ← time_in max_interval
   o ← options_in options
-  l ← limit_in limit
+  l ← count_in 65536 limit
   Some (record { shards = s; workers = w; timeout = t; interval = i; max_interval = m; ride = o.ride; anonymous = o.anonymous; limit = l })
 
 -- five, six or seven words say it, and no other number of words
 abbrev pub settings_in : List (List ℕ) → Option Settings
-settings_in (shards ∷ workers ∷ timeout ∷ interval ∷ max_interval ∷ []) = settings_of shards workers timeout interval max_interval (codes "-") None
-settings_in (shards ∷ workers ∷ timeout ∷ interval ∷ max_interval ∷ options ∷ []) = settings_of shards workers timeout interval max_interval options None
-settings_in (shards ∷ workers ∷ timeout ∷ interval ∷ max_interval ∷ options ∷ limit ∷ []) = settings_of shards workers timeout interval max_interval options (Some limit)
+settings_in (shards ∷ workers ∷ timeout ∷ interval ∷ max_interval ∷ []) = settings_of shards workers timeout interval max_interval (codes "-") (codes "1024")
+settings_in (shards ∷ workers ∷ timeout ∷ interval ∷ max_interval ∷ options ∷ []) = settings_of shards workers timeout interval max_interval options (codes "1024")
+settings_in (shards ∷ workers ∷ timeout ∷ interval ∷ max_interval ∷ options ∷ limit ∷ []) = settings_of shards workers timeout interval max_interval options limit
 settings_in words = None

@@ -1,12 +1,11 @@
 //! The arguments of the program.
 ghost use Rattle.std.specs.Prelude.{◌≡◌, ◌<◌, IfSome, Option, option_map, map, string_bytes};
-ghost use Rattle.std.specs.Option.{option_copied};
 ghost use Rattle.bx_advice.specs.Limits.{IsStandard};
 ghost use Rattle.bx_advice.specs.Options.{options_in};
 ghost use Rattle.bx_message.specs.Fields.{number_of};
-ghost use Rattle.bx_replay.specs.Settings.{count_in, limit_in, settings_in, settings_of, time_in};
+ghost use Rattle.bx_replay.specs.Settings.{count_in, settings_in, settings_of, time_in};
 
-use bx_advice::{Config, Options, STANDARD_EVENTS};
+use bx_advice::{Config, Options};
 use bx_message::number_of;
 use bx_workers::WorkerCount;
 
@@ -38,7 +37,7 @@ impl Arguments {
                 interval,
                 max_interval,
                 b"-",
-                None,
+                b"1024",
             ),
             [shards, workers, timeout, interval, max_interval, options] => Arguments::of_words(
                 shards,
@@ -47,7 +46,7 @@ impl Arguments {
                 interval,
                 max_interval,
                 options.as_bytes(),
-                None,
+                b"1024",
             ),
             [
                 shards,
@@ -64,7 +63,7 @@ impl Arguments {
                 interval,
                 max_interval,
                 options.as_bytes(),
-                Some(limit.as_bytes()),
+                limit.as_bytes(),
             ),
             _ => None,
         }
@@ -77,10 +76,10 @@ impl Arguments {
         interval: &String,
         max_interval: &String,
         options: &[u8],
-        limit: Option<&[u8]>,
+        limit: &[u8],
     ) -> Option<Arguments>
         ensures said { option_map run_by result ≡ settings_of (string_bytes shards.now) (string_bytes workers.now)
-            (string_bytes timeout.now) (string_bytes interval.now) (string_bytes max_interval.now) options.now (option_copied limit) }
+            (string_bytes timeout.now) (string_bytes interval.now) (string_bytes max_interval.now) options.now limit.now }
         ensures limits { IfSome result (λ arguments. HasStandardLimits arguments) }
     {
         let timeout = time_in(timeout.as_bytes())?;
@@ -95,7 +94,7 @@ impl Arguments {
 
 // The configuration with so many shards as these digits say.
 fn config_of(shards: &[u8], timeout: u32, interval: u32, max_interval: u32) -> Option<Config>
-    ensures shards { option_map (λ c. c.shards) result ≡ count_in MAX_SHARDS shards.now }
+    ensures shards { option_map (λ c. c.shards) result ≡ count_in 64 shards.now }
     ensures times { IfSome result (λ c.
         (c.timeout ≡ timeout) × (c.interval ≡ interval) × (c.max_interval ≡ max_interval)) }
     ensures limits { IfSome result (λ c. IsStandard c.limits) }
@@ -112,18 +111,15 @@ fn with_options(config: Config, word: &[u8]) -> Option<Config>
     Some(config.with(Options::read(word)?))
 }
 
-// The configuration with so many waiting events as these digits say, or as many as is standard.
-fn with_limit(config: Config, limit: Option<&[u8]>) -> Option<Config>
+// The configuration with so many waiting events as these digits say.
+fn with_limit(config: Config, limit: &[u8]) -> Option<Config>
     ensures said { result
-        ≡ option_map (λ n. record config { limits = record config.limits { events = n } }) (limit_in (option_copied limit)) }
+        ≡ option_map (λ n. record config { limits = record config.limits { events = n } }) (count_in 65536 limit.now) }
     ensures limits { IfSome result (λ c.
         (c.limits.patterns ≡ config.limits.patterns) × (c.limits.batch ≡ config.limits.batch)
         × (c.limits.sessions ≡ config.limits.sessions) × (c.limits.texts ≡ config.limits.texts)) }
 {
-    match limit {
-        Some(digits) => config.with_limit(time_in(digits)?),
-        None => config.with_limit(STANDARD_EVENTS as u32),
-    }
+    config.with_limit(time_in(limit)?)
 }
 
 // So many workers as these digits say.

@@ -4,14 +4,12 @@ use Rattle.std.specs.List.{fold}
 use Rattle.std.proofs.lemmas.List.{append-nil, map-append}
 use Rattle.bx_advice.specs.declared.config.Config.{Config}
 use Rattle.bx_entry.specs.Listing.{Listed, Tick}
-use Rattle.bx_entry.specs.Registry.{Judged, Registry, judge, found_at, entries_of, entries, NoSlot}
+use Rattle.bx_entry.specs.Registry.{Judged, Registry, judge, found_at, entries_of, entries, state_of, tick_verdict}
 use Rattle.bx_entry.specs.declared.entry.Entry.{Entry}
-use Rattle.bx_entry.specs.declared.entry.EntryKind.TheVariants as kinds
 use Rattle.bx_entry.specs.declared.senders.Senders.TheVariants.{NoneYet}
 use Rattle.bx_window.specs.declared.batch.Bundle.{Bundle}
 use Rattle.bx_window.specs.Places.{Continues}
 use Rattle.bx_ticks.specs.Ticks.{ticks, tick_at, tick_entries}
-use Rattle.std.specs.Prelude.{None}
 
 pub ticks_add : (m n : ℕ) → ticks m ++ ticks n ≡ ticks (m + n)
 ticks_add zero n = let e : 0 + n ≡ n = omega arith in rw e refl
@@ -44,7 +42,7 @@ idle : List Judged → Registry
 idle judged = record { clock = 0; sessions = []; senders = NoneYet; judged = judged }
 
 next_of : List Judged → Judged
-next_of judged = found_at (idle judged) 0 (kinds.Tick []) None None 0 NoSlot
+next_of judged = found_at (length judged) 0 (tick_verdict (state_of (idle judged)) 0)
 
 entries_from : (config : Config) (judged : List Judged) (n : ℕ) → entries_of (fold (judge config) (idle judged) (ticks n)) ≡ map entry_in judged ++ tick_entries (length judged) n
 unfolding idle next_of entry_in
