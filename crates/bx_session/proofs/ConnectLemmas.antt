@@ -1,5 +1,6 @@
 -- A connect in its parts: the hold that it ends, and what becomes of it once none is held.
-use Rattle.std.proofs.Common.{◌≡◌, ℕ, Option, Some, None, List, ◌++◌, map, take, drop, refl, sym, ap, ◌∙◌}
+use Rattle.std.proofs.Common.{◌≡◌, ℕ, Option, List, ◌++◌, map, take, drop, sym, ap, ◌∙◌, arith}
+use Rattle.std.proofs.lemmas.Grind.{common_steps}
 use Rattle.std.proofs.lemmas.List.{drop-map, take-map, map-append}
 use Rattle.bx_advice.specs.declared.config.Config.{Config}
 use Rattle.bx_advice.specs.declared.advice.Outcome.{Outcome}
@@ -8,7 +9,7 @@ use Rattle.bx_advice.specs.declared.error.Error.TheVariants.{SupersededConnect}
 use Rattle.bx_message.specs.declared.event.Event.{Event}
 use Rattle.bx_entry.specs.Answers.{events_of}
 use Rattle.bx_entry.specs.Keeping.{Kept, after, answers_of, kept, resumed}
-use Rattle.bx_entry.specs.Sessions.{Filed, Pending, Publication, Session, admitted, connected, released, released_from, unheld}
+use Rattle.bx_entry.specs.Sessions.{Filed, Pending, Publication, Session, admitted, connected, released, unheld}
 use Rattle.bx_entry.proofs.Settled.{admitted_s}
 use Rattle.bx_session.specs.declared.answered.Answered.{Answered}
 use Rattle.bx_session.specs.Views.{answered_of}
@@ -22,12 +23,8 @@ part_events done count queue given rest all part =
     ap (λ (es : List Event). take count (drop done es)) all ∙ ap (take count) (drop-map event_in done queue) ∙ take-map event_in count (drop done queue) ∙ ap events_of part
 
 -- where no connect is held any longer, what is kept is what a release leaves
-from_held : (config : Config) (place : ℕ) (outcome : Outcome) (k : Kept) (held : Option Pending) → k.held ≡ held → kept (released_from config place outcome (resumed k) held) ≡ after unheld k
-from_held config place outcome k None e = ap (λ (h : Option Pending). record k { held = h }) e
-from_held config place outcome k (Some p) e = refl
-
 pub released_unheld : (config : Config) (place : ℕ) (outcome : Outcome) (k : Kept) → after (released config place outcome) k ≡ after unheld k
-released_unheld config place outcome k = from_held config place outcome k k.held refl
+released_unheld config place outcome k = grind (arith, common_steps)
 
 module _ (config : Config) (p : Pending) (acked : Option ℕ) (k : Kept) where
   abbrev freed : Session

@@ -1,7 +1,8 @@
 -- A message that is not its request's only one is answered at once, and so is a rider.
-use Rattle.std.proofs.Common.{◌≡◌, ℕ, ◌<◌, max, Bool, true, false, cond, not, ◌&&◌, ◌||◌, is_some, Option, Some, None, List, [], ◌∷◌, ◌++◌, length, map, find, option_map, slice_get, ◌==◌, refl, sym, ap, ◌∙◌, subst, append_assoc, eq-eqb}
-use Rattle.std.proofs.lemmas.Bool.{cond_both, cond-true, cond-false, both_ways}
+use Rattle.std.proofs.Common.{◌≡◌, ℕ, ◌+◌, ◌<◌, max, Bool, true, false, cond, ◌&&◌, ◌||◌, is_some, Option, Some, None, List, [], ◌∷◌, ◌++◌, length, map, find, option_map, slice_get, ◌==◌, refl, sym, ap, ◌∙◌, subst, append_assoc, eq-eqb, arith}
+use Rattle.std.proofs.lemmas.Bool.{cond_both, cond-true, cond-false}
 use Rattle.std.proofs.lemmas.List.{map-append, length_push}
+use Rattle.std.proofs.lemmas.Grind.{common_steps}
 use Rattle.std.proofs.lemmas.List.Sums.{fold-append}
 use Rattle.bx_lists.proofs.Tests.{either}
 use Rattle.bx_advice.specs.declared.config.Config.{Config}
@@ -16,15 +17,16 @@ use Rattle.bx_message.specs.MessageKinds.{message_kind_of, is_connect, is_handsh
 use Rattle.bx_entry.specs.Listing.{Listed, Post, Posted, listed_from}
 use Rattle.bx_entry.specs.declared.entry.Entry.{Entry}
 use Rattle.bx_entry.specs.declared.entry.EntryKind.TheVariants.{Connect}
-use Rattle.bx_entry.specs.Registry.{Registry, Registered, Judged, Ready, Waiting, judge, judged_by, served, slot_for, slot_with, rider_for, is_rider, is_one, joined, may_ride, kind_for, named_by, refusal, hold_of, acked_by, registry, empty_registry, entries_of, unnamed, noted, state_of}
+use Rattle.bx_entry.specs.Registry.{refused, opened, sessionless, Registry, Registered, Judged, Ready, Waiting, judge, judged_by, served, slot_for, slot_with, rider_for, is_rider, may_ride, kind_for, named_by, refusal, hold_of, acked_by, registry, empty_registry, entries_of, noted, state_of}
 use Rattle.bx_entry.specs.declared.entry.Rider.{Rider}
 use Rattle.bx_entry.specs.declared.entry.EntryKind.{EntryKind}
-use Rattle.bx_entry.specs.Sessions.{Session, Publication, Pending, Filed, filing, answered, released, acknowledged, given, gives, holding, idle, answered_or_held, connected, step, session, unopened, is_live, ridden, ridden_by, ride_filing, step_by, rider_of}
+use Rattle.bx_entry.specs.Sessions.{Session, Publication, Pending, Filed, filing, answered, released, given, gives, idle, answered_or_held, connected, step, session, unopened, is_live, ridden, ridden_by, ride_filing, step_by, rider_of}
 use Rattle.bx_entry.specs.Answers.{PlacedAnswer, answer_of, filed_for, answer_by, answer_at, answer_in, answer}
 use Rattle.bx_entry.specs.Runs.{latest, numbers_from}
+use Rattle.bx_theory.proofs.Verdicts.{by_verdict}
 use Rattle.bx_theory.proofs.Lists.{answer_more, judged_length}
 use Rattle.bx_theory.proofs.Closings.{run_number}
-use Rattle.bx_theory.proofs.Counts.{ride_both}
+use Rattle.bx_theory.proofs.Counts.{freed, connected_by, ride_both}
 use Rattle.bx_theory.proofs.Stages.{step_by_next, live_reading}
 use Rattle.bx_theory.proofs.Senders.{sender_reads}
 use Rattle.bx_theory.proofs.Lives.{found_of}
@@ -48,21 +50,16 @@ filed_last place (g ∷ fs) f h =
 answered_there : (config : Config) (p : Pending) (place : ℕ) (publications : List Publication) (outcome : Outcome) (s : Session) → There (filed_for p.place (answered config p place publications outcome s).answers)
 answered_there config p place publications outcome s = filed_last p.place s.answers (filing config p place publications outcome s) refl
 
-idle_there : (config : Config) (p : Pending) (s : Session) → p.hold ≡ 0 → There (filed_for p.place (idle config p s).answers)
-idle_there config p s h =
-    cond_both (p.hold == 0) (answered config p p.place [] Connected s) (holding p s) (λ (u : Session). There (filed_for p.place u.answers))
-    (λ e. answered_there config p p.place [] Connected s) (λ e. absurd (both_ways (p.hold == 0) e (eq-eqb p.hold 0 h)))
-
 answered_or_held_there : (config : Config) (p : Pending) (s : Session) → p.hold ≡ 0 → There (filed_for p.place (answered_or_held config p s).answers)
 answered_or_held_there config p s h =
     cond_both (length (given config s) == 0) (idle config p s) (answered config p p.place (given config s) Connected (gives config s)) (λ (u : Session). There (filed_for p.place u.answers))
-    (λ e. idle_there config p s h) (λ e. answered_there config p p.place (given config s) Connected (gives config s))
+    (λ e. subst (λ (u : Session). There (filed_for p.place u.answers)) (let once : answered config p p.place [] Connected s ≡ idle config p s = grind (arith, common_steps) in once) (answered_there config p p.place [] Connected s))
+    (λ e. answered_there config p p.place (given config s) Connected (gives config s))
 
 connected_there : (config : Config) (p : Pending) (acked : Option ℕ) (s : Session) → p.hold ≡ 0 → There (filed_for p.place (connected config p acked s).answers)
 connected_there config p acked s h =
-    let t : Session = released config p.place (Failed SupersededConnect) s in
-    cond_both s.overflow (answered config p p.place [] (Failed QueueOverflow) t) (answered_or_held config p (acknowledged acked t)) (λ (u : Session). There (filed_for p.place u.answers))
-    (λ e. answered_there config p p.place [] (Failed QueueOverflow) t) (λ e. answered_or_held_there config p (acknowledged acked t) h)
+    connected_by config p acked s (λ (u : Session). There (filed_for p.place u.answers))
+    (λ e. answered_there config p p.place [] (Failed QueueOverflow) (released config p.place (Failed SupersededConnect) s)) (λ e. answered_or_held_there config p (freed config p acked s) h)
 
 -- its session answers it at its own entry
 step_there : (config : Config) (s : Session) (e : Entry) (number : ℕ) (client : List ℕ) (id : Option (List ℕ)) (acked : Option ℕ) → s.number ≡ number → e.kind ≡ Connect number client id acked 0 →
@@ -130,71 +127,51 @@ connect_there : (config : Config) (es : List Entry) (place moment number : ℕ) 
 connect_there config es place moment number client id acked true = session_there config es (entry_with place moment (Connect number client id acked 0) None) number client id acked refl
 connect_there config es place moment number client id acked false = session_there config es (entry_with place moment (Connect number client id acked 0) None) number client id acked refl
 
--- no disconnect is a rider
-leaves_unridden : (a b c d : Bool) → (a && (b && (c && (d && false)))) ≡ false
-leaves_unridden true true true true = refl
-leaves_unridden true true true false = refl
-leaves_unridden true true false d = refl
-leaves_unridden true false c d = refl
-leaves_unridden false b c d = refl
-
 served_slot : (config : Config) (es : List Entry) (place moment : ℕ) (p : Posted) (c : MessageKind) (s : Registered) (b : Bool) → (may_ride c ≡ false → b ≡ false) → is_live (session config s.number es).stage ≡ true →
     There (answer_by config (es ++ entry_with place moment (kind_for c p s 0) (rider_for b s.number (slot_for config c p s)) ∷ []) place (slot_with (rider_for b s.number (slot_for config c p s)) (slot_for config c p s)))
 served_slot config es place moment p MessageKind.Connect s b still live = connect_there config es place moment s.number s.client p.message.id (acked_by p.message.ack) b
-served_slot config es place moment p MessageKind.Subscribe s b still live = ready_there config es place moment s.number _ _ b (λ h rider. (refl, (step_by_next config place moment (session config s.number es) (kind_for MessageKind.Subscribe p s 0)).stage)) live
-served_slot config es place moment p MessageKind.Unsubscribe s b still live = ready_there config es place moment s.number _ _ b (λ h rider. (refl, (step_by_next config place moment (session config s.number es) (kind_for MessageKind.Unsubscribe p s 0)).stage)) live
-served_slot config es place moment p MessageKind.Publish s b still live = ready_there config es place moment s.number _ _ b (λ h rider. (refl, (step_by_next config place moment (session config s.number es) (kind_for MessageKind.Publish p s 0)).stage)) live
-served_slot config es place moment p _ s b still live = ready_there config es place moment s.number _ _ b (λ h rider. absurd (both_ways b (still refl) h)) live
+served_slot config es place moment p c s b still live = ready_there config es place moment s.number _ _ b (λ h rider. grind (arith, common_steps)) live
 
 no_waiting : {A : Type 0} (b : Bool) (n m : ℕ) (rider : Rider) → rider_for b n (Waiting m) ≡ Some rider → A
-no_waiting true n m rider e = cc
-no_waiting false n m rider e = cc
+no_waiting b n m rider e = absurd (let no : ⊥ = grind (arith, common_steps) in no)
 
 -- a rider is, whether or not it is sole
 rider_slot : (config : Config) (es : List Entry) (place moment : ℕ) (p : Posted) (c : MessageKind) (s : Registered) (hold : ℕ) (b : Bool) → (may_ride c ≡ false → b ≡ false) → is_live (session config s.number es).stage ≡ true →
     (rider : Rider) → rider_for b s.number (slot_for config c p s) ≡ Some rider →
     There (answer_by config (es ++ entry_with place moment (kind_for c p s hold) (rider_for b s.number (slot_for config c p s)) ∷ []) place (slot_with (rider_for b s.number (slot_for config c p s)) (slot_for config c p s)))
-rider_slot config es place moment p MessageKind.Handshake s hold b still live rider e = served_slot config es place moment p MessageKind.Handshake s b still live
 rider_slot config es place moment p MessageKind.Connect s hold b still live rider e = no_waiting b s.number s.number rider e
-rider_slot config es place moment p MessageKind.Subscribe s hold b still live rider e = served_slot config es place moment p MessageKind.Subscribe s b still live
-rider_slot config es place moment p MessageKind.Unsubscribe s hold b still live rider e = served_slot config es place moment p MessageKind.Unsubscribe s b still live
-rider_slot config es place moment p MessageKind.Disconnect s hold b still live rider e = served_slot config es place moment p MessageKind.Disconnect s b still live
-rider_slot config es place moment p MessageKind.Publish s hold b still live rider e = served_slot config es place moment p MessageKind.Publish s b still live
-rider_slot config es place moment p MessageKind.UnknownMeta s hold b still live rider e = served_slot config es place moment p MessageKind.UnknownMeta s b still live
+rider_slot config es place moment p c s hold b still live rider e = served_slot config es place moment p c s b still live
 
 may_not : (config : Config) (r : Registry) (p : Posted) (c : MessageKind) (s : Registered) → may_ride c ≡ false → is_rider config r.senders c p s ≡ false
-may_not config r p c s h = ap (λ (b : Bool). config.ride && (p.last && (not s.ack && (is_one (joined r.senders s.number) && b)))) h ∙ leaves_unridden config.ride p.last (not s.ack) (is_one (joined r.senders s.number))
+may_not config r p c s h = grind (arith, common_steps)
+
+-- an accepted message that is answered among the entries with its own is answered at its place
+placed_there : (config : Config) (r : Registry) (moment : ℕ) (p : Posted) (c : MessageKind) (s : Registered) (hold : ℕ) →
+    There (answer_by config (entries_of r ++ (found_of config r moment p c s hold).entry ∷ []) (length r.judged) (found_of config r moment p c s hold).slot) →
+    There (answer_in config (noted r moment (served config (state_of r) moment p c s hold)) (length r.judged))
+placed_there config r moment p c s hold a =
+    let j : Judged = found_of config r moment p c s hold in
+    last_there config r (noted r moment (served config (state_of r) moment p c s hold)) (found_of config r moment p c s hold) refl
+    (subst (λ (es : List Entry). There (answer_by config es (length r.judged) (found_of config r moment p c s hold).slot)) (sym (map-append (λ (i : Judged). i.entry) r.judged (j ∷ []))) a)
 
 pub rider_served : (config : Config) (r : Registry) (moment : ℕ) (p : Posted) (c : MessageKind) (s : Registered) (hold : ℕ) → is_live (session config s.number (entries_of r)).stage ≡ true →
     (rider : Rider) → (found_of config r moment p c s hold).entry.rides ≡ Some rider → There (answer_in config (noted r moment (served config (state_of r) moment p c s hold)) (length r.judged))
 rider_served config r moment p c s hold live rider e =
-    let j : Judged = found_of config r moment p c s hold in
-    let es : entries_of (noted r moment (served config (state_of r) moment p c s hold)) ≡ entries_of r ++ (found_of config r moment p c s hold).entry ∷ [] = map-append (λ (j : Judged). j.entry) r.judged (found_of config r moment p c s hold ∷ []) in
-    last_there config r (noted r moment (served config (state_of r) moment p c s hold)) (found_of config r moment p c s hold) refl
-    (subst (λ (xs : List Entry). There (answer_by config xs (length r.judged) (found_of config r moment p c s hold).slot)) (sym es)
-    (rider_slot config (entries_of r) (length r.judged) moment p c s hold (is_rider config r.senders c p s) (may_not config r p c s) live rider e))
-
-served_there : (config : Config) (r : Registry) (moment : ℕ) (p : Posted) (c : MessageKind) (s : Registered) → is_live (session config s.number (entries_of r)).stage ≡ true →
-    There (answer_by config (entries_of (noted r moment (served config (state_of r) moment p c s 0))) (length r.judged) (found_of config r moment p c s 0).slot)
-served_there config r moment p c s live =
-    let es : entries_of (noted r moment (served config (state_of r) moment p c s 0)) ≡ entries_of r ++ (found_of config r moment p c s 0).entry ∷ [] = map-append (λ (j : Judged). j.entry) r.judged (found_of config r moment p c s 0 ∷ []) in
-    subst (λ (xs : List Entry). There (answer_by config xs (length r.judged) (found_of config r moment p c s 0).slot)) (sym es)
-    (served_slot config (entries_of r) (length r.judged) moment p c s (is_rider config r.senders c p s) (may_not config r p c s) live)
+    placed_there config r moment p c s hold (rider_slot config (entries_of r) (length r.judged) moment p c s hold (is_rider config r.senders c p s) (may_not config r p c s) live rider e)
 
 accepted_there : (config : Config) (r : Registry) (moment : ℕ) (p : Posted) (s : Registered) (hold : ℕ) → hold ≡ 0 → is_live (session config s.number (entries_of r)).stage ≡ true → There (answer_in config (noted r moment (served config (state_of r) moment p (message_kind_of p.message.channel) s hold)) (length r.judged))
 accepted_there config r moment p s hold h live =
     let c : MessageKind = message_kind_of p.message.channel in
     subst (λ (n : ℕ). There (answer_in config (noted r moment (served config (state_of r) moment p (message_kind_of p.message.channel) s n)) (length r.judged))) (sym h)
-    (last_there config r (noted r moment (served config (state_of r) moment p c s 0)) _ refl (served_there config r moment p c s live))
-
-unnamed_there : (config : Config) (r : Registry) (moment : ℕ) (p : Posted) (b : Bool) → There (answer_in config (noted r moment (unnamed config (state_of r) moment p b)) (length r.judged))
-unnamed_there config r moment p true = last_there config r (noted r moment (unnamed config (state_of r) moment p true)) _ refl (record { answer = _; is = refl })
-unnamed_there config r moment p false = last_there config r (noted r moment (unnamed config (state_of r) moment p false)) _ refl (record { answer = _; is = refl })
+    (placed_there config r moment p c s 0 (served_slot config (entries_of r) (length r.judged) moment p c s (is_rider config r.senders c p s) (may_not config r p c s) live))
 
 judged_by_there : (config : Config) (r : Registry) (moment : ℕ) (p : Posted) (sender : Option Registered) (error : Option Error) → p.sole ≡ false → ((s : Registered) → sender ≡ Some s → is_live (session config s.number (entries_of r)).stage ≡ true) → There (answer_in config (noted r moment (judged_by config (state_of r) moment p sender error)) (length r.judged))
-judged_by_there config r moment p sender (Some error) h live = last_there config r (noted r moment (judged_by config (state_of r) moment p sender (Some error))) _ refl (record { answer = _; is = refl })
-judged_by_there config r moment p None None h live = unnamed_there config r moment p (is_handshake p.message)
-judged_by_there config r moment p (Some s) None h live = accepted_there config r moment p s (hold_of config p) (cond-false (p.sole && is_connect p.message) _ 0 (ap (λ (b : Bool). b && is_connect p.message) h)) (live s refl)
+judged_by_there config r moment p sender error h live =
+    by_verdict (λ v. There (answer_in config (noted r moment v) (length r.judged))) config (state_of r) moment p sender error
+    (λ e. last_there config r (noted r moment (refused config (state_of r) p e sender)) _ refl (record { answer = _; is = refl }))
+    (last_there config r (noted r moment (opened config (state_of r) moment p (length r.sessions + 1))) _ refl (record { answer = _; is = refl }))
+    (last_there config r (noted r moment (sessionless config (state_of r) p (message_kind_of p.message.channel))) _ refl (record { answer = _; is = refl }))
+    (λ s e. accepted_there config r moment p s (hold_of config p) (cond-false (p.sole && is_connect p.message) _ 0 (ap (λ (b : Bool). b && is_connect p.message) h)) (live s e))
 
 -- a message that is not sole is answered at its own place
 message_there : (config : Config) (xs : List Listed) (p : Posted) → p.sole ≡ false → There (answer config (xs ++ Post p ∷ []) (length xs))

@@ -9,10 +9,10 @@ use Rattle.bx_entry.specs.Sessions.{Session, step_by, step, session, unopened, r
 use Rattle.bx_theory.specs.Laws.{DoneNeverFalls}
 use Rattle.bx_theory.proofs.Counts.{ride_both}
 
-done_by : (config : Config) (place moment : ℕ) (s : Session) (k : EntryKind) → s.done ≤ (step_by config place moment s k).done
+pub done_by : (config : Config) (place moment : ℕ) (s : Session) (k : EntryKind) → s.done ≤ (step_by config place moment s k).done
 done_by config place moment s k = grind (arith, common_steps)
 
-done_step : (config : Config) (s : Session) (e : Entry) → s.done ≤ (step config s e).done
+pub done_step : (config : Config) (s : Session) (e : Entry) → s.done ≤ (step config s e).done
 done_step config s e =
     let u : Session = step_by config e.place e.moment s e.kind in
     ride_both config e.place u (rider_of e.kind e.rides) (λ (v : Session). s.done ≤ v.done) (done_by config e.place e.moment s e.kind)

@@ -1,78 +1,42 @@
 -- What a session gains by an entry: the event of a publish that it gets, and nothing else.
-use Rattle.std.proofs.Common.{◌≡◌, ℕ, ◌+◌, Bool, true, false, cond, not, ◌&&◌, ◌||◌, List, [], ◌∷◌, ◌++◌, fold, ◌==◌, refl, sym, ap, ◌∙◌, subst, append-nil, append_assoc, ltb-true, lt-ltb, filter_map}
-use Rattle.std.proofs.lemmas.Bool.{cond_both, cond-true, cond-false, and_parts, not-true}
+use Rattle.std.proofs.Common.{◌≡◌, ℕ, ◌+◌, ◌<◌, Bool, true, false, cond, not, ◌&&◌, ◌||◌, List, [], ◌∷◌, ◌++◌, fold, refl, sym, ap, ◌∙◌, subst, append-nil, append_assoc, filter_map, arith}
+use Rattle.std.proofs.lemmas.Bool.{cond_both, cond-true, and_parts}
 use Rattle.std.proofs.lemmas.List.Sums.{fold-append}
-use Rattle.std.specs.List.{list_any}
+use Rattle.std.proofs.lemmas.Grind.{common_steps}
+use Rattle.std.proofs.ByRecursion.{All-append, All-push, All-weaker}
 use Rattle.bx_lists.proofs.Tests.{either}
 use Rattle.bx_names.specs.Globs.{Glob, same_glob, matches, any_matches}
 use Rattle.bx_names.specs.Equality.{same_glob-decides}
 use Rattle.bx_names.specs.Segments.{segments}
 use Rattle.bx_names.specs.Kinds.{is_broadcast}
 use Rattle.bx_advice.specs.declared.config.Config.{Config}
-use Rattle.bx_advice.specs.declared.advice.Outcome.TheVariants.{Disconnected}
 use Rattle.bx_message.specs.declared.event.Event.{Event}
 use Rattle.bx_entry.specs.declared.entry.Entry.{Entry}
 use Rattle.bx_entry.specs.declared.entry.EntryKind.{EntryKind}
-use Rattle.bx_entry.specs.declared.entry.EntryKind.TheVariants.{Connect, Subscribe, Unsubscribe, Publish, Disconnect, Refused, Tick}
-use Rattle.bx_entry.specs.declared.entry.EntryKind.TheVariants as entries
+use Rattle.bx_entry.specs.declared.entry.EntryKind.TheVariants.{Publish}
 use Rattle.bx_names.specs.InForce.{in_force}
-use Rattle.bx_entry.specs.Sessions.{Session, Publication, Pending, Stage, Unopened, connected, subscribed, unsubscribed, with_event, delivered, overflowed, is_live, is_hit, has_room, pending_count, published, expired, ended, closed_by, disconnected, begun, step_by, step, unopened, session, rider_of}
+use Rattle.bx_entry.specs.Sessions.{Session, Publication, is_live, is_hit, has_room, pending_count, step_by, step, unopened, session, rider_of}
 use Rattle.bx_theory.specs.Readings.{mention_by, last_of}
 use Rattle.bx_theory.specs.Laws.{EachOf, PlacesFrom}
 use Rattle.bx_theory.specs.Events.{IsEvent, GetsPublish, Rising, EventsWerePublished, PublishesAreEvents, EventsRise}
-use Rattle.bx_theory.proofs.Moves.{LaterAt}
-use Rattle.bx_theory.proofs.Counts.{subscribed_by}
-use Rattle.bx_theory.proofs.Keeps.{connected_k, delivered_to_k, released_from_k, expired_from_k, ride_k, overflow_reading}
-use Rattle.bx_theory.proofs.Rising.{RisingBelow, rising_later}
+use Rattle.bx_theory.proofs.Keeps.{ride_k, overflow_reading}
 use Rattle.bx_theory.proofs.Stages.{live_reading}
 use Rattle.bx_theory.proofs.Forces.{in_force_reading}
 
 -- ---- one entry
 
-pub gains_by : Config → Session → ℕ → EntryKind → List Publication
+gains_by : Config → Session → ℕ → EntryKind → List Publication
 gains_by config s place (Publish e) = cond (is_hit s e && has_room config s) (record { place = place; event = e } ∷ []) []
 gains_by config s place _ = []
 
-gains : Config → Session → Entry → List Publication
+pub gains : Config → Session → Entry → List Publication
 gains config s e = gains_by config s e.place e.kind
-
--- where it is changed at most, it keeps its events
-kept_events : (b : Bool) (s t : Session) → t.events ≡ s.events → (cond b t s).events ≡ s.events ++ []
-kept_events b s t e = cond_both b t s (λ (u : Session). u.events ≡ s.events) (λ h. e) (λ h. refl) ∙ sym (append-nil s.events)
-
-begun_events : (ack : Bool) (s : Session) (stage : Stage) → (begun ack s stage).events ≡ s.events
-begun_events ack s Unopened = refl
-begun_events ack s _ = refl
-
-closed_by_events : (numbers : List ℕ) (s : Session) → (closed_by numbers s).events ≡ s.events
-closed_by_events numbers s = cond_both (list_any (λ n. n == s.number) numbers) (ended s) s (λ (u : Session). u.events ≡ s.events) (λ h. refl) (λ h. refl)
-
-published_events : (config : Config) (e : Publication) (s : Session) → (published config e s).events ≡ s.events ++ cond (is_hit s e.event && has_room config s) (e ∷ []) []
-published_events config e s =
-    let both : Bool → Bool → List Publication = λ b c. s.events ++ cond (b && c) (e ∷ []) [] in
-    either (is_hit s e.event) ((published config e s).events ≡ s.events ++ cond (is_hit s e.event && has_room config s) (e ∷ []) [])
-    (λ h. either (has_room config s) ((published config e s).events ≡ s.events ++ cond (is_hit s e.event && has_room config s) (e ∷ []) [])
-    (λ g. ap (λ (t : Session). t.events) (cond-true (is_hit s e.event) (cond (has_room config s) (delivered config e s) (overflowed s)) s h ∙ cond-true (has_room config s) (delivered config e s) (overflowed s) g)
-    ∙ (delivered_to_k config e (with_event e s) s.held).events ∙ sym (ap (λ (b : Bool). both b (has_room config s)) h ∙ ap (λ (b : Bool). both true b) g))
-    (λ g. ap (λ (t : Session). t.events) (cond-true (is_hit s e.event) (cond (has_room config s) (delivered config e s) (overflowed s)) s h ∙ cond-false (has_room config s) (delivered config e s) (overflowed s) g)
-    ∙ sym (append-nil s.events) ∙ sym (ap (λ (b : Bool). both b (has_room config s)) h ∙ ap (λ (b : Bool). both true b) g)))
-    (λ h. ap (λ (t : Session). t.events) (cond-false (is_hit s e.event) (cond (has_room config s) (delivered config e s) (overflowed s)) s h)
-    ∙ sym (append-nil s.events) ∙ sym (ap (λ (b : Bool). both b (has_room config s)) h))
 
 step_by_gains : (config : Config) (place moment : ℕ) (s : Session) (k : EntryKind) → (step_by config place moment s k).events ≡ s.events ++ gains_by config s place k
 unfolding gains_by
-step_by_gains config place moment s (entries.Opened n ack) = kept_events (n == s.number) s (begun ack s s.stage) (begun_events ack s s.stage)
-step_by_gains config place moment s (Connect n client id acked hold) =
-    let p : Pending = record { place = place; client = client; id = id; moment = moment; hold = hold } in
-    kept_events (n == s.number) s (connected config p acked s) (connected_k config p acked s).events
-step_by_gains config place moment s (Subscribe n ps) = kept_events (n == s.number) s (subscribed config ps s) (subscribed_by config ps s (λ (u : Session). u.events ≡ s.events) refl refl refl)
-step_by_gains config place moment s (Unsubscribe n ps) = kept_events (n == s.number) s (unsubscribed ps s) refl
-step_by_gains config place moment s (Publish e) = published_events config (record { place = place; event = e }) s
-step_by_gains config place moment s (Disconnect n) = kept_events (n == s.number) s (disconnected config place s) (released_from_k config place Disconnected s s.held).events
-step_by_gains config place moment s Refused = sym (append-nil s.events)
-step_by_gains config place moment s (Tick numbers) = closed_by_events numbers (expired config place moment s) ∙ (expired_from_k config place moment s s.held).events ∙ sym (append-nil s.events)
+step_by_gains config place moment s k = grind (arith, common_steps)
 
-step_gains : (config : Config) (s : Session) (e : Entry) → (step config s e).events ≡ s.events ++ gains config s e
+pub step_gains : (config : Config) (s : Session) (e : Entry) → (step config s e).events ≡ s.events ++ gains config s e
 unfolding gains
 step_gains config s e = (ride_k config e.place (step_by config e.place e.moment s e.kind) (rider_of e.kind e.rides)).events ∙ step_by_gains config e.place e.moment s e.kind
 
@@ -89,6 +53,29 @@ run_more config s (e ∷ es) =
     record { later = gains config s e ++ m.later; events = m.events ∙ ap (λ (ps : List Publication). ps ++ m.later) (step_gains config s e) ∙ append_assoc s.events (gains config s e) m.later }
 
 -- ---- places
+
+-- at most one event, of this place
+abbrev LaterAt : ℕ → List Publication → Type 0
+LaterAt place [] = Unit {0}
+LaterAt place (e ∷ []) = e.place ≡ place
+LaterAt place (e ∷ f ∷ fs) = ⊥
+
+-- rising, and all below a place
+record RisingBelow (n : ℕ) (events : List Publication) : Type 0 where
+  rising : Rising events
+  below : EachOf (λ p. p.place < n) events
+
+rising_push : (ps : List Publication) (q : Publication) → Rising ps → EachOf (λ p. p.place < q.place) ps → Rising (ps ++ q ∷ [])
+rising_push [] q r d = (tt, tt)
+rising_push (p ∷ ps) q r d = (All-push (λ x. p.place < x.place) ps q r.0 d.0, rising_push ps q r.1 d.1)
+
+rising_later : (n : ℕ) (events later : List Publication) → LaterAt n later → RisingBelow n events → RisingBelow (n + 1) (events ++ later)
+rising_later n events [] l r = subst (RisingBelow (n + 1)) (sym (append-nil events)) (record { rising = r.rising; below = All-weaker (λ p. p.place < n) (λ p. p.place < n + 1) (λ p h. omega (arith, h)) events r.below })
+rising_later n events (e ∷ []) l r = record {
+  rising = rising_push events e r.rising (All-weaker (λ p. p.place < n) (λ p. p.place < e.place) (λ p h. omega (arith, h, l)) events r.below);
+  below = All-push (λ p. p.place < n + 1) events e (All-weaker (λ p. p.place < n) (λ p. p.place < n + 1) (λ p h. omega (arith, h)) events r.below) (omega (arith, l));
+}
+rising_later n events (e ∷ f ∷ fs) l r = absurd l
 
 gains_later : (config : Config) (s : Session) (place : ℕ) (k : EntryKind) → LaterAt place (gains_by config s place k)
 unfolding gains_by
@@ -119,71 +106,63 @@ matching_from : (ps : List Glob) (name : List (List ℕ)) → any_matches ps nam
 matching_from [] name h = cc
 matching_from (p ∷ ps) name h = either (matches p name) (Matching (p ∷ ps) name)
     (λ g. record { pattern = p; force = ap (λ b. b || in_force ps p) ((same_glob-decides p p).1 refl); matching = g })
-    (λ g. let m = matching_from ps name (sym (ap (λ b. b || any_matches ps name) g) ∙ h) in
-    record { pattern = m.pattern; force = later (same_glob m.pattern p) (in_force ps m.pattern) m.force; matching = m.matching })
-  where
-    later : (a b : Bool) → b ≡ true → (a || b) ≡ true
-    later true b e = refl
-    later false b e = e
+    (λ g. let m : Matching ps name = matching_from ps name (sym (ap (λ b. b || any_matches ps name) g) ∙ h) in record { pattern = m.pattern; force = grind (arith, common_steps); matching = m.matching })
 
 matching_any : (ps : List Glob) (name : List (List ℕ)) (p : Glob) → in_force ps p ≡ true → matches p name ≡ true → any_matches ps name ≡ true
 matching_any [] name p f m = f
 matching_any (q ∷ ps) name p f m = either (same_glob p q) (any_matches (q ∷ ps) name ≡ true)
     (λ g. ap (λ b. b || any_matches ps name) (sym (ap (λ (x : Glob). matches x name) ((same_glob-decides p q).0 g)) ∙ m))
-    (λ g. later (matches q name) (any_matches ps name) (matching_any ps name p (sym (ap (λ b. b || in_force ps p) g) ∙ f) m))
-  where
-    later : (a b : Bool) → b ≡ true → (a || b) ≡ true
-    later true b e = refl
-    later false b e = e
+    (λ g. let rest : in_force ps p ≡ true → any_matches ps name ≡ true = λ k. matching_any ps name p k m in grind (arith, common_steps))
+
+-- what makes an event one of the session
+record Hit (config : Config) (s : Session) (e : Event) : Type 0 where
+  live : is_live s.stage ≡ true
+  within : s.overflow ≡ false
+  broadcast : is_broadcast e.channel ≡ true
+  matched : any_matches s.patterns (segments e.channel) ≡ true
+  room : pending_count s < config.limits.events
+
+hit : (config : Config) (s : Session) (e : Event) → (is_hit s e && has_room config s) ≡ true → Hit config s e
+hit config s e h = record {
+  live = grind (arith, common_steps);
+  within = grind (arith, common_steps);
+  broadcast = grind (arith, common_steps);
+  matched = (and_parts (is_live s.stage && not s.overflow && is_broadcast e.channel) (any_matches s.patterns (segments e.channel)) (and_parts (is_hit s e) (has_room config s) h).0).1;
+  room = grind (arith, common_steps);
+}
+
+is_so : (config : Config) (s : Session) (e : Event) → Hit config s e → (is_hit s e && has_room config s) ≡ true
+is_so config s e h = grind (arith, common_steps)
 
 hit_reads : (config : Config) (number : ℕ) (before : List Entry) (e : Event) → (is_hit (session config number before) e && has_room config (session config number before)) ≡ true → IsEvent config number before e
 hit_reads config number before e h =
     let s : Session = session config number before in
-    let a = and_parts (is_hit (session config number before) e) (has_room config (session config number before)) h in
-    let hit = (parts_of (is_live s.stage) (not s.overflow) (is_broadcast e.channel) (any_matches s.patterns (segments e.channel)) a.0) in
-    let m : Matching s.patterns (segments e.channel) = matching_from s.patterns (segments e.channel) hit.3 in
+    let x : Hit config (session config number before) e = hit config (session config number before) e h in
+    let m : Matching s.patterns (segments e.channel) = matching_from s.patterns (segments e.channel) x.matched in
     record {
-      broadcast = hit.2;
-      live = sym (live_reading config number before) ∙ hit.0;
-      within = sym (overflow_reading config (unopened number) before) ∙ not-true s.overflow hit.1;
+      broadcast = x.broadcast;
+      live = sym (live_reading config number before) ∙ x.live;
+      within = sym (overflow_reading config (unopened number) before) ∙ x.within;
       pattern = m.pattern;
       in_force = (and_parts (not s.overflow) (last_of false (filter_map (λ (x : Entry). mention_by number m.pattern x.kind) before)) (sym (in_force_reading config number before m.pattern) ∙ m.force)).1;
       matching = m.matching;
-      room = ltb-true (pending_count (session config number before)) config.limits.events a.1;
+      room = x.room;
     }
-  where
-    parts_of : (a b c d : Bool) → (a && b && c && d) ≡ true → (a ≡ true) × (b ≡ true) × (c ≡ true) × (d ≡ true)
-    parts_of true true true d h = (refl, refl, refl, h)
-    parts_of true true false d h = cc
-    parts_of true false c d h = cc
-    parts_of false b c d h = cc
 
 reads_hit : (config : Config) (number : ℕ) (before : List Entry) (e : Event) → IsEvent config number before e → (is_hit (session config number before) e && has_room config (session config number before)) ≡ true
 reads_hit config number before e i =
     let s : Session = session config number before in
-    all_true (is_live s.stage) s.overflow (is_broadcast e.channel) (any_matches s.patterns (segments e.channel)) (has_room config s)
-    (live_reading config number before ∙ i.live)
-    (overflow_reading config (unopened number) before ∙ i.within)
-    i.broadcast
-    (matching_any s.patterns (segments e.channel) i.pattern
-    (in_force_reading config number before i.pattern
-    ∙ ap (λ (o : Bool). not o && last_of false (filter_map (λ (x : Entry). mention_by number i.pattern x.kind) before)) (overflow_reading config (unopened number) before ∙ i.within)
-    ∙ i.in_force) i.matching)
-    (lt-ltb (pending_count (session config number before)) config.limits.events i.room)
-  where
-    all_true : (a o c d r : Bool) → a ≡ true → o ≡ false → c ≡ true → d ≡ true → r ≡ true → ((a && not o && c && d) && r) ≡ true
-    all_true true false true true true ea eo ec ed er = refl
-    all_true true false true true false ea eo ec ed er = cc
-    all_true true false true false r ea eo ec ed er = cc
-    all_true true false false d r ea eo ec ed er = cc
-    all_true true true c d r ea eo ec ed er = cc
-    all_true false o c d r ea eo ec ed er = cc
+    let within : s.overflow ≡ false = overflow_reading config (unopened number) before ∙ i.within in
+    is_so config s e (record {
+      live = live_reading config number before ∙ i.live;
+      within = within;
+      broadcast = i.broadcast;
+      matched = matching_any s.patterns (segments e.channel) i.pattern
+          (in_force_reading config number before i.pattern ∙ ap (λ (o : Bool). not o && last_of false (filter_map (λ (x : Entry). mention_by number i.pattern x.kind) before)) within ∙ i.in_force) i.matching;
+      room = i.room;
+    })
 
 -- ---- each event is such a publish
-
-each_append : (P : Publication → Type 0) (ps qs : List Publication) → EachOf P ps → EachOf P qs → EachOf P (ps ++ qs)
-each_append P [] qs d e = e
-each_append P (p ∷ ps) qs d e = (d.0, each_append P ps qs d.1 e)
 
 gains_gets : (config : Config) (number : ℕ) (before : List Entry) (e : Entry) (behind : List Entry) (k : EntryKind) → e.kind ≡ k →
     EachOf (GetsPublish config number (before ++ e ∷ behind)) (gains_by config (session config number before) e.place k)
@@ -205,7 +184,7 @@ gets_run config number before (e ∷ es) d =
     let next : session config number (before ++ e ∷ []) ≡ step config s e = fold-append (step config) (unopened number) before (e ∷ []) in
     let here : EachOf (GetsPublish config number (before ++ e ∷ es)) (session config number (before ++ e ∷ [])).events =
     subst (EachOf (GetsPublish config number (before ++ e ∷ es))) (sym (ap (λ (t : Session). t.events) next ∙ step_gains config s e))
-    (each_append (GetsPublish config number (before ++ e ∷ es)) s.events (gains config s e) d (gains_gets config number before e es e.kind refl)) in
+    (All-append (GetsPublish config number (before ++ e ∷ es)) s.events (gains config s e) d (gains_gets config number before e es e.kind refl)) in
     subst (λ (xs : List Entry). EachOf (GetsPublish config number xs) (session config number xs).events) whole
     (gets_run config number (before ++ e ∷ []) es (subst (λ (xs : List Entry). EachOf (GetsPublish config number xs) (session config number (before ++ e ∷ [])).events) (sym whole) here))
 

@@ -1,9 +1,9 @@
 -- Riders, where they are.
-use Rattle.std.proofs.Common.{◌≡◌, ℕ, ◌+◌, ◌<◌, max, Bool, true, false, cond, not, ◌&&◌, Option, Some, None, List, [], ◌∷◌, ◌++◌, length, map, fold, nat_le, ◌==◌, refl, sym, ap, ◌∙◌, subst, arith, true≢false, ⊎_elim, append-nil, append_assoc, eqb-true, eq-eqb}
+use Rattle.std.proofs.Common.{◌≡◌, ℕ, ◌+◌, ◌<◌, max, Bool, true, false, cond, not, ◌&&◌, Option, Some, None, List, [], ◌∷◌, ◌++◌, length, map, fold, ◌==◌, refl, sym, ap, ◌∙◌, subst, arith, true≢false, ⊎_elim, append-nil, append_assoc, eqb-true, eq-eqb}
 use Rattle.std.proofs.lemmas.Bool.{cond_both, cond-true, and_parts, not-true}
 use Rattle.std.proofs.lemmas.List.{map-append}
+use Rattle.std.proofs.lemmas.Grind.{common_steps}
 use Rattle.std.proofs.lemmas.List.Sums.{fold-append}
-use Rattle.std.specs.List.{list_any}
 use Rattle.bx_lists.proofs.Tests.{either}
 use Rattle.std.specs.List.{AllByRecursion}
 use Rattle.bx_advice.specs.declared.config.Config.{Config}
@@ -11,22 +11,18 @@ use Rattle.bx_message.specs.MessageKinds.{message_kind_of}
 use Rattle.bx_entry.specs.Listing.{Listed, Post, Posted}
 use Rattle.bx_entry.specs.Listing as messages
 use Rattle.bx_entry.specs.declared.entry.Entry.{Entry}
-use Rattle.bx_advice.specs.declared.advice.Outcome.{Outcome}
-use Rattle.bx_advice.specs.declared.advice.Outcome.TheVariants.{Connected, Disconnected, Failed}
-use Rattle.bx_advice.specs.declared.error.Error.TheVariants.{SupersededConnect, QueueOverflow}
 use Rattle.bx_message.specs.declared.message_kind.MessageKind.{MessageKind}
 use Rattle.bx_entry.specs.declared.entry.Rider.{Rider}
 use Rattle.bx_entry.specs.declared.entry.EntryKind.{EntryKind}
 use Rattle.bx_entry.specs.declared.entry.EntryKind.TheVariants.{Connect, Subscribe, Unsubscribe, Publish, Disconnect, Refused, Tick}
 use Rattle.bx_entry.specs.declared.entry.EntryKind.TheVariants as entries
-use Rattle.bx_entry.specs.Sessions.{Session, Publication, Pending, Stage, Unopened, answered, unheld, released_from, released, cleared, acknowledged, portion, with_batch, formed, forgotten, gives, given, holding, idle, answered_or_held, connected, subscribed, unsubscribed, with_event, delivered_to, delivered, overflowed, is_hit, has_room, published, expired_from, expired, ended, closed_by, disconnected, begun, step_by, step, unopened, session, rider_of, Filed}
+use Rattle.bx_entry.specs.Sessions.{Session, Unopened, begun, step_by, step, unopened, session, rider_of, Filed}
 use Rattle.bx_entry.specs.Registry.{due_of, Registry, Registered, Judged, PlaceSlot, Ready, Waiting, NoSlot, is_ack, extended, swept, is_overdue, opened, served, rider_for, is_rider, is_one, joined, may_ride, slot_for, judge, named_by, refusal, hold_of, registry, empty_registry, entries_of, noted, state_of}
 use Rattle.bx_theory.specs.Laws.{NoRidersUnasked, RidesPlain, RidersArePlain, LastAnswer, LastGiven, Repetition}
 use Rattle.bx_theory.specs.Readings.{opens_by, closes_by, since_opening, EachSession}
 use Rattle.bx_theory.proofs.Verdicts.{by_verdict}
-use Rattle.bx_theory.proofs.Counts.{subscribed_by, ride_both, rider_of_both, all_in_step, unopened_in_step}
+use Rattle.bx_theory.proofs.Counts.{ride_both, rider_of_both, all_in_step, unopened_in_step}
 use Rattle.bx_theory.proofs.Batches.{acks_with_batch}
-use Rattle.bx_theory.proofs.Once.{formed_acks}
 use Rattle.bx_theory.proofs.Stages.{step_number, step_next, next_opened, next_unopened}
 use Rattle.bx_theory.proofs.Closings.{run_number}
 use Rattle.bx_theory.proofs.Dues.{EachJudged, each_judged_push, each_judged_map, each_session_map, each_session_push, each_session_through, left_each, named_session}
@@ -61,64 +57,12 @@ no_riders_unasked config list h = entries_all (λ (e : Entry). e.rides ≡ None)
 
 -- ---- a session acknowledges from its opening on, or never
 
-released_from_a : (config : Config) (place : ℕ) (outcome : Outcome) (s : Session) (held : Option Pending) → (released_from config place outcome s held).ack ≡ s.ack
-released_from_a config place outcome s None = refl
-released_from_a config place outcome s (Some p) = refl
-
-acknowledged_a : (acked : Option ℕ) (s : Session) → (acknowledged acked s).ack ≡ s.ack
-acknowledged_a None s = refl
-acknowledged_a (Some n) s = cond_both (s.ack && nat_le s.num n) (cleared s) s (λ (u : Session). u.ack ≡ s.ack) (λ h. refl) (λ h. refl)
-
-gives_a : (config : Config) (s : Session) → (gives config s).ack ≡ s.ack
-gives_a config s = cond_both s.ack (formed config s) (forgotten (portion config s) s) (λ (u : Session). u.ack ≡ s.ack) (λ h. formed_acks config s) (λ h. refl)
-
-answered_or_held_a : (config : Config) (p : Pending) (s : Session) → (answered_or_held config p s).ack ≡ s.ack
-answered_or_held_a config p s = cond_both (length (given config s) == 0) (idle config p s) (answered config p p.place (given config s) Connected (gives config s)) (λ (u : Session). u.ack ≡ s.ack)
-    (λ h. cond_both (p.hold == 0) (answered config p p.place [] Connected s) (holding p s) (λ (u : Session). u.ack ≡ s.ack) (λ g. refl) (λ g. refl)) (λ h. gives_a config s)
-
-connected_a : (config : Config) (p : Pending) (acked : Option ℕ) (s : Session) → (connected config p acked s).ack ≡ s.ack
-connected_a config p acked s =
-    let free = released config p.place (Failed SupersededConnect) s in
-    cond_both s.overflow (answered config p p.place [] (Failed QueueOverflow) free) (answered_or_held config p (acknowledged acked free)) (λ (u : Session). u.ack ≡ s.ack)
-    (λ h. released_from_a config p.place (Failed SupersededConnect) s s.held)
-    (λ h. answered_or_held_a config p (acknowledged acked free) ∙ acknowledged_a acked free ∙ released_from_a config p.place (Failed SupersededConnect) s s.held)
-
-delivered_to_a : (config : Config) (e : Publication) (s : Session) (held : Option Pending) → (delivered_to config e s held).ack ≡ s.ack
-delivered_to_a config e s None = refl
-delivered_to_a config e s (Some p) = cond_both s.ack (with_batch 1 (unheld s)) (forgotten 1 (unheld s)) (λ (u : Session). u.ack ≡ s.ack) (λ h. refl) (λ h. refl)
-
-published_a : (config : Config) (e : Publication) (s : Session) → (published config e s).ack ≡ s.ack
-published_a config e s = cond_both (is_hit s e.event) (cond (has_room config s) (delivered config e s) (overflowed s)) s (λ (u : Session). u.ack ≡ s.ack)
-    (λ h. cond_both (has_room config s) (delivered config e s) (overflowed s) (λ (u : Session). u.ack ≡ s.ack) (λ g. delivered_to_a config e (with_event e s) s.held) (λ g. refl)) (λ h. refl)
-
-expired_from_a : (config : Config) (place moment : ℕ) (s : Session) (held : Option Pending) → (expired_from config place moment s held).ack ≡ s.ack
-expired_from_a config place moment s None = refl
-expired_from_a config place moment s (Some p) = cond_both (nat_le (p.moment + p.hold) moment) (released config place Connected s) s (λ (u : Session). u.ack ≡ s.ack) (λ h. released_from_a config place Connected s s.held) (λ h. refl)
-
-closed_by_a : (numbers : List ℕ) (s : Session) → (closed_by numbers s).ack ≡ s.ack
-closed_by_a numbers s = cond_both (list_any (λ n. n == s.number) numbers) (ended s) s (λ (u : Session). u.ack ≡ s.ack) (λ h. refl) (λ h. refl)
-
 -- opened, whether or not it was closed since
 abbrev pub WasOpened : Session → Type 0
 WasOpened s = s.stage ≡ Unopened → ⊥
 
-begun_a : (ack : Bool) (s : Session) (stage : Stage) → s.stage ≡ stage → WasOpened s → (begun ack s stage).ack ≡ s.ack
-begun_a ack s Unopened h w = absurd (w h)
-begun_a ack s _ h w = refl
-
-either_a : (b : Bool) (s t : Session) → t.ack ≡ s.ack → (cond b t s).ack ≡ s.ack
-either_a b s t e = cond_both b t s (λ (u : Session). u.ack ≡ s.ack) (λ h. e) (λ h. refl)
-
 pub step_by_a : (config : Config) (place moment : ℕ) (s : Session) (k : EntryKind) → WasOpened s → (step_by config place moment s k).ack ≡ s.ack
-step_by_a config place moment s (entries.Opened n ack) w = either_a (n == s.number) s (begun ack s s.stage) (begun_a ack s s.stage refl w)
-step_by_a config place moment s (Connect n client id acked hold) w =
-    let p : Pending = record { place = place; client = client; id = id; moment = moment; hold = hold } in either_a (n == s.number) s (connected config p acked s) (connected_a config p acked s)
-step_by_a config place moment s (Subscribe n ps) w = either_a (n == s.number) s (subscribed config ps s) (subscribed_by config ps s (λ (u : Session). u.ack ≡ s.ack) refl refl refl)
-step_by_a config place moment s (Unsubscribe n ps) w = either_a (n == s.number) s (unsubscribed ps s) refl
-step_by_a config place moment s (Publish e) w = published_a config (record { place = place; event = e }) s
-step_by_a config place moment s (Disconnect n) w = either_a (n == s.number) s (disconnected config place s) (released_from_a config place Disconnected s s.held)
-step_by_a config place moment s Refused w = refl
-step_by_a config place moment s (Tick numbers) w = closed_by_a numbers (expired config place moment s) ∙ expired_from_a config place moment s s.held
+step_by_a config place moment s k w = grind (arith, common_steps)
 
 step_a : (config : Config) (s : Session) (e : Entry) → WasOpened s → (step config s e).ack ≡ s.ack
 step_a config s e w =

@@ -1,9 +1,11 @@
 -- Which messages are riders, over whole requests, and what a rider is given.
-use Rattle.std.proofs.Common.{min, take-append-drop, length-take, length-drop, ◌≡◌, ◌↔◌, ℕ, suc, ◌+◌, ◌<◌, ◌||◌, ne_eqb, max, Bool, true, false, cond, not, ◌&&◌, Option, Some, None, List, [], ◌∷◌, ◌++◌, length, take, drop, flat_map, fold, ◌==◌, refl, sym, ap, ◌∙◌, subst, arith, true≢false, append-nil, append_assoc, eqb-true, eq-eqb}
+use Rattle.std.proofs.Common.{take-append-drop, ◌≡◌, ◌↔◌, ℕ, suc, ◌+◌, ◌<◌, ◌||◌, ne_eqb, max, Bool, true, false, cond, not, ◌&&◌, Option, Some, None, List, [], ◌∷◌, ◌++◌, length, take, drop, flat_map, fold, ◌==◌, refl, sym, ap, ◌∙◌, subst, arith, true≢false, append-nil, append_assoc, eqb-true, eq-eqb}
 use Rattle.std.proofs.lemmas.Bool.{cond_both, cond-true, cond-false, and_parts, both_ways, not-true}
 use Rattle.std.proofs.lemmas.List.{length_push}
+use Rattle.std.proofs.lemmas.Grind.{common_steps}
 use Rattle.std.proofs.lemmas.List.Sums.{fold-append}
 use Rattle.std.proofs.Math.Seq.{drop-append_seam, take-append_seam}
+use Rattle.std.proofs.ByRecursion.{All-push}
 use Rattle.std.specs.List.{AllByRecursion}
 use Rattle.bx_lists.proofs.Tests.{either}
 use Rattle.bx_advice.specs.declared.config.Config.{Config}
@@ -17,18 +19,16 @@ use Rattle.bx_entry.specs.Listing as messages
 use Rattle.bx_entry.specs.declared.entry.Entry.{Entry}
 use Rattle.bx_entry.specs.declared.entry.Rider.{Rider}
 use Rattle.bx_entry.specs.declared.entry.EntryKind.{EntryKind}
-use Rattle.bx_entry.specs.declared.entry.EntryKind.TheVariants as entries
 use Rattle.bx_entry.specs.declared.senders.Senders.{Senders}
 use Rattle.bx_entry.specs.declared.senders.Senders.TheVariants.{NoneYet, Only, Mixed}
-use Rattle.bx_entry.specs.Registry.{found_at, Registry, Registered, Judged, PlaceSlot, Ready, Waiting, NoSlot, is_one, joined, senders_behind, may_ride, is_rider, rider_for, kind_for, slot_for, judge, judged_by, named_by, refusal, hold_of, registry, empty_registry, entries_of, entries, unnamed, noted, state_of}
-use Rattle.bx_entry.specs.Sessions.{Session, Stage, Unopened, Live, is_live, portion, session, step, step_by, rider_of, is_riding, ridden, ridden_by}
+use Rattle.bx_entry.specs.Registry.{found_at, Registry, Registered, Judged, PlaceSlot, is_one, joined, senders_behind, may_ride, is_rider, rider_for, kind_for, slot_for, judge, judged_by, named_by, refusal, hold_of, registry, empty_registry, entries_of, entries, noted, state_of}
+use Rattle.bx_entry.specs.Sessions.{Session, Stage, Unopened, Live, is_live, session, step, step_by, rider_of, is_riding, ridden, ridden_by, ride_portion}
 use Rattle.bx_theory.specs.Readings.{is_from, opens_by}
 use Rattle.bx_theory.specs.Riding.{found_behind, is_own, may_have_rider, IsRiderOf, rider_session, RiderReading, NothingRidesBeside, OthersNeverRide, GivesRider, RiderGiven}
 use Rattle.bx_theory.proofs.Verdicts.{by_verdict}
 use Rattle.bx_theory.proofs.Dues.{EachJudged, each_judged_push, named_session}
 use Rattle.bx_theory.proofs.Lists.{Longer, longer, judged_length}
 use Rattle.bx_theory.proofs.Lives.{found_of}
-use Rattle.bx_theory.proofs.Counts.{rode}
 use Rattle.bx_theory.proofs.Stages.{Next, next_by, step_by_next}
 use Rattle.bx_theory.proofs.Riders.{WasOpened, step_by_a, acks_later, entries_all}
 
@@ -36,10 +36,6 @@ use Rattle.bx_theory.proofs.Riders.{WasOpened, step_by_a, acks_later, entries_al
 
 abbrev Own : ℕ → List Judged → Type 0
 Own number js = AllByRecursion (λ (i : Judged). is_own number i ≡ true) js
-
-own_push : (number : ℕ) (js : List Judged) (j : Judged) → Own number js → is_own number j ≡ true → Own number (js ++ j ∷ [])
-own_push number [] j d h = (h, tt)
-own_push number (i ∷ js) j d h = (d.0, own_push number js j d.1 h)
 
 own_before : (number : ℕ) (js : List Judged) (j : Judged) → Own number (js ++ j ∷ []) → Own number js
 own_before number [] j d = tt
@@ -80,10 +76,10 @@ mixed_says : (js : List Judged) (j : Judged) → ((n : ℕ) → is_own n j ≡ t
 mixed_says js j h = λ n d. h n (own_last n js j d)
 
 joined_says : (x : Senders) (js : List Judged) (j : Judged) (m : ℕ) → is_own m j ≡ true → Says x js → Says (joined x m) (js ++ j ∷ [])
-joined_says NoneYet js j m o h = (longer_push js j, own_push m js j (subst (Own m) (sym h) tt) o)
+joined_says NoneYet js j m o h = (longer_push js j, All-push (λ (i : Judged). is_own m i ≡ true) js j (subst (Own m) (sym h) tt) o)
 joined_says (Only other) js j m o h =
     cond_both (other == m) (Only other) Mixed (λ (x : Senders). Says x (js ++ j ∷ []))
-    (λ q. (longer_push js j, own_push other js j h.1 (subst (λ (n : ℕ). is_own n j ≡ true) (sym (eqb-true other m q)) o)))
+    (λ q. (longer_push js j, All-push (λ (i : Judged). is_own other i ≡ true) js j h.1 (subst (λ (n : ℕ). is_own n j ≡ true) (sym (eqb-true other m q)) o)))
     (λ q n d. both_ways (other == m) q (eq-eqb other m (same_owner other n js h.0 h.1 (own_before n js j d) ∙ same_own n m j (own_last n js j d) o)))
 joined_says Mixed js j m o h = λ n d. h n (own_before n js j d)
 
@@ -122,28 +118,27 @@ unowned_reads config es last js j h none = record {
 }
 
 carried_kind : (c : MessageKind) (p : Posted) (s : Registered) (hold : ℕ) → may_have_rider (kind_for c p s hold) ≡ may_ride c
-carried_kind MessageKind.Handshake p s hold = refl
-carried_kind _ p s hold = refl
+carried_kind c p s hold = grind (arith, common_steps)
 
 opens_none : (c : MessageKind) (p : Posted) (s : Registered) (hold n : ℕ) → opens_by n (kind_for c p s hold) ≡ false
-opens_none MessageKind.Handshake p s hold n = refl
-opens_none _ p s hold n = refl
+opens_none c p s hold n = grind (arith, common_steps)
 
 rides_then : (config : Config) (c : MessageKind) (p : Posted) (s : Registered) (b : Bool) → b ≡ true → may_ride c ≡ true → rider_session (rider_for b s.number (slot_for config c p s)) ≡ Some s.number
-rides_then config c p s false e m = absurd (true≢false (sym e))
-rides_then config MessageKind.Handshake p s true e m = refl
-rides_then config MessageKind.Connect p s true e m = absurd (true≢false (sym m))
-rides_then config MessageKind.Subscribe p s true e m = refl
-rides_then config MessageKind.Unsubscribe p s true e m = refl
-rides_then config MessageKind.Disconnect p s true e m = refl
-rides_then config MessageKind.Publish p s true e m = refl
-rides_then config MessageKind.UnknownMeta p s true e m = refl
+rides_then config c p s b e m = grind (arith, common_steps)
 
 rides_by : (b : Bool) (m n : ℕ) (slot : PlaceSlot) → rider_session (rider_for b m slot) ≡ Some n → (b ≡ true) × (m ≡ n)
-rides_by true m n (Ready reply) h = (refl, cc)
-rides_by true m n (Waiting k) h = cc
-rides_by true m n NoSlot h = cc
-rides_by false m n slot h = cc
+rides_by b m n slot h = grind (arith, common_steps)
+
+-- what a rider's test says
+record Tested (config : Config) (senders : Senders) (c : MessageKind) (p : Posted) (s : Registered) : Type 0 where
+  asked : config.ride ≡ true
+  last : p.last ≡ true
+  plain : s.ack ≡ false
+  one : is_one (joined senders s.number) ≡ true
+  may : may_ride c ≡ true
+
+tested : (config : Config) (senders : Senders) (c : MessageKind) (p : Posted) (s : Registered) → is_rider config senders c p s ≡ true → Tested config senders c p s
+tested config senders c p s h = grind (arith, common_steps)
 
 -- an accepted one of a session
 served_reads : (config : Config) (es : List Entry) (r : Registry) (moment : ℕ) (p : Posted) (c : MessageKind) (s : Registered) (hold : ℕ) (js : List Judged) → Says r.senders js →
@@ -155,29 +150,22 @@ served_reads config es r moment p c s hold js says acks =
     record {
       to = λ number e.
           let b = rides_by (is_rider config r.senders c p s) s.number number (slot_for config c p s) e in
-          let x = and_parts config.ride (p.last && (not s.ack && (is_one (joined r.senders s.number) && may_ride c))) b.0 in
-          let y = and_parts p.last (not s.ack && (is_one (joined r.senders s.number) && may_ride c)) x.1 in
-          let z = and_parts (not s.ack) (is_one (joined r.senders s.number) && may_ride c) y.1 in
-          let w = and_parts (is_one (joined r.senders s.number)) (may_ride c) z.1 in
-          let owner : Owner (js ++ found_of config r moment p c s hold ∷ []) = one_owner (joined r.senders s.number) (js ++ found_of config r moment p c s hold ∷ []) now w.0 in
+          let x : Tested config r.senders c p s = tested config r.senders c p s b.0 in
+          let owner : Owner (js ++ found_of config r moment p c s hold ∷ []) = one_owner (joined r.senders s.number) (js ++ found_of config r moment p c s hold ∷ []) now x.one in
           let same : owner.number ≡ number = same_own owner.number s.number (found_of config r moment p c s hold) (own_last owner.number js (found_of config r moment p c s hold) owner.own) own ∙ b.1 in
           record {
-            asked = x.0;
-            plain = ap (λ (n : ℕ). (session config n es).ack) (sym b.1) ∙ acks ∙ not-true s.ack z.0;
-            last = y.0;
+            asked = x.asked;
+            plain = ap (λ (n : ℕ). (session config n es).ack) (sym b.1) ∙ acks ∙ x.plain;
+            last = x.last;
             own = subst (λ (n : ℕ). Own n (js ++ found_of config r moment p c s hold ∷ [])) same owner.own;
-            kind = carried_kind c p s hold ∙ w.1;
+            kind = carried_kind c p s hold ∙ x.may;
           };
       from = λ number k.
           let same : number ≡ s.number = same_own number s.number (found_of config r moment p c s hold) (own_last number js (found_of config r moment p c s hold) k.own) own in
           let may : may_ride c ≡ true = sym (carried_kind c p s hold) ∙ k.kind in
           let plain : s.ack ≡ false = sym acks ∙ ap (λ (n : ℕ). (session config n es).ack) (sym same) ∙ k.plain in
           let one : is_one (joined r.senders s.number) ≡ true = one_says (joined r.senders s.number) (js ++ found_of config r moment p c s hold ∷ []) number now (longer_push js (found_of config r moment p c s hold)) k.own in
-          let rider : is_rider config r.senders c p s ≡ true =
-          ap (λ (b : Bool). b && (p.last && (not s.ack && (is_one (joined r.senders s.number) && may_ride c)))) k.asked
-          ∙ ap (λ (b : Bool). b && (not s.ack && (is_one (joined r.senders s.number) && may_ride c))) k.last
-          ∙ ap (λ (b : Bool). not b && (is_one (joined r.senders s.number) && may_ride c)) plain
-          ∙ ap (λ (b : Bool). b && may_ride c) one ∙ may in
+          let rider : is_rider config r.senders c p s ≡ true = grind (arith, common_steps, k.asked, k.last, plain, one, may) in
           rides_then config c p s (is_rider config r.senders c p s) rider may ∙ ap Some (sym same);
     }
 
@@ -194,44 +182,26 @@ record Judging (config : Config) (es : List Entry) (js : List Judged) (p : Poste
 opened_own : (n m : ℕ) → ((n == m) && not (m == n)) ≡ true → ⊥
 opened_own n m h = let a = and_parts (n == m) (not (m == n)) h in both_ways (m == n) (not-true (m == n) a.1) (eq-eqb m n (sym (eqb-true n m a.0)))
 
-unnamed_judging : (config : Config) (es : List Entry) (js : List Judged) (r : Registry) (moment : ℕ) (p : Posted) (b : Bool) → Judging config es js p r (noted r moment (unnamed config (state_of r) moment p b))
-unnamed_judging config es js r moment p true = record {
-  found = _;
-  judged = refl;
-  now = Mixed;
-  senders = refl;
-  says = mixed_says js _ (λ n h. opened_own n (length r.sessions + 1) h);
-  reads = unowned_reads config es p.last js _ (λ n h. opened_own n (length r.sessions + 1) h) refl;
-}
-unnamed_judging config es js r moment p false = record {
-  found = _;
-  judged = refl;
-  now = Mixed;
-  senders = refl;
-  says = mixed_says js _ (λ n h. true≢false (sym h));
-  reads = unowned_reads config es p.last js _ (λ n h. true≢false (sym h)) refl;
-}
+-- one of no session, or a handshake, leaves a request that is of several
+unowned_judging : (config : Config) (es : List Entry) (js : List Judged) (p : Posted) (r t : Registry) (j : Judged) → t.judged ≡ r.judged ++ j ∷ [] → t.senders ≡ senders_behind p Mixed → ((n : ℕ) → is_own n j ≡ true → ⊥) → j.entry.rides ≡ None → Judging config es js p r t
+unowned_judging config es js p r t j judged senders h none = record { found = j; judged = judged; now = Mixed; senders = senders; says = mixed_says js j h; reads = unowned_reads config es p.last js j h none }
 
 judged_by_judging : (config : Config) (es : List Entry) (js : List Judged) (r : Registry) (moment : ℕ) (p : Posted) (sender : Option Registered) (error : Option Error) → Says r.senders js →
     ((s : Registered) → sender ≡ Some s → (session config s.number es).ack ≡ s.ack) → Judging config es js p r (noted r moment (judged_by config (state_of r) moment p sender error))
-judged_by_judging config es js r moment p sender (Some error) says acks = record {
-  found = _;
-  judged = refl;
-  now = Mixed;
-  senders = refl;
-  says = mixed_says js _ (λ n h. true≢false (sym h));
-  reads = unowned_reads config es p.last js _ (λ n h. true≢false (sym h)) refl;
-}
-judged_by_judging config es js r moment p None None says acks = unnamed_judging config es js r moment p (is_handshake p.message)
-judged_by_judging config es js r moment p (Some s) None says acks = record {
-  found = found_of config r moment p (message_kind_of p.message.channel) s (hold_of config p);
-  judged = refl;
-  now = joined r.senders s.number;
-  senders = refl;
-  says = joined_says r.senders js (found_of config r moment p (message_kind_of p.message.channel) s (hold_of config p)) s.number
-      (own_is s.number (found_of config r moment p (message_kind_of p.message.channel) s (hold_of config p)) refl (opens_none (message_kind_of p.message.channel) p s (hold_of config p) s.number)) says;
-  reads = served_reads config es r moment p (message_kind_of p.message.channel) s (hold_of config p) js says (acks s refl);
-}
+judged_by_judging config es js r moment p sender error says acks =
+    let c : MessageKind = message_kind_of p.message.channel in
+    by_verdict (λ v. Judging config es js p r (noted r moment v)) config (state_of r) moment p sender error
+    (λ e. unowned_judging config es js p r _ _ refl refl (λ n h. true≢false (sym h)) refl)
+    (unowned_judging config es js p r _ _ refl refl (λ n h. opened_own n (length r.sessions + 1) h) refl)
+    (unowned_judging config es js p r _ _ refl refl (λ n h. true≢false (sym h)) refl)
+    (λ s e. record {
+      found = found_of config r moment p (message_kind_of p.message.channel) s (hold_of config p);
+      judged = refl;
+      now = joined r.senders s.number;
+      senders = refl;
+      says = joined_says r.senders js (found_of config r moment p c s (hold_of config p)) s.number (own_is s.number (found_of config r moment p c s (hold_of config p)) refl (opens_none c p s (hold_of config p) s.number)) says;
+      reads = served_reads config es r moment p (message_kind_of p.message.channel) s (hold_of config p) js says (acks s e);
+    })
 
 judging : (config : Config) (ys zs : List Listed) (js : List Judged) (p : Posted) → Says (registry config ys).senders js →
     Judging config (entries config (ys ++ zs)) js p (registry config ys) (judge config (registry config ys) (Post p))
@@ -277,27 +247,24 @@ record RequestReads (config : Config) (es : List Entry) (js : List Judged) (coun
   many : length more ≡ count
   reads : EachReads config es js more
 
--- the last message
-last_reads : (config : Config) (es : List Entry) (js : List Judged) (j : Judged) → Reads config es true js j → EachReads config es js (j ∷ [])
-last_reads config es js j a = (
+-- the last message may be a rider, and no other one is
+reads_row : (config : Config) (es : List Entry) (js : List Judged) (j : Judged) (behind : List Judged) → Reads config es (length behind == 0) js j → EachReads config es (js ++ j ∷ []) behind → EachReads config es js (j ∷ behind)
+reads_row config es js j [] a d = (
   λ number. (
     (λ e. let m : Makes config es number true js j = a.to number e in record { asked = m.asked; plain = m.plain; last = refl; own = m.own; kind = m.kind }),
     (λ k. a.from number (record { asked = k.asked; plain = k.plain; last = refl; own = k.own; kind = k.kind })),
   ),
-  tt,
+  d,
 )
-
--- no other one is a rider
-earlier_reads : (config : Config) (es : List Entry) (js : List Judged) (j : Judged) (behind : List Judged) → 0 < length behind → Reads config es false js j → EachReads config es (js ++ j ∷ []) behind → EachReads config es js (j ∷ behind)
-earlier_reads config es js j behind l a d = (
+reads_row config es js j (i ∷ behind) a d = (
   λ number. (
-    (λ e. let m : Makes config es number false js j = a.to number e in absurd (true≢false (sym m.last))),
-    (λ k. absurd (let none : length behind ≡ 0 = ap length k.last in omega arith)),
+    (λ e. let m : Makes config es number (length (i ∷ behind) == 0) js j = a.to number e in absurd (both_ways (length (i ∷ behind) == 0) (ne_eqb (length (i ∷ behind)) 0 (λ h. omega arith)) m.last)),
+    (λ k. absurd (let none : length (i ∷ behind) ≡ 0 = ap length k.last in omega arith)),
   ),
   d,
 )
 
-request_read : (config : Config) (ys zs : List Listed) (js : List Judged) (moment nonce : ℕ) (sole seen : Bool) (ms : List Message) → Says (registry config ys).senders js →
+request_read : (config : Config) (ys zs : List Listed) (js : List Judged) (moment nonce : ℕ) (sole seen : Bool) (ms : List Message) → (0 < length ms → Says (registry config ys).senders js) →
     RequestReads config (entries config (ys ++ (listed_from moment nonce sole seen ms ++ zs))) js (length ms) (registry config ys) (registry config (ys ++ listed_from moment nonce sole seen ms))
 request_read config ys zs js moment nonce sole seen [] says = record {
   more = [];
@@ -305,32 +272,22 @@ request_read config ys zs js moment nonce sole seen [] says = record {
   many = refl;
   reads = tt;
 }
-request_read config ys zs js moment nonce sole seen (m ∷ []) says =
-    let p : Posted = record { message = m; moment = moment; nonce = nonce; sole = sole; last = true; second = seen && is_handshake m } in
-    let d : Judging config (entries config (ys ++ Post p ∷ zs)) js p (registry config ys) (judge config (registry config ys) (Post p)) = judging config ys (Post p ∷ zs) js p says in
-    record {
-      more = d.found ∷ [];
-      judged = ap (λ (t : Registry). t.judged) (fold-append (judge config) empty_registry ys (Post p ∷ [])) ∙ d.judged;
-      many = refl;
-      reads = last_reads config (entries config (ys ++ Post p ∷ zs)) js d.found d.reads;
-    }
-request_read config ys zs js moment nonce sole seen (m ∷ k ∷ ms) says =
-    let p : Posted = record { message = m; moment = moment; nonce = nonce; sole = sole; last = length (k ∷ ms) == 0; second = seen && is_handshake m } in
-    let xs : List Listed = listed_from moment nonce sole (seen || is_handshake m) (k ∷ ms) in
-    let es : List Entry = entries config (ys ++ Post p ∷ (listed_from moment nonce sole (seen || is_handshake m) (k ∷ ms) ++ zs)) in
-    let d : Judging config (entries config (ys ++ Post p ∷ (listed_from moment nonce sole (seen || is_handshake m) (k ∷ ms) ++ zs))) js p (registry config ys) (judge config (registry config ys) (Post p)) = judging config ys (Post p ∷ (xs ++ zs)) js p says in
-    let not_last : (length (k ∷ ms) == 0) ≡ false = ne_eqb (length (k ∷ ms)) 0 (λ e. absurd (let l : suc (length ms) ≡ 0 = e in omega arith)) in
+request_read config ys zs js moment nonce sole seen (m ∷ ms) says =
+    let p : Posted = record { message = m; moment = moment; nonce = nonce; sole = sole; last = length ms == 0; second = seen && is_handshake m } in
+    let xs : List Listed = listed_from moment nonce sole (seen || is_handshake m) ms in
+    let es : List Entry = entries config (ys ++ Post p ∷ (listed_from moment nonce sole (seen || is_handshake m) ms ++ zs)) in
+    let d : Judging config (entries config (ys ++ Post p ∷ (listed_from moment nonce sole (seen || is_handshake m) ms ++ zs))) js p (registry config ys) (judge config (registry config ys) (Post p)) = judging config ys (Post p ∷ (xs ++ zs)) js p (says (omega arith)) in
     let next : registry config (ys ++ Post p ∷ []) ≡ judge config (registry config ys) (Post p) = fold-append (judge config) empty_registry ys (Post p ∷ []) in
-    let senders : (registry config (ys ++ Post p ∷ [])).senders ≡ d.now = ap (λ (t : Registry). t.senders) next ∙ d.senders ∙ cond-false (length (k ∷ ms) == 0) NoneYet d.now not_last in
-    let rest : RequestReads config (entries config ((ys ++ Post p ∷ []) ++ (listed_from moment nonce sole (seen || is_handshake m) (k ∷ ms) ++ zs))) (js ++ d.found ∷ []) (length (k ∷ ms)) (registry config (ys ++ Post p ∷ [])) (registry config ((ys ++ Post p ∷ []) ++ listed_from moment nonce sole (seen || is_handshake m) (k ∷ ms))) =
-    request_read config (ys ++ Post p ∷ []) zs (js ++ d.found ∷ []) moment nonce sole (seen || is_handshake m) (k ∷ ms) (subst (λ (x : Senders). Says x (js ++ d.found ∷ [])) (sym senders) d.says) in
+    let senders : 0 < length ms → (registry config (ys ++ Post p ∷ [])).senders ≡ d.now = λ l.
+    ap (λ (t : Registry). t.senders) next ∙ d.senders ∙ cond-false (length ms == 0) NoneYet d.now (ne_eqb (length ms) 0 (λ h. omega arith)) in
+    let rest : RequestReads config (entries config ((ys ++ Post p ∷ []) ++ (listed_from moment nonce sole (seen || is_handshake m) ms ++ zs))) (js ++ d.found ∷ []) (length ms) (registry config (ys ++ Post p ∷ [])) (registry config ((ys ++ Post p ∷ []) ++ listed_from moment nonce sole (seen || is_handshake m) ms)) =
+    request_read config (ys ++ Post p ∷ []) zs (js ++ d.found ∷ []) moment nonce sole (seen || is_handshake m) ms (λ l. subst (λ (x : Senders). Says x (js ++ d.found ∷ [])) (sym (senders l)) d.says) in
     record {
       more = d.found ∷ rest.more;
       judged = ap (λ (list : List Listed). (registry config list).judged) (sym (append_assoc ys (Post p ∷ []) xs)) ∙ rest.judged
           ∙ ap (λ (is : List Judged). is ++ rest.more) (ap (λ (t : Registry). t.judged) next ∙ d.judged) ∙ append_assoc (registry config ys).judged (d.found ∷ []) rest.more;
       many = ap suc rest.many;
-      reads = earlier_reads config es js d.found rest.more (let l : length rest.more ≡ suc (length ms) = rest.many in omega arith)
-          (subst (λ (b : Bool). Reads config (entries config (ys ++ Post p ∷ (listed_from moment nonce sole (seen || is_handshake m) (k ∷ ms) ++ zs))) b js d.found) not_last d.reads)
+      reads = reads_row config es js d.found rest.more (subst (λ (n : ℕ). Reads config (entries config (ys ++ Post p ∷ (listed_from moment nonce sole (seen || is_handshake m) ms ++ zs))) (n == 0) js d.found) (sym rest.many) d.reads)
           (subst (λ (list : List Listed). EachReads config (entries config list) (js ++ d.found ∷ []) rest.more) (append_assoc ys (Post p ∷ []) (xs ++ zs)) rest.reads);
     }
 
@@ -372,7 +329,7 @@ rider_reading config inputs moment nonce ms more before j behind number split =
     let xs : List Listed = listed_from moment nonce (length ms == 1) false ms in
     let fresh : (registry config (flat_map added_by inputs)).senders ≡ NoneYet = inputs_end config empty_registry inputs refl in
     let a : RequestReads config (entries config (flat_map added_by inputs ++ (listed_from moment nonce (length ms == 1) false ms ++ more))) [] (length ms) (registry config (flat_map added_by inputs)) (registry config (flat_map added_by inputs ++ listed_from moment nonce (length ms == 1) false ms)) =
-    request_read config ys more [] moment nonce (length ms == 1) false ms (subst (λ (x : Senders). Says x []) (sym fresh) refl) in
+    request_read config ys more [] moment nonce (length ms == 1) false ms (λ l. subst (λ (x : Senders). Says x []) (sym fresh) refl) in
     let found : found_behind config (flat_map added_by inputs) (listed_from moment nonce (length ms == 1) false ms) more ≡ a.more = found_is config ys xs more a.more a.judged (a.many ∙ sym (listed_length moment nonce (length ms == 1) false ms)) in
     reads_at config (entries config (ys ++ (xs ++ more))) [] a.more before j behind number a.reads (sym found ∙ split)
 
@@ -398,12 +355,7 @@ Unridden j = may_have_rider j.entry.kind ≡ false → j.entry.rides ≡ None
 served_unridden : (config : Config) (r : Registry) (moment : ℕ) (p : Posted) (c : MessageKind) (s : Registered) (hold : ℕ) → Unridden (found_of config r moment p c s hold)
 served_unridden config r moment p c s hold h =
     either (is_rider config r.senders c p s) (rider_for (is_rider config r.senders c p s) s.number (slot_for config c p s) ≡ None)
-    (λ b.
-    let x = and_parts config.ride (p.last && (not s.ack && (is_one (joined r.senders s.number) && may_ride c))) b in
-    let y = and_parts p.last (not s.ack && (is_one (joined r.senders s.number) && may_ride c)) x.1 in
-    let z = and_parts (not s.ack) (is_one (joined r.senders s.number) && may_ride c) y.1 in
-    let w = and_parts (is_one (joined r.senders s.number)) (may_ride c) z.1 in
-    absurd (both_ways (may_ride c) (sym (carried_kind c p s hold) ∙ h) w.1))
+    (λ b. absurd (both_ways (may_ride c) (sym (carried_kind c p s hold) ∙ h) (tested config r.senders c p s b).may))
     (λ b. ap (λ (rides : Bool). rider_for rides s.number (slot_for config c p s)) b)
 
 judge_unridden : (config : Config) (r : Registry) (x : Listed) → EachJudged Unridden r.judged → EachJudged Unridden (judge config r x).judged
@@ -426,20 +378,7 @@ others_never_ride config list = entries_all (λ (e : Entry). may_have_rider e.ki
 
 -- an entry with a rider opens and closes nothing
 rider_stays : (number : ℕ) (stage : Stage) (k : EntryKind) (rides : Option Rider) (rider : Rider) → rider_of k rides ≡ Some rider → next_by number stage k ≡ stage
-rider_stays number stage (entries.Subscribe n ps) rides rider h = refl
-rider_stays number stage (entries.Unsubscribe n ps) rides rider h = refl
-rider_stays number stage (entries.Publish e) rides rider h = refl
-rider_stays number stage _ rides rider h = cc
-
--- so many events of the queue
-rode_gives : (most place : ℕ) (rider : Rider) (s : Session) → GivesRider most place rider s (rode (min most (length s.queue)) place rider.reply s)
-rode_gives most place rider s = record {
-  given = take (min most (length s.queue)) s.queue;
-  answers = refl;
-  queue = sym (take-append-drop (min most (length s.queue)) s.queue);
-  count = let l = length-take (min most (length s.queue)) s.queue in omega arith;
-  left = let l = length-drop (min most (length s.queue)) s.queue in omega arith;
-}
+rider_stays number stage k rides rider h = grind (arith, common_steps)
 
 pub rider_given : RiderGiven
 rider_given config s e rider rides own live plain =
@@ -450,7 +389,12 @@ rider_given config s e rider rides own live plain =
     let stage : (step_by config e.place e.moment s e.kind).stage ≡ Live = n.stage ∙ rider_stays s.number s.stage e.kind e.rides rider rides ∙ live in
     let riding : is_riding rider (step_by config e.place e.moment s e.kind) ≡ true =
     ap (λ (b : Bool). b && is_live u.stage) (eq-eqb rider.session u.number (own ∙ sym n.number)) ∙ ap is_live stage in
-    let same : step config s e ≡ rode (min config.limits.batch (length (step_by config e.place e.moment s e.kind).queue)) e.place rider.reply (step_by config e.place e.moment s e.kind) =
-    ap (ridden_by config e.place u) rides ∙ cond-true (is_riding rider u) (ridden config e.place rider.reply u) u riding
-    ∙ ap (λ (count : ℕ). rode count e.place rider.reply u) (cond-false u.ack 0 (portion config u) acks) in
-    subst (GivesRider config.limits.batch e.place rider (step_by config e.place e.moment s e.kind)) (sym same) (rode_gives config.limits.batch e.place rider (step_by config e.place e.moment s e.kind))
+    let same : step config s e ≡ ridden config e.place rider.reply (step_by config e.place e.moment s e.kind) =
+    ap (ridden_by config e.place u) rides ∙ cond-true (is_riding rider u) (ridden config e.place rider.reply u) u riding in
+    subst (GivesRider config.limits.batch e.place rider u) (sym same) (record {
+      given = take (ride_portion config u) u.queue;
+      answers = refl;
+      queue = sym (take-append-drop (ride_portion config u) u.queue);
+      count = grind (arith, common_steps, acks);
+      left = grind (arith, common_steps, acks);
+    })

@@ -44,8 +44,7 @@ AnswersStay = (config : Config) (list other : List Listed) (place : ℕ) (a : Pl
 
 -- P holds of each answer
 abbrev pub Each : (Filed → Type 0) → List Filed → Type 0
-Each P [] = ⊤
-Each P (f ∷ fs) = P f × Each P fs
+Each P fs = AllByRecursion P fs
 
 -- the publications are so many of the events from some index on, which is at least `low` where they are any
 pub record Slice (events : List Publication) (low : ℕ) (given : List Publication) : Type 0 where
@@ -69,8 +68,7 @@ NeverGivenAgain = (config : Config) (number : ℕ) (xs : List Entry) (e : Entry)
 
 -- P holds of each publication
 abbrev pub EachOf : (Publication → Type 0) → List Publication → Type 0
-EachOf P [] = ⊤
-EachOf P (p ∷ ps) = P p × EachOf P ps
+EachOf P ps = AllByRecursion P ps
 
 -- each of the first stands at an earlier place than each of the second
 abbrev pub AllBelow : List Publication → List Publication → Type 0
