@@ -1,26 +1,24 @@
 -- What an answer gives is the event of an accepted publish of the list, which the session got.
-use Rattle.std.proofs.Common.{◌≡◌, ℕ, ◌+◌, ◌<◌, max, Option, Some, None, List, [], ◌∷◌, ◌++◌, length, drop, map, find, fold, option_map, slice_get, ◌==◌, refl, sym, ap, ◌∙◌, subst, arith, append-nil, append_assoc, Bool, true, false}
+use Rattle.std.proofs.Common.{◌≡◌, ℕ, ◌<◌, Option, Some, None, List, [], ◌∷◌, length, drop, find, option_map, slice_get, ◌==◌, refl, sym, ap, ◌∙◌, subst, arith}
 use Rattle.bx_advice.specs.declared.config.Config.{Config}
-use Rattle.bx_advice.specs.declared.error.Error.{Error}
 use Rattle.bx_message.specs.declared.event.Event.{Event}
 use Rattle.bx_message.specs.declared.message_kind.MessageKind.{MessageKind}
-use Rattle.bx_message.specs.MessageKinds.{message_kind_of, is_handshake}
+use Rattle.bx_message.specs.MessageKinds.{message_kind_of}
 use Rattle.bx_entry.specs.Listing.{Listed, Post, Posted}
-use Rattle.bx_entry.specs.Listing as messages
 use Rattle.bx_entry.specs.declared.entry.Entry.{Entry}
 use Rattle.bx_entry.specs.declared.entry.EntryKind.{EntryKind}
 use Rattle.bx_entry.specs.declared.entry.EntryKind.TheVariants.{Publish}
-use Rattle.bx_entry.specs.Registry.{Registry, Registered, Judged, PlaceSlot, Ready, Waiting, NoSlot, event_of, kind_for, judge, judged_by, named_by, refusal, hold_of, registry, empty_registry, entries_of, unnamed, sessionless_kind, noted, state_of}
+use Rattle.bx_entry.specs.Registry.{Registry, Registered, Judged, PlaceSlot, Ready, Waiting, NoSlot, event_of, kind_for, hold_of, registry, entries_of, sessionless_kind}
 use Rattle.bx_entry.specs.Sessions.{Publication, Filed, session, unopened}
 use Rattle.bx_entry.specs.Answers.{PlacedAnswer, answer_of, events_of, answer_by, answer_at}
-use Rattle.bx_theory.proofs.Verdicts.{by_verdict}
-use Rattle.bx_theory.specs.Laws.{Each, EachOf, Slice, PlacesFrom}
+use Rattle.bx_theory.proofs.Verdicts.{EntryOf, FoundOf, each_verdict, entry_of_place, got_here, judged_length, next_found, verdict_of}
+use Rattle.bx_theory.specs.Laws.{Each, EachOf, Slice}
 use Rattle.bx_theory.specs.Events.{GetsPublish, EachEvent, WasPublished, GivenWasPublished}
 use Rattle.bx_theory.proofs.Counts.{unopened_in_step}
 use Rattle.bx_theory.proofs.Moves.{each_map}
 use Rattle.bx_theory.proofs.Runs.{Grown, run_grown, all_places}
 use Rattle.bx_theory.proofs.Rising.{each_of_take, each_of_drop}
-use Rattle.bx_theory.proofs.Lists.{find_each, entries_in_order}
+use Rattle.bx_theory.proofs.Lists.{find_each}
 use Rattle.bx_theory.proofs.Gained.{events_were_published}
 
 -- ---- a publish entry stands where the list has a publish
@@ -34,13 +32,6 @@ record FromPost (x : Listed) (e : Event) : Type 0 where
 abbrev OfPost : Listed → EntryKind → Type 0
 OfPost x k = (e : Event) → k ≡ Publish e → FromPost x e
 
--- each element with what was found at its place
-abbrev Pairs : List Listed → List Judged → Type 0
-Pairs [] [] = Unit {0}
-Pairs [] (j ∷ js) = ⊥
-Pairs (x ∷ xs) [] = ⊥
-Pairs (x ∷ xs) (j ∷ js) = OfPost x j.entry.kind × Pairs xs js
-
 kind_of_post : (c : MessageKind) (p : Posted) (s : Registered) (hold : ℕ) → message_kind_of p.message.channel ≡ c → OfPost (Post p) (kind_for c p s hold)
 kind_of_post MessageKind.Publish p s hold h = λ e k. record { message = p; posted = refl; message_kind = h; event = (let same : event_of p.message ≡ e = cc in sym same) }
 kind_of_post _ p s hold h = λ e k. cc
@@ -49,65 +40,14 @@ sessionless_of_post : (c : MessageKind) (p : Posted) → message_kind_of p.messa
 sessionless_of_post MessageKind.Publish p h = λ e k. record { message = p; posted = refl; message_kind = h; event = (let same : event_of p.message ≡ e = cc in sym same) }
 sessionless_of_post _ p h = λ e k. cc
 
-record JudgedFrom (r t : Registry) (x : Listed) : Type 0 where
-  found : Judged
-  judged : t.judged ≡ r.judged ++ found ∷ []
-  post : OfPost x found.entry.kind
-
-judge_post : (config : Config) (r : Registry) (x : Listed) → JudgedFrom r (judge config r x) x
-judge_post config r (Post p) =
-    let c : MessageKind = message_kind_of p.message.channel in
-    record {
-      found = _;
-      judged = refl;
-      post = by_verdict (λ v. OfPost (Post p) v.kind) config (state_of r) (max r.clock p.moment) p (named_by r.sessions c p.message) (refusal config r.sessions p)
-          (λ error e k. cc) (λ e k. cc) (sessionless_of_post c p refl) (λ s h. kind_of_post c p s (hold_of config p) refl);
-    }
-judge_post config r (messages.Tick moment) = record { found = _; judged = refl; post = λ e k. cc }
-
-record Paired (xs : List Listed) (r t : Registry) : Type 0 where
-  more : List Judged
-  judged : t.judged ≡ r.judged ++ more
-  pairs : Pairs xs more
-
-paired : (config : Config) (r : Registry) (xs : List Listed) → Paired xs r (fold (judge config) r xs)
-paired config r [] = record { more = []; judged = sym (append-nil r.judged); pairs = tt }
-paired config r (x ∷ xs) =
-    let one : JudgedFrom r (judge config r x) x = judge_post config r x in
-    let rest : Paired xs (judge config r x) (fold (judge config) (judge config r x) xs) = paired config (judge config r x) xs in
-    record {
-      more = one.found ∷ rest.more;
-      judged = rest.judged ∙ ap (λ (js : List Judged). js ++ rest.more) one.judged ∙ append_assoc r.judged (one.found ∷ []) rest.more;
-      pairs = (one.post, rest.pairs);
-    }
-
-abbrev entry_of : Judged → Entry
-entry_of j = j.entry
-
--- the element at the place of an entry
-record Element (xs : List Listed) (k : ℕ) (entry : Entry) : Type 0 where
-  element : Listed
-  there : slice_get xs k ≡ Some element
-  post : OfPost element entry.kind
-
-element_at : (xs : List Listed) (js : List Judged) (before : List Entry) (entry : Entry) (behind : List Entry) → Pairs xs js → map entry_of js ≡ before ++ entry ∷ behind → Element xs (length before) entry
-element_at [] [] [] entry behind d e = cc
-element_at [] [] (b ∷ before) entry behind d e = cc
-element_at [] (j ∷ js) before entry behind d e = absurd d
-element_at (x ∷ xs) [] before entry behind d e = absurd d
-element_at (x ∷ xs) (j ∷ js) [] entry behind d e =
-    let same : j.entry ≡ entry = cc in
-    record { element = x; there = refl; post = subst (λ (y : Entry). OfPost x y.kind) same d.0 }
-element_at (x ∷ xs) (j ∷ js) (b ∷ before) entry behind d e =
-    let rest : map entry_of js ≡ before ++ entry ∷ behind = cc in
-    let l : Element xs (length before) entry = element_at xs js before entry behind d.1 rest in
-    record { element = l.element; there = l.there; post = l.post }
-
-place_at : (n : ℕ) (es before : List Entry) (entry : Entry) (behind : List Entry) → PlacesFrom n es → es ≡ before ++ entry ∷ behind → entry.place ≡ n + length before
-place_at n [] [] entry behind d e = cc
-place_at n [] (b ∷ before) entry behind d e = cc
-place_at n (x ∷ es) [] entry behind d e = let same : x ≡ entry = cc in let p : entry.place ≡ n = sym (ap (λ (y : Entry). y.place) same) ∙ d.0 in omega (arith, p)
-place_at n (x ∷ es) (b ∷ before) entry behind d e = let rest : es ≡ before ++ entry ∷ behind = cc in omega (arith, place_at (n + 1) es before entry behind d.1 rest)
+of_post : (config : Config) (r : Registry) (x : Listed) → OfPost x (verdict_of config r x).kind
+of_post config r x = each_verdict config r (λ y v. OfPost y v.kind) (record {
+  refuses = λ p sender error e k. cc;
+  opens = λ p e k. cc;
+  none = λ p. sessionless_of_post (message_kind_of p.message.channel) p refl;
+  serves = λ p s h. kind_of_post (message_kind_of p.message.channel) p s (hold_of config p) refl;
+  ticks = λ moment e k. cc;
+}) x
 
 -- ---- an answer's events are the session's
 
@@ -130,20 +70,19 @@ published_here : (config : Config) (list : List Listed) (place number : ℕ) (p 
     option_map (λ (j : Judged). j.slot) (slice_get (registry config list).judged place) ≡ Some (Waiting number) →
     GetsPublish config number (entries_of (registry config list)) p → WasPublished config list place p.event
 published_here config list place number p asked g =
-    let d : Paired list empty_registry (registry config list) = paired config empty_registry list in
-    let pairs : Pairs list (registry config list).judged = subst (Pairs list) (sym d.judged) d.pairs in
-    let l : Element list (length g.before) g.entry = element_at list (registry config list).judged g.before g.entry g.behind pairs g.split in
-    let here : g.entry.place ≡ 0 + length g.before = place_at 0 (entries_of (registry config list)) g.before g.entry g.behind (entries_in_order config list) g.split in
-    let m : FromPost l.element p.event = l.post p.event g.kind in
-    let source : length g.before ≡ p.place = omega (arith, here, g.place) in
+    let here : EntryOf config list (length g.before) g.entry = entry_of_place config list (length g.before) g.entry (ap (λ (es : List Entry). slice_get es (length g.before)) g.split ∙ got_here g.before g.entry g.behind) in
+    let f : FoundOf config list (length g.before) here.judged = here.found in
+    let found : (next_found config (registry config f.before) f.element).entry ≡ g.entry = ap (λ (j : Judged). j.entry) f.found ∙ here.is in
+    let post : FromPost f.element p.event = of_post config (registry config f.before) f.element p.event (ap (λ (e : Entry). e.kind) found ∙ g.kind) in
+    let source : length f.before ≡ p.place = omega (arith, ap (λ (e : Entry). e.place) found, judged_length config f.before, g.place) in
     record {
       number = number;
       asked = asked;
       source = p.place;
-      message = m.message;
-      listed = ap (slice_get list) (sym source) ∙ l.there ∙ ap Some m.posted;
-      message_kind = m.message_kind;
-      event = m.event;
+      message = post.message;
+      listed = ap (slice_get list) (sym source) ∙ ap (λ (xs : List Listed). slice_get xs (length f.before)) (sym f.whole) ∙ got_here f.before f.element f.behind ∙ ap Some post.posted;
+      message_kind = post.message_kind;
+      event = post.event;
       gets = g;
     }
 

@@ -11,7 +11,7 @@ use Rattle.serde_json.specs.Read.{of_json}
 use Rattle.bx_advice.specs.Errors.{error_text}
 use Rattle.bx_advice.specs.declared.advice.Advice.{Advice}
 use Rattle.bx_advice.specs.declared.advice.Outcome.{Outcome}
-use Rattle.bx_advice.specs.declared.advice.Outcome.TheVariants.{Opened, Connected, Disconnected, Done, Failed}
+use Rattle.bx_advice.specs.declared.advice.Outcome.TheVariants.{Failed}
 use Rattle.bx_message.specs.declared.message_kind.MessageKind.{MessageKind}
 use Rattle.bx_message.specs.declared.event.Event.{Event}
 use Rattle.bx_message.specs.declared.reply.Reply.{Reply}

@@ -1,8 +1,9 @@
 -- The number behind a client id's nonce is read back.
-use Rattle.std.proofs.Common.{◌≡◌, ℕ, zero, suc, ◌+◌, ◌*◌, ◌/◌, ◌%◌, ◌^◌, ◌<◌, ◌≤◌, Bool, true, false, List, [], ◌∷◌, ◌++◌, length, drop, refl, sym, ap, subst, ◌∙◌, cond, arith, length-append, eqb-true}
-use Rattle.std.specs.Prelude.{nat_lt, if◌then◌else◌, ◌==◌, ◌&&◌, Option, Some, None}
+use Rattle.std.proofs.Common.{◌≡◌, ℕ, zero, suc, ◌+◌, ◌*◌, ◌/◌, ◌%◌, ◌^◌, ◌<◌, ◌≤◌, Bool, true, false, List, [], ◌∷◌, ◌++◌, length, drop, refl, sym, ap, subst, ◌∙◌, arith, length-append, eqb-true}
+use Rattle.std.specs.Prelude.{if◌then◌else◌, ◌==◌, ◌&&◌, Option, Some, None}
 use Rattle.std.specs.Str.{bytes_eq}
 use Rattle.std.proofs.lemmas.Slice.Eq.{bytes_eq-Decides}
+use Rattle.std.proofs.lemmas.Grind.{common_steps}
 use Rattle.std.specs.Char.{digit_char}
 use Rattle.std.proofs.lemmas.Bool.Decides.{nat_tests}
 use Rattle.std.proofs.Math.Nat.{pow-suc, div-lt_iff_lt-mul, mod-lt, mod-eq_of_lt}
@@ -16,12 +17,8 @@ use Rattle.bx_roster.proofs.Tables.{IsTable-bounds}
 use Rattle.bx_registry.specs.Ids.{digit_value, with_digit, hex_value, number_in}
 use Rattle.bx_registry.specs.Drafts.{IsSender}
 
-digit_value-char-by : (d : ℕ) → d < 16 → (b : Bool) → nat_lt d 10 ≡ b → digit_value (cond b (48 + d) (87 + d)) ≡ d
-digit_value-char-by d lt true e = grind (arith, nat_tests)
-digit_value-char-by d lt false e = grind (arith, nat_tests)
-
 digit_value-char : (d : ℕ) → d < 16 → digit_value (digit_char d) ≡ d
-digit_value-char d lt = digit_value-char-by d lt (nat_lt d 10) refl
+digit_value-char d lt = grind (arith, common_steps, nat_tests)
 
 pub length-hex_digits : (width n : ℕ) → length (hex_digits width n) ≡ width
 length-hex_digits zero n = refl
@@ -72,15 +69,10 @@ of-some : (known k : List ℕ × Bool) → Some known ≡ Some k → known ≡ k
 of-some known k e = cc
 
 -- none of the sessions with greater numbers has the id
-none-by : (low high : ℕ) (r : Registered) (rs : List Registered) (text : List ℕ) → IsTable low high (r ∷ rs) → high < 2 ^ 64 → AllLive (r ∷ rs) → number_in text ≤ low →
-    live_with_id rs text ≡ None → (b : Bool) → bytes_eq r.client text ≡ b → live_with_id (r ∷ rs) text ≡ None
-none-by low high r rs text t small all le ih true e = absurd (omega (arith, number-of low high r rs text t small e, t.0))
-none-by low high r rs text t small all le ih false e = found-next r (live_with_id rs text) text all.0 false e ∙ ih
-
 pub found-none : (low high : ℕ) (rs : List Registered) (text : List ℕ) → IsTable low high rs → high < 2 ^ 64 → AllLive rs → number_in text ≤ low → live_with_id rs text ≡ None
 found-none low high [] text t small all le = refl
 found-none low high (r ∷ rs) text t small all le =
-    none-by low high r rs text t small all le (found-none r.number high rs text t.2 small all.1 (omega (arith, t.0))) (bytes_eq r.client text) refl
+    grind (arith, common_steps, found-none r.number high rs text t.2 small all.1, number-of low high r rs text t small)
 
 -- what the number at the end of an id finds, if it has that id
 abbrev pub Finds : List Registered → List ℕ → Option (List ℕ × Bool) → Type 0

@@ -1,10 +1,10 @@
 -- The sessions behind the edits of a request.
-use Rattle.std.proofs.Common.{◌≡◌, ℕ, suc, ◌+◌, ◌-◌, Bool, true, false, List, [], ◌∷◌, ◌++◌, length, length-append, map, fold, refl, sym, ap, subst, ◌∙◌, cond, arith, eqb-true}
+use Rattle.std.proofs.Common.{◌≡◌, ℕ, ◌+◌, ◌-◌, Bool, false, List, [], ◌∷◌, ◌++◌, length, length-append, map, fold, refl, sym, ap, subst, ◌∙◌, cond, arith}
 use Rattle.std.specs.Prelude.{◌==◌, max, Option, Some, None, IsSome, if◌then◌else◌}
+use Rattle.std.proofs.lemmas.Grind.{common_steps}
 use Rattle.std.specs.Option.{option_or}
 use Rattle.std.proofs.lemmas.List.{length-map}
 use Rattle.std.proofs.lemmas.List.Sums.{fold-append}
-use Rattle.std.proofs.lemmas.Bool.{eqb-false}
 use Rattle.bx_entry.specs.Registry.{Registered, extended, closed}
 use Rattle.bx_roster.proofs.Sessions.{AllLive-push}
 use Rattle.bx_roster.specs.Live.{Members, live_in}
@@ -25,20 +25,10 @@ can-more ms (x ∷ es) e can one = (can.0, can-more (edited ms x) es e can.1 one
 extend-all : (n due : ℕ) (rs : List Registered) → AllLive rs → live_in (extended n due rs) ≡ extended n due rs
 extend-all n due rs all = live_in-extended n due rs ∙ ap (extended n due) (live_in-all rs all)
 
-closed-count-by : (n : ℕ) (r : Registered) (rs : List Registered) (high : ℕ) → IsTable r.number high rs → r.live ≡ true → AllLive rs →
-    (IsSome (known_at n rs) → length (live_in (closed n rs)) + 1 ≡ length rs) → ((b : Bool) → (r.number == n) ≡ b → IsSome (if b then Some (known_of r) else known_at n rs) →
-    length (live_in ((if b then record r { live = false } else r) ∷ closed n rs)) + 1 ≡ suc (length rs))
-closed-count-by n r rs high t lives all more true e some =
-    let here : r.number ≡ n = eqb-true r.number n e in
-    let same : closed n rs ≡ rs = map-absent n (λ s. record s { live = false }) rs (IsTable-absent r.number high n rs (omega (arith, here)) t) in
-    omega (arith, ap length (ap live_in same ∙ live_in-all rs all))
-closed-count-by n r rs high t lives all more false e some =
-    let kept : live_in (r ∷ closed n rs) ≡ r ∷ live_in (closed n rs) = ap (λ (b : Bool). cond b (r ∷ live_in (closed n rs)) (live_in (closed n rs))) lives in
-    omega (arith, ap length kept, more some)
-
 pub closed-count : (n low high : ℕ) (rs : List Registered) → IsTable low high rs → AllLive rs → IsSome (known_at n rs) → length (live_in (closed n rs)) + 1 ≡ length rs
 closed-count n low high [] t all some = cc
-closed-count n low high (r ∷ rs) t all some = closed-count-by n r rs high t.2 all.0 all.1 (closed-count n r.number high rs t.2 all.1) (r.number == n) refl some
+closed-count n low high (r ∷ rs) t all some =
+    grind (arith, common_steps, closed-count n r.number high rs t.2 all.1, map-absent n (λ s. record s { live = false }) rs, IsTable-absent r.number high n rs, live_in-all rs all.1)
 
 pub opened-drafted : (base : Members) (es : List Edit) (s : Registered) {count opened : ℕ} → IsDrafted base es count opened → IsNext (fold edited base es) s → IsDrafted base (es ++ Open s ∷ []) (count + 1) s.number
 opened-drafted base es s {count} {opened} d next =
@@ -100,8 +90,7 @@ pushed-close base es new e m k n {count} {opened} d is what can f g =
     rw (is, what, f, g) (closed-drafted base es m d (subst P what can))
 
 limit-edited : (ms : Members) (e : Edit) → (edited ms e).limit ≡ ms.limit
-limit-edited ms (Open s) = refl
-limit-edited ms _ = refl
+limit-edited ms e = grind (arith, common_steps)
 
 pub limit-same : (ms : Members) (es : List Edit) → (fold edited ms es).limit ≡ ms.limit
 limit-same ms [] = refl
@@ -109,46 +98,24 @@ limit-same ms (e ∷ es) = limit-same (edited ms e) es ∙ limit-edited ms e
 
 -- ---- what is known of the session with a number
 
-known_at-push-by : (known : List ℕ × Bool) (more rest last : Option (List ℕ × Bool)) → more ≡ option_or rest last → (b : Bool) → cond b (Some known) more ≡ option_or (cond b (Some known) rest) last
-known_at-push-by known more rest last e true = refl
-known_at-push-by known more rest last e false = e
-
 known_at-push : (n : ℕ) (rs : List Registered) (s : Registered) → known_at n (rs ++ s ∷ []) ≡ option_or (known_at n rs) (if s.number == n then Some (known_of s) else None)
 known_at-push n [] s = refl
-known_at-push n (r ∷ rs) s = known_at-push-by (known_of r) (known_at n (rs ++ s ∷ [])) (known_at n rs) (if s.number == n then Some (known_of s) else None) (known_at-push n rs s) (r.number == n)
+known_at-push n (r ∷ rs) s = grind (arith, common_steps, known_at-push n rs s)
 
 known_at-map : (n : ℕ) (g : Registered → Registered) (rs : List Registered) → ((r : Registered) → (g r).number ≡ r.number) → ((r : Registered) → known_of (g r) ≡ known_of r) → known_at n (map g rs) ≡ known_at n rs
 known_at-map n g [] number known = refl
 known_at-map n g (r ∷ rs) number known = rw (number r, known r) (ap (λ (o : Option (List ℕ × Bool)). cond (r.number == n) (Some (known_of r)) o) (known_at-map n g rs number known))
 
 changed-known : (due : ℕ) (r : Registered) (b : Bool) → known_of (if b then record r { due = max r.due due } else r) ≡ known_of r
-changed-known due r true = refl
-changed-known due r false = refl
+changed-known due r b = grind (arith, common_steps)
 
 none-either : (b : Bool) (o : Option (List ℕ × Bool)) → o ≡ (if b then o else o)
-none-either true o = refl
-none-either false o = refl
+none-either b o = grind (arith, common_steps)
 
 -- a closed session is passed over, another one is not
-known_at-kept-by : (n m : ℕ) (r : Registered) (rest kept : List Registered) → known_at n (live_in kept) ≡ (if m == n then None else known_at n rest) → (r.number == m) ≡ false →
-    (c : Bool) → (r.number == n) ≡ c → (d : Bool) → (m == n) ≡ d → known_at n (r ∷ live_in kept) ≡ (if d then None else (if c then Some (known_of r) else known_at n rest))
-known_at-kept-by n m r rest kept ih e true f true g = absurd (eqb-false r.number m e (eqb-true r.number n f ∙ sym (eqb-true m n g)))
-known_at-kept-by n m r rest kept ih e true f false g = ap (λ (t : Bool). if t then Some (known_of r) else known_at n (live_in kept)) f
-known_at-kept-by n m r rest kept ih e false f true g = ap (λ (t : Bool). if t then Some (known_of r) else known_at n (live_in kept)) f ∙ ih ∙ ap (λ (t : Bool). if t then None else known_at n rest) g
-known_at-kept-by n m r rest kept ih e false f false g = ap (λ (t : Bool). if t then Some (known_of r) else known_at n (live_in kept)) f ∙ ih ∙ ap (λ (t : Bool). if t then None else known_at n rest) g
-
-known_at-closed-by : (n m : ℕ) (r : Registered) (rest kept : List Registered) → known_at n (live_in kept) ≡ (if m == n then None else known_at n rest) → r.live ≡ true →
-    (b : Bool) → (r.number == m) ≡ b → (c : Bool) → (r.number == n) ≡ c → (d : Bool) → (m == n) ≡ d →
-    known_at n (live_in ((if b then record r { live = false } else r) ∷ kept)) ≡ (if d then None else (if c then Some (known_of r) else known_at n rest))
-known_at-closed-by n m r rest kept ih lives true e true f true g = ih ∙ ap (λ (t : Bool). if t then None else known_at n rest) g
-known_at-closed-by n m r rest kept ih lives true e true f false g = absurd (eqb-false m n g (sym (eqb-true r.number m e) ∙ eqb-true r.number n f))
-known_at-closed-by n m r rest kept ih lives true e false f true g = absurd (eqb-false r.number n f (eqb-true r.number m e ∙ eqb-true m n g))
-known_at-closed-by n m r rest kept ih lives true e false f false g = ih ∙ ap (λ (t : Bool). if t then None else known_at n rest) g
-known_at-closed-by n m r rest kept ih lives false e c f d g = ap (λ (t : Bool). known_at n (cond t (r ∷ live_in kept) (live_in kept))) lives ∙ known_at-kept-by n m r rest kept ih e c f d g
-
 known_at-closed : (n m : ℕ) (rs : List Registered) → AllLive rs → known_at n (live_in (closed m rs)) ≡ (if m == n then None else known_at n rs)
 known_at-closed n m [] all = none-either (m == n) None
-known_at-closed n m (r ∷ rs) all = known_at-closed-by n m r rs (closed m rs) (known_at-closed n m rs all.1) all.0 (r.number == m) refl (r.number == n) refl (m == n) refl
+known_at-closed n m (r ∷ rs) all = grind (arith, common_steps, known_at-closed n m rs all.1)
 
 known_at-edited : (n : ℕ) (ms : Members) (e : Edit) → AllLive ms.live → known_at n (edited ms e).live ≡ known_after n (known_at n ms.live) e
 known_at-edited n ms (Open s) all = known_at-push n ms.live s

@@ -1,19 +1,17 @@
 -- What a message comes to, by the edit, the entry and the slot that are made for it.
-use Rattle.std.proofs.Common.{◌≡◌, ℕ, ◌+◌, ◌<◌, ◌^◌, Bool, true, false, List, [], ◌∷◌, ◌++◌, length, refl, sym, ap, subst, ◌∙◌, cond, arith, Result, Ok, Err, eq-eqb}
-use Rattle.std.specs.Prelude.{◌&&◌, ◌==◌, not, nat_le, max, Option, Some, None, IsSome, IfOk, MatchOption, is_some, option_map, if◌then◌else◌}
-use Rattle.std.specs.Str.{bytes_eq}
+use Rattle.std.proofs.Common.{◌≡◌, ℕ, ◌+◌, ◌<◌, ◌^◌, Bool, true, false, List, [], ◌∷◌, ◌++◌, length, refl, sym, ap, subst, ◌∙◌, arith, Result, Ok, Err}
+use Rattle.std.specs.Prelude.{nat_le, Option, Some, None, IsSome, IfOk, MatchOption, is_some, option_map, if◌then◌else◌}
 use Rattle.std.proofs.lemmas.Bool.{cond-true, leb-false}
+use Rattle.std.proofs.lemmas.Grind.{common_steps}
 use Rattle.bx_names.specs.Faults.{first_case}
 use Rattle.bx_advice.specs.declared.config.Config.{Config}
 use Rattle.bx_advice.specs.declared.error.Error.{Error}
-use Rattle.bx_advice.specs.declared.error.Error.TheVariants.{SecondHandshake, UnsupportedVersion, NoSupportedConnectionType, TooManySessions}
-use Rattle.std.specs.List.{list_any}
 use Rattle.bx_registry.specs.declared.draft.Sender.{Sender}
 use Rattle.bx_registry.specs.Drafts.{named}
 use Rattle.bx_advice.specs.declared.advice.Outcome.TheVariants.{Failed}
 use Rattle.bx_advice.specs.declared.advice.Outcome.TheVariants as advice
 use Rattle.bx_message.specs.declared.message_kind.MessageKind.{MessageKind}
-use Rattle.bx_message.specs.declared.message_kind.MessageKind.TheVariants.{Handshake, Connect, Subscribe, Unsubscribe, Disconnect, Publish, UnknownMeta}
+use Rattle.bx_message.specs.declared.message_kind.MessageKind.TheVariants.{Handshake, Disconnect, UnknownMeta}
 use Rattle.bx_message.specs.declared.message.Message.{Message}
 use Rattle.bx_message.specs.declared.message.TextMember.{TextMember}
 use Rattle.bx_message.specs.declared.message.TextMember.TheVariants.{Text}
@@ -25,9 +23,9 @@ use Rattle.bx_entry.specs.declared.entry.Rider.{Rider}
 use Rattle.bx_entry.specs.declared.senders.Senders.{Senders}
 use Rattle.bx_entry.specs.declared.senders.Senders.TheVariants.{Mixed}
 use Rattle.bx_entry.specs.declared.entry.EntryKind.TheVariants as entries
-use Rattle.bx_entry.specs.Registry.{due_of, newcomer, rider_by, sessionless_kind, verdict, judged_by, unnamed, Registered, is_version, is_polling, cases_of, client_id, closed, count_live, extended, hold_of, is_ack, is_rider, joined, kind_for, left_by, live_with_id, named_by, refusal, rider_for, sender_of, senders_behind, slot_for, slot_with, PlaceSlot}
+use Rattle.bx_entry.specs.Registry.{due_of, newcomer, rider_by, sessionless_kind, verdict, judged_by, unnamed, Registered, cases_of, client_id, closed, count_live, extended, hold_of, is_ack, is_rider, joined, kind_for, left_by, live_with_id, named_by, refusal, rider_for, sender_of, senders_behind, slot_for, slot_with, PlaceSlot}
 use Rattle.bx_roster.specs.Live.{Members, live_in, with_live}
-use Rattle.bx_roster.specs.Tables.{known_of, known_at, AllLive}
+use Rattle.bx_roster.specs.Tables.{known_at, AllLive}
 use Rattle.bx_roster.specs.Edits.{edited, CanEdit}
 use Rattle.bx_roster.specs.declared.edit.Edit.TheVariants.{Open}
 use Rattle.bx_roster.proofs.Sessions.{AllLive-push}
@@ -66,16 +64,9 @@ refused-verdict config ms senders moment place p error j client all is who e f b
 
 -- ---- a handshake
 
-last-outcome : {E : Type 0} (b1 b2 b3 b4 : Bool) (e1 e2 e3 e4 : E) → first_case ((b1, e1) ∷ (b2, e2) ∷ (b3, e3) ∷ (b4, e4) ∷ []) ≡ None → b4 ≡ false
-last-outcome true b2 b3 b4 e1 e2 e3 e4 h = cc
-last-outcome false true b3 b4 e1 e2 e3 e4 h = cc
-last-outcome false false true b4 e1 e2 e3 e4 h = cc
-last-outcome false false false true e1 e2 e3 e4 h = cc
-last-outcome false false false false e1 e2 e3 e4 h = refl
-
 -- where nothing refuses a handshake, there is room for one more session
 room : (config : Config) (live : List Registered) (p : Posted) → first_case (cases_of config live p Handshake) ≡ None → nat_le config.limits.sessions (count_live live) ≡ false
-room config live p h = last-outcome p.second (not (is_version p.message.version)) (not (list_any is_polling p.message.supported)) (nat_le config.limits.sessions (count_live live)) SecondHandshake UnsupportedVersion NoSupportedConnectionType TooManySessions h
+room config live p h = grind (arith, common_steps)
 
 pub handshake-kind : (m : Message) → is_handshake m ≡ true → message_kind_of m.channel ≡ Handshake
 handshake-kind m h = cond-true (is_handshake m) Handshake _ h
@@ -124,27 +115,14 @@ abbrev pub IsFound : Option Sender → Option Registered → Type 0
 IsFound o r = MatchOption o (r ≡ None) (λ s. IsSender r s.number s.client.now s.ack)
 
 pub found-known : (o : Option Sender) (r : Option Registered) → IsFound o r → is_some o ≡ is_some r
-found-known None r e = sym (ap is_some e)
-found-known (Some s) None e = absurd e
-found-known (Some s) (Some r) e = refl
+found-known o r e = grind (arith, common_steps)
 
 pub found-client : (o : Option Sender) (r : Option Registered) → IsFound o r → option_map (λ (s : Sender). s.client.now) o ≡ option_map (λ (s : Registered). s.client) r
-found-client None r e = sym (ap (option_map (λ (s : Registered). s.client)) e)
-found-client (Some s) None e = absurd e
-found-client (Some s) (Some r) e = ap (λ (x : List ℕ). Some x) (sym e.1)
-
-found-at-either : (b : Bool) (known : List ℕ × Bool) (o : Option (List ℕ × Bool)) → IsSome o → IsSome (if b then Some known else o)
-found-at-either true known o some = refl
-found-at-either false known o some = some
-
-found-at-by : (r s : Registered) (rest : List Registered) (text : List ℕ) → (live_with_id rest text ≡ Some r → IsSome (known_at r.number rest)) → (b : Bool) →
-    (if b then Some s else live_with_id rest text) ≡ Some r → IsSome (if s.number == r.number then Some (known_of s) else known_at r.number rest)
-found-at-by r s rest text more true e = let same : s ≡ r = cc in rw (eq-eqb s.number r.number (ap (λ (x : Registered). x.number) same)) refl
-found-at-by r s rest text more false e = found-at-either (s.number == r.number) (known_of s) (known_at r.number rest) (more e)
+found-client o r e = grind (arith, common_steps)
 
 found-at : (r : Registered) (rs : List Registered) (text : List ℕ) → live_with_id rs text ≡ Some r → IsSome (known_at r.number rs)
 found-at r [] text e = cc
-found-at r (s ∷ rs) text e = found-at-by r s rs text (found-at r rs text) (s.live && bytes_eq s.client text) e
+found-at r (s ∷ rs) text e = grind (arith, common_steps, found-at r rs text)
 
 sender-at : (r : Registered) (rs : List Registered) (client : TextMember) → sender_of rs client ≡ Some r → IsSome (known_at r.number rs)
 sender-at r rs (Text text) e = found-at r rs text e
@@ -157,17 +135,9 @@ named-at r rs _ m e = sender-at r rs m.client e
 
 -- ---- an accepted message of a session
 
-closing-extended : (n due : ℕ) (r : Registered) (b : Bool) → (r.number == n) ≡ b → (kept more : List Registered) → live_in kept ≡ live_in more →
-    live_in ((if (if b then record r { due = max r.due due } else r).number == n then record (if b then record r { due = max r.due due } else r) { live = false } else (if b then record r { due = max r.due due } else r)) ∷ kept)
-    ≡ live_in ((if b then record r { live = false } else r) ∷ more)
-closing-extended n due r true e kept more ih =
-    ap (λ (t : Bool). live_in ((if t then record r { due = max r.due due; live = false } else record r { due = max r.due due }) ∷ kept)) e ∙ ih
-closing-extended n due r false e kept more ih =
-    ap (λ (t : Bool). live_in ((if t then record r { live = false } else r) ∷ kept)) e ∙ ap (λ (ys : List Registered). cond r.live (r ∷ ys) ys) ih
-
 closed-extended : (n due : ℕ) (rs : List Registered) → live_in (closed n (extended n due rs)) ≡ live_in (closed n rs)
 closed-extended n due [] = refl
-closed-extended n due (r ∷ rs) = closing-extended n due r (r.number == n) refl (closed n (extended n due rs)) (closed n rs) (closed-extended n due rs)
+closed-extended n due (r ∷ rs) = grind (arith, common_steps, closed-extended n due rs)
 
 edited-for : (ms : Members) (message_kind : MessageKind) (n due : ℕ) → edited ms (edit_for message_kind n due) ≡ with_live ms (live_in (left_by message_kind n (extended n due ms.live)))
 edited-for ms Disconnect n due = ap (with_live ms) (sym (closed-extended n due ms.live))
@@ -178,17 +148,10 @@ can-for ms Disconnect n due some = some
 can-for ms _ n due some = tt
 
 kind-for : (message_kind : MessageKind) (p : Posted) (s : Sender) (r : Registered) (hold : ℕ) → r.number ≡ s.number → r.client ≡ s.client.now → kind_for message_kind p (named s) hold ≡ kind_for message_kind p r hold
-kind-for Connect p s r hold e f = rw (e, f) refl
-kind-for Subscribe p s r hold e f = rw e refl
-kind-for Unsubscribe p s r hold e f = rw e refl
-kind-for Disconnect p s r hold e f = rw e refl
-kind-for _ p s r hold e f = refl
+kind-for message_kind p s r hold e f = grind (arith, common_steps)
 
 slot-for : (config : Config) (message_kind : MessageKind) (p : Posted) (s : Sender) (r : Registered) → r.number ≡ s.number → r.client ≡ s.client.now → slot_for config message_kind p (named s) ≡ slot_for config message_kind p r
-slot-for config Connect p s r e f = rw e refl
-slot-for config Publish p s r e f = refl
-slot-for config UnknownMeta p s r e f = refl
-slot-for config _ p s r e f = rw f refl
+slot-for config message_kind p s r e f = grind (arith, common_steps)
 
 ridden-for : (config : Config) (senders : Senders) (message_kind : MessageKind) (p : Posted) (s : Sender) (r : Registered) → r.number ≡ s.number → r.client ≡ s.client.now → r.ack ≡ s.ack →
     rider_by config senders message_kind p (named s) ≡ rider_by config senders message_kind p r

@@ -1,6 +1,7 @@
 -- A request opens at most one session.
-use Rattle.std.proofs.Common.{◌≡◌, ℕ, ◌+◌, ◌≤◌, Bool, true, false, List, [], ◌∷◌, fold, refl, sym, ap, ◌∙◌, arith, true≢false}
-use Rattle.std.specs.Prelude.{◌&&◌, ◌||◌, ◌==◌, max, length, if◌then◌else◌, Option, Some, None, is_some}
+use Rattle.std.proofs.Common.{◌≡◌, ℕ, ◌+◌, ◌≤◌, Bool, true, false, List, [], ◌∷◌, fold, refl, ap, ◌∙◌, arith}
+use Rattle.std.specs.Prelude.{◌&&◌, ◌||◌, ◌==◌, max, length, if◌then◌else◌, Option, Some}
+use Rattle.std.proofs.lemmas.Grind.{common_steps}
 use Rattle.bx_names.specs.Faults.{first_case}
 use Rattle.bx_advice.specs.declared.config.Config.{Config}
 use Rattle.bx_advice.specs.declared.error.Error.{Error}
@@ -8,7 +9,7 @@ use Rattle.bx_advice.specs.declared.error.Error.TheVariants.{SecondHandshake}
 use Rattle.bx_message.specs.declared.message.Message.{Message}
 use Rattle.bx_message.specs.MessageKinds.{message_kind_of, is_handshake}
 use Rattle.bx_entry.specs.Listing.{Posted, Post, listed_from, request}
-use Rattle.bx_entry.specs.Registry.{Registered, State, cases_of, judged_by, named_by, refusal, unnamed}
+use Rattle.bx_entry.specs.Registry.{Registered, State, cases_of, judged_by, named_by, refusal}
 use Rattle.bx_roster.specs.Live.{Members}
 use Rattle.bx_roster.specs.Edits.{CanEdit, CanEditEach, edited, opened_by, opened_by_each}
 use Rattle.bx_roster.specs.declared.edit.Edit.{Edit}
@@ -33,19 +34,10 @@ second-refused : (config : Config) (sessions : List Registered) (p : Posted) →
 second-refused config sessions p h second =
     ap (λ kind. first_case (cases_of config sessions p kind)) (handshake-kind p.message h) ∙ rw second refl
 
-unnamed-once : (config : Config) (state : State) (moment : ℕ) (p : Posted) (seen h : Bool) → (p.second ≡ true → h ≡ true → ⊥) → p.second ≡ (seen && h) →
-    (unnamed config state moment p h).state.opened + left (seen || h) ≤ state.opened + left seen
-unnamed-once config state moment p true true other second = absurd (other second refl)
-unnamed-once config state moment p false true other second = omega arith
-unnamed-once config state moment p seen false other second = omega (arith, left-more seen false)
-
 judged-once : (config : Config) (state : State) (moment : ℕ) (p : Posted) (seen : Bool) → p.second ≡ (seen && is_handshake p.message) →
     (sender : Option Registered) (fault : Option Error) → refusal config state.sessions p ≡ fault →
     (judged_by config state moment p sender fault).state.opened + left (seen || is_handshake p.message) ≤ state.opened + left seen
-judged-once config state moment p seen second sender (Some error) is = omega (arith, left-more seen (is_handshake p.message))
-judged-once config state moment p seen second (Some s) None is = omega (arith, left-more seen (is_handshake p.message))
-judged-once config state moment p seen second None None is =
-    unnamed-once config state moment p seen (is_handshake p.message) (λ twice h. true≢false (ap is_some (sym (second-refused config state.sessions p h twice) ∙ is))) second
+judged-once config state moment p seen second sender fault is = grind (arith, common_steps, second-refused config state.sessions p)
 
 -- ---- a request
 

@@ -1,6 +1,7 @@
 -- One message of a request after another.
 use Rattle.std.proofs.Common.{◌≡◌, ℕ, ◌+◌, ◌≤◌, Bool, true, false, List, [], ◌∷◌, ◌++◌, length, fold, refl, sym, ap, subst, ◌∙◌, arith, append_assoc, append-nil}
-use Rattle.std.specs.Prelude.{Ok, nat_lt, if◌then◌else◌, ◌&&◌, ◌||◌, ◌==◌, max, Option, Some, None}
+use Rattle.std.specs.Prelude.{Ok, ◌&&◌, ◌||◌, ◌==◌, max, Option}
+use Rattle.std.proofs.lemmas.Grind.{common_steps}
 use Rattle.bx_advice.specs.declared.config.Config.{Config}
 use Rattle.bx_advice.specs.declared.error.Error.{Error}
 use Rattle.bx_advice.specs.Limits.{greatest_moment, greatest_length}
@@ -9,41 +10,27 @@ use Rattle.bx_message.specs.MessageKinds.{message_kind_of, is_handshake}
 use Rattle.bx_entry.specs.Listing.{Posted, Listed, Post, listed_from, request}
 use Rattle.bx_entry.specs.declared.entry.Entry.{Entry}
 use Rattle.bx_entry.specs.declared.senders.Senders.{Senders}
-use Rattle.bx_entry.specs.declared.senders.Senders.TheVariants.{Mixed, NoneYet}
-use Rattle.bx_entry.specs.Registry.{Registered, State, Verdict, judged_by, named_by, refusal, senders_behind, unnamed, verdict}
+use Rattle.bx_entry.specs.declared.senders.Senders.TheVariants.{NoneYet}
+use Rattle.bx_entry.specs.Registry.{Registered, State, Verdict, judged_by, named_by, refusal, verdict}
 use Rattle.bx_roster.specs.Live.{Members}
 use Rattle.bx_registry.specs.Rolls.{Roll, after, found, next, state_of, step}
 use Rattle.bx_registry.specs.Drafts.{Drafted, members_of}
-use Rattle.std.proofs.lemmas.Bool.{ltb-false}
 use Rattle.bx_roster.specs.Edits.{CanEditEach, edited, edited_by}
 use Rattle.bx_roster.specs.declared.edit.Edit.{Edit}
 use Rattle.bx_roster.specs.declared.edit.Edits.{Edits}
 use Rattle.bx_roster.specs.declared.edit.Edits.TheVariants.{Each, Sweep}
 use Rattle.bx_registry.specs.Changes.{Amendment, IsPlannedAt, IsWithin, changed}
-use Rattle.bx_registry.specs.declared.plan.AdmitFault.TheVariants.{BadMoment, Ended}
 use Rattle.bx_registry.proofs.Drafting.{limit-same}
 use Rattle.bx_registry.specs.Plans.{checked, fault_of, entries_in, slots_in}
 use Rattle.bx_registry.specs.Planners.{IsFoundAt, IsPlannedBy, roll_between, roll_with}
 use Rattle.bx_registry.specs.declared.plan.Planned.{Planned}
 
-unnamed-opened : (config : Config) (state : State) (moment : ℕ) (p : Posted) (b : Bool) → (unnamed config state moment p b).state.opened ≤ state.opened + 1
-unnamed-opened config state moment p true = omega arith
-unnamed-opened config state moment p false = omega arith
-
 judged-opened : (config : Config) (state : State) (moment : ℕ) (p : Posted) (sender : Option Registered) (fault : Option Error) → (judged_by config state moment p sender fault).state.opened ≤ state.opened + 1
-judged-opened config state moment p sender (Some error) = omega arith
-judged-opened config state moment p None None = unnamed-opened config state moment p (is_handshake p.message)
-judged-opened config state moment p (Some s) None = omega arith
-
-unnamed-behind : (config : Config) (state : State) (moment : ℕ) (p : Posted) (b : Bool) → (unnamed config state moment p b).state.senders ≡ senders_behind p Mixed
-unnamed-behind config state moment p true = refl
-unnamed-behind config state moment p false = refl
+judged-opened config state moment p sender fault = grind (arith, common_steps)
 
 -- behind a request's last message the senders are none
 judged-last : (config : Config) (state : State) (moment : ℕ) (p : Posted) (sender : Option Registered) (fault : Option Error) → p.last ≡ true → (judged_by config state moment p sender fault).state.senders ≡ NoneYet
-judged-last config state moment p sender (Some error) last = rw last refl
-judged-last config state moment p None None last = unnamed-behind config state moment p (is_handshake p.message) ∙ rw last refl
-judged-last config state moment p (Some s) None last = rw last refl
+judged-last config state moment p sender fault last = grind (arith, common_steps)
 
 after-last : (roll : Roll) (moment nonce : ℕ) (sole seen : Bool) (m : Message) (ms : List Message) → (after roll (listed_from moment nonce sole seen (m ∷ ms))).senders ≡ NoneYet
 after-last roll moment nonce sole seen m [] =
@@ -119,15 +106,8 @@ all_planned config before base clock first list d senders now place es ss so non
 
 -- ---- what is planned at a registry
 
-admitted-by : (b c : Bool) (x : Unit {0}) → Ok x ≡ checked (if b then Some BadMoment else (if c then Some Ended else None)) → (b ≡ false) × (c ≡ false)
-admitted-by true c x e = cc
-admitted-by false true x e = cc
-admitted-by false false x e = (refl, refl)
-
 pub admitted : (moment end : ℕ) (x : Unit {0}) → Ok x ≡ checked (fault_of moment end) → (moment ≤ greatest_moment) × (end ≤ greatest_length)
-admitted moment end x e =
-    let both = admitted-by (nat_lt greatest_moment moment) (nat_lt greatest_length end) x e in
-    (ltb-false greatest_moment moment both.0, ltb-false greatest_length end both.1)
+admitted moment end x e = (grind (arith, common_steps), grind (arith, common_steps))
 
 pub planned_limit : (ms : Members) (edits : Edits) → (edited_by ms edits).limit ≡ ms.limit
 planned_limit ms (Each es) = limit-same ms es

@@ -1,5 +1,5 @@
 -- The entries of a queue, the sessions that they file, and what a tick makes of them.
-use Rattle.std.proofs.Common.{◌≡◌, ◌≢◌, ℕ, ◌+◌, ◌<◌, ◌≤◌, Bool, true, false, List, [], ◌∷◌, ◌++◌, append_assoc, length, map, refl, sym, ap, subst, ◌∙◌, cond, arith, eq-eqb, ne_eqb, eqb-true}
+use Rattle.std.proofs.Common.{◌≡◌, ◌≢◌, ℕ, ◌+◌, ◌<◌, ◌≤◌, Bool, true, false, List, [], ◌∷◌, ◌++◌, append_assoc, length, map, refl, sym, ap, subst, ◌∙◌, arith, eq-eqb, ne_eqb, eqb-true}
 use Rattle.std.specs.Prelude.{◌&&◌, ◌||◌, ◌==◌, nat_lt, nat_le, not, Some, None, if◌then◌else◌}
 use Rattle.std.specs.List.{filter, list_any}
 use Rattle.std.specs.List.Sorted.{IsPermutation}
@@ -8,11 +8,12 @@ use Rattle.std.specs.Ordering.{is_lt, nat_cmp, ordering_then}
 use Rattle.std.specs.declared.cmp.Ordering.{Ordering}
 use Rattle.std.specs.declared.cmp.Ordering.TheVariants.{Less}
 use Rattle.std.proofs.Math.Bool.{and-false, or-true}
+use Rattle.std.proofs.lemmas.Grind.{common_steps}
 use Rattle.std.proofs.lemmas.Map.Keys.{ge_from_not_lt}
 use Rattle.std.proofs.lemmas.Bool.Decides.{nat_tests}
-use Rattle.std.proofs.lemmas.List.Elements.{All-nil, All-cons, All-head, All-tail, filter-append}
+use Rattle.std.proofs.lemmas.List.Elements.{All-nil, All-cons, All-head, All-tail}
 use Rattle.std.proofs.lemmas.List.Sorted.{length_permutation, IsPermutation-sym, IsPermutation-trans, IsPermutation-middle, IsPermutation-append_right, list_any-IsPermutation}
-use Rattle.std.proofs.lemmas.Bool.{eqb-false, leb-true, le-leb, and_parts}
+use Rattle.std.proofs.lemmas.Bool.{leb-true, le-leb, and_parts}
 use Rattle.bx_entry.specs.Registry.{Registered, extended, closed, swept, is_overdue}
 use Rattle.bx_roster.specs.Live.{Members, live_in, with_live}
 use Rattle.bx_roster.specs.Tables.{IsTable, IsAbsent, AllLive, due_at}
@@ -46,14 +47,9 @@ files-other r d ne = ap (λ (b : Bool). b && nat_le d.moment.0 r.due) (ne_eqb d.
 files-later : (r s : Registered) (d : Due) → s.number ≡ r.number → r.due ≤ s.due → files r d ≡ true → files s d ≡ true
 files-later r s d same later e = let le : d.moment.0 ≤ r.due = files-due r d e in files-from s d (files-number r d e ∙ sym same) (omega arith)
 
-any-later-by : (r s : Registered) (d : Due) (es : List Due) → s.number ≡ r.number → r.due ≤ s.due → (list_any (files r) es ≡ true → list_any (files s) es ≡ true) →
-    (b : Bool) → files r d ≡ b → (b || list_any (files r) es) ≡ true → list_any (files s) (d ∷ es) ≡ true
-any-later-by r s d es same later ih true e any = ap (λ (b : Bool). b || list_any (files s) es) (files-later r s d same later e)
-any-later-by r s d es same later ih false e any = ap (λ (b : Bool). files s d || b) (ih any) ∙ or-true (files s d)
-
 any-later : (r s : Registered) (es : List Due) → s.number ≡ r.number → r.due ≤ s.due → list_any (files r) es ≡ true → list_any (files s) es ≡ true
 any-later r s [] same later any = any
-any-later r s (d ∷ es) same later any = any-later-by r s d es same later (any-later r s es same later) (files r d) refl any
+any-later r s (d ∷ es) same later any = grind (arith, common_steps, any-later r s es same later, files-later r s d same later)
 
 -- an entry of another session does not count
 any-other : (r : Registered) (d : Due) (es : List Due) → r.number ≢ d.number → list_any (files r) (d ∷ es) ≡ true → list_any (files r) es ≡ true
@@ -74,13 +70,9 @@ pub filed-map : (es : List Due) (g : Registered → Registered) (rs : List Regis
 filed-map es g [] same later all = tt
 filed-map es g (r ∷ rs) same later all = (any-later r (g r) es (same r) (later r) all.0, filed-map es g rs same later all.1)
 
-filed-by : (es : List Due) (r : Registered) (kept : List Registered) → list_any (files r) es ≡ true → AllFiled es kept → (b : Bool) → AllFiled es (cond b (r ∷ kept) kept)
-filed-by es r kept any all true = (any, all)
-filed-by es r kept any all false = all
-
 pub filed-filter : (es : List Due) (p : Registered → Bool) (rs : List Registered) → AllFiled es rs → AllFiled es (filter p rs)
 filed-filter es p [] all = tt
-filed-filter es p (r ∷ rs) all = filed-by es r (filter p rs) all.0 (filed-filter es p rs all.1) (p r)
+filed-filter es p (r ∷ rs) all = grind (arith, common_steps, filed-filter es p rs all.1)
 
 pub filed-append : (es : List Due) (rs ss : List Registered) → AllFiled es rs → AllFiled es ss → AllFiled es (rs ++ ss)
 filed-append es [] ss a b = b
@@ -120,53 +112,26 @@ pub filed-absent : (d : Due) (es : List Due) (rs : List Registered) → IsAbsent
 filed-absent d es [] a all = tt
 filed-absent d es (r ∷ rs) a all = (any-other r d es a.0 all.0, filed-absent d es rs a.1 all.1)
 
-none-absent-by : (n : ℕ) (r : Registered) (rs : List Registered) → (due_at n rs ≡ None → IsAbsent n rs) → (b : Bool) → (r.number == n) ≡ b → (if b then Some r.due else due_at n rs) ≡ None → IsAbsent n (r ∷ rs)
-none-absent-by n r rs ih true e none = cc
-none-absent-by n r rs ih false e none = (eqb-false r.number n e, ih none)
-
 pub none-absent : (n : ℕ) (rs : List Registered) → due_at n rs ≡ None → IsAbsent n rs
 none-absent n [] none = tt
-none-absent n (r ∷ rs) none = none-absent-by n r rs (none-absent n rs) (r.number == n) refl none
+none-absent n (r ∷ rs) none = grind (arith, common_steps, none-absent n rs)
 
 -- an entry whose session is closed may go
-gone-by : (d : Due) (es : List Due) (r : Registered) (rs : List Registered) → list_any (files r) (d ∷ es) ≡ true → AllFiled es (live_in (closed d.number rs)) →
-    (b : Bool) → (r.number == d.number) ≡ b → AllFiled es (live_in ((if b then record r { live = false } else r) ∷ closed d.number rs))
-gone-by d es r rs any ih true e = ih
-gone-by d es r rs any ih false e = filed-by es r (live_in (closed d.number rs)) (any-other r d es (eqb-false r.number d.number e) any) ih r.live
-
 pub filed-gone : (d : Due) (es : List Due) (rs : List Registered) → AllFiled (d ∷ es) rs → AllFiled es (live_in (closed d.number rs))
 filed-gone d es [] all = tt
-filed-gone d es (r ∷ rs) all = gone-by d es r rs all.0 (filed-gone d es rs all.1) (r.number == d.number) refl
+filed-gone d es (r ∷ rs) all = grind (arith, common_steps, filed-gone d es rs all.1, any-other r d es)
 
 -- an entry moves on to the session's due moment
-moved-by : (d e : Due) (es : List Due) (due high : ℕ) (r : Registered) (rs : List Registered) → e.number ≡ d.number → e.moment.0 ≡ due → IsTable r.number high rs → list_any (files r) (d ∷ es) ≡ true →
-    AllFiled (d ∷ es) rs → (due_at d.number rs ≡ Some due → AllFiled (e ∷ es) rs) → (b : Bool) → (r.number == d.number) ≡ b → (if b then Some r.due else due_at d.number rs) ≡ Some due → AllFiled (e ∷ es) (r ∷ rs)
-moved-by d e es due high r rs same moment t any all ih true f is =
-    let here : r.number ≡ d.number = eqb-true r.number d.number f in
-    let at : r.due ≡ due = cc in
-    let yes : files r e ≡ true = files-from r e (same ∙ sym here) (omega (arith, at, moment)) in
-    (ap (λ (b : Bool). b || list_any (files r) es) yes, filed-cons e es rs (filed-absent d es rs (IsTable-absent r.number high d.number rs (omega (arith, here)) t) all))
-moved-by d e es due high r rs same moment t any all ih false f is =
-    (ap (λ (b : Bool). files r e || b) (any-other r d es (eqb-false r.number d.number f) any) ∙ or-true (files r e), ih is)
-
 pub filed-moved : (d e : Due) (es : List Due) (due low high : ℕ) (rs : List Registered) → e.number ≡ d.number → e.moment.0 ≡ due → IsTable low high rs → AllFiled (d ∷ es) rs →
     due_at d.number rs ≡ Some due → AllFiled (e ∷ es) rs
 filed-moved d e es due low high [] same moment t all is = tt
 filed-moved d e es due low high (r ∷ rs) same moment t all is =
-    moved-by d e es due high r rs same moment t.2 all.0 all.1 (filed-moved d e es due r.number high rs same moment t.2 all.1) (r.number == d.number) refl is
+    grind (arith, common_steps, filed-moved d e es due r.number high rs same moment t.2 all.1, filed-cons e es rs, filed-absent d es rs, IsTable-absent r.number high d.number rs, any-other r d es, files-from r e)
 
 -- ---- what a tick leaves
 
 abbrev pub stays : ℕ → Registered → Bool
 stays moment r = r.live && nat_le moment r.due
-
-stays-by : (moment : ℕ) (r : Registered) (kept : List Registered) → (b : Bool) → r.live ≡ b → (c : Bool) → nat_lt r.due moment ≡ c → nat_le moment r.due ≡ not c →
-    cond (b && nat_le moment r.due) (r ∷ kept) kept ≡ live_in ((if b && nat_lt r.due moment then record r { live = false } else r) ∷ []) ++ kept
-stays-by moment r kept false e c f g = ap (λ (t : Bool). cond t (r ∷ []) [] ++ kept) (sym e)
-stays-by moment r kept true e true f g =
-    ap (λ (t : Bool). cond t (r ∷ kept) kept) g ∙ ap (λ (t : Bool). live_in ((if t then record r { live = false } else r) ∷ []) ++ kept) (sym f)
-stays-by moment r kept true e false f g =
-    ap (λ (t : Bool). cond t (r ∷ kept) kept) g ∙ ap (λ (t : Bool). cond t (r ∷ []) [] ++ kept) (sym e) ∙ ap (λ (t : Bool). live_in ((if t then record r { live = false } else r) ∷ []) ++ kept) (sym f)
 
 less-or-not : (a b : ℕ) (c : Bool) → nat_lt a b ≡ c → nat_le b a ≡ not c
 less-or-not a b true e = grind (arith, nat_tests)
@@ -174,22 +139,15 @@ less-or-not a b false e = grind (arith, nat_tests)
 
 pub stays-swept : (moment : ℕ) (rs : List Registered) → filter (stays moment) rs ≡ live_in (swept moment rs)
 stays-swept moment [] = refl
-stays-swept moment (r ∷ rs) =
-    stays-by moment r (filter (stays moment) rs) r.live refl (nat_lt r.due moment) refl (less-or-not r.due moment (nat_lt r.due moment) refl)
-    ∙ ap (λ (ys : List Registered). live_in ((if is_overdue moment r then record r { live = false } else r) ∷ []) ++ ys) (stays-swept moment rs)
-    ∙ sym (filter-append (λ s. s.live) ((if is_overdue moment r then record r { live = false } else r) ∷ []) (swept moment rs))
+stays-swept moment (r ∷ rs) = grind (arith, common_steps, stays-swept moment rs)
 
 lt-test : (a b : ℕ) → a < b → nat_lt a b ≡ true
 lt-test a b less = grind (arith, nat_tests)
 
 -- where no entry stands before a moment, no session that is filed is due before it
-from-by : (m : ℕ) (r : Registered) (d : Due) (es : List Due) → IsFrom m (d ∷ es) → (list_any (files r) es ≡ true → m ≤ r.due) → (b : Bool) → files r d ≡ b → (b || list_any (files r) es) ≡ true → m ≤ r.due
-from-by m r d es from ih true e any = let at : m ≤ d.moment.0 = All-head (λ (x : Due). m ≤ x.moment.0) d es from in omega (arith, at, files-due r d e)
-from-by m r d es from ih false e any = ih any
-
 pub due-from : (m : ℕ) (r : Registered) (es : List Due) → IsFrom m es → list_any (files r) es ≡ true → m ≤ r.due
 due-from m r [] from any = cc
-due-from m r (d ∷ es) from any = from-by m r d es from (due-from m r es (All-tail (λ (x : Due). m ≤ x.moment.0) d es from)) (files r d) refl any
+due-from m r (d ∷ es) from any = grind (arith, common_steps, due-from m r es (All-tail (λ (x : Due). m ≤ x.moment.0) d es from), All-head (λ (x : Due). m ≤ x.moment.0) d es from, files-due r d)
 
 -- then a tick at that moment leaves all of them
 pub none-swept : (m : ℕ) (es : List Due) (rs : List Registered) → IsFrom m es → AllFiled es rs → swept m rs ≡ rs
@@ -208,19 +166,9 @@ settled m late waiting ms none from filed all =
 goes : (m : ℕ) (r : Registered) → r.due < m → stays m r ≡ false
 goes m r late = ap (λ (b : Bool). r.live && b) (less-or-not r.due m true (lt-test r.due m late)) ∙ and-false r.live
 
-closed-by : (n m due high : ℕ) (r : Registered) (rs : List Registered) → due < m → IsTable r.number high rs →
-    (due_at n rs ≡ Some due → filter (stays m) (closed n rs) ≡ filter (stays m) rs) → (b : Bool) → (r.number == n) ≡ b → (if b then Some r.due else due_at n rs) ≡ Some due →
-    filter (stays m) ((if b then record r { live = false } else r) ∷ closed n rs) ≡ filter (stays m) (r ∷ rs)
-closed-by n m due high r rs late t ih true e is =
-    let here : r.number ≡ n = eqb-true r.number n e in
-    let at : r.due ≡ due = cc in
-    let same : closed n rs ≡ rs = map-absent n (λ s. record s { live = false }) rs (IsTable-absent r.number high n rs (omega (arith, here)) t) in
-    ap (filter (stays m)) same ∙ ap (λ (b : Bool). cond b (r ∷ filter (stays m) rs) (filter (stays m) rs)) (sym (goes m r (omega (arith, at, late))))
-closed-by n m due high r rs late t ih false e is = ap (λ (ys : List Registered). cond (stays m r) (r ∷ ys) ys) (ih is)
-
 closed-stays : (n m due low high : ℕ) (rs : List Registered) → due < m → IsTable low high rs → due_at n rs ≡ Some due → filter (stays m) (closed n rs) ≡ filter (stays m) rs
 closed-stays n m due low high [] late t is = refl
-closed-stays n m due low high (r ∷ rs) late t is = closed-by n m due high r rs late t.2 (closed-stays n m due r.number high rs late t.2) (r.number == n) refl is
+closed-stays n m due low high (r ∷ rs) late t is = grind (arith, common_steps, closed-stays n m due r.number high rs late t.2, map-absent n (λ s. record s { live = false }) rs, IsTable-absent r.number high n rs, goes m r)
 
 pub closed-swept : (n m due low high : ℕ) (rs : List Registered) → due < m → IsTable low high rs → due_at n rs ≡ Some due → live_in (swept m (live_in (closed n rs))) ≡ live_in (swept m rs)
 closed-swept n m due low high rs late t is =

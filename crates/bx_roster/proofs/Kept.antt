@@ -2,6 +2,7 @@
 use Rattle.std.proofs.Common.{◌≡◌, ◌≢◌, ℕ, suc, ◌+◌, ◌-◌, ◌^◌, ◌<◌, ◌≤◌, Bool, true, false, List, [], ◌∷◌, ◌++◌, length, length-append, Option, Some, None, option_map, is_some, refl, sym, ap, subst, ◌∙◌, cond, arith, eq-eqb, ne_eqb, true≢false, inl, inr}
 use Rattle.std.specs.Prelude.{◌==◌, ◌⊎◌, max, nat_eq}
 use Rattle.std.proofs.lemmas.Bool.Decides.{eqb_tells}
+use Rattle.std.proofs.lemmas.Grind.{common_steps}
 use Rattle.std.proofs.lemmas.Bool.{cases_lt}
 use Rattle.std.proofs.lemmas.List.{length-map}
 use Rattle.std.specs.Map.{lookup}
@@ -9,7 +10,6 @@ use Rattle.bx_roster.specs.Live.{Prepared}
 use Rattle.std.specs.List.{list_any}
 use Rattle.bx_roster.specs.Edits.{is_open, opened_by_each, room_of}
 use Rattle.bx_roster.specs.declared.edit.Edit.{Edit}
-use Rattle.bx_roster.specs.declared.edit.Edit.TheVariants.{Open, Extend, Close}
 use Rattle.bx_roster.specs.Queues.{IsRoster}
 use Rattle.bx_roster.specs.Kept.{later}
 use Rattle.bx_entry.specs.Registry.{Registered, extended, closed}
@@ -73,19 +73,12 @@ what : {at new : ℕ → Record} {n : ℕ} {w : Record} → Changed at new n w �
 what {at} {new} {n} {w} c q = what-by c q (eqb_tells q n)
 
 module _ {at : ℕ → Record} {records limit count opened : ℕ} (k : IsKept at records limit count opened) where
-  within-by : (n : ℕ) (r : Registered) → at n ≡ Some (Some r) → (opened < n) ⊎ (n ≤ opened) → ((n == opened + 1) ≡ true) × (n ≡ opened + 1) ⊎ ((n == opened + 1) ≡ false) × (n ≢ opened + 1) → n ≤ opened
-  within-by n r e (inr le) c = le
-  within-by n r e (inl lt) (inl s) = absurd (some-none r (sym k.next ∙ ap (λ m. session_of (at m)) (sym s.1) ∙ ap session_of e))
-  within-by n r e (inl lt) (inr s) = absurd (some-none (Some r) (sym (k.beyond n (omega (arith, lt, s.1))) ∙ e))
-
   -- a session stands under the number of one that was opened
   pub within : (n : ℕ) (r : Registered) → at n ≡ Some (Some r) → n ≤ opened
-  within n r e = within-by n r e (cases_lt opened n) (eqb_tells n (opened + 1))
+  within n r e = grind (arith, common_steps, k.next, k.beyond n)
 
   no_session : (n : ℕ) (o : Record) → at n ≡ o → opened < n → session_of o ≡ None
-  no_session n None e lt = refl
-  no_session n (Some None) e lt = refl
-  no_session n (Some (Some r)) e lt = absurd (omega (arith, lt, within n r e))
+  no_session n o e lt = grind (arith, common_steps, within n)
 
   -- no session stands beyond those that were opened
   pub none-beyond : (n : ℕ) → opened < n → session_of (at n) ≡ None
@@ -130,17 +123,9 @@ module _ {at : ℕ → Record} {records limit count opened : ℕ} (k : IsKept at
       sized = size ∙ ap (λ o. count + vacant_count o) (sym here);
       next = ap session_of here;
       beyond = λ q lt. c.others q (λ e. omega (arith, lt, e, is)) ∙ k.beyond q lt;
-      vacant = λ q e. vacant-by q e (what c q);
-      stand = λ q r e. stand-by q r e (what c q);
+      vacant = λ q e. grind (arith, common_steps, what c q, k.vacant q);
+      stand = λ q r e. grind (arith, common_steps, what c q, k.stand q r);
     }
-      where
-        vacant-by : (q : ℕ) → new q ≡ Some None → (q ≡ next) × (new q ≡ Some None) ⊎ (new q ≡ at q) → q ≡ opened + 1
-        vacant-by q e (inl s) = s.0 ∙ is
-        vacant-by q e (inr s) = k.vacant q (sym s ∙ e)
-
-        stand-by : (q : ℕ) (r : Registered) → new q ≡ Some (Some r) → (q ≡ next) × (new q ≡ Some None) ⊎ (new q ≡ at q) → Stands q r
-        stand-by q r e (inl s) = absurd (some-none r (ap session_of (sym s.1 ∙ e)))
-        stand-by q r e (inr s) = k.stand q r (sym s ∙ e)
 
   -- ---- the vacant record filled
 
@@ -165,27 +150,15 @@ module _ {at : ℕ → Record} {records limit count opened : ℕ} (k : IsKept at
       sized = size ∙ k.sized ∙ ap (λ (b : Bool). count + cond b 1 0) ready ∙ plus ∙ ap (λ o. count + 1 + vacant_count o) (sym opened-next);
       next = ap session_of opened-next;
       beyond = λ q lt. c.others q (λ e. omega (arith, lt, e)) ∙ k.beyond q (omega (arith, lt, is));
-      vacant = λ q e. vacant-by q e (what c q);
-      stand = λ q r e. stand-by q r e (what c q);
+      vacant = λ q e. grind (arith, common_steps, what c q, k.vacant q);
+      stand = λ q r e. grind (arith, common_steps, what c q, k.stand q r, own);
     }
       where
         plus : count + 1 ≡ count + 1 + 0
         plus = omega arith
 
-        vacant-by : (q : ℕ) → new q ≡ Some None → (q ≡ m) × (new q ≡ Some (Some s)) ⊎ (new q ≡ at q) → q ≡ m + 1
-        vacant-by q e (inl t) = absurd (some-none s (ap session_of (sym e ∙ t.1)))
-        vacant-by q e (inr t) = absurd (some-none s (ap session_of (sym e ∙ ap new (k.vacant q (sym t ∙ e) ∙ sym is) ∙ c.here)))
-
         own : Stands m s
         own = record { number = number; above = omega (arith, is); named = named; live = lives }
-
-        pick : Registered → Option Registered → Registered
-        pick d None = d
-        pick d (Some r) = r
-
-        stand-by : (q : ℕ) (r : Registered) → new q ≡ Some (Some r) → (q ≡ m) × (new q ≡ Some (Some s)) ⊎ (new q ≡ at q) → Stands q r
-        stand-by q r e (inl t) = subst (λ (i : ℕ). Stands i r) (sym t.0) (subst (λ (x : Registered). Stands m x) (ap (λ o. pick s (session_of o)) (sym t.1 ∙ e)) own)
-        stand-by q r e (inr t) = k.stand q r (sym t ∙ e)
 
   -- ---- a session closed
 
@@ -209,17 +182,9 @@ module _ {at : ℕ → Record} {records limit count opened : ℕ} (k : IsKept at
           sized = omega (arith, size, k.sized, k.counted, fewer, ap vacant_count same);
           next = ap session_of same ∙ k.next;
           beyond = λ q lt. c.others q (λ e. omega (arith, lt, e, within n r there)) ∙ k.beyond q lt;
-          vacant = λ q e. vacant-by q e (what c q);
-          stand = λ q x e. stand-by q x e (what c q);
+          vacant = λ q e. grind (arith, common_steps, what c q, k.vacant q);
+          stand = λ q x e. grind (arith, common_steps, what c q, k.stand q x);
         }
-      where
-        vacant-by : (q : ℕ) → new q ≡ Some None → (q ≡ n) × (new q ≡ None) ⊎ (new q ≡ at q) → q ≡ opened + 1
-        vacant-by q e (inl t) = absurd (some-none None (sym t.1 ∙ e))
-        vacant-by q e (inr t) = k.vacant q (sym t ∙ e)
-
-        stand-by : (q : ℕ) (x : Registered) → new q ≡ Some (Some x) → (q ≡ n) × (new q ≡ None) ⊎ (new q ≡ at q) → Stands q x
-        stand-by q x e (inl t) = absurd (some-none (Some x) (sym t.1 ∙ e))
-        stand-by q x e (inr t) = k.stand q x (sym t ∙ e)
 
   -- ---- a due moment moved on
 
@@ -241,36 +206,23 @@ module _ {at : ℕ → Record} {records limit count opened : ℕ} (k : IsKept at
       sized = k.sized ∙ ap (λ o. count + vacant_count o) (sym extended-ready);
       next = ap session_of extended-ready ∙ k.next;
       beyond = λ q lt. c.others q (λ e. omega (arith, lt, e, within n x there)) ∙ k.beyond q lt;
-      vacant = λ q e. vacant-by q e (what c q);
-      stand = λ q r e. stand-by q r e (what c q);
+      vacant = λ q e. grind (arith, common_steps, what c q, k.vacant q);
+      stand = λ q r e. grind (arith, common_steps, what c q, k.stand q r, own);
     }
       where
         moved : Registered
         moved = record x { due = max x.due due }
 
-        vacant-by : (q : ℕ) → new q ≡ Some None → (q ≡ n) × (new q ≡ Some (Some moved)) ⊎ (new q ≡ at q) → q ≡ opened + 1
-        vacant-by q e (inl t) = absurd (some-none moved (ap session_of (sym e ∙ t.1)))
-        vacant-by q e (inr t) = k.vacant q (sym t ∙ e)
-
         own : Stands n moved
         own = let s = k.stand n x there in record { number = s.number; above = s.above; named = s.named; live = s.live }
-
-        pick : Registered → Option Registered → Registered
-        pick d None = d
-        pick d (Some r) = r
-
-        stand-by : (q : ℕ) (r : Registered) → new q ≡ Some (Some r) → (q ≡ n) × (new q ≡ Some (Some moved)) ⊎ (new q ≡ at q) → Stands q r
-        stand-by q r e (inl t) = subst (λ (m : ℕ). Stands m r) (sym t.0) (subst (λ (y : Registered). Stands n y) (ap (λ o. pick moved (session_of o)) (sym t.1 ∙ e)) own)
-        stand-by q r e (inr t) = k.stand q r (sym t ∙ e)
 
   -- the same, be the record vacant or not
   module _ {new : ℕ → Record} (n due : ℕ) where
     vacant-same : at n ≡ Some None → Changed at new n (Some None) → new ≡ at
-    vacant-same e c = λ i q. same-by q (what c q) i
+    vacant-same e c = λ i q. same q i
       where
-        same-by : (q : ℕ) → (q ≡ n) × (new q ≡ Some None) ⊎ (new q ≡ at q) → new q ≡ at q
-        same-by q (inl t) = t.1 ∙ sym e ∙ ap at (sym t.0)
-        same-by q (inr t) = t
+        same : (q : ℕ) → new q ≡ at q
+        same q = grind (arith, common_steps, c.here, c.others q, e)
 
     pub moved-kept : (o : Option Registered) → at n ≡ Some o → Changed at new n (Some (option_map (later due) o)) → {records' : ℕ} → records' ≡ records → IsKept new records' limit count opened
     moved-kept None e c {records'} size = subst (λ (f : ℕ → Record). IsKept f records' limit count opened) (sym (vacant-same e c)) (subst (λ (m : ℕ). IsKept at m limit count opened) (sym size) k)
@@ -287,11 +239,7 @@ module _ {at : ℕ → Record} {records limit count opened : ℕ} (k : IsKept at
   -- ---- what stands under a number
 
   pub prepared-size : {records' : ℕ} → records' ≡ records + cond (is_some (at (opened + 1))) 0 1 → records' ≡ count + 1
-  prepared-size {records'} size = by (is_some (at (opened + 1))) size k.sized
-    where
-      by : (b : Bool) → records' ≡ records + cond b 0 1 → records ≡ count + cond b 1 0 → records' ≡ count + 1
-      by true e f = omega (arith, e, f)
-      by false e f = omega (arith, e, f)
+  prepared-size {records'} size = grind (arith, common_steps, k.sized)
 
   pub occupied : (n : ℕ) (o : Record) → at n ≡ o → is_some o ≡ true → n ≤ opened → (r : Registered) × (at n ≡ Some (Some r))
   occupied n None e some le = absurd (true≢false (sym some))
@@ -302,8 +250,7 @@ module _ {at : ℕ → Record} {records limit count opened : ℕ} (k : IsKept at
 
 -- where there is room, a record is vacant
 pub ready-room : (b : Bool) → 1 ≤ room_of b → b ≡ true
-ready-room true le = refl
-ready-room false le = absurd (omega (arith, le))
+ready-room b le = grind (arith, common_steps)
 
 -- the sessions of a map are a roster
 pub kept-roster : {at : ℕ → Record} {records limit count opened : ℕ} → IsKept at records limit count opened →
@@ -313,6 +260,4 @@ kept-roster {at} {records} {limit} {count} {opened} k = record { table = table-t
 -- where no edit opens a session, they open none
 pub none-open : (es : List Edit) → list_any is_open es ≡ false → opened_by_each es ≡ 0
 none-open [] none = refl
-none-open (Open s ∷ es) none = absurd (true≢false none)
-none-open (Extend n due ∷ es) none = omega (arith, none-open es none)
-none-open (Close n ∷ es) none = omega (arith, none-open es none)
+none-open (e ∷ es) none = grind (arith, common_steps, none-open es)

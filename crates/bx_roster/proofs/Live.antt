@@ -1,6 +1,7 @@
 -- What a change of sessions makes of the live ones.
-use Rattle.std.proofs.Common.{◌≡◌, ℕ, Bool, true, false, List, refl}
+use Rattle.std.proofs.Common.{◌≡◌, ℕ, Bool, false, List, arith}
 use Rattle.std.specs.Prelude.{max, if◌then◌else◌}
+use Rattle.std.proofs.lemmas.Grind.{common_steps}
 use Rattle.bx_entry.specs.Registry.{Registered, extended, closed, swept}
 use Rattle.bx_roster.specs.Live.{live_in}
 use Rattle.bx_roster.proofs.Lists.{filter-map-filter, filter-map, filter-filter}
@@ -12,15 +13,13 @@ pub live_in-live : (sessions : List Registered) → live_in (live_in sessions) �
 live_in-live sessions = filter-filter is_live sessions
 
 extended-same-by : (number due : ℕ) (r : Registered) (b : Bool) → is_live (if b then record r { due = max r.due due } else r) ≡ is_live r
-extended-same-by number due r true = refl
-extended-same-by number due r false = refl
+extended-same-by number due r b = grind (arith, common_steps)
 
 pub live_in-extended : (number due : ℕ) (sessions : List Registered) → live_in (extended number due sessions) ≡ extended number due (live_in sessions)
 live_in-extended number due sessions = filter-map is_live _ (λ r. extended-same-by number due r _) sessions
 
 closed-stays-by : (r : Registered) (b : Bool) → is_live r ≡ false → is_live (if b then record r { live = false } else r) ≡ false
-closed-stays-by r true e = refl
-closed-stays-by r false e = e
+closed-stays-by r b e = grind (arith, common_steps)
 
 pub live_in-closed : (number : ℕ) (sessions : List Registered) → live_in (closed number (live_in sessions)) ≡ live_in (closed number sessions)
 live_in-closed number sessions = filter-map-filter is_live _ (λ r e. closed-stays-by r _ e) sessions

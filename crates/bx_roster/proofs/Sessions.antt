@@ -1,9 +1,10 @@
 -- The sessions of a map in the order of their numbers, and what a change under one number makes of them.
-use Rattle.std.proofs.Common.{◌≡◌, ◌≢◌, ℕ, zero, suc, ◌+◌, ◌<◌, ◌≤◌, true, false, List, [], ◌∷◌, ◌++◌, length, length-append, Option, Some, None, option_map, is_some, refl, sym, ap, ap₂, subst, ◌∙◌, arith, eq-eqb, ne_eqb, append-nil, true≢false, inl, inr}
+use Rattle.std.proofs.Common.{◌≡◌, ◌≢◌, ℕ, zero, suc, ◌+◌, ◌<◌, ◌≤◌, true, false, List, [], ◌∷◌, ◌++◌, length, length-append, Option, Some, None, option_map, is_some, refl, sym, ap, ap₂, ◌∙◌, arith, eq-eqb, ne_eqb, append-nil, true≢false, inl, inr}
 use Rattle.std.specs.Prelude.{◌==◌, ◌⊎◌, max, if◌then◌else◌}
 use Rattle.std.proofs.lemmas.Bool.Decides.{eqb_tells}
 use Rattle.std.proofs.lemmas.List.{map-append}
 use Rattle.std.proofs.lemmas.List.Elements.{filter-append}
+use Rattle.std.proofs.lemmas.Grind.{common_steps}
 use Rattle.bx_entry.specs.Registry.{Registered, extended, closed}
 use Rattle.bx_roster.specs.Live.{live_in}
 use Rattle.bx_roster.specs.Tables.{IsTable, IsAbsent, AllLive, known_of, known_at, due_at}
@@ -66,22 +67,14 @@ same_to f g zero h = refl
 same_to f g (suc k) h = ap₂ (λ rs o. with_one rs (session_of o)) (same_to f g k (λ n le. h n (omega (arith, le)))) (h (suc k) (omega arith))
 
 module _ (at : ℕ → Record) (stand : (n : ℕ) (r : Registered) → at n ≡ Some (Some r) → Stands n r) where
-  table-one : (k : ℕ) (rs : List Registered) (o : Record) → at (suc k) ≡ o → IsTable 0 k rs → IsTable 0 (suc k) (with_one rs (session_of o))
-  table-one k rs None e t = IsTable-higher 0 k (suc k) rs (omega arith) t
-  table-one k rs (Some None) e t = IsTable-higher 0 k (suc k) rs (omega arith) t
-  table-one k rs (Some (Some r)) e t =
-      let s = stand (suc k) r e in
-      subst (λ m. IsTable 0 m (rs ++ r ∷ [])) s.number (IsTable-push 0 k rs r (omega (arith, s.number)) s.named t)
-
   pub table-to : (k : ℕ) → IsTable 0 k (sessions_to at k)
   unfolding sessions_to
   table-to zero = omega arith
-  table-to (suc k) = table-one k (sessions_to at k) (at (suc k)) refl (table-to k)
+  table-to (suc k) = grind (arith, common_steps, IsTable-higher 0 k (suc k) (sessions_to at k), IsTable-push 0 k (sessions_to at k), stand (suc k), table-to k)
 
   live-one : (k : ℕ) (rs : List Registered) (o : Record) → at (suc k) ≡ o → AllLive rs → AllLive (with_one rs (session_of o))
-  live-one k rs None e a = a
-  live-one k rs (Some None) e a = a
   live-one k rs (Some (Some r)) e a = AllLive-push rs r a (stand (suc k) r e).live
+  live-one k rs _ e a = a
 
   pub live-to : (k : ℕ) → AllLive (sessions_to at k)
   unfolding sessions_to
@@ -90,30 +83,21 @@ module _ (at : ℕ → Record) (stand : (n : ℕ) (r : Registered) → at n ≡ 
 
   module _ {A : Type 0} (pick : Registered → A) (n : ℕ) where
     none-below : (o : Record) → at n ≡ o → n ≤ 0 → None ≡ option_map pick (session_of o)
-    none-below None e le = refl
-    none-below (Some None) e le = refl
     none-below (Some (Some r)) e le = absurd (omega (arith, le, (stand n r e).above))
+    none-below _ e le = refl
 
     found-at : (rs : List Registered) (o : Record) → at n ≡ o → IsAbsent n rs → found pick n (with_one rs (session_of o)) ≡ option_map pick (session_of o)
-    found-at rs None e a = found-absent pick n rs a
-    found-at rs (Some None) e a = found-absent pick n rs a
     found-at rs (Some (Some r)) e a = found-here pick n rs r a (stand n r e).number
+    found-at rs _ e a = found-absent pick n rs a
 
     found-beside : (k : ℕ) (rs : List Registered) (o : Record) → at (suc k) ≡ o → n ≤ k → found pick n (with_one rs (session_of o)) ≡ found pick n rs
-    found-beside k rs None e le = refl
-    found-beside k rs (Some None) e le = refl
     found-beside k rs (Some (Some r)) e le = let ne : r.number ≢ n = omega (arith, (stand (suc k) r e).number) in found-past pick n rs r ne
+    found-beside k rs _ e le = refl
 
     pub found-to : (k : ℕ) → n ≤ k → found pick n (sessions_to at k) ≡ option_map pick (session_of (at n))
     unfolding sessions_to
     found-to zero le = none-below (at n) refl le
-    found-to (suc k) le = by (λ h. found-to k h) (eqb_tells n (suc k))
-      where
-        by : (n ≤ k → found pick n (sessions_to at k) ≡ option_map pick (session_of (at n))) → ((n == suc k) ≡ true) × (n ≡ suc k) ⊎ ((n == suc k) ≡ false) × (n ≢ suc k) → found pick n (with_one (sessions_to at k) (session_of (at (suc k)))) ≡ option_map pick (session_of (at n))
-        by before (inl e) =
-            subst (λ m. found pick n (with_one (sessions_to at k) (session_of (at m))) ≡ option_map pick (session_of (at n))) e.1
-            (found-at (sessions_to at k) (at n) refl (IsTable-above 0 k n (sessions_to at k) (omega (arith, e.1)) (table-to k)))
-        by before (inr e) = let less : n ≤ k = omega (arith, e.1, le) in found-beside k (sessions_to at k) (at (suc k)) refl less ∙ before less
+    found-to (suc k) le = grind (arith, common_steps, found-to k, found-at (sessions_to at k) (at n) refl, IsTable-above 0 k n (sessions_to at k), table-to k, found-beside k (sessions_to at k) (at (suc k)) refl)
 
 -- ---- a session closed
 
@@ -133,31 +117,20 @@ module _ (n : ℕ) where
   module _ (at new : ℕ → Record) (stand : (n : ℕ) (r : Registered) → at n ≡ Some (Some r) → Stands n r)
       (gone : new n ≡ None) (others : (q : ℕ) → q ≢ n → new q ≡ at q) where
     closed-at : (rs : List Registered) (o : Record) → at n ≡ o → live_in (closed n rs) ≡ live_in (closed n (with_one rs (session_of o)))
-    closed-at rs None e = refl
-    closed-at rs (Some None) e = refl
     closed-at rs (Some (Some r)) e = sym (closed-here rs r (stand n r e).number)
+    closed-at rs _ e = refl
 
     closed-beside : (q : ℕ) (rs : List Registered) (o : Record) → q ≢ n → at q ≡ o → with_one (live_in (closed n rs)) (session_of o) ≡ live_in (closed n (with_one rs (session_of o)))
-    closed-beside q rs None ne e = refl
-    closed-beside q rs (Some None) ne e = refl
     closed-beside q rs (Some (Some r)) ne e = let s = stand q r e in let other : r.number ≢ n = (λ same. ne (sym s.number ∙ same)) in sym (closed-there rs r other s.live)
+    closed-beside q rs _ ne e = refl
 
     pub closed-to : (k : ℕ) → sessions_to new k ≡ live_in (closed n (sessions_to at k))
     unfolding sessions_to
     closed-to zero = refl
-    closed-to (suc k) = by (closed-to k) (eqb_tells (suc k) n)
-      where
-        by : sessions_to new k ≡ live_in (closed n (sessions_to at k)) → ((suc k == n) ≡ true) × (suc k ≡ n) ⊎ ((suc k == n) ≡ false) × (suc k ≢ n) → with_one (sessions_to new k) (session_of (new (suc k))) ≡ live_in (closed n (with_one (sessions_to at k) (session_of (at (suc k)))))
-        by before (inl e) =
-            ap (λ o. with_one (sessions_to new k) (session_of o)) (ap new e.1 ∙ gone) ∙ before ∙ closed-at (sessions_to at k) (at n) refl
-            ∙ ap (λ m. live_in (closed n (with_one (sessions_to at k) (session_of (at m))))) (sym e.1)
-        by before (inr e) =
-            ap₂ (λ rs o. with_one rs (session_of o)) before (others (suc k) e.1) ∙ closed-beside (suc k) (sessions_to at k) (at (suc k)) e.1 refl
+    closed-to (suc k) = grind (arith, common_steps, closed-to k, gone, others (suc k), closed-at (sessions_to at k) (at n) refl, closed-beside (suc k) (sessions_to at k) (at (suc k)))
 
     length-one : (rs ss : List Registered) (o : Record) → length rs + 1 ≡ length ss → length (with_one rs (session_of o)) + 1 ≡ length (with_one ss (session_of o))
-    length-one rs ss None e = e
-    length-one rs ss (Some None) e = e
-    length-one rs ss (Some (Some r)) e = omega (arith, e, length-append rs (r ∷ []), length-append ss (r ∷ []))
+    length-one rs ss o e = grind (arith, common_steps, length-append)
 
     pub length-closed : (r : Registered) → at n ≡ Some (Some r) → (k : ℕ) → n ≤ k → length (sessions_to new k) + 1 ≡ length (sessions_to at k)
     unfolding sessions_to
@@ -181,23 +154,14 @@ module _ (n due : ℕ) (at new : ℕ → Record) (stand : (n : ℕ) (r : Registe
   extended-one rs r y e = map-append (λ (r : Registered). if r.number == n then record r { due = max r.due due } else r) rs (r ∷ []) ∙ ap (λ (s : Registered). extended n due rs ++ s ∷ []) e
 
   extended-beside : (q : ℕ) (rs : List Registered) (o : Record) → q ≢ n → at q ≡ o → with_one (extended n due rs) (session_of o) ≡ extended n due (with_one rs (session_of o))
-  extended-beside q rs None ne e = refl
-  extended-beside q rs (Some None) ne e = refl
   extended-beside q rs (Some (Some r)) ne e =
       let s = stand q r e in let other : r.number ≢ n = (λ same. ne (sym s.number ∙ same)) in sym (extended-one rs r r (rw (ne_eqb r.number n other) refl))
+  extended-beside q rs _ ne e = refl
 
   pub extended-to : (k : ℕ) → sessions_to new k ≡ extended n due (sessions_to at k)
   unfolding sessions_to
   extended-to zero = refl
-  extended-to (suc k) = by (extended-to k) (eqb_tells (suc k) n)
-    where
-      by : sessions_to new k ≡ extended n due (sessions_to at k) → ((suc k == n) ≡ true) × (suc k ≡ n) ⊎ ((suc k == n) ≡ false) × (suc k ≢ n) → with_one (sessions_to new k) (session_of (new (suc k))) ≡ extended n due (with_one (sessions_to at k) (session_of (at (suc k))))
-      by before (inl e) =
-          ap₂ (λ rs o. with_one rs (session_of o)) before (ap new e.1 ∙ moved)
-          ∙ sym (extended-one (sessions_to at k) x (record x { due = max x.due due }) (rw (eq-eqb x.number n (stand n x there).number) refl))
-          ∙ ap (λ o. extended n due (with_one (sessions_to at k) (session_of o))) (sym (ap at e.1 ∙ there))
-      by before (inr e) =
-          ap₂ (λ rs o. with_one rs (session_of o)) before (others (suc k) e.1) ∙ extended-beside (suc k) (sessions_to at k) (at (suc k)) e.1 refl
+  extended-to (suc k) = grind (arith, common_steps, extended-to k, moved, there, others (suc k), extended-one (sessions_to at k) x, (stand n x there).number, extended-beside (suc k) (sessions_to at k) (at (suc k)))
 
 -- ---- a number under which no session stands
 

@@ -1,7 +1,8 @@
 -- Tables of sessions, and what a change of the session of a number makes of them.
-use Rattle.std.proofs.Common.{◌≡◌, ◌≢◌, ℕ, ◌<◌, ◌≤◌, Bool, true, false, List, [], ◌∷◌, ◌++◌, map, refl, ap, ◌∙◌, cond, arith, ne_eqb}
+use Rattle.std.proofs.Common.{◌≡◌, ◌≢◌, ℕ, ◌<◌, ◌≤◌, Bool, false, List, [], ◌∷◌, ◌++◌, map, refl, ap, ◌∙◌, cond, arith, ne_eqb}
 use Rattle.std.specs.Prelude.{◌==◌, max, if◌then◌else◌}
 use Rattle.std.specs.List.{filter}
+use Rattle.std.proofs.lemmas.Grind.{common_steps}
 use Rattle.bx_entry.specs.Registry.{Registered}
 use Rattle.bx_roster.specs.Live.{live_in}
 use Rattle.bx_roster.specs.Tables.{IsNamed, IsTable, IsAbsent, AllLive}
@@ -23,13 +24,9 @@ IsTable-absent low high n (r ∷ rs) le t =
     let ne : r.number ≢ n = omega arith in
     (ne, IsTable-absent r.number high n rs (omega arith) t.2)
 
-IsTable-filter-by : (low high : ℕ) (r : Registered) (rs kept : List Registered) (b : Bool) → low < r.number → IsNamed r → IsTable r.number high kept → IsTable low high (cond b (r ∷ kept) kept)
-IsTable-filter-by low high r rs kept true below named t = (below, named, t)
-IsTable-filter-by low high r rs kept false below named t = IsTable-lower r.number low high kept (omega arith) t
-
 pub IsTable-filter : (low high : ℕ) (p : Registered → Bool) (rs : List Registered) → IsTable low high rs → IsTable low high (filter p rs)
 IsTable-filter low high p [] t = t
-IsTable-filter low high p (r ∷ rs) t = IsTable-filter-by low high r rs (filter p rs) (p r) t.0 t.1 (IsTable-filter r.number high p rs t.2)
+IsTable-filter low high p (r ∷ rs) t = grind (arith, common_steps, IsTable-filter r.number high p rs t.2, IsTable-lower r.number low high (filter p rs))
 
 pub IsTable-map : (low high : ℕ) (g : Registered → Registered) (rs : List Registered) → ((r : Registered) → (g r).number ≡ r.number) → ((r : Registered) → (g r).client ≡ r.client) →
     IsTable low high rs → IsTable low high (map g rs)
@@ -54,13 +51,9 @@ module _ (n : ℕ) (f : Registered → Registered) where
 
 -- ---- those that are live
 
-AllLive-by : (r : Registered) (kept : List Registered) → AllLive kept → (b : Bool) → r.live ≡ b → AllLive (cond b (r ∷ kept) kept)
-AllLive-by r kept all true e = (e, all)
-AllLive-by r kept all false e = all
-
 pub AllLive-live : (rs : List Registered) → AllLive (live_in rs)
 AllLive-live [] = tt
-AllLive-live (r ∷ rs) = AllLive-by r (live_in rs) (AllLive-live rs) r.live refl
+AllLive-live (r ∷ rs) = grind (arith, common_steps, AllLive-live rs)
 
 pub live_in-all : (rs : List Registered) → AllLive rs → live_in rs ≡ rs
 live_in-all [] all = refl
@@ -69,27 +62,21 @@ live_in-all (r ∷ rs) all = ap (λ (b : Bool). cond b (r ∷ live_in rs) (live_
 -- ---- a due moment that moves on
 
 pub changed-due : (n due : ℕ) (r : Registered) (b : Bool) → r.due ≤ (if b then record r { due = max r.due due } else r).due
-changed-due n due r true = omega arith
-changed-due n due r false = omega arith
+changed-due n due r b = grind (arith, common_steps)
 
 pub changed-number : (due : ℕ) (r : Registered) (b : Bool) → (if b then record r { due = max r.due due } else r).number ≡ r.number
-changed-number due r true = refl
-changed-number due r false = refl
+changed-number due r b = grind (arith, common_steps)
 
 pub changed-client : (due : ℕ) (r : Registered) (b : Bool) → (if b then record r { due = max r.due due } else r).client ≡ r.client
-changed-client due r true = refl
-changed-client due r false = refl
+changed-client due r b = grind (arith, common_steps)
 
 -- ---- a session that is closed
 
 pub closing-due : (r : Registered) (b : Bool) → r.due ≤ (if b then record r { live = false } else r).due
-closing-due r true = omega arith
-closing-due r false = omega arith
+closing-due r b = grind (arith, common_steps)
 
 pub closing-number : (r : Registered) (b : Bool) → (if b then record r { live = false } else r).number ≡ r.number
-closing-number r true = refl
-closing-number r false = refl
+closing-number r b = grind (arith, common_steps)
 
 pub closing-client : (r : Registered) (b : Bool) → (if b then record r { live = false } else r).client ≡ r.client
-closing-client r true = refl
-closing-client r false = refl
+closing-client r b = grind (arith, common_steps)

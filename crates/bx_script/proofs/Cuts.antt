@@ -1,6 +1,7 @@
 -- A list, cut at the first byte of a value.
-use Rattle.std.proofs.Common.{◌≡◌, ℕ, suc, ◌+◌, ◌<◌, ◌≤◌, Bool, true, false, eqb, cond, not, List, [], ◌∷◌, ◌++◌, length, take, drop, refl, sym, ap, ◌∙◌, arith, position, Option, Some, None, ltb, eqb-true, eq-eqb, append-nil, zero, ◌⊎◌, inl, inr}
-use Rattle.std.proofs.lemmas.Bool.{ltb-false, le-ltb, lt-ltb}
+use Rattle.std.proofs.Common.{◌≡◌, ℕ, suc, ◌+◌, ◌<◌, ◌≤◌, Bool, true, false, eqb, cond, not, List, [], ◌∷◌, ◌++◌, length, take, drop, refl, sym, ap, ◌∙◌, arith, position, Option, Some, None, eqb-true, eq-eqb, append-nil, zero, ◌⊎◌, inl, inr}
+use Rattle.std.proofs.lemmas.Bool.{le-ltb, lt-ltb}
+use Rattle.std.proofs.lemmas.Grind.{common_steps}
 use Rattle.std.proofs.lemmas.List.Sums.{position_or_len_is}
 use Rattle.memchr.specs.Find.{IsFirstByte, is_byte}
 use Rattle.bx_script.specs.Replay.{is_newline}
@@ -52,34 +53,16 @@ module _ (c : ℕ) where
 
   pub position_within : (xs : List ℕ) → position_or_len test xs ≤ length xs
   position_within [] = omega arith
-  position_within (x ∷ xs) = next (position_within xs) (test x)
-    where
-      next : position_or_len test xs ≤ length xs → (b : Bool) → cond (not b) (1 + position_or_len test xs) 0 ≤ suc (length xs)
-      next rest true = omega arith
-      next rest false = omega arith
+  position_within (x ∷ xs) = grind (arith, common_steps, position_within xs)
 
   -- where no index is found, all stands before it
   pub none_is_all : (xs : List ℕ) → position test xs ≡ None → position_or_len test xs ≡ length xs
-  none_is_all xs h = next (ltb (position_or_len test xs) (length xs)) refl h
-    where
-      next : (b : Bool) → ltb (position_or_len test xs) (length xs) ≡ b → cond b (Some (position_or_len test xs)) None ≡ None → position_or_len test xs ≡ length xs
-      next true e h = absurd (cc)
-      next false e h = omega (arith, position_within xs, ltb-false _ _ e)
+  none_is_all xs h = grind (arith, common_steps, position_within xs)
 
   -- up to the first, and it
   pub taken_through : (xs : List ℕ) → position_or_len test xs < length xs → take (position_or_len test xs + 1) xs ≡ before_first test xs ++ c ∷ []
   taken_through [] h = absurd (omega arith)
-  taken_through (x ∷ xs) h = next (λ low. taken_through xs low) (test x) refl h
-    where
-      next : (position_or_len test xs < length xs → take (position_or_len test xs + 1) xs ≡ before_first test xs ++ c ∷ [])
-          → (b : Bool) → test x ≡ b → cond (not b) (1 + position_or_len test xs) 0 < suc (length xs)
-          → take (cond (not b) (1 + position_or_len test xs) 0 + 1) (x ∷ xs) ≡ take (cond (not b) (1 + position_or_len test xs) 0) (x ∷ xs) ++ c ∷ []
-      next rest true e low = ap (λ y. y ∷ []) (eqb-true x c e)
-      next rest false e low =
-          let n = position_or_len test xs in
-          let past : 1 + n ≡ suc n = omega arith in
-          let more : 1 + n + 1 ≡ suc (n + 1) = omega arith in
-          ap (λ k. take k (x ∷ xs)) more ∙ ap (λ l. x ∷ l) (rest (omega arith)) ∙ sym (ap (λ k. take k (x ∷ xs) ++ c ∷ []) past)
+  taken_through (x ∷ xs) h = grind (arith, common_steps, taken_through xs, eqb-true)
 
   -- ---- with it, or without
 
@@ -135,8 +118,7 @@ split_some p (x ∷ xs) = next (p x) (split_some p xs)
     next false rest = (x ∷ rest.0, rest.1, ap (onto_first x) rest.2)
 
 is_false : (b : Bool) → (b ≡ true → ⊥) → b ≡ false
-is_false true never = absurd (never refl)
-is_false false never = refl
+is_false b never = grind (arith, common_steps)
 
 -- the first place of a newline, as a search tells it
 pub newline_found : (text : List ℕ) (r : Option ℕ) → IsFirstByte (is_byte 10) text r → r ≡ position is_newline text

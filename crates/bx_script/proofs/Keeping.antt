@@ -8,8 +8,7 @@ use Rattle.bx_script.specs.Kept.{without_zeros, is_lone_zero, keep_byte}
 
 longer_is_no_zero : (k : List ℕ) (x : ℕ) → 0 < length k → is_lone_zero (k ++ x ∷ []) ≡ false
 longer_is_no_zero [] x h = absurd (omega arith)
-longer_is_no_zero (y ∷ []) x h = refl
-longer_is_no_zero (y ∷ z ∷ k) x h = refl
+longer_is_no_zero (y ∷ k) x h = grind (arith, common_steps)
 
 next_room : (limit : ℕ) (k : List ℕ) (x : ℕ) (xs : List ℕ)
     → fold (keep_byte limit) (k ++ x ∷ []) xs ≡ (k ++ x ∷ []) ++ take (limit - length (k ++ x ∷ [])) xs
@@ -35,27 +34,18 @@ keeps_room limit k (x ∷ xs) none some =
 
 -- ---- behind a lone zero
 
-next_zero : (limit x : ℕ) (xs : List ℕ) → fold (keep_byte limit) (48 ∷ []) xs ≡ fold (keep_byte limit) (48 ∷ []) (without_zeros xs)
-    → (b : Bool) → eqb x 48 ≡ b → fold (keep_byte limit) (48 ∷ []) (x ∷ xs) ≡ fold (keep_byte limit) (48 ∷ []) (cond b (without_zeros xs) (x ∷ xs))
-next_zero limit x xs rest true e = rw e rest
-next_zero limit x xs rest false e = refl
-
 zeros_are_dropped : (limit : ℕ) (xs : List ℕ) → fold (keep_byte limit) (48 ∷ []) xs ≡ fold (keep_byte limit) (48 ∷ []) (without_zeros xs)
 zeros_are_dropped limit [] = refl
-zeros_are_dropped limit (x ∷ xs) = next_zero limit x xs (zeros_are_dropped limit xs) (eqb x 48) refl
+zeros_are_dropped limit (x ∷ xs) = grind (arith, common_steps, zeros_are_dropped limit xs)
 
 -- no zero stands first
 abbrev pub IsStripped : List ℕ → Type 0
 IsStripped [] = Unit {0}
 IsStripped (x ∷ xs) = eqb x 48 ≡ false
 
-next_strip : (x : ℕ) (xs : List ℕ) → IsStripped (without_zeros xs) → (b : Bool) → eqb x 48 ≡ b → IsStripped (cond b (without_zeros xs) (x ∷ xs))
-next_strip x xs rest true e = rest
-next_strip x xs rest false e = e
-
 pub strips : (xs : List ℕ) → IsStripped (without_zeros xs)
 strips [] = tt
-strips (x ∷ xs) = next_strip x xs (strips xs) (eqb x 48) refl
+strips (x ∷ xs) = grind (arith, common_steps, strips xs)
 
 keeps_stripped : (limit : ℕ) (xs : List ℕ) → 1 < limit → IsStripped xs → fold (keep_byte limit) (48 ∷ []) xs ≡ 48 ∷ take (limit - 1) xs
 keeps_stripped limit [] low h = ap (λ l. 48 ∷ l) (sym (take_all (limit - 1) [] (omega arith)))
@@ -70,9 +60,7 @@ keeps_behind_zero limit xs low = zeros_are_dropped limit xs ∙ keeps_stripped l
 -- ---- a part
 
 lone_zero_is : (k : List ℕ) → is_lone_zero k ≡ true → k ≡ 48 ∷ []
-lone_zero_is [] h = cc
-lone_zero_is (x ∷ []) h = ap (λ y. y ∷ []) (eqb-true x 48 h)
-lone_zero_is (x ∷ y ∷ k) h = cc
+lone_zero_is k h = grind (arith, common_steps, eqb-true)
 
 take_within : (n : ℕ) (xs : List ℕ) → take (min n (length xs)) xs ≡ take n xs
 take_within n xs = grind (arith, common_steps)

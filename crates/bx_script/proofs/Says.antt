@@ -1,5 +1,6 @@
 -- What is kept of a line says what the line says.
 use Rattle.std.proofs.Common.{◌≡◌, ℕ, zero, suc, ◌+◌, ◌-◌, ◌*◌, ◌^◌, ◌<◌, ◌≤◌, ◌&&◌, ◌⊎◌, inl, inr, Bool, true, false, eqb, ltb, cond, List, [], ◌∷◌, ◌++◌, length, take, refl, sym, ap, subst, ◌∙◌, arith, Option, Some, None, take_all, eqb-true, fold, lit≤, le_trans, length-take-le}
+use Rattle.std.proofs.lemmas.Grind.{common_steps}
 use Rattle.std.proofs.lemmas.List.{take-append-le}
 use Rattle.std.proofs.lemmas.Bool.{lt-ltb, ltb-true, ltb-false, le-ltb}
 use Rattle.std.proofs.lemmas.Bool.Decides.{nat_tests}
@@ -44,8 +45,7 @@ first_digit : (d : ℕ) → eqb d 48 ≡ false → 1 ≤ digit_value d
 first_digit d h = grind (arith, nat_tests)
 
 none_by_test : (a b : Bool) (n : ℕ) → b ≡ false → cond (a && b) (Some n) None ≡ None
-none_by_test true b n h = rw h
-none_by_test false b n h = refl
+none_by_test a b n h = grind (arith, common_steps)
 
 large_is_none : (m : List ℕ) → 2 ^ 64 ≤ digits_value 10 m → number_of m ≡ None
 large_is_none m h = none_by_test (is_digits m) (ltb (digits_value 10 m) (2 ^ 64)) (digits_value 10 m) (le-ltb _ _ h)
@@ -107,8 +107,7 @@ cut_command moment (suc (suc (suc n))) (a ∷ b ∷ c ∷ rest) long within =
     (large_number (c ∷ take n rest) short ∙ sym (large_number (c ∷ rest) whole))
 
 no_command : (o : Option ℕ) → line_by o [] ≡ Bad
-no_command None = refl
-no_command (Some moment) = refl
+no_command o = grind (arith, common_steps)
 
 no_space : (text : List ℕ) → Lacks 32 text → line_of text ≡ Bad
 no_space text lacks = ap (line_by (number_of (before_first is_space text))) (after_all 32 text lacks) ∙ no_command _
@@ -186,21 +185,15 @@ two_zeros xs =
 
 zeros_say : (xs : List ℕ) → line_of (48 ∷ without_zeros xs) ≡ line_of (48 ∷ xs)
 zeros_say [] = refl
-zeros_say (x ∷ xs) = next (zeros_say xs) (eqb x 48) refl
-  where
-    next : line_of (48 ∷ without_zeros xs) ≡ line_of (48 ∷ xs) → (b : Bool) → eqb x 48 ≡ b → line_of (48 ∷ cond b (without_zeros xs) (x ∷ xs)) ≡ line_of (48 ∷ x ∷ xs)
-    next rest true e = rest ∙ sym (two_zeros xs) ∙ ap (λ y. line_of (48 ∷ y ∷ xs)) (sym (eqb-true x 48 e))
-    next rest false e = refl
+zeros_say (x ∷ xs) = grind (arith, common_steps, zeros_say xs, two_zeros xs, eqb-true)
 
 -- ---- what is kept
 
 stripped_is_normal : (xs : List ℕ) → IsStripped xs → IsNormal (48 ∷ xs)
-stripped_is_normal [] h = tt
-stripped_is_normal (x ∷ xs) h = inr h
+stripped_is_normal xs h = grind (arith, common_steps)
 
 other_is_normal : (x : ℕ) (xs : List ℕ) → eqb x 48 ≡ false → IsNormal (x ∷ xs)
-other_is_normal x [] h = tt
-other_is_normal x (y ∷ xs) h = inl h
+other_is_normal x xs h = grind (arith, common_steps)
 
 kept_behind : (limit x : ℕ) (xs : List ℕ) → BODY_LIMIT + 32 ≤ limit → (b : Bool) → eqb x 48 ≡ b → line_of (fold (keep_byte limit) (x ∷ []) xs) ≡ line_of (x ∷ xs)
 kept_behind limit x xs room true e =

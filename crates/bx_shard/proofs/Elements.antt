@@ -20,8 +20,8 @@ use Rattle.bx_entry.specs.declared.entry.Rider.{Rider}
 use Rattle.bx_entry.specs.Sessions.{Session, ended, ridden, ridden_by, rider_of, step_by, step, unopened, session}
 use Rattle.bx_shard.proofs.Rides.{rider_of_none}
 use Rattle.bx_theory.specs.Readings.{opens_by}
-use Rattle.bx_theory.proofs.Dues.{numbered_below, named_session}
-use Rattle.bx_theory.proofs.Lives.{numbered, entries_push}
+use Rattle.bx_theory.proofs.Dues.{numbered, numbered_below, named_session}
+use Rattle.bx_theory.proofs.Lives.{entries_push}
 use Rattle.bx_theory.proofs.Lists.{judged_more, judged_length}
 
 -- ---- the numbers of the registry

@@ -12,8 +12,7 @@ use Rattle.bx_entry.specs.Listing.{Listed}
 use Rattle.bx_entry.specs.Registry.{Registry, Registered, Judged, judge, registry, entries_of}
 use Rattle.bx_entry.specs.Sessions.{Session, is_live, unopened, session}
 use Rattle.bx_entry.specs.Keeping.{Kept, kept}
-use Rattle.bx_theory.proofs.Dues.{NumberedFrom}
-use Rattle.bx_theory.proofs.Lives.{numbered}
+use Rattle.bx_theory.proofs.Dues.{NumberedFrom, numbered}
 use Rattle.bx_theory.proofs.Lists.{judged_length}
 use Rattle.bx_session.proofs.NumberLemmas.{numbers_count}
 use Rattle.bx_shard.specs.Shards.{Setup, shard_at, stands_in}

@@ -17,8 +17,7 @@ use Rattle.bx_shard.specs.Shards.{Setup, stands_in, shard_at}
 use Rattle.bx_shard.specs.Steps.{opening_by, ShardsStep, stepped}
 use Rattle.bx_theory.proofs.Keeps.{ride_k}
 use Rattle.bx_theory.proofs.Stages.{Next, step_by_next}
-use Rattle.bx_theory.proofs.Dues.{numbered_below}
-use Rattle.bx_theory.proofs.Lives.{numbered}
+use Rattle.bx_theory.proofs.Dues.{numbered, numbered_below}
 use Rattle.bx_theory.proofs.Kept.{kept_steps}
 use Rattle.bx_shard.proofs.Elements.{numbers, opened_numbers, Adds, next_is, session_next, all_fresh, opens_above, Met, met}
 use Rattle.bx_theory.proofs.Closings.{run_number}

@@ -1,6 +1,7 @@
 -- What is open stands in the order of the inputs, and in that of the places of their messages.
 use Rattle.std.proofs.Common.{◌≡◌, ℕ, zero, suc, ◌+◌, ◌<◌, ◌≤◌, ⊎_elim, Bool, true, not, Option, Some, None, List, [], ◌∷◌, ◌++◌, length, map, filter, fold, slice_index, sym, subst, arith, length-append}
 use Rattle.std.proofs.lemmas.Bool.{cond_both, both_ways, cases_lt, not-true}
+use Rattle.std.proofs.lemmas.Grind.{common_steps}
 use Rattle.std.specs.List.Sorted.{IsStrictlyIncreasing}
 use Rattle.bx_advice.specs.declared.config.Config.{Config}
 use Rattle.bx_entry.specs.Listing.{Listed}
@@ -34,12 +35,7 @@ climbs_increase low (n ∷ m ∷ ns) c (suc k) h =
 
 numbers_climb : (test : Numbered → Bool) (number : ℕ) (ds : List Intake) → Climbs number (map (λ (o : Numbered). o.number) (filter test (numbered_from number ds)))
 numbers_climb test number [] = tt
-numbers_climb test number (d ∷ ds) =
-    let o : Numbered = record { number = number; intake = d } in
-    let rest : List Numbered = filter test (numbered_from (number + 1) ds) in
-    let others : Climbs (number + 1) (map (λ (p : Numbered). p.number) (filter test (numbered_from (number + 1) ds))) = numbers_climb test (number + 1) ds in
-    cond_both (test o) (o ∷ rest) rest (λ (os : List Numbered). Climbs number (map (λ (p : Numbered). p.number) os))
-    (λ h. (omega arith, others)) (λ h. climbs_lower number (number + 1) (map (λ (p : Numbered). p.number) rest) (omega arith) others)
+numbers_climb test number (d ∷ ds) = grind (arith, common_steps, numbers_climb test (number + 1) ds, climbs_lower number (number + 1))
 
 -- ---- places
 

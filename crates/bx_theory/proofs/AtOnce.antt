@@ -1,5 +1,5 @@
 -- A message that is not its request's only one is answered at once, and so is a rider.
-use Rattle.std.proofs.Common.{◌≡◌, ℕ, ◌+◌, ◌<◌, max, Bool, true, false, cond, ◌&&◌, ◌||◌, is_some, Option, Some, None, List, [], ◌∷◌, ◌++◌, length, map, find, option_map, slice_get, ◌==◌, refl, sym, ap, ◌∙◌, subst, append_assoc, eq-eqb, arith}
+use Rattle.std.proofs.Common.{◌≡◌, ℕ, ◌+◌, ◌<◌, max, ◌+◌, Bool, true, false, cond, ◌&&◌, ◌||◌, is_some, Option, Some, None, List, [], ◌∷◌, ◌++◌, length, map, find, option_map, slice_get, ◌==◌, refl, sym, ap, ◌∙◌, subst, append_assoc, eq-eqb, arith}
 use Rattle.std.proofs.lemmas.Bool.{cond_both, cond-true, cond-false}
 use Rattle.std.proofs.lemmas.List.{map-append, length_push}
 use Rattle.std.proofs.lemmas.Grind.{common_steps}
@@ -8,7 +8,6 @@ use Rattle.bx_lists.proofs.Tests.{either}
 use Rattle.bx_advice.specs.declared.config.Config.{Config}
 use Rattle.bx_advice.specs.declared.advice.Outcome.{Outcome}
 use Rattle.bx_advice.specs.declared.advice.Outcome.TheVariants.{Connected, Failed}
-use Rattle.bx_advice.specs.declared.error.Error.{Error}
 use Rattle.bx_advice.specs.declared.error.Error.TheVariants.{SupersededConnect, QueueOverflow}
 use Rattle.bx_message.specs.declared.message.Message.{Message}
 use Rattle.bx_message.specs.declared.reply.Reply.{Reply}
@@ -17,13 +16,13 @@ use Rattle.bx_message.specs.MessageKinds.{message_kind_of, is_connect, is_handsh
 use Rattle.bx_entry.specs.Listing.{Listed, Post, Posted, listed_from}
 use Rattle.bx_entry.specs.declared.entry.Entry.{Entry}
 use Rattle.bx_entry.specs.declared.entry.EntryKind.TheVariants.{Connect}
-use Rattle.bx_entry.specs.Registry.{refused, opened, sessionless, Registry, Registered, Judged, Ready, Waiting, judge, judged_by, served, slot_for, slot_with, rider_for, is_rider, may_ride, kind_for, named_by, refusal, hold_of, acked_by, registry, empty_registry, entries_of, noted, state_of}
+use Rattle.bx_entry.specs.Registry.{opened, refused, sessionless, Verdict, Registry, Registered, Judged, Ready, Waiting, judge, served, slot_for, slot_with, rider_for, is_rider, may_ride, kind_for, named_by, refusal, hold_of, acked_by, registry, entries_of, noted, state_of}
 use Rattle.bx_entry.specs.declared.entry.Rider.{Rider}
 use Rattle.bx_entry.specs.declared.entry.EntryKind.{EntryKind}
 use Rattle.bx_entry.specs.Sessions.{Session, Publication, Pending, Filed, filing, answered, released, given, gives, idle, answered_or_held, connected, step, session, unopened, is_live, ridden, ridden_by, ride_filing, step_by, rider_of}
 use Rattle.bx_entry.specs.Answers.{PlacedAnswer, answer_of, filed_for, answer_by, answer_at, answer_in, answer}
 use Rattle.bx_entry.specs.Runs.{latest, numbers_from}
-use Rattle.bx_theory.proofs.Verdicts.{by_verdict}
+use Rattle.bx_theory.proofs.Verdicts.{by_verdict, got_here, registry_next}
 use Rattle.bx_theory.proofs.Lists.{answer_more, judged_length}
 use Rattle.bx_theory.proofs.Closings.{run_number}
 use Rattle.bx_theory.proofs.Counts.{freed, connected_by, ride_both}
@@ -96,16 +95,11 @@ rider_there config es e number reply rides same live =
 
 -- ---- one more message
 
--- the last of some
-pub got_last : (js : List Judged) (j : Judged) → slice_get (js ++ j ∷ []) (length js) ≡ Some j
-got_last [] j = refl
-got_last (i ∷ js) j = got_last js j
-
 -- what was found at the last place answers there
 last_there : (config : Config) (r t : Registry) (j : Judged) → t.judged ≡ r.judged ++ j ∷ [] → There (answer_by config (entries_of t) (length r.judged) j.slot) → There (answer_in config t (length r.judged))
 last_there config r t j e a = record {
   answer = a.answer;
-  is = ap (answer_at config (entries_of t) (length r.judged)) (ap (λ (js : List Judged). slice_get js (length r.judged)) e ∙ got_last r.judged j) ∙ a.is;
+  is = ap (answer_at config (entries_of t) (length r.judged)) (ap (λ (js : List Judged). slice_get js (length r.judged)) e ∙ got_here r.judged j []) ∙ a.is;
 }
 
 -- the entry of an accepted message at a place
@@ -165,32 +159,28 @@ accepted_there config r moment p s hold h live =
     subst (λ (n : ℕ). There (answer_in config (noted r moment (served config (state_of r) moment p (message_kind_of p.message.channel) s n)) (length r.judged))) (sym h)
     (placed_there config r moment p c s 0 (served_slot config (entries_of r) (length r.judged) moment p c s (is_rider config r.senders c p s) (may_not config r p c s) live))
 
-judged_by_there : (config : Config) (r : Registry) (moment : ℕ) (p : Posted) (sender : Option Registered) (error : Option Error) → p.sole ≡ false → ((s : Registered) → sender ≡ Some s → is_live (session config s.number (entries_of r)).stage ≡ true) → There (answer_in config (noted r moment (judged_by config (state_of r) moment p sender error)) (length r.judged))
-judged_by_there config r moment p sender error h live =
-    by_verdict (λ v. There (answer_in config (noted r moment v) (length r.judged))) config (state_of r) moment p sender error
-    (λ e. last_there config r (noted r moment (refused config (state_of r) p e sender)) _ refl (record { answer = _; is = refl }))
-    (last_there config r (noted r moment (opened config (state_of r) moment p (length r.sessions + 1))) _ refl (record { answer = _; is = refl }))
-    (last_there config r (noted r moment (sessionless config (state_of r) p (message_kind_of p.message.channel))) _ refl (record { answer = _; is = refl }))
-    (λ s e. accepted_there config r moment p s (hold_of config p) (cond-false (p.sole && is_connect p.message) _ 0 (ap (λ (b : Bool). b && is_connect p.message) h)) (live s e))
+-- what has its reply at once answers with it
+ready_last : (config : Config) (r : Registry) (moment : ℕ) (v : Verdict) (reply : Reply) → v.slot ≡ Ready reply → There (answer_in config (noted r moment v) (length r.judged))
+ready_last config r moment v reply e = last_there config r (noted r moment v) _ refl (record { answer = _; is = ap (answer_by config (entries_of (noted r moment v)) (length r.judged)) e })
 
 -- a message that is not sole is answered at its own place
 message_there : (config : Config) (xs : List Listed) (p : Posted) → p.sole ≡ false → There (answer config (xs ++ Post p ∷ []) (length xs))
 message_there config xs p h =
     let r : Registry = registry config xs in
-    let next : registry config (xs ++ Post p ∷ []) ≡ judge config (registry config xs) (Post p) = fold-append (judge config) empty_registry xs (Post p ∷ []) in
-    subst (λ (t : Registry). There (answer_in config t (length xs))) (sym next)
+    let moment : ℕ = max r.clock p.moment in
+    subst (λ (t : Registry). There (answer_in config t (length xs))) (sym (registry_next config xs (Post p)))
     (subst (λ (n : ℕ). There (answer_in config (judge config (registry config xs) (Post p)) n)) (judged_length config xs)
-    (judged_by_there config r (max r.clock p.moment) p (named_by r.sessions (message_kind_of p.message.channel) p.message) (refusal config r.sessions p) h
-    (λ s e. live_reading config s.number (entries_of r) ∙ sender_reads config xs p s e)))
+    (by_verdict (λ v. There (answer_in config (noted r moment v) (length r.judged))) config (state_of r) moment p (named_by r.sessions (message_kind_of p.message.channel) p.message) (refusal config r.sessions p)
+    (λ e. ready_last config r moment (refused config (state_of r) p e (named_by r.sessions (message_kind_of p.message.channel) p.message)) _ refl) (ready_last config r moment (opened config (state_of r) moment p (length r.sessions + 1)) _ refl)
+    (ready_last config r moment (sessionless config (state_of r) p (message_kind_of p.message.channel)) _ refl)
+    (λ s e. accepted_there config r moment p s (hold_of config p) (cond-false (p.sole && is_connect p.message) _ 0 (ap (λ (b : Bool). b && is_connect p.message) h)) (live_reading config s.number (entries_of r) ∙ sender_reads config xs p s e))))
 
--- and over a longer list too
-message_stays : (config : Config) (list xs ys : List Listed) (p : Posted) → 0 < config.limits.batch → p.sole ≡ false → xs ++ (Post p ∷ ys) ≡ list → There (answer_in config (registry config list) (length xs))
-message_stays config list xs ys p room h e =
-    let a : There (answer config (xs ++ Post p ∷ []) (length xs)) = message_there config xs p h in
-    record {
-      answer = a.answer;
-      is = ap (λ (zs : List Listed). answer config zs (length xs)) (sym e ∙ sym (append_assoc xs (Post p ∷ []) ys)) ∙ answer_more config (xs ++ Post p ∷ []) ys (length xs) a.answer room a.is;
-    }
+-- what is answered at the end of a list is over a longer one too
+pub there_stays : (config : Config) (list xs ys : List Listed) (x : Listed) → 0 < config.limits.batch → xs ++ (x ∷ ys) ≡ list → There (answer config (xs ++ x ∷ []) (length xs)) → There (answer_in config (registry config list) (length xs))
+there_stays config list xs ys x room e a = record {
+  answer = a.answer;
+  is = ap (λ (zs : List Listed). answer config zs (length xs)) (sym e ∙ sym (append_assoc xs (x ∷ []) ys)) ∙ answer_more config (xs ++ x ∷ []) ys (length xs) a.answer room a.is;
+}
 
 -- ---- the messages of a request
 
@@ -210,7 +200,7 @@ messages_there config list xs ys moment nonce seen [] room e = tt
 messages_there config list xs ys moment nonce seen (m ∷ ms) room e =
     let p : Posted = record { message = m; moment = moment; nonce = nonce; sole = false; last = length ms == 0; second = seen && is_handshake m } in
     let rest : List Listed = listed_from moment nonce false (seen || is_handshake m) ms in (
-      message_stays config list xs (rest ++ ys) p room refl e,
+      there_stays config list xs (rest ++ ys) (Post p) room e (message_there config xs p refl),
       subst (λ (n : ℕ). AllThere (map (answer_in config (registry config list)) (numbers_from n (length rest)))) (length_push xs (Post p))
           (messages_there config list (xs ++ Post p ∷ []) ys moment nonce (seen || is_handshake m) ms room (append_assoc xs (Post p ∷ []) (rest ++ ys) ∙ e)),
     )

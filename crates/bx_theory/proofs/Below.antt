@@ -1,13 +1,12 @@
 -- An answer is given at a place of the list, and so is the latest of some answers.
-use Rattle.std.proofs.Common.{◌≡◌, ℕ, ◌+◌, ◌<◌, ◌≤◌, max, ⊎_elim, Bool, Option, Some, None, List, [], ◌∷◌, ◌==◌, length, map, find, fold, refl, sym, ◌∙◌, subst, arith}
+use Rattle.std.proofs.Common.{◌≡◌, ℕ, ◌+◌, ◌<◌, ◌≤◌, max, ⊎_elim, Bool, Option, Some, None, List, [], ◌∷◌, ◌==◌, length, map, find, fold, option_map, refl, sym, ap, ◌∙◌, subst, arith}
 use Rattle.std.proofs.lemmas.Bool.{cases_lt}
-use Rattle.std.proofs.lemmas.Grind.{common_steps}
 use Rattle.bx_advice.specs.declared.config.Config.{Config}
 use Rattle.bx_entry.specs.Listing.{Listed}
 use Rattle.bx_entry.specs.declared.entry.Entry.{Entry}
-use Rattle.bx_entry.specs.Registry.{Judged, PlaceSlot, Waiting, registry, entries_of}
+use Rattle.bx_entry.specs.Registry.{Judged, PlaceSlot, Ready, Waiting, NoSlot, registry, entries_of}
 use Rattle.bx_entry.specs.Sessions.{Session, Filed, step, session, unopened}
-use Rattle.bx_entry.specs.Answers.{PlacedAnswer, filed_for, answer_by, answer_at, answer}
+use Rattle.bx_entry.specs.Answers.{PlacedAnswer, answer_of, filed_for, answer_by, answer_at, answer}
 use Rattle.bx_entry.specs.Runs.{latest}
 use Rattle.bx_theory.specs.Laws.{Each, InStep, PlacesFrom}
 use Rattle.bx_theory.proofs.Counts.{stays_in_step, unopened_in_step}
@@ -41,14 +40,22 @@ filed_below config xs number place a room e =
     places_below (length xs) 0 (entries_of (registry config xs)) (let l = entries_length config xs in omega arith) (entries_in_order config xs) in
     let b : Each (λ f. f.place < length xs) (session config number (entries_of (registry config xs))).answers =
     run_below config (length xs) (unopened number) (entries_of (registry config xs)) room (unopened_in_step config number) d tt in
-    let found : (f : Filed) → find test fs ≡ Some f → f.place < length xs = λ f e. find_each (λ g. g.place < length xs) test fs f e b in
-    grind (arith, common_steps)
+    let P : Option Filed → Type 0 = λ o. find test fs ≡ o → option_map answer_of o ≡ Some a → a.place < length xs in
+    let at_none : P None = λ s n. cc in
+    let at_some : (f : Filed) → P (Some f) = λ f s n.
+    let same : answer_of f ≡ a = cc in
+    let place_same : f.place ≡ a.place = ap (λ (x : PlacedAnswer). x.place) same in
+    let q : f.place < length xs = find_each (λ g. g.place < length xs) test fs f s b in
+    omega arith in
+    (elim (find test fs) as P [ None ↦ at_none | Some f ↦ at_some f ]) refl e
 
 -- ---- one answer
 
 below_by : (config : Config) (xs : List Listed) (place : ℕ) (a : PlacedAnswer) (slot : PlaceSlot) → 0 < config.limits.batch → place < length xs → answer_by config (entries_of (registry config xs)) place slot ≡ Some a → a.place < length xs
+below_by config xs place a (Ready reply) room l e =
+    let p : place ≡ a.place = ap (λ (o : Option PlacedAnswer). elim o [ None ↦ 0 | Some x ↦ x.place ]) e in omega arith
 below_by config xs place a (Waiting number) room l e = filed_below config xs number place a room e
-below_by config xs place a _ room l e = grind (arith, common_steps)
+below_by config xs place a NoSlot room l e = cc
 
 below_at : (config : Config) (xs : List Listed) (place : ℕ) (a : PlacedAnswer) (o : Option Judged) → 0 < config.limits.batch → place < length xs → answer_at config (entries_of (registry config xs)) place o ≡ Some a → a.place < length xs
 below_at config xs place a None room l e = cc

@@ -19,7 +19,7 @@ use Rattle.bx_entry.specs.declared.entry.EntryKind.TheVariants.{Connect, Subscri
 use Rattle.bx_entry.specs.Sessions.{Session, Pending, Stage, Live, Closed, is_live, connected, expired, closed_by, begun, step_by, step, unopened, session, ridden_by, rider_of}
 use Rattle.bx_theory.specs.Readings.{unclosed, EachSession, NothingMore, ClosedIsOver}
 use Rattle.bx_theory.proofs.Counts.{ride_both}
-use Rattle.bx_theory.proofs.Verdicts.{by_verdict}
+use Rattle.bx_theory.proofs.Verdicts.{by_verdict, each_registry}
 use Rattle.bx_theory.proofs.Keeps.{connected_k}
 use Rattle.bx_theory.proofs.Stages.{live_reading, step_number, step_by_next}
 use Rattle.bx_theory.proofs.Dues.{each_session_push, each_session_through, left_each}
@@ -274,18 +274,13 @@ next_at config number ys x g =
     ap (λ (t : Registry). session config number (entries_of t)) (fold-append (judge config) empty_registry ys (x ∷ [])) ∙ ap (session config number) g.more
     ∙ fold-append (step config) (unopened number) (entries_of (registry config ys)) (g.entry ∷ [])
 
-next_holds : (config : Config) (number : ℕ) (ys : List Listed) (x : Listed) → Holding number (at config number ys) (registry config ys).sessions → Holding number (at config number (ys ++ x ∷ [])) (registry config (ys ++ x ∷ [])).sessions
-next_holds config number ys x h =
-    let g : Goes config number (at config number ys) (registry config ys) (judge config (registry config ys) x) = judge_goes config number ys x h in
-    subst (λ (u : Session). Holding number u (registry config (ys ++ x ∷ [])).sessions) (sym (next_at config number ys x g))
-    (subst (λ (t : Registry). Holding number (step config (at config number ys) g.entry) t.sessions) (sym (fold-append (judge config) empty_registry ys (x ∷ []))) g.holding)
-
-holds_from : (config : Config) (number : ℕ) (ys xs : List Listed) → Holding number (at config number ys) (registry config ys).sessions → Holding number (at config number (ys ++ xs)) (registry config (ys ++ xs)).sessions
-holds_from config number ys [] h = subst (λ (zs : List Listed). Holding number (at config number zs) (registry config zs).sessions) (sym (append-nil ys)) h
-holds_from config number ys (x ∷ xs) h = subst (λ (zs : List Listed). Holding number (at config number zs) (registry config zs).sessions) (append_assoc ys (x ∷ []) xs) (holds_from config number (ys ++ x ∷ []) xs (next_holds config number ys x h))
-
 holds : (config : Config) (number : ℕ) (list : List Listed) → Holding number (at config number list) (registry config list).sessions
-holds config number list = holds_from config number [] list (record { live = λ q e. cc; due = λ q e. tt })
+holds config number list =
+    each_registry config (λ r. Holding number (session config number (entries_of r)) r.sessions) (record { live = λ q e. cc; due = λ q e. tt }) (λ ys x h.
+    let g : Goes config number (at config number ys) (registry config ys) (judge config (registry config ys) x) = judge_goes config number ys x h in
+    let next : session config number (entries_of (judge config (registry config ys) x)) ≡ step config (at config number ys) g.entry =
+    ap (session config number) g.more ∙ fold-append (step config) (unopened number) (entries_of (registry config ys)) (g.entry ∷ []) in
+    subst (λ (u : Session). Holding number u (judge config (registry config ys) x).sessions) (sym next) g.holding) list
 
 none_held : (number : ℕ) (s : Session) (rs : List Registered) → is_live s.stage ≡ false → Holding number s rs → s.held ≡ None
 none_held number s rs c h = let live : (q : Pending) → s.held ≡ Some q → s.stage ≡ Live = h.live in grind (arith, common_steps)

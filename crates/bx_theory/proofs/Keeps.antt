@@ -1,5 +1,5 @@
 -- What connects, deliveries and ticks leave alone, and the readings of live, overflow and the queue's bound.
-use Rattle.std.proofs.Common.{◌≡◌, ℕ, ◌≤◌, Bool, true, false, ◌||◌, Option, List, [], ◌∷◌, ◌++◌, length, fold, refl, ap, ◌∙◌, arith}
+use Rattle.std.proofs.Common.{◌≡◌, ℕ, ◌≤◌, Bool, true, false, ◌||◌, Option, List, [], ◌∷◌, ◌++◌, length, fold, refl, ap, ◌∙◌, arith, append_assoc}
 use Rattle.std.proofs.lemmas.Grind.{common_steps}
 use Rattle.std.proofs.Math.Seq.{drop-append_seam}
 use Rattle.bx_lists.proofs.Tests.{or_assoc}
@@ -11,8 +11,8 @@ use Rattle.bx_names.specs.Globs.{Glob}
 use Rattle.bx_entry.specs.declared.entry.Entry.{Entry}
 use Rattle.bx_entry.specs.declared.entry.EntryKind.{EntryKind}
 use Rattle.bx_entry.specs.declared.entry.Rider.{Rider}
-use Rattle.bx_entry.specs.Sessions.{Session, Publication, Pending, Filed, Stage, released_from, released, pending_count, answered_or_held, connected, delivered_to, expired_from, step_by, step, unopened, ridden_by, rider_of}
-use Rattle.bx_theory.proofs.Counts.{behind, Freed, freed, freed_leaves, connected_by}
+use Rattle.bx_entry.specs.Sessions.{Session, Publication, Pending, Filed, Stage, released_from, released, pending_count, connected, delivered_to, expired_from, step_by, step, unopened, ridden_by, rider_of}
+use Rattle.bx_theory.proofs.Counts.{behind}
 use Rattle.bx_theory.specs.Readings.{overfills_by, some_overfills, OverflowReading, QueueBounded}
 
 -- what they leave alone of a session
@@ -51,6 +51,19 @@ keeps s t same shorter answers = record {
   answers = answers;
 }
 
+keeps_after : (s t u : Session) → Keeps s t → Keeps t u → Keeps s u
+keeps_after s t u k l = record {
+  number = l.number ∙ k.number;
+  stage = l.stage ∙ k.stage;
+  ack = l.ack ∙ k.ack;
+  overflow = l.overflow ∙ k.overflow;
+  patterns = l.patterns ∙ k.patterns;
+  events = l.events ∙ k.events;
+  shorter = omega (arith, k.shorter, l.shorter);
+  more = k.more ++ l.more;
+  answers = l.answers ∙ ap (λ (fs : List Filed). fs ++ l.more) k.answers ∙ append_assoc s.answers k.more l.more;
+}
+
 pub released_from_k : (config : Config) (place : ℕ) (outcome : Outcome) (s : Session) (held : Option Pending) → Keeps s (released_from config place outcome s held)
 released_from_k config place outcome s held = keeps s _ (grind (arith, common_steps)) (grind (arith, common_steps)) (grind (arith, common_steps, drop-append_seam))
 
@@ -59,13 +72,7 @@ pub freed_k : (config : Config) (p : Pending) (acked : Option ℕ) (s : Session)
 freed_k config p acked s = keeps _ _ (grind (arith, common_steps)) (grind (arith, common_steps)) (grind (arith, common_steps, drop-append_seam))
 
 pub connected_k : (config : Config) (p : Pending) (acked : Option ℕ) (s : Session) → Keeps s (connected config p acked s)
-connected_k config p acked s =
-    let f : Freed p.place s (freed config p acked s) = freed_leaves config p acked s in
-    keeps s _ (grind (arith, common_steps)) (grind (arith, common_steps)) (connected_by config p acked s (λ u. u.answers ≡ s.answers ++ behind s u)
-    (λ h. grind (arith, common_steps, drop-append_seam)) (λ h. grows (freed config p acked s) f.quiet.answers))
-  where
-    grows : (u : Session) → u.answers ≡ s.answers ++ behind s u → (answered_or_held config p u).answers ≡ s.answers ++ behind s (answered_or_held config p u)
-    grows u e = grind (arith, common_steps, drop-append_seam)
+connected_k config p acked s = keeps_after s (released config p.place (Failed SupersededConnect) s) _ (released_from_k config p.place (Failed SupersededConnect) s s.held) (freed_k config p acked s)
 
 pub delivered_to_k : (config : Config) (e : Publication) (s : Session) (held : Option Pending) → Keeps s (delivered_to config e s held)
 delivered_to_k config e s held = keeps s _ (grind (arith, common_steps)) (grind (arith, common_steps)) (grind (arith, common_steps, drop-append_seam))

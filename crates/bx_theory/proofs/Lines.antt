@@ -1,6 +1,6 @@
 -- What is printed for more lines begins with what is printed for fewer.
-use Rattle.std.proofs.Common.{◌≡◌, ℕ, zero, suc, ◌+◌, ◌<◌, ◌≤◌, Bool, true, false, cond, Option, List, [], ◌∷◌, ◌++◌, length, map, flat_map, slice_get, codes, decimal, refl, sym, ap, ◌∙◌, subst, arith, append-nil, append_assoc, length-append}
-use Rattle.std.proofs.lemmas.Grind.{flat_map-append}
+use Rattle.std.proofs.Common.{◌≡◌, ℕ, zero, suc, ◌+◌, ◌<◌, ◌≤◌, Bool, cond, Option, List, [], ◌∷◌, ◌++◌, length, map, flat_map, slice_get, codes, decimal, refl, sym, ap, ◌∙◌, subst, arith, append-nil, append_assoc, length-append}
+use Rattle.std.proofs.lemmas.Grind.{common_steps, flat_map-append}
 use Rattle.std.proofs.lemmas.List.{map-append, append_cancel_left, length-map}
 use Rattle.std.proofs.lemmas.List.Sums.{fold-append}
 use Rattle.bx_advice.specs.declared.config.Config.{Config}
@@ -76,8 +76,7 @@ InputsBelow n (o ∷ os) = (o.input < n) × InputsBelow n os
 
 below_if : (n : ℕ) (b : Bool) (o : Out) (os : List Out) → o.input < n → InputsBelow n os → InputsBelow n (cond b (o ∷ os) os)
 unfolding InputsBelow
-below_if n true o os h e = (h, e)
-below_if n false o os h e = e
+below_if n b o os h e = grind (arith, common_steps)
 
 whole_below : (config : Config) (r : Registry) (intake : List Intake) (n j i : ℕ) (ds : List Intake) → i + length ds ≤ n → InputsBelow n (whole_at j (wholes_from config r intake i ds))
 unfolding InputsBelow

@@ -1,17 +1,18 @@
 -- The registry's list grows with the list, and an answer stays.
-use Rattle.std.proofs.Common.{◌≡◌, ℕ, zero, suc, ◌+◌, ◌<◌, ◌≤◌, ⊎_elim, Bool, true, Option, Some, None, List, [], ◌∷◌, ◌++◌, length, take, drop, map, find, fold, option_map, slice_get, ◌==◌, refl, sym, ap, ◌∙◌, subst, arith, eqb-true, append-nil, append_assoc, length-take, take-append-drop, take_all}
-use Rattle.std.proofs.lemmas.Bool.{cond-true, cond-false, cases_lt}
-use Rattle.std.proofs.lemmas.List.{map-append, length-map, length_push}
+use Rattle.std.proofs.Common.{◌≡◌, ℕ, zero, suc, ◌+◌, ◌<◌, ◌≤◌, ⊎_elim, Bool, true, Option, Some, None, List, [], ◌∷◌, ◌++◌, length, take, drop, map, find, fold, option_map, slice_get, ◌==◌, refl, sym, ap, ◌∙◌, subst, arith, eqb-true, length-take, take-append-drop, take_all}
+use Rattle.std.proofs.lemmas.Bool.{cases_lt}
+use Rattle.std.proofs.lemmas.List.{length-map, length_push}
 use Rattle.std.proofs.Math.Seq.{take-append_seam}
 use Rattle.std.proofs.lemmas.List.Sums.{fold-append}
 use Rattle.std.proofs.lemmas.List.Folds.{find-append}
+use Rattle.std.proofs.lemmas.Grind.{common_steps}
 use Rattle.std.specs.Option.{option_or}
-use Rattle.bx_lists.proofs.Tests.{either}
 use Rattle.bx_advice.specs.declared.config.Config.{Config}
-use Rattle.bx_entry.specs.Listing.{Listed, Post, Posted}
-use Rattle.bx_entry.specs.Listing as messages
+use Rattle.bx_entry.specs.Listing.{Listed}
 use Rattle.bx_entry.specs.declared.entry.Entry.{Entry}
 use Rattle.bx_entry.specs.Registry.{Registry, Judged, PlaceSlot, Ready, Waiting, NoSlot, judge, registry, empty_registry, entries_of}
+use Rattle.bx_theory.proofs.Verdicts.{entries_behind, found_from, judge_is, judged_behind, next_found}
+pub use Rattle.bx_theory.proofs.Verdicts.{judged_length}
 use Rattle.bx_entry.specs.Sessions.{Filed, step, session, unopened}
 use Rattle.bx_entry.specs.Answers.{PlacedAnswer, answer_of, filed_for, answer_by, answer_at, answer}
 use Rattle.bx_theory.specs.Laws.{Each, AnswersStay, PlacesFrom, EntriesInOrder}
@@ -19,47 +20,14 @@ use Rattle.bx_theory.proofs.Counts.{all_in_step, unopened_in_step}
 use Rattle.bx_theory.proofs.Runs.{Grown, run_grown, EachEntry, all_places}
 use Rattle.bx_theory.proofs.Places.{Only, run_only, only_unopened, all_allowed}
 
--- ---- the registry
-
--- one more place is judged
-record Notes (r t : Registry) : Type 0 where
-  found : Judged
-  judged : t.judged ≡ r.judged ++ found ∷ []
-  place : found.entry.place ≡ length r.judged
-
-judge_notes : (config : Config) (r : Registry) (x : Listed) → Notes r (judge config r x)
-judge_notes config r (Post p) = record { found = _; judged = refl; place = refl }
-judge_notes config r (messages.Tick moment) = record { found = _; judged = refl; place = refl }
-
 abbrev entry_of : Judged → Entry
 entry_of j = j.entry
-
--- as many places are judged as elements come, each at its own place
-record Judges (count : ℕ) (r t : Registry) : Type 0 where
-  more : List Judged
-  judged : t.judged ≡ r.judged ++ more
-  many : length more ≡ count
-  places : PlacesFrom (length r.judged) (map entry_of more)
-
-judges_more : (count : ℕ) (r s t : Registry) → Notes r s → Judges count s t → Judges (suc count) r t
-judges_more count r s t n j = record {
-  more = n.found ∷ j.more;
-  judged = j.judged ∙ ap (λ (js : List Judged). js ++ j.more) n.judged ∙ append_assoc r.judged (n.found ∷ []) j.more;
-  many = ap suc j.many;
-  places = (n.place, subst (λ (k : ℕ). PlacesFrom k (map entry_of j.more)) (ap length n.judged ∙ length_push r.judged n.found) j.places);
-}
-
-judges : (config : Config) (r : Registry) (xs : List Listed) → Judges (length xs) r (fold (judge config) r xs)
-judges config r [] = record { more = []; judged = sym (append-nil r.judged); many = refl; places = tt }
-judges config r (x ∷ xs) = judges_more (length xs) r (judge config r x) (fold (judge config) (judge config r x) xs) (judge_notes config r x) (judges config (judge config r x) xs)
 
 -- ---- finding
 
 pub find_each : (P : Filed → Type 0) (test : Filed → Bool) (fs : List Filed) (f : Filed) → find test fs ≡ Some f → Each P fs → P f
 find_each P test [] f e d = cc
-find_each P test (g ∷ gs) f e d = either (test g) (P f)
-    (λ h. let same : Some g ≡ Some f = sym (cond-true (test g) (Some g) (find test gs) h) ∙ e in let one : g ≡ f = cc in subst P one d.0)
-    (λ h. find_each P test gs f (sym (cond-false (test g) (Some g) (find test gs) h) ∙ e) d.1)
+find_each P test (g ∷ gs) f e d = grind (arith, common_steps, find_each P test gs f)
 
 slice_get_more : (xs ys : List Judged) (k : ℕ) (j : Judged) → slice_get xs k ≡ Some j → slice_get (xs ++ ys) k ≡ Some j
 slice_get_more [] ys k j e = cc
@@ -78,10 +46,6 @@ find_more test fs gs a e =
     let P : Option Filed → Type 0 = λ o. option_map answer_of o ≡ Some a → option_map answer_of (option_or o (find test gs)) ≡ Some a in
     let here : P (find test fs) = (elim (find test fs) as P [ None ↦ λ n. cc | Some f ↦ λ n. n ]) in
     ap (option_map answer_of) (find-append test fs gs) ∙ here e
-
--- the entries of what was judged
-entries_more : (r t : Registry) (more : List Judged) → t.judged ≡ r.judged ++ more → entries_of t ≡ entries_of r ++ map entry_of more
-entries_more r t more e = ap (map entry_of) e ∙ map-append entry_of r.judged more
 
 session_more : (config : Config) (number : ℕ) (es more : List Entry) → session config number (es ++ more) ≡ fold (step config) (session config number es) more
 session_more config number es more = fold-append (step config) (unopened number) es more
@@ -106,73 +70,55 @@ answer_at_more : (config : Config) (es more : List Entry) (place : ℕ) (o u : O
 answer_at_more config es more place None u a room h e = cc
 answer_at_more config es more place (Some j) u a room h e = ap (answer_at config (es ++ more) place) (h j refl) ∙ answer_by_more config es more place j.slot a room e
 
+-- what was found at a place is found there over a longer list
+pub judged_more : (config : Config) (xs ys : List Listed) (place : ℕ) (j : Judged) → slice_get (registry config xs).judged place ≡ Some j → slice_get (registry config (xs ++ ys)).judged place ≡ Some j
+judged_more config xs ys place k e =
+    ap (λ (js : List Judged). slice_get js place) (judged_behind config xs ys) ∙ slice_get_more (registry config xs).judged (found_from config (registry config xs) ys) place k e
+
 pub answer_more : (config : Config) (xs ys : List Listed) (place : ℕ) (a : PlacedAnswer) → 0 < config.limits.batch → answer config xs place ≡ Some a → answer config (xs ++ ys) place ≡ Some a
 answer_more config xs ys place a room e =
     let r : Registry = registry config xs in
     let t : Registry = registry config (xs ++ ys) in
-    let j : Judges (length ys) r t = subst (Judges (length ys) r) (sym (fold-append (judge config) empty_registry xs ys)) (judges config r ys) in
-    ap (λ (es : List Entry). answer_at config es place (slice_get t.judged place)) (entries_more r t j.more j.judged)
-    ∙ answer_at_more config (entries_of r) (map entry_of j.more) place (slice_get r.judged place) (slice_get t.judged place) a room
-    (λ k g. ap (λ (js : List Judged). slice_get js place) j.judged ∙ slice_get_more r.judged j.more place k g) e
-
--- what was found at a place is found there over a longer list
-pub judged_more : (config : Config) (xs ys : List Listed) (place : ℕ) (j : Judged) → slice_get (registry config xs).judged place ≡ Some j → slice_get (registry config (xs ++ ys)).judged place ≡ Some j
-judged_more config xs ys place k e =
-    let r : Registry = registry config xs in
-    let j : Judges (length ys) (registry config xs) (registry config (xs ++ ys)) = subst (Judges (length ys) (registry config xs)) (sym (fold-append (judge config) empty_registry xs ys)) (judges config (registry config xs) ys) in
-    ap (λ (js : List Judged). slice_get js place) j.judged ∙ slice_get_more r.judged j.more place k e
+    ap (λ (es : List Entry). answer_at config es place (slice_get t.judged place)) (entries_behind config xs ys)
+    ∙ answer_at_more config (entries_of r) (map entry_of (found_from config r ys)) place (slice_get r.judged place) (slice_get t.judged place) a room (judged_more config xs ys place) e
 
 -- ---- an answer over a shorter list
 
-pub find_true : (test : Filed → Bool) (fs : List Filed) (f : Filed) → find test fs ≡ Some f → test f ≡ true
+pub find_true : {X : Type 0} (test : X → Bool) (fs : List X) (f : X) → find test fs ≡ Some f → test f ≡ true
 find_true test [] f e = cc
-find_true test (g ∷ gs) f e = either (test g) (test f ≡ true)
-    (λ h. let same : Some g ≡ Some f = sym (cond-true (test g) (Some g) (find test gs) h) ∙ e in let one : g ≡ f = cc in ap test (sym one) ∙ h)
-    (λ h. find_true test gs f (sym (cond-false (test g) (Some g) (find test gs) h) ∙ e))
+find_true test (g ∷ gs) f e = grind (arith, common_steps, find_true test gs f)
 
 places_above : (first n : ℕ) (es : List Entry) → first ≤ n → PlacesFrom n es → EachEntry (λ e. first ≤ e.place) es
 places_above first n [] h d = tt
 places_above first n (e ∷ es) h d = (omega (arith, d.0), places_above first (n + 1) es (omega arith) d.1)
 
-pub judged_length : (config : Config) (xs : List Listed) → length (registry config xs).judged ≡ length xs
-judged_length config xs = let j : Judges (length xs) empty_registry (registry config xs) = judges config empty_registry xs in ap length j.judged ∙ j.many
-
--- what is judged over a longer list begins with what is judged over the shorter one
-pub record Longer (config : Config) (ys zs : List Listed) : Type 0 where
-  pub more : List Judged
-  pub judged : (registry config (ys ++ zs)).judged ≡ (registry config ys).judged ++ more
-  pub many : length more ≡ length zs
-
-pub longer : (config : Config) (ys zs : List Listed) → Longer config ys zs
-longer config ys zs =
-    let j : Judges (length zs) (registry config ys) (registry config (ys ++ zs)) = subst (Judges (length zs) (registry config ys)) (sym (fold-append (judge config) empty_registry ys zs)) (judges config (registry config ys) zs) in
-    record { more = j.more; judged = j.judged; many = j.many }
+pub entries_length : (config : Config) (xs : List Listed) → length (entries_of (registry config xs)) ≡ length xs
+entries_length config xs = length-map (registry config xs).judged entry_of ∙ judged_length config xs
 
 -- the first entries are those of the first elements
 pub entries_within : (config : Config) (list : List Listed) (n : ℕ) → n ≤ length list → entries_of (registry config (take n list)) ≡ take n (entries_of (registry config list))
 entries_within config list n h =
-    let xs : List Listed = take n list in
-    let ys : List Listed = drop n list in
-    let r : Registry = registry config (take n list) in
-    let j : Judges (length (drop n list)) (registry config (take n list)) (registry config (take n list ++ drop n list)) =
-    subst (Judges (length (drop n list)) (registry config (take n list))) (sym (fold-append (judge config) empty_registry xs ys)) (judges config r ys) in
-    let count : length (entries_of (registry config (take n list))) ≡ n = omega (arith, length-map r.judged entry_of, judged_length config xs, length-take n list) in
-    sym (ap (λ (zs : List Listed). take n (entries_of (registry config zs))) (sym (take-append-drop n list))
-    ∙ ap (take n) (entries_more r (registry config (take n list ++ drop n list)) j.more j.judged)
-    ∙ ap (λ (k : ℕ). take k (entries_of r ++ map entry_of j.more)) (sym count)
-    ∙ take-append_seam (entries_of r) (map entry_of j.more))
+    let es : List Entry = entries_of (registry config (take n list)) in
+    let rest : List Entry = map entry_of (found_from config (registry config (take n list)) (drop n list)) in
+    let count : length (entries_of (registry config (take n list))) ≡ n = omega (arith, entries_length config (take n list), length-take n list) in
+    sym (ap (λ (zs : List Listed). take n (entries_of (registry config zs))) (sym (take-append-drop n list)) ∙ ap (take n) (entries_behind config (take n list) (drop n list))
+    ∙ ap (λ (k : ℕ). take k (es ++ rest)) (sym count) ∙ take-append_seam es rest)
 
-pub entries_length : (config : Config) (xs : List Listed) → length (entries_of (registry config xs)) ≡ length xs
-entries_length config xs = length-map (registry config xs).judged entry_of ∙ judged_length config xs
+-- each stands at its own place, as many behind the registry as elements come
+found_places : (config : Config) (r : Registry) (xs : List Listed) → PlacesFrom (length r.judged) (map entry_of (found_from config r xs))
+found_places config r [] = tt
+found_places config r (x ∷ xs) =
+    let many : length (judge config r x).judged ≡ length r.judged + 1 = ap (λ (t : Registry). length t.judged) (judge_is config r x) ∙ length_push r.judged (next_found config r x) in
+    (refl, subst (λ (n : ℕ). PlacesFrom n (map entry_of (found_from config (judge config r x) xs))) many (found_places config (judge config r x) xs))
+
+pub entries_in_order : EntriesInOrder
+entries_in_order config list = subst (PlacesFrom 0) (sym (ap (map entry_of) (judged_behind config [] list))) (found_places config empty_registry list)
 
 -- every connect that was answered over the list stands in it
 answered_within : (config : Config) (number : ℕ) (xs : List Listed) → Only (λ n. n < length xs) (session config number (entries_of (registry config xs)))
 answered_within config number xs =
-    let j : Judges (length xs) empty_registry (registry config xs) = judges config empty_registry xs in
-    let same : entries_of (registry config xs) ≡ map entry_of j.more = ap (map entry_of) j.judged in
-    let d : PlacesFrom 0 (entries_of (registry config xs)) = subst (PlacesFrom 0) (sym same) j.places in
     run_only config (λ n. n < length xs) number (unopened number) (entries_of (registry config xs)) refl
-    (all_allowed (length xs) number 0 (entries_of (registry config xs)) (let l = entries_length config xs in omega arith) d) (only_unopened (λ n. n < length xs) number)
+    (all_allowed (length xs) number 0 (entries_of (registry config xs)) (let l = entries_length config xs in omega arith) (entries_in_order config xs)) (only_unopened (λ n. n < length xs) number)
 
 -- what the two lists have in common, where the longer one gives an answer that was given within the shorter one
 record Shared (config : Config) (xs : List Listed) (r t : Registry) : Type 0 where
@@ -185,17 +131,15 @@ record Shared (config : Config) (xs : List Listed) (r t : Registry) : Type 0 whe
 shared : (config : Config) (xs ys : List Listed) → 0 < config.limits.batch → Shared config xs (registry config xs) (registry config (xs ++ ys))
 shared config xs ys room =
     let r : Registry = registry config xs in
-    let t : Registry = registry config (xs ++ ys) in
-    let j : Judges (length ys) r t = subst (Judges (length ys) r) (sym (fold-append (judge config) empty_registry xs ys)) (judges config r ys) in
-    let many : length r.judged ≡ length xs = judged_length config xs in
-    let above : EachEntry (λ e. length xs ≤ e.place) (map entry_of j.more) = places_above (length xs) (length r.judged) (map entry_of j.more) (omega arith) j.places in
+    let more : List Judged = found_from config (registry config xs) ys in
+    let above : EachEntry (λ e. length xs ≤ e.place) (map entry_of (found_from config (registry config xs) ys)) = places_above (length xs) (length r.judged) (map entry_of more) (let l = judged_length config xs in omega arith) (found_places config r ys) in
     record {
-      more = j.more;
-      judged = j.judged;
-      many = many;
+      more = more;
+      judged = judged_behind config xs ys;
+      many = judged_length config xs;
       before = λ number. answered_within config number xs;
-      grown = λ number. subst (λ (es : List Entry). Grown (length xs) (session config number (entries_of r)) (session config number es)) (sym (entries_more r t j.more j.judged))
-          (session_grown config number (length xs) (entries_of r) (map entry_of j.more) room above);
+      grown = λ number. subst (λ (es : List Entry). Grown (length xs) (session config number (entries_of r)) (session config number es)) (sym (entries_behind config xs ys))
+          (session_grown config number (length xs) (entries_of r) (map entry_of more) room above);
     }
 
 -- a connect's answer that was given within the shorter list was found there
@@ -272,8 +216,3 @@ pub answers_stay : AnswersStay
 answers_stay config list other place a room e same =
     let there : answer config (take (a.place + 1) other) place ≡ Some a = ap (λ (zs : List Listed). answer config zs place) same ∙ answer_front config list place a room e in
     sym (ap (λ (zs : List Listed). answer config zs place) (take-append-drop (a.place + 1) other)) ∙ answer_more config (take (a.place + 1) other) (drop (a.place + 1) other) place a room there
-
-pub entries_in_order : EntriesInOrder
-entries_in_order config list =
-    let j : Judges (length list) empty_registry (registry config list) = judges config empty_registry list in
-    subst (PlacesFrom 0) (sym (ap (map entry_of) j.judged)) j.places

@@ -1,12 +1,11 @@
 -- One more input makes whole what waits for its places, and the rest stays open.
-use Rattle.std.proofs.Common.{◌≡◌, ℕ, zero, suc, ◌+◌, ◌<◌, ◌≤◌, ⊎_elim, Bool, true, false, cond, not, ◌&&◌, is_some, is_none, Option, Some, None, List, [], ◌∷◌, ◌++◌, length, map, filter, flat_map, fold, nat_lt, nat_le, refl, sym, ap, ◌∙◌, subst, arith, append-nil, length-append, ne_eqb, eq-eqb, lt-ltb, le-leb}
-use Rattle.std.proofs.lemmas.Bool.{cond-true, cond-false, cases_lt}
+use Rattle.std.proofs.Common.{◌≡◌, ℕ, zero, suc, ◌+◌, ◌<◌, ◌≤◌, ⊎_elim, Bool, true, false, cond, not, ◌&&◌, is_some, is_none, Option, Some, None, List, [], ◌∷◌, ◌++◌, length, map, filter, flat_map, fold, nat_lt, refl, sym, ap, ◌∙◌, subst, arith, append-nil, length-append, ne_eqb, eq-eqb, lt-ltb}
+use Rattle.std.proofs.lemmas.Bool.{cond-true, cases_lt}
 use Rattle.std.proofs.lemmas.List.{map-append}
 use Rattle.std.proofs.lemmas.List.Elements.{filter-append}
 use Rattle.std.proofs.lemmas.List.Sums.{fold-append}
-use Rattle.std.proofs.lemmas.Grind.{flat_map-append}
+use Rattle.std.proofs.lemmas.Grind.{common_steps, flat_map-append}
 use Rattle.std.specs.List.{position, position_or_len}
-use Rattle.bx_lists.proofs.Tests.{either}
 use Rattle.bx_advice.specs.declared.config.Config.{Config}
 use Rattle.bx_entry.specs.Listing.{Listed}
 use Rattle.bx_entry.specs.Registry.{Registry, registry}
@@ -34,17 +33,11 @@ newly t input (Some refusal) = record { more = []; list = sym (append-nil t.list
 -- ---- the input that has a place
 
 has : (k : ℕ) (d : Intake) → d.first ≤ k → k < d.first + d.count → has_place k d ≡ true
-has k d h l =
-    let a : nat_le d.first k ≡ true = le-leb d.first k h in
-    let b : nat_lt k (d.first + d.count) ≡ true = lt-ltb k (d.first + d.count) l in
-    ap (λ (x : Bool). x && nat_lt k (d.first + d.count)) a ∙ b
+has k d h l = grind (arith, common_steps)
 
 where_here : (test : Intake → Bool) (ds : List Intake) (d : Intake) → test d ≡ true → position_or_len test (ds ++ d ∷ []) ≤ length ds
-where_here test [] d g = let here : position_or_len test (d ∷ []) ≡ 0 = cond-false (not (test d)) (1 + position_or_len test []) 0 (ap not g) in omega (arith, here)
-where_here test (e ∷ ds) d g = either (test e) (position_or_len test (e ∷ (ds ++ d ∷ [])) ≤ length (e ∷ ds))
-    (λ h. let here : position_or_len test (e ∷ (ds ++ d ∷ [])) ≡ 0 = cond-false (not (test e)) (1 + position_or_len test (ds ++ d ∷ [])) 0 (ap not h) in omega (arith, here))
-    (λ h. let here : position_or_len test (e ∷ (ds ++ d ∷ [])) ≡ 1 + position_or_len test (ds ++ d ∷ []) = cond-true (not (test e)) (1 + position_or_len test (ds ++ d ∷ [])) 0 (ap not h) in
-    omega (arith, here, where_here test ds d g))
+where_here test [] d g = grind (arith, common_steps)
+where_here test (e ∷ ds) d g = grind (arith, common_steps, where_here test ds d)
 
 position_there : (test : Intake → Bool) (ds : List Intake) → position_or_len test ds < length ds → position test ds ≡ Some (position_or_len test ds)
 position_there test ds l = cond-true (nat_lt (position_or_len test ds) (length ds)) (Some (position_or_len test ds)) None (lt-ltb (position_or_len test ds) (length ds) l)
@@ -137,21 +130,15 @@ newest_at f g intake end last n d _ r h = eq-eqb n n refl
 -- ---- filtering
 
 twice_push : (p q : Numbered → Bool) (o : Numbered) (os : List Numbered) → filter p (filter q (o ∷ os)) ≡ cond (q o && p o) (o ∷ filter p (filter q os)) (filter p (filter q os))
-twice_push p q o os =
-    let kept : List Numbered = filter q os in
-    (elim (q o) as (λ b. filter p (cond b (o ∷ kept) kept) ≡ cond (b && p o) (o ∷ filter p kept) (filter p kept)) [ true ↦ refl | false ↦ refl ])
+twice_push p q o os = grind (arith, common_steps)
 
 map_cond : {B : Type 0} (h : Numbered → B) (b : Bool) (o : Numbered) (os : List Numbered) → map h (cond b (o ∷ os) os) ≡ cond b (h o ∷ map h os) (map h os)
-map_cond h true o os = refl
-map_cond h false o os = refl
+map_cond h b o os = grind (arith, common_steps)
 
 -- where what passes the last test passes the first one
 filter_twice : (p q : Numbered → Bool) (os : List Numbered) → ((o : Numbered) → p o ≡ (q o && p o)) → filter p os ≡ filter p (filter q os)
 filter_twice p q [] h = refl
-filter_twice p q (o ∷ os) h =
-    ap (λ (b : Bool). cond b (o ∷ filter p os) (filter p os)) (h o)
-    ∙ ap (λ (xs : List Numbered). cond (q o && p o) (o ∷ xs) xs) (filter_twice p q os h)
-    ∙ sym (twice_push p q o os)
+filter_twice p q (o ∷ os) h = grind (arith, common_steps, h o, filter_twice p q os h)
 
 -- ---- all inputs
 
@@ -251,11 +238,7 @@ outs_add config inputs input room =
 
 stays_whole : (end : ℕ) (f g : ℕ → Option PlacedAnswer) (ps : List ℕ) → AheadAll end f g →
     not (is_some (latest 0 (map g ps))) ≡ (not (is_some (latest 0 (map f ps))) && not (is_some (latest 0 (map g ps))))
-stays_whole end f g ps a =
-    let P : Option ℕ → Type 0 = λ o. latest 0 (map f ps) ≡ o → not (is_some (latest 0 (map g ps))) ≡ (not (is_some o) && not (is_some (latest 0 (map g ps)))) in
-    let at_none : P None = λ e. refl in
-    let at_some : (k : ℕ) → P (Some k) = λ k e. ap (λ (os : List (Option PlacedAnswer)). not (is_some (latest 0 os))) (latest_same end 0 k f g ps a e) ∙ ap (λ (o : Option ℕ). not (is_some o)) e in
-    (elim (latest 0 (map f ps)) as P [ None ↦ at_none | Some k ↦ at_some k ]) refl
+stays_whole end f g ps a = grind (arith, common_steps, latest_same end 0)
 
 round_opens : (config : Config) (t u : Taking) (d : Intake) → 0 < config.limits.batch → Newly t u d →
     filter (λ (o : Numbered). not (is_whole config (registry config u.list) o)) (numbered_from 0 u.intake)
@@ -292,17 +275,11 @@ record Standing (f : ℕ → Option PlacedAnswer) (intake : List Intake) (end : 
 
 none_at : (f : ℕ → Option PlacedAnswer) (intake : List Intake) (end i : ℕ) (ps : List ℕ) → Standing f intake end → is_none (whole_by intake i (map f ps)) ≡ not (is_some (latest 0 (map f ps)))
 none_at f intake end i [] s = refl
-none_at f intake end i (p ∷ ps) s =
-    let P : Option ℕ → Type 0 = λ o. latest 0 (map f (p ∷ ps)) ≡ o → is_none (placed intake o) ≡ not (is_some o) in
-    let at_none : P None = λ e. refl in
-    let at_some : (k : ℕ) → P (Some k) = λ k e. s.some k (first_below end k f p ps s.low e) in
-    (elim (latest 0 (map f (p ∷ ps))) as P [ None ↦ at_none | Some k ↦ at_some k ]) refl
+none_at f intake end i (p ∷ ps) s = grind (arith, common_steps, s.some, first_below end)
 
 held_push : (w : Whole) (ws : List Whole) → map (λ (w : Whole). w.out.input) (filter (λ (w : Whole). is_none w.at) (w ∷ ws))
     ≡ cond (is_none w.at) (w.out.input ∷ map (λ (w : Whole). w.out.input) (filter (λ (w : Whole). is_none w.at) ws)) (map (λ (w : Whole). w.out.input) (filter (λ (w : Whole). is_none w.at) ws))
-held_push w ws =
-    let kept : List Whole = filter (λ (v : Whole). is_none v.at) ws in
-    (elim (is_none w.at) as (λ b. map (λ (v : Whole). v.out.input) (cond b (w ∷ kept) kept) ≡ cond b (w.out.input ∷ map (λ (v : Whole). v.out.input) kept) (map (λ (v : Whole). v.out.input) kept)) [ true ↦ refl | false ↦ refl ])
+held_push w ws = grind (arith, common_steps)
 
 held_from : (config : Config) (r : Registry) (intake : List Intake) (end i : ℕ) (ds : List Intake) → Standing (answer_in config r) intake end →
     map (λ (w : Whole). w.out.input) (filter (λ (w : Whole). is_none w.at) (wholes_from config r intake i ds)) ≡ map (λ (o : Numbered). o.number) (filter (λ (o : Numbered). not (is_whole config r o)) (numbered_from i ds))

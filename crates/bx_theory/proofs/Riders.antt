@@ -1,8 +1,8 @@
 -- Riders, where they are.
 use Rattle.std.proofs.Common.{◌≡◌, ℕ, ◌+◌, ◌<◌, max, Bool, true, false, cond, not, ◌&&◌, Option, Some, None, List, [], ◌∷◌, ◌++◌, length, map, fold, ◌==◌, refl, sym, ap, ◌∙◌, subst, arith, true≢false, ⊎_elim, append-nil, append_assoc, eqb-true, eq-eqb}
-use Rattle.std.proofs.lemmas.Bool.{cond_both, cond-true, and_parts, not-true}
-use Rattle.std.proofs.lemmas.List.{map-append}
+use Rattle.std.proofs.lemmas.Bool.{cond-true, and_parts, not-true}
 use Rattle.std.proofs.lemmas.Grind.{common_steps}
+use Rattle.bx_advice.specs.declared.error.Error.{Error}
 use Rattle.std.proofs.lemmas.List.Sums.{fold-append}
 use Rattle.bx_lists.proofs.Tests.{either}
 use Rattle.std.specs.List.{AllByRecursion}
@@ -17,43 +17,35 @@ use Rattle.bx_entry.specs.declared.entry.EntryKind.{EntryKind}
 use Rattle.bx_entry.specs.declared.entry.EntryKind.TheVariants.{Connect, Subscribe, Unsubscribe, Publish, Disconnect, Refused, Tick}
 use Rattle.bx_entry.specs.declared.entry.EntryKind.TheVariants as entries
 use Rattle.bx_entry.specs.Sessions.{Session, Unopened, begun, step_by, step, unopened, session, rider_of, Filed}
-use Rattle.bx_entry.specs.Registry.{due_of, Registry, Registered, Judged, PlaceSlot, Ready, Waiting, NoSlot, is_ack, extended, swept, is_overdue, opened, served, rider_for, is_rider, is_one, joined, may_ride, slot_for, judge, named_by, refusal, hold_of, registry, empty_registry, entries_of, noted, state_of}
+use Rattle.bx_entry.specs.declared.senders.Senders.{Senders}
+use Rattle.bx_entry.specs.Registry.{due_of, found_at, hold_of, is_ack, is_one, is_rider, joined, judged_by, named_by, refusal, State, may_ride, opened, refused, registry, rider_for, served, sessionless, slot_for, state_of, tick_verdict, Judged, NoSlot, PlaceSlot, Ready, Registered, Registry, Verdict, Waiting, entries_of}
 use Rattle.bx_theory.specs.Laws.{NoRidersUnasked, RidesPlain, RidersArePlain, LastAnswer, LastGiven, Repetition}
-use Rattle.bx_theory.specs.Readings.{opens_by, closes_by, since_opening, EachSession}
-use Rattle.bx_theory.proofs.Verdicts.{by_verdict}
+use Rattle.bx_theory.specs.Readings.{closes_by, moment_of, opens_by, since_opening, EachSession}
+use Rattle.bx_theory.proofs.Verdicts.{each_found, each_judge, each_registry, each_verdict, verdict_of, entries_behind, found_from, next_noted}
 use Rattle.bx_theory.proofs.Counts.{ride_both, rider_of_both, all_in_step, unopened_in_step}
 use Rattle.bx_theory.proofs.Batches.{acks_with_batch}
 use Rattle.bx_theory.proofs.Stages.{step_number, step_next, next_opened, next_unopened}
 use Rattle.bx_theory.proofs.Closings.{run_number}
-use Rattle.bx_theory.proofs.Dues.{EachJudged, each_judged_push, each_judged_map, each_session_map, each_session_push, each_session_through, left_each, named_session}
-use Rattle.bx_theory.proofs.Lists.{Longer, longer}
-use Rattle.bx_theory.proofs.Lives.{found_of, opened_later, entries_push}
+use Rattle.bx_theory.proofs.Dues.{Mapped, each_session_map, each_session_push, each_session_through, named_session, served_sessions, swept_sessions, unchanged}
+use Rattle.bx_theory.proofs.Lives.{opened_later, entries_push}
 
 -- ---- none is there unasked
 
-no_rider : (b : Bool) (n : ℕ) (slot : PlaceSlot) → b ≡ false → rider_for b n slot ≡ None
-no_rider true n slot h = cc
-no_rider false n slot h = refl
+unasked : (config : Config) (state : State) (moment : ℕ) (p : Posted) (sender : Option Registered) (error : Option Error) → config.ride ≡ false → (judged_by config state moment p sender error).rides ≡ None
+unasked config state moment p sender error h = grind (arith, common_steps)
 
-judge_none : (config : Config) (r : Registry) (x : Listed) → config.ride ≡ false → EachJudged (λ j. j.entry.rides ≡ None) r.judged → EachJudged (λ j. j.entry.rides ≡ None) (judge config r x).judged
-judge_none config r (Post p) h d =
-    let c : MessageKind = message_kind_of p.message.channel in
-    each_judged_push (λ j. j.entry.rides ≡ None) r.judged _ d
-    (by_verdict (λ v. v.rides ≡ None) config (state_of r) (max r.clock p.moment) p (named_by r.sessions c p.message) (refusal config r.sessions p) (λ e. refl) refl refl
-    (λ s e. no_rider (is_rider config r.senders c p s) s.number (slot_for config c p s) (ap (λ (b : Bool). b && (p.last && (not s.ack && (is_one (joined r.senders s.number) && may_ride c)))) h)))
-judge_none config r (messages.Tick moment) h d = each_judged_push (λ j. j.entry.rides ≡ None) r.judged _ d refl
+none_unasked : (config : Config) (r : Registry) (x : Listed) → config.ride ≡ false → (verdict_of config r x).rides ≡ None
+none_unasked config r (Post p) h = unasked config (state_of r) (max r.clock p.moment) p (named_by r.sessions (message_kind_of p.message.channel) p.message) (refusal config r.sessions p) h
+none_unasked config r (messages.Tick moment) h = refl
 
-run_none : (config : Config) (r : Registry) (xs : List Listed) → config.ride ≡ false → EachJudged (λ j. j.entry.rides ≡ None) r.judged → EachJudged (λ j. j.entry.rides ≡ None) (fold (judge config) r xs).judged
-run_none config r [] h d = d
-run_none config r (x ∷ xs) h d = run_none config (judge config r x) xs h (judge_none config r x h d)
-
--- what holds of each entry
-pub entries_all : (P : Entry → Type 0) (js : List Judged) → EachJudged (λ j. P j.entry) js → AllByRecursion P (map (λ (j : Judged). j.entry) js)
+-- what holds of the entry of each that was judged holds of each entry
+pub entries_all : (P : Entry → Type 0) (js : List Judged) → AllByRecursion (λ j. P j.entry) js → AllByRecursion P (map (λ (j : Judged). j.entry) js)
 entries_all P [] d = tt
 entries_all P (j ∷ js) d = (d.0, entries_all P js d.1)
 
 pub no_riders_unasked : NoRidersUnasked
-no_riders_unasked config list h = entries_all (λ (e : Entry). e.rides ≡ None) (registry config list).judged (run_none config empty_registry list h tt)
+no_riders_unasked config list h =
+    entries_all (λ (e : Entry). e.rides ≡ None) (registry config list).judged (each_found config list (λ j. j.entry.rides ≡ None) (λ ys x zs whole. none_unasked config (registry config ys) x h))
 
 -- ---- a session acknowledges from its opening on, or never
 
@@ -115,96 +107,43 @@ acks_new config es place moment number ack n =
     ∙ ap (begun ack (session config number es)) fresh in
     record { opened = subst WasOpened (sym next) (λ h. cc); same = ap (λ (u : Session). u.ack) next }
 
--- a rider's session doesn't acknowledge
-abbrev RiderOf : Config → List Entry → Option Rider → Type 0
-RiderOf config es None = Unit {0}
-RiderOf config es (Some rider) = Acks config es rider.session false
+-- what the registry says of each session is so by its entries
+abbrev Known : Config → Registry → Type 0
+Known config r = EachSession (λ s. Acks config (entries_of r) s.number s.ack) r.sessions
 
-rider_on : (config : Config) (es : List Entry) (e : Entry) (rides : Option Rider) → RiderOf config es rides → RiderOf config (es ++ e ∷ []) rides
-rider_on config es e None k = tt
-rider_on config es e (Some rider) k = acks_on config es e rider.session false k
+-- where each session keeps its number, and whether it acknowledges
+known_next : (config : Config) (r : Registry) (x : Listed) (v : Verdict) (change : Registered → Registered) → Mapped change r.sessions v.state.sessions → Known config r → Known config (next_noted r x v)
+known_next config r x v change m k =
+    let e : Entry = (found_at (length r.judged) (max r.clock (moment_of x)) v).entry in
+    subst (λ (es : List Entry). EachSession (λ s. Acks config es s.number s.ack) v.state.sessions) (sym (entries_push r (next_noted r x v) _ refl))
+    (subst (EachSession (λ s. Acks config (entries_of r ++ e ∷ []) s.number s.ack)) (sym m.is)
+    (each_session_through (λ s. Acks config (entries_of r) s.number s.ack) (λ s. Acks config (entries_of r ++ e ∷ []) s.number s.ack) change r.sessions
+    (λ s a. subst (λ (ack : Bool). Acks config (entries_of r ++ e ∷ []) (change s).number ack) (sym (m.same s).ack)
+    (subst (λ (n : ℕ). Acks config (entries_of r ++ e ∷ []) n s.ack) (sym (m.same s).number) (acks_on config (entries_of r) e s.number s.ack a))) k))
 
-record Knows (config : Config) (r : Registry) : Type 0 where
-  sessions : EachSession (λ s. Acks config (entries_of r) s.number s.ack) r.sessions
-  riders : EachJudged (λ j. RiderOf config (entries_of r) j.entry.rides) r.judged
-
--- one more place, over sessions that were known
-knows_next : (config : Config) (r t : Registry) (j : Judged) → t.judged ≡ r.judged ++ j ∷ [] → EachSession (λ s. Acks config (entries_of r ++ j.entry ∷ []) s.number s.ack) t.sessions → RiderOf config (entries_of r) j.entry.rides →
-    Knows config r → Knows config t
-knows_next config r t j judged sessions rides k =
-    let more : entries_of t ≡ entries_of r ++ j.entry ∷ [] = entries_push r t j judged in
-    record {
-      sessions = subst (λ (es : List Entry). EachSession (λ s. Acks config es s.number s.ack) t.sessions) (sym more) sessions;
-      riders = subst (λ (es : List Entry). EachJudged (λ i. RiderOf config es i.entry.rides) t.judged) (sym more)
-          (subst (EachJudged (λ i. RiderOf config (entries_of r ++ j.entry ∷ []) i.entry.rides)) (sym judged)
-          (each_judged_push (λ i. RiderOf config (entries_of r ++ j.entry ∷ []) i.entry.rides) r.judged j
-          (each_judged_map (λ i. RiderOf config (entries_of r) i.entry.rides) (λ i. RiderOf config (entries_of r ++ j.entry ∷ []) i.entry.rides) r.judged (λ i h. rider_on config (entries_of r) j.entry i.entry.rides h) k.riders)
-          (rider_on config (entries_of r) j.entry j.entry.rides rides)));
-    }
-
--- the sessions behind one more entry
-sessions_on : (config : Config) (r : Registry) (e : Entry) → Knows config r → EachSession (λ s. Acks config (entries_of r ++ e ∷ []) s.number s.ack) r.sessions
-sessions_on config r e k = each_session_map (λ s. Acks config (entries_of r) s.number s.ack) (λ s. Acks config (entries_of r ++ e ∷ []) s.number s.ack) r.sessions
-    (λ s h. acks_on config (entries_of r) e s.number s.ack h) k.sessions
-
-extended_acks : (P : ℕ → Bool → Type 0) (n due : ℕ) (rs : List Registered) → EachSession (λ s. P s.number s.ack) rs → EachSession (λ s. P s.number s.ack) (extended n due rs)
-extended_acks P n due rs d = each_session_through (λ s. P s.number s.ack) (λ s. P s.number s.ack) (λ q. cond (q.number == n) (record q { due = max q.due due }) q) rs
-    (λ q h. let u : Registered = record q { due = max q.due due } in cond_both (q.number == n) u q (λ (v : Registered). P v.number v.ack) (λ e. h) (λ e. h)) d
-
-swept_acks : (P : ℕ → Bool → Type 0) (now : ℕ) (rs : List Registered) → EachSession (λ s. P s.number s.ack) rs → EachSession (λ s. P s.number s.ack) (swept now rs)
-swept_acks P now rs d = each_session_through (λ s. P s.number s.ack) (λ s. P s.number s.ack) (λ q. cond (is_overdue now q) (record q { live = false }) q) rs
-    (λ q h. let u : Registered = record q { live = false } in cond_both (is_overdue now q) u q (λ (v : Registered). P v.number v.ack) (λ e. h) (λ e. h)) d
-
-rides_of : (config : Config) (es : List Entry) (b : Bool) (n : ℕ) (slot : PlaceSlot) → (b ≡ true → Acks config es n false) → RiderOf config es (rider_for b n slot)
-rides_of config es true n (Ready reply) h = h refl
-rides_of config es true n (Waiting number) h = tt
-rides_of config es true n NoSlot h = tt
-rides_of config es false n slot h = tt
-
--- a rider's session is one that doesn't acknowledge
-rides_plain : (config : Config) (r : Registry) (c : MessageKind) (p : Posted) (s : Registered) → is_rider config r.senders c p s ≡ true → s.ack ≡ false
-rides_plain config r c p s h =
-    let a = and_parts config.ride (p.last && (not s.ack && (is_one (joined r.senders s.number) && may_ride c))) h in
-    let b = and_parts p.last (not s.ack && (is_one (joined r.senders s.number) && may_ride c)) a.1 in
-    not-true s.ack (and_parts (not s.ack) (is_one (joined r.senders s.number) && may_ride c) b.1).0
-
-served_knows : (config : Config) (r : Registry) (moment : ℕ) (p : Posted) (c : MessageKind) (s : Registered) (hold : ℕ) → Acks config (entries_of r) s.number s.ack → Knows config r → Knows config (noted r moment (served config (state_of r) moment p c s hold))
-served_knows config r moment p c s hold a k =
-    let j : Judged = found_of config r moment p c s hold in
-    let P : ℕ → Bool → Type 0 = λ n ack. Acks config (entries_of r ++ (found_of config r moment p c s hold).entry ∷ []) n ack in
-    knows_next config r (noted r moment (served config (state_of r) moment p c s hold)) (found_of config r moment p c s hold) refl
-    (left_each (λ q. Acks config (entries_of r ++ (found_of config r moment p c s hold).entry ∷ []) q.number q.ack) c s.number (extended s.number (due_of config moment hold) r.sessions) (λ q h. h)
-    (extended_acks P s.number (due_of config moment hold) r.sessions (sessions_on config r (found_of config r moment p c s hold).entry k)))
-    (rides_of config (entries_of r) (is_rider config r.senders c p s) s.number (slot_for config c p s) (λ h. subst (Acks config (entries_of r) s.number) (rides_plain config r c p s h) a)) k
-
-opened_knows : (config : Config) (r : Registry) (moment : ℕ) (p : Posted) → since_opening (length r.sessions + 1) (entries_of r) ≡ None → Knows config r → Knows config (noted r moment (opened config (state_of r) moment p (length r.sessions + 1)))
-opened_knows config r moment p n k =
-    let number : ℕ = length r.sessions + 1 in
-    let e : Entry = record { place = length r.judged; moment = moment; kind = entries.Opened (length r.sessions + 1) (is_ack p.message.ack); rides = None } in
-    knows_next config r (noted r moment (opened config (state_of r) moment p (length r.sessions + 1))) _ refl
-    (each_session_push (λ s. Acks config (entries_of r ++ e ∷ []) s.number s.ack) r.sessions _ (sessions_on config r e k)
-    (acks_new config (entries_of r) (length r.judged) moment (length r.sessions + 1) (is_ack p.message.ack) n)) tt k
-
-judge_knows : (config : Config) (ys : List Listed) (x : Listed) → Knows config (registry config ys) → Knows config (judge config (registry config ys) x)
-judge_knows config ys (Post p) k =
-    let r : Registry = registry config ys in
+known_opened : (config : Config) (r : Registry) (p : Posted) → since_opening (length r.sessions + 1) (entries_of r) ≡ None → Known config r → Known config (next_noted r (Post p) (opened config (state_of r) (max r.clock p.moment) p (length r.sessions + 1)))
+known_opened config r p n k =
     let moment : ℕ = max r.clock p.moment in
-    let c : MessageKind = message_kind_of p.message.channel in
-    by_verdict (λ v. Knows config (noted r moment v)) config (state_of r) moment p (named_by r.sessions c p.message) (refusal config r.sessions p)
-    (λ e. knows_next config r _ _ refl (sessions_on config r _ k) tt k)
-    (opened_knows config r moment p (opened_later config ys (length r.sessions + 1) (omega arith)) k)
-    (knows_next config r _ _ refl (sessions_on config r _ k) tt k)
-    (λ s e. served_knows config r moment p c s (hold_of config p) (named_session (λ q. Acks config (entries_of (registry config ys)) q.number q.ack) r.sessions c p.message s e k.sessions) k)
-judge_knows config ys (messages.Tick moment) k =
-    let r : Registry = registry config ys in
-    knows_next config r (judge config r (messages.Tick moment)) _ refl
-    (swept_acks (λ n ack. Acks config _ n ack) (max r.clock moment) r.sessions (sessions_on config r _ k)) tt k
+    let t : Registry = next_noted r (Post p) (opened config (state_of r) moment p (length r.sessions + 1)) in
+    let e : Entry = record { place = length r.judged; moment = moment; kind = entries.Opened (length r.sessions + 1) (is_ack p.message.ack); rides = None } in
+    subst (λ (es : List Entry). EachSession (λ s. Acks config es s.number s.ack) t.sessions) (sym (entries_push r t _ refl))
+    (each_session_push (λ s. Acks config (entries_of r ++ e ∷ []) s.number s.ack) r.sessions _
+    (each_session_map (λ s. Acks config (entries_of r) s.number s.ack) (λ s. Acks config (entries_of r ++ e ∷ []) s.number s.ack) r.sessions (λ s a. acks_on config (entries_of r) e s.number s.ack a) k)
+    (acks_new config (entries_of r) (length r.judged) moment (length r.sessions + 1) (is_ack p.message.ack) n))
 
-knows_from : (config : Config) (ys xs : List Listed) → Knows config (registry config ys) → Knows config (registry config (ys ++ xs))
-knows_from config ys [] k = subst (λ (zs : List Listed). Knows config (registry config zs)) (sym (append-nil ys)) k
-knows_from config ys (x ∷ xs) k =
-    subst (λ (zs : List Listed). Knows config (registry config zs)) (append_assoc ys (x ∷ []) xs)
-    (knows_from config (ys ++ x ∷ []) xs (subst (Knows config) (sym (fold-append (judge config) empty_registry ys (x ∷ []))) (judge_knows config ys x k)))
+known : (config : Config) (list : List Listed) → Known config (registry config list)
+known config list =
+    each_registry config (Known config) tt (λ ys x k.
+    let r : Registry = registry config ys in
+    each_judge config r (Known config) (record {
+      refuses = λ p sender error. known_next config r (Post p) (refused config (state_of r) p error sender) _ (unchanged r.sessions) k;
+      opens = λ p. known_opened config r p (opened_later config ys (length r.sessions + 1) (omega arith)) k;
+      none = λ p. known_next config r (Post p) (sessionless config (state_of r) p (message_kind_of p.message.channel)) _ (unchanged r.sessions) k;
+      serves = λ p s e.
+          let c : MessageKind = message_kind_of p.message.channel in
+          known_next config r (Post p) (served config (state_of r) (max r.clock p.moment) p c s (hold_of config p)) _ (served_sessions c s.number (due_of config (max r.clock p.moment) (hold_of config p)) r.sessions) k;
+      ticks = λ moment. known_next config r (messages.Tick moment) (tick_verdict (state_of r) (max r.clock moment)) _ (swept_sessions (max r.clock moment) r.sessions) k;
+    }) x) list
 
 acks_more : (config : Config) (es fs : List Entry) (number : ℕ) (ack : Bool) → Acks config es number ack → Acks config (es ++ fs) number ack
 acks_more config es [] number ack k = subst (λ (xs : List Entry). Acks config xs number ack) (sym (append-nil es)) k
@@ -214,23 +153,38 @@ acks_more config es (f ∷ fs) number ack k = subst (λ (xs : List Entry). Acks 
 pub acks_later : (config : Config) (ys zs : List Listed) → EachSession (λ s. (session config s.number (entries_of (registry config (ys ++ zs)))).ack ≡ s.ack) (registry config ys).sessions
 acks_later config ys zs =
     let r : Registry = registry config ys in
-    let k : Knows config (registry config ys) = knows_from config [] ys (record { sessions = tt; riders = tt }) in
-    let l : Longer config ys zs = longer config ys zs in
-    let more : entries_of (registry config (ys ++ zs)) ≡ entries_of r ++ map (λ (j : Judged). j.entry) l.more = ap (map (λ (j : Judged). j.entry)) l.judged ∙ map-append (λ (j : Judged). j.entry) r.judged l.more in
     each_session_map (λ s. Acks config (entries_of r) s.number s.ack) (λ s. (session config s.number (entries_of (registry config (ys ++ zs)))).ack ≡ s.ack) r.sessions
-    (λ s a. ap (λ (es : List Entry). (session config s.number es).ack) more ∙ (acks_more config (entries_of r) (map (λ (j : Judged). j.entry) l.more) s.number s.ack a).same) k.sessions
+    (λ s a. ap (λ (es : List Entry). (session config s.number es).ack) (entries_behind config ys zs) ∙ (acks_more config (entries_of r) (map (λ (j : Judged). j.entry) (found_from config r zs)) s.number s.ack a).same) (known config ys)
 
-plain_of : (config : Config) (es : List Entry) (rides : Option Rider) → RiderOf config es rides → RidesPlain config es rides
-plain_of config es None k = tt
-plain_of config es (Some rider) k = k.same
+-- a rider's session is one that doesn't acknowledge
+rides_plain : (config : Config) (senders : Senders) (c : MessageKind) (p : Posted) (s : Registered) → is_rider config senders c p s ≡ true → s.ack ≡ false
+rides_plain config senders c p s h =
+    let a = and_parts config.ride (p.last && (not s.ack && (is_one (joined senders s.number) && may_ride c))) h in
+    let b = and_parts p.last (not s.ack && (is_one (joined senders s.number) && may_ride c)) a.1 in
+    not-true s.ack (and_parts (not s.ack) (is_one (joined senders s.number) && may_ride c) b.1).0
+
+plain_rider : (config : Config) (es : List Entry) (b : Bool) (n : ℕ) (slot : PlaceSlot) → (b ≡ true → (session config n es).ack ≡ false) → RidesPlain config es (rider_for b n slot)
+plain_rider config es true n (Ready reply) h = h refl
+plain_rider config es true n (Waiting number) h = tt
+plain_rider config es true n NoSlot h = tt
+plain_rider config es false n slot h = tt
 
 pub riders_are_plain : RidersArePlain
 riders_are_plain config list =
-    let r : Registry = registry config list in
-    let k : Knows config (registry config list) = knows_from config [] list (record { sessions = tt; riders = tt }) in
-    entries_all (λ (e : Entry). RidesPlain config (entries_of (registry config list)) e.rides) r.judged
-    (each_judged_map (λ j. RiderOf config (entries_of (registry config list)) j.entry.rides) (λ j. RidesPlain config (entries_of (registry config list)) j.entry.rides) r.judged
-    (λ j h. plain_of config (entries_of (registry config list)) j.entry.rides h) k.riders)
+    let es : List Entry = entries_of (registry config list) in
+    entries_all (λ (e : Entry). RidesPlain config es e.rides) (registry config list).judged (each_found config list (λ j. RidesPlain config es j.entry.rides) (λ ys x zs whole.
+    let r : Registry = registry config ys in
+    each_verdict config r (λ y v. RidesPlain config es v.rides) (record {
+      refuses = λ p sender error. tt;
+      opens = λ p. tt;
+      none = λ p. tt;
+      serves = λ p s e.
+          let c : MessageKind = message_kind_of p.message.channel in
+          let same : (session config s.number es).ack ≡ s.ack = subst (λ (ls : List Listed). (session config s.number (entries_of (registry config ls))).ack ≡ s.ack) whole
+          (named_session (λ q. (session config q.number (entries_of (registry config (ys ++ x ∷ zs)))).ack ≡ q.ack) r.sessions c p.message s e (acks_later config ys (x ∷ zs))) in
+          plain_rider config es (is_rider config r.senders c p s) s.number (slot_for config c p s) (λ h. same ∙ rides_plain config r.senders c p s h);
+      ticks = λ moment. tt;
+    }) x))
 
 -- ---- the answer that formed a batch is the last one
 

@@ -7,7 +7,6 @@ use Rattle.std.proofs.lemmas.List.Sums.{fold-append}
 use Rattle.std.proofs.Math.Seq.{drop-append_seam, take-append_seam}
 use Rattle.std.proofs.ByRecursion.{All-push}
 use Rattle.std.specs.List.{AllByRecursion}
-use Rattle.bx_lists.proofs.Tests.{either}
 use Rattle.bx_advice.specs.declared.config.Config.{Config}
 use Rattle.bx_advice.specs.declared.error.Error.{Error}
 use Rattle.bx_message.specs.declared.message.Message.{Message}
@@ -21,13 +20,13 @@ use Rattle.bx_entry.specs.declared.entry.Rider.{Rider}
 use Rattle.bx_entry.specs.declared.entry.EntryKind.{EntryKind}
 use Rattle.bx_entry.specs.declared.senders.Senders.{Senders}
 use Rattle.bx_entry.specs.declared.senders.Senders.TheVariants.{NoneYet, Only, Mixed}
-use Rattle.bx_entry.specs.Registry.{found_at, Registry, Registered, Judged, PlaceSlot, is_one, joined, senders_behind, may_ride, is_rider, rider_for, kind_for, slot_for, judge, judged_by, named_by, refusal, hold_of, registry, empty_registry, entries_of, entries, noted, state_of}
+use Rattle.bx_entry.specs.Registry.{State, judged_by, Registry, Registered, Judged, PlaceSlot, is_one, joined, senders_behind, may_ride, is_rider, rider_for, kind_for, slot_for, judge, judged_by, named_by, refusal, hold_of, registry, empty_registry, entries_of, entries, noted, state_of}
 use Rattle.bx_entry.specs.Sessions.{Session, Stage, Unopened, Live, is_live, session, step, step_by, rider_of, is_riding, ridden, ridden_by, ride_portion}
 use Rattle.bx_theory.specs.Readings.{is_from, opens_by}
 use Rattle.bx_theory.specs.Riding.{found_behind, is_own, may_have_rider, IsRiderOf, rider_session, RiderReading, NothingRidesBeside, OthersNeverRide, GivesRider, RiderGiven}
-use Rattle.bx_theory.proofs.Verdicts.{by_verdict}
-use Rattle.bx_theory.proofs.Dues.{EachJudged, each_judged_push, named_session}
-use Rattle.bx_theory.proofs.Lists.{Longer, longer, judged_length}
+use Rattle.bx_theory.proofs.Verdicts.{by_verdict, each_found, found_from, judged_behind, verdict_of}
+use Rattle.bx_theory.proofs.Dues.{named_session}
+use Rattle.bx_theory.proofs.Lists.{judged_length}
 use Rattle.bx_theory.proofs.Lives.{found_of}
 use Rattle.bx_theory.proofs.Stages.{Next, next_by, step_by_next}
 use Rattle.bx_theory.proofs.Riders.{WasOpened, step_by_a, acks_later, entries_all}
@@ -315,13 +314,13 @@ reads_at config es first (i ∷ js) (b ∷ before) j behind number d e =
 found_is : (config : Config) (ys xs zs : List Listed) (more : List Judged) → (registry config (ys ++ xs)).judged ≡ (registry config ys).judged ++ more → length more ≡ length xs → found_behind config ys xs zs ≡ more
 found_is config ys xs zs more judged many =
     let r : Registry = registry config ys in
-    let l : Longer config (ys ++ xs) zs = longer config (ys ++ xs) zs in
-    let whole : (registry config (ys ++ (xs ++ zs))).judged ≡ (registry config ys).judged ++ (more ++ l.more) =
-    ap (λ (list : List Listed). (registry config list).judged) (sym (append_assoc ys xs zs)) ∙ l.judged ∙ ap (λ (js : List Judged). js ++ l.more) judged ∙ append_assoc r.judged more l.more in
+    let rest : List Judged = found_from config (registry config (ys ++ xs)) zs in
+    let whole : (registry config (ys ++ (xs ++ zs))).judged ≡ (registry config ys).judged ++ (more ++ found_from config (registry config (ys ++ xs)) zs) =
+    ap (λ (list : List Listed). (registry config list).judged) (sym (append_assoc ys xs zs)) ∙ judged_behind config (ys ++ xs) zs ∙ ap (λ (js : List Judged). js ++ rest) judged ∙ append_assoc r.judged more rest in
     ap (λ (js : List Judged). take (length xs) (drop (length ys) js)) whole
-    ∙ ap (λ (n : ℕ). take (length xs) (drop n (r.judged ++ (more ++ l.more)))) (sym (judged_length config ys))
-    ∙ ap (take (length xs)) (drop-append_seam r.judged (more ++ l.more))
-    ∙ ap (λ (n : ℕ). take n (more ++ l.more)) (sym many) ∙ take-append_seam more l.more
+    ∙ ap (λ (n : ℕ). take (length xs) (drop n (r.judged ++ (more ++ rest)))) (sym (judged_length config ys))
+    ∙ ap (take (length xs)) (drop-append_seam r.judged (more ++ rest))
+    ∙ ap (λ (n : ℕ). take n (more ++ rest)) (sym many) ∙ take-append_seam more rest
 
 pub rider_reading : RiderReading
 rider_reading config inputs moment nonce ms more before j behind number split =
@@ -349,30 +348,18 @@ nothing_rides_beside config inputs moment nonce ms more before other behind firs
 
 -- ---- nothing else rides
 
-abbrev Unridden : Judged → Type 0
-Unridden j = may_have_rider j.entry.kind ≡ false → j.entry.rides ≡ None
+unridden_by : (config : Config) (state : State) (moment : ℕ) (p : Posted) (sender : Option Registered) (error : Option Error) →
+    may_have_rider (judged_by config state moment p sender error).kind ≡ false → (judged_by config state moment p sender error).rides ≡ None
+unridden_by config state moment p sender error h = grind (arith, common_steps)
 
-served_unridden : (config : Config) (r : Registry) (moment : ℕ) (p : Posted) (c : MessageKind) (s : Registered) (hold : ℕ) → Unridden (found_of config r moment p c s hold)
-served_unridden config r moment p c s hold h =
-    either (is_rider config r.senders c p s) (rider_for (is_rider config r.senders c p s) s.number (slot_for config c p s) ≡ None)
-    (λ b. absurd (both_ways (may_ride c) (sym (carried_kind c p s hold) ∙ h) (tested config r.senders c p s b).may))
-    (λ b. ap (λ (rides : Bool). rider_for rides s.number (slot_for config c p s)) b)
-
-judge_unridden : (config : Config) (r : Registry) (x : Listed) → EachJudged Unridden r.judged → EachJudged Unridden (judge config r x).judged
-judge_unridden config r (Post p) d =
-    let c : MessageKind = message_kind_of p.message.channel in
-    let moment : ℕ = max r.clock p.moment in
-    each_judged_push Unridden r.judged _ d
-    (by_verdict (λ v. Unridden (found_at (length r.judged) moment v)) config (state_of r) moment p (named_by r.sessions c p.message) (refusal config r.sessions p) (λ e h. refl) (λ h. refl) (λ h. refl)
-    (λ s e. served_unridden config r moment p c s (hold_of config p)))
-judge_unridden config r (messages.Tick moment) d = each_judged_push Unridden r.judged _ d (λ h. refl)
-
-run_unridden : (config : Config) (r : Registry) (xs : List Listed) → EachJudged Unridden r.judged → EachJudged Unridden (fold (judge config) r xs).judged
-run_unridden config r [] d = d
-run_unridden config r (x ∷ xs) d = run_unridden config (judge config r x) xs (judge_unridden config r x d)
+unridden : (config : Config) (r : Registry) (x : Listed) → may_have_rider (verdict_of config r x).kind ≡ false → (verdict_of config r x).rides ≡ None
+unridden config r (Post p) h = unridden_by config (state_of r) (max r.clock p.moment) p (named_by r.sessions (message_kind_of p.message.channel) p.message) (refusal config r.sessions p) h
+unridden config r (messages.Tick moment) h = refl
 
 pub others_never_ride : OthersNeverRide
-others_never_ride config list = entries_all (λ (e : Entry). may_have_rider e.kind ≡ false → e.rides ≡ None) (registry config list).judged (run_unridden config empty_registry list tt)
+others_never_ride config list =
+    entries_all (λ (e : Entry). may_have_rider e.kind ≡ false → e.rides ≡ None) (registry config list).judged
+    (each_found config list (λ j. may_have_rider j.entry.kind ≡ false → j.entry.rides ≡ None) (λ ys x zs whole. unridden config (registry config ys) x))
 
 -- ---- what a rider is given
 

@@ -1,26 +1,22 @@
 -- What is open is a request of one message, a connect that its session has not answered.
 use Rattle.std.proofs.Common.{◌≡◌, ℕ, suc, ◌+◌, ◌<◌, max, Bool, true, false, not, is_some, Option, Some, None, List, [], ◌∷◌, ◌++◌, length, map, filter, fold, option_map, slice_get, ◌==◌, refl, sym, ap, ◌∙◌, subst, arith, append-nil, append_assoc, ne_eqb}
 use Rattle.std.proofs.lemmas.Bool.{cond_both, both_ways, not-true}
-use Rattle.std.proofs.lemmas.List.Sums.{fold-append}
 use Rattle.std.specs.List.{AllByRecursion}
 use Rattle.bx_advice.specs.declared.config.Config.{Config}
-use Rattle.bx_advice.specs.declared.error.Error.{Error}
 use Rattle.bx_message.specs.declared.message.Message.{Message}
-use Rattle.bx_message.specs.declared.message_kind.MessageKind.{MessageKind}
-use Rattle.bx_message.specs.MessageKinds.{message_kind_of, is_handshake}
+use Rattle.bx_message.specs.MessageKinds.{message_kind_of}
 use Rattle.bx_entry.specs.Listing.{Listed, Post, Posted, listed_from}
 use Rattle.bx_entry.specs.Inputs.{ReadInput, Request, refusal_of, added_by}
 use Rattle.bx_entry.specs.declared.input.Refusal.{Refusal}
-use Rattle.bx_entry.specs.Registry.{Registry, Registered, Judged, PlaceSlot, Ready, Waiting, NoSlot, judge, judged_by, slot_for, slot_with, rider_for, is_rider, named_by, refusal, hold_of, registry, empty_registry, entries_of, unnamed, noted, state_of}
-use Rattle.bx_entry.specs.Sessions.{is_live, session}
+use Rattle.bx_entry.specs.Registry.{Registry, Judged, PlaceSlot, Ready, Waiting, NoSlot, refusal, hold_of, registry, entries_of}
 use Rattle.bx_entry.specs.declared.entry.Rider.{Rider}
 use Rattle.bx_entry.specs.Answers.{answer_by, answer_at, answer_in, answer}
 use Rattle.bx_entry.specs.Runs.{Intake, Taking, taken_as, take_in, taken_in, numbers_from, places_of, latest}
 use Rattle.bx_theory.specs.Opens.{Numbered, numbered_from, is_whole}
 use Rattle.bx_theory.specs.Sole.{IsConnect, OpenAreSole}
-use Rattle.bx_theory.proofs.Lists.{judged_length, judged_more, answer_more}
-use Rattle.bx_theory.proofs.AtOnce.{There, AllThere, got_last, latest_there, messages_there, rider_served}
-use Rattle.bx_theory.proofs.Lives.{found_of}
+use Rattle.bx_theory.proofs.Verdicts.{Slotted, each_verdict, found_there, judge_is, next_found, next_noted, registry_next, slotted, verdict_of}
+use Rattle.bx_theory.proofs.Lists.{judged_length}
+use Rattle.bx_theory.proofs.AtOnce.{There, AllThere, latest_there, messages_there, rider_served, there_stays}
 use Rattle.bx_theory.proofs.Senders.{sender_reads}
 use Rattle.bx_theory.proofs.Stages.{live_reading}
 
@@ -73,72 +69,20 @@ run_placed t (i ∷ inputs) e = run_placed (take_in t i) inputs (taken_as_placed
 
 -- ---- what was found of a message
 
-abbrev IsSlot : PlaceSlot → Type 0
-IsSlot NoSlot = ⊥
-IsSlot _ = Unit {0}
-
-record Adds (config : Config) (r t : Registry) : Type 0 where
-  found : Judged
-  judged : t.judged ≡ r.judged ++ found ∷ []
-  slot : IsSlot found.slot
-  rider : (rider : Rider) → found.entry.rides ≡ Some rider → There (answer_in config t (length r.judged))
-
-slot_for_is : (config : Config) (c : MessageKind) (p : Posted) (s : Registered) → IsSlot (slot_for config c p s)
-slot_for_is config MessageKind.Handshake p s = tt
-slot_for_is config _ p s = tt
-
--- a rider waits for its session
-slot_with_is : (b : Bool) (n : ℕ) (slot : PlaceSlot) → IsSlot slot → IsSlot (slot_with (rider_for b n slot) slot)
-slot_with_is true n (Ready reply) h = tt
-slot_with_is true n (Waiting number) h = h
-slot_with_is true n NoSlot h = h
-slot_with_is false n slot h = h
-
-unnamed_adds : (config : Config) (r : Registry) (moment : ℕ) (p : Posted) (b : Bool) → Adds config r (noted r moment (unnamed config (state_of r) moment p b))
-unnamed_adds config r moment p true = record { found = _; judged = refl; slot = tt; rider = λ rider e. cc }
-unnamed_adds config r moment p false = record { found = _; judged = refl; slot = tt; rider = λ rider e. cc }
-
-judged_by_adds : (config : Config) (r : Registry) (moment : ℕ) (p : Posted) (sender : Option Registered) (error : Option Error) → ((s : Registered) → sender ≡ Some s → is_live (session config s.number (entries_of r)).stage ≡ true) → Adds config r (noted r moment (judged_by config (state_of r) moment p sender error))
-judged_by_adds config r moment p sender (Some error) live = record { found = _; judged = refl; slot = tt; rider = λ rider e. cc }
-judged_by_adds config r moment p None None live = unnamed_adds config r moment p (is_handshake p.message)
-judged_by_adds config r moment p (Some s) None live = record {
-  found = found_of config r moment p (message_kind_of p.message.channel) s (hold_of config p);
-  judged = refl;
-  slot = slot_with_is (is_rider config r.senders (message_kind_of p.message.channel) p s) s.number (slot_for config (message_kind_of p.message.channel) p s) (slot_for_is config (message_kind_of p.message.channel) p s);
-  rider = λ rider e. rider_served config r moment p (message_kind_of p.message.channel) s (hold_of config p) (live s refl) rider e;
-}
-
--- a message is answered by what was found at its place
-record FoundAt (config : Config) (list : List Listed) (place : ℕ) : Type 0 where
-  found : Judged
-  is : slice_get (registry config list).judged place ≡ Some found
-  slot : IsSlot found.slot
-  rider : (rider : Rider) → found.entry.rides ≡ Some rider → There (answer_in config (registry config list) place)
-
-found_at : (config : Config) (list xs ys : List Listed) (p : Posted) → 0 < config.limits.batch → xs ++ (Post p ∷ ys) ≡ list → FoundAt config list (length xs)
-found_at config list xs ys p room e =
+-- a rider is answered at its place
+rider_answered : (config : Config) (xs : List Listed) (x : Listed) (rider : Rider) → (verdict_of config (registry config xs) x).rides ≡ Some rider → There (answer config (xs ++ x ∷ []) (length xs))
+rider_answered config xs x rider rides =
     let r : Registry = registry config xs in
-    let a : Adds config (registry config xs) (judge config (registry config xs) (Post p)) =
-    judged_by_adds config r (max r.clock p.moment) p (named_by r.sessions (message_kind_of p.message.channel) p.message) (refusal config r.sessions p)
-    (λ s g. live_reading config s.number (entries_of r) ∙ sender_reads config xs p s g) in
-    let next : registry config (xs ++ Post p ∷ []) ≡ judge config (registry config xs) (Post p) = fold-append (judge config) empty_registry xs (Post p ∷ []) in
-    let judged : (registry config (xs ++ Post p ∷ [])).judged ≡ r.judged ++ a.found ∷ [] = ap (λ (t : Registry). t.judged) (fold-append (judge config) empty_registry xs (Post p ∷ [])) ∙ a.judged in
-    let here : slice_get (registry config (xs ++ Post p ∷ [])).judged (length xs) ≡ Some a.found =
-    ap (λ (js : List Judged). slice_get js (length xs)) judged ∙ ap (slice_get (r.judged ++ a.found ∷ [])) (sym (judged_length config xs)) ∙ got_last r.judged a.found in
-    record {
-      found = a.found;
-      is = subst (λ (zs : List Listed). slice_get (registry config zs).judged (length xs) ≡ Some a.found) (append_assoc xs (Post p ∷ []) ys ∙ e) (judged_more config (xs ++ Post p ∷ []) ys (length xs) a.found here);
-      slot = a.slot;
-      rider = λ rider g.
-          let t : There (answer_in config (judge config (registry config xs) (Post p)) (length (registry config xs).judged)) = a.rider rider g in
-          record {
-            answer = t.answer;
-            is = ap (λ (zs : List Listed). answer config zs (length xs)) (sym e ∙ sym (append_assoc xs (Post p ∷ []) ys))
-                ∙ answer_more config (xs ++ Post p ∷ []) ys (length xs) t.answer room
-                (ap (λ (u : Registry). answer_in config u (length xs)) next
-                ∙ ap (answer_in config (judge config (registry config xs) (Post p))) (sym (judged_length config xs)) ∙ t.is);
-          };
-    }
+    subst (λ (t : Registry). There (answer_in config t (length xs))) (sym (registry_next config xs x ∙ judge_is config r x))
+    (subst (λ (n : ℕ). There (answer_in config (next_noted (registry config xs) x (verdict_of config (registry config xs) x)) n)) (judged_length config xs)
+    (each_verdict config r (λ y v. v.rides ≡ Some rider → There (answer_in config (next_noted r y v) (length r.judged))) (record {
+      refuses = λ p sender error e. cc;
+      opens = λ p e. cc;
+      none = λ p e. cc;
+      serves = λ p s named e.
+          rider_served config r (max r.clock p.moment) p (message_kind_of p.message.channel) s (hold_of config p) (live_reading config s.number (entries_of r) ∙ sender_reads config xs p s named) rider e;
+      ticks = λ moment e. cc;
+    }) x rides))
 
 -- ---- an input that is not whole
 
@@ -159,26 +103,27 @@ not_ridden : (config : Config) (list : List Listed) (place : ℕ) (rides : Optio
 not_ridden config list place None h n = refl
 not_ridden config list place (Some rider) h n = absurd (not_there config list (place ∷ []) n (h rider refl, tt))
 
-waits_by : (config : Config) (list : List Listed) (place : ℕ) (j : Judged) (slot : PlaceSlot) → slice_get (registry config list).judged place ≡ Some j → j.slot ≡ slot → IsSlot slot →
+waits_by : (config : Config) (list : List Listed) (place : ℕ) (p : Posted) (j : Judged) (slot : PlaceSlot) → slice_get (registry config list).judged place ≡ Some j → j.slot ≡ slot → Slotted (Post p) slot →
     ((rider : Rider) → j.entry.rides ≡ Some rider → There (answer_in config (registry config list) place)) → NotWhole config list (place ∷ []) → Waits config list place
-waits_by config list place j (Ready reply) e s i h n =
+waits_by config list place p j (Ready reply) e s i h n =
     let there : There (answer_in config (registry config list) place) = record {
       answer = record { place = place; events = []; reply = reply };
       is = ap (answer_at config (entries_of (registry config list)) place) e ∙ ap (answer_by config (entries_of (registry config list)) place) s;
     } in
     absurd (not_there config list (place ∷ []) n (there, tt))
-waits_by config list place j (Waiting number) e s i h n = record {
+waits_by config list place p j (Waiting number) e s i h n = record {
   session = number;
   waits = ap (option_map (λ (k : Judged). k.slot)) e ∙ ap Some s;
   unridden = ap (option_map (λ (k : Judged). k.entry.rides)) e ∙ ap Some (not_ridden config list place j.entry.rides h n);
 }
-waits_by config list place j NoSlot e s i h n = absurd i
+waits_by config list place p j NoSlot e s i h n = absurd i
 
 -- a request of one message
 one_waits : (config : Config) (list xs ys : List Listed) (p : Posted) → 0 < config.limits.batch → xs ++ (Post p ∷ ys) ≡ list → NotWhole config list (length xs ∷ []) → Waits config list (length xs)
 one_waits config list xs ys p room e n =
-    let f : FoundAt config list (length xs) = found_at config list xs ys p room e in
-    waits_by config list (length xs) f.found f.found.slot f.is refl f.slot f.rider n
+    let j : Judged = next_found config (registry config xs) (Post p) in
+    waits_by config list (length xs) p j j.slot (ap (λ (zs : List Listed). slice_get (registry config zs).judged (length xs)) (sym e) ∙ found_there config xs (Post p) ys) refl (slotted config (registry config xs) (Post p))
+    (λ rider g. there_stays config list xs ys (Post p) room e (rider_answered config xs (Post p) rider g)) n
 
 -- what an input that is not whole is
 record Single (config : Config) (list : List Listed) (d : Intake) (input : ReadInput) : Type 0 where

@@ -1,10 +1,9 @@
 -- The outs of more inputs begin with the outs of fewer.
-use Rattle.std.proofs.Common.{◌≡◌, ℕ, zero, suc, ◌+◌, ◌<◌, ◌≤◌, max, ⊎_elim, Bool, true, false, cond, not, ◌&&◌, Option, Some, None, List, [], ◌∷◌, ◌++◌, length, map, filter, flat_map, fold, slice_get, nat_lt, nat_le, refl, sym, ap, ◌∙◌, subst, arith, append-nil, append_assoc, length-append, ne_eqb, lt-ltb, ltb-true}
-use Rattle.std.proofs.lemmas.Bool.{cond_both, cond-true, cond-false, cases_lt}
+use Rattle.std.proofs.Common.{◌≡◌, ℕ, zero, suc, ◌+◌, ◌<◌, ◌≤◌, max, Bool, true, false, cond, Option, Some, None, List, [], ◌∷◌, ◌++◌, length, map, flat_map, fold, slice_get, refl, sym, ap, ◌∙◌, subst, arith, append-nil, append_assoc, length-append, ne_eqb}
+use Rattle.std.proofs.lemmas.Bool.{cond-false}
 use Rattle.std.proofs.lemmas.List.Sums.{fold-append}
-use Rattle.std.proofs.lemmas.Grind.{flat_map-append}
+use Rattle.std.proofs.lemmas.Grind.{common_steps, flat_map-append}
 use Rattle.std.specs.List.{position, position_or_len}
-use Rattle.bx_lists.proofs.Tests.{either}
 use Rattle.bx_advice.specs.declared.config.Config.{Config}
 use Rattle.bx_entry.specs.Listing.{Listed}
 use Rattle.bx_entry.specs.Registry.{Judged, Registry, registry, entries_of}
@@ -85,11 +84,7 @@ Ahead end None (Some a) = end ≤ a.place
 Ahead end (Some a) o = o ≡ Some a
 
 ahead_none : (config : Config) (xs ys : List Listed) (place : ℕ) (u : Option PlacedAnswer) → 0 < config.limits.batch → answer config xs place ≡ None → answer config (xs ++ ys) place ≡ u → Ahead (length xs) None u
-ahead_none config xs ys place None room h e = tt
-ahead_none config xs ys place (Some a) room h e = ⊎_elim
-    (λ l. let there : answer config xs place ≡ Some a = answer_less config xs ys place a room l e in absurd (let no : None ≡ Some a = sym h ∙ there in cc))
-    (λ l. l)
-    (cases_lt a.place (length xs))
+ahead_none config xs ys place u room h e = grind (arith, common_steps, answer_less config xs ys place)
 
 ahead_of : (config : Config) (xs ys : List Listed) (place : ℕ) (o : Option PlacedAnswer) → 0 < config.limits.batch → answer config xs place ≡ o → Ahead (length xs) o (answer config (xs ++ ys) place)
 ahead_of config xs ys place None room h = ahead_none config xs ys place (answer config (xs ++ ys) place) room h refl
@@ -114,14 +109,13 @@ unfolding AheadAll
 ahead_all config xs ys room = λ p. ahead_of config xs ys p (answer config xs p) room refl
 
 latest_above : (m k : ℕ) (os : List (Option PlacedAnswer)) → latest m os ≡ Some k → m ≤ k
-latest_above m k [] e = let same : m ≡ k = cc in omega arith
+latest_above m k [] e = grind (arith, common_steps)
 latest_above m k (None ∷ os) e = cc
 latest_above m k (Some a ∷ os) e = let l : max m a.place ≤ k = latest_above (max m a.place) k os e in omega arith
 
 -- the same answers, where all were there
 same_one : (end m k : ℕ) (o u : Option PlacedAnswer) (os us : List (Option PlacedAnswer)) → Ahead end o u → ((n : ℕ) → latest n os ≡ Some k → us ≡ os) → latest m (o ∷ os) ≡ Some k → u ∷ us ≡ o ∷ os
-same_one end m k None u os us a h e = cc
-same_one end m k (Some b) u os us a h e = let one : u ≡ Some b = a in let rest : us ≡ os = h (max m b.place) e in cc
+same_one end m k o u os us a h e = grind (arith, common_steps, h)
 
 pub latest_same : (end m k : ℕ) (f g : ℕ → Option PlacedAnswer) (ps : List ℕ) → AheadAll end f g → latest m (map f ps) ≡ Some k → map g ps ≡ map f ps
 unfolding AheadAll
@@ -130,10 +124,7 @@ latest_same end m k f g (p ∷ ps) a e = same_one end m k (f p) (g p) (map f ps)
 
 -- else one came later
 later_one : (end m n k : ℕ) (o u : Option PlacedAnswer) (os us : List (Option PlacedAnswer)) → Ahead end o u → ((i j : ℕ) → latest i os ≡ None → latest j us ≡ Some k → end ≤ k) → latest m (o ∷ os) ≡ None → latest n (u ∷ us) ≡ Some k → end ≤ k
-later_one end m n k None None os us a h d e = cc
-later_one end m n k None (Some b) os us a h d e = let l : max n b.place ≤ k = latest_above (max n b.place) k us e in let c : end ≤ b.place = a in omega arith
-later_one end m n k (Some b) None os us a h d e = cc
-later_one end m n k (Some b) (Some c) os us a h d e = h (max m b.place) (max n c.place) d e
+later_one end m n k o u os us a h d e = grind (arith, common_steps, latest_above, h)
 
 pub latest_later : (end m n k : ℕ) (f g : ℕ → Option PlacedAnswer) (ps : List ℕ) → AheadAll end f g → latest m (map f ps) ≡ None → latest n (map g ps) ≡ Some k → end ≤ k
 unfolding AheadAll
@@ -144,51 +135,27 @@ latest_later end m n k f g (p ∷ ps) a d e = later_one end m n k (f p) (g p) (m
 
 pub where_first : (test : Intake → Bool) (ds more : List Intake) → position_or_len test ds < length ds → position_or_len test (ds ++ more) ≡ position_or_len test ds
 where_first test [] more h = absurd (omega arith)
-where_first test (d ∷ ds) more h = either (test d) (position_or_len test (d ∷ (ds ++ more)) ≡ position_or_len test (d ∷ ds))
-    (λ g. cond-false (not (test d)) (1 + position_or_len test (ds ++ more)) 0 (ap not g) ∙ sym (cond-false (not (test d)) (1 + position_or_len test ds) 0 (ap not g)))
-    (λ g. let here : position_or_len test (d ∷ ds) ≡ 1 + position_or_len test ds = cond-true (not (test d)) (1 + position_or_len test ds) 0 (ap not g) in
-    cond-true (not (test d)) (1 + position_or_len test (ds ++ more)) 0 (ap not g) ∙ ap (λ (n : ℕ). 1 + n) (where_first test ds more (omega (arith, here))) ∙ sym here)
+where_first test (d ∷ ds) more h = grind (arith, common_steps, where_first test ds more)
 
 pub where_late : (test : Intake → Bool) (ds more : List Intake) → length ds ≤ position_or_len test ds → length ds ≤ position_or_len test (ds ++ more)
 where_late test [] more h = omega arith
-where_late test (d ∷ ds) more h = either (test d) (length (d ∷ ds) ≤ position_or_len test (d ∷ (ds ++ more)))
-    (λ g. absurd (let here : position_or_len test (d ∷ ds) ≡ 0 = cond-false (not (test d)) (1 + position_or_len test ds) 0 (ap not g) in omega (arith, here)))
-    (λ g. let here : position_or_len test (d ∷ ds) ≡ 1 + position_or_len test ds = cond-true (not (test d)) (1 + position_or_len test ds) 0 (ap not g) in
-    let there : position_or_len test (d ∷ (ds ++ more)) ≡ 1 + position_or_len test (ds ++ more) = cond-true (not (test d)) (1 + position_or_len test (ds ++ more)) 0 (ap not g) in
-    omega (arith, there, where_late test ds more (omega (arith, here))))
+where_late test (d ∷ ds) more h = grind (arith, common_steps, where_late test ds more)
 
 pub where_none : (test : Intake → Bool) (ds : List Intake) → EachIntake (λ d. test d ≡ false) ds → length ds ≤ position_or_len test ds
 where_none test [] e = omega arith
-where_none test (d ∷ ds) e =
-    let here : position_or_len test (d ∷ ds) ≡ 1 + position_or_len test ds = cond-true (not (test d)) (1 + position_or_len test ds) 0 (ap not e.0) in
-    omega (arith, here, where_none test ds e.1)
+where_none test (d ∷ ds) e = grind (arith, common_steps, where_none test ds e.1)
 
 at_late : (j : ℕ) (test : Intake → Bool) (ds : List Intake) → j < position_or_len test ds → is_at j (position test ds) ≡ false
-at_late j test ds h =
-    let k : ℕ = position_or_len test ds in
-    let none : Option ℕ = None in
-    cond_both (nat_lt (position_or_len test ds) (length ds)) (Some (position_or_len test ds)) none (λ (o : Option ℕ). is_at j o ≡ false)
-    (λ g. ne_eqb (position_or_len test ds) j (λ e. omega arith)) (λ g. refl)
+at_late j test ds h = grind (arith, common_steps)
 
 -- the first inputs decide
 position_front : (j : ℕ) (test : Intake → Bool) (ds more : List Intake) → j < length ds → is_at j (position test (ds ++ more)) ≡ is_at j (position test ds)
-position_front j test ds more h = ⊎_elim
-    (λ l. let same : position_or_len test (ds ++ more) ≡ position_or_len test ds = where_first test ds more l in
-    ap (is_at j)
-    (cond-true (nat_lt (position_or_len test (ds ++ more)) (length (ds ++ more))) (Some (position_or_len test (ds ++ more))) None (lt-ltb (position_or_len test (ds ++ more)) (length (ds ++ more)) (omega (arith, length-append ds more)))
-    ∙ ap Some same
-    ∙ sym (cond-true (nat_lt (position_or_len test ds) (length ds)) (Some (position_or_len test ds)) None (lt-ltb (position_or_len test ds) (length ds) l))))
-    (λ l. at_late j test (ds ++ more) (let m = where_late test ds more l in omega arith) ∙ sym (at_late j test ds (omega arith)))
-    (cases_lt (position_or_len test ds) (length ds))
+position_front j test ds more h = grind (arith, common_steps, where_first test ds more, where_late test ds more, length-append)
 
 -- no input has a place past the end of all
 pub nowhere : (end k : ℕ) (ds : List Intake) → end ≤ k → EachIntake (λ d. d.first + d.count ≤ end) ds → EachIntake (λ d. has_place k d ≡ false) ds
 nowhere end k [] h e = tt
-nowhere end k (d ∷ ds) h e = (either (has_place k d) (has_place k d ≡ false) (λ g. absurd (let l : k < d.first + d.count = ltb-true k (d.first + d.count) (second (nat_le d.first k) (nat_lt k (d.first + d.count)) g) in omega (arith, e.0))) (λ g. g), nowhere end k ds h e.1)
-  where
-    second : (a b : Bool) → (a && b) ≡ true → b ≡ true
-    second true b g = g
-    second false b g = cc
+nowhere end k (d ∷ ds) h e = (grind (arith, common_steps), nowhere end k ds h e.1)
 
 position_past : (end k j : ℕ) (ds more : List Intake) → end ≤ k → EachIntake (λ d. d.first + d.count ≤ end) ds → j < length ds → is_at j (position (has_place k) (ds ++ more)) ≡ false
 position_past end k j ds more h e l = position_front j (has_place k) ds more l ∙ at_late j (has_place k) ds (let m = where_none (has_place k) ds (nowhere end k ds h e) in omega arith)
@@ -223,15 +190,10 @@ answers_same end j i f g intake (p ∷ ps) a h =
 -- ---- all inputs
 
 pub whole_push : (j : ℕ) (w : Whole) (ws : List Whole) → whole_at j (w ∷ ws) ≡ cond (is_at j w.at) (w.out ∷ whole_at j ws) (whole_at j ws)
-whole_push j w ws =
-    let kept : List Whole = filter (λ (v : Whole). is_at j v.at) ws in
-    (elim (is_at j w.at) as (λ b. map (λ (v : Whole). v.out) (cond b (w ∷ kept) kept) ≡ cond b (w.out ∷ map (λ (v : Whole). v.out) kept) (map (λ (v : Whole). v.out) kept)) [ true ↦ refl | false ↦ refl ])
+whole_push j w ws = grind (arith, common_steps)
 
 cond_same : (b c : Bool) (x y : Out) (xs ys : List Out) → b ≡ c → xs ≡ ys → (c ≡ true → x ≡ y) → cond b (x ∷ xs) xs ≡ cond c (y ∷ ys) ys
-cond_same true true x y xs ys e f h = let g : x ≡ y = h refl in cc
-cond_same true false x y xs ys e f h = cc
-cond_same false true x y xs ys e f h = cc
-cond_same false false x y xs ys e f h = f
+cond_same b c x y xs ys e f h = grind (arith, common_steps)
 
 record Two (config : Config) (end : ℕ) (r t : Registry) (intake : List Intake) : Type 0 where
   ahead : AheadAll end (answer_in config r) (answer_in config t)
@@ -283,10 +245,7 @@ wholes_split config t intake i (d ∷ ds) more = ap (λ (ws : List Whole). whole
 
 pub whole_append : (j : ℕ) (us ws : List Whole) → whole_at j (us ++ ws) ≡ whole_at j us ++ whole_at j ws
 whole_append j [] ws = refl
-whole_append j (u ∷ us) ws = whole_push j u (us ++ ws)
-    ∙ (elim (is_at j u.at) as (λ b. cond b (u.out ∷ whole_at j (us ++ ws)) (whole_at j (us ++ ws)) ≡ cond b (u.out ∷ whole_at j us) (whole_at j us) ++ whole_at j ws)
-    [ true ↦ ap (λ (os : List Out). u.out ∷ os) (whole_append j us ws) | false ↦ whole_append j us ws ])
-    ∙ sym (ap (λ (os : List Out). os ++ whole_at j ws) (whole_push j u us))
+whole_append j (u ∷ us) ws = grind (arith, common_steps, whole_append j us ws)
 
 -- ---- the law
 

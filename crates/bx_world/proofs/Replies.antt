@@ -1,16 +1,14 @@
 -- Each reply that an admission gives at once is the one that the list gives.
-use Rattle.std.proofs.Common.{◌≡◌, ℕ, zero, suc, ◌+◌, max, ⊎_elim, ◌==◌, ◌||◌, Bool, false, Option, Some, None, List, [], ◌∷◌, ◌++◌, length, take, drop, map, fold, option_map, slice_get, refl, sym, ap, ◌∙◌, subst, arith, append-nil, append_assoc, true}
+use Rattle.std.proofs.Common.{◌≡◌, ℕ, zero, suc, ◌+◌, ⊎_elim, ◌==◌, ◌||◌, Bool, false, Option, Some, None, List, [], ◌∷◌, ◌++◌, length, take, drop, map, option_map, slice_get, refl, sym, ap, ◌∙◌, subst, arith, append_assoc}
 use Rattle.std.proofs.lemmas.List.{map-append, length-map, drop_at}
-use Rattle.std.proofs.lemmas.List.Sums.{fold-append}
 use Rattle.bx_advice.specs.declared.config.Config.{Config}
-use Rattle.bx_message.specs.declared.message_kind.MessageKind.{MessageKind}
 use Rattle.bx_message.specs.declared.message.Message.{Message}
-use Rattle.bx_message.specs.MessageKinds.{message_kind_of, is_handshake}
+use Rattle.bx_message.specs.MessageKinds.{is_handshake}
 use Rattle.bx_entry.specs.Listing.{Listed, Post, Posted, listed_from}
 use Rattle.bx_entry.specs.Listing as messages
 use Rattle.bx_entry.specs.Inputs.{ReadInput, Request, Unread, Tick, added_by}
 use Rattle.bx_entry.specs.Requests.{read_input}
-use Rattle.bx_entry.specs.Registry.{Registry, Registered, Judged, PlaceSlot, Ready, Waiting, NoSlot, judge, slot_for, slot_with, rider_for, is_rider, named_by, refusal, registry, empty_registry, entries_of, state_of}
+use Rattle.bx_entry.specs.Registry.{Registry, Judged, PlaceSlot, Ready, Waiting, NoSlot, judge, refusal, registry, entries_of}
 use Rattle.bx_entry.specs.Answers.{answer_at, answer_by}
 use Rattle.bx_entry.specs.declared.entry.Slot.{Slot}
 use Rattle.bx_entry.specs.declared.input.Input.{Input}
@@ -25,18 +23,10 @@ use Rattle.bx_world.specs.declared.step.StepOut.{StepOut}
 use Rattle.bx_world.specs.declared.step.StepOut.TheVariants.{Admitted, NotAdmitted, Applied, Level, Taken, OutOfMemory}
 use Rattle.bx_world.specs.Headline.{EachSlot, IsAdmitted, RepliedBy, Replied, EachReplied, RepliesAreAnswers}
 use Rattle.bx_world.proofs.Takes.{Longer, run_longer}
-use Rattle.bx_theory.proofs.Verdicts.{by_verdict}
+use Rattle.bx_theory.proofs.Verdicts.{Slotted, found_from, judged_behind, slotted}
 use Rattle.bx_theory.proofs.Lists.{judged_more, judged_length}
 
--- ---- every message has a slot, and no tick has one
-
-abbrev Slotted : Listed → PlaceSlot → Type 0
-Slotted (Post p) (Ready reply) = Unit {0}
-Slotted (Post p) (Waiting number) = Unit {0}
-Slotted (Post p) NoSlot = ⊥
-Slotted (messages.Tick moment) (Ready reply) = ⊥
-Slotted (messages.Tick moment) (Waiting number) = ⊥
-Slotted (messages.Tick moment) NoSlot = Unit {0}
+-- ---- the slots of what is found
 
 -- each of the elements has such a slot
 abbrev AllSlotted : List Listed → List Judged → Type 0
@@ -45,49 +35,9 @@ AllSlotted [] (j ∷ js) = ⊥
 AllSlotted (x ∷ xs) [] = ⊥
 AllSlotted (x ∷ xs) (j ∷ js) = Slotted x j.slot × AllSlotted xs js
 
-slot_for_message : (config : Config) (c : MessageKind) (p : Posted) (s : Registered) → Slotted (Post p) (slot_for config c p s)
-slot_for_message config MessageKind.Handshake p s = tt
-slot_for_message config _ p s = tt
-
--- so it has as a rider
-ridden_message : (b : Bool) (number : ℕ) (slot : PlaceSlot) (p : Posted) → Slotted (Post p) slot → Slotted (Post p) (slot_with (rider_for b number slot) slot)
-ridden_message true number (Ready reply) p s = tt
-ridden_message true number (Waiting session) p s = s
-ridden_message true number NoSlot p s = s
-ridden_message false number slot p s = s
-
--- one more place is judged, with the slot of this element
-record Slots (x : Listed) (r t : Registry) : Type 0 where
-  found : Judged
-  judged : t.judged ≡ r.judged ++ found ∷ []
-  slotted : Slotted x found.slot
-
-judge_slots : (config : Config) (r : Registry) (x : Listed) → Slots x r (judge config r x)
-judge_slots config r (Post p) =
-    let c : MessageKind = message_kind_of p.message.channel in
-    record {
-      found = _;
-      judged = refl;
-      slotted = by_verdict (λ v. Slotted (Post p) v.slot) config (state_of r) (max r.clock p.moment) p (named_by r.sessions c p.message) (refusal config r.sessions p) (λ e. tt) tt tt
-          (λ s e. ridden_message (is_rider config r.senders c p s) s.number (slot_for config c p s) p (slot_for_message config c p s));
-    }
-judge_slots config r (messages.Tick moment) = record { found = _; judged = refl; slotted = tt }
-
-record Adds (xs : List Listed) (r t : Registry) : Type 0 where
-  more : List Judged
-  judged : t.judged ≡ r.judged ++ more
-  slotted : AllSlotted xs more
-
-adds_more : (x : Listed) (xs : List Listed) (r s t : Registry) → Slots x r s → Adds xs s t → Adds (x ∷ xs) r t
-adds_more x xs r s t n a = record {
-  more = n.found ∷ a.more;
-  judged = a.judged ∙ ap (λ (js : List Judged). js ++ a.more) n.judged ∙ append_assoc r.judged (n.found ∷ []) a.more;
-  slotted = (n.slotted, a.slotted);
-}
-
-adds : (config : Config) (r : Registry) (xs : List Listed) → Adds xs r (fold (judge config) r xs)
-adds config r [] = record { more = []; judged = sym (append-nil r.judged); slotted = tt }
-adds config r (x ∷ xs) = adds_more x xs r (judge config r x) (fold (judge config) (judge config r x) xs) (judge_slots config r x) (adds config (judge config r x) xs)
+all_slotted : (config : Config) (r : Registry) (xs : List Listed) → AllSlotted xs (found_from config r xs)
+all_slotted config r [] = tt
+all_slotted config r (x ∷ xs) = (slotted config r x, all_slotted config (judge config r x) xs)
 
 -- ---- the slots of an input
 
@@ -158,18 +108,17 @@ got_behind (i ∷ front) rest k (suc n) e = got_behind front rest k n (omega (ar
 
 judging : (setup : Setup) (xs ys more list : List Listed) → list ≡ (xs ++ ys) ++ more → Judging setup xs ys list
 judging setup xs ys more list e =
-    let config : Config = setup.config in
     let r : Registry = registry setup.config xs in
-    let a : Adds ys (registry setup.config xs) (registry setup.config (xs ++ ys)) = subst (Adds ys (registry setup.config xs)) (sym (fold-append (judge setup.config) empty_registry xs ys)) (adds setup.config (registry setup.config xs) ys) in
+    let js : List Judged = found_from setup.config (registry setup.config xs) ys in
     let many : length (registry setup.config xs).judged ≡ length xs = judged_length setup.config xs in
     record {
-      more = a.more;
-      slotted = a.slotted;
+      more = js;
+      slotted = all_slotted setup.config r ys;
       slots = ap (λ (slots : List PlaceSlot). given_from setup (length xs) (drop (length xs) slots))
-          (ap (map (λ (j : Judged). j.slot)) a.judged ∙ map-append (λ (j : Judged). j.slot) r.judged a.more)
-          ∙ ap (given_from setup (length xs)) (drop_at (map (λ (j : Judged). j.slot) r.judged) (map (λ (j : Judged). j.slot) a.more) (length xs) (length-map r.judged (λ (j : Judged). j.slot) ∙ many));
+          (ap (map (λ (j : Judged). j.slot)) (judged_behind setup.config xs ys) ∙ map-append (λ (j : Judged). j.slot) r.judged js)
+          ∙ ap (given_from setup (length xs)) (drop_at (map (λ (j : Judged). j.slot) r.judged) (map (λ (j : Judged). j.slot) js) (length xs) (length-map r.judged (λ (j : Judged). j.slot) ∙ many));
       behind = λ k n j h g. ap (λ (zs : List Listed). slice_get (registry setup.config zs).judged n) e
-          ∙ judged_more setup.config (xs ++ ys) more n j (ap (λ (js : List Judged). slice_get js n) a.judged ∙ got_behind (registry setup.config xs).judged a.more k n (omega (arith, h, many)) ∙ g);
+          ∙ judged_more setup.config (xs ++ ys) more n j (ap (λ (ks : List Judged). slice_get ks n) (judged_behind setup.config xs ys) ∙ got_behind r.judged js k n (omega (arith, h, many)) ∙ g);
     }
 
 -- ---- an admission

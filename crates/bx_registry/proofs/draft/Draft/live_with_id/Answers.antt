@@ -8,9 +8,10 @@ use Rattle.bx_registry.specs.Drafts.{Drafted, IsDrafted, IsSender, members_of}
 use Rattle.bx_registry.proofs.Digits.{Finds, finds}
 use Rattle.bx_registry.proofs.draft.Draft.live_with_id.Goals as goal
 
--- what the number at the id's end finds
-found : (d : Drafted) (text : List ℕ) (number : ℕ) {count opened : ℕ} → IsDrafted d.base d.edits count opened → number ≡ number_in text → Finds (members_of d).live text (known_at number (members_of d).live)
-found d text number i e = rw e (finds 0 (members_of d).opened (members_of d).live text i.table (rw (← i.numbered) i.small) i.all)
+-- what the number at the id's end finds of the sessions behind the edits, as they are seen
+found : (d seen : Drafted) (text : List ℕ) (number : ℕ) {count opened : ℕ} → IsDrafted d.base d.edits count opened → d ≡ seen → number ≡ number_in text → Finds (members_of seen).live text (known_at number (members_of seen).live)
+found d seen text number i same e =
+    subst (λ (x : Drafted). Finds (members_of x).live text (known_at number (members_of x).live)) same (rw e (finds 0 (members_of d).opened (members_of d).live text i.table (rw (← i.numbered) i.small) i.all))
 
 none-some : (o : Option (List ℕ × Bool)) (k : List ℕ × Bool) → None ≡ o → o ≡ Some k → ⊥
 none-some o k e f = cc
@@ -23,9 +24,7 @@ returns-in_err-known c =
     let text : List ℕ = c.args.client.now in
     let n : ℕ = c.number_in-number.result in
     let number : n ≡ number_in text = c.number_in-number.ensures ∙ ap number_in c.as_str.ensures in
-    let base : Drafted = record { base = c.self.inside.table.now.members; edits = c.self.inside.edits } in
-    let finds : Finds (members_of c.args.self.now).live text (known_at n (members_of c.args.self.now).live) =
-    subst (λ (d : Drafted). Finds (members_of d).live text (known_at n (members_of d).live)) c.self.view_is (found base text n c.self.invariant number) in
+    let finds = found (record { base = c.self.inside.table.now.members; edits = c.self.inside.edits }) c.args.self.now text n c.self.invariant c.self.view_is number in
     rw c.from_residual.ensures (finds.1 (λ k e is. none-some (known_at n (members_of c.args.self.now).live) k c.in_err-known.ensures e))
 
 pub returns-then-eq : goal.returns-then-eq
@@ -33,9 +32,7 @@ returns-then-eq c =
     let text : List ℕ = c.args.client.now in
     let n : ℕ = c.number_in-number.result in
     let number : n ≡ number_in text = c.number_in-number.ensures ∙ ap number_in c.as_str.ensures in
-    let base : Drafted = record { base = c.self.inside.table.now.members; edits = c.self.inside.edits } in
-    let finds : Finds (members_of c.args.self.now).live text (known_at n (members_of c.args.self.now).live) =
-    subst (λ (d : Drafted). Finds (members_of d).live text (known_at n (members_of d).live)) c.self.view_is (found base text n c.self.invariant number) in
+    let finds = found (record { base = c.self.inside.table.now.members; edits = c.self.inside.edits }) c.args.self.now text n c.self.invariant c.self.view_is number in
     let same : c.as_str-2.result.now ≡ c.as_str-3.result.now = (bytes_eq-Decides c.as_str-2.result.now c.as_str-3.result.now).0 (sym c.if-eq.ensures) in
     let known : c.in_ok-known.known.client.now ≡ text = sym c.as_str-2.ensures ∙ same ∙ c.as_str-3.ensures in
     subst (λ (k : ℕ). IsSender (live_with_id (members_of c.args.self.now).live text) k text c.in_ok-known.known.ack) (sym number)
@@ -46,9 +43,7 @@ returns-else-eq c =
     let text : List ℕ = c.args.client.now in
     let n : ℕ = c.number_in-number.result in
     let number : n ≡ number_in text = c.number_in-number.ensures ∙ ap number_in c.as_str.ensures in
-    let base : Drafted = record { base = c.self.inside.table.now.members; edits = c.self.inside.edits } in
-    let finds : Finds (members_of c.args.self.now).live text (known_at n (members_of c.args.self.now).live) =
-    subst (λ (d : Drafted). Finds (members_of d).live text (known_at n (members_of d).live)) c.self.view_is (found base text n c.self.invariant number) in
+    let finds = found (record { base = c.self.inside.table.now.members; edits = c.self.inside.edits }) c.args.self.now text n c.self.invariant c.self.view_is number in
     finds.1 (λ k e is.
     let whole : (c.in_ok-known.known.client.now, c.in_ok-known.known.ack) ≡ k =
     some-same (known_at n (members_of c.args.self.now).live) (c.in_ok-known.known.client.now, c.in_ok-known.known.ack) k c.in_ok-known.ensures e in
