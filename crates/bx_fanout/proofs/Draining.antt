@@ -1,5 +1,5 @@
 -- Answers that are taken shard after shard, and put to their connects.
-use Rattle.std.proofs.Common.{◌≡◌, ◌≢◌, ℕ, ◌+◌, ◌<◌, ◌≤◌, Bool, true, false, not, List, [], ◌∷◌, ◌++◌, length, map, find, refl, sym, ap, subst, ◌∙◌, cond, arith, inl, inr, Option, Some, None, option_map, slice_index, add-one, flat_map, nat_lt, eqb-true}
+use Rattle.std.proofs.Common.{◌≡◌, ◌≢◌, ℕ, ◌+◌, ◌<◌, ◌≤◌, Bool, true, false, List, [], ◌∷◌, ◌++◌, length, map, find, refl, sym, ap, subst, ◌∙◌, arith, inl, inr, Option, Some, None, option_map, slice_index, flat_map, nat_lt, eqb-true}
 use Rattle.std.specs.Prelude.{◌&&◌, ◌||◌, ◌==◌, ◌⊎◌, is_none, if◌then◌else◌, IfNone}
 use Rattle.std.specs.List.{AllByRecursion}
 use Rattle.std.proofs.lemmas.Bool.{cases_lt, false≢true, eqb-false}
@@ -22,7 +22,8 @@ use Rattle.bx_fanout.specs.HeldInputs.{Row, answered_at, waits_there, with_answe
 use Rattle.bx_fanout.specs.Draining.{CanDrain, Drained, Draining, IsEmptied, Waits, count_filed, filled, put_if}
 use Rattle.bx_fanout.specs.CurrentInputs.{IsLevel, NoneTakenFrom, given_at}
 use Rattle.bx_fanout.proofs.Collecting.{AllPlaced, take-gives, take-is-answer, taken-more}
-use Rattle.bx_shard.proofs.Taking.{untaken, taken_own}
+use Rattle.bx_shard.proofs.Taking.{taken_own}
+use Rattle.bx_shard.proofs.Untaken.{untaken}
 
 -- ---- one answer
 
@@ -40,10 +41,7 @@ inside config list place a given = by (cases_lt place (length list))
 put-by : (place n : ℕ) (a : Answer) (g : Option Answer) (e t u : Bool) → (e ≡ true → g ≡ Some a) → (e ≡ true → u ≡ true) → (e ≡ false → u ≡ t) →
     (if e && is_none (if t then g else None) then with_answer a (place, record { number = n; answer = if t then g else None }) else (place, record { number = n; answer = if t then g else None }))
     ≡ (place, record { number = n; answer = if u then g else None })
-put-by place n a g true true u given taken other = rw (given refl, taken refl) refl
-put-by place n a g true false u given taken other = rw (given refl, taken refl) refl
-put-by place n a g false true u given taken other = rw (other refl) refl
-put-by place n a g false false u given taken other = rw (other refl) refl
+put-by place n a g e t u given taken other = grind arith
 
 put-row : (config : Config) (list : List Listed) (taken : List ℕ) (c : ℕ) (a : Answer) (row : Row) → given_at config list c ≡ Some a →
     (if waits_there c (put_if config list taken row) then with_answer a (put_if config list taken row) else put_if config list taken row) ≡ put_if config list (taken ++ c ∷ []) row
@@ -62,9 +60,7 @@ put-rows config list taken c a (row ∷ rows) given =
 
 -- what has no answer is another place
 apart : (config : Config) (list : List Listed) (c p : ℕ) (a : Answer) → given_at config list c ≡ Some a → given_at config list p ≡ None → c ≢ p
-apart config list c p a given none same =
-    let both : Some a ≡ None = sym given ∙ ap (given_at config list) same ∙ none in
-    cc
+apart config list c p a given none same = grind arith
 
 untaken-more : (config : Config) (list : List Listed) (taken : List ℕ) (c : ℕ) (a : Answer) (rows : List Row) → given_at config list c ≡ Some a →
     AllByRecursion (λ (row : Row). given_at config list row.0 ≡ None → is_taken taken row.0 ≡ false) rows → AllByRecursion (λ (row : Row). given_at config list row.0 ≡ None → is_taken (taken ++ c ∷ []) row.0 ≡ false) rows
@@ -125,33 +121,14 @@ draining-next setup before w rows shard batch placed none d = record {
 stays-taken : (taken : List ℕ) (c p : ℕ) → is_taken taken p ≡ true → is_taken (taken ++ c ∷ []) p ≡ true
 stays-taken taken c p e = list_any-append (λ (t : ℕ). t == p) taken (c ∷ []) ∙ ap (λ (b : Bool). b || ((c == p) || false)) e
 
-fewer-by : (f : Filed) (now before : List Filed) → length now ≤ length before → (t u : Bool) → (t ≡ true → u ≡ true) → length (cond (not u) (f ∷ now) now) ≤ length (cond (not t) (f ∷ before) before)
-fewer-by f now before le true true stays = le
-fewer-by f now before le true false stays = absurd (false≢true (stays refl))
-fewer-by f now before le false true stays = omega (arith, add-one (length before))
-fewer-by f now before le false false stays = omega (arith, add-one (length before), add-one (length now))
-
 fewer-or-same : (taken : List ℕ) (c : ℕ) (fs : List Filed) → length (untaken (taken ++ c ∷ []) fs) ≤ length (untaken taken fs)
 fewer-or-same taken c [] = omega arith
-fewer-or-same taken c (f ∷ fs) = fewer-by f (untaken (taken ++ c ∷ []) fs) (untaken taken fs) (fewer-or-same taken c fs) (is_taken taken f.connect) (is_taken (taken ++ c ∷ []) f.connect) (stays-taken taken c f.connect)
-
-filed-by : (c : ℕ) (f g : Filed) (now before : List Filed) → length now ≤ length before → (find (λ (h : Filed). h.connect == c) before ≡ Some g → length now < length before) → (t u e : Bool) → (t ≡ true → u ≡ true) → (e ≡ true → u ≡ true) → (f.connect == c) ≡ e →
-    find (λ (h : Filed). h.connect == c) (cond (not t) (f ∷ before) before) ≡ Some g → length (cond (not u) (f ∷ now) now) < length (cond (not t) (f ∷ before) before)
-filed-by c f g now before le ih true true e stays here test found = ih found
-filed-by c f g now before le ih true false e stays here test found = absurd (false≢true (stays refl))
-filed-by c f g now before le ih false true e stays here test found = omega (arith, add-one (length before))
-filed-by c f g now before le ih false false true stays here test found = absurd (false≢true (here refl))
-filed-by c f g now before le ih false false false stays here test found =
-    let rest : find (λ (h : Filed). h.connect == c) before ≡ Some g = ap (λ (b : Bool). cond b (Some f) (find (λ (h : Filed). h.connect == c) before)) (sym test) ∙ found in
-    let less : length now < length before = ih rest in
-    omega (arith, add-one (length before), add-one (length now))
+fewer-or-same taken c (f ∷ fs) = grind (arith, fewer-or-same taken c fs, stays-taken taken c f.connect)
 
 -- one answer fewer is filed that was not taken
 fewer-filed : (taken : List ℕ) (c : ℕ) (g : Filed) (fs : List Filed) → find (λ (f : Filed). f.connect == c) (untaken taken fs) ≡ Some g → length (untaken (taken ++ c ∷ []) fs) < length (untaken taken fs)
 fewer-filed taken c g [] found = cc
-fewer-filed taken c g (f ∷ fs) found =
-    filed-by c f g (untaken (taken ++ c ∷ []) fs) (untaken taken fs) (fewer-or-same taken c fs) (fewer-filed taken c g fs) (is_taken taken f.connect) (is_taken (taken ++ c ∷ []) f.connect) (f.connect == c)
-    (stays-taken taken c f.connect) (λ e. ap (is_taken (taken ++ c ∷ [])) (eqb-true f.connect c e) ∙ taken_own taken c) refl found
+fewer-filed taken c g (f ∷ fs) found = grind (arith, fewer-or-same taken c fs, fewer-filed taken c g fs, stays-taken taken c f.connect, taken_own taken c)
 
 some-found : (o : Option Filed) (a : Answer) → option_map given_of (option_map answer_of o) ≡ Some a → (g : Filed) × (o ≡ Some g)
 some-found None a e = cc

@@ -175,11 +175,6 @@ last-first marks before (p ∷ ps) place is last taken = last-by marks before pl
 
 -- ---- all are given
 
-wait-by : (row : Row) (rows : List Row) → (answered_places rows ≡ [] → filter waits rows ≡ rows) → (o : Option Answer) → row.1.answer ≡ o →
-    map (λ (r : Row). r.0) (cond (is_some o) (row ∷ filter is_answered rows) (filter is_answered rows)) ≡ [] → filter waits (row ∷ rows) ≡ row ∷ rows
-wait-by row rows ih None came is = filter-waits row rows came ∙ ap (λ (rs : List Row). row ∷ rs) (ih is)
-wait-by row rows ih (Some a) came is = cc
-
 pub all-wait : (rows : List Row) → answered_places rows ≡ [] → filter waits rows ≡ rows
 all-wait [] is = refl
-all-wait (row ∷ rows) is = wait-by row rows (all-wait rows) row.1.answer refl is
+all-wait (row ∷ rows) is = grind (arith, all-wait rows)

@@ -7,7 +7,7 @@ use Rattle.std.specs.Map.{keys_of, lookup, set_value}
 use Rattle.std.specs.BTreeMap.{insert_entry, is_at}
 use Rattle.std.specs.Ordering.{nat_cmp}
 use Rattle.std.specs.declared.cmp.Ordering.TheVariants.{Less, Greater}
-use Rattle.std.proofs.Math.Bool.{and-false, and-true, or-false, or-true}
+use Rattle.std.proofs.Math.Bool.{and-false, and-true, or-false}
 use Rattle.std.proofs.lemmas.Bool.Decides.{nat_tests}
 use Rattle.std.proofs.lemmas.List.Elements.{filter-append}
 use Rattle.std.proofs.lemmas.List.Folds.{list_any-append}
@@ -62,40 +62,23 @@ none-there x place (row ∷ rows) above same =
     let other : row.0 ≢ place = omega arith in
     rw (ne_eqb row.0 place other) (none-there x place rows above.1 same)
 
-any-by : (place : ℕ) (row : Row) (rows : List Row) → (row.0 ≡ place → list_any (waits_there place) rows ≡ false) →
-    list_any (waits_there place) rows ≡ waits_by (lookup (is_at (nat_cmp place)) rows) → (b : Bool) → (row.0 == place) ≡ b →
-    ((b && waits row) || list_any (waits_there place) rows) ≡ waits_by (cond b (Some row.1) (lookup (is_at (nat_cmp place)) rows))
-any-by place row rows none ih true e = ap (λ (b : Bool). waits row || b) (none (eqb-true row.0 place e)) ∙ or-false (waits row)
-any-by place row rows none ih false e = ih
-
 -- a connect at the place waits, if one is found there that does
 pub any-waits : (place : ℕ) (rows : List Row) → IsStrictlySortedBy nat_cmp (keys_of rows) → list_any (waits_there place) rows ≡ waits_by (lookup (is_at (nat_cmp place)) rows)
 unfolding IsStrictlySortedBy
 any-waits place [] sorted = refl
-any-waits place (row ∷ rows) sorted =
-    any-by place row rows (none-there row.0 place rows sorted.0) (any-waits place rows sorted.1) (row.0 == place) refl
-    ∙ ap (λ (b : Bool). waits_by (cond b (Some row.1) (lookup (is_at (nat_cmp place)) rows))) (sym (at-is place row.0))
-
-unchanged-by : (place : ℕ) (a : Answer) (row : Row) (rows : List Row) → (list_any (waits_there place) rows ≡ false → answered_at place a rows ≡ rows) → (b : Bool) →
-    (b || list_any (waits_there place) rows) ≡ false → ((if b then with_answer a row else row) ∷ answered_at place a rows) ≡ row ∷ rows
-unchanged-by place a row rows ih true e = cc
-unchanged-by place a row rows ih false e = ap (λ (rs : List Row). row ∷ rs) (ih e)
+any-waits place (row ∷ rows) sorted = grind (arith, at-is place row.0, none-there row.0 place rows sorted.0, any-waits place rows sorted.1)
 
 -- where none waits there, nothing changes
 pub unchanged : (place : ℕ) (a : Answer) (rows : List Row) → list_any (waits_there place) rows ≡ false → answered_at place a rows ≡ rows
 unchanged place a [] e = refl
-unchanged place a (row ∷ rows) e = unchanged-by place a row rows (unchanged place a rows) (waits_there place row) e
+unchanged place a (row ∷ rows) e = grind (arith, unchanged place a rows)
 
 held-of : (w : HeldInput) (number : ℕ) (o : Option Answer) → w.number ≡ number → w.answer ≡ o → w ≡ record { number = number; answer = o }
-held-of w number o e f =
-    let by-number : record { number = w.number; answer = w.answer } ≡ record { number = number; answer = w.answer } = ap (λ (m : ℕ). record { number = m; answer = w.answer }) e in
-    let by-answer : record { number = number; answer = w.answer } ≡ record { number = number; answer = o } = ap (λ (p : Option Answer). record { number = number; answer = p }) f in
-    by-number ∙ by-answer
+held-of w number o e f = grind arith
 
 written : (k : ℕ) (h w : HeldInput) (a : Answer) (o : Option Answer) → h.answer ≡ o → w.number ≡ h.number → w.answer ≡ (if is_none o then Some a else o) →
     (k, w) ≡ (if is_none o then with_answer a (k, h) else (k, h))
-written k h w a None is e f = ap (λ (v : HeldInput). (k, v)) (held-of w h.number (Some a) e f)
-written k h w a (Some b) is e f = ap (λ (v : HeldInput). (k, v)) (held-of w h.number (Some b) e f ∙ sym (held-of h h.number (Some b) refl is))
+written k h w a o is e f = grind arith
 
 put-by : (place : ℕ) (a : Answer) (row : Row) (rows : List Row) (h w : HeldInput) → w.number ≡ h.number → w.answer ≡ (if is_none h.answer then Some a else h.answer) →
     (row.0 ≡ place → list_any (waits_there place) rows ≡ false) → (lookup (is_at (nat_cmp place)) rows ≡ Some h → set_value (is_at (nat_cmp place)) rows w ≡ answered_at place a rows) →
@@ -123,13 +106,10 @@ put-at place a (row ∷ rows) h w sorted found number answer =
 -- ---- the marks after it
 
 mark-true : (p any old rest : Bool) → rest ≡ ((p && any) || old) → (p || rest) ≡ (p || old)
-mark-true true any old rest e = refl
-mark-true false any old rest e = e
+mark-true p any old rest e = grind arith
 
 mark-false : (p any q old rest : Bool) → rest ≡ ((p && any) || old) → (q || rest) ≡ ((p && any) || (q || old))
-mark-false true true q old rest e = ap (λ (b : Bool). q || b) e ∙ or-true q
-mark-false true false q old rest e = ap (λ (b : Bool). q || b) e
-mark-false false any q old rest e = ap (λ (b : Bool). q || b) e
+mark-false p any q old rest e = grind arith
 
 marks-by : (place : ℕ) (a : Answer) (n : ℕ) (row : Row) (rows : List Row) →
     has n (answered_places (answered_at place a rows)) ≡ (((place == n) && list_any (waits_there place) rows) || has n (answered_places rows)) →
@@ -154,10 +134,7 @@ marks-answered place a n [] = sym (or-false _ ∙ and-false (place == n))
 marks-answered place a n (row ∷ rows) = marks-by place a n row rows (marks-answered place a n rows) row.1.answer refl (row.0 == place) refl
 
 swap-or : (p q : Bool) → (p || (q || false)) ≡ ((q && true) || p)
-swap-or true true = refl
-swap-or true false = refl
-swap-or false true = refl
-swap-or false false = refl
+swap-or p q = grind arith
 
 pub marked-answered : (place : ℕ) (a : Answer) (marks after : List ℕ) (rows : List Row) → list_any (waits_there place) rows ≡ true → after ≡ marks ++ place ∷ [] →
     ((n : ℕ) → has n marks ≡ has n (answered_places rows)) → (n : ℕ) → has n after ≡ has n (answered_places (answered_at place a rows))
@@ -168,20 +145,10 @@ marked-answered place a marks after rows any is marked n =
 count-cons : (row : Row) (rows : List Row) → count_by waits (row ∷ rows) ≡ cond (waits row) 1 0 + count_by waits rows
 count-cons row rows = sum_by-append (λ (r : Row). cond (waits r) 1 0) (row ∷ []) rows ∙ ap (λ (n : ℕ). n + count_by waits rows) (zero-add (cond (waits row) 1 0))
 
-count-by : (place : ℕ) (a : Answer) (row : Row) (rows : List Row) (now before : ℕ) (w : Bool) → waits row ≡ w → (b c : Bool) → now + cond c 1 0 ≤ before →
-    cond (waits (if b && w then with_answer a row else row)) 1 0 + now + cond ((b && w) || c) 1 0 ≤ cond w 1 0 + before
-count-by place a row rows now before true e true c le = omega arith
-count-by place a row rows now before true e false c le = rw e (omega arith)
-count-by place a row rows now before false e true c le = rw e (omega arith)
-count-by place a row rows now before false e false c le = rw e (omega arith)
-
 count-answered : (place : ℕ) (a : Answer) (rows : List Row) → count_by waits (answered_at place a rows) + cond (list_any (waits_there place) rows) 1 0 ≤ count_by waits rows
 count-answered place a [] = omega arith
 count-answered place a (row ∷ rows) =
-    let step = count-by place a row rows (count_by waits (answered_at place a rows)) (count_by waits rows) (waits row) refl (row.0 == place) (list_any (waits_there place) rows) (count-answered place a rows) in
-    let after = count-cons (if waits_there place row then with_answer a row else row) (answered_at place a rows) in
-    let before = count-cons row rows in
-    rw (after, before) step
+    grind (arith, count-answered place a rows, count-cons row rows, count-cons (if waits_there place row then with_answer a row else row) (answered_at place a rows))
 
 -- one fewer waits
 pub fewer-wait : (place : ℕ) (a : Answer) (rows : List Row) → list_any (waits_there place) rows ≡ true → count_by waits (answered_at place a rows) + 1 ≤ count_by waits rows

@@ -127,8 +127,7 @@ items-there config list place (a ∷ answers) are =
     ∙ ap (λ (b : Answer). items_of b ++ flat_map items_of answers) f.given
 
 missing-by : (x : Option PlacedAnswer) → option_map given_of x ≡ None → x ≡ None
-missing-by None e = refl
-missing-by (Some p) e = cc
+missing-by x e = grind arith
 
 one-missing : (config : Config) (list : List Listed) (place k m : ℕ) (answers : List Answer) → AreAnswers config list place answers → given_at config list (place + length answers) ≡ None →
     is_some (latest k (map (answer_in config (registry config list)) (numbers_from place (length answers + suc m)))) ≡ false
@@ -174,8 +173,7 @@ answers-newest config r inputs input n e =
     ∙ ap (λ (p : ℕ). map (answer_in config r) (numbers_from p n)) (intake-first len input (refusal_of len input))
 
 result-same : (answers : List (Option PlacedAnswer)) (items : List Item) (o : Option Refusal) → answered_items answers ≡ items → result_by answers o ≡ current.result_of items o
-result-same answers items None e = ap (λ (is : List Item). Ok is) e
-result-same answers items (Some refusal) e = refl
+result-same answers items o e = grind arith
 
 -- it is whole, and this is its out
 record Newly (config : Config) (r : Registry) (inputs : List ReadInput) (input : ReadInput) (n : CurrentInput) : Type 0 where

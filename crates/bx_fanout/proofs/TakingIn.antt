@@ -1,10 +1,8 @@
 -- What holds of the held connects and of the last input while its answers are collected.
-use Rattle.std.proofs.Common.{◌≡◌, ℕ, Bool, true, false, suc, zero, ◌+◌, ◌<◌, ◌≤◌, List, [], ◌∷◌, ◌++◌, length, map, filter, refl, sym, ap, subst, ◌∙◌, arith, Option, Some, None, option_map, append_assoc, append-nil, slice_get, add-one, Result, Ok, Err, OnErr, OnOk, cond, count_by, nat_lt, zero-add}
-use Rattle.std.specs.Prelude.{is_none, is_some}
+use Rattle.std.proofs.Common.{◌≡◌, ℕ, Bool, ◌+◌, ◌<◌, ◌≤◌, List, [], ◌∷◌, ◌++◌, length, map, filter, refl, sym, ap, subst, ◌∙◌, arith, Option, Some, None, option_map, append_assoc, append-nil, slice_get, add-one, Result, Ok, Err, OnErr, OnOk, cond, count_by, nat_lt, zero-add}
 use Rattle.std.specs.List.{AllByRecursion}
 use Rattle.std.proofs.lemmas.List.{length-append, map-append}
 use Rattle.std.proofs.lemmas.List.Sums.{fold-append, sum_by-append}
-use Rattle.std.proofs.lemmas.Bool.Decides.{nat_tests}
 use Rattle.std.proofs.lemmas.Option.{slice_get_within}
 use Rattle.bx_advice.specs.declared.config.Config.{Config}
 use Rattle.bx_entry.specs.Inputs.{ReadInput, added_by, refusal_of}
@@ -192,13 +190,9 @@ giving-of s setup inputs xs w rows own added same are g =
 
 -- ---- all outs are given
 
-none-by : (row : Row) (rows : List Row) → filter is_answered (filter waits rows) ≡ [] → (o : Option Answer) → row.1.answer ≡ o → filter is_answered (cond (is_none o) (row ∷ filter waits rows) (filter waits rows)) ≡ []
-none-by row rows ih None e = ap (λ (o : Option Answer). cond (is_some o) (row ∷ filter is_answered (filter waits rows)) (filter is_answered (filter waits rows))) e ∙ ih
-none-by row rows ih (Some a) e = ih
-
 none-answered : (rows : List Row) → filter is_answered (filter waits rows) ≡ []
 none-answered [] = refl
-none-answered (row ∷ rows) = none-by row rows (none-answered rows) row.1.answer refl
+none-answered (row ∷ rows) = grind (arith, none-answered rows)
 
 pub none-left : (rows after : List Row) → after ≡ filter waits rows → outs_of after ≡ []
 none-left rows after is = ap outs_of is ∙ ap (map out_of) (none-answered rows)
@@ -257,9 +251,7 @@ giving-out setup inputs w rows after stage stage' before outs' added i g = recor
 -- ---- the shards were brought up
 
 level-by : (len : ℕ) (x : ℕ) (xs : List ℕ) → ((k n : ℕ) → slice_get xs k ≡ Some n → len ≤ n) → (b : Bool) → nat_lt x len ≡ b → cond b 1 0 + count_by (λ (n : ℕ). nat_lt n len) xs ≡ 0 → (k n : ℕ) → slice_get (x ∷ xs) k ≡ Some n → len ≤ n
-level-by len x xs ih true e none k n found = absurd (omega arith)
-level-by len x xs ih false e none zero n found = let same : x ≡ n = cc in let le : len ≤ x = grind (arith, nat_tests) in omega arith
-level-by len x xs ih false e none (suc k) n found = ih k n found
+level-by len x xs ih n e none k n' found = grind arith
 
 count-behind-cons : (len x : ℕ) (xs : List ℕ) → count_by (λ (n : ℕ). nat_lt n len) (x ∷ xs) ≡ cond (nat_lt x len) 1 0 + count_by (λ (n : ℕ). nat_lt n len) xs
 count-behind-cons len x xs = sum_by-append (λ (n : ℕ). cond (nat_lt n len) 1 0) (x ∷ []) xs ∙ ap (λ (n : ℕ). n + count_by (λ (m : ℕ). nat_lt m len) xs) (zero-add (cond (nat_lt x len) 1 0))

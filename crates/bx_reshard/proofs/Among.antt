@@ -1,7 +1,6 @@
 -- What the shards have that were redistributed, and what became of it in those that took over from them.
-use Rattle.std.proofs.Common.{◌≡◌, ℕ, nat_eq, ◌&&◌, Bool, true, false, cond, is_some, Option, Some, None, List, [], ◌∷◌, option_map, refl, sym, ap, ◌∙◌, eqb-true}
+use Rattle.std.proofs.Common.{arith, ◌≡◌, ℕ, nat_eq, ◌&&◌, Bool, true, false, cond, is_some, Option, Some, None, List, [], ◌∷◌, refl, sym, ap, ◌∙◌}
 use Rattle.std.specs.Option.{option_or}
-use Rattle.bx_lists.proofs.Lists.{or_none}
 use Rattle.bx_lists.proofs.Tests.{either}
 use Rattle.bx_entry.specs.Keeping.{Kept}
 use Rattle.bx_connects.specs.declared.connects.ConnectState.{ConnectState}
@@ -42,29 +41,17 @@ IsApart p s = is_both (hold_at s.connects.held p) (filing_at s.connects.filed p)
 settled_placed : (placing : ℕ → ℕ → ℕ) (count k n : ℕ) (ss : List Sessions) (lent : Option Kept) → nat_eq (placing n count) k ≡ true → HaveOnce n ss →
     settled_all placing count k n ss lent ≡ overlaid (kept_among ss n) lent
 settled_placed placing count k n [] lent here once = refl
-settled_placed placing count k n (s ∷ ss) lent here once =
-    ap (λ b. settled_all placing count k n ss (cond b (overlaid (kept_in s n) lent) lent)) here
-    ∙ settled_placed placing count k n ss (overlaid (kept_in s n) lent) here once.1
-    ∙ by (kept_in s n) once.0
-  where
-    by : (o : Option Kept) → (is_some o ≡ true → kept_among ss n ≡ None) → overlaid (kept_among ss n) (overlaid o lent) ≡ overlaid (option_or o (kept_among ss n)) lent
-    by None h = refl
-    by (Some x) h = ap (λ o. overlaid o (option_map (λ (y : Kept). x) lent)) (h refl)
+settled_placed placing count k n (s ∷ ss) lent here once = grind (arith, settled_placed placing count k n ss (overlaid (kept_in s n) lent) here once.1, once.0)
 
 settled_elsewhere : (placing : ℕ → ℕ → ℕ) (count k n : ℕ) (ss : List Sessions) (lent : Option Kept) → nat_eq (placing n count) k ≡ false → settled_all placing count k n ss lent ≡ lent
 settled_elsewhere placing count k n [] lent here = refl
-settled_elsewhere placing count k n (s ∷ ss) lent here =
-    ap (λ b. settled_all placing count k n ss (cond b (overlaid (kept_in s n) lent) lent)) here ∙ settled_elsewhere placing count k n ss lent here
+settled_elsewhere placing count k n (s ∷ ss) lent here = grind (arith, settled_elsewhere placing count k n ss lent here)
 
 over_lent : (o lent : Option Kept) → is_some lent ≡ is_some o → overlaid o lent ≡ o
-over_lent None None h = refl
-over_lent None (Some x) h = absurd (let no : true ≡ false = h in cc)
-over_lent (Some y) None h = absurd (let no : false ≡ true = h in cc)
-over_lent (Some y) (Some x) h = refl
+over_lent o lent h = grind arith
 
 nothing_lent : (lent : Option Kept) → is_some lent ≡ false → lent ≡ None
-nothing_lent None h = refl
-nothing_lent (Some x) h = absurd (let no : true ≡ false = h in cc)
+nothing_lent lent h = grind arith
 
 -- the session stands where it is placed, as it was
 pub session_redistributed : (placing : ℕ → ℕ → ℕ) (count k n : ℕ) (ss : List Sessions) (lent : Option Kept) → HaveOnce n ss → is_some lent ≡ (nat_eq (placing n count) k && is_some (kept_among ss n)) →
@@ -83,14 +70,7 @@ session_redistributed placing count k n ss lent once room = either (nat_eq (plac
 
 lent_once : (placing : ℕ → ℕ → ℕ) (count k p : ℕ) (ss : List Sessions) → KnowOnce p ss → lent_among placing count k ss p ≡ lent_as placing count k (known_as (known_among ss p))
 lent_once placing count k p [] once = refl
-lent_once placing count k p (s ∷ ss) once = by (connect_at s.connects p) once.0 (lent_once placing count k p ss once.1)
-  where
-    by : (o : Option ConnectState) → (is_some o ≡ true → known_among ss p ≡ None) → lent_among placing count k ss p ≡ lent_as placing count k (known_as (known_among ss p)) →
-        option_or (lent_as placing count k (known_as o)) (lent_among placing count k ss p) ≡ lent_as placing count k (known_as (option_or o (known_among ss p)))
-    by None h rest = rest
-    by (Some x) h rest =
-        ap (option_or (lent_as placing count k (known_as (Some x)))) (rest ∙ ap (λ o. lent_as placing count k (known_as o)) (h refl))
-        ∙ or_none (lent_as placing count k (known_as (Some x)))
+lent_once placing count k p (s ∷ ss) once = grind (arith, lent_once placing count k p ss once.1, once.0)
 
 -- what is lent for a connect, once its answer has moved where one was filed
 abbrev answered_as : (ℕ → ℕ → ℕ) → ℕ → ℕ → Option ConnectState → Option ConnectState → Option ConnectState
@@ -100,31 +80,21 @@ answered_as placing count k (Some (Filed session place answer)) lent = cond (nat
 
 one_answered : (placing : ℕ → ℕ → ℕ) (count k : ℕ) (h : Option HeldConnect) (f : Option FiledAnswer) (lent : Option ConnectState) → is_both h f ≡ false →
     answered_with placing count k f lent ≡ answered_as placing count k (state_by h f) lent
-one_answered placing count k None None lent apart = refl
-one_answered placing count k None (Some f) lent apart = refl
-one_answered placing count k (Some h) None lent apart = refl
-one_answered placing count k (Some h) (Some f) lent apart = absurd (let no : true ≡ false = apart in cc)
+one_answered placing count k h f lent apart = grind arith
 
 answered_once : (placing : ℕ → ℕ → ℕ) (count k p : ℕ) (ss : List Sessions) (lent : Option ConnectState) → Each (IsApart p) ss → KnowOnce p ss →
     answered_all placing count k p ss lent ≡ answered_as placing count k (known_among ss p) lent
 answered_once placing count k p [] lent apart once = refl
 answered_once placing count k p (s ∷ ss) lent apart once =
-    answered_once placing count k p ss (answered_with placing count k (filing_at s.connects.filed p) lent) apart.1 once.1
-    ∙ ap (answered_as placing count k (known_among ss p)) (one_answered placing count k (hold_at s.connects.held p) (filing_at s.connects.filed p) lent apart.0)
-    ∙ by (connect_at s.connects p) once.0
-  where
-    by : (o : Option ConnectState) → (is_some o ≡ true → known_among ss p ≡ None) → answered_as placing count k (known_among ss p) (answered_as placing count k o lent) ≡ answered_as placing count k (option_or o (known_among ss p)) lent
-    by None h = refl
-    by (Some x) h = ap (λ o. answered_as placing count k o (answered_as placing count k (Some x) lent)) (h refl)
+    grind (
+      arith,
+      answered_once placing count k p ss (answered_with placing count k (filing_at s.connects.filed p) lent) apart.1 once.1,
+      one_answered placing count k (hold_at s.connects.held p) (filing_at s.connects.filed p) lent apart.0,
+      once.0,
+    )
 
 as_redistributed : (placing : ℕ → ℕ → ℕ) (count k : ℕ) (o : Option ConnectState) → answered_as placing count k o (lent_as placing count k (known_as o)) ≡ redistributed_connect placing count k o
-as_redistributed placing count k None = refl
-as_redistributed placing count k (Some (Held session deadline waker)) = refl
-as_redistributed placing count k (Some (Filed session place answer)) = by (nat_eq (placing session count) k)
-  where
-    by : (b : Bool) → cond b (filed_as place answer (cond b (Some (Held session None None)) None)) (cond b (Some (Held session None None)) None) ≡ cond b (Some (Filed session place answer)) None
-    by true = refl
-    by false = refl
+as_redistributed placing count k o = grind arith
 
 -- the connect is known where its session is placed, as it was known
 pub connect_redistributed : (placing : ℕ → ℕ → ℕ) (count k p : ℕ) (ss : List Sessions) (lent : Option ConnectState) → Each (IsApart p) ss → KnowOnce p ss → lent ≡ lent_among placing count k ss p →
@@ -147,11 +117,7 @@ counted_among (s ∷ ss) n each = by (kept_in s n) each.0 (counted_among ss n ea
 
 pub formed_among : (ss : List Sessions) (n place : ℕ) → Each (λ s. has_formed_at_most place (kept_in s n) ≡ true) ss → has_formed_at_most place (kept_among ss n) ≡ true
 formed_among [] n place each = refl
-formed_among (s ∷ ss) n place each = by (kept_in s n) each.0 (formed_among ss n place each.1)
-  where
-    by : (o : Option Kept) → has_formed_at_most place o ≡ true → has_formed_at_most place (kept_among ss n) ≡ true → has_formed_at_most place (option_or o (kept_among ss n)) ≡ true
-    by None h rest = rest
-    by (Some x) h rest = h
+formed_among (s ∷ ss) n place each = grind (arith, each.0, formed_among ss n place each.1)
 
 pub unknown_among : (ss : List Sessions) (p : ℕ) → Each (λ s. connect_at s.connects p ≡ None) ss → known_among ss p ≡ None
 unknown_among [] p each = refl
@@ -161,43 +127,14 @@ unknown_among (s ∷ ss) p each = ap (λ o. option_or o (known_among ss p)) each
 pub held_among : (ss : List Sessions) (n p : ℕ) → HaveOnce n ss → KnowOnce p ss → Each (λ s. held_until (connect_at s.connects p) n ≡ holds_until (kept_in s n) p) ss →
     held_until (known_among ss p) n ≡ holds_until (kept_among ss n) p
 held_among [] n p have know each = refl
-held_among (s ∷ ss) n p have know each = by (connect_at s.connects p) (kept_in s n) know.0 have.0 each.0 (held_among ss n p have.1 know.1 each.1)
-  where
-    by : (c : Option ConnectState) (o : Option Kept) → (is_some c ≡ true → known_among ss p ≡ None) → (is_some o ≡ true → kept_among ss n ≡ None) →
-        held_until c n ≡ holds_until o p → held_until (known_among ss p) n ≡ holds_until (kept_among ss n) p →
-        held_until (option_or c (known_among ss p)) n ≡ holds_until (option_or o (kept_among ss n)) p
-    by None None k h own rest = rest
-    by None (Some x) k h own rest = rest ∙ ap (λ o. holds_until o p) (h refl) ∙ own
-    by (Some c) None k h own rest = own ∙ sym (ap (λ o. held_until o n) (k refl)) ∙ rest
-    by (Some c) (Some x) k h own rest = own
+held_among (s ∷ ss) n p have know each = grind (arith, know.0, have.0, each.0, held_among ss n p have.1 know.1 each.1)
 
 pub nobody : {X : Type 0} (b : Bool) → None ≡ cond {A = Option X} b None None
-nobody true = refl
-nobody false = refl
+nobody b = grind arith
 
 -- so it is in the shard where the session is placed
 pub held_redistributed : (placing : ℕ → ℕ → ℕ) (count k n : ℕ) (o : Option ConnectState) → held_until (redistributed_connect placing count k o) n ≡ cond (nat_eq (placing n count) k) (held_until o n) None
-held_redistributed placing count k n None = nobody (nat_eq (placing n count) k)
-held_redistributed placing count k n (Some (Filed session place answer)) =
-    by (nat_eq (placing session count) k) ∙ nobody (nat_eq (placing n count) k)
-  where
-    by : (b : Bool) → held_until (cond b (Some (Filed session place answer)) None) n ≡ None
-    by true = refl
-    by false = refl
-held_redistributed placing count k n (Some (Held session deadline waker)) = either (nat_eq session n)
-    (held_until (redistributed_connect placing count k (Some (Held session deadline waker))) n ≡ cond (nat_eq (placing n count) k) (held_until (Some (Held session deadline waker)) n) None)
-    (λ t. same (nat_eq (placing session count) k) ∙ ap (λ m. cond (nat_eq (placing m count) k) (held_until (Some (Held session deadline waker)) n) None) (eqb-true session n t))
-    (λ f. other (nat_eq (placing session count) k) f ∙ nobody (nat_eq (placing n count) k)
-    ∙ sym (ap (λ b. cond (nat_eq (placing n count) k) (cond b (Some deadline) None) None) f))
-  where
-    same : (b : Bool) → held_until (cond b (Some (Held session deadline None)) None) n ≡ cond b (cond (nat_eq session n) (Some deadline) None) None
-    same true = refl
-    same false = refl
-
-    other : (b : Bool) → nat_eq session n ≡ false → held_until (cond b (Some (Held session deadline None)) None) n ≡ None
-    other true f = ap (λ c. cond c (Some deadline) None) f
-    other false f = refl
+held_redistributed placing count k n o = grind arith
 
 pub holds_redistributed : (b : Bool) (o : Option Kept) (p : ℕ) → holds_until (cond b o None) p ≡ cond b (holds_until o p) None
-holds_redistributed true o p = refl
-holds_redistributed false o p = refl
+holds_redistributed b o p = grind arith

@@ -1,14 +1,17 @@
 -- What becomes of many shards where one of them changes.
-use Rattle.std.proofs.Common.{◌≡◌, ◌≢◌, ℕ, ◌<◌, ◌≤◌, Bool, true, false, cond, Option, Some, Result, Ok, Err, OnOk, List, length, slice_get, slice_set, nat_eq, nat_lt, refl, sym, ap, ◌∙◌, subst, arith, eqb-true, eq-eqb, ltb-true, ltb-false}
+use Rattle.std.proofs.Common.{◌≡◌, ◌≢◌, ℕ, ◌<◌, ◌≤◌, Bool, true, false, cond, Option, Some, option_map, Result, Ok, Err, OnOk, List, length, slice_get, slice_set, nat_eq, nat_lt, refl, sym, ap, ◌∙◌, subst, arith, eqb-true, eq-eqb, ltb-true, ltb-false}
 use Rattle.std.proofs.lemmas.List.{length-set, get_or-set_same, get_or-set_other}
 use Rattle.std.proofs.lemmas.Option.{slice_get-get_or, slice_get_past}
 use Rattle.bx_lists.proofs.Tests.{either}
+use Rattle.bx_connects.specs.Connects.{connect_at}
 use Rattle.bx_shard.specs.declared.sessions.Sessions.{Sessions}
+use Rattle.bx_shard.specs.Sessions.{kept_in, patterns_in}
+use Rattle.bx_reshard.specs.Heirs.{SameConnects, SameSessions, connect_there, kept_there, patterns_there}
 
-set_here : (xs : List Sessions) (i : ℕ) (y : Sessions) → i < length xs → slice_get (slice_set xs i y) i ≡ Some y
+pub set_here : {X : Type 0} (xs : List X) (i : ℕ) (y : X) → i < length xs → slice_get (slice_set xs i y) i ≡ Some y
 set_here xs i y h = slice_get-get_or (slice_set xs i y) i y (omega (arith, h, length-set xs i y)) ∙ ap Some (get_or-set_same xs i y y h)
 
-set_beside : (xs : List Sessions) (i k : ℕ) (y : Sessions) → nat_eq i k ≡ false → slice_get (slice_set xs i y) k ≡ slice_get xs k
+pub set_beside : {X : Type 0} (xs : List X) (i k : ℕ) (y : X) → nat_eq i k ≡ false → slice_get (slice_set xs i y) k ≡ slice_get xs k
 set_beside xs i k y e =
     let apart : k ≢ i = λ s. absurd (let no : false ≡ true = sym e ∙ eq-eqb i k (sym s) in cc) in
     either (nat_lt k (length xs)) (slice_get (slice_set xs i y) k ≡ slice_get xs k)
@@ -33,6 +36,24 @@ at_each P xs i old new within here own others k = either (nat_eq i k) (P (slice_
     subst (λ b. P (slice_get xs k) (slice_get (slice_set xs i new) k) b) (sym f)
     (subst (λ o. P (slice_get xs k) o false) (sym (set_beside xs i k new f)) (others (slice_get xs k))))
 
+-- so where the sessions stay, or the connects
+pub same_sessions : (xs : List Sessions) (i : ℕ) (old new : Sessions) → i < length xs → slice_get xs i ≡ Some old →
+    new.config ≡ old.config → ((n : ℕ) → kept_in new n ≡ kept_in old n) → ((n : ℕ) → patterns_in new n ≡ patterns_in old n) → SameSessions xs (slice_set xs i new)
+same_sessions xs i old new within here config sessions patterns = record {
+  many = length-set xs i new;
+  configs = at_each (λ o u b. option_map (λ (s : Sessions). s.config) u ≡ option_map (λ (s : Sessions). s.config) o) xs i old new within here (ap Some config) (λ o. refl);
+  sessions = λ k n. at_each (λ o u b. kept_there u n ≡ kept_there o n) xs i old new within here (sessions n) (λ o. refl) k;
+  patterns = λ k n. at_each (λ o u b. patterns_there u n ≡ patterns_there o n) xs i old new within here (patterns n) (λ o. refl) k;
+}
+
+pub same_connects : (xs : List Sessions) (i : ℕ) (old new : Sessions) → i < length xs → slice_get xs i ≡ Some old →
+    new.config ≡ old.config → ((p : ℕ) → connect_at new.connects p ≡ connect_at old.connects p) → SameConnects xs (slice_set xs i new)
+same_connects xs i old new within here config connects = record {
+  many = length-set xs i new;
+  configs = at_each (λ o u b. option_map (λ (s : Sessions). s.config) u ≡ option_map (λ (s : Sessions). s.config) o) xs i old new within here (ap Some config) (λ o. refl);
+  connects = λ k p. at_each (λ o u b. connect_there u p ≡ connect_there o p) xs i old new within here (connects p) (λ o. refl) k;
+}
+
 -- what follows from success follows
 pub on_ok : {T E : Type 0} {P Q : Type 0} (r : Result T E) → (P → Q) → OnOk r P → OnOk r Q
 on_ok (Ok x) f p = f p
@@ -40,8 +61,4 @@ on_ok (Err e) f p = tt
 
 -- where the number is its own, what was there is meant
 pub at_own : {X : Type 0} (F : X → X) (g : ℕ → X) (m n : ℕ) → cond (nat_eq m n) (F (g m)) (g n) ≡ cond (nat_eq m n) (F (g n)) (g n)
-at_own F g m n = by (nat_eq m n) refl
-  where
-    by : (b : Bool) → nat_eq m n ≡ b → cond b (F (g m)) (g n) ≡ cond b (F (g n)) (g n)
-    by true e = ap (λ k. F (g k)) (eqb-true m n e)
-    by false e = refl
+at_own F g m n = grind arith

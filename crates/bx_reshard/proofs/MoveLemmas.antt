@@ -1,12 +1,11 @@
 -- What is lent and what moves, one session and one connect at a time.
-use Rattle.std.proofs.Common.{◌≡◌, ◌&&◌, ◌||◌, not, ℕ, zero, suc, ◌<◌, nat_eq, length, slice_get, arith, Bool, true, false, cond, is_some, Option, Some, None, option_map, List, [], ◌∷◌, ◌++◌, refl, sym, ap, ◌∙◌, eqb-true, eq-eqb}
-use Rattle.std.proofs.lemmas.Bool.{both_ways}
+use Rattle.std.proofs.Common.{◌≡◌, ◌&&◌, ◌||◌, not, ℕ, zero, suc, ◌<◌, nat_eq, length, slice_get, arith, Bool, true, false, cond, is_some, Option, Some, None, option_map, List, [], ◌∷◌, ◌++◌, refl, sym, ap, ◌∙◌, eqb-true}
 use Rattle.std.proofs.lemmas.List.Elements.{All-nil, All-push}
 use Rattle.std.specs.List.{All}
 use Rattle.std.specs.Map.{lookup}
 use Rattle.std.specs.Option.{option_or}
 use Rattle.bx_lists.proofs.Lists.{or_none}
-use Rattle.bx_lists.proofs.Tests.{either}
+use Rattle.bx_lists.proofs.Tests.{eqb_sym}
 use Rattle.bx_names.specs.Globs.{Glob}
 use Rattle.bx_advice.specs.declared.config.Config.{Config}
 use Rattle.bx_entry.specs.Keeping.{Kept}
@@ -21,37 +20,16 @@ use Rattle.bx_shard.specs.Sessions.{patterns_in, kept_in}
 
 -- ---- entries
 
-pub lookup_more : {X : Type 0} (n number : ℕ) (x : X) (es : List (ℕ × X)) → lookup (nat_eq n) (es ++ (number, x) ∷ []) ≡ option_or (lookup (nat_eq n) es) (cond (nat_eq n number) (Some x) None)
-lookup_more n number x [] = refl
-lookup_more n number x (e ∷ es) = by (nat_eq n e.0) (lookup_more n number x es)
-  where
-    by : (b : Bool) → lookup (nat_eq n) (es ++ (number, x) ∷ []) ≡ option_or (lookup (nat_eq n) es) (cond (nat_eq n number) (Some x) None)
-        → cond b (Some e.1) (lookup (nat_eq n) (es ++ (number, x) ∷ [])) ≡ option_or (cond b (Some e.1) (lookup (nat_eq n) es)) (cond (nat_eq n number) (Some x) None)
-    by true h = refl
-    by false h = h
-
-turned : (a b : ℕ) → nat_eq a b ≡ nat_eq b a
-turned a b = either (nat_eq a b) (nat_eq a b ≡ nat_eq b a)
-    (λ h. h ∙ sym (eq-eqb b a (sym (eqb-true a b h))))
-    (λ h. either (nat_eq b a) (nat_eq a b ≡ nat_eq b a) (λ k. absurd (both_ways (nat_eq a b) h (eq-eqb a b (sym (eqb-true b a k))))) (λ k. h ∙ sym k))
+pub lookup_more : {X : Type 0} (n number : ℕ) (x : X) (es : List (ℕ × X)) → lookup (nat_eq n) (es ++ (number, x) ∷ []) ≡ option_or (lookup (nat_eq n) es) (cond (nat_eq number n) (Some x) None)
+lookup_more n number x [] = ap (λ b. cond b (Some x) None) (eqb_sym n number)
+lookup_more n number x (e ∷ es) = grind (arith, lookup_more n number x es)
 
 -- ---- sessions
 
-kept_moved : (q p r s : Bool) (e : Option WithRoom) (x : WithRoom) (lent : Option Kept) → r ≡ s → (s ≡ true → p ≡ q) →
+kept_moved : (q p s : Bool) (e : Option WithRoom) (x : WithRoom) (lent : Option Kept) → (s ≡ true → p ≡ q) →
     cond q (overlaid (option_map (λ (y : WithRoom). y.kept) e) (cond (p && s) (option_map (λ (y : Kept). x.kept) lent) lent)) (cond (p && s) (option_map (λ (y : Kept). x.kept) lent) lent)
-    ≡ cond q (overlaid (option_map (λ (y : WithRoom). y.kept) (option_or e (cond r (Some x) None))) lent) lent
-kept_moved true true true true None x lent h k = refl
-kept_moved true true true true (Some y) x None h k = refl
-kept_moved true true true true (Some y) x (Some z) h k = refl
-kept_moved true false true true e x lent h k = absurd (let no : false ≡ true = k refl in cc)
-kept_moved false true true true e x lent h k = absurd (let no : true ≡ false = k refl in cc)
-kept_moved false false true true e x lent h k = refl
-kept_moved q p true false e x lent h k = absurd (let no : true ≡ false = h in cc)
-kept_moved q p false true e x lent h k = absurd (let no : false ≡ true = h in cc)
-kept_moved q true false false None x lent h k = refl
-kept_moved q true false false (Some y) x lent h k = refl
-kept_moved q false false false None x lent h k = refl
-kept_moved q false false false (Some y) x lent h k = refl
+    ≡ cond q (overlaid (option_map (λ (y : WithRoom). y.kept) (option_or e (cond s (Some x) None))) lent) lent
+kept_moved q p s e x lent k = grind arith
 
 -- one session more has moved
 pub session_moved : (placing : ℕ → ℕ → ℕ) (count k n : ℕ) (es : List (ℕ × WithRoom)) (number slot : ℕ) (x : WithRoom) (lent after : Option Kept) → slot ≡ placing number count →
@@ -59,26 +37,15 @@ pub session_moved : (placing : ℕ → ℕ → ℕ) (count k n : ℕ) (es : List
     settled placing count k n (kept_by es n) after ≡ settled placing count k n (kept_by (es ++ (number, x) ∷ []) n) lent
 session_moved placing count k n es number slot x lent after at moved =
     ap (settled placing count k n (kept_by es n)) moved
-    ∙ kept_moved (nat_eq (placing n count) k) (nat_eq slot k) (nat_eq n number) (nat_eq number n) (lookup (nat_eq n) es) x lent (turned n number)
+    ∙ kept_moved (nat_eq (placing n count) k) (nat_eq slot k) (nat_eq number n) (lookup (nat_eq n) es) x lent
     (λ same. ap (λ (s : ℕ). nat_eq s k) (at ∙ ap (λ (m : ℕ). placing m count) (eqb-true number n same)))
     ∙ ap (λ o. settled placing count k n (option_map (λ (y : WithRoom). y.kept) o) lent) (sym (lookup_more n number x es))
 
 -- ---- answers
 
-answer_moved : (placing : ℕ → ℕ → ℕ) (count k : ℕ) (p r s : Bool) (e : Option FiledAnswer) (f : FiledAnswer) (lent : Option ConnectState) → r ≡ s → p ≡ nat_eq (placing f.session count) k → (s ≡ true → e ≡ None) →
-    answered_with placing count k e (cond (p && s) (filed_as f.place f.answer lent) lent) ≡ answered_with placing count k (option_or e (cond r (Some f) None)) lent
-answer_moved placing count k p true true None f lent h at once = by p at
-  where
-    by : (b : Bool) → b ≡ nat_eq (placing f.session count) k → cond (b && true) (filed_as f.place f.answer lent) lent ≡ cond (nat_eq (placing f.session count) k) (filed_as f.place f.answer lent) lent
-    by true g = ap (λ c. cond c (filed_as f.place f.answer lent) lent) g
-    by false g = ap (λ c. cond c (filed_as f.place f.answer lent) lent) g
-answer_moved placing count k p true true (Some e) f lent h at once = absurd (let no : Some e ≡ None = once refl in cc)
-answer_moved placing count k p true false e f lent h at once = absurd (let no : true ≡ false = h in cc)
-answer_moved placing count k p false true e f lent h at once = absurd (let no : false ≡ true = h in cc)
-answer_moved placing count k true false false None f lent h at once = refl
-answer_moved placing count k false false false None f lent h at once = refl
-answer_moved placing count k true false false (Some e) f lent h at once = refl
-answer_moved placing count k false false false (Some e) f lent h at once = refl
+answer_moved : (placing : ℕ → ℕ → ℕ) (count k : ℕ) (p s : Bool) (e : Option FiledAnswer) (f : FiledAnswer) (lent : Option ConnectState) → p ≡ nat_eq (placing f.session count) k → (s ≡ true → e ≡ None) →
+    answered_with placing count k e (cond (p && s) (filed_as f.place f.answer lent) lent) ≡ answered_with placing count k (option_or e (cond s (Some f) None)) lent
+answer_moved placing count k p s e f lent at once = grind arith
 
 -- one answer more has moved
 pub filing_moved : (placing : ℕ → ℕ → ℕ) (count k p : ℕ) (es : List (ℕ × FiledAnswer)) (connect slot : ℕ) (f : FiledAnswer) (lent after : Option ConnectState) → slot ≡ placing f.session count →
@@ -86,32 +53,24 @@ pub filing_moved : (placing : ℕ → ℕ → ℕ) (count k p : ℕ) (es : List 
     answered_with placing count k (lookup (nat_eq p) es) after ≡ answered_with placing count k (lookup (nat_eq p) (es ++ (connect, f) ∷ [])) lent
 filing_moved placing count k p es connect slot f lent after at once moved =
     ap (answered_with placing count k (lookup (nat_eq p) es)) moved
-    ∙ answer_moved placing count k (nat_eq slot k) (nat_eq p connect) (nat_eq connect p) (lookup (nat_eq p) es) f lent (turned p connect) (ap (λ (s : ℕ). nat_eq s k) at)
+    ∙ answer_moved placing count k (nat_eq slot k) (nat_eq connect p) (lookup (nat_eq p) es) f lent (ap (λ (s : ℕ). nat_eq s k) at)
     (λ same. ap (λ (q : ℕ). lookup (nat_eq q) es) (sym (eqb-true connect p same)) ∙ once)
     ∙ ap (λ o. answered_with placing count k o lent) (sym (lookup_more p connect f es))
 
 -- ---- room
 
 pub some_mapped : (o : Option WithRoom) → is_some o ≡ is_some (option_map (λ (x : WithRoom). x.kept) o)
-some_mapped None = refl
-some_mapped (Some x) = refl
+some_mapped o = grind arith
 
 pub unknown : (h : Option HeldConnect) (f : Option FiledAnswer) → (is_some h || is_some f) ≡ false → state_by h f ≡ None
-unknown None None e = refl
-unknown None (Some f) e = absurd (let no : true ≡ false = e in cc)
-unknown (Some h) f e = absurd (let no : true ≡ false = e in cc)
+unknown h f e = grind arith
 
 or_twice : (c l : Option ConnectState) → option_or (option_or c l) l ≡ option_or c l
-or_twice None None = refl
-or_twice None (Some l) = refl
-or_twice (Some c) l = refl
+or_twice c l = grind arith
 
 -- what is lent at the places of both kinds is lent for all that are known
 pub lent_at_both : (a b : Bool) (c l : Option ConnectState) → ((a || b) ≡ false → l ≡ None) → cond b (option_or (cond a (option_or c l) c) l) (cond a (option_or c l) c) ≡ option_or c l
-lent_at_both true true c l h = or_twice c l
-lent_at_both true false c l h = refl
-lent_at_both false true c l h = refl
-lent_at_both false false c l h = sym (or_none c) ∙ ap (option_or c) (sym (h refl))
+lent_at_both a b c l h = grind arith
 
 -- ---- shard after shard
 
@@ -143,59 +102,27 @@ moved_more placing count s ss old middle between last sessions patterns connects
 
 kept_more : (ss : List Sessions) (s : Sessions) (n : ℕ) → kept_among (ss ++ s ∷ []) n ≡ option_or (kept_among ss n) (kept_in s n)
 kept_more [] s n = or_none (kept_in s n)
-kept_more (t ∷ ss) s n = by (kept_in t n) (kept_more ss s n)
-  where
-    by : (o : Option Kept) → kept_among (ss ++ s ∷ []) n ≡ option_or (kept_among ss n) (kept_in s n) → option_or o (kept_among (ss ++ s ∷ []) n) ≡ option_or (option_or o (kept_among ss n)) (kept_in s n)
-    by None h = h
-    by (Some x) h = refl
+kept_more (t ∷ ss) s n = grind (arith, kept_more ss s n)
 
 patterns_more : (ss : List Sessions) (s : Sessions) (n : ℕ) →
     patterns_among (ss ++ s ∷ []) n ≡ cond (is_some (kept_among ss n)) (patterns_among ss n) (cond (is_some (kept_in s n)) (patterns_in s n) [])
 patterns_more [] s n = refl
-patterns_more (t ∷ ss) s n = by (kept_in t n) (patterns_more ss s n)
-  where
-    last : List Glob
-    last = cond (is_some (kept_in s n)) (patterns_in s n) []
-
-    by : (o : Option Kept) → patterns_among (ss ++ s ∷ []) n ≡ cond (is_some (kept_among ss n)) (patterns_among ss n) last
-        → cond (is_some o) (patterns_in t n) (patterns_among (ss ++ s ∷ []) n) ≡ cond (is_some (option_or o (kept_among ss n))) (cond (is_some o) (patterns_in t n) (patterns_among ss n)) last
-    by None h = h
-    by (Some x) h = refl
+patterns_more (t ∷ ss) s n = grind (arith, patterns_more ss s n)
 
 patterns_none : (ss : List Sessions) (n : ℕ) → is_some (kept_among ss n) ≡ false → patterns_among ss n ≡ []
 patterns_none [] n h = refl
-patterns_none (t ∷ ss) n h = by (kept_in t n) h (patterns_none ss n)
-  where
-    by : (o : Option Kept) → is_some (option_or o (kept_among ss n)) ≡ false → (is_some (kept_among ss n) ≡ false → patterns_among ss n ≡ []) → cond (is_some o) (patterns_in t n) (patterns_among ss n) ≡ []
-    by None g rest = rest g
-    by (Some x) g rest = absurd (let no : true ≡ false = g in cc)
+patterns_none (t ∷ ss) n h = grind (arith, patterns_none ss n)
 
 connect_more : (placing : ℕ → ℕ → ℕ) (count k : ℕ) (ss : List Sessions) (s : Sessions) (p : ℕ) →
     lent_among placing count k (ss ++ s ∷ []) p ≡ option_or (lent_among placing count k ss p) (lent_as placing count k (known_as (connect_at s.connects p)))
 connect_more placing count k [] s p = or_none (lent_as placing count k (known_as (connect_at s.connects p)))
-connect_more placing count k (t ∷ ss) s p = by (lent_as placing count k (known_as (connect_at t.connects p))) (connect_more placing count k ss s p)
-  where
-    one : Option ConnectState
-    one = lent_as placing count k (known_as (connect_at s.connects p))
-
-    by : (o : Option ConnectState) → lent_among placing count k (ss ++ s ∷ []) p ≡ option_or (lent_among placing count k ss p) one
-        → option_or o (lent_among placing count k (ss ++ s ∷ []) p) ≡ option_or (option_or o (lent_among placing count k ss p)) one
-    by None h = h
-    by (Some x) h = refl
+connect_more placing count k (t ∷ ss) s p = grind (arith, connect_more placing count k ss s p)
 
 some_more : (q : Bool) (x y : Option Kept) → ((q && is_some y) || (q && is_some x)) ≡ (q && is_some (option_or x y))
-some_more false x y = refl
-some_more true None None = refl
-some_more true None (Some y) = refl
-some_more true (Some x) None = refl
-some_more true (Some x) (Some y) = refl
+some_more q x y = grind arith
 
 patterns_lent : (q a b : Bool) (ps before : List Glob) → (a ≡ false → before ≡ []) → cond ((q && b) && not (q && a)) ps (cond q before []) ≡ cond q (cond a before (cond b ps [])) []
-patterns_lent false a b ps before h = refl
-patterns_lent true true true ps before h = refl
-patterns_lent true true false ps before h = refl
-patterns_lent true false true ps before h = refl
-patterns_lent true false false ps before h = h refl
+patterns_lent q a b ps before h = grind arith
 
 pub lent_more : (placing : ℕ → ℕ → ℕ) (count : ℕ) (config : Config) (ss : List Sessions) (s : Sessions) (old new : List Sessions) → AreLent placing count ss config old →
     ((k n : ℕ) → is_some (kept_of new k n) ≡ ((nat_eq (placing n count) k && is_some (kept_in s n)) || is_some (kept_of old k n))) →
@@ -235,12 +162,10 @@ first_config config (s ∷ ss) all zero h = ap Some ((all 0 s (omega arith)).con
 first_config config (s ∷ ss) all (suc k) h = first_config config ss (λ i d l. all (suc i) d (omega arith)) k (omega (arith, h))
 
 nobody : (q : Bool) → false ≡ (q && false)
-nobody true = refl
-nobody false = refl
+nobody q = grind arith
 
 nothing : (q : Bool) → [] ≡ cond {A = List Glob} q [] []
-nothing true = refl
-nothing false = refl
+nothing q = grind arith
 
 pub lent_none : (placing : ℕ → ℕ → ℕ) (count : ℕ) (config : Config) (heirs : List Sessions) → length heirs ≡ count → All (IsEmptyOf config) heirs → AreLent placing count [] config heirs
 lent_none placing count config heirs many all = record {

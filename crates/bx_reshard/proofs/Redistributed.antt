@@ -1,5 +1,5 @@
 -- Shards whose sessions were redistributed.
-use Rattle.std.proofs.Common.{◌≡◌, ℕ, suc, ◌<◌, nat_eq, Bool, true, false, cond, Option, Some, None, List, [], ◌∷◌, length, get_or, map, slice_get, option_map, refl, sym, ap, ◌∙◌, subst, arith}
+use Rattle.std.proofs.Common.{◌≡◌, ℕ, suc, ◌<◌, nat_eq, Bool, true, cond, Option, Some, None, List, [], ◌∷◌, length, get_or, map, slice_get, option_map, refl, sym, ap, ◌∙◌, subst, arith}
 use Rattle.std.proofs.lemmas.List.{length-map}
 use Rattle.std.proofs.lemmas.Option.{slice_get-get_or, slice_get-map, slice_get_within}
 use Rattle.std.specs.Arc.{arc_value}
@@ -24,12 +24,10 @@ each_of_all Q [] all = tt
 each_of_all Q (s ∷ ss) all = (all 0 s (omega arith), each_of_all Q ss (λ i d l. all (suc i) d (omega arith)))
 
 counted_redistributed : (b : Bool) (n : ℕ) (o : Option Kept) (ps : List Glob) → IsCounted n o ps → IsCounted n (cond b o None) (cond b ps [])
-counted_redistributed true n o ps h = h
-counted_redistributed false n o ps h = refl
+counted_redistributed b n o ps h = grind arith
 
 formed_redistributed : (b : Bool) (o : Option Kept) (place : ℕ) → has_formed_at_most place o ≡ true → has_formed_at_most place (cond b o None) ≡ true
-formed_redistributed true o place h = h
-formed_redistributed false o place h = refl
+formed_redistributed b o place h = grind arith
 
 module _ {P : Type 0} (place_of : P → ℕ → ℕ → ℕ) where
   -- the sessions of each, and each as a state

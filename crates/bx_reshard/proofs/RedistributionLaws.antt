@@ -12,7 +12,7 @@ use Rattle.bx_entry.specs.Listing.{Listed}
 use Rattle.bx_entry.specs.Answers.{answer_of}
 use Rattle.bx_entry.specs.Keeping.{Kept, kept}
 use Rattle.bx_entry.specs.Registry.{Judged, PlaceSlot, Registered, Waiting, Ready, NoSlot, entries_of, registry}
-use Rattle.bx_entry.specs.Sessions.{Filed, Session, is_live, session, unopened}
+use Rattle.bx_entry.specs.Sessions.{Filed, Session, session, unopened}
 use Rattle.bx_connects.specs.declared.connects.ConnectState.{ConnectState}
 use Rattle.bx_connects.specs.declared.connects.ConnectState.TheVariants as states
 use Rattle.bx_connects.specs.Connects.{session_at}
@@ -21,9 +21,9 @@ use Rattle.bx_shard.specs.Refining.{Refines, IsConnectOf, IsOwn, filed_with_plac
 use Rattle.bx_shard.specs.Shards.{Setup, is_taken, live_among, sessions_in, shard_at, stands_in}
 use Rattle.bx_shard.specs.States.{State, connect_in, session_in}
 use Rattle.bx_shard.proofs.Finding.{find_kept}
-use Rattle.bx_shard.proofs.Taking.{connect_of_filed, find_of, none_taken, untaken, waits_later, waits_over}
-use Rattle.bx_shard.proofs.Untaken.{find_untaken}
-use Rattle.bx_shard.proofs.Waits.{WaitsAt}
+use Rattle.bx_shard.proofs.Taking.{connect_of_filed, none_taken, waits_later}
+use Rattle.bx_shard.proofs.Untaken.{find_of, find_untaken, untaken}
+use Rattle.bx_shard.proofs.Waits.{WaitsAt, waits_over}
 use Rattle.bx_theory.proofs.Closings.{run_number}
 use Rattle.bx_reshard.proofs.Among.{nobody}
 
@@ -72,48 +72,15 @@ there (s ∷ ss) (suc j) h = let w = there ss j (omega (arith, h)) in record { s
 
 -- ---- the sessions of the definition's shard
 
-pick_session : {X : Type 0} (a b l e : Bool) (x g : Option X) → (e ≡ true → a ≡ b) →
-    cond a (cond l (cond e x (cond b g None)) (cond b g None)) (cond b g None) ≡ cond b (cond l (cond e x g) g) None
-pick_session true true l e x g h = refl
-pick_session true false l true x g h = absurd (let no : true ≡ false = h refl in cc)
-pick_session true false true false x g h = refl
-pick_session true false false false x g h = refl
-pick_session false true l true x g h = absurd (let no : false ≡ true = h refl in cc)
-pick_session false true true false x g h = refl
-pick_session false true false false x g h = refl
-pick_session false false l e x g h = refl
-
 abbrev kept_of : ℕ → List Session → Option Kept
 kept_of m us = find_kept m (map kept (live_among us))
-
-kept_cons : (m : ℕ) (u : Session) (us : List Session) → kept_of m (u ∷ us) ≡ cond (is_live u.stage) (cond (u.number == m) (Some (kept u)) (kept_of m us)) (kept_of m us)
-kept_cons m u us =
-    (elim (is_live u.stage) as (λ l. find_kept m (map kept (cond l (u ∷ live_among us) (live_among us))) ≡ cond l (cond (u.number == m) (Some (kept u)) (kept_of m us)) (kept_of m us)) [ true ↦ refl | false ↦ refl ])
 
 -- the live session of this number is found in the shard where it stands
 found_standing : (setup : Setup) (shard m : ℕ) (es : List Entry) (rs : List Registered) →
     kept_of m (map (λ (s : Registered). session setup.config s.number es) (filter (λ (s : Registered). stands_in setup shard s.number) rs))
     ≡ cond (stands_in setup shard m) (kept_of m (map (λ (s : Registered). session setup.config s.number es) rs)) None
 found_standing setup shard m es [] = (elim (stands_in setup shard m) as (λ b. None ≡ cond {A = Option Kept} b None None) [ true ↦ refl | false ↦ refl ])
-found_standing setup shard m es (r ∷ rs) =
-    let S : Registered → Session = λ s. session setup.config s.number es in
-    let here : List Registered = filter (λ (s : Registered). stands_in setup shard s.number) rs in
-    let u : Session = session setup.config r.number es in
-    let x : Option Kept = Some (kept (session setup.config r.number es)) in
-    let g : Option Kept = kept_of m (map (λ (s : Registered). session setup.config s.number es) rs) in
-    let b : Bool = stands_in setup shard m in
-    let ih : kept_of m (map (λ (s : Registered). session setup.config s.number es) (filter (λ (s : Registered). stands_in setup shard s.number) rs)) ≡ cond (stands_in setup shard m) g None = found_standing setup shard m es rs in
-    let number : (session setup.config r.number es).number ≡ r.number = run_number setup.config (unopened r.number) es in
-    let left : kept_of m (map S (cond (stands_in setup shard r.number) (r ∷ here) here))
-    ≡ cond (stands_in setup shard r.number) (cond (is_live u.stage) (cond (u.number == m) x (cond b g None)) (cond b g None)) (cond b g None) =
-    (elim (stands_in setup shard r.number) as (λ a. kept_of m (map S (cond a (r ∷ here) here)) ≡ cond a (cond (is_live u.stage) (cond (u.number == m) x (cond b g None)) (cond b g None)) (cond b g None)) [
-      | true ↦ kept_cons m u (map S here) ∙ ap (λ o. cond (is_live u.stage) (cond (u.number == m) x o) o) ih
-      | false ↦ ih
-    ]) in
-    left
-    ∙ pick_session (stands_in setup shard r.number) (stands_in setup shard m) (is_live u.stage) (u.number == m) x g
-    (λ e. ap (stands_in setup shard) (sym number ∙ eqb-true u.number m e))
-    ∙ sym (ap (λ o. cond b o None) (kept_cons m u (map S rs)))
+found_standing setup shard m es (r ∷ rs) = grind (arith, found_standing setup shard m es rs, run_number setup.config (unopened r.number) es)
 
 -- all sessions over the first n elements, wherever they stand
 abbrev everyone : Config → List Listed → ℕ → List Session
@@ -126,14 +93,6 @@ session_found : (setup : Setup) (list : List Listed) (taken : List ℕ) (shard n
 session_found setup list taken shard n m = found_standing setup shard m (entries_of (registry setup.config (take n list))) (registry setup.config (take n list)).sessions
 
 -- ---- its answers
-
-pick_answer : {X : Type 0} (a b : Bool) (y g : Option X) → (is_some y ≡ true → a ≡ b) → cond a (option_or y (cond b g None)) (cond b g None) ≡ cond b (option_or y g) None
-pick_answer true true y g h = refl
-pick_answer true false None g h = refl
-pick_answer true false (Some x) g h = absurd (let no : true ≡ false = h refl in cc)
-pick_answer false true None g h = refl
-pick_answer false true (Some x) g h = absurd (let no : false ≡ true = h refl in cc)
-pick_answer false false y g h = refl
 
 abbrev answers_of : List Session → List Filed
 answers_of us = flat_map (λ (u : Session). u.answers) us
@@ -149,21 +108,9 @@ answers_standing setup shard p m es [] only = (elim (stands_in setup shard m) as
 answers_standing setup shard p m es (r ∷ rs) only =
     let S : Registered → Session = λ s. session setup.config s.number es in
     let here : List Registered = filter (λ (s : Registered). stands_in setup shard s.number) rs in
-    let u : Session = session setup.config r.number es in
-    let test : Filed → Bool = λ f. f.connect == p in
-    let g : Option Filed = find_of p (answers_of (map (λ (s : Registered). session setup.config s.number es) rs)) in
-    let b : Bool = stands_in setup shard m in
-    let ih : find_of p (answers_of (map (λ (s : Registered). session setup.config s.number es) (filter (λ (s : Registered). stands_in setup shard s.number) rs))) ≡ cond (stands_in setup shard m) g None =
-    answers_standing setup shard p m es rs only in
-    let left : find_of p (answers_of (map S (cond (stands_in setup shard r.number) (r ∷ here) here)))
-    ≡ cond (stands_in setup shard r.number) (option_or (find_of p u.answers) (cond b g None)) (cond b g None) =
-    (elim (stands_in setup shard r.number) as (λ a. find_of p (answers_of (map S (cond a (r ∷ here) here))) ≡ cond a (option_or (find_of p u.answers) (cond b g None)) (cond b g None)) [
-      | true ↦ find-append test u.answers (answers_of (map S here)) ∙ ap (option_or (find_of p u.answers)) ih
-      | false ↦ ih
-    ]) in
-    left
-    ∙ pick_answer (stands_in setup shard r.number) (stands_in setup shard m) (find_of p u.answers) g (λ e. ap (stands_in setup shard) (only r.number e))
-    ∙ sym (ap (λ o. cond b o None) (find-append test u.answers (answers_of (map S rs))))
+    let each = find-append (λ (f : Filed). f.connect == p) (S r).answers (answers_of (map S rs)) in
+    let standing = find-append (λ (f : Filed). f.connect == p) (S r).answers (answers_of (map S here)) in
+    grind (arith, answers_standing setup shard p m es rs only, only r.number, each, standing)
 
 -- where a slot waits for a session, that one alone answers the connect
 slot_once : (js : List Judged) (p q m : ℕ) → WaitsAt js q p → WaitsAt js m p → q ≡ m
@@ -247,17 +194,7 @@ holders_are_apart setup list taken n shards each = (alike setup list taken n sha
 -- ---- the shards after it
 
 redistributed_session : (placing : ℕ → ℕ → ℕ) (count k : ℕ) (o : Option ConnectState) (m : ℕ) → session_at (redistributed_connect placing count k o) ≡ Some m → (session_at o ≡ Some m) × ((placing m count == k) ≡ true)
-redistributed_session placing count k None m h = absurd (let no : None ≡ Some m = h in cc)
-redistributed_session placing count k (Some (states.Held session deadline waker)) m h = by (placing session count == k) refl h
-  where
-    by : (b : Bool) → (placing session count == k) ≡ b → session_at (cond b (Some (states.Held session deadline None)) None) ≡ Some m → (Some session ≡ Some m) × ((placing m count == k) ≡ true)
-    by true e g = let same : session ≡ m = cc in (g, ap (λ (q : ℕ). placing q count == k) (sym same) ∙ e)
-    by false e g = absurd (let no : None ≡ Some m = g in cc)
-redistributed_session placing count k (Some (states.Filed session place answer)) m h = by (placing session count == k) refl h
-  where
-    by : (b : Bool) → (placing session count == k) ≡ b → session_at (cond b (Some (states.Filed session place answer)) None) ≡ Some m → (Some session ≡ Some m) × ((placing m count == k) ≡ true)
-    by true e g = let same : session ≡ m = cc in (g, ap (λ (q : ℕ). placing q count == k) (sym same) ∙ e)
-    by false e g = absurd (let no : None ≡ Some m = g in cc)
+redistributed_session placing count k o m h = grind arith
 
 -- an answer that is filed is there where its session is placed
 redistributed_filed : (placing : ℕ → ℕ → ℕ) (count k m : ℕ) (o : Option ConnectState) → ((q : ℕ) → session_at o ≡ Some q → q ≡ m) →

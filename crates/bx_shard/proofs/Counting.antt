@@ -1,14 +1,13 @@
 -- An entry lets each session form one batch at most.
-use Rattle.std.proofs.Common.{◌≡◌, ◌≤◌, ◌<◌, ◌+◌, ◌&&◌, ◌==◌, ◌⊎◌, inl, inr, ℕ, nat_le, Bool, true, false, Option, Some, None, IfSome, arith, refl, sym, ap, ◌∙◌, true≢false}
+use Rattle.std.proofs.Common.{◌≡◌, ◌≤◌, ◌+◌, ℕ, nat_le, Bool, true, Option, Some, None, IfSome, arith, refl, ap, ◌∙◌}
 use Rattle.std.proofs.Math.Dec.{leb}
 use Rattle.std.proofs.lemmas.Bool.{cond_both}
-use Rattle.std.proofs.lemmas.Bool.Decides.{leb_tells}
+use Rattle.std.proofs.lemmas.Bool.Decides.{nat_tests}
 use Rattle.bx_advice.specs.declared.config.Config.{Config}
 use Rattle.bx_entry.specs.declared.entry.Entry.{Entry}
 use Rattle.bx_entry.specs.declared.entry.EntryKind.{EntryKind}
-use Rattle.bx_entry.specs.declared.entry.EntryKind.TheVariants.{Opened}
-use Rattle.bx_entry.specs.Keeping.{Kept, kept, kept_step}
-use Rattle.bx_entry.specs.Sessions.{is_live, unopened}
+use Rattle.bx_entry.specs.Keeping.{Kept, kept_step}
+use Rattle.bx_entry.specs.Sessions.{is_live}
 use Rattle.bx_session.proofs.NumberLemmas.{numbers_step}
 use Rattle.bx_shard.specs.declared.sessions.Sessions.{Sessions}
 use Rattle.bx_shard.specs.Sessions.{has_formed_at_most, kept_in}
@@ -17,25 +16,16 @@ use Rattle.bx_shard.specs.States.{if_live, opening, session_after}
 -- ---- the test
 
 passes : (a b : ℕ) → a ≤ b → nat_le a b ≡ true
-passes a b h = by (leb_tells a b)
-  where
-    by : ((leb a b ≡ true) × (a ≤ b)) ⊎ ((leb a b ≡ false) × (b < a)) → nat_le a b ≡ true
-    by (inl told) = told.0
-    by (inr told) = absurd (omega (arith, told.1, h))
+passes a b h = grind (arith, nat_tests)
 
 passed : (a b : ℕ) → nat_le a b ≡ true → a ≤ b
-passed a b h = by (leb_tells a b)
-  where
-    by : ((leb a b ≡ true) × (a ≤ b)) ⊎ ((leb a b ≡ false) × (b < a)) → a ≤ b
-    by (inl told) = told.1
-    by (inr told) = absurd (true≢false (sym h ∙ told.0))
+passed a b h = grind (arith, nat_tests)
 
 -- ---- an entry
 
 -- a session that an entry opens has formed none
 opening_none : (stands : Bool) (kind : EntryKind) (n : ℕ) → IfSome (opening stands kind n) (λ (k : Kept). k.num ≡ 0)
-opening_none stands (Opened m ack) n = cond_both ((m == n) && stands) (Some (kept (unopened m))) None (λ o. IfSome o (λ (k : Kept). k.num ≡ 0)) (λ h. refl) (λ h. tt)
-opening_none stands _ n = tt
+opening_none stands kind n = grind arith
 
 module _ (config : Config) (stands : Bool) (e : Entry) (n count : ℕ) where
   stepped_few : (k : Kept) → k.num ≤ count → has_formed_at_most (count + 1) (if_live (kept_step config k e)) ≡ true
@@ -45,16 +35,7 @@ module _ (config : Config) (stands : Bool) (e : Entry) (n count : ℕ) where
       cond_both (is_live l.stage) (Some l) None (λ o. has_formed_at_most (count + 1) o ≡ true) (λ h. passes l.num (count + 1) (omega (arith, few, more))) (λ h. refl)
 
   opened_few : (o : Option Kept) → IfSome o (λ (k : Kept). k.num ≡ 0) → opening stands e.kind n ≡ o → has_formed_at_most (count + 1) (session_after config stands e n None) ≡ true
-  opened_few None none is = ap (λ o. has_formed_at_most (count + 1) (session_of o)) is
-    where
-      session_of : Option Kept → Option Kept
-      session_of None = None
-      session_of (Some k) = if_live (kept_step config k e)
-  opened_few (Some k) none is = ap (λ o. has_formed_at_most (count + 1) (session_of o)) is ∙ stepped_few k (omega (arith, none))
-    where
-      session_of : Option Kept → Option Kept
-      session_of None = None
-      session_of (Some j) = if_live (kept_step config j e)
+  opened_few o none is = grind arith
 
   after_few : (o : Option Kept) → has_formed_at_most count o ≡ true → has_formed_at_most (count + 1) (session_after config stands e n o) ≡ true
   after_few None few = opened_few (opening stands e.kind n) (opening_none stands e.kind n) refl

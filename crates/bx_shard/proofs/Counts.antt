@@ -1,6 +1,6 @@
 -- Sessions stand with their patterns, whatever a change does.
-use Rattle.std.proofs.Common.{◌≡◌, ℕ, nat_eq, Bool, true, false, cond, Option, Some, None, option_map, List, [], ◌∷◌, length, fold, nat_lt, refl, sym, ◌∙◌, subst}
-use Rattle.std.proofs.lemmas.Bool.{cond_both, eqb-true, both_ways}
+use Rattle.std.proofs.Common.{arith, ◌≡◌, ℕ, nat_eq, true, false, cond, Option, Some, None, option_map, List, [], ◌∷◌, length, fold, nat_lt, refl, sym, ◌∙◌}
+use Rattle.std.proofs.lemmas.Bool.{cond_both, both_ways}
 use Rattle.bx_names.specs.Globs.{Glob}
 use Rattle.bx_names.specs.InForce.{with_pattern}
 use Rattle.bx_advice.specs.declared.config.Config.{Config}
@@ -12,11 +12,7 @@ use Rattle.bx_shard.specs.Sessions.{IsCounted, IsOwn}
 
 -- what is counted of one session is counted of all, where the others are as they were
 pub counts_along : (S T : ℕ → Option Kept) (P : ℕ → List Glob) (m : ℕ) (after : Option Kept) → ((n : ℕ) → IsCounted n (S n) (P n)) → ((n : ℕ) → T n ≡ cond (nat_eq m n) after (S n)) → IsCounted m after (P m) → (n : ℕ) → IsCounted n (T n) (P n)
-counts_along S T P m after counted on own n = subst (λ o. IsCounted n o (P n)) (sym (on n)) (by (nat_eq m n) refl)
-  where
-    by : (b : Bool) → b ≡ nat_eq m n → IsCounted n (cond b after (S n)) (P n)
-    by true e = subst (λ k. IsCounted k after (P k)) (eqb-true m n (sym e)) own
-    by false e = counted n
+counts_along S T P m after counted on own n = grind arith
 
 -- ---- changes that leave the patterns
 

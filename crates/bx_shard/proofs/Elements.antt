@@ -15,7 +15,7 @@ use Rattle.bx_entry.specs.Listing as messages
 use Rattle.bx_entry.specs.declared.entry.Entry.{Entry}
 use Rattle.bx_entry.specs.declared.entry.EntryKind.{EntryKind}
 use Rattle.bx_entry.specs.declared.entry.EntryKind.TheVariants.{Opened, Subscribe, Unsubscribe, Publish}
-use Rattle.bx_entry.specs.Registry.{due_of, Registry, Registered, Judged, judge, judged_by, kind_for, left_by, extended, swept, overdue, is_overdue, named_by, refusal, hold_of, registry, empty_registry, entries_of, entries, unnamed, sessionless_kind, PlaceSlot, Ready, Waiting, NoSlot, is_rider, rider_for, slot_for, noted, state_of}
+use Rattle.bx_entry.specs.Registry.{due_of, Registry, Registered, Judged, judge, judged_by, kind_for, left_by, extended, swept, overdue, is_overdue, named_by, refusal, hold_of, registry, empty_registry, entries_of, entries, unnamed, sessionless_kind, PlaceSlot, is_rider, rider_for, slot_for, noted, state_of}
 use Rattle.bx_entry.specs.declared.entry.Rider.{Rider}
 use Rattle.bx_entry.specs.Sessions.{Session, ended, ridden, ridden_by, rider_of, step_by, step, unopened, session}
 use Rattle.bx_shard.proofs.Rides.{rider_of_none}
@@ -44,7 +44,7 @@ left_same _ number rs = refl
 extended_same : (number due : ℕ) (rs : List Registered) → numbers (extended number due rs) ≡ numbers rs
 extended_same number due rs = numbers_through (λ s. cond (s.number == number) (record s { due = max s.due due }) s) rs (λ s. let t : Registered = record s { due = max s.due due } in cond_both (s.number == number) t s (λ (u : Registered). u.number ≡ s.number) (λ e. refl) (λ e. refl))
 
-swept_same : (now : ℕ) (rs : List Registered) → numbers (swept now rs) ≡ numbers rs
+pub swept_same : (now : ℕ) (rs : List Registered) → numbers (swept now rs) ≡ numbers rs
 swept_same now rs = numbers_through (λ s. cond (is_overdue now s) (record s { live = false }) s) rs (λ s. let t : Registered = record s { live = false } in cond_both (is_overdue now s) t s (λ (u : Registered). u.number ≡ s.number) (λ e. refl) (λ e. refl))
 
 -- ---- one element
@@ -61,7 +61,7 @@ pub record Adds (config : Config) (r t : Registry) : Type 0 where
 same_length : (rs ts : List Registered) → numbers ts ≡ numbers rs → length ts ≡ length rs
 same_length rs ts e = sym (length-map ts (λ (r : Registered). r.number)) ∙ ap length e ∙ length-map rs (λ (r : Registered). r.number)
 
-served_sessions : (c : MessageKind) (number due : ℕ) (rs : List Registered) → numbers (left_by c number (extended number due rs)) ≡ numbers rs
+pub served_sessions : (c : MessageKind) (number due : ℕ) (rs : List Registered) → numbers (left_by c number (extended number due rs)) ≡ numbers rs
 served_sessions c number due rs = left_same c number (extended number due rs) ∙ extended_same number due rs
 
 no_opening : (c : MessageKind) (p : Posted) (q : Registered) (hold : ℕ) → opened_numbers (kind_for c p q hold) ≡ []
@@ -73,10 +73,7 @@ not_opened n MessageKind.Handshake p q hold = refl
 not_opened n _ p q hold = refl
 
 served_fresh : (config : Config) (place moment : ℕ) (c : MessageKind) (p : Posted) (q : Registered) (hold n : ℕ) → (q.number == n) ≡ false → step_by config place moment (unopened n) (kind_for c p q hold) ≡ unopened n
-served_fresh config place moment MessageKind.Handshake p q hold n h = refl
-served_fresh config place moment MessageKind.Publish p q hold n h = refl
-served_fresh config place moment MessageKind.UnknownMeta p q hold n h = refl
-served_fresh config place moment _ p q hold n h = cond-false (q.number == n) _ (unopened n) h
+served_fresh config place moment c p q hold n h = grind arith
 
 -- a message of no session opens none
 sessionless_none : (c : MessageKind) (m : Message) → opened_numbers (sessionless_kind c m) ≡ []
@@ -97,10 +94,7 @@ RiderIs number None = Unit {0}
 RiderIs number (Some rider) = rider.session ≡ number
 
 rider_is : (b : Bool) (number : ℕ) (slot : PlaceSlot) → RiderIs number (rider_for b number slot)
-rider_is true number (Ready reply) = refl
-rider_is true number (Waiting session) = tt
-rider_is true number NoSlot = tt
-rider_is false number slot = tt
+rider_is b number slot = grind arith
 
 ridden_other : (config : Config) (place n number : ℕ) → (number == n) ≡ false → (rides : Option Rider) → RiderIs number rides → (s : Session) → s ≡ unopened n → ridden_by config place s rides ≡ unopened n
 ridden_other config place n number other None own s is = is

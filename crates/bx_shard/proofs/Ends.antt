@@ -1,6 +1,7 @@
 -- Each change of a session ends its hold with the answer that it gives, or leaves the hold.
-use Rattle.std.proofs.Common.{◌≡◌, ◌⊎◌, inl, inr, ℕ, nat_eq, Bool, true, false, cond, ◌&&◌, Option, Some, None, option_map, List, [], ◌∷◌, ◌++◌, map, length, ◌==◌, refl, sym, ap, ◌∙◌}
-use Rattle.std.proofs.lemmas.Bool.{cond_both, eqb-true}
+use Rattle.std.proofs.Common.{arith, Contains, subst, ◌≡◌, ◌⊎◌, inl, inr, ℕ, nat_eq, Bool, cond, ◌&&◌, Option, Some, None, option_map, List, [], ◌∷◌, ◌++◌, map, length, ◌==◌, refl, sym, ap, ◌∙◌}
+use Rattle.std.specs.Option.{option_and_then}
+use Rattle.std.proofs.lemmas.Bool.{cond_both, eq-eqb}
 use Rattle.bx_advice.specs.declared.config.Config.{Config}
 use Rattle.bx_advice.specs.declared.advice.Outcome.{Outcome}
 use Rattle.bx_advice.specs.declared.advice.Outcome.TheVariants.{Connected, Disconnected, Failed}
@@ -11,13 +12,15 @@ use Rattle.bx_entry.specs.Sessions.{Pending, Publication, Session, acknowledged,
 use Rattle.bx_entry.specs.Sessions as sessions
 use Rattle.bx_entry.specs.Windows.{acknowledges, forms}
 use Rattle.bx_session.specs.declared.answered.Answered.{Answered}
-use Rattle.bx_session.specs.Views.{answered_of}
+use Rattle.bx_session.specs.Views.{answered_of, deadline_of}
 use Rattle.bx_connects.specs.declared.connects.ConnectState.{ConnectState}
-use Rattle.bx_connects.specs.declared.connects.ConnectState.TheVariants.{Held, Filed}
-use Rattle.bx_connects.specs.Connects.{filed_as}
+use Rattle.bx_connects.specs.declared.connects.ConnectState.TheVariants.{Filed}
+use Rattle.bx_connects.specs.Connects.{filed_as, session_at}
 use Rattle.bx_shard.specs.Effects.{answers_by, filing_each, forgetting, held_in}
 use Rattle.bx_shard.specs.Sessions.{ends_for, held_until, holds_until}
-use Rattle.bx_shard.proofs.Ties.{Agree, IsFree, IsNobody, ended, still}
+use Rattle.bx_shard.proofs.Keeps.{filed_known, held_session}
+use Rattle.bx_shard.proofs.Singles.{nowhere, only_one}
+use Rattle.bx_shard.proofs.Ties.{Agree, IsFree, IsNobody, ended, holds_own, still}
 
 -- an answer ends the hold of the session
 pub record IsEnd (before after : Option Kept) (answers : List Answered) : Type 0 where
@@ -38,20 +41,46 @@ pub record IsKept (before after : Option Kept) (answers : List Answered) : Type 
 abbrev pub Settles : Option Kept → Option Kept → List Answered → Type 0
 Settles before after answers = IsEnd before after answers ⊎ IsKept before after answers
 
+-- an answer that is given is the only one, and is to the connect that the session held
+pub record IsTo (before : Option Kept) (answers : List Answered) (a : Answered) : Type 0 where
+  pub session : Kept
+  pub hold : Pending
+  pub here : before ≡ Some session
+  pub held : session.held ≡ Some hold
+  pub only : answers ≡ a ∷ []
+  pub own : a.place ≡ hold.place
+
+pub is_to : (before after : Option Kept) (answers : List Answered) (a : Answered) → Settles before after answers → Contains answers a → IsTo before answers a
+is_to before after answers a (inl end) there =
+    let same : end.answer ≡ a = only_one end.answer a (subst (λ given. Contains given a) end.given there) in
+    record { session = end.session; hold = end.hold; here = end.here; held = end.held; only = end.given ∙ ap (λ x. x ∷ []) same; own = ap (λ (x : Answered). x.place) (sym same) ∙ end.own }
+is_to before after answers a (inr stays) there = absurd (nowhere a (subst (λ given. Contains given a) stays.none there))
+
+pub to_hold : (before : Option Kept) (answers : List Answered) (a : Answered) (to : IsTo before answers a) → option_and_then (λ (k : Kept). k.held) before ≡ Some to.hold
+to_hold before answers a to = ap (λ (o : Option Kept). option_and_then (λ (k : Kept). k.held) o) to.here ∙ to.held
+
+-- so that connect is known as held
+pub held_to : (C : ℕ → Option ConnectState) (S : ℕ → Option Kept) (n : ℕ) (answers : List Answered) (a : Answered) → Agree C S → (to : IsTo (S n) answers a) → held_until (C a.place) n ≡ Some (deadline_of to.hold)
+held_to C S n answers a agree to = agree a.place n ∙ ap (λ o. holds_until o a.place) to.here ∙ ap (holds_until (Some to.session)) to.own ∙ holds_own to.session to.hold to.held
+
+-- the only answer is filed, where its connect is known
+pub filed_only : (place n : ℕ) (answers : List Answered) (a : Answered) (C : ℕ → Option ConnectState) → answers ≡ a ∷ [] → session_at (C a.place) ≡ Some n → filing_each place answers C a.place ≡ Some (Filed n place a.answer)
+filed_only place n answers a C only known =
+    ap (λ given. filing_each place given C a.place) only
+    ∙ ap (λ b. cond b (filed_as place a.answer (C a.place)) (C a.place)) (eq-eqb a.place a.place refl)
+    ∙ filed_known place n a.answer (C a.place) known
+
+pub filed_to : (C : ℕ → Option ConnectState) (S : ℕ → Option Kept) (place n : ℕ) (answers : List Answered) (a : Answered) → Agree C S → IsTo (S n) answers a → filing_each place answers C a.place ≡ Some (Filed n place a.answer)
+filed_to C S place n answers a agree to = filed_only place n answers a C to.only (held_session (C a.place) n (deadline_of to.hold) (held_to C S n answers a agree to))
+
 -- ---- what is filed or forgotten
 
 nobody_filed : (place : ℕ) (a : Answer) (o : Option ConnectState) → IsNobody (filed_as place a o)
-nobody_filed place a None n = refl
-nobody_filed place a (Some (Held session deadline waker)) n = refl
-nobody_filed place a (Some (Filed session earlier replaced)) n = refl
+nobody_filed place a o n = grind arith
 
 module _ (C D : ℕ → Option ConnectState) (S T : ℕ → Option Kept) (m : ℕ) (after : Option Kept) where
   pub kept_sessions : (answers : List Answered) → ((n : ℕ) → T n ≡ cond (nat_eq m n) after (S n)) → IsKept (S m) after answers → (n p : ℕ) → holds_until (T n) p ≡ holds_until (S n) p
-  kept_sessions answers on kept n p = ap (λ o. holds_until o p) (on n) ∙ by (nat_eq m n) refl
-    where
-      by : (b : Bool) → b ≡ nat_eq m n → holds_until (cond b after (S n)) p ≡ holds_until (S n) p
-      by true e = kept.same p ∙ ap (λ k. holds_until (S k) p) (eqb-true m n (sym e))
-      by false e = refl
+  kept_sessions answers on kept n p = grind arith
 
   pub filing_agrees : (answers : List Answered) (place : ℕ) → Agree C S → ((n : ℕ) → T n ≡ cond (nat_eq m n) after (S n)) → ((p : ℕ) → D p ≡ filing_each place answers C p) → Settles (S m) after answers → Agree D T
   filing_agrees answers place agree on at (inl end) =
@@ -160,19 +189,12 @@ module _ (config : Config) (p : Pending) (k : Kept) (free : k.held ≡ None) whe
 
 -- ---- the changes of a session that is here or not
 
+pub settles_each : (change : Session → Session) → ((k : Kept) → From k (change (resumed k))) → (o : Option Kept) → Settles o (option_map (after change) o) (answers_by change o)
+settles_each change each o = grind arith
+
 pub tick_settles : (config : Config) (place moment : ℕ) (o : Option Kept) → Settles o (option_map (after (expired config place moment)) o) (answers_by (expired config place moment) o)
-tick_settles config place moment None = inr (record { none = refl; same = λ p. refl })
-tick_settles config place moment (Some k) = expired_e config place moment k
+tick_settles config place moment = settles_each (expired config place moment) (expired_e config place moment)
 
 -- the end of the session
 pub release_settles : (config : Config) (place : ℕ) (o : Option Kept) → Settles o None (answers_by (released config place Disconnected) o)
-release_settles config place None = inr (record { none = refl; same = λ p. refl })
-release_settles config place (Some k) = by (released_e config place Disconnected k) (freed k.held refl)
-  where
-    freed : (held : Option Pending) → k.held ≡ held → (released_from config place Disconnected (resumed k) held).held ≡ None
-    freed None e = e
-    freed (Some q) e = refl
-
-    by : From k (released config place Disconnected (resumed k)) → (released config place Disconnected (resumed k)).held ≡ None → Settles (Some k) None (answers_by (released config place Disconnected) (Some k))
-    by (inl end) none = inl (record { session = end.session; hold = end.hold; answer = end.answer; here = end.here; held = end.held; given = end.given; own = end.own; free = λ p. refl })
-    by (inr kept) none = inr (record { none = kept.none; same = λ p. sym (ap (λ h. ends_for h p) none) ∙ kept.same p })
+release_settles config place o = grind arith

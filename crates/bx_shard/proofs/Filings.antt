@@ -1,5 +1,5 @@
 -- What a shard has filed after one more entry.
-use Rattle.std.proofs.Common.{◌≡◌, ℕ, ◌+◌, ◌<◌, Bool, false, Option, Some, None, List, [], ◌∷◌, ◌++◌, length, take, map, filter, ◌==◌, refl, sym, ap, ◌∙◌, subst, arith, append-nil, find, flat_map, length-append, eqb-true}
+use Rattle.std.proofs.Common.{◌≡◌, ℕ, ◌+◌, ◌<◌, Bool, false, Option, Some, None, List, [], ◌∷◌, ◌++◌, length, take, filter, ◌==◌, refl, sym, ap, ◌∙◌, arith, append-nil, find, flat_map, length-append}
 use Rattle.std.proofs.lemmas.Bool.{cond_both, cond-true, cond-false}
 use Rattle.std.proofs.lemmas.List.Elements.{filter-append}
 use Rattle.bx_lists.proofs.Tests.{either}
@@ -15,79 +15,48 @@ use Rattle.bx_shard.specs.Shards.{Setup, stands_in, is_taken, shard_at, sessions
 use Rattle.bx_theory.proofs.Kept.{kept_steps}
 use Rattle.std.specs.Option.{option_or}
 use Rattle.std.proofs.lemmas.Grind.{flat_map-append}
-use Rattle.std.proofs.lemmas.List.Folds.{find-append}
+use Rattle.std.proofs.lemmas.List.Folds.{find-append, flat_map-map}
 use Rattle.bx_shard.specs.Steps.{answers_by, ShardsFile}
-use Rattle.bx_theory.proofs.Lists.{find_each, find_true}
 use Rattle.bx_theory.proofs.Closings.{idle_next}
-use Rattle.bx_shard.proofs.Waits.{WaitsAt, answered_waits}
-use Rattle.bx_shard.proofs.Untaken.{find_untaken}
+use Rattle.bx_shard.proofs.Waits.{waits_over}
+use Rattle.bx_shard.proofs.Untaken.{FoundBy, find_of, find_untaken, found_by}
 use Rattle.bx_shard.proofs.Elements.{numbers, opened_numbers, Adds, next_is, session_next, all_fresh, opens_above, Met, met}
 use Rattle.bx_shard.proofs.Stepping.{by_numbers, held_by, one_kept, held_cons, numbers_in, held_over, held_at}
 
 abbrev Answers : Type 0
 Answers = ℕ → List Filed
 
--- the first of some answers is that of one session
-record FoundBy (test : Filed → Bool) (A : Answers) (g : Filed) : Type 0 where
-  number : ℕ
-  found : find test (A number) ≡ Some g
-
-found_by : (test : Filed → Bool) (A : Answers) (ns : List ℕ) (g : Filed) → find test (flat_map A ns) ≡ Some g → FoundBy test A g
-found_by test A [] g e = cc
-found_by test A (n ∷ ns) g e =
-    let P : Option Filed → Type 0 = λ o. find test (A n) ≡ o → option_or o (find test (flat_map A ns)) ≡ Some g → FoundBy test A g in
-    let at_none : P None = λ h d. found_by test A ns g d in
-    let at_some : (k : Filed) → P (Some k) = λ k h d. record { number = n; found = h ∙ d } in
-    (elim (find test (A n)) as P [ None ↦ at_none | Some k ↦ at_some k ]) refl (sym (find-append test (A n) (flat_map A ns)) ∙ e)
-
 exchange : (a b c d : Option Filed) → ((f g : Filed) → a ≡ None → b ≡ Some f → c ≡ Some g → ⊥) → option_or (option_or a b) (option_or c d) ≡ option_or (option_or a c) (option_or b d)
-exchange (Some f) b c d h = refl
-exchange None (Some f) None d h = refl
-exchange None (Some f) (Some g) d h = absurd (h f g refl refl refl)
-exchange None None c d h = refl
+exchange a b c d h = grind arith
 
 -- earlier answers come first, where only one session has an answer at all
-earlier_first : (test : Filed → Bool) (A B C : Answers) (ns : List ℕ) → ((n : ℕ) → C n ≡ A n ++ B n) → ((n m : ℕ) (f g : Filed) → find test (C n) ≡ Some f → find test (C m) ≡ Some g → n ≡ m) →
-    find test (flat_map C ns) ≡ option_or (find test (flat_map A ns)) (find test (flat_map B ns))
-earlier_first test A B C [] split one = refl
-earlier_first test A B C (n ∷ ns) split one =
-    let parts : (m : ℕ) → find test (C m) ≡ option_or (find test (A m)) (find test (B m)) = λ m. ap (find test) (split m) ∙ find-append test (A m) (B m) in
-    let apart : (f g : Filed) → find test (A n) ≡ None → find test (B n) ≡ Some f → find test (flat_map A ns) ≡ Some g → ⊥ =
+earlier_first : (place : ℕ) (A B C : Answers) (ns : List ℕ) → ((n : ℕ) → C n ≡ A n ++ B n) → ((n m : ℕ) (f g : Filed) → find_of place (C n) ≡ Some f → find_of place (C m) ≡ Some g → n ≡ m) →
+    find_of place (flat_map C ns) ≡ option_or (find_of place (flat_map A ns)) (find_of place (flat_map B ns))
+earlier_first place A B C [] split one = refl
+earlier_first place A B C (n ∷ ns) split one =
+    let parts : (m : ℕ) → find_of place (C m) ≡ option_or (find_of place (A m)) (find_of place (B m)) = λ m. ap (find_of place) (split m) ∙ find-append (λ (f : Filed). f.connect == place) (A m) (B m) in
+    let apart : (f g : Filed) → find_of place (A n) ≡ None → find_of place (B n) ≡ Some f → find_of place (flat_map A ns) ≡ Some g → ⊥ =
     λ f g x y z.
-    let w : FoundBy test A g = found_by test A ns g z in
-    let mine : find test (C n) ≡ Some f = parts n ∙ ap (λ (o : Option Filed). option_or o (find test (B n))) x ∙ y in
-    let other : find test (C w.number) ≡ Some g = parts w.number ∙ ap (λ (o : Option Filed). option_or o (find test (B w.number))) w.found in
-    let same : n ≡ w.number = one n w.number f g mine other in
-    (let no : None ≡ Some g = sym x ∙ ap (λ (m : ℕ). find test (A m)) same ∙ w.found in cc) in
-    find-append test (C n) (flat_map C ns)
-    ∙ ap (λ (o : Option Filed). option_or o (find test (flat_map C ns))) (parts n)
-    ∙ ap (option_or (option_or (find test (A n)) (find test (B n)))) (earlier_first test A B C ns split one)
-    ∙ exchange (find test (A n)) (find test (B n)) (find test (flat_map A ns)) (find test (flat_map B ns)) apart
-    ∙ ap (λ (o : Option Filed). option_or o (option_or (find test (B n)) (find test (flat_map B ns)))) (sym (find-append test (A n) (flat_map A ns)))
-    ∙ ap (option_or (find test (A n ++ flat_map A ns))) (sym (find-append test (B n) (flat_map B ns)))
-
-none_or : (o : Option Filed) → option_or o None ≡ o
-none_or None = refl
-none_or (Some f) = refl
-
-through : (g : ℕ → Session) (ns : List ℕ) → flat_map (λ (s : Session). s.answers) (map g ns) ≡ flat_map (λ (n : ℕ). (g n).answers) ns
-through g [] = refl
-through g (n ∷ ns) = ap (λ (fs : List Filed). (g n).answers ++ fs) (through g ns)
+    let w : FoundBy (λ m. Unit {0}) A place g = found_by (λ m. Unit {0}) A place g ns (λ i d l. tt) z in
+    let mine : find_of place (C n) ≡ Some f = parts n ∙ ap (λ (o : Option Filed). option_or o (find_of place (B n))) x ∙ y in
+    let other : find_of place (C w.one) ≡ Some g = parts w.one ∙ ap (λ (o : Option Filed). option_or o (find_of place (B w.one))) w.found in
+    let same : n ≡ w.one = one n w.one f g mine other in
+    (let no : None ≡ Some g = sym x ∙ ap (λ (m : ℕ). find_of place (A m)) same ∙ w.found in cc) in
+    find-append (λ (f : Filed). f.connect == place) (C n) (flat_map C ns)
+    ∙ ap (λ (o : Option Filed). option_or o (find_of place (flat_map C ns))) (parts n)
+    ∙ ap (option_or (option_or (find_of place (A n)) (find_of place (B n)))) (earlier_first place A B C ns split one)
+    ∙ exchange (find_of place (A n)) (find_of place (B n)) (find_of place (flat_map A ns)) (find_of place (flat_map B ns)) apart
+    ∙ ap (λ (o : Option Filed). option_or o (option_or (find_of place (B n)) (find_of place (flat_map B ns)))) (sym (find-append (λ (f : Filed). f.connect == place) (A n) (flat_map A ns)))
+    ∙ ap (option_or (find_of place (A n ++ flat_map A ns))) (sym (find-append (λ (f : Filed). f.connect == place) (B n) (flat_map B ns)))
 
 nothing_more : (xs ys : List Filed) → xs ≡ xs ++ ys → ys ≡ []
 nothing_more xs [] e = refl
 nothing_more xs (y ∷ ys) e = absurd (let l : length xs ≡ length (xs ++ y ∷ ys) = ap length e in omega (arith, l, length-append xs (y ∷ ys)))
 
 -- only the session that the connect's slot waits for has an answer to it
-waiter : (config : Config) (zs : List Listed) (n place : ℕ) (f : Filed) → find (λ (g : Filed). g.connect == place) (session config n (entries_of (registry config zs))).answers ≡ Some f → WaitsAt (registry config zs).judged n place
-waiter config zs n place f e =
-    let test : Filed → Bool = λ g. g.connect == place in
-    let s : Session = session config n (entries_of (registry config zs)) in
-    subst (WaitsAt (registry config zs).judged n) (eqb-true f.connect place (find_true test s.answers f e)) (find_each (λ g. WaitsAt (registry config zs).judged n g.connect) test s.answers f e (answered_waits config n zs).answers)
-
 one_waiter : (config : Config) (zs : List Listed) (place n m : ℕ) (f g : Filed) → find (λ (h : Filed). h.connect == place) (session config n (entries_of (registry config zs))).answers ≡ Some f →
     find (λ (h : Filed). h.connect == place) (session config m (entries_of (registry config zs))).answers ≡ Some g → n ≡ m
-one_waiter config zs place n m f g x y = let both : Some (Waiting n) ≡ Some (Waiting m) = sym (waiter config zs n place f x) ∙ waiter config zs m place g y in cc
+one_waiter config zs place n m f g x y = let both : Some (Waiting n) ≡ Some (Waiting m) = sym (waits_over config n place zs f x) ∙ waits_over config m place zs g y in cc
 
 -- a session that the entry opens has no answers
 opened_nothing : (config : Config) (setup : Setup) (shard : ℕ) (ys : List Listed) (x : Listed) (k : EntryKind) → (a : Adds config (registry config ys) (judge config (registry config ys) x)) → a.found.entry.kind ≡ k →
@@ -150,7 +119,7 @@ filed_next setup shard place ys x room a =
     ∙ ap (find test) (flat_map-append C (filter here ns) (filter here ms))
     ∙ ap (λ (fs : List Filed). find test (flat_map C (filter here ns) ++ fs)) (opened_nothing config setup shard ys x e.kind a refl)
     ∙ ap (find test) (append-nil (flat_map C (filter here ns)))
-    ∙ earlier_first test A B C (filter here ns) split (λ n m f g p q. one_waiter config (ys ++ x ∷ []) place n m f g p q)
+    ∙ earlier_first place A B C (filter here ns) split (λ n m f g p q. one_waiter config (ys ++ x ∷ []) place n m f g p q)
     ∙ ap (λ (fs : List Filed). option_or (find test (flat_map A (filter here ns))) (find test fs)) (live_answers config ys x (filter here ns) room a)
 
 -- what is found among those that weren't taken is found among all
@@ -161,7 +130,7 @@ filed_at setup list taken shard n place free =
     let r : Registry = registry setup.config (take n list) in
     find_untaken taken place (flat_map (λ (s : Session). s.answers) (sessions_in setup list shard n)) free
     ∙ ap (λ (ss : List Session). find test (flat_map (λ (s : Session). s.answers) ss)) (by_numbers setup.config setup shard (entries_of r) r.sessions)
-    ∙ ap (find test) (through (λ n. session setup.config n (entries_of r)) (numbers_in setup shard (take n list)))
+    ∙ ap (find test) (flat_map-map (λ (s : Session). s.answers) (λ n. session setup.config n (entries_of r)) (numbers_in setup shard (take n list)))
 
 -- ---- the law
 

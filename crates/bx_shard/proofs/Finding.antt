@@ -1,5 +1,5 @@
 -- Sessions found by their numbers, and answers found by the places of their connects.
-use Rattle.std.proofs.Common.{◌≡◌, ℕ, suc, ◌<◌, false, cond, Option, Some, None, List, [], ◌∷◌, map, filter, find, flat_map, ◌==◌, refl, sym, ap, ◌∙◌, subst, arith, eqb-true, eq-eqb, ne_eqb}
+use Rattle.std.proofs.Common.{◌≡◌, ℕ, suc, ◌<◌, false, cond, Option, Some, None, List, [], ◌∷◌, map, filter, find, flat_map, ◌==◌, refl, sym, ap, ◌∙◌, subst, arith, eqb-true, eq-eqb}
 use Rattle.std.proofs.lemmas.Bool.{cond_both, cond-true, cond-false}
 use Rattle.std.proofs.lemmas.List.Elements.{All-cons, All-nil, Contains-append_left, Contains-append_right}
 use Rattle.std.proofs.lemmas.List.Folds.{find-append}
@@ -17,7 +17,8 @@ use Rattle.bx_session.specs.declared.answered.Answered.{Answered}
 use Rattle.bx_session.specs.Views.{answered_of}
 use Rattle.bx_session.specs.Filing.{filed_as, filed_at}
 use Rattle.bx_shard.specs.Refining.{placed}
-use Rattle.bx_shard.proofs.Taking.{find_of}
+use Rattle.bx_shard.proofs.Cases.{by_option}
+use Rattle.bx_shard.proofs.Untaken.{find_of}
 
 -- ---- numbers
 
@@ -52,7 +53,7 @@ find_kept m ks = find (λ (k : Kept). k.number == m) ks
 
 none_above : (m : ℕ) (ks : List Kept) → Above m (numbers_of ks) → find_kept m ks ≡ None
 none_above m [] h = refl
-none_above m (k ∷ ks) h = cond-false (k.number == m) (Some k) (find_kept m ks) (ne_eqb k.number m (λ e. omega (arith, e, h.0))) ∙ none_above m ks h.1
+none_above m (k ∷ ks) h = grind (arith, none_above m ks h.1, h.0)
 
 -- what is found has the number, and all that holds of each
 pub found_each : (P : Kept → Type 0) (m : ℕ) (ks : List Kept) (k : Kept) → find_kept m ks ≡ Some k → All P ks → P k × (k.number ≡ m)
@@ -96,8 +97,7 @@ steps_found config e m (k ∷ ks) d h =
 -- ---- answers
 
 or_none : (a b : Option Filed) → option_or a b ≡ None → (a ≡ None) × (b ≡ None)
-or_none None b h = (refl, h)
-or_none (Some f) b h = absurd (let no : Some f ≡ None = h in cc)
+or_none a b h = grind arith
 
 -- where none is found, no session has one
 pub each_none : (A : Kept → List Filed) (p : ℕ) (ks : List Kept) → find_of p (flat_map A ks) ≡ None → All (λ k. find_of p (A k) ≡ None) ks
@@ -121,16 +121,16 @@ pub record GivenBy (A : Kept → List Filed) (ks : List Kept) (p : ℕ) (f : Fil
 pub given_by : (A : Kept → List Filed) (ks : List Kept) (p : ℕ) (f : Filed) → Apart (numbers_of ks) → find_of p (flat_map A ks) ≡ Some f → GivenBy A ks p f
 given_by A [] p f d h = absurd (let no : None ≡ Some f = h in cc)
 given_by A (k ∷ ks) p f d h =
-    let P : Option Filed → Type 0 = λ o. find_of p (A k) ≡ o → option_or o (find_of p (flat_map A ks)) ≡ Some f → GivenBy A (k ∷ ks) p f in
-    let at_none : P None = λ a b.
+    by_option (λ o. option_or o (find_of p (flat_map A ks)) ≡ Some f → GivenBy A (k ∷ ks) p f) (find_of p (A k))
+    (λ a b.
     let g : GivenBy A ks p f = given_by A ks p f d.1 b in
     let other : (k.number == g.one.number) ≡ false =
     either (k.number == g.one.number) ((k.number == g.one.number) ≡ false)
     (λ t. absurd (let no : None ≡ Some g.one = sym (none_above g.one.number ks (subst (λ (n : ℕ). Above n (numbers_of ks)) (eqb-true k.number g.one.number t) d.0)) ∙ g.found in cc))
     (λ n. n) in
-    record { one = g.one; found = cond-false (k.number == g.one.number) (Some k) (find_kept g.one.number ks) other ∙ g.found; gives = g.gives } in
-    let at_some : (g : Filed) → P (Some g) = λ g a b. record { one = k; found = cond-true (k.number == k.number) (Some k) (find_kept k.number ks) (eq-eqb k.number k.number refl); gives = a ∙ b } in
-    (elim (find_of p (A k)) as P [ None ↦ at_none | Some g ↦ at_some g ]) refl (sym (find-append (λ (g : Filed). g.connect == p) (A k) (flat_map A ks)) ∙ h)
+    record { one = g.one; found = cond-false (k.number == g.one.number) (Some k) (find_kept g.one.number ks) other ∙ g.found; gives = g.gives })
+    (λ g a b. record { one = k; found = cond-true (k.number == k.number) (Some k) (find_kept k.number ks) (eq-eqb k.number k.number refl); gives = a ∙ b })
+    (sym (find-append (λ (g : Filed). g.connect == p) (A k) (flat_map A ks)) ∙ h)
 
 -- what is found is one of them
 pub contains_found : (p : ℕ) (fs : List Filed) (f : Filed) → find_of p fs ≡ Some f → Contains (map answered_of fs) (answered_of f)

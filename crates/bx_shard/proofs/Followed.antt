@@ -1,37 +1,35 @@
 -- What each kind of entry does to the sessions of a shard, from what the calls promise.
-use Rattle.std.proofs.Common.{Contains, arith, ◌≡◌, ◌≢◌, ◌&&◌, ◌⊎◌, inl, inr, ℕ, nat_eq, ◌==◌, Bool, true, false, cond, Option, Some, None, option_map, is_none, is_some, List, [], ◌∷◌, ◌++◌, map, refl, sym, ap, ◌∙◌, true≢false, subst}
+use Rattle.std.proofs.Common.{arith, Contains, ◌≡◌, ◌≢◌, ◌&&◌, ◌⊎◌, inl, inr, ℕ, nat_eq, ◌==◌, Bool, true, false, cond, Option, Some, None, option_map, is_none, is_some, List, [], map, refl, sym, ap, ◌∙◌, true≢false, subst}
 use Rattle.std.specs.List.{list_any}
 use Rattle.std.specs.Option.{option_and_then, option_map_or}
 use Rattle.std.proofs.lemmas.Bool.{eqb-true, eq-eqb, cond_both}
-use Rattle.std.proofs.lemmas.List.Elements.{Contains-append_cases, Contains-append_left, Contains-append_right}
+use Rattle.std.proofs.lemmas.List.Elements.{Contains-append_cases}
 use Rattle.bx_names.specs.Globs.{Glob}
-use Rattle.bx_advice.specs.declared.advice.Outcome.TheVariants.{Disconnected, Failed}
-use Rattle.bx_advice.specs.declared.error.Error.TheVariants.{SupersededConnect}
+use Rattle.bx_advice.specs.declared.advice.Outcome.TheVariants.{Disconnected}
 use Rattle.bx_message.specs.declared.event.Event.{Event}
 use Rattle.bx_entry.specs.declared.entry.Entry.{Entry}
 use Rattle.bx_entry.specs.declared.entry.EntryKind.{EntryKind}
 use Rattle.bx_entry.specs.declared.entry.EntryKind.TheVariants as kinds
 use Rattle.bx_entry.specs.Keeping.{Kept, after, kept, resumed}
-use Rattle.bx_entry.specs.Sessions.{Live, Pending, Session, Stage, Unopened, admitted, begun, closed_by, connected, disconnected, ended, expired, is_live, published, released, stage_after, step, subscribed, unheld, unopened, unsubscribed}
+use Rattle.bx_entry.specs.Sessions.{Live, Pending, Session, Stage, Unopened, begun, closed_by, connected, disconnected, ended, expired, is_live, published, released, step, subscribed, unopened, unsubscribed}
 use Rattle.bx_session.specs.declared.answered.Answered.{Answered}
 use Rattle.bx_session.specs.Views.{answered_of, deadline_of, pending}
 use Rattle.bx_connects.specs.declared.connects.ConnectState.{ConnectState}
 use Rattle.bx_connects.specs.declared.connects.ConnectState.TheVariants.{Filed}
-use Rattle.bx_connects.specs.Connects.{connect_at, filed_as, filing, held_by, session_at}
+use Rattle.bx_connects.specs.Connects.{connect_at, held_by, session_at}
 use Rattle.bx_shard.specs.declared.sessions.Sessions.{Sessions}
 use Rattle.bx_shard.specs.Effects.{answers_by, connect_filing, filing_each, holding}
 use Rattle.bx_shard.specs.Following.{Followed, alone}
 use Rattle.bx_shard.specs.Publishing.{published_at}
-use Rattle.bx_shard.specs.Sessions.{AreCounted, AreHeld, IsCounted, IsOwn, holds_until, kept_in, patterns_in}
+use Rattle.bx_shard.specs.Sessions.{AreCounted, AreHeld, IsCounted, IsOwn, kept_in, patterns_in}
 use Rattle.bx_shard.specs.States.{Connects, IsGiven, if_live, let_go, session_after}
 use Rattle.bx_shard.specs.States as states
-use Rattle.bx_shard.proofs.Beginnings.{both_answers, own_answers, superseded}
+use Rattle.bx_shard.proofs.Beginnings.{both_answers, filing_more, is_own, is_superseded, others_superseded, own_answers, superseded, to_itself}
 use Rattle.bx_theory.proofs.Keeps.{Keeps, connected_k, expired_from_k, released_from_k}
 use Rattle.bx_shard.proofs.Counts.{published_stage, subscribed_l, subscribed_quiet}
-use Rattle.bx_shard.proofs.Ends.{From, admitted_e, released_e, with_hold}
-use Rattle.bx_shard.proofs.Keeps.{filed_known, filing_each_session, filing_session, held_session, let_go_session, unfiled}
-use Rattle.bx_shard.proofs.Singles.{nowhere, only_one}
-use Rattle.bx_shard.proofs.Ties.{holds_own}
+use Rattle.bx_shard.proofs.Ends.{IsTo, filed_only, filed_to, held_to, is_to, release_settles}
+use Rattle.bx_shard.proofs.Keeps.{AreElsewhere, filing_each_session, held_session, let_go_session, unfiled}
+use Rattle.bx_shard.proofs.Singles.{nowhere}
 
 -- without its rider an entry does what one of its kind does
 of_kind : (stands : Bool) (e : Entry) (kind : EntryKind) (old new : Sessions) → e.kind ≡ kind → Followed stands (record e { kind = kind; rides = None }) old new → Followed stands (alone e) old new
@@ -46,39 +44,20 @@ live_there t live = sym (ap (λ (stage : Stage). cond (is_live stage) (Some (kep
 module _ (n : ℕ) (k : Kept) (patterns : List Glob) (own : IsOwn n k patterns) where
   -- an entry of the session of this number leaves it live
   own_or_as_it_was : (m : ℕ) (t : Session) → t.stage ≡ k.stage → cond (nat_eq m n) (Some (kept t)) (Some k) ≡ if_live (kept (cond (m == k.number) t (resumed k)))
-  own_or_as_it_was m t stage =
-      by (nat_eq m n) ∙ ap (λ (j : ℕ). if_live (kept (cond (m == j) t (resumed k)))) (sym own.number)
-    where
-      by : (b : Bool) → cond b (Some (kept t)) (Some k) ≡ if_live (kept (cond b t (resumed k)))
-      by true = live_there t (stage ∙ own.live)
-      by false = live_there (resumed k) own.live
+  own_or_as_it_was m t stage = grind arith
 
   -- an end of it doesn't
   own_ended : (m : ℕ) (t : Session) → t.stage ≡ k.stage → cond (nat_eq m n) None (Some k) ≡ if_live (kept (cond (m == k.number) (ended t) (resumed k)))
-  own_ended m t stage =
-      by (nat_eq m n) ∙ ap (λ (j : ℕ). if_live (kept (cond (m == j) (ended t) (resumed k)))) (sym own.number)
-    where
-      by : (b : Bool) → cond b None (Some k) ≡ if_live (kept (cond b (ended t) (resumed k)))
-      by true = ap (λ (stage : Stage). cond (is_live (stage_after stage)) (Some (kept (ended t))) None) (sym (stage ∙ own.live))
-      by false = live_there (resumed k) own.live
+  own_ended m t stage = grind arith
 
   -- nor does a tick that names it
   closed_or_live : (numbers : List ℕ) (t : Session) → t.stage ≡ k.stage → t.number ≡ k.number
       → cond (list_any (λ m. m == n) numbers) None (Some (kept t)) ≡ if_live (kept (closed_by numbers t))
-  closed_or_live numbers t stage number =
-      by (list_any (λ m. m == n) numbers) ∙ ap (λ (j : ℕ). if_live (kept (cond (list_any (λ m. m == j) numbers) (ended t) t))) (sym (number ∙ own.number))
-    where
-      by : (b : Bool) → cond b None (Some (kept t)) ≡ if_live (kept (cond b (ended t) t))
-      by true = ap (λ (stage : Stage). cond (is_live (stage_after stage)) (Some (kept (ended t))) None) (sym (stage ∙ own.live))
-      by false = live_there t (stage ∙ own.live)
+  closed_or_live numbers t stage number = grind arith
 
   -- only an entry of its number has answers from it
   own_answers_only : (m : ℕ) (t : Session) → map answered_of (cond (m == k.number) t (resumed k)).answers ≡ cond (nat_eq m n) (map answered_of t.answers) []
-  own_answers_only m t = ap (λ (j : ℕ). map answered_of (cond (m == j) t (resumed k)).answers) own.number ∙ by (nat_eq m n)
-    where
-      by : (b : Bool) → map answered_of (cond b t (resumed k)).answers ≡ cond b (map answered_of t.answers) []
-      by true = refl
-      by false = refl
+  own_answers_only m t = grind arith
 
 -- ---- all sessions
 
@@ -87,11 +66,7 @@ abbrev with_one : ℕ → (Session → Session) → (ℕ → Option Kept) → �
 with_one m change sessions n = cond (nat_eq m n) (option_map (after change) (sessions m)) (sessions n)
 
 pub at_number : (m n : ℕ) (f : Option Kept → Option Kept) (sessions : ℕ → Option Kept) → cond (nat_eq m n) (f (sessions m)) (sessions n) ≡ cond (nat_eq m n) (f (sessions n)) (sessions n)
-at_number m n f sessions = by (nat_eq m n) refl
-  where
-    by : (b : Bool) → nat_eq m n ≡ b → cond b (f (sessions m)) (sessions n) ≡ cond b (f (sessions n)) (sessions n)
-    by true same = ap (λ k. f (sessions k)) (eqb-true m n same)
-    by false other = refl
+at_number m n f sessions = grind arith
 
 -- where none is here none comes of it
 pub none_here : (b : Bool) → cond {A = Option Kept} b None None ≡ None
@@ -100,40 +75,44 @@ none_here false = refl
 
 -- an answer of the session of one number
 given_of_one : (b : Bool) (answers : List Answered) (a : Answered) → Contains (cond b answers []) a → (b ≡ true) × Contains answers a
-given_of_one true answers a there = (refl, there)
-given_of_one false answers a there = absurd (nowhere a there)
+given_of_one b answers a there = grind arith
 
-of_one_given : (b : Bool) (answers : List Answered) (a : Answered) → b ≡ true → Contains answers a → Contains (cond b answers []) a
-of_one_given true answers a is there = there
-of_one_given false answers a is there = absurd (true≢false (sym is))
+-- an entry of this kind, of one session, that opens none
+module _ (stands : Bool) (e : Entry) (m : ℕ) (old : Sessions) (counted : AreCounted old) (kind : EntryKind) (change : Session → Session)
+    (is : (s : Session) → step old.config s (record e { kind = kind; rides = None }) ≡ cond (m == s.number) (change s) s) where
+  abbrev follows : Entry
+  follows = record e { kind = kind; rides = None }
 
--- a change of one session that leaves it live and changes no connect
-module _ (stands : Bool) (e : Entry) (m : ℕ) (old : Sessions) (counted : AreCounted old) where
-  -- what an entry that is one of this session makes of all
-  one_stepped : (kind : EntryKind) (change : Session → Session) → ((s : Session) → step old.config s (record e { kind = kind; rides = None }) ≡ cond (m == s.number) (change s) s)
-      → ((n : ℕ) → states.opening stands kind n ≡ None) → ((n : ℕ) (k : Kept) → kept_in old n ≡ Some k → (change (resumed k)).stage ≡ k.stage)
-      → (n : ℕ) → with_one m change (kept_in old) n ≡ session_after old.config stands (record e { kind = kind; rides = None }) n (kept_in old n)
-  one_stepped kind change is opens stage n = at_number m n (option_map (after change)) (kept_in old) ∙ by (kept_in old n) refl (counted n)
+  -- what it makes of all, where it leaves the session live
+  one_stepped : ((n : ℕ) → states.opening stands kind n ≡ None) → ((n : ℕ) (k : Kept) → kept_in old n ≡ Some k → (change (resumed k)).stage ≡ k.stage)
+      → (n : ℕ) → with_one m change (kept_in old) n ≡ session_after old.config stands follows n (kept_in old n)
+  one_stepped opens stage n = at_number m n (option_map (after change)) (kept_in old) ∙ by (kept_in old n) refl (counted n)
     where
       F : Kept → Option Kept
-      F k = if_live (kept (step old.config (resumed k) (record e { kind = kind; rides = None })))
+      F k = if_live (kept (step old.config (resumed k) follows))
 
-      by : (o : Option Kept) → kept_in old n ≡ o → IsCounted n o (patterns_in old n) → cond (nat_eq m n) (option_map (after change) o) o ≡ session_after old.config stands (record e { kind = kind; rides = None }) n o
+      by : (o : Option Kept) → kept_in old n ≡ o → IsCounted n o (patterns_in old n) → cond (nat_eq m n) (option_map (after change) o) o ≡ session_after old.config stands follows n o
       by None here c = none_here (nat_eq m n) ∙ sym (ap (option_and_then F) (opens n))
       by (Some k) here c = own_or_as_it_was n k (patterns_in old n) c m (change (resumed k)) (stage n k here) ∙ sym (ap (λ (t : Session). if_live (kept t)) (is (resumed k)))
 
   -- and what it answers
-  one_answered : (kind : EntryKind) (change : Session → Session) → ((s : Session) → step old.config s (record e { kind = kind; rides = None }) ≡ cond (m == s.number) (change s) s)
-      → (n : ℕ) → answers_by (λ s. step old.config s (record e { kind = kind; rides = None })) (kept_in old n) ≡ cond (nat_eq m n) (answers_by change (kept_in old n)) []
-  one_answered kind change is n = by (kept_in old n) (counted n)
-    where
-      none : (b : Bool) → [] ≡ cond {A = List Answered} b [] []
-      none true = refl
-      none false = refl
+  one_answered : (n : ℕ) → answers_by (λ s. step old.config s follows) (kept_in old n) ≡ cond (nat_eq m n) (answers_by change (kept_in old n)) []
+  one_answered n = grind arith
 
-      by : (o : Option Kept) → IsCounted n o (patterns_in old n) → answers_by (λ s. step old.config s (record e { kind = kind; rides = None })) o ≡ cond (nat_eq m n) (answers_by change o) []
-      by None c = none (nat_eq m n)
-      by (Some k) c = ap (λ (t : Session). map answered_of t.answers) (is (resumed k)) ∙ own_answers_only n k (patterns_in old n) c m (change (resumed k))
+  -- all that it answers is of the one session
+  one_given : (n : ℕ) (a : Answered) → IsGiven old.config (kept_in old) follows n a → (m ≡ n) × Contains (answers_by change (kept_in old m)) a
+  one_given n a g =
+      let w = given_of_one (nat_eq m n) (answers_by change (kept_in old n)) a (subst (λ answers. Contains answers a) (one_answered n) g) in
+      let same : m ≡ n = eqb-true m n w.0 in
+      (same, subst (λ j. Contains (answers_by change (kept_in old j)) a) (sym same) w.1)
+
+  given_one : (a : Answered) → Contains (answers_by change (kept_in old m)) a → IsGiven old.config (kept_in old) follows m a
+  given_one a there = subst (λ answers. Contains answers a) (sym (one_answered m ∙ ap (λ b. cond b (answers_by change (kept_in old m)) []) (eq-eqb m m refl))) there
+
+  -- each answer is filed for its session, where those of the one are
+  one_filed : (C : ℕ → Option ConnectState) → ((a : Answered) → Contains (answers_by change (kept_in old m)) a → C a.place ≡ Some (Filed m e.place a.answer))
+      → (n : ℕ) (a : Answered) → IsGiven old.config (kept_in old) follows n a → C a.place ≡ Some (Filed n e.place a.answer)
+  one_filed C filed n a g = let w = one_given n a g in filed a w.1 ∙ ap (λ j. Some (Filed j e.place a.answer)) w.0
 
 -- ---- a handshake
 
@@ -176,8 +155,7 @@ followed_opened_here stands e m ack old new kind here gone sessions others count
     by n (Some k) is c = already n k (nat_eq m n) refl is c ∙ ap (λ (j : ℕ). if_live (kept (cond (m == j) (begun ack (resumed k) k.stage) (resumed k)))) (sym c.number)
 
     begun_answers : (k : Kept) (stage : Stage) → (begun ack (resumed k) stage).answers ≡ []
-    begun_answers k Unopened = refl
-    begun_answers k _ = refl
+    begun_answers k stage = grind arith
 
     nothing : (n : ℕ) (a : Answered) (o : Option Kept) → IsCounted n o (patterns_in old n) → Contains (answers_by (λ s. step old.config s follows) o) a → ⊥
     nothing n a None c there = nowhere a there
@@ -208,8 +186,7 @@ followed_opened_elsewhere stands e m ack old new kind elsewhere same counted hel
     follows = record e { kind = kinds.Opened m ack; rides = None }
 
     begun_live : (k : Kept) (b : Bool) → k.stage ≡ Live → cond b (begun ack (resumed k) k.stage) (resumed k) ≡ resumed k
-    begun_live k true live = ap (λ (stage : Stage). begun ack (resumed k) stage) live
-    begun_live k false live = refl
+    begun_live k b live = grind arith
 
     none : (n : ℕ) (b : Bool) → nat_eq m n ≡ b → kept_in old n ≡ None → (stands ≡ false) ⊎ (is_some (kept_in old m) ≡ true)
         → None ≡ option_and_then (λ k. if_live (kept (step old.config (resumed k) follows))) (cond (b && stands) (Some (kept (unopened m))) None)
@@ -227,27 +204,6 @@ followed_opened_elsewhere stands e m ack old new kind elsewhere same counted hel
 
 -- ---- a connect
 
--- no two of these answers are to one connect
-abbrev AreDistinct : List Answered → Type 0
-AreDistinct [] = Unit {0}
-AreDistinct (a ∷ rest) = ((b : Answered) → Contains rest b → b.place ≢ a.place) × AreDistinct rest
-
--- each of these answers is filed, where it is to a connect of this session
-filed_each : (place m : ℕ) (answers : List Answered) (C : ℕ → Option ConnectState) → AreDistinct answers → ((a : Answered) → Contains answers a → session_at (C a.place) ≡ Some m)
-    → (a : Answered) → Contains answers a → filing_each place answers C a.place ≡ Some (Filed m place a.answer)
-filed_each place m [] C apart known a there = absurd (nowhere a there)
-filed_each place m (b ∷ rest) C apart known a there =
-    by (Contains-append_cases (b ∷ []) rest a there)
-    (filed_each place m rest (filing place (Some b) C) apart.1 (λ x in_it. filing_session place (Some b) C x.place ∙ known x (Contains-append_right (b ∷ []) rest x in_it)) a)
-  where
-    by : Contains (b ∷ []) a ⊎ Contains rest a → (Contains rest a → filing_each place rest (filing place (Some b) C) a.place ≡ Some (Filed m place a.answer)) → filing_each place (b ∷ rest) C a.place ≡ Some (Filed m place a.answer)
-    by (inl first) further =
-        subst (λ (x : Answered). filing_each place (b ∷ rest) C x.place ≡ Some (Filed m place x.answer)) (only_one b a first)
-        (unfiled place rest (filing place (Some b) C) b.place (λ x later. apart.0 x later)
-        ∙ ap (λ t. cond t (filed_as place b.answer (C b.place)) (C b.place)) (eq-eqb b.place b.place refl)
-        ∙ filed_known place m b.answer (C b.place) (known b (Contains-append_left (b ∷ []) rest b (0, omega arith, refl))))
-    by (inr later) further = further later
-
 -- what becomes of the connects with a fresh one of a session that is here
 module _ (s : Sessions) (m : ℕ) (connect : Pending) (acked : Option ℕ) (k : Kept) (held : AreHeld s) (here : kept_in s m ≡ Some k) (fresh : connect_at s.connects connect.place ≡ None) where
   -- it is held at first
@@ -260,87 +216,41 @@ module _ (s : Sessions) (m : ℕ) (connect : Pending) (acked : Option ℕ) (k : 
 
   -- what was known is known
   held_known : (p : ℕ) → session_at (connect_at s.connects p) ≡ Some m → session_at (first_held p) ≡ Some m
-  held_known p known = by (nat_eq connect.place p)
-    where
-      by : (b : Bool) → session_at (cond b (held_by m (deadline_of connect)) (connect_at s.connects p)) ≡ Some m
-      by true = refl
-      by false = known
+  held_known p known = grind arith
 
   -- the fresh one is known
   fresh_known : (p : ℕ) → p ≡ connect.place → session_at (first_held p) ≡ Some m
-  fresh_known p same = ap (λ b. session_at (cond b (held_by m (deadline_of connect)) (connect_at s.connects p))) (eq-eqb connect.place p (sym same))
+  fresh_known p same = grind arith
 
-  -- the superseded connect is known, and another
-  record Earlier (a : Answered) : Type 0 where
-    known : session_at (connect_at s.connects a.place) ≡ Some m
-    other : a.place ≢ connect.place
+  -- what it supersedes, and its own answer
+  abbrev first : List Answered
+  first = superseded s.config connect acked k
 
-  earlier : (a : Answered) → Contains (superseded s.config (connect_at s.connects) (connect_at s.connects) (kept_in s) (kept_in s) m connect acked k) a → Earlier a
-  earlier a there = by (released_e s.config connect.place (Failed SupersededConnect) k)
+  abbrev own : List Answered
+  own = own_answers s.config connect acked k
+
+  superseded_known : (a : Answered) → Contains first a → session_at (connect_at s.connects a.place) ≡ Some m
+  superseded_known a there =
+      let to : IsTo (kept_in s m) first a = subst (λ o. IsTo o first a) (sym here) (is_superseded s.config connect acked k a there) in
+      held_session (connect_at s.connects a.place) m (deadline_of to.hold) (held_to (connect_at s.connects) (kept_in s) m first a held to)
+
+  -- so each of its answers is filed
+  filed_both : (a : Answered) → Contains its_answers a → filing_each connect.place its_answers first_held a.place ≡ Some (Filed m connect.place a.answer)
+  filed_both a there =
+      ap (λ answers. filing_each connect.place answers first_held a.place) (sym (both_answers s.config connect acked k))
+      ∙ filing_more connect.place first own first_held a.place
+      ∙ by (Contains-append_cases first own a (subst (λ answers. Contains answers a) (sym (both_answers s.config connect acked k)) there))
     where
-      by : From k (released s.config connect.place (Failed SupersededConnect) (resumed k)) → Earlier a
-      by (inl end) =
-          let same : end.answer ≡ a = only_one end.answer a (subst (λ given. Contains given a) end.given there) in
-          let own : a.place ≡ end.hold.place = ap (λ (x : Answered). x.place) (sym same) ∙ end.own in
-          let is : k ≡ end.session = ap (λ o. option_map_or (λ (y : Kept). y) o k) end.here in
-          let known : session_at (connect_at s.connects a.place) ≡ Some m =
-          held_session (connect_at s.connects a.place) m (deadline_of end.hold)
-          (held a.place m ∙ ap (λ o. holds_until o a.place) here ∙ ap (λ p. holds_until (Some k) p) own ∙ ap (λ y. holds_until (Some y) end.hold.place) is ∙ holds_own end.session end.hold end.held) in
-          record { known = known; other = λ e. true≢false (sym (ap is_none (sym known ∙ ap (λ p. session_at (connect_at s.connects p)) e ∙ ap session_at fresh))) }
-      by (inr stays) = absurd (nowhere a (subst (λ given. Contains given a) stays.none there))
+      others : AreElsewhere connect.place first
+      others = others_superseded s.config connect acked (connect_at s.connects) (connect_at s.connects) (kept_in s) (kept_in s) m k here held fresh
 
-  -- its own answer is to itself
-  to_itself : (a : Answered) → Contains (own_answers s.config (connect_at s.connects) (connect_at s.connects) (kept_in s) (kept_in s) m connect acked k) a → a.place ≡ connect.place
-  to_itself a there = by (admitted_e s.config connect (after unheld k) refl acked k.overflow)
-    where
-      by : From (with_hold connect (after unheld k)) (admitted s.config connect acked k.overflow (resumed (after unheld k))) → a.place ≡ connect.place
-      by (inl end) =
-          let same : end.answer ≡ a = only_one end.answer a (subst (λ given. Contains given a) end.given there) in
-          let is : with_hold connect (after unheld k) ≡ end.session = ap (λ o. option_map_or (λ (y : Kept). y) o (with_hold connect (after unheld k))) end.here in
-          ap (λ (x : Answered). x.place) (sym same) ∙ end.own ∙ ap (λ o. option_map_or (λ (y : Pending). y.place) o connect.place) (sym end.held ∙ sym (ap (λ (y : Kept). y.held) is))
-      by (inr stays) = absurd (nowhere a (subst (λ given. Contains given a) stays.none there))
-
-  -- each of them is one of the two
-  each_of : (a : Answered) → Contains its_answers a → Earlier a ⊎ (a.place ≡ connect.place)
-  each_of a there = by (Contains-append_cases _ _ a (subst (λ given. Contains given a) (sym (both_answers s.config (connect_at s.connects) (connect_at s.connects) (kept_in s) (kept_in s) m connect acked k)) there))
-    where
-      by : Contains (superseded s.config (connect_at s.connects) (connect_at s.connects) (kept_in s) (kept_in s) m connect acked k) a
-          ⊎ Contains (own_answers s.config (connect_at s.connects) (connect_at s.connects) (kept_in s) (kept_in s) m connect acked k) a → Earlier a ⊎ (a.place ≡ connect.place)
-      by (inl first) = inl (earlier a first)
-      by (inr own) = inr (to_itself a own)
-
-  their_sessions : (a : Answered) → Contains its_answers a → session_at (first_held a.place) ≡ Some m
-  their_sessions a there = by (each_of a there)
-    where
-      by : Earlier a ⊎ (a.place ≡ connect.place) → session_at (first_held a.place) ≡ Some m
-      by (inl e) = held_known a.place e.known
-      by (inr own) = fresh_known a.place own
-
-  distinct : AreDistinct its_answers
-  distinct =
-      subst AreDistinct (both_answers s.config (connect_at s.connects) (connect_at s.connects) (kept_in s) (kept_in s) m connect acked k)
-      (by (released_e s.config connect.place (Failed SupersededConnect) k) (admitted_e s.config connect (after unheld k) refl acked k.overflow))
-    where
-      S : List Answered
-      S = superseded s.config (connect_at s.connects) (connect_at s.connects) (kept_in s) (kept_in s) m connect acked k
-
-      O : List Answered
-      O = own_answers s.config (connect_at s.connects) (connect_at s.connects) (kept_in s) (kept_in s) m connect acked k
-
-      one : (a : Answered) → AreDistinct (a ∷ [])
-      one a = (λ b there. absurd (nowhere b there), tt)
-
-      by : From k (released s.config connect.place (Failed SupersededConnect) (resumed k)) → From (with_hold connect (after unheld k)) (admitted s.config connect acked k.overflow (resumed (after unheld k))) → AreDistinct (S ++ O)
-      by (inl first) (inl own) =
-          subst AreDistinct (ap (λ xs. xs ++ own.answer ∷ []) (sym first.given) ∙ ap (λ xs. S ++ xs) (sym own.given)) (
-            λ b there e.
-                let e0 : Earlier first.answer = earlier first.answer (subst (λ given. Contains given first.answer) (sym first.given) (0, omega arith, refl)) in
-                e0.other (sym e ∙ ap (λ (x : Answered). x.place) (sym (only_one own.answer b there)) ∙ to_itself own.answer (subst (λ given. Contains given own.answer) (sym own.given) (0, omega arith, refl))),
-            one own.answer,
-          )
-      by (inl first) (inr stays) = subst AreDistinct (ap (λ xs. xs ++ []) (sym first.given) ∙ ap (λ xs. S ++ xs) (sym stays.none)) (one first.answer)
-      by (inr stays) (inl own) = subst AreDistinct (ap (λ xs. xs ++ own.answer ∷ []) (sym stays.none) ∙ ap (λ xs. S ++ xs) (sym own.given)) (one own.answer)
-      by (inr stays) (inr none) = subst AreDistinct (ap (λ xs. xs ++ []) (sym stays.none) ∙ ap (λ xs. S ++ xs) (sym none.none)) tt
+      by : Contains first a ⊎ Contains own a → filing_each connect.place own (filing_each connect.place first first_held) a.place ≡ Some (Filed m connect.place a.answer)
+      by (inl earlier) =
+          unfiled connect.place own (filing_each connect.place first first_held) a.place (λ b later same. others a earlier (sym same ∙ to_itself s.config connect acked k b later))
+          ∙ filed_only connect.place m first a first_held (is_superseded s.config connect acked k a earlier).only (held_known a.place (superseded_known a earlier))
+      by (inr last) =
+          filed_only connect.place m own a (filing_each connect.place first first_held) (is_own s.config connect acked k a last).only
+          (filing_each_session connect.place first first_held a.place ∙ fresh_known a.place (to_itself s.config connect acked k a last))
 
 -- a connect of a session, by its parts
 followed_pending : (stands : Bool) (e : Entry) (m : ℕ) (client : List ℕ) (id : Option (List ℕ)) (acked : Option ℕ) (hold : ℕ) (old new : Sessions)
@@ -353,7 +263,10 @@ followed_pending stands e m client id acked hold old new kind fresh sessions con
     of_kind stands e (kinds.Connect m client id acked hold) old new kind (record {
       config = config;
       sessions = λ n. sessions n ∙ one_stepped stands e m old counted (kinds.Connect m client id acked hold) change (λ s. refl) (λ n. refl) (λ n k here. (connected_k old.config connect acked (resumed k)).stage) n;
-      connects = record { given = given; kept = kept_at };
+      connects = record {
+        given = one_filed stands e m old counted (kinds.Connect m client id acked hold) change (λ s. refl) (connect_at new.connects) (λ a there. connects a.place ∙ filed (kept_in old m) refl a there);
+        kept = kept_at;
+      };
       known = λ p n k. known p n (kept_in old m) refl (sym (ap session_at (connects p)) ∙ k);
       counted = counts counted;
       held = holds held;
@@ -368,19 +281,10 @@ followed_pending stands e m client id acked hold old new kind fresh sessions con
     follows : Entry
     follows = record e { kind = kinds.Connect m client id acked hold; rides = None }
 
-    answered : (n : ℕ) → answers_by (λ s. step old.config s follows) (kept_in old n) ≡ cond (nat_eq m n) (answers_by change (kept_in old n)) []
-    answered n = one_answered stands e m old counted (kinds.Connect m client id acked hold) change (λ s. refl) n
-
     filed : (o : Option Kept) → kept_in old m ≡ o → (a : Answered) → Contains (answers_by change o) a → connect_filing m connect change o (connect_at old.connects) a.place ≡ Some (Filed m e.place a.answer)
     filed None gone a there = absurd (nowhere a there)
     filed (Some k) here a there =
-        filed_each e.place m (answers_by change (Some k)) (holding m connect (connect_at old.connects)) (distinct old m connect acked k held here fresh) (their_sessions old m connect acked k held here fresh) a there
-
-    given : (n : ℕ) (a : Answered) → IsGiven old.config (kept_in old) follows n a → connect_at new.connects a.place ≡ Some (Filed n e.place a.answer)
-    given n a g =
-        let w = given_of_one (nat_eq m n) (answers_by change (kept_in old n)) a (subst (λ answers. Contains answers a) (answered n) g) in
-        let same : m ≡ n = eqb-true m n w.0 in
-        connects a.place ∙ filed (kept_in old m) refl a (subst (λ j. Contains (answers_by change (kept_in old j)) a) (sym same) w.1) ∙ ap (λ j. Some (Filed j e.place a.answer)) same
+        filed_both old m connect acked k held here fresh a there
 
     known : (p n : ℕ) (o : Option Kept) → kept_in old m ≡ o → session_at (connect_filing m connect change (kept_in old m) (connect_at old.connects) p) ≡ Some n
         → (session_at (connect_at old.connects p) ≡ Some n) ⊎ Connects (kept_in old) follows p n
@@ -409,7 +313,7 @@ followed_pending stands e m client id acked hold old new kind fresh sessions con
         by (Some k) here =
             ap (λ o. connect_filing m connect change o (connect_at old.connects) p) here
             ∙ unfiled e.place (answers_by change (Some k)) (holding m connect (connect_at old.connects)) p
-            (λ a there. never m a (subst (λ answers. Contains answers a) (sym (answered m)) (of_one_given (nat_eq m m) (answers_by change (kept_in old m)) a (eq-eqb m m refl) (subst (λ o. Contains (answers_by change o) a) (sym here) there))))
+            (λ a there. never m a (given_one stands e m old counted (kinds.Connect m client id acked hold) change (λ s. refl) a (subst (λ o. Contains (answers_by change o) a) (sym here) there)))
             ∙ ap (λ o. cond (is_some o) (holding m connect (connect_at old.connects) p) (connect_at old.connects p)) (sym here)
 
 -- a connect of a session that is here, or is not
@@ -444,13 +348,11 @@ followed_connect_elsewhere stands e m client id acked hold old new kind gone sam
     change = connected old.config connect acked
 
     away : (n : ℕ) (b : Bool) → nat_eq m n ≡ b → kept_in old n ≡ cond b (option_map (after change) (kept_in old m)) (kept_in old n)
-    away n true is = ap (kept_in old) (sym (eqb-true m n is)) ∙ gone ∙ ap (option_map (after change)) (sym gone)
-    away n false is = refl
+    away n b is = grind arith
 
     nothing : (n : ℕ) (a : Answered) → IsGiven old.config (kept_in old) (record e { kind = kinds.Connect m client id acked hold; rides = None }) n a → ⊥
     nothing n a g =
-        let w = given_of_one (nat_eq m n) (answers_by change (kept_in old n)) a (subst (λ answers. Contains answers a) (one_answered stands e m old counted (kinds.Connect m client id acked hold) change (λ s. refl) n) g) in
-        nowhere a (subst (λ o. Contains (answers_by change o) a) (ap (kept_in old) (sym (eqb-true m n w.0)) ∙ gone) w.1)
+        nowhere a (subst (λ o. Contains (answers_by change o) a) gone (one_given stands e m old counted (kinds.Connect m client id acked hold) change (λ s. refl) n a g).1)
 
 -- ---- a disconnect
 
@@ -465,11 +367,11 @@ followed_disconnect stands e m old new kind sessions connects config counts hold
   config = config;
   sessions = λ n. sessions n ∙ by n (kept_in old n) (counted n);
   connects = record {
-    given = given;
-    kept = λ p never. connects p ∙ unfiled e.place (answers_by change (kept_in old m)) (connect_at old.connects) p
-        (λ a there. never m a (subst (λ answers. Contains answers a) (sym (answered m)) (of_one_given (nat_eq m m) (answers_by change (kept_in old m)) a (eq-eqb m m refl) there)));
+    given = one_filed stands e m old counted (kinds.Disconnect m) (disconnected old.config e.place) (λ s. refl) (connect_at new.connects) (λ a there. filed a (subst (λ answers. Contains answers a) same there));
+    kept = λ p never. connects p ∙ unfiled e.place given (connect_at old.connects) p
+        (λ a there. never m a (given_one stands e m old counted (kinds.Disconnect m) (disconnected old.config e.place) (λ s. refl) a (subst (λ answers. Contains answers a) (sym same) there)));
   };
-  known = λ p n k. inl (sym (ap session_at (connects p) ∙ filing_each_session e.place (answers_by change (kept_in old m)) (connect_at old.connects) p) ∙ k);
+  known = λ p n k. inl (sym (ap session_at (connects p) ∙ filing_each_session e.place given (connect_at old.connects) p) ∙ k);
   counted = counts counted;
   held = holds held;
 })
@@ -477,40 +379,22 @@ followed_disconnect stands e m old new kind sessions connects config counts hold
     follows : Entry
     follows = record e { kind = kinds.Disconnect m; rides = None }
 
-    change : Session → Session
-    change = released old.config e.place Disconnected
-
     by : (n : ℕ) (o : Option Kept) → IsCounted n o (patterns_in old n) → cond (nat_eq m n) None o ≡ session_after old.config stands follows n o
     by n None c = none_here (nat_eq m n)
-    by n (Some k) c = own_ended n k (patterns_in old n) c m (change (resumed k)) (released_from_k old.config e.place Disconnected (resumed k) k.held).stage
+    by n (Some k) c = own_ended n k (patterns_in old n) c m (released old.config e.place Disconnected (resumed k)) (released_from_k old.config e.place Disconnected (resumed k) k.held).stage
 
-    answered : (n : ℕ) → answers_by (λ s. step old.config s follows) (kept_in old n) ≡ cond (nat_eq m n) (answers_by change (kept_in old n)) []
-    answered n = one_answered stands e m old counted (kinds.Disconnect m) (disconnected old.config e.place) (λ s. refl) n ∙ ap (λ given. cond (nat_eq m n) given []) (same (kept_in old n))
+    given : List Answered
+    given = answers_by (released old.config e.place Disconnected) (kept_in old m)
+
+    same : answers_by (disconnected old.config e.place) (kept_in old m) ≡ given
+    same = of (kept_in old m)
       where
-        same : (o : Option Kept) → answers_by (disconnected old.config e.place) o ≡ answers_by change o
-        same None = refl
-        same (Some k) = refl
+        of : (o : Option Kept) → answers_by (disconnected old.config e.place) o ≡ answers_by (released old.config e.place Disconnected) o
+        of None = refl
+        of (Some k) = refl
 
-    given : (n : ℕ) (a : Answered) → IsGiven old.config (kept_in old) follows n a → connect_at new.connects a.place ≡ Some (Filed n e.place a.answer)
-    given n a g =
-        let w = given_of_one (nat_eq m n) (answers_by change (kept_in old n)) a (subst (λ answers. Contains answers a) (answered n) g) in
-        let there : Contains (answers_by change (kept_in old m)) a = subst (λ j. Contains (answers_by change (kept_in old j)) a) (sym (eqb-true m n w.0)) w.1 in
-        connects a.place ∙ filed (kept_in old m) refl there ∙ ap (λ j. Some (Filed j e.place a.answer)) (eqb-true m n w.0)
-      where
-        one : (k : Kept) → kept_in old m ≡ Some k → From k (change (resumed k)) → Contains (answers_by change (Some k)) a → filing_each e.place (answers_by change (Some k)) (connect_at old.connects) a.place ≡ Some (Filed m e.place a.answer)
-        one k here (inl end) there =
-            let same : end.answer ≡ a = only_one end.answer a (subst (λ answers. Contains answers a) end.given there) in
-            let own : a.place ≡ end.hold.place = ap (λ (x : Answered). x.place) (sym same) ∙ end.own in
-            let is : k ≡ end.session = ap (λ o. option_map_or (λ (y : Kept). y) o k) end.here in
-            ap (λ answers. filing_each e.place answers (connect_at old.connects) a.place) (end.given ∙ ap (λ x. x ∷ []) same)
-            ∙ ap (λ b. cond b (filed_as e.place a.answer (connect_at old.connects a.place)) (connect_at old.connects a.place)) (eq-eqb a.place a.place refl)
-            ∙ filed_known e.place m a.answer (connect_at old.connects a.place) (held_session (connect_at old.connects a.place) m (deadline_of end.hold)
-            (held a.place m ∙ ap (λ o. holds_until o a.place) here ∙ ap (λ p. holds_until (Some k) p) own ∙ ap (λ y. holds_until (Some y) end.hold.place) is ∙ holds_own end.session end.hold end.held))
-        one k here (inr stays) there = absurd (nowhere a (subst (λ answers. Contains answers a) stays.none there))
-
-        filed : (o : Option Kept) → kept_in old m ≡ o → Contains (answers_by change o) a → filing_each e.place (answers_by change o) (connect_at old.connects) a.place ≡ Some (Filed m e.place a.answer)
-        filed None here there = absurd (nowhere a there)
-        filed (Some k) here there = one k here (released_e old.config e.place Disconnected k) there
+    filed : (a : Answered) → Contains given a → connect_at new.connects a.place ≡ Some (Filed m e.place a.answer)
+    filed a there = connects a.place ∙ filed_to (connect_at old.connects) (kept_in old) e.place m given a held (is_to (kept_in old m) None given a (release_settles old.config e.place (kept_in old m)) there)
 
 -- ---- a refused message
 
@@ -550,8 +434,7 @@ followed_quiet stands e m kind change old new is steps opens stage quiet begins 
 
     nothing : (n : ℕ) (a : Answered) → IsGiven old.config (kept_in old) (record e { kind = kind; rides = None }) n a → ⊥
     nothing n a g =
-        let w = given_of_one (nat_eq m n) (answers_by change (kept_in old n)) a (subst (λ answers. Contains answers a) (one_answered stands e m old before kind change steps n) g) in
-        nowhere a (subst (λ answers. Contains answers a) (none (kept_in old n)) w.1)
+        nowhere a (subst (λ answers. Contains answers a) (none (kept_in old m)) (one_given stands e m old before kind change steps n a g).1)
 
 -- a subscription changes the patterns of its session, and no connect
 pub followed_subscribe : (stands : Bool) (e : Entry) (m : ℕ) (patterns : List Glob) (old new : Sessions) → e.kind ≡ kinds.Subscribe m patterns

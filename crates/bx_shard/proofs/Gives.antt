@@ -1,10 +1,10 @@
 -- An entry answers only connects that weren't answered before.
-use Rattle.std.proofs.Common.{◌≡◌, ℕ, ◌⊎◌, ⊎_elim, inl, inr, Bool, true, false, cond, is_some, Option, Some, None, List, [], ◌∷◌, map, nat_eq, ◌==◌, refl, sym, ap, ◌∙◌, subst, arith, eq-eqb}
-use Rattle.std.proofs.lemmas.Bool.{cond_both, cond-true}
+use Rattle.std.proofs.Common.{◌≡◌, ℕ, ◌⊎◌, ⊎_elim, inl, inr, Bool, true, false, cond, is_some, Option, Some, None, List, [], ◌∷◌, map, ◌==◌, refl, sym, ap, ◌∙◌, subst, arith}
+use Rattle.std.proofs.lemmas.Bool.{cond_both}
 use Rattle.std.proofs.lemmas.List.{map-append}
 use Rattle.std.proofs.lemmas.List.Elements.{Contains-append_cases}
 use Rattle.std.specs.List.{All, Contains, list_any}
-use Rattle.std.specs.Option.{option_map_or}
+use Rattle.bx_names.specs.Globs.{Glob}
 use Rattle.bx_advice.specs.declared.config.Config.{Config}
 use Rattle.bx_advice.specs.declared.advice.Outcome.TheVariants.{Disconnected, Failed}
 use Rattle.bx_advice.specs.declared.error.Error.TheVariants.{SupersededConnect}
@@ -12,19 +12,20 @@ use Rattle.bx_entry.specs.declared.entry.Entry.{Entry}
 use Rattle.bx_entry.specs.declared.entry.EntryKind.{EntryKind}
 use Rattle.bx_entry.specs.declared.entry.Rider.{Rider}
 use Rattle.bx_entry.specs.declared.entry.EntryKind.TheVariants.{Opened, Connect, Subscribe, Unsubscribe, Publish, Disconnect, Refused, Tick}
-use Rattle.bx_entry.specs.Keeping.{Kept, after, answers_of, resumed}
-use Rattle.bx_entry.specs.Sessions.{Pending, Publication, Session, Stage, Unopened, admitted, begun, connected, ended, expired, is_hit, is_riding, received, released, ridden, ridden_by, ride_filing, rider_of, step, step_by, subscribed, unheld}
+use Rattle.bx_entry.specs.Keeping.{Kept, after, answers_of, kept, resumed}
+use Rattle.bx_entry.specs.Sessions.{Pending, Publication, Session, Stage, admitted, begun, connected, ended, expired, is_hit, is_riding, received, released, ridden, ridden_by, ride_filing, rider_of, step, step_by, subscribed, unheld}
 use Rattle.bx_session.specs.declared.answered.Answered.{Answered}
-use Rattle.bx_session.specs.Views.{answered_of, deadline_of, pending}
+use Rattle.bx_session.specs.Views.{answered_of, pending}
 use Rattle.bx_session.proofs.ConnectLemmas.{connected_answers}
 use Rattle.bx_connects.specs.declared.connects.ConnectState.{ConnectState}
-use Rattle.bx_connects.specs.declared.connects.ConnectState.TheVariants as states
 use Rattle.bx_shard.specs.Effects.{answers_by}
 use Rattle.bx_shard.specs.Refining.{filed_with_place}
 use Rattle.bx_shard.specs.Sessions.{ends_for, held_until, holds_until}
 use Rattle.bx_shard.specs.States.{IsGiven, IsSound, State, connect_in, session_in}
+use Rattle.bx_shard.proofs.Cases.{by_option}
 use Rattle.bx_shard.proofs.Counts.{subscribed_quiet}
-use Rattle.bx_shard.proofs.Ends.{From, admitted_e, expired_e, received_e, released_e, with_hold}
+use Rattle.bx_shard.proofs.Rides.{of_riding}
+use Rattle.bx_shard.proofs.Ends.{From, IsTo, is_to, to_hold, admitted_e, expired_e, received_e, released_e, with_hold}
 use Rattle.bx_shard.proofs.Singles.{nowhere, only_one}
 
 -- ---- whom a session answers
@@ -40,20 +41,16 @@ Due place held a = (a.place ≡ place) ⊎ HoldsIt held a.place
 
 -- an answer that ends a hold is to the connect that is held
 held_due : (k : Kept) (t : Session) (a : Answered) → From k t → Contains (map answered_of t.answers) a → HoldsIt k.held a.place
-held_due k t a (inl end) there =
-    let same : end.answer ≡ a = only_one end.answer a (subst (λ given. Contains given a) end.given there) in
-    let is : k ≡ end.session = ap (λ o. option_map_or (λ (y : Kept). y) o k) end.here in
-    subst (λ (h : Option Pending). HoldsIt h a.place) (sym (ap (λ (y : Kept). y.held) is ∙ end.held)) (sym end.own ∙ ap (λ (x : Answered). x.place) same)
-held_due k t a (inr stays) there = absurd (nowhere a (subst (λ given. Contains given a) stays.none there))
+held_due k t a from there =
+    let to : IsTo (Some k) (map answered_of t.answers) a = is_to (Some k) (Some (kept t)) (map answered_of t.answers) a from there in
+    subst (λ (h : Option Pending). HoldsIt h a.place) (sym (to_hold (Some k) (map answered_of t.answers) a to)) (sym to.own)
 
 -- an entry of another number answers nothing
 of_own : (b : Bool) (k : Kept) (t : Session) (a : Answered) → Contains (map answered_of (cond b t (resumed k)).answers) a → Contains (map answered_of t.answers) a
-of_own true k t a there = there
-of_own false k t a there = absurd (nowhere a there)
+of_own b k t a there = grind arith
 
 begun_nothing : (ack : Bool) (k : Kept) (stage : Stage) (a : Answered) → Contains (map answered_of (begun ack (resumed k) stage).answers) a → ⊥
-begun_nothing ack k Unopened a there = nowhere a there
-begun_nothing ack k _ a there = nowhere a there
+begun_nothing ack k stage a there = grind arith
 
 connected_due : (config : Config) (p : Pending) (acked : Option ℕ) (k : Kept) (a : Answered) → Contains (map answered_of (connected config p acked (resumed k)).answers) a → Due p.place k.held a
 connected_due config p acked k a there =
@@ -65,18 +62,22 @@ connected_due config p acked k a there =
     by (inl earlier) = inr (held_due k (released config p.place (Failed SupersededConnect) (resumed k)) a (released_e config p.place (Failed SupersededConnect) k) earlier)
     by (inr its_own) = inl (sym (held_due (with_hold p (after unheld k)) (admitted config p acked k.overflow (resumed (after unheld k))) a (admitted_e config p (after unheld k) refl acked k.overflow) its_own))
 
+subscribed_nothing : (config : Config) (k : Kept) (patterns : List Glob) (m : ℕ) (a : Answered) → Contains (map answered_of (cond (m == k.number) (subscribed config patterns (resumed k)) (resumed k)).answers) a → ⊥
+subscribed_nothing config k patterns m a there =
+    nowhere a (subst (λ given. Contains (map answered_of given) a) (subscribed_quiet k config patterns) (of_own (m == k.number) k (subscribed config patterns (resumed k)) a there))
+
+received_due : (config : Config) (e : Publication) (k : Kept) (a : Answered) → Contains (map answered_of (cond (is_hit (resumed k) e.event) (received config e (resumed k)) (resumed k)).answers) a → HoldsIt k.held a.place
+received_due config e k a there = held_due k (received config e (resumed k)) a (received_e config e k) (of_own (is_hit (resumed k) e.event) k (received config e (resumed k)) a there)
+
 -- every answer that an entry at this place gives
 answers_due : (config : Config) (place moment : ℕ) (k : Kept) (a : Answered) (kind : EntryKind) → Contains (map answered_of (step_by config place moment (resumed k) kind).answers) a → Due place k.held a
 answers_due config place moment k a (Opened m ack) there = absurd (begun_nothing ack k k.stage a (of_own (m == k.number) k (begun ack (resumed k) k.stage) a there))
 answers_due config place moment k a (Connect m client id acked hold) there =
     let p : Pending = pending place client id moment hold in
     connected_due config p acked k a (of_own (m == k.number) k (connected config p acked (resumed k)) a there)
-answers_due config place moment k a (Subscribe m patterns) there =
-    absurd (nowhere a (subst (λ given. Contains (map answered_of given) a) (subscribed_quiet k config patterns) (of_own (m == k.number) k (subscribed config patterns (resumed k)) a there)))
+answers_due config place moment k a (Subscribe m patterns) there = absurd (subscribed_nothing config k patterns m a there)
 answers_due config place moment k a (Unsubscribe m patterns) there = absurd (nowhere a (of_own (m == k.number) k _ a there))
-answers_due config place moment k a (Publish event) there =
-    let e : Publication = record { place = place; event = event } in
-    inr (held_due k (received config e (resumed k)) a (received_e config e k) (of_own (is_hit (resumed k) event) k (received config e (resumed k)) a there))
+answers_due config place moment k a (Publish event) there = inr (received_due config (record { place = place; event = event }) k a there)
 answers_due config place moment k a (Disconnect m) there =
     inr (held_due k (released config place Disconnected (resumed k)) a (released_e config place Disconnected k) (of_own (m == k.number) k (ended (released config place Disconnected (resumed k))) a there))
 answers_due config place moment k a Refused there = absurd (nowhere a there)
@@ -88,13 +89,10 @@ answers_due config place moment k a (Tick numbers) there =
 -- an entry that may be a rider answers itself nothing but a connect that is held
 pub rider_due : (config : Config) (place moment : ℕ) (k : Kept) (a : Answered) (kind : EntryKind) (rides : Option Rider) (rider : Rider) → rider_of kind rides ≡ Some rider →
     Contains (map answered_of (step_by config place moment (resumed k) kind).answers) a → HoldsIt k.held a.place
-rider_due config place moment k a (Subscribe m patterns) rides rider is there =
-    absurd (nowhere a (subst (λ given. Contains (map answered_of given) a) (subscribed_quiet k config patterns) (of_own (m == k.number) k (subscribed config patterns (resumed k)) a there)))
-rider_due config place moment k a (Unsubscribe m patterns) rides rider is there = absurd (nowhere a (of_own (m == k.number) k _ a there))
-rider_due config place moment k a (Publish event) rides rider is there =
-    let e : Publication = record { place = place; event = event } in
-    held_due k (received config e (resumed k)) a (received_e config e k) (of_own (is_hit (resumed k) event) k (received config e (resumed k)) a there)
-rider_due config place moment k a _ rides rider is there = absurd (let no : None ≡ Some rider = is in cc)
+rider_due config place moment k a kind rides rider is = of_riding (λ i. Contains (map answered_of (step_by config place moment (resumed k) i).answers) a → HoldsIt k.held a.place) kind rides rider is
+    (λ m patterns there. absurd (subscribed_nothing config k patterns m a there))
+    (λ m patterns there. absurd (nowhere a (of_own (m == k.number) k _ a there)))
+    (λ event there. received_due config (record { place = place; event = event }) k a there)
 
 -- the answer to a rider is to the entry itself
 ridden_due : (config : Config) (place : ℕ) (k : Kept) (a : Answered) (t : Session) (rides : Option Rider) → (Contains (map answered_of t.answers) a → Due place k.held a) → Contains (map answered_of (ridden_by config place t rides).answers) a → Due place k.held a
@@ -117,13 +115,10 @@ pub record Unanswered (place p : ℕ) (o : Option ConnectState) : Type 0 where
   pub own : o ≡ None → p ≡ place
 
 held_unanswered : (place p n : ℕ) (o : Option ConnectState) (deadline : Option ℕ) → held_until o n ≡ Some deadline → Unanswered place p o
-held_unanswered place p n None deadline h = absurd (let e : None ≡ Some deadline = h in cc)
-held_unanswered place p n (Some (states.Held session until waker)) deadline h = record { filed = refl; own = λ e. cc }
-held_unanswered place p n (Some (states.Filed session at answer)) deadline h = absurd (let e : None ≡ Some deadline = h in cc)
+held_unanswered place p n o deadline h = grind arith
 
 pub holds_ends : (held : Option Pending) (p : ℕ) → HoldsIt held p → is_some (ends_for held p) ≡ true
-holds_ends None p h = absurd h
-holds_ends (Some q) p h = ap is_some (cond-true (nat_eq q.place p) (Some (deadline_of q)) None (eq-eqb q.place p h))
+holds_ends held p h = grind arith
 
 due_unanswered : (s : State) (place n : ℕ) (u : Kept) (a : Answered) → IsSound s → s.place ≡ place → session_in s n ≡ Some u → Due place u.held a → Unanswered place a.place (connect_in s a.place)
 due_unanswered s place n u a sound here known due =
@@ -131,10 +126,8 @@ due_unanswered s place n u a sound here known due =
     (λ h. let none : connect_in s a.place ≡ None = sound.fresh a.place (omega (arith, h, here)) in record { filed = ap filed_with_place none; own = λ e. h })
     (λ h.
     let tied : held_until (connect_in s a.place) n ≡ ends_for u.held a.place = sound.tied.holds a.place n ∙ ap (λ (o : Option Kept). holds_until o a.place) known in
-    let P : Option (Option ℕ) → Type 0 = λ o. held_until (connect_in s a.place) n ≡ o → is_some o ≡ true → Unanswered place a.place (connect_in s a.place) in
-    let at_none : P None = λ e f. absurd (let no : false ≡ true = f in cc) in
-    let at_some : (deadline : Option ℕ) → P (Some deadline) = λ deadline e f. held_unanswered place a.place n (connect_in s a.place) deadline e in
-    (elim (ends_for u.held a.place) as P [ None ↦ at_none | Some deadline ↦ at_some deadline ]) tied (holds_ends u.held a.place h))
+    by_option (λ o. is_some o ≡ true → Unanswered place a.place (connect_in s a.place)) (ends_for u.held a.place)
+    (λ e f. absurd (let no : false ≡ true = f in cc)) (λ deadline e f. held_unanswered place a.place n (connect_in s a.place) deadline (tied ∙ e)) (holds_ends u.held a.place h))
     due
 
 -- each connect that the entry answers

@@ -1,10 +1,9 @@
 -- What comes of an event that is handed to one session after another.
-use Rattle.std.proofs.Common.{zero, suc, not, ◌&&◌, slice_index, IfSome, Contains, IsTrue, ◌↔◌, ◌≤◌, length, arith, ◌<◌, ◌+◌, ◌≡◌, ◌≢◌, inl, inr, ℕ, nat_eq, Bool, true, false, cond, ◌||◌, Option, Some, None, option_map, is_none, List, [], ◌∷◌, map, refl, sym, ap, ◌∙◌, true≢false, subst}
+use Rattle.std.proofs.Common.{zero, suc, not, ◌&&◌, slice_index, IfSome, Contains, IsTrue, ◌↔◌, ◌≤◌, length, arith, ◌<◌, ◌+◌, ◌≡◌, ◌≢◌, ℕ, nat_eq, Bool, true, false, cond, ◌||◌, Option, Some, None, option_map, List, [], ◌∷◌, map, refl, sym, ap, ◌∙◌, true≢false, subst}
 use Rattle.std.specs.List.{All, list_any}
 use Rattle.std.proofs.lemmas.List.Elements.{All-head, All-tail}
 use Rattle.std.specs.List.Sorted.{IsStrictlyIncreasing}
 use Rattle.bx_names.specs.Kinds.{is_broadcast}
-use Rattle.std.specs.Option.{option_map_or}
 use Rattle.std.proofs.Math.Bool.{or-true}
 use Rattle.bx_message.specs.declared.reply.Answer.{Answer}
 use Rattle.std.proofs.lemmas.Bool.{eqb-true, eq-eqb, ne_eqb}
@@ -18,16 +17,15 @@ use Rattle.bx_session.specs.declared.answered.Answered.{Answered}
 use Rattle.bx_session.specs.Views.{Countable, answered_of, deadline_of, wants_two}
 use Rattle.bx_connects.specs.declared.connects.ConnectState.{ConnectState}
 use Rattle.bx_connects.specs.declared.connects.ConnectState.TheVariants.{Filed}
-use Rattle.bx_connects.specs.Connects.{connect_at, filed_as, session_at}
+use Rattle.bx_connects.specs.Connects.{connect_at, session_at}
 use Rattle.bx_shard.specs.declared.publish.Parcel.{Parcel}
 use Rattle.bx_shard.specs.declared.sessions.Sessions.{Sessions}
 use Rattle.bx_shard.specs.Effects.{answers_by, filing_each}
 use Rattle.bx_shard.specs.Publishing.{reaches, AllReady, IsPacked, IsReady, NoneFor, Turn, Turns, numbers_of, published_at}
-use Rattle.bx_shard.specs.Sessions.{AreCountable, AreCounted, AreHeld, IsCounted, IsOwn, HasRoom, held_until, holds_until, kept_in, patterns_in}
-use Rattle.bx_shard.proofs.Ends.{From, received_e}
-use Rattle.bx_shard.proofs.Keeps.{filing_each_session, filed_known, held_session, unfiled}
-use Rattle.bx_shard.proofs.Singles.{nowhere, only_one}
-use Rattle.bx_shard.proofs.Ties.{holds_own}
+use Rattle.bx_shard.specs.Sessions.{AreCountable, AreCounted, AreHeld, IsCounted, IsOwn, HasRoom, held_until, kept_in, patterns_in}
+use Rattle.bx_shard.proofs.Ends.{IsTo, filed_to, held_to, is_to, received_e, settles_each}
+use Rattle.bx_shard.proofs.Keeps.{filing_each_session, unfiled}
+use Rattle.bx_shard.proofs.Singles.{nowhere}
 
 -- the other sessions can get their parcels as before
 pub ready_along : (s t : Sessions) (m : ℕ) (xs : List Parcel) → NoneFor m xs → ((n : ℕ) → nat_eq m n ≡ false → kept_in t n ≡ kept_in s n)
@@ -61,7 +59,7 @@ is_for xs n = list_any (λ (x : Parcel). nat_eq x.number n) xs
 
 none_for : (xs : List Parcel) (m : ℕ) → NoneFor m xs → is_for xs m ≡ false
 none_for [] m none = refl
-none_for (x ∷ xs) m none = ap (λ b. b || is_for xs m) (ne_eqb x.number m (λ e. absurd (true≢false (sym (eq-eqb m x.number (sym e)) ∙ none.0)))) ∙ none_for xs m none.1
+none_for (x ∷ xs) m none = grind (arith, none_for xs m none.1, none.0)
 
 -- each session has one parcel at most
 abbrev pub AreApart : List Parcel → Type 0
@@ -80,7 +78,7 @@ module _ (config : Config) (place : ℕ) (e : Event) where
   abbrev pub gets : Session → Session
   gets = received config (published_at place e)
 
-  pub sessions_turned : (xs : List Parcel) (old new : Sessions) → AreOf e xs → AreApart xs → Turns config place xs old new
+  sessions_turned : (xs : List Parcel) (old new : Sessions) → AreOf e xs → AreApart xs → Turns config place xs old new
       → (n : ℕ) → kept_in new n ≡ cond (is_for xs n) (option_map (after gets) (kept_in old n)) (kept_in old n)
   sessions_turned [] old new of apart turns n = ap (λ s. kept_in s n) (sym turns)
   sessions_turned (x ∷ xs) old new of apart turns n =
@@ -101,36 +99,16 @@ module _ (config : Config) (place : ℕ) (e : Event) where
       by false h one = ap (λ o. cond (is_for xs n) (option_map (after gets) o) o) one
 
   -- what a session answers, it answers to the connect that it holds
-  holds_it : (s : Sessions) (n : ℕ) (a : Answered) → AreHeld s → Contains (answers_by gets (kept_in s n)) a
-      → (deadline : Option ℕ) × (held_until (connect_at s.connects a.place) n ≡ Some deadline)
-  holds_it s n a held given = of (kept_in s n) refl given
-    where
-      by : (k : Kept) → kept_in s n ≡ Some k → From k (gets (resumed k)) → Contains (answers_by gets (Some k)) a → (deadline : Option ℕ) × (held_until (connect_at s.connects a.place) n ≡ Some deadline)
-      by k here (inl end) there =
-          let same : end.answer ≡ a = only_one end.answer a (subst (λ given. Contains given a) end.given there) in
-          let own : a.place ≡ end.hold.place = ap (λ (x : Answered). x.place) (sym same) ∙ end.own in
-          let is : k ≡ end.session = ap (λ o. option_map_or (λ (y : Kept). y) o k) end.here in (
-            deadline_of end.hold,
-            held a.place n ∙ ap (λ o. holds_until o a.place) here ∙ ap (λ p. holds_until (Some k) p) own ∙ ap (λ y. holds_until (Some y) end.hold.place) is
-                ∙ holds_own end.session end.hold end.held,
-          )
-      by k here (inr stays) there = absurd (nowhere a (subst (λ given. Contains given a) stays.none there))
-
-      of : (o : Option Kept) → kept_in s n ≡ o → Contains (answers_by gets o) a → (deadline : Option ℕ) × (held_until (connect_at s.connects a.place) n ≡ Some deadline)
-      of None here there = absurd (nowhere a there)
-      of (Some k) here there = by k here (received_e config (published_at place e) k) there
+  answers_one : (s : Sessions) (n : ℕ) (a : Answered) → Contains (answers_by gets (kept_in s n)) a → IsTo (kept_in s n) (answers_by gets (kept_in s n)) a
+  answers_one s n a = is_to (kept_in s n) (option_map (after gets) (kept_in s n)) (answers_by gets (kept_in s n)) a (settles_each gets (received_e config (published_at place e)) (kept_in s n))
 
   -- one that is filed is held by nobody
   not_held : (state : Option ConnectState) (j p n : ℕ) (b : Answer) (deadline : Option ℕ) → state ≡ Some (Filed j p b) → held_until state n ≡ Some deadline → ⊥
-  not_held state j p n b deadline filed held = true≢false (ap is_none (sym (ap (λ o. held_until o n) filed) ∙ held))
+  not_held state j p n b deadline filed held = grind arith
 
   -- the first parcel is for none of those that get one later
   later_other : (x : Parcel) (xs : List Parcel) (n : ℕ) → NoneFor x.number xs → is_for xs n ≡ true → nat_eq x.number n ≡ false
-  later_other x xs n apart gets_one = by (nat_eq x.number n) refl
-    where
-      by : (b : Bool) → nat_eq x.number n ≡ b → nat_eq x.number n ≡ false
-      by true same = absurd (true≢false (sym gets_one ∙ subst (λ k. is_for xs k ≡ false) (eqb-true x.number n same) (none_for xs x.number apart)))
-      by false same = same
+  later_other x xs n apart gets_one = grind (arith, none_for xs x.number apart)
 
   later_same : (x : Parcel) (xs : List Parcel) (old between : Sessions) → NoneFor x.number xs → Turn config place x old between → (n : ℕ) → is_for xs n ≡ true → kept_in between n ≡ kept_in old n
   later_same x xs old between apart turn n gets_one =
@@ -150,7 +128,7 @@ module _ (config : Config) (place : ℕ) (e : Event) where
   }
 
   -- a connect that nobody is answered at is as it was
-  pub connects_kept : (xs : List Parcel) (old new : Sessions) → AreOf e xs → AreApart xs → Turns config place xs old new
+  connects_kept : (xs : List Parcel) (old new : Sessions) → AreOf e xs → AreApart xs → Turns config place xs old new
       → (p : ℕ) → ((n : ℕ) (a : Answered) → Gives old xs n a → a.place ≢ p) → connect_at new.connects p ≡ connect_at old.connects p
   connects_kept [] old new of apart turns p never = ap (λ s. connect_at s.connects p) (sym turns)
   connects_kept (x ∷ xs) old new of apart turns p never =
@@ -162,36 +140,17 @@ module _ (config : Config) (place : ℕ) (e : Event) where
         given = there;
       }))
 
-  -- the one answer is filed
-  filed_one : (s : Sessions) (n : ℕ) (a : Answered) → AreHeld s → Contains (answers_by gets (kept_in s n)) a
-      → filing_each place (answers_by gets (kept_in s n)) (connect_at s.connects) a.place ≡ Some (Filed n place a.answer)
-  filed_one s n a held given = of (kept_in s n) given
-    where
-      known : session_at (connect_at s.connects a.place) ≡ Some n
-      known = let holds = holds_it s n a held given in held_session (connect_at s.connects a.place) n holds.0 holds.1
-
-      by : (k : Kept) → From k (gets (resumed k)) → Contains (answers_by gets (Some k)) a → filing_each place (answers_by gets (Some k)) (connect_at s.connects) a.place ≡ Some (Filed n place a.answer)
-      by k (inl end) there =
-          let same : end.answer ≡ a = only_one end.answer a (subst (λ given. Contains given a) end.given there) in
-          ap (λ given. filing_each place given (connect_at s.connects) a.place) (end.given ∙ ap (λ x. x ∷ []) same)
-          ∙ ap (λ b. cond b (filed_as place a.answer (connect_at s.connects a.place)) (connect_at s.connects a.place)) (eq-eqb a.place a.place refl)
-          ∙ filed_known place n a.answer (connect_at s.connects a.place) known
-      by k (inr stays) there = absurd (nowhere a (subst (λ given. Contains given a) stays.none there))
-
-      of : (o : Option Kept) → Contains (answers_by gets o) a → filing_each place (answers_by gets o) (connect_at s.connects) a.place ≡ Some (Filed n place a.answer)
-      of None there = absurd (nowhere a there)
-      of (Some k) there = by k (received_e config (published_at place e) k) there
-
   -- each answer is filed
-  pub answers_filed : (xs : List Parcel) (old new : Sessions) → AreHeld old → AreOf e xs → AreApart xs → Turns config place xs old new
+  answers_filed : (xs : List Parcel) (old new : Sessions) → AreHeld old → AreOf e xs → AreApart xs → Turns config place xs old new
       → (n : ℕ) (a : Answered) → Gives old xs n a → connect_at new.connects a.place ≡ Some (Filed n place a.answer)
   answers_filed [] old new held of apart turns n a g = absurd (true≢false (sym g.gets_one))
   answers_filed (x ∷ xs) old new held of apart turns n a g =
       by (nat_eq x.number n) refl
       (λ gets_one. answers_filed xs turns.0 new turns.1.held of.1 apart.1 turns.2 n a (record { gets_one = gets_one; given = subst (λ o. Contains (answers_by gets o) a) (sym (later_same x xs old turns.0 apart.0 turns.1 n gets_one)) g.given }))
       (λ filed. connects_kept xs turns.0 new of.1 apart.1 turns.2 a.place (λ m b h same.
-      let other = holds_it turns.0 m b turns.1.held h.given in
-      not_held (connect_at turns.0.connects a.place) n place m a.answer other.0 filed (subst (λ q. held_until (connect_at turns.0.connects q) m ≡ Some other.0) same other.1)) ∙ filed)
+      let other = answers_one turns.0 m b h.given in
+      not_held (connect_at turns.0.connects a.place) n place m a.answer (deadline_of other.hold) filed
+      (subst (λ q. held_until (connect_at turns.0.connects q) m ≡ Some (deadline_of other.hold)) same (held_to (connect_at turns.0.connects) (kept_in turns.0) m (answers_by gets (kept_in turns.0 m)) b turns.1.held other))) ∙ filed)
     where
       by : (b : Bool) → nat_eq x.number n ≡ b → (is_for xs n ≡ true → connect_at new.connects a.place ≡ Some (Filed n place a.answer))
           → (connect_at turns.0.connects a.place ≡ Some (Filed n place a.answer) → connect_at new.connects a.place ≡ Some (Filed n place a.answer))
@@ -202,22 +161,22 @@ module _ (config : Config) (place : ℕ) (e : Event) where
           now (turns.1.connects a.place
           ∙ ap (λ v. filing_each place (answers_by (received config (published_at place v)) (kept_in old x.number)) (connect_at old.connects) a.place) of.0
           ∙ ap (λ k. filing_each place (answers_by gets (kept_in old k)) (connect_at old.connects) a.place) m
-          ∙ filed_one old n a held g.given)
+          ∙ filed_to (connect_at old.connects) (kept_in old) place n (answers_by gets (kept_in old n)) a held (answers_one old n a g.given))
 
   -- ---- what stays
 
   -- no connect changes its session
-  pub sessions_kept : (xs : List Parcel) (old new : Sessions) → Turns config place xs old new → (p : ℕ) → session_at (connect_at new.connects p) ≡ session_at (connect_at old.connects p)
+  sessions_kept : (xs : List Parcel) (old new : Sessions) → Turns config place xs old new → (p : ℕ) → session_at (connect_at new.connects p) ≡ session_at (connect_at old.connects p)
   sessions_kept [] old new turns p = ap (λ s. session_at (connect_at s.connects p)) (sym turns)
   sessions_kept (x ∷ xs) old new turns p =
       sessions_kept xs turns.0 new turns.2 p ∙ ap session_at (turns.1.connects p)
       ∙ filing_each_session place (answers_by (received config (published_at place x.event)) (kept_in old x.number)) (connect_at old.connects) p
 
-  pub held_after : (xs : List Parcel) (old new : Sessions) → AreHeld old → Turns config place xs old new → AreHeld new
+  held_after : (xs : List Parcel) (old new : Sessions) → AreHeld old → Turns config place xs old new → AreHeld new
   held_after [] old new held turns = subst AreHeld turns held
   held_after (x ∷ xs) old new held turns = held_after xs turns.0 new turns.1.held turns.2
 
-  pub config_after : (xs : List Parcel) (old new : Sessions) → Turns config place xs old new → new.config ≡ old.config
+  config_after : (xs : List Parcel) (old new : Sessions) → Turns config place xs old new → new.config ≡ old.config
   config_after [] old new turns = ap (λ s. s.config) (sym turns)
   config_after (x ∷ xs) old new turns = config_after xs turns.0 new turns.2 ∙ turns.1.config_is
 
@@ -305,8 +264,7 @@ hears_is e n k patterns own =
     ∙ told k.overflow (is_broadcast e.channel) (any_matches patterns (segments e.channel)) ∙ by k.overflow refl (reaches e patterns) refl
   where
     told : (o a b : Bool) → ((not o && a) && b) ≡ (not o && (a && b))
-    told true a b = refl
-    told false a b = refl
+    told o a b = grind arith
 
     by : (o : Bool) → k.overflow ≡ o → (r : Bool) → reaches e patterns ≡ r → (not o && reaches e patterns) ≡ reaches e patterns
     by false h r g = refl
@@ -314,6 +272,15 @@ hears_is e n k patterns own =
     by true h true g = absurd (true≢false (sym g ∙ silent e patterns (own.emptied h)))
 
 -- ---- the whole publish
+
+-- each session that hears the event got it, its held connect is answered with it, and nothing else has changed
+pub record Handed (config : Config) (place : ℕ) (e : Event) (old new : Sessions) : Type 0 where
+  pub sessions : (n : ℕ) → kept_in new n ≡ option_map (after (published config (published_at place e))) (kept_in old n)
+  pub given : (n : ℕ) (a : Answered) → Contains (answers_by (published config (published_at place e)) (kept_in old n)) a → connect_at new.connects a.place ≡ Some (Filed n place a.answer)
+  pub kept : (p : ℕ) → ((n : ℕ) (a : Answered) → Contains (answers_by (published config (published_at place e)) (kept_in old n)) a → a.place ≢ p) → connect_at new.connects p ≡ connect_at old.connects p
+  pub known : (p : ℕ) → session_at (connect_at new.connects p) ≡ session_at (connect_at old.connects p)
+  pub held : AreHeld new
+  pub config_is : new.config ≡ old.config
 
 module _ (config : Config) (place : ℕ) (e : Event) (s t new : Sessions) (xs : List Parcel) (counted : AreCounted s) (sessions : (n : ℕ) → kept_in t n ≡ kept_in s n)
     (of : AreOf e xs) (reached : (n : ℕ) → (Contains (numbers_of xs) n ↔ IsTrue (reaches e (patterns_in s n)))) where
@@ -328,7 +295,7 @@ module _ (config : Config) (place : ℕ) (e : Event) (s t new : Sessions) (xs : 
   hears_if n k here = hears_is e n k (patterns_in s n) (subst (λ o. IsCounted n o (patterns_in s n)) here (counted n)) ∙ sym (gets_if n)
 
   -- each session that hears the event gets it
-  pub all_hear : AreApart xs → Turns config place xs t new → (n : ℕ) → kept_in new n ≡ option_map (after hears) (kept_in s n)
+  all_hear : AreApart xs → Turns config place xs t new → (n : ℕ) → kept_in new n ≡ option_map (after hears) (kept_in s n)
   all_hear apart turns n =
       sessions_turned config place e xs t new of apart turns n
       ∙ ap (λ o. cond (is_for xs n) (option_map (after (gets config place e)) o) o) (sessions n)
@@ -349,7 +316,7 @@ module _ (config : Config) (place : ℕ) (e : Event) (s t new : Sessions) (xs : 
       by (Some k) h = some k (is_for xs n) (is_hit (resumed k) e) (hears_if n k h)
 
   -- what a session answers to the publish, it answers as one that gets the event
-  pub gives_if : (n : ℕ) (a : Answered) → Contains (answers_by hears (kept_in s n)) a → Gives config place e t xs n a
+  gives_if : (n : ℕ) (a : Answered) → Contains (answers_by hears (kept_in s n)) a → Gives config place e t xs n a
   gives_if n a there = by (kept_in s n) refl there
     where
       some : (k : Kept) (b c : Bool) → is_for xs n ≡ b → c ≡ b → kept_in s n ≡ Some k → Contains (map answered_of (cond c (gets config place e (resumed k)) (resumed k)).answers) a → Gives config place e t xs n a
@@ -363,7 +330,7 @@ module _ (config : Config) (place : ℕ) (e : Event) (s t new : Sessions) (xs : 
       by (Some k) here in_it = some k (is_for xs n) (is_hit (resumed k) e) refl (hears_if n k here) here in_it
 
   -- and the other way round
-  pub if_gives : (n : ℕ) (a : Answered) → Gives config place e t xs n a → Contains (answers_by hears (kept_in s n)) a
+  if_gives : (n : ℕ) (a : Answered) → Gives config place e t xs n a → Contains (answers_by hears (kept_in s n)) a
   if_gives n a g = by (kept_in s n) refl (subst (λ o. Contains (answers_by (gets config place e) o) a) (sessions n) g.given)
     where
       some : (k : Kept) (c : Bool) → c ≡ true → Contains (answers_by (gets config place e) (Some k)) a → Contains (map answered_of (cond c (gets config place e (resumed k)) (resumed k)).answers) a
@@ -391,3 +358,14 @@ module _ (config : Config) (place : ℕ) (e : Event) (s t new : Sessions) (xs : 
               live : (o : Bool) → k.overflow ≡ o → k.overflow ≡ false
               live false g = g
               live true g = absurd (true≢false (sym ((reached x.number).0 there) ∙ silent e (patterns_in s x.number) (c.emptied g)))
+
+  -- all that comes of it
+  pub handed : AreApart xs → AreHeld t → t.connects ≡ s.connects → t.config ≡ s.config → Turns config place xs t new → Handed config place e s new
+  handed apart held connects same turns = record {
+    sessions = all_hear apart turns;
+    given = λ n a there. answers_filed config place e xs t new held of apart turns n a (gives_if n a there);
+    kept = λ p never. connects_kept config place e xs t new of apart turns p (λ n a gives. never n a (if_gives n a gives)) ∙ ap (λ c. connect_at c p) connects;
+    known = λ p. sessions_kept config place e xs t new turns p ∙ ap (λ c. session_at (connect_at c p)) connects;
+    held = held_after config place e xs t new held turns;
+    config_is = config_after config place e xs t new turns ∙ same;
+  }

@@ -1,5 +1,5 @@
 -- What a shard holds: each session is reached and live, and their numbers ascend.
-use Rattle.std.proofs.Common.{◌≡◌, ℕ, zero, suc, ◌+◌, ◌<◌, ◌≤◌, Bool, true, false, cond, List, [], ◌∷◌, length, take, map, filter, slice_index, refl, sym, ap, ◌∙◌, subst, arith, length-take}
+use Rattle.std.proofs.Common.{◌≡◌, ℕ, zero, suc, ◌+◌, ◌<◌, ◌≤◌, true, List, [], ◌∷◌, length, take, map, filter, slice_index, refl, sym, ap, ◌∙◌, subst, arith, length-take}
 use Rattle.std.proofs.lemmas.Bool.{cond_both}
 use Rattle.std.proofs.lemmas.List.{length-map}
 use Rattle.std.proofs.lemmas.List.Elements.{All-nil, All-cons}
@@ -76,15 +76,7 @@ kept_number config number es = run_number config (unopened number) es
 -- the numbers of those that are held are those of the live ones
 held_numbers : (config : Config) (es : List Entry) (ns : List ℕ) → map (λ (k : Kept). k.number) (held_by config es ns) ≡ filter (λ (n : ℕ). is_live (session config n es).stage) ns
 held_numbers config es [] = refl
-held_numbers config es (n ∷ ns) =
-    let F : List Kept → List ℕ = map (λ (k : Kept). k.number) in
-    let ks : List Kept = held_by config es ns in
-    let live : ℕ → Bool = λ m. is_live (session config m es).stage in
-    ap (map (λ (k : Kept). k.number)) (held_cons config es n ns)
-    ∙ (elim (is_live (session config n es).stage) as (λ b. map (λ (k : Kept). k.number) (cond b (kept (session config n es) ∷ ks) ks) ≡ cond b (n ∷ filter live ns) (filter live ns)) [
-      | true ↦ ap (λ (m : ℕ). m ∷ F ks) (kept_number config n es) ∙ ap (λ (ms : List ℕ). n ∷ ms) (held_numbers config es ns)
-      | false ↦ held_numbers config es ns
-    ])
+held_numbers config es (n ∷ ns) = grind (arith, held_numbers config es ns, kept_number config n es)
 
 pub sessions_ascend : NumbersAscend
 sessions_ascend setup list taken shard n =

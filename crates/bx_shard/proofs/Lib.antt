@@ -28,3 +28,4 @@ pub mod Ties
 pub mod Untaken
 pub mod Waits
 pub mod Waking
+pub mod Cases

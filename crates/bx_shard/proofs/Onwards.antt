@@ -1,30 +1,30 @@
 -- A shard that has applied an entry holds what the definition's shard holds after it.
-use Rattle.std.proofs.Common.{◌≡◌, ◌≢◌, ⊎_elim, get_or, ℕ, ◌+◌, ◌<◌, ◌≤◌, Bool, true, false, cond, ◌&&◌, is_some, Option, Some, None, List, [], ◌∷◌, ◌++◌, length, take, map, filter, flat_map, option_map, slice_get, nat_eq, ◌==◌, refl, sym, ap, ◌∙◌, subst, arith, eqb-true, eq-eqb, length-take}
+use Rattle.std.proofs.Common.{◌≡◌, ◌≢◌, ⊎_elim, get_or, ℕ, ◌+◌, ◌<◌, ◌≤◌, Bool, true, false, cond, ◌&&◌, is_some, Option, Some, None, List, [], ◌∷◌, ◌++◌, length, take, map, filter, flat_map, option_map, slice_get, ◌==◌, refl, sym, ap, ◌∙◌, subst, arith, eq-eqb, length-take}
 use Rattle.std.proofs.lemmas.Bool.{and_right, both_ways, cond_both, cond-true}
 use Rattle.std.proofs.lemmas.List.{length_push, map-append}
 use Rattle.std.proofs.lemmas.List.Elements.{All-map, filter-append}
 use Rattle.std.proofs.lemmas.List.Folds.{find-append}
 use Rattle.std.specs.List.{All, Contains, list_any}
 use Rattle.std.specs.Option.{option_and_then, option_or}
+use Rattle.bx_lists.proofs.Lists.{or_none}
 use Rattle.bx_lists.proofs.Tests.{either}
 use Rattle.bx_advice.specs.declared.config.Config.{Config}
 use Rattle.bx_entry.specs.declared.entry.Entry.{Entry}
 use Rattle.bx_entry.specs.declared.entry.EntryKind.{EntryKind}
 use Rattle.bx_entry.specs.declared.entry.Rider.{Rider}
-use Rattle.bx_entry.specs.declared.entry.EntryKind.TheVariants.{Opened, Connect, Subscribe, Unsubscribe, Publish, Disconnect, Refused, Tick}
+use Rattle.bx_entry.specs.declared.entry.EntryKind.TheVariants.{Opened}
 use Rattle.bx_entry.specs.Answers.{answer_of}
 use Rattle.bx_entry.specs.Listing.{Listed}
 use Rattle.bx_entry.specs.Keeping.{Kept, kept, kept_answers, kept_step, resumed}
 use Rattle.bx_entry.specs.Registry.{entries, registry}
-use Rattle.bx_entry.specs.Sessions.{Filed, Live, Session, Stage, is_live, step, unopened}
-use Rattle.bx_entry.specs.Sessions as sessions
+use Rattle.bx_entry.specs.Sessions.{Filed, Live, Session, is_live, step, unopened}
 use Rattle.bx_theory.proofs.Stages.{step_number}
 use Rattle.bx_session.specs.declared.answered.Answered.{Answered}
-use Rattle.bx_session.specs.Views.{answered_of, deadline_of, pending}
+use Rattle.bx_session.specs.Views.{answered_of}
 use Rattle.bx_session.proofs.FilingLemmas.{files_alike}
 use Rattle.bx_connects.specs.declared.connects.ConnectState.{ConnectState}
 use Rattle.bx_connects.specs.declared.connects.ConnectState.TheVariants as states
-use Rattle.bx_connects.specs.Connects.{held_by, session_at}
+use Rattle.bx_connects.specs.Connects.{session_at}
 use Rattle.bx_shard.specs.Effects as effects
 use Rattle.bx_shard.specs.Effects.{holding}
 use Rattle.bx_shard.specs.Refining.{Refines, RefinesOnwards, IsConnectOf, IsOwn, filed_with_place, placed}
@@ -32,6 +32,7 @@ use Rattle.bx_shard.specs.Holdings.{IsReached}
 use Rattle.bx_shard.specs.Shards.{Setup, is_taken, sessions_in, shard_at, stands_in}
 use Rattle.bx_shard.specs.States.{Applied, IsGiven, IsSound, State, begun, connect_in, if_live, let_go, opening, opens_in, session_after, session_in}
 use Rattle.bx_shard.specs.Steps.{answers_by, opening_by, stepped}
+use Rattle.bx_shard.proofs.Cases.{by_option}
 use Rattle.bx_shard.proofs.Elements.{Met, met}
 use Rattle.bx_shard.proofs.Filings.{shards_file}
 use Rattle.bx_shard.proofs.Finding.{Apart, GivenBy, apart, contains_found, each_none, find_kept, found_each, given_by, next, none_there, numbers_of, placed_found, steps, steps_found}
@@ -40,17 +41,13 @@ use Rattle.bx_shard.proofs.Holdings.{holds_reached, holds_stand, sessions_ascend
 use Rattle.bx_shard.proofs.Placed.{entry_placed}
 use Rattle.bx_shard.proofs.Singles.{nowhere}
 use Rattle.bx_shard.proofs.Stepping.{shards_step}
-use Rattle.bx_shard.proofs.Taking.{connect_of_filed, find_of, none_taken}
+use Rattle.bx_shard.proofs.Taking.{connect_of_filed, none_taken}
+use Rattle.bx_shard.proofs.Untaken.{find_of}
 use Rattle.bx_shard.proofs.Waits.{WaitsAt, connect_waits, rider_waits}
 
 -- an entry by its parts
 abbrev entry : ℕ → ℕ → Option Rider → EntryKind → Entry
 entry place moment rides kind = record { place = place; moment = moment; kind = kind; rides = rides }
-
--- nothing else is taken
-or_nothing : (o : Option Kept) → option_or o None ≡ o
-or_nothing None = refl
-or_nothing (Some k) = refl
 
 -- ---- the sessions
 
@@ -103,22 +100,7 @@ opened_found setup index place moment rides m _ = refl
 -- a session that is there is as the entry leaves it, whatever the entry opens
 onward_first : (config : Config) (stands : Bool) (place moment : ℕ) (rides : Option Rider) (m : ℕ) (k : Kept) (kind : EntryKind) → k.stage ≡ Live →
     option_or (onward config (entry place moment rides kind) k) (option_and_then (onward config (entry place moment rides kind)) (opening stands kind m)) ≡ onward config (entry place moment rides kind) k
-onward_first config stands place moment rides m k (Opened n ack) live =
-    let t : Session = step config (resumed k) (entry place moment rides (Opened n ack)) in
-    let begun_same : sessions.begun ack (resumed k) k.stage ≡ resumed k = ap (λ (stage : Stage). sessions.begun ack (resumed k) stage) live in
-    let same : step config (resumed k) (entry place moment rides (Opened n ack)) ≡ resumed k =
-    cond_both (n == k.number) (sessions.begun ack (resumed k) k.stage) (resumed k) (λ (u : Session). u ≡ resumed k) (λ h. begun_same) (λ h. refl) in
-    let stays : onward config (entry place moment rides (Opened n ack)) k ≡ Some (kept t) =
-    cond-true (is_live t.stage) (Some (kept t)) None (ap (λ (u : Session). is_live u.stage) same ∙ ap is_live live) in
-    let other : Option Kept = option_and_then (onward config (entry place moment rides (Opened n ack))) (opening stands (Opened n ack) m) in
-    ap (λ o. option_or o other) stays ∙ sym stays
-onward_first config stands place moment rides m k (Connect n client id acked hold) live = or_nothing (onward config (entry place moment rides (Connect n client id acked hold)) k)
-onward_first config stands place moment rides m k (Subscribe n patterns) live = or_nothing (onward config (entry place moment rides (Subscribe n patterns)) k)
-onward_first config stands place moment rides m k (Unsubscribe n patterns) live = or_nothing (onward config (entry place moment rides (Unsubscribe n patterns)) k)
-onward_first config stands place moment rides m k (Publish e) live = or_nothing (onward config (entry place moment rides (Publish e)) k)
-onward_first config stands place moment rides m k (Disconnect n) live = or_nothing (onward config (entry place moment rides (Disconnect n)) k)
-onward_first config stands place moment rides m k Refused live = or_nothing (onward config (entry place moment rides Refused) k)
-onward_first config stands place moment rides m k (Tick numbers) live = or_nothing (onward config (entry place moment rides (Tick numbers)) k)
+onward_first config stands place moment rides m k kind live = grind arith
 
 found_stepped : (setup : Setup) (index : ℕ) (e : Entry) (ks : List Kept) (m : ℕ) → Apart (numbers_of ks) → find_kept m (stepped setup index e ks)
     ≡ option_or (option_and_then (onward setup.config e) (find_kept m ks)) (option_and_then (onward setup.config e) (opening (opens_in setup index e.kind) e.kind m))
@@ -144,11 +126,9 @@ sessions_next : (s : State) (e : Entry) (ks : List Kept) (m : ℕ) → AllReache
 sessions_next s e ks m reached d known =
     let config : Config = s.setup.config in
     let stands : Bool = opens_in s.setup s.index e.kind in
-    let P : Option Kept → Type 0 = λ o. find_kept m ks ≡ o → session_after s.setup.config (opens_in s.setup s.index e.kind) e m o
-    ≡ option_or (option_and_then (onward s.setup.config e) o) (option_and_then (onward s.setup.config e) (opening (opens_in s.setup s.index e.kind) e.kind m)) in
-    let at_some : (k : Kept) → P (Some k) = λ k f. let w = found_each (IsReached e.place) m ks k f reached in sym (onward_first config stands e.place e.moment e.rides m k e.kind w.0.live) in
     ap (session_after config stands e m) (known m)
-    ∙ (elim (find_kept m ks) as P [ None ↦ λ f. refl | Some k ↦ at_some k ]) refl
+    ∙ by_option (λ o. session_after config stands e m o ≡ option_or (option_and_then (onward config e) o) (option_and_then (onward config e) (opening stands e.kind m))) (find_kept m ks)
+    (λ f. refl) (λ k f. let w = found_each (IsReached e.place) m ks k f reached in sym (onward_first config stands e.place e.moment e.rides m k e.kind w.0.live))
     ∙ sym (found_stepped s.setup s.index e ks m d)
 
 -- ---- the answers that the entry gives
@@ -163,12 +143,13 @@ none_given s e ks p known none number a g =
     let config : Config = s.setup.config in
     let Not : Answered → Type 0 = λ x. (x.place == p) ≡ false in
     let each : All (λ k. find_of p (kept_answers config k e) ≡ None) ks = each_none (λ k. kept_answers config k e) p ks none in
-    let P : Option Kept → Type 0 = λ o. find_kept number ks ≡ o → Contains (given_by_one s e o) a → Not a in
-    let at_some : (k : Kept) → P (Some k) = λ k f there.
+    let other : (a.place == p) ≡ false =
+    by_option (λ o. Contains (given_by_one s e o) a → Not a) (find_kept number ks)
+    (λ f there. absurd (nowhere a there))
+    (λ k f there.
     let w = found_each (λ j. find_of p (kept_answers config j e) ≡ None) number ks k f each in
-    all_contains Not (map answered_of (kept_answers config k e)) a (All-map Not answered_of (kept_answers config k e) (none_there p (kept_answers config k e) w.0)) there in
-    let at_none : P None = λ f there. absurd (nowhere a there) in
-    let other : (a.place == p) ≡ false = (elim (find_kept number ks) as P [ None ↦ at_none | Some k ↦ at_some k ]) refl (subst (λ o. Contains (given_by_one s e o) a) (known number) g) in
+    all_contains Not (map answered_of (kept_answers config k e)) a (All-map Not answered_of (kept_answers config k e) (none_there p (kept_answers config k e) w.0)) there)
+    (subst (λ o. Contains (given_by_one s e o) a) (known number) g) in
     λ h. both_ways (a.place == p) other (eq-eqb a.place p h)
 
 -- the answer that is found is given
@@ -206,25 +187,11 @@ let_go_none numbers (Some (states.Filed session place answer)) h = absurd (let n
 
 -- no answer is filed or lost by it
 begun_filed : (s : State) (e : Entry) (kind : EntryKind) (p : ℕ) → connect_in s e.place ≡ None → filed_with_place (begun (session_in s) (connect_in s) e kind p) ≡ filed_with_place (connect_in s p)
-begun_filed s e (Connect m client id acked hold) p fresh =
-    let P : Option ConnectState → Type 0 = λ o. filed_with_place o ≡ filed_with_place (connect_in s p) in
-    cond_both (is_some (session_in s m)) (holding m (pending e.place client id e.moment hold) (connect_in s) p) (connect_in s p) P
-    (λ h. cond_both (nat_eq e.place p) (held_by m (deadline_of (pending e.place client id e.moment hold))) (connect_in s p) P
-    (λ t. sym (ap filed_with_place (subst (λ (q : ℕ). connect_in s q ≡ None) (eqb-true e.place p t) fresh))) (λ t. refl))
-    (λ h. refl)
-begun_filed s e (Tick numbers) p fresh = let_go_filed numbers (connect_in s p)
-begun_filed s e _ p fresh = refl
+begun_filed s e kind p fresh = grind arith
 
 -- and nothing is known of any but the entry's own, where nothing was
 pub begun_none : (s : State) (e : Entry) (kind : EntryKind) (p : ℕ) → connect_in s p ≡ None → p ≢ e.place → begun (session_in s) (connect_in s) e kind p ≡ None
-begun_none s e (Connect m client id acked hold) p none other =
-    let P : Option ConnectState → Type 0 = λ o. o ≡ None in
-    cond_both (is_some (session_in s m)) (holding m (pending e.place client id e.moment hold) (connect_in s) p) (connect_in s p) P
-    (λ h. cond_both (nat_eq e.place p) (held_by m (deadline_of (pending e.place client id e.moment hold))) (connect_in s p) P
-    (λ t. absurd (other (sym (eqb-true e.place p t)))) (λ t. none))
-    (λ h. none)
-begun_none s e (Tick numbers) p none other = let_go_none numbers (connect_in s p) none
-begun_none s e _ p none other = none
+begun_none s e kind p none other = grind arith
 
 -- ---- one entry of the list
 
@@ -263,10 +230,9 @@ same_filed : (list : List Listed) (taken : List ℕ) (n : ℕ) (e : Entry) (s : 
 same_filed list taken n e s p b none =
     let fs : ℕ → List Filed = λ m. flat_map (λ (x : Session). x.answers) (sessions_in s.setup list s.index m) in
     let o : Option Filed = filed_then list taken s n p in
-    let P : Option Filed → Type 0 = λ q. option_or q None ≡ q in
     either (is_taken taken p) (filed_then list taken s (n + 1) p ≡ filed_then list taken s n p)
     (λ t. none_taken taken p (fs (n + 1)) t ∙ sym (none_taken taken p (fs n) t))
-    (λ u. shards_file s.setup list taken s.index n e p b.room b.there u ∙ ap (option_or o) none ∙ (elim (filed_then list taken s n p) as P [ None ↦ refl | Some f ↦ refl ]))
+    (λ u. shards_file s.setup list taken s.index n e p b.room b.there u ∙ ap (option_or o) none ∙ or_none o)
 
 -- the connect of an answer that is given is one of the shard
 given_is_connect : (list : List Listed) (taken : List ℕ) (n : ℕ) (e : Entry) (s : State) (p : ℕ) (f : Filed) → Before list taken n e s → given_at list taken n e s p ≡ Some f → IsConnectOf s.setup list s.index p
@@ -274,10 +240,8 @@ given_is_connect list taken n e s p f b some =
     let nobody : List ℕ = [] in
     let next_filed : filed_then list nobody s (n + 1) p ≡ option_or (filed_then list nobody s n p) (Some f) =
     shards_file s.setup list nobody s.index n e p b.room b.there refl ∙ ap (option_or (filed_then list nobody s n p)) some in
-    let P : Option Filed → Type 0 = λ o. filed_then list nobody s (n + 1) p ≡ option_or o (Some f) → IsConnectOf s.setup list s.index p in
-    let at_none : P None = λ h. connect_of_filed s.setup list nobody s.index (n + 1) p f h in
-    let at_some : (g : Filed) → P (Some g) = λ g h. connect_of_filed s.setup list nobody s.index (n + 1) p g h in
-    (elim (filed_then list nobody s n p) as P [ None ↦ at_none | Some g ↦ at_some g ]) next_filed
+    by_option (λ o. filed_then list nobody s (n + 1) p ≡ option_or o (Some f) → IsConnectOf s.setup list s.index p) (filed_then list nobody s n p)
+    (λ e h. connect_of_filed s.setup list nobody s.index (n + 1) p f h) (λ g e h. connect_of_filed s.setup list nobody s.index (n + 1) p g h) next_filed
 
 -- a connect that is answered was not answered before, nor was its answer taken
 record Answers (list : List Listed) (taken : List ℕ) (n : ℕ) (e : Entry) (s : State) (p : ℕ) (f : Filed) : Type 0 where
@@ -287,8 +251,7 @@ record Answers (list : List Listed) (taken : List ℕ) (n : ℕ) (e : Entry) (s 
   first : filed_then list taken s n p ≡ None
 
 none_answer : (o : Option Filed) → option_map answer_of o ≡ None → o ≡ None
-none_answer None h = refl
-none_answer (Some f) h = absurd (let no : Some (answer_of f) ≡ None = h in cc)
+none_answer o h = grind arith
 
 answered : (list : List Listed) (taken : List ℕ) (n : ℕ) (e : Entry) (s : State) (p : ℕ) (f : Filed) → Before list taken n e s → given_at list taken n e s p ≡ Some f → Answers list taken n e s p f
 answered list taken n e s p f b some =
@@ -315,38 +278,36 @@ unanswered_as list taken n e s new p b a none =
 
 filed_next : (list : List Listed) (taken : List ℕ) (n : ℕ) (e : Entry) (s new : State) (p : ℕ) → Before list taken n e s → Applied s e new → filed_with_place (connect_in new p) ≡ option_map answer_of (filed_then list taken s (n + 1) p)
 filed_next list taken n e s new p b a =
-    let P : Option Filed → Type 0 = λ o. given_at list taken n e s p ≡ o → filed_with_place (connect_in new p) ≡ option_map answer_of (filed_then list taken s (n + 1) p) in
-    let at_none : P None = λ h.
-    ap filed_with_place (unanswered_as list taken n e s new p b a h) ∙ begun_filed s e e.kind p b.fresh ∙ b.holds.filed p ∙ ap (option_map answer_of) (sym (same_filed list taken n e s p b h)) in
-    let at_some : (f : Filed) → P (Some f) = λ f h.
+    by_option (λ o. filed_with_place (connect_in new p) ≡ option_map answer_of (filed_then list taken s (n + 1) p)) (given_at list taken n e s p)
+    (λ h. ap filed_with_place (unanswered_as list taken n e s new p b a h) ∙ begun_filed s e e.kind p b.fresh ∙ b.holds.filed p ∙ ap (option_map answer_of) (sym (same_filed list taken n e s p b h)))
+    (λ f h.
     let w : Answers list taken n e s p f = answered list taken n e s p f b h in
     let here : connect_in new p ≡ Some (states.Filed w.gives.number e.place (answered_of f).answer) =
     subst (λ (q : ℕ). connect_in new q ≡ Some (states.Filed w.gives.number e.place (answered_of f).answer)) w.gives.connect (a.connects.given w.gives.number (answered_of f) w.gives.given) in
     let there : filed_then list taken s (n + 1) p ≡ Some f =
     shards_file s.setup list taken s.index n e p b.room b.there (untaken_then taken p w.free) ∙ ap (λ (o : Option Filed). option_or o (given_at list taken n e s p)) w.first ∙ h in
-    ap filed_with_place here ∙ ap Some (sym w.gives.answer) ∙ sym (ap (option_map answer_of) there) in
-    (elim (given_at list taken n e s p) as P [ None ↦ at_none | Some f ↦ at_some f ]) refl
+    ap filed_with_place here ∙ ap Some (sym w.gives.answer) ∙ sym (ap (option_map answer_of) there))
 
 gone_next : (list : List Listed) (taken : List ℕ) (n : ℕ) (e : Entry) (s new : State) (p : ℕ) → Before list taken n e s → Applied s e new → is_taken taken p ≡ true → IsConnectOf s.setup list s.index p → (p < n + 1) × (connect_in new p ≡ None)
 gone_next list taken n e s new p b a t c =
     let g = b.holds.gone p t c in
     let below : p < n + 1 = let l : p < n = g.0 in omega (arith, l) in
-    let other : p ≢ e.place = λ own. (let l : p < n = g.0 in omega (arith, own, b.place, l)) in
-    let P : Option Filed → Type 0 = λ o. given_at list taken n e s p ≡ o → connect_in new p ≡ None in
-    let at_none : P None = λ h. unanswered_as list taken n e s new p b a h ∙ begun_none s e e.kind p g.1 other in
-    let at_some : (f : Filed) → P (Some f) = λ f h. absurd ((answered list taken n e s p f b h).free t) in
-    (below, (elim (given_at list taken n e s p) as P [ None ↦ at_none | Some f ↦ at_some f ]) refl)
+    let other : p ≢ e.place = λ own. (let l : p < n = g.0 in omega (arith, own, b.place, l)) in (
+      below,
+      by_option (λ o. connect_in new p ≡ None) (given_at list taken n e s p)
+          (λ h. unanswered_as list taken n e s new p b a h ∙ begun_none s e e.kind p g.1 other) (λ f h. absurd ((answered list taken n e s p f b h).free t)),
+    )
 
 -- a session that the shard holds stands in it
 stands_here : (list : List Listed) (taken : List ℕ) (n : ℕ) (e : Entry) (s : State) (m : ℕ) → Before list taken n e s → is_some (session_in s m) ≡ true → stands_in s.setup s.index m ≡ true
 stands_here list taken n e s m b here =
     let ks : List Kept = (shard_at s.setup list taken s.index n).sessions in
-    let P : Option Kept → Type 0 = λ o. find_kept m ks ≡ o → session_in s m ≡ o → stands_in s.setup s.index m ≡ true in
-    let at_none : P None = λ f h. absurd (let no : false ≡ true = sym (ap is_some h) ∙ here in cc) in
-    let at_some : (k : Kept) → P (Some k) = λ k f h.
+    by_option (λ o. session_in s m ≡ o → stands_in s.setup s.index m ≡ true) (find_kept m ks)
+    (λ f h. absurd (let no : false ≡ true = sym (ap is_some h) ∙ here in cc))
+    (λ k f h.
     let w = found_each (λ j. stands_in s.setup s.index j.number ≡ true) m ks k f (holds_stand s.setup list taken s.index n) in
-    subst (λ (q : ℕ). stands_in s.setup s.index q ≡ true) w.1 w.0 in
-    (elim (find_kept m ks) as P [ None ↦ at_none | Some k ↦ at_some k ]) refl (b.holds.sessions m)
+    subst (λ (q : ℕ). stands_in s.setup s.index q ≡ true) w.1 w.0)
+    (b.holds.sessions m)
 
 -- a connect or a rider that is known is one of a session that stands in the shard
 owned_next : (list : List Listed) (taken : List ℕ) (n : ℕ) (e : Entry) (s new : State) (p m : ℕ) → Before list taken n e s → Applied s e new → session_at (connect_in new p) ≡ Some m → IsOwn s.setup list s.index p m

@@ -13,6 +13,7 @@ use Rattle.bx_shard.specs.Holdings.{IsReached}
 use Rattle.bx_shard.specs.Sessions.{AreCountable}
 use Rattle.bx_shard.specs.Shards.{Setup, shard_at}
 use Rattle.bx_shard.specs.States.{State, session_in}
+use Rattle.bx_shard.proofs.Cases.{by_option}
 use Rattle.bx_shard.proofs.Finding.{find_kept, found_each}
 use Rattle.bx_shard.proofs.Holdings.{holds_reached, opened_is_fresh}
 
@@ -21,15 +22,13 @@ pub holds_countable : (setup : Setup) (list : List Listed) (taken : List ℕ) (s
 holds_countable setup list taken shard n s room h few number =
     let ks : List Kept = (shard_at setup list taken shard n).sessions in
     let Q : Option Kept → Type 0 = λ o. IfSome o Countable in
-    let P : Option Kept → Type 0 = λ o. find_kept number ks ≡ o → Q o in
-    let at_some : (k : Kept) → P (Some k) = λ k f. let w = found_each (IsReached n) number ks k f (holds_reached setup list taken shard n) in omega (arith, few, w.0.numbers) in
-    subst Q (sym (h.sessions number)) ((elim (find_kept number ks) as P [ None ↦ λ f. tt | Some k ↦ at_some k ]) refl)
+    subst Q (sym (h.sessions number)) (by_option Q (find_kept number ks) (λ f. tt)
+    (λ k f. let w = found_each (IsReached n) number ks k f (holds_reached setup list taken shard n) in omega (arith, few, w.0.numbers)))
 
 -- a session that the next entry opens isn't there
 pub holds_unopened : (setup : Setup) (list : List Listed) (taken : List ℕ) (shard n number : ℕ) (ack : Bool) (e : Entry) (s : State) → Refines setup list taken shard n s →
     slice_get (entries setup.config list) n ≡ Some e → e.kind ≡ Opened number ack → session_in s number ≡ None
 holds_unopened setup list taken shard n number ack e s h there kind =
     let ks : List Kept = (shard_at setup list taken shard n).sessions in
-    let P : Option Kept → Type 0 = λ o. find_kept number ks ≡ o → o ≡ None in
-    let at_some : (k : Kept) → P (Some k) = λ k f. absurd (let w = found_each (λ j. j.number < number) number ks k f (opened_is_fresh setup list taken shard n number ack e there kind) in let l : k.number < number = w.0 in omega (arith, l, w.1)) in
-    h.sessions number ∙ (elim (find_kept number ks) as P [ None ↦ λ f. refl | Some k ↦ at_some k ]) refl
+    h.sessions number ∙ by_option (λ o. o ≡ None) (find_kept number ks) (λ f. refl)
+    (λ k f. absurd (let w = found_each (λ j. j.number < number) number ks k f (opened_is_fresh setup list taken shard n number ack e there kind) in let l : k.number < number = w.0 in omega (arith, l, w.1)))

@@ -10,7 +10,7 @@ use Rattle.bx_advice.specs.declared.config.Config.{Config}
 use Rattle.bx_message.specs.declared.event.Event.{Event}
 use Rattle.bx_entry.specs.declared.entry.Entry.{Entry}
 use Rattle.bx_entry.specs.declared.entry.EntryKind.{EntryKind}
-use Rattle.bx_entry.specs.declared.entry.EntryKind.TheVariants.{Opened, Connect, Subscribe, Unsubscribe, Publish, Disconnect, Refused, Tick}
+use Rattle.bx_entry.specs.declared.entry.EntryKind.TheVariants.{Subscribe, Unsubscribe, Publish}
 use Rattle.bx_entry.specs.declared.entry.Rider.{Rider}
 use Rattle.bx_entry.specs.Keeping.{Kept, kept, resumed}
 use Rattle.bx_entry.specs.Sessions.{Live, Pending, Publication, Session, delivered, gives_one, has_room, is_hit, is_live, is_riding, overflowed, delivered_to, received, ridden, ridden_by, ride_filing, ride_portion, rider_of, step, step_by, subscribed, unheld, unsubscribed, with_event}
@@ -29,7 +29,7 @@ use Rattle.bx_theory.proofs.Keeps.{delivered_to_k}
 use Rattle.bx_theory.proofs.Stages.{step_by_next}
 use Rattle.bx_shard.proofs.Followed.{at_number, live_there, none_here}
 use Rattle.bx_shard.proofs.Gives.{HoldsIt, holds_ends, rider_due}
-use Rattle.bx_shard.proofs.Rides.{rider_of_none}
+use Rattle.bx_shard.proofs.Rides.{of_riding, rider_of_none}
 use Rattle.bx_shard.proofs.Ties.{Agree, still}
 use Rattle.bx_shard.proofs.Singles.{nowhere, only_one, the_one}
 
@@ -42,45 +42,18 @@ alone_step config s e = ap (ridden_by config e.place (step_by config e.place e.m
 module _ (kind : EntryKind) (rides : Option Rider) (rider : Rider) (is : rider_of kind rides ≡ Some rider) where
   -- it opens no session
   rider_opens : (stands : Bool) (n : ℕ) → opening stands kind n ≡ None
-  rider_opens stands n = by kind is
-    where
-      by : (k : EntryKind) → rider_of k rides ≡ Some rider → opening stands k n ≡ None
-      by (Opened m ack) h = absurd (let no : None ≡ Some rider = h in cc)
-      by (Connect m client id acked hold) h = refl
-      by (Subscribe m ps) h = refl
-      by (Unsubscribe m ps) h = refl
-      by (Publish event) h = refl
-      by (Disconnect m) h = refl
-      by Refused h = refl
-      by (Tick numbers) h = refl
+  rider_opens stands n = of_riding (λ k. opening stands k n ≡ None) kind rides rider is (λ m ps. refl) (λ m ps. refl) (λ event. refl)
 
   -- and begins no connect
   rider_begins : (sessions : ℕ → Option Kept) (connects : ℕ → Option ConnectState) (e : Entry) (p : ℕ) → begun sessions connects e kind p ≡ connects p
-  rider_begins sessions connects e p = by kind is
-    where
-      by : (k : EntryKind) → rider_of k rides ≡ Some rider → begun sessions connects e k p ≡ connects p
-      by (Opened m ack) h = refl
-      by (Connect m client id acked hold) h = absurd (let no : None ≡ Some rider = h in cc)
-      by (Subscribe m ps) h = refl
-      by (Unsubscribe m ps) h = refl
-      by (Publish event) h = refl
-      by (Disconnect m) h = refl
-      by Refused h = refl
-      by (Tick numbers) h = absurd (let no : None ≡ Some rider = h in cc)
+  rider_begins sessions connects e p = of_riding (λ k. begun sessions connects e k p ≡ connects p) kind rides rider is (λ m ps. refl) (λ m ps. refl) (λ event. refl)
 
   -- a session stays what it was
   rider_stays : (config : Config) (place moment : ℕ) (s : Session) → (step_by config place moment s kind).stage ≡ s.stage
-  rider_stays config place moment s = by kind is
-    where
-      by : (k : EntryKind) → rider_of k rides ≡ Some rider → (step_by config place moment s k).stage ≡ s.stage
-      by (Opened m ack) h = absurd (let no : None ≡ Some rider = h in cc)
-      by (Connect m client id acked hold) h = absurd (let no : None ≡ Some rider = h in cc)
-      by (Subscribe m ps) h = (step_by_next config place moment s (Subscribe m ps)).stage
-      by (Unsubscribe m ps) h = (step_by_next config place moment s (Unsubscribe m ps)).stage
-      by (Publish event) h = (step_by_next config place moment s (Publish event)).stage
-      by (Disconnect m) h = absurd (let no : None ≡ Some rider = h in cc)
-      by Refused h = absurd (let no : None ≡ Some rider = h in cc)
-      by (Tick numbers) h = absurd (let no : None ≡ Some rider = h in cc)
+  rider_stays config place moment s = of_riding (λ k. (step_by config place moment s k).stage ≡ s.stage) kind rides rider is
+      (λ m ps. (step_by_next config place moment s (Subscribe m ps)).stage)
+      (λ m ps. (step_by_next config place moment s (Unsubscribe m ps)).stage)
+      (λ event. (step_by_next config place moment s (Publish event)).stage)
 
   -- ---- room
 
@@ -99,28 +72,21 @@ module _ (kind : EntryKind) (rides : Option Rider) (rider : Rider) (is : rider_o
   delivered_ack config e s None = refl
   delivered_ack config e s (Some p) = one_gives (unheld s)
 
+  received_one : (config : Config) (e : Publication) (s : Session) → OneMore s (received config e s)
+  received_one config e s = cond_both (has_room config s) (delivered config e s) (overflowed s) (OneMore s)
+      (λ r. record {
+        ack = delivered_ack config e (with_event e s) s.held;
+        longer = omega (arith, (delivered_to_k config e (with_event e s) s.held).shorter, length_push s.queue e);
+      })
+      (λ r. record { ack = refl; longer = omega arith })
+
   rider_adds : (config : Config) (place moment : ℕ) (s : Session) → OneMore s (step_by config place moment s kind)
-  rider_adds config place moment s = by kind is
-    where
-      by : (k : EntryKind) → rider_of k rides ≡ Some rider → OneMore s (step_by config place moment s k)
-      by (Opened m ack) h = absurd (let no : None ≡ Some rider = h in cc)
-      by (Connect m client id acked hold) h = absurd (let no : None ≡ Some rider = h in cc)
-      by (Subscribe m ps) h = cond_both (m == s.number) (subscribed config ps s) s (OneMore s)
-          (λ g. subscribed_by config ps s (OneMore s) (one_same s) (record { ack = refl; longer = omega arith }) (record { ack = refl; longer = omega arith })) (λ g. one_same s)
-      by (Unsubscribe m ps) h = cond_both (m == s.number) (unsubscribed ps s) s (OneMore s) (λ g. record { ack = refl; longer = omega arith }) (λ g. one_same s)
-      by (Publish event) h =
-          let e : Publication = record { place = place; event = event } in
-          cond_both (is_hit s event) (received config e s) s (OneMore s)
-          (λ g. cond_both (has_room config s) (delivered config e s) (overflowed s) (OneMore s)
-          (λ r. record {
-            ack = delivered_ack config e (with_event e s) s.held;
-            longer = omega (arith, (delivered_to_k config e (with_event e s) s.held).shorter, length_push s.queue e);
-          })
-          (λ r. record { ack = refl; longer = omega arith }))
-          (λ g. one_same s)
-      by (Disconnect m) h = absurd (let no : None ≡ Some rider = h in cc)
-      by Refused h = absurd (let no : None ≡ Some rider = h in cc)
-      by (Tick numbers) h = absurd (let no : None ≡ Some rider = h in cc)
+  rider_adds config place moment s = of_riding (λ k. OneMore s (step_by config place moment s k)) kind rides rider is
+      (λ m ps. cond_both (m == s.number) (subscribed config ps s) s (OneMore s)
+      (λ g. subscribed_by config ps s (OneMore s) (one_same s) (record { ack = refl; longer = omega arith }) (record { ack = refl; longer = omega arith })) (λ g. one_same s))
+      (λ m ps. cond_both (m == s.number) (unsubscribed ps s) s (OneMore s) (λ g. record { ack = refl; longer = omega arith }) (λ g. one_same s))
+      (λ event. let e : Publication = record { place = place; event = event } in
+      cond_both (is_hit s event) (received config e s) s (OneMore s) (λ g. received_one config e s) (λ g. one_same s))
 
   -- so the room that was made before is enough behind the entry's own effect
   rider_fits : (config : Config) (place moment : ℕ) (k : Kept) (room : ℕ) → ride_most config k ≤ room → ride_portion config (step_by config place moment (resumed k) kind) ≤ room
@@ -137,10 +103,7 @@ module _ (kind : EntryKind) (rides : Option Rider) (rider : Rider) (is : rider_o
 
 -- what a session that is live keeps once it has given a rider what waited
 rode : (config : Config) (place : ℕ) (reply : _) (b : Bool) (t : Session) → t.stage ≡ Live → cond b (Some (given_up config (kept t))) (Some (kept t)) ≡ if_live (kept (cond (b && is_live t.stage) (ridden config place reply t) t))
-rode config place reply true t live =
-    live_there (ridden config place reply t) live
-    ∙ sym (ap (λ (x : Bool). if_live (kept (cond x (ridden config place reply t) t))) (ap is_live live))
-rode config place reply false t live = live_there t live
+rode config place reply b t live = grind arith
 
 -- the answers of a session with a rider: those that it gives otherwise, and behind them the rider's
 module _ (config : Config) (place : ℕ) (rider : Rider) where
@@ -246,13 +209,7 @@ followed_alone stands e old new away counted f = record {
 
 -- no session that is here rides
 pub away : (sessions : ℕ → Option Kept) (e : Entry) → rider_in sessions e ≡ None → (n : ℕ) (rider : Rider) → rides_of e ≡ Some rider → is_some (sessions n) ≡ true → (rider.session == n) ≡ false
-away sessions e none n rider rides here =
-    let gone : cond (is_some (sessions rider.session)) (Some rider) None ≡ None = sym (ap (option_and_then (λ (r : Rider). cond (is_some (sessions r.session)) (Some r) None)) rides) ∙ none in
-    either (rider.session == n) ((rider.session == n) ≡ false)
-    (λ h.
-    let there : is_some (sessions rider.session) ≡ true = ap (λ (m : ℕ). is_some (sessions m)) (eqb-true rider.session n h) ∙ here in
-    absurd (let no : Some rider ≡ None = sym (cond-true (is_some (sessions rider.session)) (Some rider) None there) ∙ gone in cc))
-    (λ h. h)
+away sessions e none n rider rides here = grind arith
 
 -- the entry's rider is one of a session that is here
 pub record Rides (sessions : ℕ → Option Kept) (e : Entry) (rider : Rider) : Type 0 where
@@ -274,24 +231,14 @@ rides_here sessions e rider is = by (rides_of e) refl is
 -- a connect is held exactly where its session holds it, once a session gave a rider what waited
 pub ridden_held : (config : Config) (place number : ℕ) (events : List Event) (C D : ℕ → Option ConnectState) (S T : ℕ → Option Kept) → Agree C S
     → ((p : ℕ) → D p ≡ cond (nat_eq place p) (completed events (C place)) (C p)) → ((n : ℕ) → T n ≡ cond (nat_eq number n) (option_map (given_up config) (S number)) (S n)) → Agree D T
-ridden_held config place number events C D S T agree at on = still C D S T agree
-    (λ p n. ap (λ (o : Option ConnectState). held_until o n) (at p) ∙ (elim (nat_eq place p) as (λ b. (b ≡ true → place ≡ p) → held_until (cond b (completed events (C place)) (C p)) n ≡ held_until (C p) n) [
-      | true ↦ λ h. completes (C place) n ∙ ap (λ (q : ℕ). held_until (C q) n) (h refl)
-      | false ↦ λ h. refl
-    ]) (eqb-true place p))
-    (λ n p. ap (λ (o : Option Kept). holds_until o p) (on n) ∙ (elim (nat_eq number n) as (λ b. (b ≡ true → number ≡ n) → holds_until (cond b (option_map (given_up config) (S number)) (S n)) p ≡ holds_until (S n) p) [
-      | true ↦ λ h. keeps (S number) p ∙ ap (λ (m : ℕ). holds_until (S m) p) (h refl)
-      | false ↦ λ h. refl
-    ]) (eqb-true number n))
+ridden_held config place number events C D S T agree at on =
+    still C D S T agree (λ p n. grind (arith, at p, completes (C place) n)) (λ n p. grind (arith, on n, keeps (S number) p))
   where
     completes : (o : Option ConnectState) (n : ℕ) → held_until (completed events o) n ≡ held_until o n
-    completes None n = refl
-    completes (Some (states.Held session deadline waker)) n = refl
-    completes (Some (states.Filed session p answer)) n = refl
+    completes o n = grind arith
 
     keeps : (o : Option Kept) (p : ℕ) → holds_until (option_map (given_up config) o) p ≡ holds_until o p
-    keeps None p = refl
-    keeps (Some k) p = refl
+    keeps o p = grind arith
 
 -- ---- a rider
 

@@ -1,5 +1,5 @@
 -- The live sessions of a shard after one more entry.
-use Rattle.std.proofs.Common.{◌≡◌, ℕ, ◌+◌, ◌<◌, Bool, true, false, cond, List, [], ◌∷◌, ◌++◌, length, take, map, filter, refl, sym, ap, ◌∙◌}
+use Rattle.std.proofs.Common.{arith, ◌≡◌, ℕ, ◌+◌, ◌<◌, Bool, true, false, cond, List, [], ◌∷◌, ◌++◌, length, take, map, filter, refl, sym, ap, ◌∙◌}
 use Rattle.std.proofs.lemmas.Bool.{cond_both, cond-true, cond-false}
 use Rattle.std.proofs.lemmas.List.{map-append}
 use Rattle.std.proofs.lemmas.List.Elements.{filter-append}
@@ -10,7 +10,7 @@ use Rattle.bx_entry.specs.declared.entry.Entry.{Entry}
 use Rattle.bx_entry.specs.declared.entry.EntryKind.{EntryKind}
 use Rattle.bx_entry.specs.declared.entry.EntryKind.TheVariants.{Opened}
 use Rattle.bx_entry.specs.Registry.{Registry, Registered, judge, registry, entries_of}
-use Rattle.bx_entry.specs.Sessions.{Session, Stage, Unopened, Live, Closed, is_live, rider_of, stage_after, step, step_by, unopened, session}
+use Rattle.bx_entry.specs.Sessions.{Session, Stage, is_live, rider_of, stage_after, step, step_by, unopened, session}
 use Rattle.bx_theory.specs.Readings.{opens_by, closes_by, EachSession}
 use Rattle.bx_entry.specs.Keeping.{Kept, kept, kept_step, StepsAlike}
 use Rattle.bx_shard.specs.Shards.{Setup, stands_in, shard_at}
@@ -28,11 +28,7 @@ use Rattle.bx_shard.proofs.Finding.{steps}
 pub by_numbers : (config : Config) (setup : Setup) (shard : ℕ) (es : List Entry) (rs : List Registered) →
     map (λ (s : Registered). session config s.number es) (filter (λ (s : Registered). stands_in setup shard s.number) rs) ≡ map (λ (n : ℕ). session config n es) (filter (λ (n : ℕ). stands_in setup shard n) (numbers rs))
 by_numbers config setup shard es [] = refl
-by_numbers config setup shard es (r ∷ rs) =
-    let standing : List Registered = filter (λ (s : Registered). stands_in setup shard s.number) rs in
-    let bs : List ℕ = filter (λ (n : ℕ). stands_in setup shard n) (numbers rs) in
-    (elim (stands_in setup shard r.number) as (λ b. map (λ (s : Registered). session config s.number es) (cond b (r ∷ standing) standing) ≡ map (λ (n : ℕ). session config n es) (cond b (r.number ∷ bs) bs))
-    [ true ↦ ap (λ (ss : List Session). session config r.number es ∷ ss) (by_numbers config setup shard es rs) | false ↦ by_numbers config setup shard es rs ])
+by_numbers config setup shard es (r ∷ rs) = grind (arith, by_numbers config setup shard es rs)
 
 -- what is kept of the live ones
 abbrev pub held_by : Config → List Entry → List ℕ → List Kept
@@ -42,10 +38,7 @@ abbrev pub one_kept : Session → List Kept → List Kept
 one_kept s ks = cond (is_live s.stage) (kept s ∷ ks) ks
 
 pub held_cons : (config : Config) (es : List Entry) (n : ℕ) (ns : List ℕ) → held_by config es (n ∷ ns) ≡ one_kept (session config n es) (held_by config es ns)
-held_cons config es n ns =
-    let s : Session = session config n es in
-    let rest : List Session = filter (λ (u : Session). is_live u.stage) (map (λ (m : ℕ). session config m es) ns) in
-    (elim (is_live (session config n es).stage) as (λ b. map kept (cond b (session config n es ∷ rest) rest) ≡ cond b (kept (session config n es) ∷ map kept rest) (map kept rest)) [ true ↦ refl | false ↦ refl ])
+held_cons config es n ns = grind arith
 
 -- the numbers of the shard's sessions over a list, and what is kept of those that are live
 abbrev pub numbers_in : Setup → ℕ → List Listed → List ℕ
@@ -75,11 +68,7 @@ steps_append config e ks ls =
 
 -- what isn't live and isn't opened stays so
 dead_next : (stage : Stage) (b : Bool) → is_live stage ≡ false → is_live (cond b (stage_after stage) stage) ≡ false
-dead_next Unopened true h = refl
-dead_next Unopened false h = refl
-dead_next Live b h = cc
-dead_next Closed true h = refl
-dead_next Closed false h = refl
+dead_next stage b h = grind arith
 
 dead_step : (config : Config) (s : Session) (e : Entry) → opens_by s.number e.kind ≡ false → is_live s.stage ≡ false → is_live (step config s e).stage ≡ false
 dead_step config s e o h =

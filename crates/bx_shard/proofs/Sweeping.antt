@@ -1,6 +1,5 @@
 -- What shards hold once a sweep dropped answers from one of them.
-use Rattle.std.proofs.Common.{◌≡◌, ℕ, Bool, true, false, cond, ◌||◌, ◌&&◌, is_some, Option, Some, None, List, [], ◌∷◌, filter, nat_eq, ◌==◌, not, refl, sym, ap, ◌∙◌, eqb-true, eq-eqb, true≢false}
-use Rattle.std.proofs.lemmas.Bool.{both_ways}
+use Rattle.std.proofs.Common.{arith, ◌≡◌, ℕ, Bool, true, false, ◌&&◌, is_some, Option, None, List, filter, nat_eq, ◌==◌, sym, ap, ◌∙◌, eqb-true}
 use Rattle.std.proofs.lemmas.Map.Made.{is_some-lookup}
 use Rattle.std.proofs.lemmas.Map.Views.{any-filter_same}
 use Rattle.std.specs.List.{list_any}
@@ -8,7 +7,6 @@ use Rattle.std.specs.Map.{keys_of}
 use Rattle.std.specs.Option.{IsSome}
 use Rattle.bx_lists.proofs.Tests.{either}
 use Rattle.bx_connects.specs.declared.connects.ConnectState.{ConnectState}
-use Rattle.bx_connects.specs.declared.connects.ConnectState.TheVariants as states
 use Rattle.bx_connects.specs.declared.connects.FiledAnswer.{FiledAnswer}
 use Rattle.bx_connects.specs.declared.held.HeldConnect.{HeldConnect}
 use Rattle.bx_connects.specs.Connects.{filed_answer, filing_at, hold_at, state_by, unswept}
@@ -21,33 +19,21 @@ use Rattle.bx_shard.proofs.Taking.{refines_beside_gone, refines_gone}
 
 -- an answer that is dropped was filed
 filed_then : (before : ℕ) (o : Option ConnectState) → is_swept before o ≡ true → IsSome (filed_answer o)
-filed_then before None h = absurd (true≢false (sym h))
-filed_then before (Some (states.Held session deadline waker)) h = absurd (true≢false (sym h))
-filed_then before (Some (states.Filed session place answer)) h = refl
+filed_then before o h = grind arith
 
 gone_then : (before : ℕ) (o : Option ConnectState) → is_swept before o ≡ true → unswept before o ≡ None
-gone_then before None h = refl
-gone_then before (Some state) h = ap (λ (b : Bool). cond (not b) (Some state) None) h
+gone_then before o h = grind arith
 
 kept_then : (before : ℕ) (o : Option ConnectState) → is_swept before o ≡ false → unswept before o ≡ o
-kept_then before None h = refl
-kept_then before (Some state) h = ap (λ (b : Bool). cond (not b) (Some state) None) h
+kept_then before o h = grind arith
 
 -- ---- which places
 
 either_way : (place : ℕ) (ks : List ℕ) → list_any (nat_eq place) ks ≡ is_taken ks place
-either_way place [] = refl
-either_way place (k ∷ ks) = ap (λ (b : Bool). b || list_any (nat_eq place) ks) (turned place k) ∙ ap (λ (b : Bool). (k == place) || b) (either_way place ks)
-  where
-    turned : (a b : ℕ) → nat_eq a b ≡ nat_eq b a
-    turned a b = either (nat_eq a b) (nat_eq a b ≡ nat_eq b a)
-        (λ h. h ∙ sym (eq-eqb b a (sym (eqb-true a b h))))
-        (λ h. either (nat_eq b a) (nat_eq a b ≡ nat_eq b a) (λ k. absurd (both_ways (nat_eq a b) h (eq-eqb a b (sym (eqb-true b a k))))) (λ k. h ∙ sym k))
+either_way place ks = grind arith
 
 known_by : (before : ℕ) (held : Option HeldConnect) (filed : Option FiledAnswer) → is_swept before (state_by held filed) ≡ true → is_some filed ≡ true
-known_by before (Some h) filed said = absurd (true≢false (sym said))
-known_by before None (Some f) said = refl
-known_by before None None said = absurd (true≢false (sym said))
+known_by before held filed said = grind arith
 
 -- the places of a sweep are those whose answers are filed below it
 swept_is : (before : ℕ) (s : State) (place : ℕ) → is_taken (swept_places before s) place ≡ is_swept before (connect_in s place)

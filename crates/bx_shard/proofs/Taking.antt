@@ -1,25 +1,24 @@
 -- What shards hold once the answer to a connect was taken from one of them.
-use Rattle.std.proofs.Common.{◌≢◌, ◌≡◌, ℕ, ◌<◌, Bool, true, false, ◌||◌, is_some, Option, Some, None, List, [], ◌∷◌, ◌++◌, length, take, drop, map, filter, find, flat_map, option_map, slice_get, nat_eq, nat_lt, ◌==◌, not, refl, sym, ap, ◌∙◌, subst, arith, eqb-true, eq-eqb, ltb-true, ltb-false}
+use Rattle.std.proofs.Common.{◌≢◌, ◌≡◌, ℕ, ◌<◌, Bool, true, false, ◌||◌, is_some, Option, Some, None, List, [], ◌∷◌, ◌++◌, length, take, drop, filter, flat_map, option_map, slice_get, nat_eq, nat_lt, ◌==◌, not, refl, sym, ap, ◌∙◌, subst, arith, eqb-true, eq-eqb, ltb-true, ltb-false}
 use Rattle.std.proofs.lemmas.Bool.{both_ways, cond-true, cond-false, or_right}
 use Rattle.std.proofs.lemmas.List.{take-append-drop}
-use Rattle.std.proofs.lemmas.List.Folds.{find-append, list_any-append}
-use Rattle.std.specs.Option.{IsSome, option_or}
+use Rattle.std.proofs.lemmas.List.Folds.{list_any-append}
+use Rattle.std.specs.Option.{IsSome}
 use Rattle.bx_lists.proofs.Tests.{either}
 use Rattle.bx_advice.specs.declared.config.Config.{Config}
-use Rattle.bx_entry.specs.declared.entry.Entry.{Entry}
 use Rattle.bx_entry.specs.Listing.{Listed}
 use Rattle.bx_entry.specs.Answers.{answer_of}
-use Rattle.bx_entry.specs.Registry.{Judged, PlaceSlot, Registered, Waiting, entries_of, registry}
-use Rattle.bx_entry.specs.Sessions.{Filed, Session, session}
-use Rattle.bx_theory.proofs.Lists.{find_each, find_true, judged_more}
+use Rattle.bx_entry.specs.Registry.{Judged, PlaceSlot, Waiting, registry}
+use Rattle.bx_entry.specs.Sessions.{Filed, Session}
+use Rattle.bx_theory.proofs.Lists.{judged_more}
 use Rattle.bx_connects.specs.declared.connects.ConnectState.{ConnectState}
-use Rattle.bx_connects.specs.declared.connects.ConnectState.TheVariants as states
 use Rattle.bx_connects.specs.Connects.{filed_answer, session_at, taken_from}
-use Rattle.bx_shard.specs.Shards.{Setup, is_taken, sessions_in, shard_at, stands_in}
+use Rattle.bx_shard.specs.Shards.{Setup, is_taken, sessions_in, shard_at}
 use Rattle.bx_shard.specs.States.{IsSound, State, connect_in, session_in}
 use Rattle.bx_shard.specs.Refining.{Refines, RefinesBeside, RefinesTaken, IsConnectOf, IsOwn, filed_with_place}
-use Rattle.bx_shard.proofs.Untaken.{find_untaken, found_kept}
-use Rattle.bx_shard.proofs.Waits.{WaitsAt, answered_waits}
+use Rattle.bx_shard.proofs.Cases.{by_option}
+use Rattle.bx_shard.proofs.Untaken.{find_of, find_untaken, found_in, found_kept, untaken}
+use Rattle.bx_shard.proofs.Waits.{WaitsAt, waits_over}
 
 -- ---- which were taken
 
@@ -41,16 +40,9 @@ is_one place p b h = sym (elim (nat_eq place p) as (λ (c : Bool). (c || false) 
 
 -- ---- what is found among the answers that weren't taken
 
-abbrev pub find_of : ℕ → List Filed → Option Filed
-find_of p fs = find (λ (f : Filed). f.connect == p) fs
-
-abbrev pub untaken : List ℕ → List Filed → List Filed
-untaken taken fs = filter (λ (f : Filed). not (is_taken taken f.connect)) fs
-
 pub none_taken : (taken : List ℕ) (p : ℕ) (fs : List Filed) → is_taken taken p ≡ true → find_of p (filter (λ (f : Filed). not (is_taken taken f.connect)) fs) ≡ None
 none_taken taken p fs h =
-    let P : Option Filed → Type 0 = λ o. find_of p (untaken taken fs) ≡ o → o ≡ None in
-    (elim (find_of p (untaken taken fs)) as P [ None ↦ λ e. refl | Some f ↦ λ e. absurd (both_ways (is_taken taken p) (found_kept taken p fs f e).1 h) ]) refl
+    by_option (λ o. o ≡ None) (find_of p (untaken taken fs)) (λ e. refl) (λ f e. absurd (both_ways (is_taken taken p) (found_kept taken p fs f e).1 h))
 
 same_found : (taken places : List ℕ) (p : ℕ) (fs : List Filed) → is_taken places p ≡ false → find_of p (untaken (taken ++ places) fs) ≡ find_of p (untaken taken fs)
 same_found taken places p fs h =
@@ -68,68 +60,30 @@ filed_below s place sound some = either (nat_lt place s.place) (place < s.place)
     let nothing : false ≡ true = sym (ap (λ (o : Option ConnectState). is_some (filed_answer o)) none) ∙ some in cc)
 
 pub gone_from : (o : Option ConnectState) → IsSome (filed_answer o) → taken_from o ≡ None
-gone_from None h = cc
-gone_from (Some (states.Held session deadline waker)) h = cc
-gone_from (Some (states.Filed session place answer)) h = refl
+gone_from o h = grind arith
 
 none_filed : (o : Option ConnectState) → IsSome (filed_answer o) → filed_with_place o ≡ None → ⊥
-none_filed None h e = cc
-none_filed (Some (states.Held session deadline waker)) h e = cc
-none_filed (Some (states.Filed session place answer)) h e = cc
+none_filed o h e = grind arith
 
 -- ---- whose connect it is
-
--- a session of the shard has an answer to the connect at this place
-record Found (setup : Setup) (shard p : ℕ) (es : List Entry) : Type 0 where
-  number : ℕ
-  stands : stands_in setup shard number ≡ true
-  answer : Filed
-  found : find_of p (session setup.config number es).answers ≡ Some answer
-
-found_in : (setup : Setup) (shard p : ℕ) (es : List Entry) (rs : List Registered) (f : Filed) →
-    find_of p (flat_map (λ (s : Session). s.answers) (map (λ (r : Registered). session setup.config r.number es) (filter (λ (r : Registered). stands_in setup shard r.number) rs))) ≡ Some f → Found setup shard p es
-found_in setup shard p es [] f e = cc
-found_in setup shard p es (r ∷ rs) f e =
-    let S : Registered → Session = λ q. session setup.config q.number es in
-    let rest : List Registered = filter (λ (q : Registered). stands_in setup shard q.number) rs in
-    let F : List Registered → Option Filed = λ qs. find_of p (flat_map (λ (s : Session). s.answers) (map S qs)) in
-    let mine : List Filed = (session setup.config r.number es).answers in
-    either (stands_in setup shard r.number) (Found setup shard p es)
-    (λ h.
-    let whole : option_or (find_of p mine) (F rest) ≡ Some f =
-    sym (find-append (λ (g : Filed). g.connect == p) mine (flat_map (λ (s : Session). s.answers) (map S rest))) ∙ sym (ap F (cond-true (stands_in setup shard r.number) (r ∷ rest) rest h)) ∙ e in
-    let P : Option Filed → Type 0 = λ o. find_of p mine ≡ o → option_or o (F rest) ≡ Some f → Found setup shard p es in
-    let at_none : P None = λ a b. found_in setup shard p es rs f b in
-    let at_some : (g : Filed) → P (Some g) = λ g a b. record { number = r.number; stands = h; answer = g; found = a } in
-    (elim (find_of p mine) as P [ None ↦ at_none | Some g ↦ at_some g ]) refl whole)
-    (λ h. found_in setup shard p es rs f (sym (ap F (cond-false (stands_in setup shard r.number) (r ∷ rest) rest h)) ∙ e))
-
-pub waits_over : (config : Config) (number p : ℕ) (xs : List Listed) (f : Filed) → find_of p (session config number (entries_of (registry config xs))).answers ≡ Some f → WaitsAt (registry config xs).judged number p
-waits_over config number p xs f e =
-    let test : Filed → Bool = λ g. g.connect == p in
-    let s : Session = session config number (entries_of (registry config xs)) in
-    subst (WaitsAt (registry config xs).judged number) (eqb-true f.connect p (find_true test s.answers f e))
-    (find_each (λ g. WaitsAt (registry config xs).judged number g.connect) test s.answers f e (answered_waits config number xs).answers)
 
 abbrev slot_of : Judged → PlaceSlot
 slot_of j = j.slot
 
 pub waits_later : (config : Config) (xs ys : List Listed) (number p : ℕ) → WaitsAt (registry config xs).judged number p → WaitsAt (registry config (xs ++ ys)).judged number p
 waits_later config xs ys number p w =
-    let P : Option Judged → Type 0 = λ o. slice_get (registry config xs).judged p ≡ o → option_map slot_of o ≡ Some (Waiting number) → WaitsAt (registry config (xs ++ ys)).judged number p in
-    (elim (slice_get (registry config xs).judged p) as P [ None ↦ λ a b. cc | Some j ↦ λ a b. ap (option_map slot_of) (judged_more config xs ys p j a) ∙ b ]) refl w
+    by_option (λ o. option_map slot_of o ≡ Some (Waiting number) → WaitsAt (registry config (xs ++ ys)).judged number p) (slice_get (registry config xs).judged p)
+    (λ a b. cc) (λ j a b. ap (option_map slot_of) (judged_more config xs ys p j a) ∙ b) w
 
 -- an answer is filed for a connect of a session that stands in the shard
 pub connect_of_filed : (setup : Setup) (list : List Listed) (taken : List ℕ) (shard n p : ℕ) (f : Filed) → find_of p (shard_at setup list taken shard n).filed ≡ Some f → IsConnectOf setup list shard p
 connect_of_filed setup list taken shard n p f e =
-    let es : List Entry = entries_of (registry setup.config (take n list)) in
-    let d : Found setup shard p (entries_of (registry setup.config (take n list))) =
-    found_in setup shard p es (registry setup.config (take n list)).sessions f (found_kept taken p (flat_map (λ (s : Session). s.answers) (sessions_in setup list shard n)) f e).0 in
+    let d = found_in setup list taken shard n p f e in
     record {
-      session = d.number;
-      waits = subst (λ (xs : List Listed). WaitsAt (registry setup.config xs).judged d.number p) (take-append-drop n list)
-          (waits_later setup.config (take n list) (drop n list) d.number p (waits_over setup.config d.number p (take n list) d.answer d.found));
-      stands = d.stands;
+      session = d.one.number;
+      waits = subst (λ (xs : List Listed). WaitsAt (registry setup.config xs).judged d.one.number p) (take-append-drop n list)
+          (waits_later setup.config (take n list) (drop n list) d.one.number p (waits_over setup.config d.one.number p (take n list) f d.found));
+      stands = d.holds;
     }
 
 -- so it is of one shard alone
@@ -141,10 +95,8 @@ one_shard setup list a b p c d =
 
 pub connect_of_known : (setup : Setup) (list : List Listed) (taken : List ℕ) (shard n p : ℕ) (s : State) → Refines setup list taken shard n s → IsSome (filed_answer (connect_in s p)) → IsConnectOf setup list shard p
 connect_of_known setup list taken shard n p s h some =
-    let P : Option Filed → Type 0 = λ u. find_of p (shard_at setup list taken shard n).filed ≡ u → filed_with_place (connect_in s p) ≡ option_map answer_of u → IsConnectOf setup list shard p in
-    let at_none : P None = λ a b. absurd (none_filed (connect_in s p) some b) in
-    let at_some : (f : Filed) → P (Some f) = λ f a b. connect_of_filed setup list taken shard n p f a in
-    (elim (find_of p (shard_at setup list taken shard n).filed) as P [ None ↦ at_none | Some f ↦ at_some f ]) refl (h.filed p)
+    by_option (λ o. filed_with_place (connect_in s p) ≡ option_map answer_of o → IsConnectOf setup list shard p) (find_of p (shard_at setup list taken shard n).filed)
+    (λ a b. absurd (none_filed (connect_in s p) some b)) (λ f a b. connect_of_filed setup list taken shard n p f a) (h.filed p)
 
 -- ---- the shard from which answers were taken
 
@@ -195,10 +147,7 @@ refines_beside_gone setup list taken places shard n s other m beside h some apar
     let foreign : (p : ℕ) → is_taken places p ≡ true → IsConnectOf setup list other p → ⊥ =
     λ p e c. apart (one_shard setup list other shard p c (connect_of_known setup list taken shard n p s h (some p e))) in
     let none : (p : ℕ) → is_taken places p ≡ true → find_of p (shard_at setup list taken other m).filed ≡ None =
-    λ p e.
-    let P : Option Filed → Type 0 = λ o. find_of p (shard_at setup list taken other m).filed ≡ o → o ≡ None in
-    let at_some : (f : Filed) → P (Some f) = λ f k. absurd (foreign p e (connect_of_filed setup list taken other m p f k)) in
-    (elim (find_of p (shard_at setup list taken other m).filed) as P [ None ↦ λ k. refl | Some f ↦ at_some f ]) refl in
+    λ p e. by_option (λ o. o ≡ None) (find_of p (shard_at setup list taken other m).filed) (λ k. refl) (λ f k. absurd (foreign p e (connect_of_filed setup list taken other m p f k))) in
     record {
       setup_is = g.setup_is;
       index_is = g.index_is;

@@ -1,7 +1,6 @@
 -- A tick ends hold after hold, until none is due; every session is then as one tick leaves it.
-use Rattle.std.proofs.Common.{Contains, ◌≡◌, ◌≢◌, ◌⊎◌, inl, inr, ℕ, nat_eq, nat_lt, nat_le, ◌+◌, ◌<◌, ◌≤◌, ◌^◌, Bool, true, false, cond, Option, Some, None, option_map, is_none, [], ◌∷◌, map, refl, sym, ap, ◌∙◌, subst, true≢false, arith}
-use Rattle.std.specs.Option.{option_map_or}
-use Rattle.std.proofs.lemmas.Bool.{cond_both, eqb-true, eq-eqb, ne_eqb, ltb-false, le-leb, lt-leb}
+use Rattle.std.proofs.Common.{Contains, ◌≡◌, ◌≢◌, ◌⊎◌, inl, inr, ℕ, nat_eq, ◌+◌, ◌<◌, ◌≤◌, ◌^◌, Bool, true, false, cond, Option, Some, None, option_map, [], ◌∷◌, map, refl, sym, ap, ◌∙◌, subst, arith}
+use Rattle.std.proofs.lemmas.Bool.{cond_both, eqb-true, eq-eqb, ne_eqb}
 use Rattle.bx_advice.specs.declared.config.Config.{Config}
 use Rattle.bx_advice.specs.declared.advice.Outcome.TheVariants.{Connected}
 use Rattle.bx_entry.specs.Keeping.{Kept, after, kept, resumed}
@@ -13,26 +12,18 @@ use Rattle.bx_connects.specs.declared.connects.ConnectState.{ConnectState}
 use Rattle.bx_connects.specs.declared.connects.ConnectState.TheVariants.{Held, Filed}
 use Rattle.bx_connects.specs.Connects.{filed_as, session_at}
 use Rattle.bx_shard.specs.Effects.{answers_by, filing_each}
-use Rattle.bx_shard.specs.Sessions.{ends_for, held_until, holds_until}
+use Rattle.bx_shard.specs.Sessions.{held_until, holds_until}
 use Rattle.bx_shard.proofs.Keeps.{filing_each_session}
 use Rattle.bx_shard.proofs.Singles.{nowhere, only_one, the_one}
 use Rattle.bx_shard.proofs.Ties.{Agree, holds_own}
 
 -- a hold whose deadline has come is due
 due_by : (moment d : ℕ) (q : Pending) → deadline_of q ≡ Some d → d ≤ moment → ends_by moment q ≡ true
-due_by moment d q e l = by (nat_lt (q.moment + q.hold) (2 ^ 64)) e
-  where
-    by : (b : Bool) → cond b (Some (q.moment + q.hold)) None ≡ Some d → nat_le (q.moment + q.hold) moment ≡ true
-    by true g = let same : q.moment + q.hold ≡ d = ap (λ o. option_map_or (λ (x : ℕ). x) o 0) g in le-leb (q.moment + q.hold) moment (omega arith)
-    by false g = absurd (true≢false (ap is_none g))
+due_by moment d q e l = grind arith
 
 -- a hold whose deadline lies ahead is not due, nor is one that has none
 not_due : (moment : ℕ) (q : Pending) → moment < 2 ^ 64 → ((d : ℕ) → deadline_of q ≡ Some d → moment < d) → ends_by moment q ≡ false
-not_due moment q fits later = by (nat_lt (q.moment + q.hold) (2 ^ 64)) refl
-  where
-    by : (b : Bool) → nat_lt (q.moment + q.hold) (2 ^ 64) ≡ b → nat_le (q.moment + q.hold) moment ≡ false
-    by true g = lt-leb (q.moment + q.hold) moment (later (q.moment + q.hold) (ap (λ b. cond b (Some (q.moment + q.hold)) None) g))
-    by false g = let far : 2 ^ 64 ≤ q.moment + q.hold = ltb-false (q.moment + q.hold) (2 ^ 64) g in lt-leb (q.moment + q.hold) moment (omega arith)
+not_due moment q fits later = grind (arith, later (q.moment + q.hold))
 
 -- ---- who holds a connect
 
@@ -42,13 +33,7 @@ pub record IsHeldBy (state : Option ConnectState) (n : ℕ) (deadline : Option �
   pub is : state ≡ Some (Held n deadline waker)
 
 held_by : (o : Option ConnectState) (n : ℕ) (deadline : Option ℕ) → held_until o n ≡ Some deadline → IsHeldBy o n deadline
-held_by None n deadline h = absurd (true≢false (ap is_none h))
-held_by (Some (Held k d w)) n deadline h = by (nat_eq k n) refl h
-  where
-    by : (b : Bool) → nat_eq k n ≡ b → cond b (Some d) None ≡ Some deadline → IsHeldBy (Some (Held k d w)) n deadline
-    by true e g = record { waker = w; is = ap (λ j. Some (Held j d w)) (eqb-true k n e) ∙ ap (λ o. Some (Held n (option_map_or (λ (x : Option ℕ). x) o None) w)) g }
-    by false e g = absurd (true≢false (ap is_none g))
-held_by (Some (Filed j p a)) n deadline h = absurd (true≢false (ap is_none h))
+held_by o n deadline h = grind arith
 
 -- the session holds the connect at this place until then
 pub record IsHolding (o : Option Kept) (place : ℕ) (deadline : Option ℕ) : Type 0 where
@@ -60,16 +45,7 @@ pub record IsHolding (o : Option Kept) (place : ℕ) (deadline : Option ℕ) : T
   pub ends : deadline_of hold ≡ deadline
 
 holding : (o : Option Kept) (place : ℕ) (deadline : Option ℕ) → holds_until o place ≡ Some deadline → IsHolding o place deadline
-holding None place deadline h = absurd (true≢false (ap is_none h))
-holding (Some k) place deadline h = of k.held refl
-  where
-    of : (x : Option Pending) → k.held ≡ x → IsHolding (Some k) place deadline
-    of None e = absurd (true≢false (sym (ap is_none (sym h ∙ ap (λ o. ends_for o place) e))))
-    of (Some q) e = by (nat_eq q.place place) refl (sym (ap (λ o. ends_for o place) e) ∙ h)
-      where
-        by : (b : Bool) → nat_eq q.place place ≡ b → cond b (Some (deadline_of q)) None ≡ Some deadline → IsHolding (Some k) place deadline
-        by true f g = record { session = k; hold = q; here = refl; held = e; own = eqb-true q.place place f; ends = ap (λ o. option_map_or (λ (x : Option ℕ). x) o None) g }
-        by false f g = absurd (true≢false (ap is_none g))
+holding o place deadline h = grind arith
 
 -- ---- one session
 

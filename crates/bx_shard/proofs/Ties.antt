@@ -1,12 +1,12 @@
 -- A connect is held exactly where its session holds it, whatever a call does.
-use Rattle.std.proofs.Common.{◌≡◌, ℕ, nat_eq, Bool, true, false, cond, Option, Some, None, is_none, refl, sym, ap, ◌∙◌, true≢false}
-use Rattle.std.proofs.lemmas.Bool.{eqb-true, eq-eqb}
+use Rattle.std.proofs.Common.{arith, ◌≡◌, ℕ, nat_eq, Bool, true, false, cond, Option, Some, None, refl, sym, ap, ◌∙◌}
+use Rattle.std.proofs.lemmas.Bool.{eqb-true}
 use Rattle.bx_entry.specs.Sessions.{Pending}
 use Rattle.bx_entry.specs.Keeping.{Kept}
 use Rattle.bx_session.specs.Views.{deadline_of}
 use Rattle.bx_connects.specs.declared.connects.ConnectState.{ConnectState}
-use Rattle.bx_connects.specs.declared.connects.ConnectState.TheVariants.{Held, Filed}
-use Rattle.bx_shard.specs.Sessions.{held_until, ends_for, holds_until}
+use Rattle.bx_connects.specs.declared.connects.ConnectState.TheVariants.{Held}
+use Rattle.bx_shard.specs.Sessions.{held_until, holds_until}
 
 -- ---- look-ups alone
 
@@ -23,25 +23,19 @@ abbrev pub IsFree : Option Kept → Type 0
 IsFree session = (place : ℕ) → holds_until session place ≡ None
 
 nothing : (b : Bool) (x y : Option (Option ℕ)) → b ≡ false → y ≡ None → cond b x None ≡ y
-nothing b x y e h = ap (λ c. cond c x None) e ∙ sym h
+nothing b x y e h = grind arith
 
 -- what is held by one session is held by no other
 pub held_by_one : (state : Option ConnectState) (m n : ℕ) (deadline : Option ℕ) → held_until state m ≡ Some deadline → nat_eq m n ≡ false → held_until state n ≡ None
-held_by_one None m n deadline h other = refl
-held_by_one (Some (Held k d w)) m n deadline h other = by (nat_eq k m) refl h
-  where
-    by : (b : Bool) → nat_eq k m ≡ b → cond b (Some d) None ≡ Some deadline → cond (nat_eq k n) (Some d) None ≡ None
-    by true e g = ap (λ j. cond (nat_eq j n) (Some d) None) (eqb-true k m e) ∙ ap (λ c. cond c (Some d) None) other
-    by false e g = absurd (true≢false (ap is_none g))
-held_by_one (Some (Filed j p a)) m n deadline h other = refl
+held_by_one state m n deadline h other = grind arith
 
 -- a session that holds a connect says so
 pub holds_own : (session : Kept) (q : Pending) → session.held ≡ Some q → holds_until (Some session) q.place ≡ Some (deadline_of q)
-holds_own session q h = ap (λ o. ends_for o q.place) h ∙ ap (λ c. cond c (Some (deadline_of q)) None) (eq-eqb q.place q.place refl)
+holds_own session q h = grind arith
 
 -- and holds no other
 pub holds_one : (session : Kept) (q : Pending) (place : ℕ) → session.held ≡ Some q → nat_eq q.place place ≡ false → holds_until (Some session) place ≡ None
-holds_one session q place h other = ap (λ o. ends_for o place) h ∙ ap (λ c. cond c (Some (deadline_of q)) None) other
+holds_one session q place h other = grind arith
 
 -- ---- a hold ends
 
@@ -68,19 +62,7 @@ module _ (C D : ℕ → Option ConnectState) (S T : ℕ → Option Kept) (m : �
 module _ (C D : ℕ → Option ConnectState) (S T : ℕ → Option Kept) (m : ℕ) (q : Pending) (session : Kept) where
   pub begun : Agree C S → C q.place ≡ None → IsFree (S m) → ((p : ℕ) → D p ≡ cond (nat_eq q.place p) (Some (Held m (deadline_of q) None)) (C p))
       → ((n : ℕ) → T n ≡ cond (nat_eq m n) (Some session) (S n)) → session.held ≡ Some q → Agree D T
-  begun agree fresh free at on held p n =
-      ap (λ o. held_until o n) (at p) ∙ by (nat_eq q.place p) (nat_eq m n) refl refl ∙ sym (ap (λ o. holds_until o p) (on n))
-    where
-      by : (b c : Bool) → b ≡ nat_eq q.place p → c ≡ nat_eq m n
-          → held_until (cond b (Some (Held m (deadline_of q) None)) (C p)) n ≡ holds_until (cond c (Some session) (S n)) p
-      by true true e f =
-          ap (λ x. cond x (Some (deadline_of q)) None) (sym f) ∙ sym (ap (λ o. ends_for o p) held ∙ ap (λ x. cond x (Some (deadline_of q)) None) (sym e))
-      by true false e f =
-          ap (λ x. cond x (Some (deadline_of q)) None) (sym f) ∙ sym (ap (λ k. held_until (C k) n) (sym (eqb-true q.place p (sym e))) ∙ ap (λ o. held_until o n) fresh) ∙ agree p n
-      by false true e f =
-          let same = eqb-true m n (sym f) in
-          agree p n ∙ ap (λ k. holds_until (S k) p) (sym same) ∙ free p ∙ sym (ap (λ o. ends_for o p) held ∙ ap (λ x. cond x (Some (deadline_of q)) None) (sym e))
-      by false false e f = agree p n
+  begun agree fresh free at on held p n = grind arith
 
 -- ---- no hold ends or begins
 

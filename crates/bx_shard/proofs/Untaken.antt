@@ -1,41 +1,52 @@
 -- What is found among the answers that weren't taken.
-use Rattle.std.proofs.Common.{◌≡◌, ℕ, Bool, false, not, Some, List, [], ◌∷◌, filter, find, ◌==◌, refl, sym, ap, ◌∙◌, eqb-true, true}
-use Rattle.std.proofs.lemmas.Bool.{cond-true, cond-false, both_ways, cond_both}
-use Rattle.bx_lists.proofs.Tests.{either}
-use Rattle.bx_entry.specs.Sessions.{Filed}
-use Rattle.bx_shard.specs.Shards.{is_taken}
+use Rattle.std.proofs.Common.{arith, ◌≡◌, ℕ, false, not, Option, Some, None, List, [], ◌∷◌, take, filter, find, flat_map, ◌==◌, refl, sym, ap, ◌∙◌, true}
+use Rattle.std.specs.List.{All}
+use Rattle.std.specs.Option.{option_or}
+use Rattle.std.proofs.lemmas.List.Elements.{All-head, All-tail, filter_passes}
+use Rattle.std.proofs.lemmas.List.Folds.{find-append, flat_map-map}
+use Rattle.bx_entry.specs.Listing.{Listed}
+use Rattle.bx_entry.specs.Registry.{Registered, entries_of, registry}
+use Rattle.bx_entry.specs.Sessions.{Filed, Session, session}
+use Rattle.bx_shard.proofs.Cases.{by_option}
+use Rattle.bx_shard.specs.Shards.{Setup, is_taken, sessions_in, shard_at, stands_in}
+
+abbrev pub find_of : ℕ → List Filed → Option Filed
+find_of p fs = find (λ (f : Filed). f.connect == p) fs
+
+abbrev pub untaken : List ℕ → List Filed → List Filed
+untaken taken fs = filter (λ (f : Filed). not (is_taken taken f.connect)) fs
 
 -- what is found among those that weren't taken is found among all
 pub found_kept : (taken : List ℕ) (place : ℕ) (fs : List Filed) (f : Filed) → find (λ (g : Filed). g.connect == place) (filter (λ (g : Filed). not (is_taken taken g.connect)) fs) ≡ Some f →
     (find (λ (g : Filed). g.connect == place) fs ≡ Some f) × (is_taken taken place ≡ false)
 found_kept taken place [] f e = cc
-found_kept taken place (g ∷ fs) f e =
-    let test : Filed → Bool = λ h. h.connect == place in
-    let keep : Filed → Bool = λ h. not (is_taken taken h.connect) in
-    either (is_taken taken g.connect) ((find (λ (h : Filed). h.connect == place) (g ∷ fs) ≡ Some f) × (is_taken taken place ≡ false))
-    (λ gone.
-    let rest : find test (filter keep fs) ≡ Some f = sym (ap (find test) (cond-false (keep g) (g ∷ filter keep fs) (filter keep fs) (ap not gone))) ∙ e in
-    let ih = found_kept taken place fs f rest in
-    let other : test g ≡ false = either (test g) (test g ≡ false) (λ h. absurd (both_ways (is_taken taken place) ih.1 (sym (ap (is_taken taken) (eqb-true g.connect place h)) ∙ gone))) (λ h. h) in
-    (cond-false (test g) (Some g) (find test fs) other ∙ ih.0, ih.1))
-    (λ here.
-    let first : find test (g ∷ filter keep fs) ≡ Some f = sym (ap (find test) (cond-true (keep g) (g ∷ filter keep fs) (filter keep fs) (ap not here))) ∙ e in
-    either (test g) ((find (λ (h : Filed). h.connect == place) (g ∷ fs) ≡ Some f) × (is_taken taken place ≡ false))
-    (λ h. (cond-true (test g) (Some g) (find test fs) h ∙ (sym (cond-true (test g) (Some g) (find test (filter keep fs)) h) ∙ first), sym (ap (is_taken taken) (eqb-true g.connect place h)) ∙ here))
-    (λ h. let ih = found_kept taken place fs f (sym (cond-false (test g) (Some g) (find test (filter keep fs)) h) ∙ first) in (cond-false (test g) (Some g) (find test fs) h ∙ ih.0, ih.1)))
+found_kept taken place (g ∷ fs) f e = grind (arith, found_kept taken place fs f)
 
 -- what is found among all is found among those that weren't taken
 pub find_untaken : (taken : List ℕ) (place : ℕ) (fs : List Filed) → is_taken taken place ≡ false → find (λ (g : Filed). g.connect == place) (filter (λ (g : Filed). not (is_taken taken g.connect)) fs) ≡ find (λ (g : Filed). g.connect == place) fs
 find_untaken taken place [] h = refl
-find_untaken taken place (g ∷ fs) h =
-    let test : Filed → Bool = λ f. f.connect == place in
-    let keep : Filed → Bool = λ f. not (is_taken taken f.connect) in
-    let rest : find test (filter keep fs) ≡ find test fs = find_untaken taken place fs h in
-    either (test g) (find (λ (f : Filed). f.connect == place) (filter (λ (f : Filed). not (is_taken taken f.connect)) (g ∷ fs)) ≡ find (λ (f : Filed). f.connect == place) (g ∷ fs))
-    (λ here.
-    let kept : keep g ≡ true = ap (λ (n : ℕ). not (is_taken taken n)) (eqb-true g.connect place here) ∙ ap not h in
-    ap (find test) (cond-true (keep g) (g ∷ filter keep fs) (filter keep fs) kept) ∙ cond-true (test g) (Some g) (find test (filter keep fs)) here ∙ sym (cond-true (test g) (Some g) (find test fs) here))
-    (λ other.
-    cond_both (keep g) (g ∷ filter keep fs) (filter keep fs) (λ (fs' : List Filed). find test fs' ≡ find test fs)
-    (λ k. cond-false (test g) (Some g) (find test (filter keep fs)) other ∙ rest) (λ k. rest)
-    ∙ sym (cond-false (test g) (Some g) (find test fs) other))
+find_untaken taken place (g ∷ fs) h = grind (arith, find_untaken taken place fs h)
+
+-- ---- whose answer is found
+
+-- what is found among the answers of some is found among those of one
+pub record FoundBy {X : Type 0} (P : X → Type 0) (A : X → List Filed) (p : ℕ) (f : Filed) : Type 0 where
+  pub one : X
+  pub holds : P one
+  pub found : find_of p (A one) ≡ Some f
+
+pub found_by : {X : Type 0} (P : X → Type 0) (A : X → List Filed) (p : ℕ) (f : Filed) (xs : List X) → All P xs → find_of p (flat_map A xs) ≡ Some f → FoundBy P A p f
+found_by P A p f [] each e = absurd (let no : None ≡ Some f = e in cc)
+found_by P A p f (x ∷ xs) each e =
+    by_option (λ o. option_or o (find_of p (flat_map A xs)) ≡ Some f → FoundBy P A p f) (find_of p (A x))
+    (λ none rest. found_by P A p f xs (All-tail P x xs each) rest) (λ g here same. record { one = x; holds = All-head P x xs each; found = here ∙ same })
+    (sym (find-append (λ (g : Filed). g.connect == p) (A x) (flat_map A xs)) ∙ e)
+
+-- an answer that the shard has filed is one of a session that stands there
+pub found_in : (setup : Setup) (list : List Listed) (taken : List ℕ) (shard n p : ℕ) (f : Filed) → find_of p (shard_at setup list taken shard n).filed ≡ Some f →
+    FoundBy (λ (r : Registered). stands_in setup shard r.number ≡ true) (λ (r : Registered). (session setup.config r.number (entries_of (registry setup.config (take n list)))).answers) p f
+found_in setup list taken shard n p f e =
+    let rs : List Registered = filter (λ (r : Registered). stands_in setup shard r.number) (registry setup.config (take n list)).sessions in
+    let S : Registered → Session = λ r. session setup.config r.number (entries_of (registry setup.config (take n list))) in
+    found_by (λ r. stands_in setup shard r.number ≡ true) (λ r. (S r).answers) p f rs (filter_passes (λ r. stands_in setup shard r.number) (registry setup.config (take n list)).sessions)
+    (ap (find_of p) (sym (flat_map-map (λ (s : Session). s.answers) S rs)) ∙ (found_kept taken p (flat_map (λ (s : Session). s.answers) (sessions_in setup list shard n)) f e).0)

@@ -1,5 +1,5 @@
 -- A session answers a connect only where the connect's slot waits for it.
-use Rattle.std.proofs.Common.{◌≡◌, ℕ, zero, suc, max, Option, Some, None, List, [], ◌∷◌, ◌++◌, length, map, fold, option_map, slice_get, refl, sym, ap, ◌∙◌, subst, eqb-true, append_assoc, Bool, true, false}
+use Rattle.std.proofs.Common.{arith, ◌≡◌, ◌==◌, ℕ, zero, suc, max, Option, Some, None, List, [], ◌∷◌, ◌++◌, length, map, fold, option_map, slice_get, refl, sym, ap, ◌∙◌, subst, eqb-true, append_assoc, Bool}
 use Rattle.std.proofs.lemmas.List.{length_push}
 use Rattle.bx_advice.specs.declared.config.Config.{Config}
 use Rattle.bx_message.specs.declared.message_kind.MessageKind.{MessageKind}
@@ -10,18 +10,18 @@ use Rattle.bx_message.specs.MessageKinds.{message_kind_of}
 use Rattle.bx_entry.specs.Listing as messages
 use Rattle.bx_entry.specs.declared.entry.Entry.{Entry}
 use Rattle.bx_entry.specs.declared.entry.EntryKind.{EntryKind}
-use Rattle.bx_entry.specs.declared.entry.EntryKind.TheVariants.{Opened, Connect, Subscribe, Unsubscribe, Publish, Disconnect, Refused}
-use Rattle.bx_entry.specs.declared.entry.EntryKind.TheVariants as entries
+use Rattle.bx_entry.specs.declared.entry.EntryKind.TheVariants.{Connect, Subscribe, Unsubscribe, Publish}
 use Rattle.bx_entry.specs.Registry.{Registry, Registered, Judged, PlaceSlot, Waiting, judge, kind_for, slot_for, slot_with, rider_for, is_rider, named_by, refusal, hold_of, registry, empty_registry, entries_of, sessionless_kind, Ready, noted, state_of}
 use Rattle.bx_entry.specs.declared.entry.Rider.{Rider}
-use Rattle.bx_entry.specs.Sessions.{rider_of, session, unopened}
+use Rattle.bx_entry.specs.Sessions.{Filed, Session, rider_of, session, unopened}
 use Rattle.bx_shard.specs.States.{connecting, riding}
 use Rattle.bx_shard.proofs.Rides.{rider_of_none}
 use Rattle.bx_theory.proofs.Verdicts.{by_verdict}
 use Rattle.bx_theory.specs.Laws.{PlacesFrom}
 use Rattle.bx_theory.proofs.Runs.{EachEntry}
 use Rattle.bx_theory.proofs.Places.{Only, Allowed, AllowedRide, run_only, only_unopened}
-use Rattle.bx_theory.proofs.Lists.{entries_in_order}
+use Rattle.bx_theory.proofs.Lists.{entries_in_order, find_each, find_true}
+use Rattle.bx_shard.proofs.Untaken.{find_of}
 
 abbrev WaitsBy : PlaceSlot → EntryKind → Type 0
 WaitsBy slot (Connect n client id acked hold) = slot ≡ Waiting n
@@ -44,14 +44,7 @@ waits_push [] j d h = (h, tt)
 waits_push (i ∷ js) j d h = (d.0, waits_push js j d.1 h)
 
 served_waits : (config : Config) (b : Bool) (c : MessageKind) (p : Posted) (s : Registered) (hold : ℕ) → WaitsBy (slot_with (rider_for b s.number (slot_for config c p s)) (slot_for config c p s)) (kind_for c p s hold)
-served_waits config b MessageKind.Handshake p s hold = tt
-served_waits config true MessageKind.Connect p s hold = refl
-served_waits config false MessageKind.Connect p s hold = refl
-served_waits config b MessageKind.Subscribe p s hold = tt
-served_waits config b MessageKind.Unsubscribe p s hold = tt
-served_waits config b MessageKind.Disconnect p s hold = tt
-served_waits config b MessageKind.Publish p s hold = tt
-served_waits config b MessageKind.UnknownMeta p s hold = tt
+served_waits config b c p s hold = grind arith
 
 slot_rides : (rides : Option Rider) (slot : PlaceSlot) → RidesBy (slot_with rides slot) rides
 slot_rides None slot = tt
@@ -79,14 +72,8 @@ abbrev pub WaitsAt : List Judged → ℕ → ℕ → Type 0
 WaitsAt js number place = option_map (λ (j : Judged). j.slot) (slice_get js place) ≡ Some (Waiting number)
 
 allowed_by : (P : ℕ → Type 0) (number place : ℕ) (slot : PlaceSlot) (k : EntryKind) → WaitsBy slot k → (slot ≡ Waiting number → P place) → Allowed P number place k
-allowed_by P number place slot (Opened n ack) w h = tt
 allowed_by P number place slot (Connect n client id acked hold) w h = λ e. h (w ∙ ap Waiting (eqb-true n number e))
-allowed_by P number place slot (Subscribe n ps) w h = tt
-allowed_by P number place slot (Unsubscribe n ps) w h = tt
-allowed_by P number place slot (Publish e) w h = tt
-allowed_by P number place slot (Disconnect n) w h = tt
-allowed_by P number place slot Refused w h = tt
-allowed_by P number place slot (entries.Tick numbers) w h = tt
+allowed_by P number place slot _ w h = tt
 
 rides_allowed : (P : ℕ → Type 0) (number place : ℕ) (slot : PlaceSlot) (rides : Option Rider) → RidesBy slot rides → (slot ≡ Waiting number → P place) → AllowedRide P number place rides
 rides_allowed P number place slot None w h = tt
@@ -126,39 +113,46 @@ answered_waits config number xs =
     run_only config (WaitsAt r.judged number) number (unopened number) (entries_of r) refl
     (allowed_from number [] r.judged (run_waits config empty_registry xs tt) (entries_in_order config xs)) (only_unopened (WaitsAt r.judged number) number)
 
+-- so has that of each connect to which an answer is found
+pub waits_over : (config : Config) (number p : ℕ) (xs : List Listed) (f : Filed) → find_of p (session config number (entries_of (registry config xs))).answers ≡ Some f → WaitsAt (registry config xs).judged number p
+waits_over config number p xs f e =
+    let test : Filed → Bool = λ g. g.connect == p in
+    let s : Session = session config number (entries_of (registry config xs)) in
+    subst (WaitsAt (registry config xs).judged number) (eqb-true f.connect p (find_true test s.answers f e))
+    (find_each (λ g. WaitsAt (registry config xs).judged number g.connect) test s.answers f e (answered_waits config number xs).answers)
+
+-- ---- the slot at a place
+
+judged_at : (Asks : Entry → ℕ → Type 0) → ((j : Judged) (m : ℕ) → WaitsFor j → Asks j.entry m → j.slot ≡ Waiting m) →
+    (js : List Judged) (n m : ℕ) (e : Entry) → EachWaits js → slice_get (map (λ (j : Judged). j.entry) js) n ≡ Some e → Asks e m → WaitsAt js m n
+judged_at Asks slot [] n m e w h k = absurd (let no : None ≡ Some e = h in cc)
+judged_at Asks slot (j ∷ js) zero m e w h k = let same : j.entry ≡ e = cc in ap Some (slot j m w.0 (subst (λ (x : Entry). Asks x m) (sym same) k))
+judged_at Asks slot (j ∷ js) (suc n) m e w h k = judged_at Asks slot js n m e w.1 h k
+
 -- ---- the slot of a connect
 
 slot_waits : (slot : PlaceSlot) (k : EntryKind) (m : ℕ) → WaitsBy slot k → connecting k ≡ Some m → slot ≡ Waiting m
 slot_waits slot (Connect n client id acked hold) m w h = let same : n ≡ m = cc in w ∙ ap Waiting same
 slot_waits slot _ m w h = cc
 
-judged_waits : (js : List Judged) (n m : ℕ) (e : Entry) → EachWaits js → slice_get (map (λ (j : Judged). j.entry) js) n ≡ Some e → connecting e.kind ≡ Some m → WaitsAt js m n
-judged_waits [] n m e w h k = absurd (let no : None ≡ Some e = h in cc)
-judged_waits (j ∷ js) zero m e w h k = let same : j.entry ≡ e = cc in ap Some (slot_waits j.slot j.entry.kind m w.0.0 (ap (λ (x : Entry). connecting x.kind) same ∙ k))
-judged_waits (j ∷ js) (suc n) m e w h k = judged_waits js n m e w.1 h k
-
 -- the slot at the place of a connect waits for its session
 pub connect_waits : (config : Config) (xs : List Listed) (n m : ℕ) (e : Entry) → slice_get (entries_of (registry config xs)) n ≡ Some e → connecting e.kind ≡ Some m → WaitsAt (registry config xs).judged m n
-connect_waits config xs n m e h k = judged_waits (registry config xs).judged n m e (run_waits config empty_registry xs tt) h k
+connect_waits config xs n m e h k =
+    judged_at (λ x i. connecting x.kind ≡ Some i) (λ j i w c. slot_waits j.slot j.entry.kind i w.0 c) (registry config xs).judged n m e (run_waits config empty_registry xs tt) h k
 
 -- ---- the slot of a rider
 
+riding_of : (kind : EntryKind) (rider : Rider) (m : ℕ) → riding (rider_of kind (Some rider)) ≡ Some m → Some rider.session ≡ Some m
+riding_of (Subscribe n ps) rider m h = h
+riding_of (Unsubscribe n ps) rider m h = h
+riding_of (Publish e) rider m h = h
+riding_of _ rider m h = absurd (let no : None ≡ Some m = h in cc)
+
 ride_waits : (slot : PlaceSlot) (kind : EntryKind) (rides : Option Rider) (m : ℕ) → RidesBy slot rides → riding (rider_of kind rides) ≡ Some m → slot ≡ Waiting m
 ride_waits slot kind None m w h = absurd (let no : None ≡ Some m = sym (ap riding (rider_of_none kind)) ∙ h in cc)
-ride_waits slot (Opened n ack) (Some rider) m w h = absurd (let no : None ≡ Some m = h in cc)
-ride_waits slot (Connect n client id acked hold) (Some rider) m w h = absurd (let no : None ≡ Some m = h in cc)
-ride_waits slot (Subscribe n ps) (Some rider) m w h = let one : Some rider.session ≡ Some m = h in (let same : rider.session ≡ m = cc in w ∙ ap Waiting same)
-ride_waits slot (Unsubscribe n ps) (Some rider) m w h = let one : Some rider.session ≡ Some m = h in (let same : rider.session ≡ m = cc in w ∙ ap Waiting same)
-ride_waits slot (Publish e) (Some rider) m w h = let one : Some rider.session ≡ Some m = h in (let same : rider.session ≡ m = cc in w ∙ ap Waiting same)
-ride_waits slot (Disconnect n) (Some rider) m w h = absurd (let no : None ≡ Some m = h in cc)
-ride_waits slot Refused (Some rider) m w h = absurd (let no : None ≡ Some m = h in cc)
-ride_waits slot (entries.Tick numbers) (Some rider) m w h = absurd (let no : None ≡ Some m = h in cc)
-
-judged_rides : (js : List Judged) (n m : ℕ) (e : Entry) → EachWaits js → slice_get (map (λ (j : Judged). j.entry) js) n ≡ Some e → riding (rider_of e.kind e.rides) ≡ Some m → WaitsAt js m n
-judged_rides [] n m e w h k = absurd (let no : None ≡ Some e = h in cc)
-judged_rides (j ∷ js) zero m e w h k = let same : j.entry ≡ e = cc in ap Some (ride_waits j.slot j.entry.kind j.entry.rides m w.0.1 (ap (λ (x : Entry). riding (rider_of x.kind x.rides)) same ∙ k))
-judged_rides (j ∷ js) (suc n) m e w h k = judged_rides js n m e w.1 h k
+ride_waits slot kind (Some rider) m w h = let one : Some rider.session ≡ Some m = riding_of kind rider m h in let same : rider.session ≡ m = cc in w ∙ ap Waiting same
 
 -- the slot at the place of a rider waits for its session
 pub rider_waits : (config : Config) (xs : List Listed) (n m : ℕ) (e : Entry) → slice_get (entries_of (registry config xs)) n ≡ Some e → riding (rider_of e.kind e.rides) ≡ Some m → WaitsAt (registry config xs).judged m n
-rider_waits config xs n m e h k = judged_rides (registry config xs).judged n m e (run_waits config empty_registry xs tt) h k
+rider_waits config xs n m e h k =
+    judged_at (λ x i. riding (rider_of x.kind x.rides) ≡ Some i) (λ j i w r. ride_waits j.slot j.entry.kind j.entry.rides i w.1 r) (registry config xs).judged n m e (run_waits config empty_registry xs tt) h k

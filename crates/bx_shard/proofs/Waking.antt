@@ -1,10 +1,9 @@
 -- What a shard holds stays so when wakers come and go.
-use Rattle.std.proofs.Common.{◌≡◌, ℕ, nat_eq, if◌then◌else◌, Bool, true, false, Option, Some, None, option_map, refl, sym, ap, ◌∙◌, subst, eqb-true}
+use Rattle.std.proofs.Common.{arith, ◌≡◌, ℕ, nat_eq, if◌then◌else◌, Bool, Option, None, option_map, refl, sym, ap, ◌∙◌, subst, eqb-true}
 use Rattle.std.proofs.lemmas.Bool.{cond-true, cond-false}
 use Rattle.futures.specs.declared.task.waker.Waker.{Waker}
 use Rattle.bx_lists.proofs.Tests.{either}
 use Rattle.bx_connects.specs.declared.connects.ConnectState.{ConnectState}
-use Rattle.bx_connects.specs.declared.connects.ConnectState.TheVariants as states
 use Rattle.bx_advice.specs.declared.config.Config.{Config}
 use Rattle.bx_entry.specs.Keeping.{Kept}
 use Rattle.bx_connects.specs.Waking.{waker_of}
@@ -17,29 +16,18 @@ use Rattle.bx_shard.proofs.Keeps.{unwatched_session, watched_session}
 
 -- a waker changes no answer that is filed
 watched_filed : (shut : Bool) (waker : Waker) (o : Option ConnectState) → filed_with_place (with_waker shut waker o) ≡ filed_with_place o
-watched_filed shut waker None = refl
-watched_filed true waker (Some (states.Held session deadline older)) = refl
-watched_filed false waker (Some (states.Held session deadline older)) = refl
-watched_filed true waker (Some (states.Filed session place answer)) = refl
-watched_filed false waker (Some (states.Filed session place answer)) = refl
+watched_filed shut waker o = grind arith
 
 -- nor is a connect known by it that was not
 pub watched_none : (shut : Bool) (waker : Waker) (o : Option ConnectState) → o ≡ None → with_waker shut waker o ≡ None
-watched_none true waker o h = ap (with_waker true waker) h
-watched_none false waker o h = ap (with_waker false waker) h
+watched_none shut waker o h = grind arith
 
 unwatched_filed : (o : Option ConnectState) → filed_with_place (option_map unwatched o) ≡ filed_with_place o
-unwatched_filed None = refl
-unwatched_filed (Some (states.Held session deadline older)) = refl
-unwatched_filed (Some (states.Filed session place answer)) = refl
+unwatched_filed o = grind arith
 
 -- nor does it change by which session a connect is held, and until when
 pub watched_held : (shut : Bool) (waker : Waker) (o : Option ConnectState) (n : ℕ) → held_until (with_waker shut waker o) n ≡ held_until o n
-watched_held shut waker None n = refl
-watched_held true waker (Some (states.Held session deadline older)) n = refl
-watched_held false waker (Some (states.Held session deadline older)) n = refl
-watched_held true waker (Some (states.Filed session place answer)) n = refl
-watched_held false waker (Some (states.Filed session place answer)) n = refl
+watched_held shut waker o n = grind arith
 
 -- where a waker was brought for a connect, each is as it was, with a waker or without
 pub at_each : (P : Option ConnectState → Option ConnectState → Type 0) (shut : Bool) (connect : ℕ) (waker : Waker) (old new : ℕ → Option ConnectState) →
@@ -85,7 +73,4 @@ refines_shut setup list taken shard n old new h w sound = record {
 
 -- the events of a session change no waker
 pub completed_waker : (config : Config) (k : Option Kept) (o : Option ConnectState) → waker_of (completed_by config k o) ≡ waker_of o
-completed_waker config None o = refl
-completed_waker config (Some k) None = refl
-completed_waker config (Some k) (Some (states.Held session deadline waker)) = refl
-completed_waker config (Some k) (Some (states.Filed session place answer)) = refl
+completed_waker config k o = grind arith

@@ -1,5 +1,5 @@
 -- Patterns that come in at once: those that are not held yet.
-use Rattle.std.proofs.Common.{◌≡◌, ℕ, Bool, true, false, cond, not, ◌&&◌, ◌||◌, List, [], ◌∷◌, ◌++◌, take, drop, length, ◌≤◌, arith, refl, sym, ap, ◌∙◌, append_assoc}
+use Rattle.std.proofs.Common.{◌≡◌, ℕ, Bool, true, false, cond, not, ◌&&◌, ◌||◌, List, [], ◌∷◌, ◌++◌, take, drop, length, ◌≤◌, arith, sym, ap, ◌∙◌, append_assoc}
 use Rattle.std.proofs.lemmas.List.{take-append-drop}
 use Rattle.std.proofs.lemmas.List.Folds.{list_any-append}
 use Rattle.bx_names.specs.Globs.{Glob, same_glob}
@@ -18,9 +18,7 @@ abbrev pub AreApart : List Glob → List Glob → Type 0
 AreApart fresh held = (p : Glob) → (in_force fresh p && in_force held p) ≡ false
 
 apart_test : (f g h : Bool) → (f && h) ≡ false → (g ≡ true → h ≡ false) → ((f || (g || false)) && h) ≡ false
-apart_test true g h e k = e
-apart_test false true h e k = k refl
-apart_test false false h e k = refl
+apart_test f g h e k = grind arith
 
 pub still_apart : (held fresh : List Glob) (p : Glob) → AreApart fresh held → in_force held p ≡ false → AreApart (fresh ++ p ∷ []) held
 still_apart held fresh p apart absent q =
@@ -31,12 +29,7 @@ still_apart held fresh p apart absent q =
 -- ---- a number that stands for several patterns
 
 pub or_more : (s a g e : Bool) → ((s || (a && e)) || (g && e)) ≡ (s || ((a || g) && e))
-or_more true a g e = refl
-or_more false true true true = refl
-or_more false true true false = refl
-or_more false true false true = refl
-or_more false true false false = refl
-or_more false false g e = refl
+or_more s a g e = grind arith
 
 -- what is among the first of a list is in the list
 pub early : (ps : List Glob) (i : ℕ) (q : Glob) → in_force (take i ps) q ≡ true → in_force ps q ≡ true
@@ -44,12 +37,7 @@ early ps i q h =
     ap (λ xs. in_force xs q) (sym (take-append-drop i ps)) ∙ list_any-append (same_glob q) (take i ps) (drop i ps) ∙ ap (λ b. b || in_force (drop i ps) q) h
 
 pub gone_with_all : (s some all e : Bool) → (some ≡ true → all ≡ true) → ((s || (some && e)) && not (all && e)) ≡ (s && not (all && e))
-gone_with_all true some all e h = refl
-gone_with_all false false all e h = refl
-gone_with_all false true true true h = refl
-gone_with_all false true true false h = refl
-gone_with_all false true false true h = let f : false ≡ true = h refl in cc
-gone_with_all false true false false h = refl
+gone_with_all s some all e h = grind arith
 
 -- ---- fewer patterns
 

@@ -1,5 +1,5 @@
 -- What stands for which pattern stays what is in force.
-use Rattle.std.proofs.Common.{◌≡◌, ◌≢◌, ℕ, Bool, true, false, not, ◌==◌, ◌&&◌, ◌||◌, List, [], ◌∷◌, ◌++◌, refl, sym, ap, subst, ◌∙◌}
+use Rattle.std.proofs.Common.{arith, ◌≡◌, ◌≢◌, ℕ, Bool, true, false, not, ◌==◌, ◌&&◌, ◌||◌, List, [], ◌∷◌, ◌++◌, refl, sym, ap, subst, ◌∙◌}
 use Rattle.std.specs.Bool.{one_answer}
 use Rattle.std.proofs.lemmas.Bool.{eqb-true, eq-eqb, and_parts, or_parts}
 use Rattle.std.proofs.lemmas.List.Folds.{list_any-append}
@@ -16,39 +16,22 @@ use Rattle.bx_tree.proofs.FreshLemmas.{AreApart}
 -- ---- tests
 
 pub gone_twice : (s b g e : Bool) → ((s && not (b && e)) && not (g && e)) ≡ (s && not ((b || g) && e))
-gone_twice false b g e = refl
-gone_twice true true true true = refl
-gone_twice true true true false = refl
-gone_twice true true false true = refl
-gone_twice true true false false = refl
-gone_twice true false g e = refl
+gone_twice s b g e = grind arith
 
 or_last : (b g : Bool) → (b || (g && true)) ≡ (b || (g || false))
-or_last true g = refl
-or_last false true = refl
-or_last false false = refl
+or_last b g = grind arith
 
 or_never : (b g : Bool) → (b || (g && false)) ≡ b
-or_never true g = refl
-or_never false true = refl
-or_never false false = refl
+or_never b g = grind arith
 
 and_now : (b g : Bool) → (b && not (g && true)) ≡ (not g && b)
-and_now true true = refl
-and_now true false = refl
-and_now false true = refl
-and_now false false = refl
+and_now b g = grind arith
 
 and_never : (b g : Bool) → (b && not (g && false)) ≡ b
-and_never true true = refl
-and_never true false = refl
-and_never false g = refl
+and_never b g = grind arith
 
 undone : (b e : Bool) → (e ≡ true → b ≡ false) → ((b || e) && not e) ≡ b
-undone true true h = sym (h refl)
-undone true false h = refl
-undone false true h = refl
-undone false false h = refl
+undone b e h = grind arith
 
 same_glob-sym : (p q : Glob) → same_glob p q ≡ same_glob q p
 same_glob-sym p q =
@@ -112,15 +95,10 @@ without_absent (q ∷ qs) p h =
 -- ---- several patterns at once
 
 apart_stays : (b g : Bool) → (g && b) ≡ false → (b && not (g && true)) ≡ b
-apart_stays true true h = sym h
-apart_stays true false h = refl
-apart_stays false g h = refl
+apart_stays b g h = grind arith
 
 gone_again : (s g e : Bool) → ((s || (g && e)) && not (g && e)) ≡ (s && not (g && e))
-gone_again true g e = refl
-gone_again false true true = refl
-gone_again false true false = refl
-gone_again false false e = refl
+gone_again s g e = grind arith
 
 -- what is put in and taken out again leaves all as it was, where none of it was there
 pub index_kept : (old mid new : Nodes) (all : List (ℕ × List Glob)) (ps : List Glob) (number : ℕ) → IsIndexOf old all → AreApart ps (patterns_of all number)

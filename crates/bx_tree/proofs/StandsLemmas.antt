@@ -15,16 +15,10 @@ pub is_eq-nat_cmp : (a b : ℕ) → is_eq (nat_cmp a b) ≡ eqb b a
 is_eq-nat_cmp a b = grind (arith, nat_tests)
 
 cond_or : (b x : Bool) → cond b true x ≡ (x || b)
-cond_or true true = refl
-cond_or true false = refl
-cond_or false true = refl
-cond_or false false = refl
+cond_or b x = grind arith
 
 cond_not : (b x : Bool) → cond b false x ≡ (x && not b)
-cond_not true true = refl
-cond_not true false = refl
-cond_not false true = refl
-cond_not false false = refl
+cond_not b x = grind arith
 
 pub added : (s t : BTreeSet ℕ) (number : ℕ) → UpdatesBy nat_cmp (nat_cmp number) s t true → (n : ℕ) → contains nat_cmp t n ≡ (contains nat_cmp s n || (n == number))
 added s t number h n = h.0 n ∙ cond_or (is_eq (nat_cmp number n)) (contains nat_cmp s n) ∙ ap (λ b. contains nat_cmp s n || b) (is_eq-nat_cmp number n)
@@ -61,12 +55,10 @@ changed_at step idle path number before after others own other n = by (bytes_eq 
     by false e = ap (λ list. has list n) (others other e) ∙ sym (idle (has (before other) n))
 
 pub or_idle : (b : Bool) → (b || false) ≡ b
-or_idle true = refl
-or_idle false = refl
+or_idle b = grind arith
 
 pub not_idle : (b : Bool) → (b && not false) ≡ b
-not_idle true = refl
-not_idle false = refl
+not_idle b = grind arith
 
 -- a change at one path that changes no number's place
 pub unchanged_at : (path : List ℕ) (before after : List ℕ → Option (BTreeSet ℕ)) → ((other : List ℕ) → bytes_eq path other ≡ false → after other ≡ before other) → ((n : ℕ) → has (after path) n ≡ has (before path) n) → (other : List ℕ) (n : ℕ) → has (after other) n ≡ has (before other) n

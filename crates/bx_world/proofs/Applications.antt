@@ -1,10 +1,9 @@
 -- What an application gives, and what the shards hold after it.
-use Rattle.std.proofs.Common.{◌≡◌, ℕ, ◌+◌, ◌<◌, ◌≤◌, ◌==◌, ◌||◌, ◌&&◌, Bool, true, false, not, Option, Some, None, option_map, List, [], ◌∷◌, length, map, nat_lt, slice_get, slice_set, get_or, refl, sym, ap, ◌∙◌, subst, arith, inl, inr, ⊎_elim}
+use Rattle.std.proofs.Common.{◌≡◌, ℕ, ◌+◌, ◌<◌, ◌≤◌, ◌&&◌, Bool, true, false, not, Option, Some, None, option_map, List, [], ◌∷◌, length, map, slice_get, slice_set, get_or, refl, sym, ap, ◌∙◌, subst, arith, inl, inr, ⊎_elim}
 use Rattle.std.specs.Prelude.{slice_index, ◌⊎◌, IfNone}
-use Rattle.std.proofs.Math.Seq.{map-set_same}
-use Rattle.std.proofs.lemmas.Bool.{cases_lt, cond-true, cond-false, lt-ltb, le-ltb, eq-eqb, ne_eqb, or_right}
-use Rattle.std.proofs.lemmas.List.{length-map, map-set}
-use Rattle.std.proofs.lemmas.Option.{slice_get_within, slice_get-get_or, get_or_from_slice_get, none-some}
+use Rattle.std.proofs.lemmas.Bool.{cases_lt, cond-true, cond-false}
+use Rattle.std.proofs.lemmas.List.{map-set}
+use Rattle.std.proofs.lemmas.Option.{slice_get_within, slice_get-get_or, none-some}
 use Rattle.bx_advice.specs.declared.config.Config.{Config}
 use Rattle.bx_entry.specs.Listing.{Listed}
 use Rattle.bx_entry.specs.Registry.{entries}
@@ -17,7 +16,10 @@ use Rattle.bx_shard.specs.declared.shard.Shard.{Shard}
 use Rattle.bx_shard.proofs.Holding.{refines_still}
 use Rattle.bx_shard.proofs.Placed.{entry_placed}
 use Rattle.bx_shard.proofs.Onwards.{refines_onwards}
+use Rattle.bx_entry.specs.declared.Placing.{Ghosts}
 use Rattle.bx_world.specs.Admissions.{Admitting}
+use Rattle.bx_world.specs.Seen.{setup_of, world_of}
+use Rattle.bx_world.specs.declared.world.World.{World}
 use Rattle.bx_admission.specs.Slots.{placed_by}
 use Rattle.bx_world.specs.Refining.{StandFrom, EachRefines, HasApplied, HasStayed, RefinesFrom, IsApplication}
 use Rattle.bx_world.specs.Outputs.{application}
@@ -26,7 +28,7 @@ use Rattle.bx_world.specs.declared.step.Applied as applications
 use Rattle.bx_world.specs.declared.step.Applied.TheVariants.{Done, Level, Memory}
 use Rattle.bx_world.specs.declared.step.Step.TheVariants.{Apply}
 use Rattle.bx_world.specs.declared.step.StepOut.TheVariants as outs
-use Rattle.bx_world.proofs.Rows.{each_set, number_there}
+use Rattle.bx_world.proofs.Standing.{each_with, holds_there, in_range, place_there, same_places}
 
 -- ---- places of the list
 
@@ -54,15 +56,13 @@ place_before n len end h g = omega arith
 -- ---- what it gives
 
 pub level_past : (w : WorldState) (shard : ℕ) → length w.applied ≤ shard → is_level w shard ≡ true
-level_past w shard h = ap (λ (b : Bool). not b || (slice_index w.applied shard == length w.list)) (le-ltb shard (length w.applied) h)
+level_past w shard h = grind arith
 
 level_here : (w : WorldState) (shard : ℕ) → slice_index w.applied shard ≡ length w.list → is_level w shard ≡ true
-level_here w shard e = or_right (not (nat_lt shard (length w.applied))) (slice_index w.applied shard == length w.list) (eq-eqb (slice_index w.applied shard) (length w.list) e)
+level_here w shard e = grind arith
 
 behind : (w : WorldState) (shard n : ℕ) → shard < length w.applied → slice_index w.applied shard ≡ n → n < length w.list → is_level w shard ≡ false
-behind w shard n h e l =
-    ap (λ (b : Bool). not b || (slice_index w.applied shard == length w.list)) (lt-ltb shard (length w.applied) h)
-    ∙ ne_eqb (slice_index w.applied shard) (length w.list) (λ s. absurd (omega (arith, s, e, l)))
+behind w shard n h e l = grind arith
 
 pub gives_level : (setup : Setup) (w : WorldState) (shard : ℕ) → is_level w shard ≡ true → IsOutput setup w (Apply shard) outs.Level
 gives_level setup w shard h = inl (sym (cond-true (is_level w shard) outs.Level outs.Applied h))
@@ -100,47 +100,41 @@ module _ {P : Type 0} (place_of : P → ℕ → ℕ → ℕ) (setup : Setup) (li
 
 -- ---- all shards
 
-module _ {P : Type 0} (place_of : P → ℕ → ℕ → ℕ) (setup : Setup) (list : List Listed) (taken : List ℕ) (first : ℕ) (xs : List (Shard P)) (i : ℕ) (old new : Shard P) where
+module _ {P : Type 0} {g : Ghosts P} (w : World P g) (i : ℕ) (old new : Shard P) (there : slice_get w.shards.items i ≡ Some old) where
   -- so it is with all shards, where the next entry is applied to one of them
-  pub each_applied : (a : applications.Applied) → 0 < setup.config.limits.batch → slice_get xs i ≡ Some old → EachRefines place_of setup list taken first xs → IsApplication place_of (entries setup.config list) old a new →
-      EachRefines place_of setup list taken first (slice_set xs i new)
-  each_applied a room there each is =
-      each_set (RefinesFrom place_of setup list taken first) xs i new (slice_get_within xs i old there) (applied_holds place_of setup list taken first i old new a room (each i old there) is) (λ k x apart e. each k x e)
-
-  abbrev before : WorldState
-  before = record { list = list; applied = map (λ (s : Shard P). s.place) xs; taken = taken }
+  pub each_applied : (a : applications.Applied) → IsApplication g.place_of (entries w.admission.config w.admission.list) old a new →
+      EachRefines g.place_of (setup_of w) w.admission.list w.taken w.admission.first (slice_set w.shards.items i new)
+  each_applied a is =
+      let room : 0 < w.admission.config.limits.batch = omega (arith, w.admission.config.limits.some_batch) in
+      each_with w i old there new w.taken (applied_holds g.place_of (setup_of w) w.admission.list w.taken w.admission.first i old new a room (holds_there w i old there) is) (λ k s apart h. h)
 
   abbrev behind_it : WorldState
-  behind_it = record { list = list; applied = map (λ (s : Shard P). s.place) (slice_set xs i new); taken = taken }
+  behind_it = record (world_of w) { applied = map (λ (s : Shard P). s.place) (slice_set w.shards.items i new) }
 
-  in_range : slice_get xs i ≡ Some old → i < length before.applied
-  in_range there = let l : i < length xs = slice_get_within xs i old there in omega (arith, l, length-map xs (λ (s : Shard P). s.place))
+  same_world : new.place ≡ old.place → behind_it ≡ world_of w
+  same_world e = ap (λ (ns : List ℕ). record (world_of w) { applied = ns }) (same_places w i old there new e)
 
-  stands : slice_get xs i ≡ Some old → slice_index before.applied i ≡ old.place
-  stands there = number_there (λ (s : Shard P). s.place) xs i old there
+  next_place : new.place ≡ old.place + 1 → behind_it ≡ after (world_of w) (Apply i) outs.Applied
+  next_place e = ap (λ (ns : List ℕ). record (world_of w) { applied = ns })
+      (map-set (λ (s : Shard P). s.place) w.shards.items i new ∙ ap (slice_set (world_of w).applied i) (e ∙ ap (λ (n : ℕ). n + 1) (sym (place_there w i old there))))
 
-  same_places : slice_get xs i ≡ Some old → new.place ≡ old.place → behind_it ≡ before
-  same_places there e = ap (λ (ns : List ℕ). record { list = list; applied = ns; taken = taken })
-      (map-set_same (λ (s : Shard P). s.place) xs i new old (e ∙ ap (λ (s : Shard P). s.place) (sym (get_or_from_slice_get xs i old old there))))
-
-  next_place : slice_get xs i ≡ Some old → new.place ≡ old.place + 1 → behind_it ≡ after before (Apply i) outs.Applied
-  next_place there e = ap (λ (ns : List ℕ). record { list = list; applied = ns; taken = taken })
-      (map-set (λ (s : Shard P). s.place) xs i new ∙ ap (slice_set before.applied i) (e ∙ ap (λ (n : ℕ). n + 1) (sym (stands there))))
+  is_behind : (e : Entry) → slice_get (entries w.admission.config w.admission.list) old.place ≡ Some e → is_level (world_of w) i ≡ false
+  is_behind e next = behind (world_of w) i old.place (in_range w i old there) (place_there w i old there) (place_within w.admission.config w.admission.list old.place e next)
 
   -- what it gives, and the world after it
-  pub application_steps : (a : applications.Applied) → slice_get xs i ≡ Some old → EachRefines place_of setup list taken first xs → IsApplication place_of (entries setup.config list) old a new →
-      IsOutput setup before (Apply i) (application a) × (behind_it ≡ after before (Apply i) (application a))
-  application_steps Done there each a =
-      let w : is_level before i ≡ false = behind before i old.place (in_range there) (stands there) (place_within setup.config list old.place a.entry a.next) in
-      (gives_applied setup before i w, next_place there (place_after place_of setup list taken first i old new a))
-  application_steps Level there each a =
-      let h = each i old there in
-      let w : is_level before i ≡ true = level_here before i (omega (arith, stands there, place_past setup.config list old.place a.0, h.holds.within)) in
-      (gives_level setup before i w, same_places there (ap (λ (s : Shard P). s.place) a.1))
-  application_steps Memory there each a =
-      let w : is_level before i ≡ false = behind before i old.place (in_range there) (stands there) (place_within setup.config list old.place a.entry a.next) in
-      let next : next_entry setup before i ≡ Some a.entry = ap (slice_get (entries setup.config list)) (stands there) ∙ a.next in
-      (gives_refusal setup before i w (ap may_take_memory next ∙ ap not a.takes), same_places there a.same.place)
+  pub application_steps : (a : applications.Applied) → IsApplication g.place_of (entries w.admission.config w.admission.list) old a new →
+      IsOutput (setup_of w) (world_of w) (Apply i) (application a) × (behind_it ≡ after (world_of w) (Apply i) (application a))
+  application_steps Done a = (
+    gives_applied (setup_of w) (world_of w) i (is_behind a.entry a.next),
+    next_place (place_after g.place_of (setup_of w) w.admission.list w.taken w.admission.first i old new a),
+  )
+  application_steps Level a =
+      let within : old.place ≤ length w.admission.list = (holds_there w i old there).holds.within in
+      let level : is_level (world_of w) i ≡ true = level_here (world_of w) i (omega (arith, place_there w i old there, place_past w.admission.config w.admission.list old.place a.0, within)) in
+      (gives_level (setup_of w) (world_of w) i level, same_world (ap (λ (s : Shard P). s.place) a.1))
+  application_steps Memory a =
+      let next : next_entry (setup_of w) (world_of w) i ≡ Some a.entry = ap (slice_get (entries w.admission.config w.admission.list)) (place_there w i old there) ∙ a.next in
+      (gives_refusal (setup_of w) (world_of w) i (is_behind a.entry a.next) (ap may_take_memory next ∙ ap not a.takes), same_world a.same.place)
 
 -- once fewer entries are kept, as long as each shard's next one is
 pub each_from : {P : Type 0} (place_of : P → ℕ → ℕ → ℕ) (placing : ℕ → ℕ → ℕ) (old new : Admitting) (taken : List ℕ) (xs : List (Shard P)) → EachRefines place_of (placed_by old.config old.shards placing) old.list taken old.first xs →

@@ -1,6 +1,7 @@
 -- An answer that a shard has come past is filed there until it is taken, and none is taken twice.
-use Rattle.std.proofs.Common.{◌≡◌, ℕ, zero, suc, max, ⊎_elim, Bool, true, false, cond, ◌||◌, Option, Some, None, List, [], ◌∷◌, ◌++◌, length, take, drop, map, filter, find, flat_map, fold, option_map, slice_get, slice_index, nat_lt, ◌==◌, refl, sym, ap, ◌∙◌, subst, eqb-true, eq-eqb, take-append-drop, true≢false}
-use Rattle.std.proofs.lemmas.Bool.{cond_both, cond-true, cond-false, lt-ltb}
+use Rattle.std.proofs.Common.{arith, ◌≡◌, ℕ, zero, suc, max, ⊎_elim, Bool, true, false, ◌||◌, Option, Some, None, List, [], ◌∷◌, ◌++◌, length, take, drop, map, filter, find, flat_map, fold, option_map, slice_get, slice_index, nat_lt, ◌==◌, refl, sym, ap, ◌∙◌, subst, eqb-true, eq-eqb, take-append-drop, true≢false}
+use Rattle.std.proofs.lemmas.Bool.{cond-true, cond-false, lt-ltb}
+use Rattle.std.proofs.lemmas.List.{map-append}
 use Rattle.std.proofs.lemmas.List.Folds.{find-append, list_any-append}
 use Rattle.std.specs.Option.{option_or}
 use Rattle.std.specs.List.{list_any}
@@ -11,7 +12,7 @@ use Rattle.bx_message.specs.declared.message_kind.MessageKind.{MessageKind}
 use Rattle.bx_entry.specs.Listing.{Listed, Post, Posted}
 use Rattle.bx_message.specs.MessageKinds.{message_kind_of}
 use Rattle.bx_entry.specs.Listing as messages
-use Rattle.bx_entry.specs.Registry.{due_of, Registry, Registered, Judged, PlaceSlot, Ready, Waiting, NoSlot, judge, served, slot_for, slot_with, rider_for, is_rider, left_by, extended, swept, is_overdue, named_by, refusal, hold_of, registry, empty_registry, entries_of, noted, state_of}
+use Rattle.bx_entry.specs.Registry.{due_of, Registry, Registered, Judged, PlaceSlot, Ready, Waiting, judge, served, slot_for, slot_with, rider_for, is_rider, left_by, extended, swept, named_by, refusal, hold_of, registry, empty_registry, entries_of, noted, state_of}
 use Rattle.bx_entry.specs.declared.input.Input.{Input}
 use Rattle.bx_entry.specs.Sessions.{Session, Filed, session}
 use Rattle.bx_entry.specs.Answers.{PlacedAnswer, answer_of, answer_by, answer_at}
@@ -23,29 +24,26 @@ use Rattle.bx_shard.specs.Refining.{given_of}
 use Rattle.bx_world.specs.declared.step.Step.{Step}
 use Rattle.bx_world.specs.declared.step.Step.TheVariants.{Admit, Apply, Take}
 use Rattle.bx_world.specs.declared.step.StepOut.{StepOut}
-use Rattle.bx_world.specs.declared.step.StepOut.TheVariants.{Admitted, NotAdmitted, Applied, Level, Taken, OutOfMemory}
+use Rattle.bx_world.specs.declared.step.StepOut.TheVariants.{Admitted, Taken}
 use Rattle.bx_entry.specs.declared.entry.Ticket.{Ticket}
 use Rattle.bx_world.specs.Schedules.{AnswersAreFiled, AnswersCanBeTaken, NoneTakenTwice, SchedulesCompose, EachNew, taken_by, taken_places}
-use Rattle.bx_theory.proofs.Lists.{find_each, find_true, judged_more, answer_within}
+use Rattle.bx_theory.proofs.Lists.{judged_more, answer_within}
 use Rattle.bx_theory.proofs.Dues.{EachJudged, each_judged_push, each_judged_map, each_session_map, named_session}
-use Rattle.bx_shard.proofs.Waits.{WaitsAt, answered_waits}
+use Rattle.bx_shard.proofs.Elements.{numbers, served_sessions, swept_same}
+use Rattle.bx_shard.proofs.Waits.{WaitsAt, waits_over}
 use Rattle.bx_shard.proofs.Untaken.{found_kept, find_untaken}
 
 or_true : (a b : Bool) → b ≡ true → (a || b) ≡ true
-or_true true b e = refl
-or_true false b e = e
+or_true a b e = grind arith
 
 -- ---- who waits is registered
 
 abbrev has : ℕ → List Registered → Bool
-has number rs = list_any (λ (r : Registered). r.number == number) rs
-
-has_map : (f : Registered → Registered) (number : ℕ) (rs : List Registered) → ((r : Registered) → (f r).number ≡ r.number) → has number (map f rs) ≡ has number rs
-has_map f number [] h = refl
-has_map f number (r ∷ rs) h = ap (λ (n : ℕ). (n == number) || has number (map f rs)) (h r) ∙ ap (λ (b : Bool). (r.number == number) || b) (has_map f number rs h)
+has number rs = list_any (λ n. n == number) (numbers rs)
 
 has_push : (number : ℕ) (rs : List Registered) (r : Registered) → has number rs ≡ true → has number (rs ++ r ∷ []) ≡ true
-has_push number rs r h = list_any-append (λ (q : Registered). q.number == number) rs (r ∷ []) ∙ ap (λ (b : Bool). b || has number (r ∷ [])) h
+has_push number rs r h =
+    ap (list_any (λ n. n == number)) (map-append (λ (q : Registered). q.number) rs (r ∷ [])) ∙ list_any-append (λ n. n == number) (numbers rs) (r.number ∷ []) ∙ ap (λ (b : Bool). b || has number (r ∷ [])) h
 
 each_has : (rs : List Registered) → EachSession (λ r. has r.number rs ≡ true) rs
 each_has [] = tt
@@ -66,16 +64,6 @@ Waiters r = EachJudged (λ j. SlotHas r.sessions j.slot) r.judged
 waiters_push : (r : Registry) (ts : List Registered) (j : Judged) → ((n : ℕ) → has n r.sessions ≡ true → has n ts ≡ true) → SlotHas ts j.slot → Waiters r → EachJudged (λ i. SlotHas ts i.slot) (r.judged ++ j ∷ [])
 waiters_push r ts j h s w = each_judged_push (λ i. SlotHas ts i.slot) r.judged j (each_judged_map (λ i. SlotHas r.sessions i.slot) (λ i. SlotHas ts i.slot) r.judged (λ i g. slot_has r.sessions ts i.slot h g) w) s
 
-left_has : (c : MessageKind) (number n : ℕ) (rs : List Registered) → has n (left_by c number rs) ≡ has n rs
-left_has MessageKind.Disconnect number n rs = has_map (λ s. cond (s.number == number) (record s { live = false }) s) n rs (λ s. let t : Registered = record s { live = false } in cond_both (s.number == number) t s (λ (u : Registered). u.number ≡ s.number) (λ e. refl) (λ e. refl))
-left_has _ number n rs = refl
-
-extended_has : (number due n : ℕ) (rs : List Registered) → has n (extended number due rs) ≡ has n rs
-extended_has number due n rs = has_map (λ s. cond (s.number == number) (record s { due = max s.due due }) s) n rs (λ s. let t : Registered = record s { due = max s.due due } in cond_both (s.number == number) t s (λ (u : Registered). u.number ≡ s.number) (λ e. refl) (λ e. refl))
-
-swept_has : (moment n : ℕ) (rs : List Registered) → has n (swept moment rs) ≡ has n rs
-swept_has moment n rs = has_map (λ s. cond (is_overdue moment s) (record s { live = false }) s) n rs (λ s. let t : Registered = record s { live = false } in cond_both (is_overdue moment s) t s (λ (u : Registered). u.number ≡ s.number) (λ e. refl) (λ e. refl))
-
 slot_served : (config : Config) (c : MessageKind) (p : Posted) (s : Registered) (rs : List Registered) → has s.number rs ≡ true → SlotHas rs (slot_for config c p s)
 slot_served config MessageKind.Connect p s rs h = h
 slot_served config _ p s rs h = tt
@@ -83,16 +71,14 @@ slot_served config _ p s rs h = tt
 -- so it has as a rider
 slot_ridden : (b : Bool) (number : ℕ) (slot : PlaceSlot) (rs : List Registered) → has number rs ≡ true → SlotHas rs slot → SlotHas rs (slot_with (rider_for b number slot) slot)
 slot_ridden true number (Ready reply) rs h s = h
-slot_ridden true number (Waiting session) rs h s = s
-slot_ridden true number NoSlot rs h s = s
-slot_ridden false number slot rs h s = s
+slot_ridden _ number slot rs h s = s
 
 served_waiters : (config : Config) (r : Registry) (moment : ℕ) (p : Posted) (c : MessageKind) (s : Registered) (hold : ℕ) → has s.number r.sessions ≡ true → Waiters r → Waiters (noted r moment (served config (state_of r) moment p c s hold))
 served_waiters config r moment p c s hold here w =
     let due : ℕ = due_of config moment hold in
     let ts : List Registered = left_by c s.number (extended s.number due r.sessions) in
     let same : (n : ℕ) → has n r.sessions ≡ true → has n (left_by c s.number (extended s.number (due_of config moment hold) r.sessions)) ≡ true =
-    λ n h. left_has c s.number n (extended s.number due r.sessions) ∙ extended_has s.number due n r.sessions ∙ h in
+    λ n h. ap (list_any (λ m. m == n)) (served_sessions c s.number due r.sessions) ∙ h in
     waiters_push r ts _ same (slot_ridden (is_rider config r.senders c p s) s.number (slot_for config c p s) ts (same s.number here) (slot_served config c p s ts (same s.number here))) w
 
 judge_waiters : (config : Config) (r : Registry) (x : Listed) → Waiters r → Waiters (judge config r x)
@@ -102,7 +88,7 @@ judge_waiters config r (Post p) w =
     by_verdict (λ v. Waiters (noted r moment v)) config (state_of r) moment p (named_by r.sessions c p.message) (refusal config r.sessions p)
     (λ e. waiters_push r r.sessions _ (λ n g. g) tt w) (waiters_push r _ _ (λ n g. has_push n r.sessions _ g) tt w) (waiters_push r r.sessions _ (λ n g. g) tt w)
     (λ s e. served_waiters config r moment p c s (hold_of config p) (named_session (λ q. has q.number r.sessions ≡ true) r.sessions c p.message s e (each_has r.sessions)) w)
-judge_waiters config r (messages.Tick moment) w = let now : ℕ = max r.clock moment in waiters_push r (swept now r.sessions) _ (λ n g. swept_has now n r.sessions ∙ g) tt w
+judge_waiters config r (messages.Tick moment) w = let now : ℕ = max r.clock moment in waiters_push r (swept now r.sessions) _ (λ n g. ap (list_any (λ m. m == n)) (swept_same now r.sessions) ∙ g) tt w
 
 run_waiters : (config : Config) (r : Registry) (xs : List Listed) → Waiters r → Waiters (fold (judge config) r xs)
 run_waiters config r [] w = w
@@ -119,11 +105,7 @@ judged_at P (i ∷ js) (suc k) j e d = judged_at P js k j e d.1
 same_session : (config : Config) (xs : List Listed) (m number place : ℕ) (f : Filed) → WaitsAt (registry config xs).judged number place →
     find (λ (g : Filed). g.connect == place) (session config m (entries_of (registry config xs))).answers ≡ Some f → m ≡ number
 same_session config xs m number place f w e =
-    let test : Filed → Bool = λ g. g.connect == place in
-    let s : Session = session config m (entries_of (registry config xs)) in
-    let waits : WaitsAt (registry config xs).judged m f.connect = find_each (λ g. WaitsAt (registry config xs).judged m g.connect) test s.answers f e (answered_waits config m xs).answers in
-    let here : f.connect ≡ place = eqb-true f.connect place (find_true test s.answers f e) in
-    let both : Some (Waiting m) ≡ Some (Waiting number) = sym (subst (WaitsAt (registry config xs).judged m) here waits) ∙ w in
+    let both : Some (Waiting m) ≡ Some (Waiting number) = sym (waits_over config m place xs f e) ∙ w in
     cc
 
 found_among : (config : Config) (xs : List Listed) (number place : ℕ) (f : Filed) (rs : List Registered) → WaitsAt (registry config xs).judged number place →
@@ -143,12 +125,7 @@ found_among config xs number place f (r ∷ rs) w e h =
 
 has_standing : (setup : Setup) (shard number : ℕ) (rs : List Registered) → stands_in setup shard number ≡ true → has number rs ≡ true → has number (filter (λ (s : Registered). stands_in setup shard s.number) rs) ≡ true
 has_standing setup shard number [] h e = cc
-has_standing setup shard number (r ∷ rs) h e =
-    let kept : List Registered = filter (λ (s : Registered). stands_in setup shard s.number) rs in
-    either (r.number == number) (has number (filter (λ (s : Registered). stands_in setup shard s.number) (r ∷ rs)) ≡ true)
-    (λ k. ap (has number) (cond-true (stands_in setup shard r.number) (r ∷ kept) kept (ap (stands_in setup shard) (eqb-true r.number number k) ∙ h)) ∙ ap (λ (b : Bool). b || has number kept) k)
-    (λ k. let rest : has number (filter (λ (s : Registered). stands_in setup shard s.number) rs) ≡ true = has_standing setup shard number rs h (sym (ap (λ (b : Bool). b || has number rs) k) ∙ e) in
-    cond_both (stands_in setup shard r.number) (r ∷ kept) kept (λ (qs : List Registered). has number qs ≡ true) (λ g. or_true (r.number == number) (has number kept) rest) (λ g. rest))
+has_standing setup shard number (r ∷ rs) h e = grind (arith, has_standing setup shard number rs h)
 
 -- ---- the law
 
@@ -226,13 +203,8 @@ given_untaken setup w t a None e g = cc
 given_untaken setup w t a (Some p) e g = filed_untaken setup w t p e
 
 take_new : (setup : Setup) (w : WorldState) (t : Ticket) (out : StepOut) (ps : List ℕ) → out ≡ Taken (option_map given_of (filed_under setup w t)) → EachNew (after w (Take t) out).taken ps → EachNew w.taken (taken_by (Take t) out ++ ps)
-take_new setup w t (Admitted first slots) ps e d = d
-take_new setup w t (NotAdmitted refusal) ps e d = d
-take_new setup w t Applied ps e d = d
-take_new setup w t Level ps e d = d
-take_new setup w t (Taken None) ps e d = d
 take_new setup w t (Taken (Some a)) ps e d = (given_untaken setup w t a (filed_under setup w t) refl (let same : option_map given_of (filed_under setup w t) ≡ Some a = cc in same), d)
-take_new setup w t OutOfMemory ps e d = d
+take_new setup w t _ ps e d = d
 
 admit_taken : (w : WorldState) (input : Input) (out : StepOut) → (after w (Admit input) out).taken ≡ w.taken
 admit_taken w input (Admitted first slots) = refl

@@ -15,9 +15,9 @@ use Rattle.bx_shard.specs.Refining.{given_of}
 use Rattle.bx_world.specs.Schedules.{EachTook}
 use Rattle.bx_world.specs.Headline.{slot_at, Gave, GaveIn, GivenLater, NoneGivenAgain}
 use Rattle.bx_world.specs.declared.step.Step.{Step}
-use Rattle.bx_world.specs.declared.step.Step.TheVariants.{Admit, Apply, Take}
+use Rattle.bx_world.specs.declared.step.Step.TheVariants.{Take}
 use Rattle.bx_world.specs.declared.step.StepOut.{StepOut}
-use Rattle.bx_world.specs.declared.step.StepOut.TheVariants.{Admitted, NotAdmitted, Applied, Level, Taken, OutOfMemory}
+use Rattle.bx_world.specs.declared.step.StepOut.TheVariants.{Taken}
 use Rattle.bx_entry.specs.declared.entry.Ticket.{Ticket}
 use Rattle.bx_theory.proofs.Counts.{stays_in_step, unopened_in_step}
 use Rattle.bx_theory.proofs.Moves.{Moved, step_moved, each_map, each_append}
@@ -28,20 +28,14 @@ use Rattle.bx_world.proofs.Takes.{takes_are_answers}
 -- ---- what was given is the list's
 
 gave_in : (config : Config) (list : List Listed) (t : Ticket) (place : ℕ) (a : Answer) (out : StepOut) → t.place ≡ place → EachTook config list (Take t ∷ []) (out ∷ []) → GaveIn a out → option_map given_of (answer config list place) ≡ Some a
-gave_in config list t place a (Admitted first slots) h d g = absurd g
-gave_in config list t place a (NotAdmitted refusal) h d g = absurd g
-gave_in config list t place a Applied h d g = absurd g
-gave_in config list t place a Level h d g = absurd g
-gave_in config list t place a (Taken None) h d g = absurd g
 gave_in config list t place a (Taken (Some b)) h d g = sym (ap (λ (n : ℕ). option_map given_of (answer config list n)) h) ∙ d.0 ∙ ap Some g
-gave_in config list t place a OutOfMemory h d g = absurd g
+gave_in config list t place a _ h d g = absurd g
 
 pub gave_answer : (config : Config) (list : List Listed) (steps : List Step) (outs : List StepOut) (place : ℕ) (a : Answer) → EachTook config list steps outs → Gave steps outs place a → option_map given_of (answer config list place) ≡ Some a
 gave_answer config list [] outs place a d g = absurd g
 gave_answer config list (step ∷ steps) [] place a d g = absurd g
-gave_answer config list (Admit input ∷ steps) (out ∷ outs) place a d g = ⊎_elim (λ h. absurd h) (λ h. gave_answer config list steps outs place a d.1 h) g
-gave_answer config list (Apply shard ∷ steps) (out ∷ outs) place a d g = ⊎_elim (λ h. absurd h) (λ h. gave_answer config list steps outs place a d.1 h) g
 gave_answer config list (Take t ∷ steps) (out ∷ outs) place a d g = ⊎_elim (λ h. gave_in config list t place a out h.0 (d.0, tt) h.1) (λ h. gave_answer config list steps outs place a d.1 h) g
+gave_answer config list (_ ∷ steps) (out ∷ outs) place a d g = ⊎_elim (λ h. absurd h) (λ h. gave_answer config list steps outs place a d.1 h) g
 
 -- ---- what its session filed
 

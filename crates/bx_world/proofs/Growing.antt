@@ -1,5 +1,5 @@
 -- What an admission gives, and what the shards hold over the longer list.
-use Rattle.std.proofs.Common.{◌≡◌, ℕ, ◌+◌, ◌≤◌, Bool, true, false, Some, None, List, ◌++◌, length, nat_lt, refl, sym, ap, ◌∙◌, subst, inl, inr, length-append, ltb-false}
+use Rattle.std.proofs.Common.{arith, ◌≡◌, ℕ, ◌+◌, ◌≤◌, Bool, false, Some, None, List, ◌++◌, length, nat_lt, refl, sym, ap, ◌∙◌, subst, inl, inr, length-append, ltb-false}
 use Rattle.std.specs.Prelude.{Result, Ok, Err, if◌then◌else◌}
 use Rattle.bx_advice.specs.Limits.{greatest_length, greatest_moment}
 use Rattle.bx_entry.specs.Inputs.{ReadInput, Request, Unread, Tick, added_by, refused_beyond, refusal_of}
@@ -24,9 +24,7 @@ use Rattle.bx_world.specs.declared.step.StepOut.TheVariants as outs
 -- ---- the list has an end
 
 not_beyond : (b c : Bool) → (if b then Some BadMoment else (if c then Some Ended else None)) ≡ None → c ≡ false
-not_beyond true c e = cc
-not_beyond false true e = cc
-not_beyond false false e = refl
+not_beyond b c e = grind arith
 
 within_end : (moment end : ℕ) → refused_beyond moment end ≡ None → end ≤ greatest_length
 within_end moment end e = ltb-false greatest_length end (not_beyond (nat_lt greatest_moment moment) (nat_lt greatest_length end) e)
@@ -45,14 +43,10 @@ still_bounded placing old new input (Err Memory) is few = subst (λ (b : Admitti
 -- ---- what shards hold
 
 pub same_shards : (placing : ℕ → ℕ → ℕ) (old new : Admitting) (input : ReadInput) (r : Result Admitted AdmissionFault) → IsAdmission placing old input r new → new.shards ≡ old.shards
-same_shards placing old new input (Ok a) is = ap (λ (b : Admitting). b.shards) is.3
-same_shards placing old new input (Err (Refused refusal)) is = ap (λ (b : Admitting). b.shards) is.1
-same_shards placing old new input (Err Memory) is = ap (λ (b : Admitting). b.shards) is
+same_shards placing old new input r is = grind arith
 
 pub same_first : (placing : ℕ → ℕ → ℕ) (old new : Admitting) (input : ReadInput) (r : Result Admitted AdmissionFault) → IsAdmission placing old input r new → new.first ≡ old.first
-same_first placing old new input (Ok a) is = ap (λ (b : Admitting). b.first) is.3
-same_first placing old new input (Err (Refused refusal)) is = ap (λ (b : Admitting). b.first) is.1
-same_first placing old new input (Err Memory) is = ap (λ (b : Admitting). b.first) is
+same_first placing old new input r is = grind arith
 
 abbrev pub EachOver : {P : Type 0} → (P → ℕ → ℕ → ℕ) → (ℕ → ℕ → ℕ) → List ℕ → List (Shard P) → Admitting → Type 0
 EachOver place_of placing taken xs a = EachRefines place_of (placed_by a.config a.shards placing) a.list taken a.first xs

@@ -13,7 +13,7 @@ use Rattle.bx_entry.specs.declared.entry.EntryKind.{EntryKind}
 use Rattle.bx_entry.specs.declared.entry.Rider.{Rider}
 use Rattle.bx_entry.specs.declared.entry.EntryKind.TheVariants.{Connect, Subscribe, Unsubscribe, Publish, Disconnect, Refused, Tick}
 use Rattle.bx_entry.specs.declared.entry.EntryKind.TheVariants as entries
-use Rattle.bx_entry.specs.Sessions.{Session, Publication, Pending, Filed, Stage, Unopened, filing, answered, unheld, released_from, released, cleared, acknowledged, portion, with_batch, formed, forgotten, gives, given, holding, idle, answered_or_held, connected, subscribed, unsubscribed, gives_one, with_event, delivered_to, delivered, overflowed, is_hit, has_room, published, begun, expired_from, expired, ended, closed_by, disconnected, is_riding, ride_filing, ride_portion, ridden, ridden_by, rider_of, step_by, step, session, unopened}
+use Rattle.bx_entry.specs.Sessions.{Session, Publication, Pending, Filed, Stage, filing, answered, unheld, released_from, released, cleared, acknowledged, portion, with_batch, formed, forgotten, gives, given, holding, idle, answered_or_held, connected, subscribed, unsubscribed, gives_one, with_event, delivered_to, delivered, overflowed, is_hit, has_room, published, begun, expired_from, expired, ended, closed_by, disconnected, is_riding, ride_filing, ride_portion, ridden, ridden_by, rider_of, step_by, step, session, unopened}
 use Rattle.bx_theory.specs.Laws.{Each, InStep, PlacesFrom}
 use Rattle.bx_theory.proofs.Counts.{subscribed_by, stays_in_step, step_by_in, unopened_in_step}
 use Rattle.bx_theory.proofs.Moves.{each_map, each_append}
@@ -159,8 +159,7 @@ closed_by_turn : (n : ℕ) (numbers : List ℕ) (s : Session) → InTurn n s →
 closed_by_turn n numbers s t = cond_both (list_any (λ k. k == s.number) numbers) (ended s) s (InTurn n) (λ h. ended_turn n s t) (λ h. t)
 
 begun_turn : (n : ℕ) (ack : Bool) (s : Session) (stage : Stage) → InTurn n s → InTurn n (begun ack s stage)
-begun_turn n ack s Unopened t = record { ordered = t.ordered; behind = t.behind }
-begun_turn n ack s _ t = t
+begun_turn n ack s stage t = grind arith
 
 -- all answered connects stand below the place
 pub turn_below : (n : ℕ) (s : Session) → InTurn n s → Each (λ f. f.connect < n) s.answers

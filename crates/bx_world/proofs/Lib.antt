@@ -12,6 +12,7 @@ pub mod Applications
 pub mod Growing
 pub mod Rows
 pub mod Takings
+pub mod Standing
 pub mod Starting
 pub mod Runs
 pub mod Slowest

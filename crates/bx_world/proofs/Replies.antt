@@ -20,7 +20,7 @@ use Rattle.bx_admission.specs.Slots.{given_by, given_from, admitted_slots}
 use Rattle.bx_world.specs.declared.step.Step.{Step}
 use Rattle.bx_world.specs.declared.step.Step.TheVariants.{Admit}
 use Rattle.bx_world.specs.declared.step.StepOut.{StepOut}
-use Rattle.bx_world.specs.declared.step.StepOut.TheVariants.{Admitted, NotAdmitted, Applied, Level, Taken, OutOfMemory}
+use Rattle.bx_world.specs.declared.step.StepOut.TheVariants.{Admitted}
 use Rattle.bx_world.specs.Headline.{EachSlot, IsAdmitted, RepliedBy, Replied, EachReplied, RepliesAreAnswers}
 use Rattle.bx_world.proofs.Takes.{Longer, run_longer}
 use Rattle.bx_theory.proofs.Verdicts.{Slotted, found_from, judged_behind, slotted}
@@ -163,11 +163,7 @@ admit_replied setup w input (Admitted first slots) last None n e l =
     (subst (λ (k : ℕ). IsAdmitted setup last.list (read_input input) k (admitted_slots setup w.list (added_by (read_input input)))) (sym same_first)
     (admitted setup w.list l.more last.list (read_input input) l.list n))
 admit_replied setup w input (Admitted first slots) last (Some refusal) n e l = cc
-admit_replied setup w input (NotAdmitted refusal) last o n e l = tt
-admit_replied setup w input Applied last o n e l = tt
-admit_replied setup w input Level last o n e l = tt
-admit_replied setup w input (Taken answer) last o n e l = tt
-admit_replied setup w input OutOfMemory last o n e l = tt
+admit_replied setup w input _ last o n e l = tt
 
 replied : (setup : Setup) (w : WorldState) (step : Step) (out : StepOut) (last : WorldState) → IsOutput setup w step out → Longer (after w step out) last → Replied setup last.list step out
 replied setup w (Admit input) out last i l =

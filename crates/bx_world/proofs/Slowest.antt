@@ -15,12 +15,10 @@ abbrev among : ℕ → List ℕ → Bool
 among p ns = list_any (λ n. n == p) ns
 
 or_split : (b c : Bool) (P : Type 0) → (b || c) ≡ true → (b ≡ true → P) → (c ≡ true → P) → P
-or_split true c P h f g = f refl
-or_split false c P h f g = g h
+or_split b c P h f g = grind arith
 
 or_left : (b c : Bool) → b ≡ true → (b || c) ≡ true
-or_left true c h = refl
-or_left false c h = cc
+or_left b c h = grind arith
 
 there_among : (ns : List ℕ) (k p : ℕ) → slice_get ns k ≡ Some p → among p ns ≡ true
 there_among [] k p e = cc

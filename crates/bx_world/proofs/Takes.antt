@@ -1,19 +1,18 @@
 -- Each answer that is taken from a shard is the one that the list gives.
-use Rattle.std.proofs.Common.{◌≡◌, ℕ, ◌<◌, ⊎_elim, Option, Some, None, List, [], ◌∷◌, ◌++◌, length, take, drop, find, option_map, slice_index, nat_lt, ◌==◌, refl, sym, ap, ◌∙◌, append-nil, append_assoc, take-append-drop, true≢false}
+use Rattle.std.proofs.Common.{arith, ◌≡◌, ℕ, ◌<◌, ⊎_elim, Option, Some, None, List, [], ◌∷◌, ◌++◌, length, take, drop, find, option_map, slice_index, nat_lt, ◌==◌, refl, sym, ap, ◌∙◌, append-nil, append_assoc, take-append-drop, true≢false}
 use Rattle.std.proofs.lemmas.Bool.{cond-true, cond-false}
 use Rattle.bx_lists.proofs.Tests.{either}
 use Rattle.bx_message.specs.declared.reply.Answer.{Answer}
 use Rattle.bx_entry.specs.Listing.{Listed}
-use Rattle.bx_entry.specs.Registry.{refusal}
 use Rattle.bx_entry.specs.Sessions.{Filed}
 use Rattle.bx_entry.specs.Answers.{PlacedAnswer, answer_of, answer}
 use Rattle.bx_shard.specs.Shards.{Setup, shard_at}
 use Rattle.bx_world.specs.Worlds.{WorldState, IsOutput, Runs, after, filed_under}
 use Rattle.bx_shard.specs.Refining.{given_of}
 use Rattle.bx_world.specs.declared.step.Step.{Step}
-use Rattle.bx_world.specs.declared.step.Step.TheVariants.{Admit, Apply, Take}
+use Rattle.bx_world.specs.declared.step.Step.TheVariants.{Take}
 use Rattle.bx_world.specs.declared.step.StepOut.{StepOut}
-use Rattle.bx_world.specs.declared.step.StepOut.TheVariants.{Admitted, NotAdmitted, Applied, Level, Taken, OutOfMemory}
+use Rattle.bx_world.specs.declared.step.StepOut.TheVariants.{Taken}
 use Rattle.bx_entry.specs.declared.entry.Ticket.{Ticket}
 use Rattle.bx_world.specs.Schedules.{added_in, admitted_in, ListIsAdmitted, TookBy, Took, EachTook, TakesAreAnswers}
 use Rattle.bx_theory.proofs.Lists.{answer_more}
@@ -45,25 +44,7 @@ pub record Longer (v w : WorldState) : Type 0 where
   pub list : w.list ≡ v.list ++ more
 
 after_list : (w : WorldState) (step : Step) (out : StepOut) → (after w step out).list ≡ w.list ++ added_in step out
-after_list w (Admit input) (Admitted first slots) = refl
-after_list w (Admit input) (NotAdmitted refusal) = sym (append-nil w.list)
-after_list w (Admit input) Applied = sym (append-nil w.list)
-after_list w (Admit input) Level = sym (append-nil w.list)
-after_list w (Admit input) (Taken o) = sym (append-nil w.list)
-after_list w (Admit input) OutOfMemory = sym (append-nil w.list)
-after_list w (Apply shard) (Admitted first slots) = sym (append-nil w.list)
-after_list w (Apply shard) (NotAdmitted refusal) = sym (append-nil w.list)
-after_list w (Apply shard) Applied = sym (append-nil w.list)
-after_list w (Apply shard) Level = sym (append-nil w.list)
-after_list w (Apply shard) (Taken o) = sym (append-nil w.list)
-after_list w (Apply shard) OutOfMemory = sym (append-nil w.list)
-after_list w (Take t) (Admitted first slots) = sym (append-nil w.list)
-after_list w (Take t) (NotAdmitted refusal) = sym (append-nil w.list)
-after_list w (Take t) Applied = sym (append-nil w.list)
-after_list w (Take t) Level = sym (append-nil w.list)
-after_list w (Take t) (Taken None) = sym (append-nil w.list)
-after_list w (Take t) (Taken (Some a)) = sym (append-nil w.list)
-after_list w (Take t) OutOfMemory = sym (append-nil w.list)
+after_list w step out = grind (arith, append-nil w.list)
 
 pub after_longer : (w : WorldState) (step : Step) (out : StepOut) → Longer w (after w step out)
 after_longer w step out = record { more = added_in step out; list = after_list w step out }
@@ -90,13 +71,8 @@ given_answer setup w t a last room (Some p) e g l =
     ap (option_map given_of) (ap (λ (xs : List Listed). answer setup.config xs t.place) l.list ∙ answer_more setup.config w.list l.more t.place p room (filed_answer setup w t p room e)) ∙ g
 
 took_by : (setup : Setup) (w : WorldState) (t : Ticket) (out : StepOut) (last : WorldState) → 0 < setup.config.limits.batch → out ≡ Taken (option_map given_of (filed_under setup w t)) → Longer w last → TookBy setup.config last.list t out
-took_by setup w t (Admitted first slots) last room e l = tt
-took_by setup w t (NotAdmitted refusal) last room e l = tt
-took_by setup w t Applied last room e l = tt
-took_by setup w t Level last room e l = tt
-took_by setup w t (Taken None) last room e l = tt
 took_by setup w t (Taken (Some a)) last room e l = let g : option_map given_of (filed_under setup w t) ≡ Some a = cc in given_answer setup w t a last room (filed_under setup w t) refl g l
-took_by setup w t OutOfMemory last room e l = tt
+took_by setup w t _ last room e l = tt
 
 took : (setup : Setup) (w : WorldState) (step : Step) (out : StepOut) (last : WorldState) → 0 < setup.config.limits.batch → IsOutput setup w step out → Longer w last → Took setup.config last.list step out
 took setup w (Take t) out last room i l = ⊎_elim (λ e. took_by setup w t out last room e l) (λ m. absurd (true≢false (sym m.0))) i

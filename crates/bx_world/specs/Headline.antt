@@ -1,11 +1,11 @@
 -- What a server of many shards gives, in the words of the subject: for every schedule of admissions, applications and takings, from whatever
 -- world it begins in, for every number of shards and every placing of sessions.
-use Rattle.std.specs.Prelude.{if◌then◌else◌, ℕ, ◌+◌, ◌≡◌, ◌<◌, ◌≤◌, ◌⊎◌, ◌==◌, false, List, [], ◌∷◌, ◌++◌, length, take, drop, find, Option, Some, None, option_map, slice_get, ⊤}
+use Rattle.std.specs.Prelude.{if◌then◌else◌, ℕ, ◌+◌, ◌≡◌, ◌<◌, ◌≤◌, ◌⊎◌, ◌==◌, false, List, [], ◌∷◌, ◌++◌, length, take, drop, find, Option, Some, option_map, slice_get, ⊤}
 use Rattle.bx_advice.specs.declared.config.Config.{Config}
 use Rattle.bx_message.specs.declared.reply.Answer.{Answer}
 use Rattle.bx_message.specs.declared.reply.AckReply.TheVariants.{AckNumber}
 use Rattle.bx_entry.specs.Listing.{Listed}
-use Rattle.bx_entry.specs.Inputs.{ReadInput, Request, Unread, Tick, added_by}
+use Rattle.bx_entry.specs.Inputs.{ReadInput, Request, added_by}
 use Rattle.bx_entry.specs.Requests.{read_input}
 use Rattle.bx_entry.specs.declared.entry.Entry.{Entry}
 use Rattle.bx_entry.specs.declared.entry.EntryKind.TheVariants.{Connect}
@@ -23,7 +23,7 @@ use Rattle.bx_world.specs.Schedules.{admitted_in, EachTook, EachNew, taken_place
 use Rattle.bx_world.specs.declared.step.Step.{Step}
 use Rattle.bx_world.specs.declared.step.Step.TheVariants.{Admit, Apply, Take}
 use Rattle.bx_world.specs.declared.step.StepOut.{StepOut}
-use Rattle.bx_world.specs.declared.step.StepOut.TheVariants.{Admitted, NotAdmitted, Applied, Level, Taken, OutOfMemory}
+use Rattle.bx_world.specs.declared.step.StepOut.TheVariants.{Admitted, Taken}
 
 -- ---- replies that are given at once
 
@@ -51,8 +51,7 @@ EachSlot setup list place (slot ∷ slots) = IsSlot setup list place slot × Eac
 -- how many messages an input has that are answered
 abbrev pub asked_by : ReadInput → ℕ
 asked_by (Request moment nonce messages) = length messages
-asked_by (Unread fault) = 0
-asked_by (Tick moment) = 0
+asked_by _ = 0
 
 -- The messages of an admitted input stand in the list from its first place on, and each has its slot.
 pub record IsAdmitted (setup : Setup) (list : List Listed) (input : ReadInput) (first : ℕ) (slots : List Slot) : Type 0 where
@@ -86,19 +85,13 @@ RepliesAreAnswers = (setup : Setup) (first : WorldState) (steps : List Step) (ou
 
 -- this output gave this answer
 abbrev pub GaveIn : Answer → StepOut → Type 0
-GaveIn answer (Admitted first slots) = ⊥
-GaveIn answer (NotAdmitted refusal) = ⊥
-GaveIn answer Applied = ⊥
-GaveIn answer Level = ⊥
-GaveIn answer (Taken None) = ⊥
 GaveIn answer (Taken (Some a)) = a ≡ answer
-GaveIn answer OutOfMemory = ⊥
+GaveIn answer _ = ⊥
 
 -- only a taking gives one, to the connect or the rider at its ticket's place
 abbrev pub GaveBy : ℕ → Answer → Step → StepOut → Type 0
-GaveBy place answer (Admit input) out = ⊥
-GaveBy place answer (Apply shard) out = ⊥
 GaveBy place answer (Take t) out = (t.place ≡ place) × GaveIn answer out
+GaveBy place answer _ out = ⊥
 
 -- some taking of the schedule gave this answer to the connect or the rider at this place
 abbrev pub Gave : List Step → List StepOut → ℕ → Answer → Type 0

@@ -1,5 +1,5 @@
 -- What holds of every schedule of admissions, applications and takings, whatever the placing and wherever memory was short.
-use Rattle.std.specs.Prelude.{ℕ, ◌≡◌, ◌<◌, ◌==◌, false, List, [], ◌∷◌, ◌++◌, length, find, slice_get, slice_index, option_map, Some, None, ⊤}
+use Rattle.std.specs.Prelude.{ℕ, ◌≡◌, ◌<◌, ◌==◌, false, List, [], ◌∷◌, ◌++◌, length, find, slice_get, slice_index, option_map, Some, ⊤}
 use Rattle.bx_advice.specs.declared.config.Config.{Config}
 use Rattle.bx_entry.specs.Inputs.{added_by}
 use Rattle.bx_entry.specs.Listing.{Listed}
@@ -13,9 +13,9 @@ use Rattle.bx_shard.specs.Shards.{Setup, is_taken, shard_at}
 use Rattle.bx_world.specs.Worlds.{WorldState, IsOutput, Runs}
 use Rattle.bx_shard.specs.Refining.{given_of}
 use Rattle.bx_world.specs.declared.step.Step.{Step}
-use Rattle.bx_world.specs.declared.step.Step.TheVariants.{Admit, Apply, Take}
+use Rattle.bx_world.specs.declared.step.Step.TheVariants.{Admit, Take}
 use Rattle.bx_world.specs.declared.step.StepOut.{StepOut}
-use Rattle.bx_world.specs.declared.step.StepOut.TheVariants.{Admitted, NotAdmitted, Applied, Level, Taken, OutOfMemory}
+use Rattle.bx_world.specs.declared.step.StepOut.TheVariants.{Admitted, Taken}
 
 -- ---- the list
 
@@ -27,8 +27,7 @@ added_as input _ = []
 -- only an admission adds to it
 abbrev pub added_in : Step → StepOut → List Listed
 added_in (Admit input) out = added_as input out
-added_in (Apply shard) out = []
-added_in (Take t) out = []
+added_in _ out = []
 
 -- what was admitted, one input after another
 abbrev pub admitted_in : List Step → List StepOut → List Listed
@@ -45,19 +44,13 @@ ListIsAdmitted = (setup : Setup) (first : WorldState) (steps : List Step) (outs 
 
 -- an answer that was taken is the one that the message at the ticket's place has over this list
 abbrev pub TookBy : Config → List Listed → Ticket → StepOut → Type 0
-TookBy config list t (Admitted first slots) = ⊤
-TookBy config list t (NotAdmitted refusal) = ⊤
-TookBy config list t Applied = ⊤
-TookBy config list t Level = ⊤
-TookBy config list t (Taken None) = ⊤
 TookBy config list t (Taken (Some a)) = option_map given_of (answer config list t.place) ≡ Some a
-TookBy config list t OutOfMemory = ⊤
+TookBy config list t _ = ⊤
 
 -- only a taking gives an answer
 abbrev pub Took : Config → List Listed → Step → StepOut → Type 0
-Took config list (Admit input) out = ⊤
-Took config list (Apply shard) out = ⊤
 Took config list (Take t) out = TookBy config list t out
+Took config list _ out = ⊤
 
 -- so it is at each step
 abbrev pub EachTook : Config → List Listed → List Step → List StepOut → Type 0
@@ -90,19 +83,13 @@ AnswersCanBeTaken = (setup : Setup) (w : WorldState) (t : Ticket) (number : ℕ)
 
 -- the place of the answer that a step took, if it took one
 abbrev pub taken_as : ℕ → StepOut → List ℕ
-taken_as place (Admitted first slots) = []
-taken_as place (NotAdmitted refusal) = []
-taken_as place Applied = []
-taken_as place Level = []
-taken_as place (Taken None) = []
 taken_as place (Taken (Some a)) = place ∷ []
-taken_as place OutOfMemory = []
+taken_as place _ = []
 
 -- only a taking takes one
 abbrev pub taken_by : Step → StepOut → List ℕ
-taken_by (Admit input) out = []
-taken_by (Apply shard) out = []
 taken_by (Take t) out = taken_as t.place out
+taken_by _ out = []
 
 -- the places of the answers that were taken, in order
 abbrev pub taken_places : List Step → List StepOut → List ℕ

@@ -13,7 +13,7 @@ use Rattle.bx_shard.proofs.sessions.Sessions.connect.Goals as goal
 pub returns-in-Ok-clause-held : goal.returns-in-Ok-clause-held
 returns-in-Ok-clause-held c = λ held.
     let old = c.args.self.now in
-    connect_agrees old.config _ _ (kept_in old) _ c.args.number c.args.connect c.args.acked (kept_in old c.args.number) refl held (search rules) (search rules) (search rules)
+    connect_agrees old.config c.args.connect c.args.acked _ _ (kept_in old) _ c.args.number (kept_in old c.args.number) refl held (search rules) (search rules) (search rules)
 
 pub returns-in-Ok-clause-counted : goal.returns-in-Ok-clause-counted
 returns-in-Ok-clause-counted c = λ counted.

@@ -1,8 +1,9 @@
-use Rattle.std.proofs.Common.{rules, ◌≡◌, ◌↔◌, ℕ, Contains, IsTrue, List, sym, subst, ◌∙◌}
+use Rattle.std.proofs.Common.{rules, ◌≡◌, ◌↔◌, ℕ, Contains, IsTrue, List, sym, subst}
 use Rattle.std.specs.List.Sorted.{IsStrictlyIncreasing}
+use Rattle.bx_shard.specs.declared.sessions.Sessions.{Sessions}
 use Rattle.bx_shard.specs.Publishing.{Turns, numbers_of, reaches}
 use Rattle.bx_shard.specs.Sessions.{patterns_in}
-use Rattle.bx_shard.proofs.Handing.{AreApart, AreOf, all_hear, answers_filed, are_apart, are_of, are_ready, config_after, connects_kept, gives_if, held_after, if_gives, sessions_kept}
+use Rattle.bx_shard.proofs.Handing.{AreApart, AreOf, Handed, are_apart, are_of, are_ready, handed}
 use Rattle.bx_shard.proofs.sessions.Sessions.publish.Goals as goal
 use Rattle.bx_shard.proofs.sessions.Sessions.publish.Goals.{In_ok-parcels}
 
@@ -30,56 +31,27 @@ hand_out-requires-clause-ready c =
     let k = (goal.at.hand_out-requires-clause-ready c).In_ok-parcels in
     are_ready s.config c.args.place e s t t xs c.requires.counted c.pack.ensures.sessions (of k) (reached k) c.requires.countable (apart k) c.in_ok-parcels.ensures.packed
 
-pub returns-clause-sessions : goal.returns-clause-sessions
-returns-clause-sessions c =
+-- so it is once they were handed out
+given_out : (c : In_ok-parcels) (new : Sessions) → Turns c.args.self.now.config c.args.place c.in_ok-parcels.parcels.items c.pack.new.self new → Handed c.args.self.now.config c.args.place c.args.event.now c.args.self.now new
+given_out c new turns =
     let s = c.args.self.now in
     let t = c.pack.new.self in
-    let e = c.args.event.now in
-    let xs = c.in_ok-parcels.parcels.items in
-    let k = (goal.at.returns-clause-sessions c).In_ok-parcels in
-    let turns : Turns s.config c.args.place xs t c.hand_out.new.self = search rules in
-    all_hear s.config c.args.place e s t c.hand_out.new.self xs c.requires.counted c.pack.ensures.sessions (of k) (reached k) (apart k) turns
+    handed s.config c.args.place c.args.event.now s t new c.in_ok-parcels.parcels.items c.requires.counted c.pack.ensures.sessions (of c) (reached c) (apart c) (search rules) c.pack.ensures.others.2 c.pack.ensures.others.0 turns
+
+pub returns-clause-sessions : goal.returns-clause-sessions
+returns-clause-sessions c = (given_out (goal.at.returns-clause-sessions c).In_ok-parcels c.hand_out.new.self (search rules)).sessions
 
 pub returns-clause-given : goal.returns-clause-given
-returns-clause-given c = λ n a there.
-    let s = c.args.self.now in
-    let t = c.pack.new.self in
-    let e = c.args.event.now in
-    let xs = c.in_ok-parcels.parcels.items in
-    let k = (goal.at.returns-clause-given c).In_ok-parcels in
-    let turns : Turns s.config c.args.place xs t c.hand_out.new.self = search rules in
-    answers_filed s.config c.args.place e xs t c.hand_out.new.self (search rules) (of k) (apart k) turns n a
-    (gives_if s.config c.args.place e s t t xs c.requires.counted c.pack.ensures.sessions (of k) (reached k) n a there)
+returns-clause-given c = (given_out (goal.at.returns-clause-given c).In_ok-parcels c.hand_out.new.self (search rules)).given
 
 pub returns-clause-kept : goal.returns-clause-kept
-returns-clause-kept c = λ p never.
-    let s = c.args.self.now in
-    let t = c.pack.new.self in
-    let e = c.args.event.now in
-    let xs = c.in_ok-parcels.parcels.items in
-    let k = (goal.at.returns-clause-kept c).In_ok-parcels in
-    let turns : Turns s.config c.args.place xs t c.hand_out.new.self = search rules in
-    connects_kept s.config c.args.place e xs t c.hand_out.new.self (of k) (apart k) turns p
-    (λ n a gives. never n a (if_gives s.config c.args.place e s t t xs c.requires.counted c.pack.ensures.sessions (of k) (reached k) n a gives))
-    ∙ (search rules)
+returns-clause-kept c = (given_out (goal.at.returns-clause-kept c).In_ok-parcels c.hand_out.new.self (search rules)).kept
 
 pub returns-clause-known : goal.returns-clause-known
-returns-clause-known c = λ p.
-    let s = c.args.self.now in
-    let t = c.pack.new.self in
-    let turns : Turns s.config c.args.place c.in_ok-parcels.parcels.items t c.hand_out.new.self = search rules in
-    sessions_kept s.config c.args.place c.args.event.now c.in_ok-parcels.parcels.items t c.hand_out.new.self turns p ∙ (search rules)
+returns-clause-known c = (given_out (goal.at.returns-clause-known c).In_ok-parcels c.hand_out.new.self (search rules)).known
 
 pub returns-clause-held : goal.returns-clause-held
-returns-clause-held c =
-    let s = c.args.self.now in
-    let t = c.pack.new.self in
-    let turns : Turns s.config c.args.place c.in_ok-parcels.parcels.items t c.hand_out.new.self = search rules in
-    held_after s.config c.args.place c.args.event.now c.in_ok-parcels.parcels.items t c.hand_out.new.self (search rules) turns
+returns-clause-held c = (given_out (goal.at.returns-clause-held c).In_ok-parcels c.hand_out.new.self (search rules)).held
 
 pub returns-clause-config : goal.returns-clause-config
-returns-clause-config c =
-    let s = c.args.self.now in
-    let t = c.pack.new.self in
-    let turns : Turns s.config c.args.place c.in_ok-parcels.parcels.items t c.hand_out.new.self = search rules in
-    config_after s.config c.args.place c.args.event.now c.in_ok-parcels.parcels.items t c.hand_out.new.self turns ∙ (search rules)
+returns-clause-config c = (given_out (goal.at.returns-clause-config c).In_ok-parcels c.hand_out.new.self (search rules)).config_is

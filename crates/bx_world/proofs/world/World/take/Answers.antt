@@ -1,21 +1,29 @@
-use Rattle.std.proofs.Common.{◌≡◌, ◌<◌, ℕ, List, Option, Some, None, true, map, nat_eq, slice_get, slice_set, refl, sym, ap, ◌∙◌, subst, arith}
-use Rattle.std.specs.Arc.{arc_value}
+use Rattle.std.proofs.Common.{◌≡◌, ◌<◌, ℕ, List, Option, Some, None, true, slice_get, slice_set, refl, sym, ap, ◌∙◌, subst, arith}
 use Rattle.std.proofs.lemmas.List.{length-set}
 use Rattle.std.proofs.lemmas.Option.{slice_get_read}
-use Rattle.bx_connects.specs.Connects.{filed_answer}
 use Rattle.bx_shard.specs.Refining.{Took}
 use Rattle.bx_shard.specs.Seen.{state}
-use Rattle.bx_shard.specs.States.{connect_in}
-use Rattle.bx_shard.specs.declared.shard.Shard.{Shard}
-use Rattle.bx_admission.specs.Slots.{placed_by}
 use Rattle.bx_message.specs.declared.reply.Answer.{Answer}
 use Rattle.bx_world.specs.Refining.{EachRefines}
-use Rattle.bx_world.specs.Worlds.{WorldState, IsOutput, after}
+use Rattle.bx_world.specs.Seen.{setup_of, world_of}
+use Rattle.bx_world.specs.Worlds.{IsOutput, after}
 use Rattle.bx_world.specs.declared.step.Step.TheVariants.{Take}
 use Rattle.bx_world.specs.declared.step.StepOut.TheVariants.{Taken}
-use Rattle.bx_world.proofs.Slowest.{same_slowest}
-use Rattle.bx_world.proofs.Takings.{answered, before, each_still, each_taken, own, same_places, taking_gives}
+use Rattle.bx_world.proofs.Standing.{same_places, still_some}
+use Rattle.bx_world.proofs.Takings.{answered, each_still, each_taken, own, taking_gives}
 use Rattle.bx_world.proofs.world.World.take.Goals as goal
+use Rattle.bx_world.proofs.world.World.take.Goals.{After-take}
+
+-- the shard that the ticket names stands in the row
+there : (g : _) (c : After-take g) → slice_get c.args.self.now.shards.items c.args.ticket.shard ≡ Some c.in_ok-get_mut.field-0.now
+there g c =
+    let row = c.args.self.now.shards in
+    let here : c.args.ticket.shard < row.len = c.in_ok-get_mut.ensures.variant.0 (refl {a = true}) in
+    slice_get_read row.items row.len c.args.ticket.shard c.in_ok-get_mut.field-0.now (omega (arith, row.ok.0)) here c.in_ok-get_mut.ensures.value
+
+-- the ticket is one of its own, so what it has filed under it is gone
+took : (g : _) (c : After-take g) → Took c.args.ticket.place (state g.P.Placing.place_of c.in_ok-get_mut.field-0.now) (state g.P.Placing.place_of c.take.new.self)
+took g c = c.take.ensures.taken (own c.args.self.now c.args.ticket c.in_ok-get_mut.field-0.now c.take.new.self (there g c))
 
 pub invariant_of-self-in-Break-branch-2 : goal.invariant_of-self-in-Break-branch-2
 invariant_of-self-in-Break-branch-2 g c =
@@ -23,20 +31,14 @@ invariant_of-self-in-Break-branch-2 g c =
     let t = c.args.ticket in
     let old = c.in_ok-get_mut.field-0.now in
     let new = c.take.new.self in
-    let place_of = g.P.Placing.place_of in
-    let setup = placed_by w.admission.config w.admission.shards (g.P.Placing.place_of (arc_value w.placing)) in
-    let here : t.shard < w.shards.len = c.in_ok-get_mut.ensures.variant.0 (refl {a = true}) in
-    let there : slice_get w.shards.items t.shard ≡ Some old = slice_get_read w.shards.items w.shards.len t.shard old (omega (arith, w.shards.ok.0)) here c.in_ok-get_mut.ensures.value in
-    let mine : nat_eq t.shard old.index ≡ true = own place_of setup w.admission.list w.taken w.admission.first w.shards.items t old new there w.holding in
-    let took : Took t.place (state place_of old) (state place_of new) = c.take.ensures.taken mine in
-    let none : None ≡ filed_answer (connect_in (state place_of old) t.place) = answered place_of setup w.admission.list w.taken w.admission.first w.shards.items t old new None there w.holding c.in_err-answer.ensures.answer in
+    let k = (goal.at.invariant_of-self-in-Break-branch-2 g c).After-take in
     record {
       bounded = w.bounded;
       some_shard = w.some_shard;
       shards_in_range = w.shards_in_range;
       counted = length-set w.shards.items t.shard new ∙ w.counted;
-      holding = each_still place_of setup w.admission.list w.taken w.admission.first w.shards.items t old new there w.holding none took c.take.ensures.sound;
-      slowest = same_slowest w.shards.items (slice_set w.shards.items t.shard new) w.admission.first (same_places place_of setup w.admission.list w.taken w.admission.first w.shards.items t old new there took.place_is) w.slowest;
+      holding = each_still w t old new (there g k) (answered w t old new (there g k) None c.in_err-answer.ensures.answer) (took g k) c.take.ensures.sound;
+      slowest = still_some w t.shard old (there g k) new (took g k).place_is;
     }
 
 pub returns-in_err-answer : goal.returns-in_err-answer
@@ -45,19 +47,11 @@ returns-in_err-answer g c =
     let t = c.args.ticket in
     let old = c.in_ok-get_mut.field-0.now in
     let new = c.take.new.self in
-    let place_of = g.P.Placing.place_of in
-    let setup = placed_by w.admission.config w.admission.shards (g.P.Placing.place_of (arc_value w.placing)) in
-    let here : t.shard < w.shards.len = c.in_ok-get_mut.ensures.variant.0 (refl {a = true}) in
-    let there : slice_get w.shards.items t.shard ≡ Some old = slice_get_read w.shards.items w.shards.len t.shard old (omega (arith, w.shards.ok.0)) here c.in_ok-get_mut.ensures.value in
-    let mine : nat_eq t.shard old.index ≡ true = own place_of setup w.admission.list w.taken w.admission.first w.shards.items t old new there w.holding in
-    let took : Took t.place (state place_of old) (state place_of new) = c.take.ensures.taken mine in
-    let none : None ≡ filed_answer (connect_in (state place_of old) t.place) = answered place_of setup w.admission.list w.taken w.admission.first w.shards.items t old new None there w.holding c.in_err-answer.ensures.answer in
+    let k = (goal.at.returns-in_err-answer g c).After-take in
     let gone = c.from_residual-in_err-answer.ensures in
-    let first : WorldState = before place_of setup w.admission.list w.taken w.admission.first w.shards.items t old new in
     record {
-      output = subst (λ (o : Option Answer). IsOutput setup first (Take t) (Taken o)) (sym gone) (taking_gives place_of setup w.admission.list w.taken w.admission.first w.shards.items t old new None there w.holding none);
-      world = ap (λ (ns : List ℕ). record { list = w.admission.list; applied = ns; taken = w.taken }) (same_places place_of setup w.admission.list w.taken w.admission.first w.shards.items t old new there took.place_is)
-          ∙ ap (λ (o : Option Answer). after first (Take t) (Taken o)) (sym gone);
+      output = subst (λ (o : Option Answer). IsOutput (setup_of w) (world_of w) (Take t) (Taken o)) (sym gone) (taking_gives w t old new (there g k) None (answered w t old new (there g k) None c.in_err-answer.ensures.answer));
+      world = ap (λ (ns : List ℕ). record (world_of w) { applied = ns }) (same_places w t.shard old (there g k) new (took g k).place_is) ∙ ap (λ (o : Option Answer). after (world_of w) (Take t) (Taken o)) (sym gone);
       setup = refl;
     }
 
@@ -67,23 +61,16 @@ invariant_of-self-2 g c =
     let t = c.args.ticket in
     let old = c.in_ok-get_mut.field-0.now in
     let new = c.take.new.self in
-    let place_of = g.P.Placing.place_of in
-    let setup = placed_by w.admission.config w.admission.shards (g.P.Placing.place_of (arc_value w.placing)) in
-    let here : t.shard < w.shards.len = c.in_ok-get_mut.ensures.variant.0 (refl {a = true}) in
-    let there : slice_get w.shards.items t.shard ≡ Some old = slice_get_read w.shards.items w.shards.len t.shard old (omega (arith, w.shards.ok.0)) here c.in_ok-get_mut.ensures.value in
-    let mine : nat_eq t.shard old.index ≡ true = own place_of setup w.admission.list w.taken w.admission.first w.shards.items t old new there w.holding in
-    let took : Took t.place (state place_of old) (state place_of new) = c.take.ensures.taken mine in
+    let k = (goal.at.invariant_of-self-2 g c).After-take in
     let a = c.in_ok-answer.answer in
-    let some : Some a ≡ filed_answer (connect_in (state place_of old) t.place) = answered place_of setup w.admission.list w.taken w.admission.first w.shards.items t old new (Some a) there w.holding c.in_ok-answer.ensures.answer in
-    let room : 0 < w.admission.config.limits.batch = omega (arith, w.admission.config.limits.some_batch) in
     record {
       bounded = w.bounded;
       some_shard = w.some_shard;
       shards_in_range = w.shards_in_range;
       counted = length-set w.shards.items t.shard new ∙ w.counted;
-      holding = subst (λ (taken : List ℕ). EachRefines place_of setup w.admission.list taken w.admission.first (slice_set w.shards.items t.shard new)) (sym c.push.ensures)
-          (each_taken place_of setup w.admission.list w.taken w.admission.first w.shards.items t old new a room there w.holding some took c.take.ensures.sound);
-      slowest = same_slowest w.shards.items (slice_set w.shards.items t.shard new) w.admission.first (same_places place_of setup w.admission.list w.taken w.admission.first w.shards.items t old new there took.place_is) w.slowest;
+      holding = subst (λ (taken : List ℕ). EachRefines g.P.Placing.place_of (setup_of w) w.admission.list taken w.admission.first (slice_set w.shards.items t.shard new)) (sym c.push.ensures)
+          (each_taken w t old new (there g k) a (answered w t old new (there g k) (Some a) c.in_ok-answer.ensures.answer) (took g k) c.take.ensures.sound);
+      slowest = still_some w t.shard old (there g k) new (took g k).place_is;
     }
 
 pub returns : goal.returns
@@ -92,18 +79,11 @@ returns g c =
     let t = c.args.ticket in
     let old = c.in_ok-get_mut.field-0.now in
     let new = c.take.new.self in
-    let place_of = g.P.Placing.place_of in
-    let setup = placed_by w.admission.config w.admission.shards (g.P.Placing.place_of (arc_value w.placing)) in
-    let here : t.shard < w.shards.len = c.in_ok-get_mut.ensures.variant.0 (refl {a = true}) in
-    let there : slice_get w.shards.items t.shard ≡ Some old = slice_get_read w.shards.items w.shards.len t.shard old (omega (arith, w.shards.ok.0)) here c.in_ok-get_mut.ensures.value in
-    let mine : nat_eq t.shard old.index ≡ true = own place_of setup w.admission.list w.taken w.admission.first w.shards.items t old new there w.holding in
-    let took : Took t.place (state place_of old) (state place_of new) = c.take.ensures.taken mine in
+    let k = (goal.at.returns g c).After-take in
     let a = c.in_ok-answer.answer in
-    let some : Some a ≡ filed_answer (connect_in (state place_of old) t.place) = answered place_of setup w.admission.list w.taken w.admission.first w.shards.items t old new (Some a) there w.holding c.in_ok-answer.ensures.answer in
-    let places = same_places place_of setup w.admission.list w.taken w.admission.first w.shards.items t old new there took.place_is in
     record {
-      output = taking_gives place_of setup w.admission.list w.taken w.admission.first w.shards.items t old new (Some a) there w.holding some;
-      world = ap (λ (ns : List ℕ). record { list = w.admission.list; applied = ns; taken = c.push.new.self }) places
-          ∙ ap (λ (taken : List ℕ). record { list = w.admission.list; applied = map (λ (s : Shard g.row.P.Denot). s.place) w.shards.items; taken = taken }) c.push.ensures;
+      output = taking_gives w t old new (there g k) (Some a) (answered w t old new (there g k) (Some a) c.in_ok-answer.ensures.answer);
+      world = ap (λ (ns : List ℕ). record (world_of w) { applied = ns; taken = c.push.new.self }) (same_places w t.shard old (there g k) new (took g k).place_is)
+          ∙ ap (λ (taken : List ℕ). record (world_of w) { taken = taken }) c.push.ensures;
       setup = refl;
     }
