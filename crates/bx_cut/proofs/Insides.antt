@@ -62,8 +62,8 @@ module _ (t : List ℕ) (d : Data) where
   elements_of_json (json.array js) (xs, e, l) n h f =
       let m = from_map array (of_items js) d (sym f) in
       let found = find_items js xs [] n (l ∙ sym (append-nil (items_tokens js))) in
-      let list : elements t ≡ found.text.texts = ap elements_inside (found_first 91 t xs e refl) ∙ ap (λ (q : List (List ℕ) × List ℕ). q.0) (ap (listed split_value) found.front ∙ found.text.list found.r) in
-      let each : AreElementsOf found.text.texts d = subst (AreElementsOf found.text.texts) (sym m.2) (each_text js found.text.texts m.0 found.text.each (omega arith) m.1) in
+      let list : elements t ≡ found.text.found = ap elements_inside (found_first 91 t xs e refl) ∙ ap (λ (q : List (List ℕ) × List ℕ). q.0) (ap (listed split_value) found.front ∙ found.text.list found.r) in
+      let each : AreElementsOf found.text.found d = subst (AreElementsOf found.text.found) (sym m.2) (each_text js found.text.found m.0 found.text.each (omega arith) m.1) in
       subst (λ (vs : List (List ℕ)). AreElementsOf vs d) (sym list) each
   elements_of_json (json.object ms) (xs, e, l) n h f =
       let m = from_map object (of_members ms no_members) d (sym f) in

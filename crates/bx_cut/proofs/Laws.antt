@@ -22,7 +22,7 @@ use Rattle.bx_cut.specs.Laws.{IsBare, IsObjectOf, AreObjectsOf, ArePiecesOf, Sta
 use Rattle.bx_cut.specs.Pieces.{Object, is_name, later_or, last_member, members, split_object, pieces, pieces_of, only}
 use Rattle.bx_cut.specs.Strings.{spelled}
 use Rattle.bx_cut.proofs.Lists.{turn}
-use Rattle.bx_cut.proofs.Nested.{FoundMembers, EachMember, find_members, object_text, next, next_comma, Next, found_first, other_first}
+use Rattle.bx_cut.proofs.Nested.{FoundInside, entries, EachMember, find_members, object_text, next, next_comma, Next, found_first, other_first}
 use Rattle.bx_cut.proofs.Objects.{object-none, object-some, Shortens-split_object}
 use Rattle.bx_cut.proofs.Reach.{some_same, from_map, from_and_then}
 use Rattle.bx_cut.proofs.Readings.{whole, reads_as}
@@ -87,7 +87,7 @@ members_bare (json.member k j ms) (m ∷ found) name each =
 
 -- ---- one message
 
-module _ (xs : List ℕ) (ms : json.Members) (rest : List Token) (f : FoundMembers true xs ms rest) where
+module _ (xs : List ℕ) (ms : json.Members) (rest : List Token) (f : FoundInside entries true xs ms rest) where
   own_members : f.text.found ≡ members (123 ∷ f.v)
   unfolding after_first
   own_members = sym (ap (λ (q : List Member × List ℕ). q.0) (ap (listed split_member) (sym (append-nil f.v)) ∙ f.text.list []))

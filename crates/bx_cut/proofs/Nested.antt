@@ -10,7 +10,7 @@ use Rattle.json.specs.Json as json
 use Rattle.json.specs.Tree.{json_tokens, items_tokens, members_tokens, HasNumbers, ItemsHaveNumbers, MembersHaveNumbers}
 use Rattle.json.specs.Lex.{Lexeme, token, comma, colon, Class, between, in_word, in_string, lex_byte, lex, string_token, fresh, after_value, after_comma, begins_colon, place_token, punctuate}
 use Rattle.bx_cut.specs.Cut.{past_blank, past_byte, after_first, begins_with, outside, nest_len, value_len, split_value, split_member, after_key, with_value, Member, then_more, first_and_more, listed}
-use Rattle.bx_cut.proofs.Lists.{turn, listed-none, Shortens-split_value, Shortens-split_member}
+use Rattle.bx_cut.proofs.Lists.{Shortens, turn, listed-none, Shortens-split_value, Shortens-split_member}
 use Rattle.json.specs.Align.{span}
 use Rattle.bx_cut.proofs.Bytes.{byte_cases, BeginsFull, past-full, past-lex, blanks, Blank-blanks, split_blanks}
 use Rattle.bx_cut.proofs.Seen.{start, SeenMark, Matches, seen, past_string, IsWord, is_word}
@@ -101,19 +101,11 @@ colon_closing : (v : List ℕ) → Closing v → Closing (58 ∷ v)
 unfolding nest_len
 colon_closing v = mark_closing 58 v (λ depth z. refl)
 
-closes_one : (depth n : ℕ) (z : List ℕ) → 1 + cond ((depth + 1) == 0) 0 (nest_len outside (depth + 1 - 1) z) ≡ 1 + nest_len outside depth z
-closes_one depth n z =
+closes_one : (depth : ℕ) (z : List ℕ) → 1 + cond ((depth + 1) == 0) 0 (nest_len outside (depth + 1 - 1) z) ≡ 1 + nest_len outside depth z
+closes_one depth z =
     let some : ((depth + 1) == 0) ≡ false = ne_eqb (depth + 1) 0 (λ e. omega (arith, e)) in
     let less : depth + 1 - 1 ≡ depth = omega arith in
     ap (λ (b : Bool). 1 + cond b 0 (nest_len outside (depth + 1 - 1) z)) some ∙ ap (λ (k : ℕ). 1 + nest_len outside k z) less
-
-bracket_closing : Closing (93 ∷ [])
-unfolding nest_len
-bracket_closing = record { ends = λ z. refl; nests = λ depth z. closes_one depth 0 z }
-
-brace_closing : Closing (125 ∷ [])
-unfolding nest_len
-brace_closing = record { ends = λ z. refl; nests = λ depth z. closes_one depth 0 z }
 
 three : (a b c z : List ℕ) → (a ++ (b ++ c)) ++ z ≡ a ++ (b ++ (c ++ z))
 three a b c z = append_assoc a (b ++ c) z ∙ ap (λ (x : List ℕ). a ++ x) (append_assoc b c z)
@@ -129,80 +121,70 @@ split_text u v z e n h =
     let parts : List ℕ × List ℕ = (take (value_len (past_blank u)) (past_blank u), drop (value_len (past_blank u)) (past_blank u)) in
     sym (ap (λ (b : Bool). cond b None (Some parts)) some ∙ (λ i. Some (front i, back i)))
 
--- ---- the elements of an array
+-- ---- what stands between two brackets
 
-abbrev pub EachText : List (List ℕ) → Items → Type 0
-EachText [] no_items = Unit {0}
-EachText [] (item j js) = ⊥
-EachText (v ∷ vs) no_items = ⊥
-EachText (v ∷ vs) (item j js) = Text v (json_tokens j) × EachText vs js
+-- What commas separate there: a thing, what all of them say, how the next one is split off, their tokens up to that of the closing bracket, which things
+-- say what, and that bracket's byte.
+pub record Between : Type 1 where
+  pub Thing : Type 0
+  pub Said : Type 0
+  pub split : List ℕ → Option (Thing × List ℕ)
+  pub tokens : Said → List Token
+  pub Each : List Thing → Said → Type 0
+  pub shuts : ℕ
 
-pub record ItemsText (b : Bool) (v : List ℕ) (js : Items) : Type 0 where
-  pub closing : Closing v
-  pub reads : (z : List ℕ) → punctuate (start b) (lex between (v ++ z)) ≡ items_tokens js ++ punctuate after_value (lex between z)
-  pub texts : List (List ℕ)
-  pub each : EachText texts js
-  pub last : List ℕ
-  pub list : (z : List ℕ) → listed split_value (v ++ z) ≡ (texts, last ++ z)
-  pub shut : (z : List ℕ) → past_byte 93 (last ++ z) ≡ Some z
+module _ (k : Between) where
+  -- all of it, from its bracket on or from a comma on
+  pub record Inside (b : Bool) (v : List ℕ) (said : k.Said) : Type 0 where
+    pub closing : Closing v
+    pub reads : (z : List ℕ) → punctuate (start b) (lex between (v ++ z)) ≡ k.tokens said ++ punctuate after_value (lex between z)
+    pub found : List k.Thing
+    pub each : k.Each found said
+    pub last : List ℕ
+    pub list : (z : List ℕ) → listed k.split (v ++ z) ≡ (found, last ++ z)
+    pub shut : (z : List ℕ) → past_byte k.shuts (last ++ z) ≡ Some z
 
-pub record ItemsAfter (v : List ℕ) (js : Items) : Type 0 where
-  pub closing : Closing v
-  pub reads : (z : List ℕ) → punctuate after_value (lex between (v ++ z)) ≡ items_tokens js ++ punctuate after_value (lex between z)
-  pub fits : (z : List ℕ) → Fits (v ++ z)
-  pub texts : List (List ℕ)
-  pub each : EachText texts js
-  pub last : List ℕ
-  pub more : (z : List ℕ) → then_more split_value (listed split_value) (v ++ z) (past_byte 44 (v ++ z)) ≡ (texts, last ++ z)
-  pub shut : (z : List ℕ) → past_byte 93 (last ++ z) ≡ Some z
+  -- what follows one thing
+  pub record Behind (v : List ℕ) (said : k.Said) : Type 0 where
+    pub closing : Closing v
+    pub reads : (z : List ℕ) → punctuate after_value (lex between (v ++ z)) ≡ k.tokens said ++ punctuate after_value (lex between z)
+    pub fits : (z : List ℕ) → Fits (v ++ z)
+    pub found : List k.Thing
+    pub each : k.Each found said
+    pub last : List ℕ
+    pub more : (z : List ℕ) → then_more k.split (listed k.split) (v ++ z) (past_byte 44 (v ++ z)) ≡ (found, last ++ z)
+    pub shut : (z : List ℕ) → past_byte k.shuts (last ++ z) ≡ Some z
 
-pub record FoundItems (b : Bool) (t : List ℕ) (js : Items) (rest : List Token) : Type 0 where
-  pub v : List ℕ
-  pub r : List ℕ
-  pub front : t ≡ v ++ r
-  pub text : ItemsText b v js
-  pub left : punctuate after_value (lex between r) ≡ rest
+  -- a text begins with all of it
+  pub record FoundInside (b : Bool) (t : List ℕ) (said : k.Said) (rest : List Token) : Type 0 where
+    pub v : List ℕ
+    pub r : List ℕ
+    pub front : t ≡ v ++ r
+    pub text : Inside b v said
+    pub left : punctuate after_value (lex between r) ≡ rest
 
-pub record FoundAfter (t : List ℕ) (js : Items) (rest : List Token) : Type 0 where
-  pub v : List ℕ
-  pub r : List ℕ
-  pub front : t ≡ v ++ r
-  pub text : ItemsAfter v js
-  pub left : punctuate after_value (lex between r) ≡ rest
+  -- a text begins with what follows one thing
+  pub record FoundBehind (t : List ℕ) (said : k.Said) (rest : List Token) : Type 0 where
+    pub v : List ℕ
+    pub r : List ℕ
+    pub front : t ≡ v ++ r
+    pub text : Behind v said
+    pub left : punctuate after_value (lex between r) ≡ rest
 
-some_items : (b : Bool) (t : List ℕ) (j : Json) (js : Items) (mid rest : List Token) (f : Found t (json_tokens j) mid) → FoundAfter f.r js rest → FoundItems b t (item j js) rest
-some_items b t j js mid rest f a =
-    let w = blanks t in
-    let blank = Blank-blanks t in
-    let v = w ++ (f.v ++ a.v) in
-    let past : (z : List ℕ) → past_blank (v ++ z) ≡ f.v ++ (a.v ++ z) = λ z. ap past_blank (three w f.v a.v z) ∙ blank.passed (f.v ++ (a.v ++ z)) ∙ f.text.full (a.v ++ z) in
-    record {
-      v = v;
-      r = a.r;
-      front = split_blanks t ∙ ap (λ (x : List ℕ). w ++ x) (f.front ∙ ap (λ (x : List ℕ). f.v ++ x) a.front) ∙ sym (three w f.v a.v a.r);
-      text = record {
-        closing = closing_after w (f.v ++ a.v) blank.nests (closing_after f.v a.v f.text.nests a.text.closing);
-        reads = λ z.
-            ap (λ (x : List ℕ). punctuate (start b) (lex between x)) (three w f.v a.v z) ∙ ap (punctuate (start b)) (blank.lexes (f.v ++ (a.v ++ z))) ∙ f.text.reads b (a.v ++ z) (a.text.fits z)
-            ∙ ap (λ (x : List Token). json_tokens j ++ x) (a.text.reads z) ∙ sym (append_assoc (json_tokens j) (items_tokens js) (punctuate after_value (lex between z)));
-        texts = f.v ∷ a.text.texts;
-        each = (f.text, a.text.each);
-        last = a.text.last;
-        list = λ z.
-            let cut = split_text (v ++ z) f.v (a.v ++ z) (past z) (f.text.long (a.v ++ z) (a.text.fits z)) f.text.some in
-            turn split_value Shortens-split_value (v ++ z) ∙ ap (first_and_more split_value (listed split_value) (v ++ z)) (sym cut) ∙ ap (λ (q : List (List ℕ) × List ℕ). (f.v ∷ q.0, q.1)) (a.text.more z);
-        shut = a.text.shut;
-      };
-      left = a.left;
-    }
-
-no_bracket_value : (z : List ℕ) → value_len (93 ∷ z) ≡ 0
-unfolding value_len
-no_bracket_value z = refl
-
-no_brace_value : (z : List ℕ) → value_len (125 ∷ z) ≡ 0
-unfolding value_len
-no_brace_value z = refl
+-- the closing bracket, behind which nothing is said, is this token
+record Shuts (k : Between) (nothing : k.Said) (close : Token) : Type 0 where
+  closing : Closing (k.shuts ∷ [])
+  bare : (z : List ℕ) → past_blank (k.shuts ∷ z) ≡ k.shuts ∷ z
+  lexes : (z : List ℕ) → lex between (k.shuts ∷ z) ≡ token close ∷ lex between z
+  ends : (z : List ℕ) → ends_word (k.shuts ∷ z) ≡ true
+  no_colon : (ls : List Lexeme) → begins_colon (token close ∷ ls) ≡ false
+  first : (ls : List Lexeme) → punctuate fresh (token close ∷ ls) ≡ k.tokens nothing ++ punctuate after_value ls
+  later : (ls : List Lexeme) → punctuate after_value (token close ∷ ls) ≡ k.tokens nothing ++ punctuate after_value ls
+  each : k.Each [] nothing
+  shortens : Shortens k.split
+  no_thing : (u z : List ℕ) → past_blank u ≡ k.shuts ∷ z → None ≡ k.split u
+  itself : (k.shuts == k.shuts) ≡ true
+  no_comma : (k.shuts == 44) ≡ false
 
 no_split : (u z : List ℕ) → past_blank u ≡ z → value_len z ≡ 0 → None ≡ split_value u
 unfolding split_value
@@ -218,77 +200,141 @@ pub other_first : (c d : ℕ) (u z : List ℕ) → past_blank u ≡ d ∷ z → 
 unfolding after_first
 other_first c d u z e t = ap (λ (x : List ℕ). after_first c x) e ∙ ap (λ (b : Bool). cond b (Some z) None) t
 
-module _ (t xs : List ℕ) (rest : List Token) where
-  past_mark : (c : ℕ) (z : List ℕ) → past_blank (c ∷ z) ≡ c ∷ z → past_blank ((blanks t ++ c ∷ []) ++ z) ≡ c ∷ z
-  past_mark c z f = ap past_blank (append_assoc (blanks t) (c ∷ []) z) ∙ (Blank-blanks t).passed (c ∷ z) ∙ f
+module _ (k : Between) (nothing : k.Said) (close : Token) (s : Shuts k nothing close) (t xs : List ℕ) (rest : List Token) where
+  mark : List ℕ
+  mark = blanks t ++ k.shuts ∷ []
 
-  mark_front : (c : ℕ) → past_blank t ≡ c ∷ xs → t ≡ (blanks t ++ c ∷ []) ++ xs
-  mark_front c e = split_blanks t ∙ ap (λ (x : List ℕ). blanks t ++ x) e ∙ sym (append_assoc (blanks t) (c ∷ []) xs)
+  past_mark : (z : List ℕ) → past_blank (mark ++ z) ≡ k.shuts ∷ z
+  unfolding mark
+  past_mark z = ap past_blank (append_assoc (blanks t) (k.shuts ∷ []) z) ∙ (Blank-blanks t).passed (k.shuts ∷ z) ∙ s.bare z
 
-  no_more_items : past_blank t ≡ 93 ∷ xs → punctuate after_value (lex between xs) ≡ rest → FoundItems true t no_items rest
-  unfolding lex punctuate
-  no_more_items e l =
-      let v = blanks t ++ 93 ∷ [] in
-      record {
-        v = v;
-        r = xs;
-        front = mark_front 93 e;
-        text = record {
-          closing = closing_after (blanks t) (93 ∷ []) (Blank-blanks t).nests bracket_closing;
-          reads = λ z. ap (λ (x : List ℕ). punctuate fresh (lex between x)) (append_assoc (blanks t) (93 ∷ []) z) ∙ ap (punctuate fresh) ((Blank-blanks t).lexes (93 ∷ z));
-          texts = [];
-          each = tt;
-          last = v;
-          list = λ z. listed-none split_value Shortens-split_value (v ++ z) (no_split (v ++ z) (93 ∷ z) (past_mark 93 z refl) (no_bracket_value z));
-          shut = λ z. found_first 93 (v ++ z) z (past_mark 93 z refl) refl;
-        };
-        left = l;
-      }
+  mark_front : past_blank t ≡ k.shuts ∷ xs → t ≡ mark ++ xs
+  unfolding mark
+  mark_front e = split_blanks t ∙ ap (λ (x : List ℕ). blanks t ++ x) e ∙ sym (append_assoc (blanks t) (k.shuts ∷ []) xs)
 
-  items_over : past_blank t ≡ 93 ∷ xs → punctuate after_value (lex between xs) ≡ rest → FoundAfter t no_items rest
-  unfolding lex punctuate
-  items_over e l =
-      let v = blanks t ++ 93 ∷ [] in
-      let lexed : (z : List ℕ) → lex between (v ++ z) ≡ token end_array ∷ lex between z = λ z. ap (lex between) (append_assoc (blanks t) (93 ∷ []) z) ∙ (Blank-blanks t).lexes (93 ∷ z) in
-      record {
-        v = v;
-        r = xs;
-        front = mark_front 93 e;
-        text = record {
-          closing = closing_after (blanks t) (93 ∷ []) (Blank-blanks t).nests bracket_closing;
-          reads = λ z. ap (punctuate after_value) (lexed z);
-          fits = λ z. (ap ends_word (append_assoc (blanks t) (93 ∷ []) z) ∙ (Blank-blanks t).ends (93 ∷ z) refl, ap begins_colon (lexed z));
-          texts = [];
-          each = tt;
-          last = v;
-          more = λ z. ap (then_more split_value (listed split_value) (v ++ z)) (other_first 44 93 (v ++ z) z (past_mark 93 z refl) refl);
-          shut = λ z. found_first 93 (v ++ z) z (past_mark 93 z refl) refl;
-        };
-        left = l;
-      }
+  mark_lexes : (z : List ℕ) → lex between (mark ++ z) ≡ token close ∷ lex between z
+  unfolding mark
+  mark_lexes z = ap (lex between) (append_assoc (blanks t) (k.shuts ∷ []) z) ∙ (Blank-blanks t).lexes (k.shuts ∷ z) ∙ s.lexes z
 
-  more_items : (js : Items) → past_blank t ≡ 44 ∷ xs → FoundItems false xs js rest → FoundAfter t js rest
-  unfolding lex punctuate
-  more_items js e f =
-      let v = blanks t ++ 44 ∷ f.v in
-      let lexed : (z : List ℕ) → lex between (v ++ z) ≡ comma ∷ lex between (f.v ++ z) = λ z. ap (lex between) (append_assoc (blanks t) (44 ∷ f.v) z) ∙ (Blank-blanks t).lexes (44 ∷ (f.v ++ z)) in
-      let past : (z : List ℕ) → past_blank (v ++ z) ≡ 44 ∷ (f.v ++ z) = λ z. ap past_blank (append_assoc (blanks t) (44 ∷ f.v) z) ∙ (Blank-blanks t).passed (44 ∷ (f.v ++ z)) in
-      record {
-        v = v;
-        r = f.r;
-        front = split_blanks t ∙ ap (λ (x : List ℕ). blanks t ++ x) (e ∙ ap (λ (x : List ℕ). 44 ∷ x) f.front) ∙ sym (append_assoc (blanks t) (44 ∷ f.v) f.r);
-        text = record {
-          closing = closing_after (blanks t) (44 ∷ f.v) (Blank-blanks t).nests (comma_closing f.v f.text.closing);
-          reads = λ z. ap (punctuate after_value) (lexed z) ∙ f.text.reads z;
-          fits = λ z. (ap ends_word (append_assoc (blanks t) (44 ∷ f.v) z) ∙ (Blank-blanks t).ends (44 ∷ (f.v ++ z)) refl, ap begins_colon (lexed z));
-          texts = f.text.texts;
-          each = f.text.each;
-          last = f.text.last;
-          more = λ z. ap (then_more split_value (listed split_value) (v ++ z)) (found_first 44 (v ++ z) (f.v ++ z) (past z) refl) ∙ f.text.list z;
-          shut = f.text.shut;
-        };
-        left = f.left;
-      }
+  mark_shuts : Closing mark
+  unfolding mark
+  mark_shuts = closing_after (blanks t) (k.shuts ∷ []) (Blank-blanks t).nests s.closing
+
+  mark_ends : (z : List ℕ) → ends_word (mark ++ z) ≡ true
+  unfolding mark
+  mark_ends z = ap ends_word (append_assoc (blanks t) (k.shuts ∷ []) z) ∙ (Blank-blanks t).ends (k.shuts ∷ z) (s.ends z)
+
+  nothing_inside : past_blank t ≡ k.shuts ∷ xs → punctuate after_value (lex between xs) ≡ rest → FoundInside k true t nothing rest
+  nothing_inside e l = record {
+    v = mark;
+    r = xs;
+    front = mark_front e;
+    text = record {
+      closing = mark_shuts;
+      reads = λ z. ap (punctuate fresh) (mark_lexes z) ∙ s.first (lex between z);
+      found = [];
+      each = s.each;
+      last = mark;
+      list = λ z. listed-none k.split s.shortens (mark ++ z) (s.no_thing (mark ++ z) z (past_mark z));
+      shut = λ z. found_first k.shuts (mark ++ z) z (past_mark z) s.itself;
+    };
+    left = l;
+  }
+
+  nothing_behind : past_blank t ≡ k.shuts ∷ xs → punctuate after_value (lex between xs) ≡ rest → FoundBehind k t nothing rest
+  nothing_behind e l = record {
+    v = mark;
+    r = xs;
+    front = mark_front e;
+    text = record {
+      closing = mark_shuts;
+      reads = λ z. ap (punctuate after_value) (mark_lexes z) ∙ s.later (lex between z);
+      fits = λ z. (mark_ends z, ap begins_colon (mark_lexes z) ∙ s.no_colon (lex between z));
+      found = [];
+      each = s.each;
+      last = mark;
+      more = λ z. ap (then_more k.split (listed k.split) (mark ++ z)) (other_first 44 k.shuts (mark ++ z) z (past_mark z) s.no_comma);
+      shut = λ z. found_first k.shuts (mark ++ z) z (past_mark z) s.itself;
+    };
+    left = l;
+  }
+
+more_behind : (k : Between) (t xs : List ℕ) (rest : List Token) (said : k.Said) → past_blank t ≡ 44 ∷ xs → FoundInside k false xs said rest → FoundBehind k t said rest
+unfolding lex punctuate
+more_behind k t xs rest said e f =
+    let v = blanks t ++ 44 ∷ f.v in
+    let lexed : (z : List ℕ) → lex between (v ++ z) ≡ comma ∷ lex between (f.v ++ z) = λ z. ap (lex between) (append_assoc (blanks t) (44 ∷ f.v) z) ∙ (Blank-blanks t).lexes (44 ∷ (f.v ++ z)) in
+    let past : (z : List ℕ) → past_blank (v ++ z) ≡ 44 ∷ (f.v ++ z) = λ z. ap past_blank (append_assoc (blanks t) (44 ∷ f.v) z) ∙ (Blank-blanks t).passed (44 ∷ (f.v ++ z)) in
+    record {
+      v = v;
+      r = f.r;
+      front = split_blanks t ∙ ap (λ (x : List ℕ). blanks t ++ x) (e ∙ ap (λ (x : List ℕ). 44 ∷ x) f.front) ∙ sym (append_assoc (blanks t) (44 ∷ f.v) f.r);
+      text = record {
+        closing = closing_after (blanks t) (44 ∷ f.v) (Blank-blanks t).nests (comma_closing f.v f.text.closing);
+        reads = λ z. ap (punctuate after_value) (lexed z) ∙ f.text.reads z;
+        fits = λ z. (ap ends_word (append_assoc (blanks t) (44 ∷ f.v) z) ∙ (Blank-blanks t).ends (44 ∷ (f.v ++ z)) refl, ap begins_colon (lexed z));
+        found = f.text.found;
+        each = f.text.each;
+        last = f.text.last;
+        more = λ z. ap (then_more k.split (listed k.split) (v ++ z)) (found_first 44 (v ++ z) (f.v ++ z) (past z) refl) ∙ f.text.list z;
+        shut = f.text.shut;
+      };
+      left = f.left;
+    }
+
+-- ---- the elements of an array
+
+abbrev pub EachText : List (List ℕ) → Items → Type 0
+EachText [] no_items = Unit {0}
+EachText [] (item j js) = ⊥
+EachText (v ∷ vs) no_items = ⊥
+EachText (v ∷ vs) (item j js) = Text v (json_tokens j) × EachText vs js
+
+abbrev pub elements : Between
+elements = record { Thing = List ℕ; Said = Items; split = split_value; tokens = items_tokens; Each = EachText; shuts = 93 }
+
+elements_shut : Shuts elements no_items end_array
+unfolding lex punctuate nest_len value_len
+elements_shut = record {
+  closing = record { ends = λ z. refl; nests = λ depth z. closes_one depth z };
+  bare = λ z. refl;
+  lexes = λ z. refl;
+  ends = λ z. refl;
+  no_colon = λ ls. refl;
+  first = λ ls. refl;
+  later = λ ls. refl;
+  each = tt;
+  shortens = Shortens-split_value;
+  no_thing = λ u z e. no_split u (93 ∷ z) e refl;
+  itself = refl;
+  no_comma = refl;
+}
+
+some_items : (b : Bool) (t : List ℕ) (j : Json) (js : Items) (mid rest : List Token) (f : Found t (json_tokens j) mid) → FoundBehind elements f.r js rest → FoundInside elements b t (item j js) rest
+some_items b t j js mid rest f a =
+    let w = blanks t in
+    let blank = Blank-blanks t in
+    let v = w ++ (f.v ++ a.v) in
+    let past : (z : List ℕ) → past_blank (v ++ z) ≡ f.v ++ (a.v ++ z) = λ z. ap past_blank (three w f.v a.v z) ∙ blank.passed (f.v ++ (a.v ++ z)) ∙ f.text.full (a.v ++ z) in
+    record {
+      v = v;
+      r = a.r;
+      front = split_blanks t ∙ ap (λ (x : List ℕ). w ++ x) (f.front ∙ ap (λ (x : List ℕ). f.v ++ x) a.front) ∙ sym (three w f.v a.v a.r);
+      text = record {
+        closing = closing_after w (f.v ++ a.v) blank.nests (closing_after f.v a.v f.text.nests a.text.closing);
+        reads = λ z.
+            ap (λ (x : List ℕ). punctuate (start b) (lex between x)) (three w f.v a.v z) ∙ ap (punctuate (start b)) (blank.lexes (f.v ++ (a.v ++ z))) ∙ f.text.reads b (a.v ++ z) (a.text.fits z)
+            ∙ ap (λ (x : List Token). json_tokens j ++ x) (a.text.reads z) ∙ sym (append_assoc (json_tokens j) (items_tokens js) (punctuate after_value (lex between z)));
+        found = f.v ∷ a.text.found;
+        each = (f.text, a.text.each);
+        last = a.text.last;
+        list = λ z.
+            let cut = split_text (v ++ z) f.v (a.v ++ z) (past z) (f.text.long (a.v ++ z) (a.text.fits z)) f.text.some in
+            turn split_value Shortens-split_value (v ++ z) ∙ ap (first_and_more split_value (listed split_value) (v ++ z)) (sym cut) ∙ ap (λ (q : List (List ℕ) × List ℕ). (f.v ∷ q.0, q.1)) (a.text.more z);
+        shut = a.text.shut;
+      };
+      left = a.left;
+    }
 
 -- ---- the members of an object
 
@@ -301,108 +347,29 @@ EachMember [] (member k j ms) = ⊥
 EachMember (m ∷ found) no_members = ⊥
 EachMember (m ∷ found) (member k j ms) = IsMember m k j × EachMember found ms
 
-pub record MembersText (b : Bool) (v : List ℕ) (ms : Members) : Type 0 where
-  pub closing : Closing v
-  pub reads : (z : List ℕ) → punctuate (start b) (lex between (v ++ z)) ≡ members_tokens ms ++ punctuate after_value (lex between z)
-  pub found : List Member
-  pub each : EachMember found ms
-  pub last : List ℕ
-  pub list : (z : List ℕ) → listed split_member (v ++ z) ≡ (found, last ++ z)
-  pub shut : (z : List ℕ) → past_byte 125 (last ++ z) ≡ Some z
-
-pub record MembersAfter (v : List ℕ) (ms : Members) : Type 0 where
-  pub closing : Closing v
-  pub reads : (z : List ℕ) → punctuate after_value (lex between (v ++ z)) ≡ members_tokens ms ++ punctuate after_value (lex between z)
-  pub fits : (z : List ℕ) → Fits (v ++ z)
-  pub found : List Member
-  pub each : EachMember found ms
-  pub last : List ℕ
-  pub more : (z : List ℕ) → then_more split_member (listed split_member) (v ++ z) (past_byte 44 (v ++ z)) ≡ (found, last ++ z)
-  pub shut : (z : List ℕ) → past_byte 125 (last ++ z) ≡ Some z
-
-pub record FoundMembers (b : Bool) (t : List ℕ) (ms : Members) (rest : List Token) : Type 0 where
-  pub v : List ℕ
-  pub r : List ℕ
-  pub front : t ≡ v ++ r
-  pub text : MembersText b v ms
-  pub left : punctuate after_value (lex between r) ≡ rest
-
-pub record FoundMembersAfter (t : List ℕ) (ms : Members) (rest : List Token) : Type 0 where
-  pub v : List ℕ
-  pub r : List ℕ
-  pub front : t ≡ v ++ r
-  pub text : MembersAfter v ms
-  pub left : punctuate after_value (lex between r) ≡ rest
+abbrev pub entries : Between
+entries = record { Thing = Member; Said = Members; split = split_member; tokens = members_tokens; Each = EachMember; shuts = 125 }
 
 no_member : (u : List ℕ) → None ≡ split_value u → None ≡ split_member u
 unfolding split_member
 no_member u e = ap (option_and_then after_key) e
 
-module _ (t xs : List ℕ) (rest : List Token) where
-  no_more_members : past_blank t ≡ 125 ∷ xs → punctuate after_value (lex between xs) ≡ rest → FoundMembers true t no_members rest
-  unfolding lex punctuate
-  no_more_members e l =
-      let v = blanks t ++ 125 ∷ [] in
-      record {
-        v = v;
-        r = xs;
-        front = mark_front t xs rest 125 e;
-        text = record {
-          closing = closing_after (blanks t) (125 ∷ []) (Blank-blanks t).nests brace_closing;
-          reads = λ z. ap (λ (x : List ℕ). punctuate fresh (lex between x)) (append_assoc (blanks t) (125 ∷ []) z) ∙ ap (punctuate fresh) ((Blank-blanks t).lexes (125 ∷ z));
-          found = [];
-          each = tt;
-          last = v;
-          list = λ z. listed-none split_member Shortens-split_member (v ++ z) (no_member (v ++ z) (no_split (v ++ z) (125 ∷ z) (past_mark t xs rest 125 z refl) (no_brace_value z)));
-          shut = λ z. found_first 125 (v ++ z) z (past_mark t xs rest 125 z refl) refl;
-        };
-        left = l;
-      }
-
-  members_over : past_blank t ≡ 125 ∷ xs → punctuate after_value (lex between xs) ≡ rest → FoundMembersAfter t no_members rest
-  unfolding lex punctuate
-  members_over e l =
-      let v = blanks t ++ 125 ∷ [] in
-      let lexed : (z : List ℕ) → lex between (v ++ z) ≡ token end_object ∷ lex between z = λ z. ap (lex between) (append_assoc (blanks t) (125 ∷ []) z) ∙ (Blank-blanks t).lexes (125 ∷ z) in
-      record {
-        v = v;
-        r = xs;
-        front = mark_front t xs rest 125 e;
-        text = record {
-          closing = closing_after (blanks t) (125 ∷ []) (Blank-blanks t).nests brace_closing;
-          reads = λ z. ap (punctuate after_value) (lexed z);
-          fits = λ z. (ap ends_word (append_assoc (blanks t) (125 ∷ []) z) ∙ (Blank-blanks t).ends (125 ∷ z) refl, ap begins_colon (lexed z));
-          found = [];
-          each = tt;
-          last = v;
-          more = λ z. ap (then_more split_member (listed split_member) (v ++ z)) (other_first 44 125 (v ++ z) z (past_mark t xs rest 125 z refl) refl);
-          shut = λ z. found_first 125 (v ++ z) z (past_mark t xs rest 125 z refl) refl;
-        };
-        left = l;
-      }
-
-  more_members : (ms : Members) → past_blank t ≡ 44 ∷ xs → FoundMembers false xs ms rest → FoundMembersAfter t ms rest
-  unfolding lex punctuate
-  more_members ms e f =
-      let v = blanks t ++ 44 ∷ f.v in
-      let lexed : (z : List ℕ) → lex between (v ++ z) ≡ comma ∷ lex between (f.v ++ z) = λ z. ap (lex between) (append_assoc (blanks t) (44 ∷ f.v) z) ∙ (Blank-blanks t).lexes (44 ∷ (f.v ++ z)) in
-      let past : (z : List ℕ) → past_blank (v ++ z) ≡ 44 ∷ (f.v ++ z) = λ z. ap past_blank (append_assoc (blanks t) (44 ∷ f.v) z) ∙ (Blank-blanks t).passed (44 ∷ (f.v ++ z)) in
-      record {
-        v = v;
-        r = f.r;
-        front = split_blanks t ∙ ap (λ (x : List ℕ). blanks t ++ x) (e ∙ ap (λ (x : List ℕ). 44 ∷ x) f.front) ∙ sym (append_assoc (blanks t) (44 ∷ f.v) f.r);
-        text = record {
-          closing = closing_after (blanks t) (44 ∷ f.v) (Blank-blanks t).nests (comma_closing f.v f.text.closing);
-          reads = λ z. ap (punctuate after_value) (lexed z) ∙ f.text.reads z;
-          fits = λ z. (ap ends_word (append_assoc (blanks t) (44 ∷ f.v) z) ∙ (Blank-blanks t).ends (44 ∷ (f.v ++ z)) refl, ap begins_colon (lexed z));
-          found = f.text.found;
-          each = f.text.each;
-          last = f.text.last;
-          more = λ z. ap (then_more split_member (listed split_member) (v ++ z)) (found_first 44 (v ++ z) (f.v ++ z) (past z) refl) ∙ f.text.list z;
-          shut = f.text.shut;
-        };
-        left = f.left;
-      }
+entries_shut : Shuts entries no_members end_object
+unfolding lex punctuate nest_len value_len
+entries_shut = record {
+  closing = record { ends = λ z. refl; nests = λ depth z. closes_one depth z };
+  bare = λ z. refl;
+  lexes = λ z. refl;
+  ends = λ z. refl;
+  no_colon = λ ls. refl;
+  first = λ ls. refl;
+  later = λ ls. refl;
+  each = tt;
+  shortens = Shortens-split_member;
+  no_thing = λ u z e. no_member u (no_split u (125 ∷ z) e refl);
+  itself = refl;
+  no_comma = refl;
+}
 
 six : (a b c : List ℕ) (x : ℕ) (d e f z : List ℕ) → (a ++ (b ++ (c ++ (x ∷ (d ++ (e ++ f)))))) ++ z ≡ a ++ (b ++ (c ++ (x ∷ (d ++ (e ++ (f ++ z))))))
 six a b c x d e f z = simp append_assoc
@@ -426,8 +393,8 @@ split_key u k rest more v left a b c d =
     value ∙ colon_past ∙ test ∙ ap (option_and_then after_key) a
 
 module _ (b : Bool) (t : List ℕ) (k : List ℕ) (j : Json) (ms : Members) (mid rest : List Token) (xs ys : List ℕ) (at : past_blank t ≡ 34 ∷ xs) (h : content plain xs ≡ Some k) (col : past_blank (past_string xs) ≡ 58 ∷ ys)
-    (f : Found ys (json_tokens j) mid) (a : FoundMembersAfter f.r ms rest) where
-  some_members : FoundMembers b t (member k j ms) rest
+    (f : Found ys (json_tokens j) mid) (a : FoundBehind entries f.r ms rest) where
+  some_members : FoundInside entries b t (member k j ms) rest
   some_members =
       let w = blanks t in
       let q = quote xs k h in
@@ -473,7 +440,7 @@ module _ (b : Bool) (t : List ℕ) (k : List ℕ) (j : Json) (ms : Members) (mid
 
 -- ---- arrays and objects as values
 
-pub array_text : (v : List ℕ) (js : Items) → ItemsText true v js → Text (91 ∷ v) (begin_array ∷ items_tokens js)
+pub array_text : (v : List ℕ) (js : Items) → Inside elements true v js → Text (91 ∷ v) (begin_array ∷ items_tokens js)
 unfolding nest_len lex punctuate value_len
 array_text v js x = record {
   nests = λ depth z. omega (arith, x.closing.nests depth z);
@@ -487,7 +454,7 @@ array_text v js x = record {
     opened true z e = ap (λ (l : List Token). begin_array ∷ l) e
     opened false z e = ap (λ (l : List Token). begin_array ∷ l) e
 
-pub object_text : (v : List ℕ) (ms : Members) → MembersText true v ms → Text (123 ∷ v) (begin_object ∷ members_tokens ms)
+pub object_text : (v : List ℕ) (ms : Members) → Inside entries true v ms → Text (123 ∷ v) (begin_object ∷ members_tokens ms)
 unfolding nest_len lex punctuate value_len
 object_text v ms x = record {
   nests = λ depth z. omega (arith, x.closing.nests depth z);
@@ -509,10 +476,10 @@ object_here : (v r : List ℕ) → Closing v → value_len ((123 ∷ v) ++ r) �
 unfolding value_len
 object_here v r c = ap (λ (n : ℕ). 1 + n) (c.ends r) ∙ omega arith
 
-found_array : (t xs : List ℕ) (js : Items) (rest : List Token) → past_blank t ≡ 91 ∷ xs → FoundItems true xs js rest → Found t (begin_array ∷ items_tokens js) rest
+found_array : (t xs : List ℕ) (js : Items) (rest : List Token) → past_blank t ≡ 91 ∷ xs → FoundInside elements true xs js rest → Found t (begin_array ∷ items_tokens js) rest
 found_array t xs js rest e f = record { v = 91 ∷ f.v; r = f.r; front = e ∙ ap (λ (x : List ℕ). 91 ∷ x) f.front; text = array_text f.v js f.text; here = array_here f.v f.r f.text.closing; left = f.left }
 
-found_object : (t xs : List ℕ) (ms : Members) (rest : List Token) → past_blank t ≡ 123 ∷ xs → FoundMembers true xs ms rest → Found t (begin_object ∷ members_tokens ms) rest
+found_object : (t xs : List ℕ) (ms : Members) (rest : List Token) → past_blank t ≡ 123 ∷ xs → FoundInside entries true xs ms rest → Found t (begin_object ∷ members_tokens ms) rest
 found_object t xs ms rest e f = record { v = 123 ∷ f.v; r = f.r; front = e ∙ ap (λ (x : List ℕ). 123 ∷ x) f.front; text = object_text f.v ms f.text; here = object_here f.v f.r f.text.closing; left = f.left }
 
 -- ---- every value of a text
@@ -535,30 +502,30 @@ mutual
   find (json.array js) b t rest n e = let m = subst (Matches b t) e (seen b t) in found_array t m.0 js rest m.1 (find_items js m.0 rest n m.2)
   find (json.object ms) b t rest n e = let m = subst (Matches b t) e (seen b t) in found_object t m.0 ms rest m.1 (find_members ms m.0 rest n m.2)
 
-  pub find_items : (js : Items) (t : List ℕ) (rest : List Token) → ItemsHaveNumbers js → punctuate fresh (lex between t) ≡ items_tokens js ++ rest → FoundItems true t js rest
-  find_items no_items t rest n e = let m = subst (Matches true t) e (seen true t) in no_more_items t m.1.0 rest m.1.1 m.1.2
+  pub find_items : (js : Items) (t : List ℕ) (rest : List Token) → ItemsHaveNumbers js → punctuate fresh (lex between t) ≡ items_tokens js ++ rest → FoundInside elements true t js rest
+  find_items no_items t rest n e = let m = subst (Matches true t) e (seen true t) in nothing_inside elements no_items end_array elements_shut t m.1.0 rest m.1.1 m.1.2
   find_items (item j js) t rest n e =
       let f = find j true t (items_tokens js ++ rest) n.0 (e ∙ append_assoc (json_tokens j) (items_tokens js) rest) in
       some_items true t j js (items_tokens js ++ rest) rest f (find_items_after js f.r rest n.1 f.left)
 
-  find_items_after : (js : Items) (t : List ℕ) (rest : List Token) → ItemsHaveNumbers js → punctuate after_value (lex between t) ≡ items_tokens js ++ rest → FoundAfter t js rest
-  find_items_after no_items t rest n e = let m = subst (Next t) e (next t) in items_over t m.0 rest m.1 m.2
+  find_items_after : (js : Items) (t : List ℕ) (rest : List Token) → ItemsHaveNumbers js → punctuate after_value (lex between t) ≡ items_tokens js ++ rest → FoundBehind elements t js rest
+  find_items_after no_items t rest n e = let m = subst (Next t) e (next t) in nothing_behind elements no_items end_array elements_shut t m.0 rest m.1 m.2
   find_items_after (item j js) t rest n e =
       let m = next_comma j t (items_tokens js ++ rest) (subst (Next t) (e ∙ append_assoc (json_tokens j) (items_tokens js) rest) (next t)) in
       let f = find j false m.0 (items_tokens js ++ rest) n.0 m.2 in
-      more_items t m.0 rest (item j js) m.1 (some_items false m.0 j js (items_tokens js ++ rest) rest f (find_items_after js f.r rest n.1 f.left))
+      more_behind elements t m.0 rest (item j js) m.1 (some_items false m.0 j js (items_tokens js ++ rest) rest f (find_items_after js f.r rest n.1 f.left))
 
-  pub find_members : (ms : Members) (t : List ℕ) (rest : List Token) → MembersHaveNumbers ms → punctuate fresh (lex between t) ≡ members_tokens ms ++ rest → FoundMembers true t ms rest
-  find_members no_members t rest n e = let m = subst (Matches true t) e (seen true t) in no_more_members t m.1.0 rest m.1.1 m.1.2
+  pub find_members : (ms : Members) (t : List ℕ) (rest : List Token) → MembersHaveNumbers ms → punctuate fresh (lex between t) ≡ members_tokens ms ++ rest → FoundInside entries true t ms rest
+  find_members no_members t rest n e = let m = subst (Matches true t) e (seen true t) in nothing_inside entries no_members end_object entries_shut t m.1.0 rest m.1.1 m.1.2
   find_members (member k j ms) t rest n e =
       let m = subst (Matches true t) e (seen true t) in
       let f = find j true m.1 (members_tokens ms ++ rest) n.0 (m.5 ∙ append_assoc (json_tokens j) (members_tokens ms) rest) in
       some_members true t k j ms (members_tokens ms ++ rest) rest m.0 m.1 m.2 m.3 m.4 f (find_members_after ms f.r rest n.1 f.left)
 
-  find_members_after : (ms : Members) (t : List ℕ) (rest : List Token) → MembersHaveNumbers ms → punctuate after_value (lex between t) ≡ members_tokens ms ++ rest → FoundMembersAfter t ms rest
-  find_members_after no_members t rest n e = let m = subst (Next t) e (next t) in members_over t m.0 rest m.1 m.2
+  find_members_after : (ms : Members) (t : List ℕ) (rest : List Token) → MembersHaveNumbers ms → punctuate after_value (lex between t) ≡ members_tokens ms ++ rest → FoundBehind entries t ms rest
+  find_members_after no_members t rest n e = let m = subst (Next t) e (next t) in nothing_behind entries no_members end_object entries_shut t m.0 rest m.1 m.2
   find_members_after (member k j ms) t rest n e =
       let c = subst (Next t) e (next t) in
       let m = subst (Matches false c.0) c.2 (seen false c.0) in
       let f = find j true m.1 (members_tokens ms ++ rest) n.0 (m.5 ∙ append_assoc (json_tokens j) (members_tokens ms) rest) in
-      more_members t c.0 rest (member k j ms) c.1 (some_members false c.0 k j ms (members_tokens ms ++ rest) rest m.0 m.1 m.2 m.3 m.4 f (find_members_after ms f.r rest n.1 f.left))
+      more_behind entries t c.0 rest (member k j ms) c.1 (some_members false c.0 k j ms (members_tokens ms ++ rest) rest m.0 m.1 m.2 m.3 m.4 f (find_members_after ms f.r rest n.1 f.left))
