@@ -1,18 +1,13 @@
 -- A list with the elements of a plan behind it: who is live by it, and its entries.
 use Rattle.std.proofs.Common.{◌≡◌, ℕ, Bool, ◌≤◌, List, ◌++◌, length, sym, ap, ◌∙◌, subst}
 use Rattle.std.specs.Prelude.{fold}
-use Rattle.std.proofs.lemmas.List.{map-append}
-use Rattle.std.proofs.lemmas.List.Sums.{fold-append}
+use Rattle.std.proofs.lemmas.{List.map-append, List.Sums.fold-append}
 use Rattle.bx_advice.specs.declared.config.Config.{Config}
 use Rattle.bx_advice.specs.Limits.{greatest_length}
 use Rattle.bx_entry.specs.declared.entry.Entry.{Entry}
-use Rattle.bx_entry.specs.Listing.{Listed}
-use Rattle.bx_entry.specs.Registry.{Judged, Registry, empty_registry, judge, registry, entries}
+use Rattle.bx_entry.specs.Words.{Listed, Judged, Registry, empty_registry, judge, registry, entries}
 use Rattle.bx_theory.proofs.Lists.{judged_length}
-use Rattle.bx_registry.specs.Changes.{Amendment, CanCommit, Standing, changed}
-use Rattle.bx_registry.specs.Laws.{GoesOn}
-use Rattle.bx_registry.specs.Plans.{entries_in}
-use Rattle.bx_registry.specs.Rolls.{Roll, roll_of, after, found}
+use Rattle.bx_registry.specs.Words.{Amendment, CanCommit, Standing, changed, GoesOn, entries_in, Roll, roll_of, after, found}
 use Rattle.bx_registry.proofs.Steps.{runs_agree}
 use Rattle.bx_admission.specs.Ledgers.{Continues, LeadsTo, Ledger, roll_at, standing}
 use Rattle.bx_admission.specs.declared.plan.Plan.{Plan}

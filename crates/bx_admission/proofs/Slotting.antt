@@ -8,8 +8,7 @@ use Rattle.bx_entry.specs.declared.entry.Slot.{Slot}
 use Rattle.bx_entry.specs.Listing.{Listed, Post, Tick}
 use Rattle.bx_entry.specs.Registry.{Judged, PlaceSlot, Ready, registry}
 use Rattle.bx_theory.proofs.Lists.{judged_length}
-use Rattle.bx_registry.specs.Plans.{planned_at, slots_in}
-use Rattle.bx_registry.specs.Rolls.{Roll, found, next, step}
+use Rattle.bx_registry.specs.Words.{planned_at, slots_in, Roll, found, next, step}
 use Rattle.bx_registry.specs.declared.plan.Planned.{Planned}
 use Rattle.bx_shard.specs.Shards.{Setup}
 use Rattle.bx_admission.specs.Ledgers.{roll_at}

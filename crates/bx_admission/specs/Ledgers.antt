@@ -2,10 +2,8 @@
 use Rattle.std.specs.Prelude.{ℕ, Bool, ◌≡◌, ◌≤◌, List, ◌++◌, length, filter}
 use Rattle.bx_advice.specs.declared.config.Config.{Config}
 use Rattle.bx_advice.specs.Limits.{greatest_length}
-use Rattle.bx_entry.specs.Listing.{Listed}
-use Rattle.bx_entry.specs.Registry.{Registered, Registry, registry, entries}
-use Rattle.bx_registry.specs.Changes.{Amendment, CanCommit, Standing, changed}
-use Rattle.bx_registry.specs.Rolls.{Roll, roll_of}
+use Rattle.bx_entry.specs.Words.{Listed, Registered, Registry, registry, entries}
+use Rattle.bx_registry.specs.Words.{Amendment, CanCommit, Standing, changed, Roll, roll_of}
 use Rattle.bx_admission.specs.declared.plan.Plan.{Plan}
 
 -- the configuration, among how many shards sessions are placed, all that was admitted, and whether there is a vacant record for the next session

@@ -1,8 +1,7 @@
 -- How the messages of an admitted request are answered.
 use Rattle.std.specs.Prelude.{ℕ, ◌+◌, List, [], ◌∷◌, ◌++◌, length, drop, map}
 use Rattle.bx_advice.specs.declared.config.Config.{Config}
-use Rattle.bx_entry.specs.Listing.{Listed}
-use Rattle.bx_entry.specs.Registry.{PlaceSlot, Ready, Waiting, NoSlot, Judged, Registry, registry}
+use Rattle.bx_entry.specs.Words.{Listed, PlaceSlot, Ready, Waiting, NoSlot, Judged, Registry, registry}
 use Rattle.bx_entry.specs.declared.entry.Slot.{Slot}
 use Rattle.bx_entry.specs.declared.entry.Slot.TheVariants as answers
 use Rattle.bx_registry.specs.declared.plan.Planned.{Planned}

@@ -1,12 +1,8 @@
 -- The advice that goes with each outcome of a message.
 use Rattle.std.specs.Prelude.{Option, Some, None, option_map}
-use Rattle.bx_advice.specs.declared.error.Error.{Error}
+use Rattle.bx_advice.specs.declared.{error.Error.Error, config.Config.Config, advice.Advice.Advice, advice.Reconnect.Reconnect, advice.Outcome.Outcome}
 use Rattle.bx_advice.specs.declared.error.Error.TheVariants.{UnsupportedVersion, NoSupportedConnectionType, TooManySessions, NoClientId, UnknownClient, QueueOverflow}
-use Rattle.bx_advice.specs.declared.config.Config.{Config}
-use Rattle.bx_advice.specs.declared.advice.Advice.{Advice}
-use Rattle.bx_advice.specs.declared.advice.Reconnect.{Reconnect}
 use Rattle.bx_advice.specs.declared.advice.Reconnect.TheVariants.{Retry, Handshake, Never}
-use Rattle.bx_advice.specs.declared.advice.Outcome.{Outcome}
 use Rattle.bx_advice.specs.declared.advice.Outcome.TheVariants.{Opened, Connected, Disconnected, Done, Failed}
 
 -- connect again

@@ -1,7 +1,6 @@
 -- What `retain` leaves of connects that it changes.
 use Rattle.std.proofs.Common.{◌≡◌, ℕ, nat_eq, Bool, true, false, cond, Some, option_map, List, [], ◌∷◌, refl, subst, ap, ◌∙◌}
-use Rattle.std.specs.Map.{lookup}
-use Rattle.std.specs.Map.Calls.{RetainsPairs}
+use Rattle.std.specs.{Map.lookup, Map.Calls.RetainsPairs}
 
 module _ {X F : Type 0} (T : F → ℕ → X → Bool → X → F → Type 0) (turned : X → X) (f : F)
     (says : (k : ℕ) (v : X) (b : Bool) (w : X) (g : F) → T f k v b w g → (b ≡ true) × (w ≡ turned v) × (g ≡ f)) where

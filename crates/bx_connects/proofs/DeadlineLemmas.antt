@@ -3,12 +3,8 @@ use Rattle.std.proofs.Common.{◌≡◌, ◌<◌, ◌≤◌, ◌⊎◌, inl, inr
 use Rattle.std.proofs.Math.Dec.{leb}
 use Rattle.std.specs.Ordering.{nat_cmp, ordering_then, is_gt, is_eq}
 use Rattle.std.specs.declared.cmp.Ordering.TheVariants.{Less, Greater}
-use Rattle.std.specs.Cmp.{nat_cmp_is}
-use Rattle.std.specs.BTreeMap.{is_at}
-use Rattle.std.specs.BTreeMap.Range.{IsLeBy}
-use Rattle.std.specs.List.{All, list_any}
-use Rattle.std.proofs.lemmas.Bool.Decides.{leb_tells}
-use Rattle.std.proofs.lemmas.List.Folds.{list_any_none}
+use Rattle.std.specs.{Cmp.nat_cmp_is, BTreeMap.is_at, BTreeMap.Range.IsLeBy, List.All, List.list_any}
+use Rattle.std.proofs.lemmas.{Bool.Decides.leb_tells, List.Folds.list_any_none}
 use Rattle.bx_connects.specs.Deadlines.{hold_cmp}
 
 -- what is not above another does not end before it

@@ -1,15 +1,11 @@
 -- Holds, by what is held and what is filed for a place.
 use Rattle.std.proofs.Common.{◌≡◌, ◌<◌, ◌≤◌, ◌⊎◌, inl, inr, ℕ, nat_eq, Bool, true, false, cond, Option, Some, None, option_map, List, [], ◌∷◌, ◌++◌, refl, sym, ap, ◌∙◌, true≢false}
 use Rattle.std.proofs.Math.Dec.{leb}
-use Rattle.std.proofs.lemmas.Bool.Decides.{leb_tells}
-use Rattle.std.proofs.lemmas.Bool.{eqb-true, eq-eqb, and_parts}
-use Rattle.std.specs.Cmp.Derive.{both_true}
-use Rattle.std.specs.Map.{lookup}
-use Rattle.bx_connects.specs.declared.connects.FiledAnswer.{FiledAnswer}
-use Rattle.bx_connects.specs.declared.held.HeldConnect.{HeldConnect}
+use Rattle.std.proofs.lemmas.{Bool.Decides.leb_tells, Bool.eqb-true, Bool.eq-eqb, Bool.and_parts}
+use Rattle.std.specs.{Cmp.Derive.both_true, Map.lookup}
+use Rattle.bx_connects.specs.declared.{connects.FiledAnswer.FiledAnswer, held.HeldConnect.HeldConnect}
 use Rattle.bx_connects.specs.declared.connects.ConnectState.TheVariants.{Held, Filed}
-use Rattle.bx_connects.specs.Connects.{IsHeldUntil, KnownConnects, filing_at, hold_at, is_both, state_by, unwatched_hold}
-use Rattle.bx_connects.specs.Deadlines.{ends_at, is_held_until}
+use Rattle.bx_connects.specs.Words.{IsHeldUntil, KnownConnects, filing_at, hold_at, is_both, state_by, unwatched_hold, ends_at, is_held_until}
 
 -- what is held until a moment says so
 pub is_itself : (connects : KnownConnects) (place session deadline : ℕ) → IsHeldUntil connects place session (Some deadline) → is_held_until (hold_at connects.held place) session deadline ≡ true

@@ -8,8 +8,7 @@ use Rattle.futures.specs.declared.task.waker.Waker.{Waker}
 use Rattle.bx_message.specs.declared.reply.Answer.{Answer}
 use Rattle.bx_connects.specs.declared.connects.ConnectState.{ConnectState}
 use Rattle.bx_connects.specs.declared.connects.ConnectState.TheVariants.{Held, Filed}
-use Rattle.bx_connects.specs.Connects.{filed_as}
-use Rattle.bx_connects.specs.Waking.{AreTaken, AreWoken, waker_of, without}
+use Rattle.bx_connects.specs.Words.{filed_as, AreTaken, AreWoken, waker_of, without}
 
 -- what was taken depends on where each waker lay alone
 taken_from : (ws : List Waker) (before same after : ℕ → Option Waker) → ((p : ℕ) → same p ≡ before p) → AreTaken ws before after → AreTaken ws same after

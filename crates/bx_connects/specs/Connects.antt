@@ -2,14 +2,10 @@
 use Rattle.std.specs.Prelude.{ℕ, ◌≡◌, ◌≤◌, nat_eq, nat_lt, not, Bool, true, false, List, filter, length, if◌then◌else◌, Option, Some, None}
 use Rattle.std.specs.Map.{lookup}
 use Rattle.futures.specs.declared.task.waker.Waker.{Waker}
-use Rattle.bx_message.specs.declared.event.Event.{Event}
-use Rattle.bx_message.specs.declared.reply.Answer.{Answer}
+use Rattle.bx_message.specs.declared.{event.Event.Event, reply.Answer.Answer}
 use Rattle.bx_session.specs.declared.answered.Answered.{Answered}
-use Rattle.bx_connects.specs.declared.connects.ConnectState.{ConnectState}
+use Rattle.bx_connects.specs.declared.{connects.ConnectState.ConnectState, connects.FiledAnswer.FiledAnswer, held.HeldConnect.HeldConnect, watch.Watch.Watch}
 use Rattle.bx_connects.specs.declared.connects.ConnectState.TheVariants.{Held, Filed}
-use Rattle.bx_connects.specs.declared.connects.FiledAnswer.{FiledAnswer}
-use Rattle.bx_connects.specs.declared.held.HeldConnect.{HeldConnect}
-use Rattle.bx_connects.specs.declared.watch.Watch.{Watch}
 use Rattle.bx_connects.specs.declared.watch.Watch.TheVariants.{Stored, Ready, Unknown, Shut}
 
 -- the connects that are held, and the answers that are filed, each with the place of its connect

@@ -1,10 +1,8 @@
 -- The holds of a shard by their deadlines.
 use Rattle.std.specs.Prelude.{ℕ, ◌≡◌, nat_eq, ◌&&◌, Bool, false, List, Option, Some, None}
-use Rattle.std.specs.Ordering.{nat_cmp, ordering_then}
+use Rattle.std.specs.{Ordering.nat_cmp, Ordering.ordering_then, BTreeSet.contains}
 use Rattle.std.specs.declared.cmp.Ordering.{Ordering}
-use Rattle.std.specs.BTreeSet.{contains}
-use Rattle.bx_connects.specs.declared.deadlines.Deadlines.{Deadlines}
-use Rattle.bx_connects.specs.declared.held.HeldConnect.{HeldConnect}
+use Rattle.bx_connects.specs.declared.{deadlines.Deadlines.Deadlines, held.HeldConnect.HeldConnect}
 use Rattle.bx_connects.specs.Connects.{hold_at}
 
 -- A hold: the moment at which it ends, the place of its connect, and the number of its session. An earlier deadline comes first.

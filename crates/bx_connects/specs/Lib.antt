@@ -1,3 +1,4 @@
 pub mod Connects
 pub mod Deadlines
 pub mod Waking
+pub mod Words

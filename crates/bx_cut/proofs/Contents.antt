@@ -3,8 +3,7 @@ use Rattle.std.proofs.Common.{◌≡◌, ◌≢◌, ℕ, suc, ◌+◌, ◌<◌, 
 use Rattle.std.proofs.lemmas.List.{append_assoc, append-nil, length-append}
 use Rattle.std.proofs.lemmas.Bool.{and_parts, or_parts, not-true, eqb-true, false≢true, ne_eqb}
 use Rattle.std.specs.Prelude.{not, ◌||◌, IsTrue, slice_get}
-use Rattle.std.specs.List.{list_all, prefix_len}
-use Rattle.std.specs.Char.{encode_utf8}
+use Rattle.std.specs.{List.list_all, List.prefix_len, Char.encode_utf8}
 use Rattle.json.specs.Text.{code_unit, short_escape, is_high_surrogate, is_low_surrogate, surrogate_pair, plain, after_backslash, after_u, after_high, prepend, content}
 use Rattle.json.specs.Run.{is_plain}
 use Rattle.bx_cut.specs.Cut.{begins_with, after_first}

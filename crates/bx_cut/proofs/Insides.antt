@@ -1,26 +1,17 @@
 -- What stands inside a value reads as its parts.
 use Rattle.std.proofs.Common.{◌≡◌, ℕ, ◌≤◌, Bool, true, false, ◌==◌, List, [], ◌∷◌, Option, Some, None, IsSome, IfSome, option_map, option_and_then, refl, sym, ap, ◌∙◌, subst, arith}
-use Rattle.std.proofs.lemmas.Bool.{or_parts, false≢true}
-use Rattle.std.specs.Borrow.{Bor}
-use Rattle.std.specs.Bool.{IsTrue}
-use Rattle.std.proofs.lemmas.List.{append-nil}
+use Rattle.std.proofs.lemmas.{Bool.or_parts, Bool.false≢true, List.append-nil}
+use Rattle.std.specs.{Borrow.Bor, Bool.IsTrue}
 use Rattle.json.specs.Json as json
 use Rattle.json.specs.Text.{content, plain}
 use Rattle.json.specs.Tree.{json_tokens, items_tokens, members_tokens, depth, items_depth, HasNumbers}
 use Rattle.serde_json.specs.Data.{Data, null, boolean, number, string, array, object, Items, no_items, no_members}
 use Rattle.serde_json.specs.Find.{get, as_str}
 use Rattle.serde_json.specs.Read.{number_of, of_json, of_items, of_members, read}
-use Rattle.bx_cut.specs.Cut.{past_blank, past_byte, after_first, Member, split_value, split_member, listed}
-use Rattle.bx_cut.specs.Laws.{BeginsBare, IsBare, AreTextsOf, AreElementsOf}
-use Rattle.bx_cut.specs.Pieces.{elements, elements_inside, member_text, members, members_inside, last_member}
-use Rattle.bx_cut.specs.Strings.{spelled}
-use Rattle.bx_cut.proofs.Bytes.{Other}
-use Rattle.bx_cut.proofs.Slices.{text_bare}
+use Rattle.bx_cut.specs.Words.{past_blank, past_byte, after_first, Member, split_value, split_member, listed, BeginsBare, IsBare, AreTextsOf, AreElementsOf, elements, elements_inside, member_text, members, members_inside, last_member, spelled}
+use Rattle.bx_cut.proofs.{Bytes.Other, Slices.text_bare, Reach.some_same, Reach.from_map, Readings.whole, Seen.Matches, Seen.seen}
 use Rattle.bx_cut.proofs.Laws.{text_reads, members_bare, items_parts, members_found, pick_none}
 use Rattle.bx_cut.proofs.Nested.{EachText, find_items, find_members, found_first, other_first}
-use Rattle.bx_cut.proofs.Reach.{some_same, from_map}
-use Rattle.bx_cut.proofs.Readings.{whole}
-use Rattle.bx_cut.proofs.Seen.{Matches, seen}
 
 -- what a text begins with, by its value
 pub record Begins (t : List ℕ) (x : ℕ) : Type 0 where

@@ -1,14 +1,8 @@
 -- The last member of a name, as the members are gone through.
 use Rattle.std.proofs.Common.{◌≡◌, ℕ, Bool, true, false, cond, List, [], ◌∷◌, ◌++◌, Option, Some, None, option_map, refl, sym, ap, ◌∙◌}
-use Rattle.std.proofs.lemmas.Bool.{false≢true}
-use Rattle.std.proofs.lemmas.Slice.Eq.{bytes_eq-Decides}
-use Rattle.std.specs.Bool.{Decides, IsTrue}
-use Rattle.std.specs.Borrow.{Bor}
-use Rattle.std.specs.Option.{unwrap_or}
-use Rattle.std.specs.Str.{bytes_eq}
-use Rattle.bx_cut.specs.Cut.{Member, split_value, then_more, separated, listed}
-use Rattle.bx_cut.specs.Pieces.{is_name, later_or, last_member, elements_inside}
-use Rattle.bx_cut.specs.Strings.{spelled}
+use Rattle.std.proofs.lemmas.{Bool.false≢true, Slice.Eq.bytes_eq-Decides}
+use Rattle.std.specs.{Bool.Decides, Bool.IsTrue, Borrow.Bor, Option.unwrap_or, Str.bytes_eq}
+use Rattle.bx_cut.specs.Words.{Member, split_value, then_more, separated, listed, is_name, later_or, last_member, elements_inside, spelled}
 
 pub last_member-append : (name : List ℕ) (ms : List Member) (m : Member) → last_member name (ms ++ m ∷ []) ≡ cond (is_name name (spelled m.0)) (Some m.1) (last_member name ms)
 last_member-append name [] m = refl

@@ -3,10 +3,8 @@ use Rattle.std.proofs.Common.{◌≡◌, ℕ, zero, suc, ◌-◌, ◌<◌, ◌�
 use Rattle.std.proofs.lemmas.List.{length-drop}
 use Rattle.std.specs.List.{prefix_len}
 use Rattle.json.specs.Word.{is_space}
-use Rattle.bx_cut.specs.Cut.{past_blank, after_first, past_byte, Member, split_member, separated, listed, first_and_more, then_more}
-use Rattle.bx_cut.specs.Pieces.{Object, closed, split_object}
-use Rattle.bx_cut.proofs.Reach.{from_map, from_and_then, after_first-length, past_byte-shorter}
-use Rattle.bx_cut.proofs.Lists.{Shortens, Shortens-split_member}
+use Rattle.bx_cut.specs.Words.{past_blank, after_first, past_byte, Member, split_member, separated, listed, first_and_more, then_more, Object, closed, split_object}
+use Rattle.bx_cut.proofs.{Reach.from_map, Reach.from_and_then, Reach.after_first-length, Reach.past_byte-shorter, Lists.Shortens, Lists.Shortens-split_member}
 
 pub object-none : (t : List ℕ) → None ≡ after_first 123 (past_blank t) → None ≡ split_object t
 unfolding split_object

@@ -1,11 +1,8 @@
 -- How far strings and nested values reach: the steps of a scan at a place of the text, and where a scan ends.
 use Rattle.std.proofs.Common.{◌≡◌, ℕ, suc, ◌+◌, ◌-◌, ◌<◌, ◌≤◌, ◌⊎◌, inl, inr, Bool, true, false, cond, ◌==◌, List, [], ◌∷◌, length, take, drop, get_or, Option, Some, None, option_map, option_and_then, refl, sym, ap, ◌∙◌, subst, arith}
-use Rattle.std.proofs.lemmas.List.{drop_more, drop_all, length-drop, drop-drop}
-use Rattle.std.proofs.lemmas.Bool.{eqb-true, true≢false}
-use Rattle.std.proofs.lemmas.Grind.{common_steps}
+use Rattle.std.proofs.lemmas.{List.drop_more, List.drop_all, List.length-drop, List.drop-drop, Bool.eqb-true, Bool.true≢false, Grind.common_steps}
 use Rattle.std.proofs.lemmas.Str.{IsCharBoundary-end, IsCharBoundary-after_ascii, IsCharBoundary-start, IsCharBoundary-from_rest}
-use Rattle.std.specs.List.{prefix_len}
-use Rattle.std.specs.Str.{IsUtf8, IsCharBoundary}
+use Rattle.std.specs.{List.prefix_len, Str.IsUtf8, Str.IsCharBoundary}
 use Rattle.json.specs.Word.{is_space}
 use Rattle.json.specs.Lex.{Mode, in_string, in_escape, quote, backslash, operator, space, other}
 use Rattle.json.specs.Align.{span, span_byte}

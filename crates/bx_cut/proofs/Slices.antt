@@ -1,9 +1,7 @@
 -- What stands round the values of a text: no value's text ends with white space, and white space alone stands behind the last one.
 use Rattle.std.proofs.Common.{◌≡◌, ℕ, suc, ◌+◌, ◌<◌, ◌≤◌, inl, inr, Bool, true, false, cond, ◌||◌, ◌==◌, List, [], ◌∷◌, ◌++◌, length, take, get_or, refl, sym, ap, ◌∙◌, subst, arith}
 use Rattle.std.proofs.Math.Seq.{get_or-append_seam}
-use Rattle.std.proofs.lemmas.Bool.{false≢true}
-use Rattle.std.proofs.lemmas.List.{append-nil, append_assoc, length-append, length-drop}
-use Rattle.std.proofs.lemmas.List.Sums.{prefix_len_passes}
+use Rattle.std.proofs.lemmas.{Bool.false≢true, List.append-nil, List.append_assoc, List.length-append, List.length-drop, List.Sums.prefix_len_passes}
 use Rattle.std.specs.List.{prefix_len}
 use Rattle.std.specs.Prelude.{not}
 use Rattle.json.specs.Align.{span}
@@ -12,12 +10,9 @@ use Rattle.json.specs.Text.{content, plain}
 use Rattle.json.specs.Word.{is_operator, is_space, word}
 use Rattle.json.specs.Lex.{Lexeme, token, comma, colon, Class, between, in_word, in_string, lex_byte, lex, string_token, Place, fresh, after_value, after_comma, after_key, begins_colon, may_begin, may_close, if_allowed, place_token, punctuate}
 use Rattle.serde_json.specs.Data.{Items, item}
-use Rattle.bx_cut.specs.Cut.{past_blank, is_word_byte, outside, closes, opens, nest_len, value_len}
-use Rattle.bx_cut.specs.Laws.{BeginsBare, EndsBare, IsBare, IsBlank, IsShut, StandsIn, GoesOnIn, AreObjectsOf}
-use Rattle.bx_cut.specs.Pieces.{Object}
+use Rattle.bx_cut.specs.Words.{past_blank, is_word_byte, outside, closes, opens, nest_len, value_len, BeginsBare, EndsBare, IsBare, IsBlank, IsShut, StandsIn, GoesOnIn, AreObjectsOf, Object}
 use Rattle.bx_cut.proofs.Bytes.{byte_cases, space_cases, BeginsFull, past-full, past-lex, blanks, split_blanks}
-use Rattle.bx_cut.proofs.Reach.{EndsBy, ends_more, ends_string, ends_nested}
-use Rattle.bx_cut.proofs.Values.{Fits, Text}
+use Rattle.bx_cut.proofs.{Reach.EndsBy, Reach.ends_more, Reach.ends_string, Reach.ends_nested, Values.Fits, Values.Text}
 
 -- ---- a value's text ends with no white space
 

@@ -1,7 +1,6 @@
 -- The text of a value within a text: how far it reaches, and that its own bytes read as the value.
 use Rattle.std.proofs.Common.{◌≡◌, ℕ, ◌+◌, ◌<◌, Bool, true, false, cond, ◌||◌, List, [], ◌∷◌, ◌++◌, length, take, drop, Option, Some, refl, sym, ap, ap₂, ◌∙◌, subst, arith}
-use Rattle.std.proofs.lemmas.Bool.{false≢true}
-use Rattle.std.proofs.lemmas.List.{append-nil, take-append-drop, length-take-le, drop_at}
+use Rattle.std.proofs.lemmas.{Bool.false≢true, List.append-nil, List.take-append-drop, List.length-take-le, List.drop_at}
 use Rattle.std.specs.List.{prefix_len}
 use Rattle.std.specs.Prelude.{not}
 use Rattle.json.specs.Token.{Token, string, number, boolean, null, bad}
@@ -11,11 +10,8 @@ use Rattle.json.specs.Print.{IsNumber}
 use Rattle.json.specs.Lex.{Lexeme, token, between, in_word, in_string, lex, string_token, fresh, after_value, after_comma, begins_colon, place_token, punctuate}
 use Rattle.json.specs.Align.{span}
 use Rattle.json.proofs.Printed.Numbers.{lex-number, in_word-ended}
-use Rattle.bx_cut.specs.Cut.{past_blank, after_first, is_word_byte, outside, nest_len, value_len}
-use Rattle.bx_cut.specs.Strings.{spelled}
-use Rattle.bx_cut.proofs.Bytes.{Other}
-use Rattle.bx_cut.proofs.Local.{local}
-use Rattle.bx_cut.proofs.Reach.{nest-string, span_le}
+use Rattle.bx_cut.specs.Words.{past_blank, after_first, is_word_byte, outside, nest_len, value_len, spelled}
+use Rattle.bx_cut.proofs.{Bytes.Other, Local.local, Reach.nest-string, Reach.span_le}
 use Rattle.bx_cut.proofs.Seen.{start, Seen, SeenWord, past_string, string-lex, word-lex}
 use Rattle.bx_cut.proofs.Words.{AllOther, other_nests, other_len, WordText, word_text, true_text, false_text, null_text}
 

@@ -1,11 +1,8 @@
 -- The text of a number or a literal: bytes without a meaning of their own, up to the end of the word.
 use Rattle.std.proofs.Common.{◌≡◌, ℕ, suc, ◌+◌, ◌-◌, ◌<◌, ◌≤◌, Bool, true, false, cond, ◌&&◌, ◌||◌, ◌==◌, nat_eq, List, [], ◌∷◌, ◌++◌, length, take, drop, Option, Some, None, option_and_then, refl, sym, ap, ◌∙◌, subst, arith}
-use Rattle.std.proofs.lemmas.Bool.{true≢false, eqb-true, leb-true, and_parts}
-use Rattle.std.proofs.lemmas.Bool.Decides.{Decides-eqb}
+use Rattle.std.proofs.lemmas.{Bool.true≢false, Bool.eqb-true, Bool.leb-true, Bool.and_parts, Bool.Decides.Decides-eqb, Slice.Eq.starts_is}
 use Rattle.std.proofs.lemmas.List.{append_assoc, take-append-drop, length-append, take_at}
-use Rattle.std.proofs.lemmas.Slice.Eq.{starts_is}
-use Rattle.std.specs.Char.{is_ascii_digit}
-use Rattle.std.specs.List.{prefix_len, starts_with}
+use Rattle.std.specs.{Char.is_ascii_digit, List.prefix_len, List.starts_with}
 use Rattle.std.specs.Prelude.{not}
 use Rattle.json.specs.Token.{Token, begin_object, end_object, begin_array, end_array, key, string, number, boolean, null, bad}
 use Rattle.json.specs.Word.{head, ends_word, after_digits, after_minus, after_sign, after_whole, after_fraction, after_exponent, after_number, number_before, literal, word}
@@ -13,8 +10,7 @@ use Rattle.json.specs.Print.{IsNumber}
 use Rattle.json.proofs.Printed.Numbers.{number_alone}
 use Rattle.json.specs.Ascii as ascii
 use Rattle.bx_cut.specs.Cut.{outside, quoted, nest_len, is_word_byte}
-use Rattle.bx_cut.proofs.Bytes.{Other, is_other}
-use Rattle.bx_cut.proofs.Reach.{from_and_then, some_same}
+use Rattle.bx_cut.proofs.{Bytes.Other, Bytes.is_other, Reach.from_and_then, Reach.some_same}
 
 -- an ASCII byte without a meaning of its own
 pub record Letter (x : ℕ) : Type 0 where

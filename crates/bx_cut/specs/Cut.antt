@@ -1,7 +1,6 @@
 -- How far the parts of a JSON text reach, on its bytes. What is no JSON text is cut too, to no purpose.
 use Rattle.std.specs.Prelude.{◌≡◌, ◌≤◌, ℕ, zero, suc, ◌+◌, ◌-◌, ◌==◌, ◌||◌, List, [], ◌∷◌, length, take, drop, Bool, false, not, cond, Option, Some, None, option_map, option_and_then}
-use Rattle.std.specs.List.{prefix_len}
-use Rattle.std.specs.Str.{IsCharBoundary}
+use Rattle.std.specs.{List.prefix_len, Str.IsCharBoundary}
 use Rattle.json.specs.Word.{is_operator, is_space}
 use Rattle.json.specs.Lex.{in_string}
 use Rattle.json.specs.Align.{span}

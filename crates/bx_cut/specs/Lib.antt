@@ -5,3 +5,4 @@ pub mod Pieces
 pub mod Strings
 pub mod Views
 pub mod Laws
+pub mod Words

@@ -5,8 +5,7 @@ use Rattle.bx_cut.specs.Pieces.{Object}
 use Rattle.bx_message.specs.declared.message.Message.{Message}
 use Rattle.bx_message.specs.Fields.{message_in}
 use Rattle.bx_message.specs.MessageKinds.{is_handshake}
-use Rattle.bx_entry.specs.Listing.{listed_from}
-use Rattle.bx_entry.specs.Requests.{Cut, objects_in, objects_of, all_messages}
+use Rattle.bx_entry.specs.Words.{listed_from, Cut, objects_in, objects_of, all_messages}
 
 -- these messages, and those that are still to be read
 abbrev pub joined : List Message → Option (List Message) → Option (List Message)

@@ -1,16 +1,12 @@
 -- What is kept of a session settles what is kept after a change of it, and the answers that it gives: so it is with each move of the step.
 use Rattle.std.proofs.Common.{◌≡◌, ℕ, Bool, true, false, cond, Option, List, ◌++◌, ◌==◌, refl, sym, ap, ◌∙◌, append-nil, append_assoc, arith}
 use Rattle.std.proofs.lemmas.Grind.{common_steps}
-use Rattle.bx_advice.specs.declared.config.Config.{Config}
-use Rattle.bx_advice.specs.declared.advice.Outcome.{Outcome}
+use Rattle.bx_advice.specs.declared.{config.Config.Config, advice.Outcome.Outcome}
 use Rattle.bx_advice.specs.declared.advice.Outcome.TheVariants.{Failed}
 use Rattle.bx_advice.specs.declared.error.Error.TheVariants.{SupersededConnect}
-use Rattle.bx_entry.specs.declared.entry.Entry.{Entry}
-use Rattle.bx_entry.specs.declared.entry.EntryKind.{EntryKind}
+use Rattle.bx_entry.specs.declared.entry.{Entry.Entry, EntryKind.EntryKind, Rider.Rider}
 use Rattle.bx_entry.specs.declared.entry.EntryKind.TheVariants.{Connect}
-use Rattle.bx_entry.specs.declared.entry.Rider.{Rider}
-use Rattle.bx_entry.specs.Sessions.{Session, Pending, Filed, released, admitted, connected, step_by, ridden_by, rider_of, step}
-use Rattle.bx_entry.specs.Keeping.{Kept, kept, resumed}
+use Rattle.bx_entry.specs.Words.{Session, Pending, Filed, released, admitted, connected, step_by, ridden_by, rider_of, step, Kept, kept, resumed}
 
 -- What is kept of a session settles what is kept after this change of it, and the answers that it adds.
 pub record Settled (f : Session → Session) : Type 0 where

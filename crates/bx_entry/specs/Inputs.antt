@@ -5,8 +5,7 @@ use Rattle.bx_advice.specs.Limits.{greatest_moment, greatest_length}
 use Rattle.bx_message.specs.declared.message.Message.{Message}
 use Rattle.bx_entry.specs.Listing.{Listed, request}
 use Rattle.bx_entry.specs.Listing as messages
-use Rattle.bx_entry.specs.declared.input.BodyFault.{BodyFault}
-use Rattle.bx_entry.specs.declared.input.Refusal.{Refusal}
+use Rattle.bx_entry.specs.declared.input.{BodyFault.BodyFault, Refusal.Refusal}
 use Rattle.bx_entry.specs.declared.input.Refusal.TheVariants.{Body, BadMoment, Ended}
 
 -- a request with its messages, one whose body can't be read, or a tick

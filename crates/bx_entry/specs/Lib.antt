@@ -9,3 +9,4 @@ pub mod Runs
 pub mod Requests
 pub mod Keeping
 pub mod Statuses
+pub mod Words

@@ -1,35 +1,21 @@
 -- Who is live: the sessions, their ids and due moments, which message is refused and why, and the entry at each place.
 use Rattle.std.specs.Prelude.{ℕ, zero, suc, ◌+◌, ◌/◌, ◌%◌, ◌==◌, ◌&&◌, ◌||◌, not, min, max, Bool, true, false, List, [], ◌∷◌, ◌++◌, length, map, filter, find, fold, nat_lt, nat_le, nat_eq, codes, if◌then◌else◌, Option, Some, None, is_some, is_none, unwrap_or, option_map}
-use Rattle.std.specs.List.{list_any, starts_with}
-use Rattle.std.specs.Str.{bytes_eq}
-use Rattle.std.specs.Char.{digit_char}
-use Rattle.bx_names.specs.Faults.{first_case, name_fault, pattern_fault}
-use Rattle.bx_names.specs.Globs.{Glob, glob_of}
-use Rattle.bx_names.specs.Segments.{segments}
-use Rattle.bx_names.specs.Kinds.{is_meta, is_service}
-use Rattle.bx_message.specs.declared.message.Message.{Message}
-use Rattle.bx_message.specs.declared.message.TextMember.{TextMember}
+use Rattle.std.specs.{List.list_any, List.starts_with, Str.bytes_eq, Char.digit_char}
+use Rattle.bx_names.specs.Words.{first_case, name_fault, pattern_fault, Glob, glob_of, segments, is_meta, is_service}
+use Rattle.bx_message.specs.declared.{message.Message.Message, message.TextMember.TextMember, message.AckMember.AckMember, message_kind.MessageKind.MessageKind, event.Event.Event, reply.Reply.Reply}
 use Rattle.bx_message.specs.declared.message.TextMember.TheVariants.{Absent, NotText, Text}
-use Rattle.bx_message.specs.declared.message.AckMember.{AckMember}
 use Rattle.bx_message.specs.declared.message.AckMember.TheVariants.{NoAck, AckTrue, AckNumber}
-use Rattle.bx_message.specs.declared.message_kind.MessageKind.{MessageKind}
 use Rattle.bx_message.specs.MessageKinds.{message_kind_of, is_connect, is_handshake}
 use Rattle.bx_entry.specs.Listing.{Posted, Listed, Post}
 use Rattle.bx_entry.specs.Listing as messages
-use Rattle.bx_advice.specs.declared.error.Error.{Error}
+use Rattle.bx_advice.specs.declared.{error.Error.Error, config.Config.Config}
 use Rattle.bx_advice.specs.declared.error.Error.TheVariants.{UnknownMetaChannel, SecondHandshake, UnsupportedVersion, NoSupportedConnectionType, TooManySessions, NoClientId, UnknownClient, UnknownConnectionType, InvalidChannel, InvalidPattern, TooManyPatterns, SubscriptionDenied, MissingSubscription, MissingData}
-use Rattle.bx_advice.specs.declared.config.Config.{Config}
 use Rattle.bx_advice.specs.declared.advice.Outcome.TheVariants.{Done, Failed}
 use Rattle.bx_advice.specs.declared.advice.Outcome.TheVariants as advice
-use Rattle.bx_message.specs.declared.event.Event.{Event}
-use Rattle.bx_message.specs.declared.reply.Reply.{Reply}
 use Rattle.bx_message.specs.Replies.{reply_to}
 use Rattle.bx_message.specs.declared.reply.AckReply.TheVariants as replies
-use Rattle.bx_entry.specs.declared.entry.Entry.{Entry}
-use Rattle.bx_entry.specs.declared.entry.EntryKind.{EntryKind}
+use Rattle.bx_entry.specs.declared.{entry.Entry.Entry, entry.EntryKind.EntryKind, entry.Rider.Rider, senders.Senders.Senders}
 use Rattle.bx_entry.specs.declared.entry.EntryKind.TheVariants.{Opened, Connect, Subscribe, Unsubscribe, Publish, Disconnect, Refused, Tick}
-use Rattle.bx_entry.specs.declared.entry.Rider.{Rider}
-use Rattle.bx_entry.specs.declared.senders.Senders.{Senders}
 use Rattle.bx_entry.specs.declared.senders.Senders.TheVariants.{NoneYet, Only, Mixed}
 
 -- ---- the state

@@ -5,15 +5,12 @@ use Rattle.bx_names.specs.Faults.{first_case}
 use Rattle.bx_cut.specs.declared.error.CutError.{CutError}
 use Rattle.bx_cut.specs.declared.error.CutError.TheVariants as cuts
 use Rattle.bx_cut.specs.declared.document.TheConstants.{MAX_MESSAGES}
-use Rattle.bx_cut.specs.Faults.{fault}
-use Rattle.bx_cut.specs.Pieces.{Object, pieces}
+use Rattle.bx_cut.specs.Words.{fault, Object, pieces, texts_of}
 use Rattle.bx_message.specs.declared.message.Message.{Message}
 use Rattle.bx_message.specs.Fields.{message_in}
-use Rattle.bx_cut.specs.Bodies.{texts_of}
 use Rattle.bx_entry.specs.Inputs.{ReadInput, Request, Unread}
-use Rattle.bx_entry.specs.declared.input.Input.{Input}
+use Rattle.bx_entry.specs.declared.input.{Input.Input, BodyFault.BodyFault}
 use Rattle.bx_entry.specs.declared.input.Input.TheVariants.{Post}
-use Rattle.bx_entry.specs.declared.input.BodyFault.{BodyFault}
 use Rattle.bx_entry.specs.declared.input.BodyFault.TheVariants.{NotJson, NotObject, TooMany, NoChannel}
 
 -- ---- documents

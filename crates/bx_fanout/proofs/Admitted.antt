@@ -2,28 +2,19 @@
 use Rattle.std.proofs.Common.{◌≡◌, ℕ, ◌+◌, ◌<◌, false, List, [], ◌∷◌, ◌++◌, length, map, filter, refl, sym, ap, subst, ◌∙◌, inl, inr, Option, Some, None, append-nil, add-zero, zero-add}
 use Rattle.std.specs.Prelude.{◌==◌}
 use Rattle.bx_entry.proofs.RequestLemmas.{length-listed}
-use Rattle.bx_entry.specs.Inputs.{ReadInput, Request, added_by, refusal_of}
-use Rattle.bx_entry.specs.Listing.{Listed, request}
-use Rattle.bx_entry.specs.Requests.{read_input}
+use Rattle.bx_entry.specs.Words.{ReadInput, Request, added_by, refusal_of, Listed, request, read_input, Taking, numbers_from, outs, places_of, taken_as, taken_in}
 use Rattle.bx_entry.specs.Runs as runs
-use Rattle.bx_entry.specs.Runs.{Taking, numbers_from, outs, places_of, taken_as, taken_in}
-use Rattle.bx_entry.specs.declared.entry.Slot.{Slot}
-use Rattle.bx_entry.specs.declared.input.Input.{Input}
-use Rattle.bx_entry.specs.declared.input.Refusal.{Refusal}
+use Rattle.bx_entry.specs.declared.{entry.Slot.Slot, input.Input.Input, input.Refusal.Refusal}
 use Rattle.bx_message.specs.declared.reply.Answer.{Answer}
 use Rattle.bx_shard.specs.Shards.{Setup}
-use Rattle.bx_world.specs.Headline.{EachSlot, asked_by}
-use Rattle.bx_world.specs.Worlds.{IsOutput, WorldState, after, output_admit}
+use Rattle.bx_world.specs.Words.{EachSlot, asked_by, IsOutput, WorldState, after, output_admit}
 use Rattle.bx_world.specs.declared.step.Step.TheVariants.{Admit}
 use Rattle.bx_world.specs.declared.step.StepOut.TheVariants.{Admitted, NotAdmitted, OutOfMemory}
 use Rattle.bx_world.proofs.Replies.{replies_are_answers}
-use Rattle.bx_fanout.specs.HeldInputs.{Row, outs_of, waits}
-use Rattle.bx_fanout.specs.CurrentInputs.{AreAnswers, NoneTakenFrom, next_place}
+use Rattle.bx_fanout.specs.Words.{Row, outs_of, waits, AreAnswers, NoneTakenFrom, next_place, AllUntaken, IsCollecting, IsTakenIn, IsGiving, seen_out}
 use Rattle.bx_theory.specs.Opens.{intake_as, open_after}
-use Rattle.bx_fanout.specs.Stages.{AllUntaken, IsCollecting, IsTakenIn, IsGiving, seen_out}
 use Rattle.bx_fanout.specs.declared.current_input.CurrentInput.{CurrentInput}
-use Rattle.bx_fanout.proofs.TakingIn.{none-left, taken-one}
-use Rattle.bx_fanout.proofs.Stages.{length-numbers}
+use Rattle.bx_fanout.proofs.{TakingIn.none-left, TakingIn.taken-one, Stages.length-numbers}
 
 -- ---- how many messages are answered
 

@@ -2,26 +2,19 @@
 use Rattle.std.proofs.Common.{◌≡◌, ◌≢◌, ℕ, ◌+◌, ◌<◌, ◌≤◌, Bool, true, false, List, [], ◌∷◌, ◌++◌, length, refl, sym, ap, subst, ◌∙◌, arith, Option, Some, None, option_map, slice_get, slice_index, add-one, get_or, drop, ltb, add-zero, add_assoc, ne_eqb}
 use Rattle.std.specs.Prelude.{◌||◌, ◌==◌}
 use Rattle.std.proofs.Math.Bool.{or-false}
-use Rattle.std.proofs.lemmas.List.Folds.{list_any-append}
-use Rattle.std.proofs.lemmas.Option.{slice_get-get_or}
-use Rattle.bx_entry.specs.Answers.{PlacedAnswer, answer}
-use Rattle.bx_entry.specs.declared.entry.Slot.{Slot}
+use Rattle.std.proofs.lemmas.{List.Folds.list_any-append, Option.slice_get-get_or, List.length_push}
+use Rattle.bx_entry.specs.Words.{PlacedAnswer, answer, Listed}
+use Rattle.bx_entry.specs.declared.entry.{Slot.Slot, Ticket.Ticket}
 use Rattle.bx_entry.specs.declared.entry.Slot.TheVariants as slots
-use Rattle.bx_entry.specs.declared.entry.Ticket.{Ticket}
 use Rattle.bx_message.specs.declared.reply.Answer.{Answer}
-use Rattle.bx_shard.specs.Shards.{Setup, is_taken}
-use Rattle.bx_world.specs.Headline.{EachSlot, IsTicket}
-use Rattle.bx_world.specs.Worlds.{IsOutput, WorldState, after}
-use Rattle.bx_shard.specs.Refining.{given_of}
+use Rattle.bx_shard.specs.Words.{Setup, is_taken, given_of}
+use Rattle.bx_world.specs.Words.{EachSlot, IsTicket, IsOutput, WorldState, after}
 use Rattle.bx_world.specs.declared.step.Step.TheVariants.{Take}
 use Rattle.bx_world.specs.declared.step.StepOut.TheVariants.{Taken}
-use Rattle.bx_world.proofs.Files.{answers_can_be_taken}
-use Rattle.bx_world.proofs.Takes.{takes_are_answers}
+use Rattle.bx_world.proofs.{Files.answers_can_be_taken, Takes.takes_are_answers}
 use Rattle.bx_advice.specs.declared.config.Config.{Config}
-use Rattle.bx_entry.specs.Listing.{Listed}
 use Rattle.bx_fanout.specs.CurrentInputs.{AreAnswers, IsCollected, IsLevel, Keeps, Next, NextBy, NoneTakenFrom, given_at, next_place}
 use Rattle.bx_fanout.specs.declared.current_input.CurrentInput.{CurrentInput}
-use Rattle.std.proofs.lemmas.List.{length_push}
 use Rattle.bx_theory.proofs.Below.{answer_below}
 
 -- each session stands in a shard of the world

@@ -2,28 +2,20 @@
 use Rattle.std.proofs.Common.{◌≡◌, ◌≢◌, ℕ, ◌+◌, ◌<◌, ◌≤◌, Bool, true, false, List, [], ◌∷◌, ◌++◌, length, map, find, refl, sym, ap, subst, ◌∙◌, arith, inl, inr, Option, Some, None, option_map, slice_index, flat_map, nat_lt, eqb-true}
 use Rattle.std.specs.Prelude.{◌&&◌, ◌||◌, ◌==◌, ◌⊎◌, is_none, if◌then◌else◌, IfNone}
 use Rattle.std.specs.List.{AllByRecursion}
-use Rattle.std.proofs.lemmas.Bool.{cases_lt, false≢true, eqb-false}
-use Rattle.std.proofs.lemmas.List.Folds.{list_any-append}
+use Rattle.std.proofs.lemmas.{Bool.cases_lt, Bool.false≢true, Bool.eqb-false, List.Folds.list_any-append}
 use Rattle.bx_advice.specs.declared.config.Config.{Config}
-use Rattle.bx_entry.specs.Answers.{PlacedAnswer, answer_of}
-use Rattle.bx_entry.specs.Listing.{Listed}
-use Rattle.bx_entry.specs.Registry.{Waiting}
-use Rattle.bx_entry.specs.Sessions.{Filed, Session}
+use Rattle.bx_entry.specs.Words.{PlacedAnswer, answer_of, Listed, Waiting, Filed, Session}
 use Rattle.bx_entry.specs.declared.entry.Ticket.{Ticket}
 use Rattle.bx_theory.proofs.Wholes.{beyond}
 use Rattle.bx_message.specs.declared.reply.Answer.{Answer}
-use Rattle.bx_shard.specs.Shards.{Setup, is_taken, sessions_in, shard_at}
-use Rattle.bx_world.specs.Headline.{IsTicket, slot_at}
-use Rattle.bx_world.specs.Worlds.{IsOutput, WorldState, after, filed_under}
-use Rattle.bx_shard.specs.Refining.{given_of}
+use Rattle.bx_shard.specs.Words.{Setup, is_taken, sessions_in, shard_at, given_of}
+use Rattle.bx_world.specs.Words.{IsTicket, slot_at, IsOutput, WorldState, after, filed_under}
 use Rattle.bx_world.specs.declared.step.Step.TheVariants.{Take}
 use Rattle.bx_world.specs.declared.step.StepOut.TheVariants.{Taken}
-use Rattle.bx_fanout.specs.HeldInputs.{Row, answered_at, waits_there, with_answer}
-use Rattle.bx_fanout.specs.Draining.{CanDrain, Drained, Draining, IsEmptied, Waits, count_filed, filled, put_if}
+use Rattle.bx_fanout.specs.Words.{Row, answered_at, waits_there, with_answer, CanDrain, Drained, Draining, IsEmptied, Waits, count_filed, filled, put_if}
 use Rattle.bx_fanout.specs.CurrentInputs.{IsLevel, NoneTakenFrom, given_at}
 use Rattle.bx_fanout.proofs.Collecting.{AllPlaced, take-gives, take-is-answer, taken-more}
-use Rattle.bx_shard.proofs.Taking.{taken_own}
-use Rattle.bx_shard.proofs.Untaken.{untaken}
+use Rattle.bx_shard.proofs.{Taking.taken_own, Untaken.untaken}
 
 -- ---- one answer
 

@@ -2,21 +2,16 @@
 use Rattle.std.proofs.Common.{◌≡◌, ℕ, ◌+◌, List, [], ◌∷◌, ◌++◌, length, refl, sym, ap, subst, ◌∙◌, drop, take, append-nil, arith, map, ◌-◌, false}
 use Rattle.bx_shard.specs.Shards.{Setup}
 use Rattle.bx_entry.specs.Runs as runs
-use Rattle.bx_entry.specs.Inputs.{ReadInput}
-use Rattle.bx_entry.specs.Listing.{Listed}
-use Rattle.bx_fanout.specs.HeldInputs.{Row}
-use Rattle.bx_fanout.specs.CurrentInputs.{NoneTakenFrom}
+use Rattle.bx_entry.specs.Words.{ReadInput, Listed}
+use Rattle.bx_fanout.specs.Words.{Row, NoneTakenFrom, AllUntaken, IsTakenIn, IsGiving, IsStaged, is_collecting, own, seen_out}
 use Rattle.bx_theory.specs.Opens.{open_after}
 use Rattle.bx_fanout.specs.CurrentInputs.{out_of}
-use Rattle.bx_fanout.specs.Stages.{AllUntaken, IsTakenIn, IsGiving, IsStaged, is_collecting, own, seen_out}
-use Rattle.bx_fanout.specs.declared.stage.Stage.{Stage}
+use Rattle.bx_fanout.specs.declared.{stage.Stage.Stage, out.Out.Out, current_input.CurrentInput.CurrentInput}
 use Rattle.bx_fanout.specs.declared.stage.Stage.TheVariants.{Collecting, Complete, Idle}
 use Rattle.bx_fanout.proofs.TakingIn.{intake-same}
 use Rattle.bx_world.specs.Worlds.{WorldState}
 use Rattle.std.proofs.lemmas.List.{length-append}
 use Rattle.std.proofs.Math.Seq.{drop-append_seam, take-append_seam}
-use Rattle.bx_fanout.specs.declared.out.Out.{Out}
-use Rattle.bx_fanout.specs.declared.current_input.CurrentInput.{CurrentInput}
 
 pub giving-same : (s setup : Setup) (inputs : List ReadInput) (old new : WorldState) (rows : List Row) (own : List runs.Out) (added : List runs.Out) → s ≡ setup → new.list ≡ old.list → new.taken ≡ old.taken →
     IsGiving setup inputs old rows own added → IsGiving s inputs new rows own added

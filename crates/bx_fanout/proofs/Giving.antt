@@ -1,23 +1,15 @@
 -- The outs of the connects that are answered, given from the least place on.
 use Rattle.std.proofs.Common.{◌≡◌, ◌≢◌, ℕ, ◌+◌, ◌-◌, ◌<◌, Bool, true, false, List, [], ◌∷◌, ◌++◌, length, map, filter, refl, sym, ap, subst, ◌∙◌, cond, arith, eqb, Option, Some, None, Ok, reverse, append_assoc, append-nil, length-append, take, slice_get, eqb-true}
-use Rattle.std.proofs.lemmas.List.{reverse-append}
+use Rattle.std.proofs.lemmas.{List.reverse-append, Option.slice_get-get_or, Option.slice_get_past, Bool.eqb-false, List.Sorted.IsPermutation-reverse, List.Sorted.list_any-IsPermutation, Map.Keys.IsStrictlyIncreasing-dedup, Map.Keys.sorted_from_strictly_increasing}
 use Rattle.std.proofs.Math.Seq.{get_or-append_seam, take-append_seam}
-use Rattle.std.proofs.lemmas.Option.{slice_get-get_or, slice_get_past}
 use Rattle.std.specs.Prelude.{◌==◌, is_none, is_some}
-use Rattle.std.specs.List.{AllByRecursion, dedup}
-use Rattle.std.specs.List.Sorted.{IsPermutation, IsSorted, IsStrictlySortedBy}
+use Rattle.std.specs.{List.AllByRecursion, List.dedup, List.Sorted.IsPermutation, List.Sorted.IsSorted, List.Sorted.IsStrictlySortedBy, BTreeMap.is_at, Ordering.nat_cmp}
 use Rattle.std.specs.Map.{keys_of, lookup, remove_entry}
-use Rattle.std.specs.BTreeMap.{is_at}
-use Rattle.std.specs.Ordering.{nat_cmp}
 use Rattle.std.specs.declared.cmp.Ordering.TheVariants.{Less}
-use Rattle.std.proofs.lemmas.Bool.{eqb-false}
-use Rattle.std.proofs.lemmas.List.Sorted.{IsPermutation-reverse, list_any-IsPermutation}
-use Rattle.std.proofs.lemmas.Map.Keys.{IsStrictlyIncreasing-dedup, sorted_from_strictly_increasing}
 use Rattle.bx_lists.proofs.Tests.{less-from-cmp}
 use Rattle.bx_lists.proofs.Ascending.{dedup-has, AllAbove, Ascends, same-ascends, ascends-sorted}
 use Rattle.bx_message.specs.declared.reply.Answer.{Answer}
-use Rattle.bx_fanout.specs.declared.held_inputs.HeldInput.{HeldInput}
-use Rattle.bx_fanout.specs.declared.out.Out.{Out}
+use Rattle.bx_fanout.specs.declared.{held_inputs.HeldInput.HeldInput, out.Out.Out}
 use Rattle.bx_lists.specs.Members.{has}
 use Rattle.bx_fanout.specs.HeldInputs.{Gives, Row, answered_places, is_answered, items_of, out_by, outs_of, waits}
 use Rattle.bx_fanout.proofs.HeldInputs.{at-is}

@@ -1,17 +1,11 @@
 -- What becomes of the held connects, and of the marks of those that are answered.
 use Rattle.std.proofs.Common.{◌≡◌, ◌≢◌, ℕ, ◌+◌, ◌<◌, ◌≤◌, Bool, true, false, List, [], ◌∷◌, ◌++◌, length, map, filter, refl, sym, ap, ◌∙◌, cond, arith, Option, Some, None, count_by, length-append, append-nil, zero-add, ne_eqb, eqb-true}
 use Rattle.std.specs.Prelude.{◌&&◌, ◌||◌, ◌==◌, is_none, is_some, if◌then◌else◌}
-use Rattle.std.specs.List.{AllByRecursion, list_any}
-use Rattle.std.specs.List.Sorted.{IsStrictlySortedBy}
+use Rattle.std.specs.{List.AllByRecursion, List.list_any, List.Sorted.IsStrictlySortedBy, BTreeMap.insert_entry, BTreeMap.is_at, Ordering.nat_cmp}
 use Rattle.std.specs.Map.{keys_of, lookup, set_value}
-use Rattle.std.specs.BTreeMap.{insert_entry, is_at}
-use Rattle.std.specs.Ordering.{nat_cmp}
 use Rattle.std.specs.declared.cmp.Ordering.TheVariants.{Less, Greater}
 use Rattle.std.proofs.Math.Bool.{and-false, and-true, or-false}
-use Rattle.std.proofs.lemmas.Bool.Decides.{nat_tests}
-use Rattle.std.proofs.lemmas.List.Elements.{filter-append}
-use Rattle.std.proofs.lemmas.List.Folds.{list_any-append}
-use Rattle.std.proofs.lemmas.List.Sums.{count_by-le-length, sum_by-append}
+use Rattle.std.proofs.lemmas.{Bool.Decides.nat_tests, List.Elements.filter-append, List.Folds.list_any-append, List.Sums.count_by-le-length, List.Sums.sum_by-append}
 use Rattle.bx_lists.proofs.Tests.{less-from-cmp}
 use Rattle.bx_message.specs.declared.reply.Answer.{Answer}
 use Rattle.bx_fanout.specs.declared.held_inputs.HeldInput.{HeldInput}

@@ -2,21 +2,16 @@
 use Rattle.std.proofs.Common.{◌≡◌, ℕ, ◌<◌, Bool, true, false, not, List, [], ◌∷◌, ◌++◌, map, filter, refl, sym, ap, ◌∙◌, cond, append-nil}
 use Rattle.std.proofs.lemmas.List.{append_cancel_left, map-append}
 use Rattle.bx_advice.specs.declared.config.Config.{Config}
-use Rattle.bx_entry.specs.Inputs.{ReadInput}
-use Rattle.bx_entry.specs.Registry.{Registry}
+use Rattle.bx_entry.specs.Words.{ReadInput, Registry, held, outs}
 use Rattle.bx_entry.specs.Runs as runs
-use Rattle.bx_entry.specs.Runs.{held, outs}
 use Rattle.bx_shard.specs.Shards.{Setup}
 use Rattle.bx_world.specs.Worlds.{WorldState}
-use Rattle.bx_fanout.specs.HeldInputs.{Row, numbers, waits}
+use Rattle.bx_fanout.specs.Words.{Row, numbers, waits, AreHeldBefore, IsCollecting, IsGiving, IsStaged, bare, is_collecting, own, seen_out}
 use Rattle.bx_theory.specs.Opens.{Numbered, is_whole, newest, open_after, registry_after, waiting_at}
 use Rattle.bx_theory.specs.Opens as opens
-use Rattle.bx_fanout.specs.Runs.{AreHeldBefore}
-use Rattle.bx_fanout.specs.Stages.{IsCollecting, IsGiving, IsStaged, bare, is_collecting, own, seen_out}
-use Rattle.bx_fanout.specs.declared.stage.Stage.{Stage}
+use Rattle.bx_fanout.specs.declared.{stage.Stage.Stage, current_input.CurrentInput.CurrentInput}
 use Rattle.bx_fanout.specs.declared.stage.Stage.TheVariants.{Collecting}
 use Rattle.bx_fanout.proofs.Finishing.{giving-at, intake-at}
-use Rattle.bx_fanout.specs.declared.current_input.CurrentInput.{CurrentInput}
 use Rattle.bx_theory.proofs.Opens.{open_is_held, opens_go_on, outs_add}
 
 -- ---- lists

@@ -1,28 +1,17 @@
 -- An input that is whole at once, while the shards stay behind.
 use Rattle.std.proofs.Common.{◌≡◌, ℕ, ◌<◌, List, [], ◌∷◌, ◌++◌, length, map, refl, sym, ap, subst, ◌∙◌, arith, Some, None, add-one}
-use Rattle.bx_entry.specs.Inputs.{ReadInput}
-use Rattle.bx_entry.specs.Requests.{read_input}
+use Rattle.bx_entry.specs.Words.{ReadInput, read_input}
 use Rattle.bx_entry.specs.Runs as runs
-use Rattle.bx_entry.specs.declared.Placing.{Ghosts}
-use Rattle.bx_entry.specs.declared.entry.Slot.{Slot}
+use Rattle.bx_entry.specs.declared.{Placing.Ghosts, entry.Slot.Slot}
 use Rattle.bx_entry.specs.declared.entry.Slot.TheVariants.{Ready}
 use Rattle.bx_message.specs.declared.reply.Answer.{Answer}
-use Rattle.bx_shard.specs.Shards.{Setup}
-use Rattle.bx_world.specs.Headline.{EachSlot}
-use Rattle.bx_world.specs.Seen.{setup_of, world_of}
-use Rattle.bx_world.specs.Worlds.{WorldState}
-use Rattle.bx_shard.specs.Refining.{given_of}
-use Rattle.bx_fanout.specs.HeldInputs.{Row}
+use Rattle.bx_shard.specs.Words.{Setup, given_of}
+use Rattle.bx_world.specs.Words.{EachSlot, setup_of, world_of, WorldState}
+use Rattle.bx_fanout.specs.Words.{Row, Stands, IsCollecting, IsTakenIn, IsGiving, seen_out}
 use Rattle.bx_fanout.specs.CurrentInputs.{Collects, IsCollected, NextBy, NextReady, NoneTakenFrom, next_place, out_of}
-use Rattle.bx_fanout.specs.RoundStates.{Stands}
-use Rattle.bx_fanout.specs.Stages.{IsCollecting, IsTakenIn, IsGiving, seen_out}
 use Rattle.bx_fanout.specs.declared.stage.Stage.TheVariants.{Collecting, Complete}
-use Rattle.bx_fanout.specs.declared.current_input.CurrentInput.{CurrentInput}
-use Rattle.bx_fanout.specs.declared.round_state.RoundState.{RoundState}
-use Rattle.bx_fanout.proofs.Collecting.{collected-more}
-use Rattle.bx_fanout.proofs.TakingIn.{collected-intake, fresh-behind}
-use Rattle.bx_fanout.proofs.Finishing.{intake-at}
-use Rattle.bx_fanout.proofs.Stages.{giving-whole}
+use Rattle.bx_fanout.specs.declared.{current_input.CurrentInput.CurrentInput, round_state.RoundState.RoundState}
+use Rattle.bx_fanout.proofs.{Collecting.collected-more, TakingIn.collected-intake, TakingIn.fresh-behind, Finishing.intake-at, Stages.giving-whole}
 
 -- a reply that is there is the answer, whatever the shards have applied
 next-at-once : (setup : Setup) (w : WorldState) (place : ℕ) (before after : List Slot) (a : Answer) → EachSlot setup w.list place before → NoneTakenFrom place w.taken → NextReady before after (Some a) → NextBy setup w place before after w (Some a)

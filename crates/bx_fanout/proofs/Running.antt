@@ -1,27 +1,18 @@
 -- What a run comes to, in the words of the definitions.
 use Rattle.std.proofs.Common.{◌≡◌, ℕ, ◌<◌, ◌≤◌, List, [], ◌∷◌, ◌++◌, length, map, take, filter, sym, ap, subst, ◌∙◌, arith, Result, Ok, Err, append_assoc}
 use Rattle.std.proofs.lemmas.List.{map-append}
-use Rattle.bx_entry.specs.Inputs.{ReadInput}
-use Rattle.bx_entry.specs.Requests.{read_input}
+use Rattle.bx_entry.specs.Words.{ReadInput, read_input, outs}
 use Rattle.bx_entry.specs.Runs as runs
-use Rattle.bx_entry.specs.Runs.{outs}
-use Rattle.bx_entry.specs.declared.Placing.{Ghosts}
-use Rattle.bx_entry.specs.declared.input.Input.{Input}
+use Rattle.bx_entry.specs.declared.{Placing.Ghosts, input.Input.Input}
 use Rattle.bx_shard.specs.Shards.{Setup}
-use Rattle.bx_world.specs.Seen.{setup_of, world_of}
-use Rattle.bx_world.specs.Worlds.{WorldState}
-use Rattle.bx_fanout.specs.HeldInputs.{Row, outs_of}
+use Rattle.bx_world.specs.Words.{setup_of, world_of, WorldState}
+use Rattle.bx_fanout.specs.Words.{Row, outs_of, AddsOuts, IsSettled, Stands, IsGiving, IsStaged, seen_out}
 use Rattle.bx_theory.specs.Opens.{is_whole, out_of, registry_after, waiting_at}
-use Rattle.bx_fanout.specs.RoundStates.{AddsOuts, IsSettled, Stands}
 use Rattle.bx_fanout.specs.Runs.{Adds, IsLevel, IsRun, Runs, added_by, inputs_of}
-use Rattle.bx_fanout.specs.Stages.{IsGiving, IsStaged, seen_out}
 use Rattle.bx_fanout.specs.CurrentInputs as current
-use Rattle.bx_fanout.specs.declared.stage.Stage.{Stage}
+use Rattle.bx_fanout.specs.declared.{stage.Stage.Stage, out.Out.Out, out.RoundFault.RoundFault, round_state.RoundState.RoundState}
 use Rattle.bx_fanout.specs.declared.stage.Stage.TheVariants.{Collecting, Complete, Idle}
-use Rattle.bx_fanout.specs.declared.out.Out.{Out}
-use Rattle.bx_fanout.specs.declared.out.RoundFault.{RoundFault}
 use Rattle.bx_fanout.specs.declared.out.RoundFault.TheVariants.{Memory}
-use Rattle.bx_fanout.specs.declared.round_state.RoundState.{RoundState}
 use Rattle.bx_fanout.proofs.Admitted.{all-added}
 use Rattle.bx_theory.proofs.Opens.{outs_add}
 

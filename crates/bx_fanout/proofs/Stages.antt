@@ -2,32 +2,20 @@
 use Rattle.std.proofs.Common.{◌≡◌, ℕ, ◌+◌, ◌<◌, Bool, true, false, not, List, [], ◌∷◌, ◌++◌, length, map, filter, refl, sym, ap, subst, ◌∙◌, cond, arith, Option, Some, None, Ok, Result, option_map, append_assoc, append-nil, zero, suc, max, add-one, add-zero, zero-add}
 use Rattle.std.specs.Prelude.{is_some, flat_map}
 use Rattle.std.specs.List.{AllByRecursion}
-use Rattle.std.proofs.lemmas.List.{map-append}
-use Rattle.std.proofs.lemmas.List.Elements.{filter-append}
+use Rattle.std.proofs.lemmas.{List.map-append, List.Elements.filter-append}
 use Rattle.bx_advice.specs.declared.config.Config.{Config}
-use Rattle.bx_entry.specs.Answers.{PlacedAnswer, answer, answer_in}
-use Rattle.bx_entry.specs.Inputs.{ReadInput, Request, refusal_of}
-use Rattle.bx_entry.specs.Listing.{Listed}
-use Rattle.bx_entry.specs.Registry.{Registry, registry}
+use Rattle.bx_entry.specs.Words.{PlacedAnswer, answer, answer_in, ReadInput, Request, refusal_of, Listed, Registry, registry, Intake, answered_items, latest, numbers_from, outs, places_of, result_by, taken_in}
 use Rattle.bx_entry.specs.Runs as runs
-use Rattle.bx_entry.specs.Runs.{Intake, answered_items, latest, numbers_from, outs, places_of, result_by, taken_in}
-use Rattle.bx_entry.specs.declared.input.Refusal.{Refusal}
-use Rattle.bx_entry.specs.declared.entry.Slot.{Slot}
-use Rattle.bx_message.specs.declared.reply.Answer.{Answer}
-use Rattle.bx_message.specs.declared.reply.Item.{Item}
-use Rattle.bx_shard.specs.Shards.{Setup, is_taken}
+use Rattle.bx_entry.specs.declared.{input.Refusal.Refusal, entry.Slot.Slot}
+use Rattle.bx_message.specs.declared.reply.{Answer.Answer, Item.Item}
+use Rattle.bx_shard.specs.Words.{Setup, is_taken, given_of}
 use Rattle.bx_world.specs.Worlds.{WorldState}
-use Rattle.bx_shard.specs.Refining.{given_of}
-use Rattle.bx_fanout.specs.HeldInputs.{Row, items_of, outs_of, waits}
-use Rattle.bx_fanout.specs.Draining.{Drained, filled}
-use Rattle.bx_fanout.specs.CurrentInputs.{AreAnswers, IsCollected, IsWhole, NoneTakenFrom, given_at, next_place, response_of}
+use Rattle.bx_fanout.specs.Words.{Row, items_of, outs_of, waits, Drained, filled, AreAnswers, IsCollected, IsWhole, NoneTakenFrom, given_at, next_place, response_of, AllUntaken, IsCollecting, IsGiving, bare, seen_out}
 use Rattle.bx_fanout.specs.CurrentInputs as current
 use Rattle.bx_theory.specs.Opens.{Numbered, answers_to, intake_as, is_whole, newest, open_after, out_of, waiting_at}
 use Rattle.bx_theory.specs.Sole.{IsConnect}
-use Rattle.bx_fanout.specs.Stages.{AllUntaken, IsCollecting, IsGiving, bare, seen_out}
 use Rattle.bx_fanout.specs.declared.current_input.CurrentInput.{CurrentInput}
-use Rattle.bx_theory.proofs.Opens.{opens_go_on, outs_add}
-use Rattle.bx_theory.proofs.Sole.{open_are_sole}
+use Rattle.bx_theory.proofs.{Opens.opens_go_on, Opens.outs_add, Sole.open_are_sole}
 
 -- an input of one message that was not refused
 pub record IsSole (o : Numbered) : Type 0 where

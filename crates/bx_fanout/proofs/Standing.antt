@@ -1,19 +1,14 @@
 -- What stands of a round's state where its world went on.
 use Rattle.std.proofs.Common.{◌≡◌, ◌∙◌, ℕ, zero, suc, List, Some, ap, is_none, length, map, replicate, slice_get, sym, true≢false}
 use Rattle.std.proofs.lemmas.Option.{same_Some}
-use Rattle.bx_entry.specs.Inputs.{ReadInput}
-use Rattle.bx_entry.specs.Listing.{Listed}
-use Rattle.bx_entry.specs.Requests.{read_input}
+use Rattle.bx_entry.specs.Words.{ReadInput, Listed, read_input}
 use Rattle.bx_entry.specs.Runs as runs
 use Rattle.bx_entry.specs.declared.Placing.{Ghosts}
 use Rattle.bx_shard.specs.Shards.{Setup}
-use Rattle.bx_world.specs.Seen.{setup_of, world_of}
-use Rattle.bx_world.specs.Worlds.{WorldState}
+use Rattle.bx_world.specs.Words.{setup_of, world_of, WorldState}
 use Rattle.bx_world.specs.declared.world.World.{World}
-use Rattle.bx_fanout.specs.HeldInputs.{Row}
-use Rattle.bx_fanout.specs.RoundStates.{IsDone, Stands}
+use Rattle.bx_fanout.specs.Words.{Row, IsDone, Stands, IsGiving, own, seen_out}
 use Rattle.bx_fanout.specs.Runs as state
-use Rattle.bx_fanout.specs.Stages.{IsGiving, own, seen_out}
 use Rattle.bx_fanout.specs.declared.round_state.RoundState.{RoundState}
 use Rattle.bx_fanout.proofs.Finishing.{giving-at, giving-same, staged-at, staged-same}
 

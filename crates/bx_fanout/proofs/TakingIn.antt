@@ -1,33 +1,22 @@
 -- What holds of the held connects and of the last input while its answers are collected.
 use Rattle.std.proofs.Common.{◌≡◌, ℕ, Bool, ◌+◌, ◌<◌, ◌≤◌, List, [], ◌∷◌, ◌++◌, length, map, filter, refl, sym, ap, subst, ◌∙◌, arith, Option, Some, None, option_map, append_assoc, append-nil, slice_get, add-one, Result, Ok, Err, OnErr, OnOk, cond, count_by, nat_lt, zero-add}
 use Rattle.std.specs.List.{AllByRecursion}
-use Rattle.std.proofs.lemmas.List.{length-append, map-append}
-use Rattle.std.proofs.lemmas.List.Sums.{fold-append, sum_by-append}
-use Rattle.std.proofs.lemmas.Option.{slice_get_within}
+use Rattle.std.proofs.lemmas.{List.length-append, List.map-append, List.Sums.fold-append, List.Sums.sum_by-append, Option.slice_get_within}
 use Rattle.bx_advice.specs.declared.config.Config.{Config}
-use Rattle.bx_entry.specs.Inputs.{ReadInput, added_by, refusal_of}
-use Rattle.bx_entry.specs.Listing.{Listed}
-use Rattle.bx_entry.specs.Registry.{Judged, PlaceSlot, Waiting, registry}
+use Rattle.bx_entry.specs.Words.{ReadInput, added_by, refusal_of, Listed, Judged, PlaceSlot, Waiting, registry, Intake, Taking, outs, places_of, taken_as, taken_in, take_in}
 use Rattle.bx_entry.specs.Runs as runs
-use Rattle.bx_entry.specs.Runs.{Intake, Taking, outs, places_of, taken_as, taken_in, take_in}
 use Rattle.bx_entry.specs.declared.input.Refusal.{Refusal}
-use Rattle.bx_theory.proofs.Lists.{judged_length, judged_more}
+use Rattle.bx_theory.proofs.{Lists.judged_length, Lists.judged_more, Sole.open_are_sole}
 use Rattle.bx_message.specs.declared.reply.Answer.{Answer}
 use Rattle.bx_shard.specs.Shards.{Setup, is_taken}
-use Rattle.bx_world.specs.Headline.{EachSlot, slot_at}
-use Rattle.bx_world.specs.Worlds.{WorldState}
+use Rattle.bx_world.specs.Words.{EachSlot, slot_at, WorldState}
 use Rattle.bx_fanout.specs.HeldInputs.{AllBelow, Gives, Row, is_answered, out_of, outs_of, waits}
-use Rattle.bx_fanout.specs.Draining.{CanDrain, Waits}
+use Rattle.bx_fanout.specs.Words.{CanDrain, Waits, AllUntaken, GivesOut, IsCollecting, IsTakenIn, IsGiving, bare, is_collecting, own, seen_out}
 use Rattle.bx_fanout.specs.CurrentInputs.{AreAnswers, Collects, IsCollected, IsLevel, Keeps, NoneTakenFrom, given_at, next_place}
 use Rattle.bx_theory.specs.Opens.{Numbered, newest, open_after}
 use Rattle.bx_theory.specs.Sole.{IsConnect}
-use Rattle.bx_fanout.specs.Stages.{AllUntaken, GivesOut, IsCollecting, IsTakenIn, IsGiving, bare, is_collecting, own, seen_out}
-use Rattle.bx_fanout.specs.declared.current_input.CurrentInput.{CurrentInput}
-use Rattle.bx_fanout.specs.declared.out.Out.{Out}
-use Rattle.bx_fanout.specs.declared.stage.Stage.{Stage}
-use Rattle.bx_fanout.proofs.Draining.{inside}
-use Rattle.bx_theory.proofs.Sole.{open_are_sole}
-use Rattle.bx_fanout.proofs.Stages.{intake-first, intake-input, newest-sole}
+use Rattle.bx_fanout.specs.declared.{current_input.CurrentInput.CurrentInput, out.Out.Out, stage.Stage.Stage}
+use Rattle.bx_fanout.proofs.{Draining.inside, Stages.intake-first, Stages.intake-input, Stages.newest-sole}
 
 -- ---- the list
 

@@ -1,20 +1,14 @@
 -- The last input that was taken in, and the answers to its messages as they are collected.
 use Rattle.std.specs.Prelude.{ℕ, ◌+◌, ◌<◌, ◌≤◌, ◌≡◌, Bool, true, false, List, [], ◌∷◌, ◌++◌, length, flat_map, slice_get, option_map, Option, Some, None, Result, Ok, Err, ⊤}
 use Rattle.bx_advice.specs.declared.config.Config.{Config}
-use Rattle.bx_entry.specs.Answers.{answer}
-use Rattle.bx_entry.specs.Listing.{Listed}
-use Rattle.bx_entry.specs.declared.entry.Slot.{Slot}
+use Rattle.bx_entry.specs.Words.{answer, Listed}
+use Rattle.bx_entry.specs.declared.{entry.Slot.Slot, input.Refusal.Refusal}
 use Rattle.bx_entry.specs.declared.entry.Slot.TheVariants.{Ready}
-use Rattle.bx_fanout.specs.declared.current_input.CurrentInput.{CurrentInput}
-use Rattle.bx_entry.specs.declared.input.Refusal.{Refusal}
+use Rattle.bx_fanout.specs.declared.{current_input.CurrentInput.CurrentInput, out.Out.Out}
 use Rattle.bx_fanout.specs.HeldInputs.{items_of}
-use Rattle.bx_fanout.specs.declared.out.Out.{Out}
-use Rattle.bx_message.specs.declared.reply.Answer.{Answer}
-use Rattle.bx_message.specs.declared.reply.Item.{Item}
-use Rattle.bx_shard.specs.Shards.{Setup, is_taken}
-use Rattle.bx_world.specs.Headline.{EachSlot}
-use Rattle.bx_world.specs.Worlds.{WorldState}
-use Rattle.bx_shard.specs.Refining.{given_of}
+use Rattle.bx_message.specs.declared.reply.{Answer.Answer, Item.Item}
+use Rattle.bx_shard.specs.Words.{Setup, is_taken, given_of}
+use Rattle.bx_world.specs.Words.{EachSlot, WorldState}
 
 -- every shard has applied the whole list
 abbrev pub IsLevel : WorldState → Type 0

@@ -2,11 +2,9 @@
 use Rattle.std.specs.Prelude.{ℕ, ◌≡◌, ◌<◌, false, slice_index, List, length, map, if◌then◌else◌, Some, None}
 use Rattle.std.specs.List.{AllByRecursion}
 use Rattle.bx_advice.specs.declared.config.Config.{Config}
-use Rattle.bx_entry.specs.Listing.{Listed}
-use Rattle.bx_entry.specs.Registry.{Waiting}
+use Rattle.bx_entry.specs.Words.{Listed, Waiting}
 use Rattle.bx_shard.specs.Shards.{Setup, is_taken, shard_at}
-use Rattle.bx_world.specs.Headline.{slot_at}
-use Rattle.bx_world.specs.Worlds.{WorldState}
+use Rattle.bx_world.specs.Words.{slot_at, WorldState}
 use Rattle.bx_fanout.specs.HeldInputs.{Row}
 use Rattle.bx_fanout.specs.CurrentInputs.{IsLevel, NoneTakenFrom, given_at}
 

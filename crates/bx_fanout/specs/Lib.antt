@@ -6,3 +6,4 @@ pub mod Props
 pub mod Rounds
 pub mod Runs
 pub mod Stages
+pub mod Words

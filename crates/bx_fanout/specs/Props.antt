@@ -6,26 +6,19 @@ use Rattle.std.proofs.Props.{props}
 use Rattle.std.proofs.lemmas.List.{same_from_push}
 use mathlib.Core.HLevel.{Σ_prop_path}
 use Rattle.bx_advice.specs.declared.config.Config.{Config}
-use Rattle.bx_entry.specs.Inputs.{ReadInput}
-use Rattle.bx_entry.specs.Listing.{Listed}
-use Rattle.bx_entry.specs.Registry.{Waiting}
+use Rattle.bx_entry.specs.Words.{ReadInput, Listed, Waiting}
 use Rattle.bx_entry.specs.Runs as runs
-use Rattle.bx_entry.specs.declared.Placing.{Ghosts}
-use Rattle.bx_entry.specs.declared.entry.Slot.{Slot}
+use Rattle.bx_entry.specs.declared.{Placing.Ghosts, entry.Slot.Slot, entry.Ticket.Ticket}
 use Rattle.bx_entry.specs.declared.entry.Slot.TheVariants as answers
-use Rattle.bx_entry.specs.declared.entry.Ticket.{Ticket}
 use Rattle.bx_message.specs.declared.reply.Answer.{Answer}
 use Rattle.bx_shard.specs.Shards.{Setup}
-use Rattle.bx_world.specs.Headline.{EachSlot, IsSlot, IsTicket, slot_at}
-use Rattle.bx_world.specs.Worlds.{WorldState}
+use Rattle.bx_world.specs.Words.{EachSlot, IsSlot, IsTicket, slot_at, WorldState}
 use Rattle.bx_fanout.specs.HeldInputs.{Row}
 use Rattle.bx_fanout.specs.CurrentInputs.{AreAnswers}
 use Rattle.bx_fanout.specs.RoundStates.{Stands}
 use Rattle.bx_fanout.specs.Stages.{IsCollecting, IsTakenIn, IsStaged}
-use Rattle.bx_fanout.specs.declared.current_input.CurrentInput.{CurrentInput}
-use Rattle.bx_fanout.specs.declared.stage.Stage.{Stage}
+use Rattle.bx_fanout.specs.declared.{current_input.CurrentInput.CurrentInput, stage.Stage.Stage, round_state.RoundState.RoundState}
 use Rattle.bx_fanout.specs.declared.stage.Stage.TheVariants.{Collecting, Complete, Idle}
-use Rattle.bx_fanout.specs.declared.round_state.RoundState.{RoundState}
 
 -- ---- facts of what is determined
 

@@ -6,9 +6,8 @@ use Rattle.bx_world.specs.Seen.{setup_of, world_of}
 use Rattle.bx_fanout.specs.HeldInputs.{waits}
 use Rattle.bx_fanout.specs.CurrentInputs.{IsLevel}
 use Rattle.bx_fanout.specs.Stages.{IsStaged, is_collecting, seen_out}
-use Rattle.bx_fanout.specs.declared.out.Out.{Out}
+use Rattle.bx_fanout.specs.declared.{out.Out.Out, round_state.RoundState.RoundState}
 use Rattle.bx_fanout.specs.declared.stage.Stage.TheVariants.{Idle}
-use Rattle.bx_fanout.specs.declared.round_state.RoundState.{RoundState}
 
 module _ {P : Type 0} {g : Ghosts P} where
   -- how many inputs there are, and how far the last one has come

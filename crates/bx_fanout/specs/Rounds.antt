@@ -2,12 +2,9 @@
 use Rattle.std.specs.Prelude.{ℕ, Bool, List, Result}
 use Rattle.bx_entry.specs.Inputs.{ReadInput}
 use Rattle.bx_entry.specs.Runs as runs
-use Rattle.bx_entry.specs.declared.Placing.{Ghosts}
-use Rattle.bx_entry.specs.declared.input.Input.{Input}
+use Rattle.bx_entry.specs.declared.{Placing.Ghosts, input.Input.Input}
 use Rattle.bx_fanout.specs.Runs as state
-use Rattle.bx_fanout.specs.declared.out.Out.{Out}
-use Rattle.bx_fanout.specs.declared.out.RoundFault.{RoundFault}
-use Rattle.bx_fanout.specs.declared.round.Round.{Round}
+use Rattle.bx_fanout.specs.declared.{out.Out.Out, out.RoundFault.RoundFault, round.Round.Round}
 use Rattle.bx_shard.specs.Shards.{Setup}
 
 module _ {P : Type 0} {g : Ghosts P} where

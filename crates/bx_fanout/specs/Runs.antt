@@ -1,19 +1,14 @@
 -- What came of a run, by the round's state.
 use Rattle.std.specs.Prelude.{ℕ, ◌≡◌, ◌≤◌, ◌++◌, Bool, List, [], ◌∷◌, map, length, take, slice_get, Some, Result, Ok, Err}
 use Rattle.bx_advice.specs.declared.config.Config.{Config}
-use Rattle.bx_entry.specs.declared.Placing.{Ghosts}
-use Rattle.bx_entry.specs.declared.input.Input.{Input}
-use Rattle.bx_entry.specs.Inputs.{ReadInput}
-use Rattle.bx_entry.specs.Requests.{read_input}
+use Rattle.bx_entry.specs.declared.{Placing.Ghosts, input.Input.Input}
+use Rattle.bx_entry.specs.Words.{ReadInput, read_input, held, outs, taken_in}
 use Rattle.bx_entry.specs.Runs as runs
-use Rattle.bx_entry.specs.Runs.{held, outs, taken_in}
 use Rattle.bx_fanout.specs.RoundStates.{AddsOuts, IsSettled}
 use Rattle.bx_fanout.specs.Stages.{seen_out}
 use Rattle.bx_fanout.specs.Stages as stages
-use Rattle.bx_fanout.specs.declared.out.Out.{Out}
-use Rattle.bx_fanout.specs.declared.out.RoundFault.{RoundFault}
+use Rattle.bx_fanout.specs.declared.{out.Out.Out, out.RoundFault.RoundFault, round_state.RoundState.RoundState}
 use Rattle.bx_fanout.specs.declared.out.RoundFault.TheVariants.{Memory}
-use Rattle.bx_fanout.specs.declared.round_state.RoundState.{RoundState}
 use Rattle.bx_shard.specs.Shards.{Setup}
 use Rattle.bx_world.specs.Seen.{ShardsRefine, setup_of, world_of}
 

@@ -1,17 +1,14 @@
 -- How far the last input that was taken in has come.
 use Rattle.std.specs.Prelude.{ℕ, ◌+◌, ◌≡◌, Bool, true, false, List, [], ◌∷◌, ◌++◌, filter, length, map, None}
 use Rattle.std.specs.List.{AllByRecursion}
-use Rattle.bx_entry.specs.Inputs.{ReadInput}
+use Rattle.bx_entry.specs.Words.{ReadInput, outs, places_of, taken_in}
 use Rattle.bx_entry.specs.Runs as runs
-use Rattle.bx_entry.specs.Runs.{outs, places_of, taken_in}
 use Rattle.bx_shard.specs.Shards.{Setup, is_taken}
 use Rattle.bx_world.specs.Worlds.{WorldState}
 use Rattle.bx_fanout.specs.HeldInputs.{Row, outs_of, waits}
 use Rattle.bx_fanout.specs.CurrentInputs.{IsCollected, NoneTakenFrom, out_of}
 use Rattle.bx_theory.specs.Opens.{Numbered, newest, open_after}
-use Rattle.bx_fanout.specs.declared.current_input.CurrentInput.{CurrentInput}
-use Rattle.bx_fanout.specs.declared.out.Out.{Out}
-use Rattle.bx_fanout.specs.declared.stage.Stage.{Stage}
+use Rattle.bx_fanout.specs.declared.{current_input.CurrentInput.CurrentInput, out.Out.Out, stage.Stage.Stage}
 use Rattle.bx_fanout.specs.declared.stage.Stage.TheVariants.{Collecting, Complete, Idle}
 
 -- an out, as the definitions have it

@@ -2,9 +2,8 @@
 use Rattle.std.proofs.Common.{ℕ, ◌≡◌, ◌≤◌, ◌+◌, List, [], ◌∷◌, ◌++◌, length, Option, Some, None, refl, ap, ◌∙◌, arith}
 use Rattle.bx_hub.specs.Faults.{count_of, one_more}
 use Rattle.bx_hub.specs.Lagging.{lagging_of}
-use Rattle.bx_hub.specs.declared.fault.HubFault.{HubFault}
+use Rattle.bx_hub.specs.declared.fault.{HubFault.HubFault, Lagging.Lagging}
 use Rattle.bx_hub.specs.declared.fault.HubFault.TheVariants as stops
-use Rattle.bx_hub.specs.declared.fault.Lagging.{Lagging}
 
 either_first : (f g : HubFault) (l : Lagging) → one_more f (one_more g l) ≡ one_more g (one_more f l)
 either_first stops.Closed stops.Closed l = refl

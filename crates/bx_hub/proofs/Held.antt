@@ -6,28 +6,16 @@ use Rattle.std.proofs.lemmas.Bool.{eq-eqb}
 use mathlib.Core.List.{IsPrefix}
 use Rattle.bx_advice.specs.declared.config.Config.{Config}
 use Rattle.bx_message.specs.declared.reply.Answer.{Answer}
-use Rattle.bx_entry.specs.Answers.{answer}
-use Rattle.bx_entry.specs.Listing.{Listed}
-use Rattle.bx_entry.specs.Registry.{entries}
-use Rattle.bx_entry.specs.declared.entry.Batch.{Batch}
-use Rattle.bx_entry.specs.declared.entry.Entry.{Entry}
-use Rattle.bx_entry.specs.declared.entry.Ticket.{Ticket}
+use Rattle.bx_entry.specs.Words.{answer, Listed, entries}
+use Rattle.bx_entry.specs.declared.entry.{Batch.Batch, Entry.Entry, Ticket.Ticket}
 use Rattle.bx_connects.specs.Connects.{filed_answer}
 use Rattle.futures.specs.declared.task.waker.Waker.{Waker}
-use Rattle.bx_shard.specs.Refining.{Refines, Took, given_of, swept_places}
-use Rattle.bx_shard.specs.Shards.{Setup}
-use Rattle.bx_shard.specs.States.{Applied, IsAsBefore, IsSound, State, Swept, Watched, WasShut, connect_in}
-use Rattle.bx_shard.proofs.Holding.{refines_still, refines_longer}
-use Rattle.bx_shard.proofs.Placed.{entry_placed}
-use Rattle.bx_shard.proofs.Onwards.{refines_onwards}
-use Rattle.bx_shard.proofs.Sweeping.{refines_swept}
-use Rattle.bx_shard.proofs.Taking.{refines_taken}
-use Rattle.bx_shard.proofs.Waking.{refines_watched, refines_shut}
+use Rattle.bx_shard.specs.Words.{Refines, Took, given_of, swept_places, Setup, Applied, IsAsBefore, IsSound, State, Swept, Watched, WasShut, connect_in}
+use Rattle.bx_shard.proofs.{Holding.refines_still, Holding.refines_longer, Placed.entry_placed, Onwards.refines_onwards, Sweeping.refines_swept, Taking.refines_taken, Waking.refines_watched, Waking.refines_shut}
 use Rattle.bx_window.specs.declared.law.Step.{Step}
 use Rattle.bx_window.specs.Steps.{list_of}
 use Rattle.bx_window.specs.Places.{IsOf, StandsIn}
-use Rattle.bx_window.proofs.Fronts.{prefix_self, prefix_trans}
-use Rattle.bx_window.proofs.Lists.{list_of-prefix}
+use Rattle.bx_window.proofs.{Fronts.prefix_self, Fronts.prefix_trans, Lists.list_of-prefix}
 use Rattle.bx_hub.specs.Held.{Held, IsLevelWithout, Stands, answer_over}
 use Rattle.bx_shard.proofs.Given.{filed_is_given, given_longer, as_before}
 use Rattle.bx_hub.proofs.Lists.{takes_same, got, list_length}

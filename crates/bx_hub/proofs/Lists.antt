@@ -2,15 +2,12 @@
 use Rattle.std.proofs.Common.{◌≡◌, ℕ, zero, suc, ◌+◌, ◌-◌, ◌≤◌, List, [], ◌∷◌, length, take, drop, slice_get, Some, refl, subst, arith}
 use mathlib.Core.List.{IsPrefix}
 use Rattle.bx_advice.specs.declared.config.Config.{Config}
-use Rattle.bx_entry.specs.Listing.{Listed}
-use Rattle.bx_entry.specs.Registry.{entries}
-use Rattle.bx_entry.specs.declared.entry.Batch.{Batch}
-use Rattle.bx_entry.specs.declared.entry.Entry.{Entry}
+use Rattle.bx_entry.specs.Words.{Listed, entries}
+use Rattle.bx_entry.specs.declared.entry.{Batch.Batch, Entry.Entry}
 use Rattle.bx_window.specs.declared.law.Step.{Step}
 use Rattle.bx_window.specs.Steps.{list_of}
 use Rattle.bx_window.specs.Places.{IsOf, StandsIn}
-use Rattle.bx_window.proofs.Fronts.{prefix_length}
-use Rattle.bx_window.proofs.Lists.{list_of-prefix}
+use Rattle.bx_window.proofs.{Fronts.prefix_length, Lists.list_of-prefix}
 
 -- a longer list begins with as many elements
 pub takes_same : {A : Type 0} (n : ℕ) (xs ys : List A) → IsPrefix xs ys → n ≤ length xs → take n ys ≡ take n xs

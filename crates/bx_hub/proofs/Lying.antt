@@ -1,13 +1,11 @@
 -- A waker that the shard stored lies beside the connect.
 use Rattle.std.proofs.Common.{ℕ, ◌≡◌, Bool, true, false, nat_eq, if◌then◌else◌, Option, Some, None, refl, sym, ◌∙◌, ap, subst}
 use Rattle.std.proofs.lemmas.Bool.{eq-eqb, eqb-true}
-use Rattle.bx_connects.specs.Connects.{watched, with_waker}
-use Rattle.bx_connects.specs.declared.connects.ConnectState.{ConnectState}
+use Rattle.bx_connects.specs.Words.{watched, with_waker, waker_of}
+use Rattle.bx_connects.specs.declared.{connects.ConnectState.ConnectState, watch.Watch.Watch}
 use Rattle.bx_connects.specs.declared.connects.ConnectState.TheVariants.{Held, Filed}
-use Rattle.bx_connects.specs.declared.watch.Watch.{Watch}
 use Rattle.bx_connects.specs.declared.watch.Watch.TheVariants.{Stored, Ready, Unknown, Shut}
 use Rattle.bx_shard.specs.States.{State, Watched, connect_in}
-use Rattle.bx_connects.specs.Waking.{waker_of}
 use Rattle.bx_hub.specs.Lying.{IfStored}
 use Rattle.futures.specs.declared.task.waker.Waker.{Waker}
 

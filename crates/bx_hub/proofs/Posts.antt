@@ -9,9 +9,7 @@ use Rattle.bx_admission.specs.declared.plan.Plan.{Plan}
 use Rattle.bx_admission.proofs.Faults.{IsFault}
 use Rattle.bx_advice.specs.Limits.{greatest_length}
 use Rattle.bx_advice.specs.declared.config.Config.{Config}
-use Rattle.bx_entry.specs.Inputs.{ReadInput, added_by, refusal_of, refused_beyond}
-use Rattle.bx_entry.specs.Listing.{Listed}
-use Rattle.bx_entry.specs.Registry.{entries}
+use Rattle.bx_entry.specs.Words.{ReadInput, added_by, refusal_of, refused_beyond, Listed, entries}
 use Rattle.bx_entry.specs.declared.entry.Entry.{Entry}
 use Rattle.bx_theory.proofs.Lists.{entries_length}
 use Rattle.bx_registry.specs.declared.plan.AdmitFault.{AdmitFault}

@@ -4,11 +4,9 @@ use Rattle.std.proofs.Math.Seq.{drop-append_seam}
 use Rattle.futures.specs.declared.task.waker.Waker.{Waker}
 use Rattle.bx_connects.specs.declared.connects.ConnectState.{ConnectState}
 use Rattle.bx_connects.specs.declared.connects.ConnectState.TheVariants.{Held, Filed}
-use Rattle.bx_connects.specs.Connects.{taken_from}
-use Rattle.bx_connects.specs.Waking.{AreWoken, waker_of}
+use Rattle.bx_connects.specs.Words.{taken_from, AreWoken, waker_of}
 use Rattle.bx_connects.proofs.WakingLemmas.{woken_onwards, woken_still}
-use Rattle.bx_shard.specs.Refining.{Took}
-use Rattle.bx_shard.specs.States.{State, connect_in}
+use Rattle.bx_shard.specs.Words.{Took, State, connect_in}
 
 taken_waker : (o : Option ConnectState) → waker_of (taken_from o) ≡ waker_of o
 taken_waker None = refl

@@ -6,12 +6,9 @@ use Rattle.bx_registry.specs.declared.plan.AdmitFault.{AdmitFault}
 use Rattle.bx_registry.specs.declared.plan.AdmitFault.TheVariants as plans
 use Rattle.bx_window.specs.declared.law.Step.{Step}
 use Rattle.bx_window.specs.Steps.{begin_of}
-use Rattle.bx_hub.specs.declared.activity.Activity.{Activity}
+use Rattle.bx_hub.specs.declared.{activity.Activity.Activity, fault.HubFault.HubFault, fault.Lagging.Lagging, fault.PostFault.PostFault}
 use Rattle.bx_hub.specs.declared.activity.Activity.TheVariants.{Active, Paused, Closed}
-use Rattle.bx_hub.specs.declared.fault.HubFault.{HubFault}
 use Rattle.bx_hub.specs.declared.fault.HubFault.TheVariants as stops
-use Rattle.bx_hub.specs.declared.fault.Lagging.{Lagging}
-use Rattle.bx_hub.specs.declared.fault.PostFault.{PostFault}
 use Rattle.bx_hub.specs.declared.fault.PostFault.TheVariants.{Body, BadMoment, Ended, Memory}
 
 -- why messages were not read, as why a post is refused

@@ -4,11 +4,8 @@ use mathlib.Core.List.{IsPrefix}
 use Rattle.bx_advice.specs.declared.config.Config.{Config}
 use Rattle.bx_entry.specs.Answers.{answer}
 use Rattle.bx_message.specs.declared.reply.Answer.{Answer}
-use Rattle.bx_shard.specs.Refining.{Refines, given_of}
-use Rattle.bx_shard.specs.Shards.{Setup}
-use Rattle.bx_shard.specs.Seen.{state}
+use Rattle.bx_shard.specs.Words.{Refines, given_of, Setup, state, State, connect_in}
 use Rattle.bx_connects.specs.Connects.{filed_answer}
-use Rattle.bx_shard.specs.States.{State, connect_in}
 use Rattle.bx_entry.specs.declared.Placing as Placing
 use Rattle.bx_entry.specs.declared.entry.Ticket.{Ticket}
 use Rattle.bx_window.specs.declared.law.Naming as Naming

@@ -1,8 +1,7 @@
 -- What stopped each shard that stays behind, and how many those are.
 use Rattle.std.specs.Prelude.{ℕ, ◌≡◌, List, [], ◌∷◌, length, Option, Some, None}
 use Rattle.bx_hub.specs.Faults.{one_more}
-use Rattle.bx_hub.specs.declared.fault.HubFault.{HubFault}
-use Rattle.bx_hub.specs.declared.fault.Lagging.{Lagging}
+use Rattle.bx_hub.specs.declared.fault.{HubFault.HubFault, Lagging.Lagging}
 
 -- how many shards stay behind, by what stopped each of them, if it was stopped
 abbrev pub lagging_of : List (Option HubFault) → Lagging

@@ -3,8 +3,7 @@ use Rattle.std.specs.Prelude.{◌≡◌, Option}
 use Rattle.bx_connects.specs.declared.watch.Watch.{Watch}
 use Rattle.bx_connects.specs.declared.watch.Watch.TheVariants.{Stored, Ready, Unknown, Shut}
 use Rattle.bx_entry.specs.declared.entry.Ticket.{Ticket}
-use Rattle.bx_hub.specs.declared.desk.watch.Left.{Left}
-use Rattle.bx_hub.specs.declared.desk.watch.Watch.{Watch as HubWatch}
+use Rattle.bx_hub.specs.declared.desk.watch.{Left.Left, Watch.Watch as HubWatch}
 use Rattle.bx_hub.specs.declared.desk.watch.Watch.TheVariants as hub
 use Rattle.futures.specs.declared.task.waker.Waker.{Waker}
 

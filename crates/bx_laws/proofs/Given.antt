@@ -1,25 +1,17 @@
 -- What an answer gives is the event of an accepted publish of the list, which the session got.
 use Rattle.std.proofs.Common.{◌≡◌, ℕ, ◌<◌, Option, Some, None, List, [], ◌∷◌, length, drop, find, option_map, slice_get, ◌==◌, refl, sym, ap, ◌∙◌, subst, arith}
 use Rattle.bx_advice.specs.declared.config.Config.{Config}
-use Rattle.bx_message.specs.declared.event.Event.{Event}
-use Rattle.bx_message.specs.declared.message_kind.MessageKind.{MessageKind}
+use Rattle.bx_message.specs.declared.{event.Event.Event, message_kind.MessageKind.MessageKind}
 use Rattle.bx_message.specs.MessageKinds.{message_kind_of}
-use Rattle.bx_entry.specs.Listing.{Listed, Post, Posted}
-use Rattle.bx_entry.specs.declared.entry.Entry.{Entry}
-use Rattle.bx_entry.specs.declared.entry.EntryKind.{EntryKind}
+use Rattle.bx_entry.specs.Words.{Listed, Post, Posted, Registry, Registered, Judged, PlaceSlot, Ready, Waiting, NoSlot, event_of, kind_for, hold_of, registry, entries_of, sessionless_kind, PlacedAnswer, answer_of, events_of, answer_by, answer_at}
+use Rattle.bx_entry.specs.declared.entry.{Entry.Entry, EntryKind.EntryKind}
 use Rattle.bx_entry.specs.declared.entry.EntryKind.TheVariants.{Publish}
-use Rattle.bx_entry.specs.Registry.{Registry, Registered, Judged, PlaceSlot, Ready, Waiting, NoSlot, event_of, kind_for, hold_of, registry, entries_of, sessionless_kind}
 use Rattle.bx_entry.specs.Sessions.{Publication, Filed, session, unopened}
-use Rattle.bx_entry.specs.Answers.{PlacedAnswer, answer_of, events_of, answer_by, answer_at}
 use Rattle.bx_theory.proofs.Verdicts.{EntryOf, FoundOf, each_verdict, entry_of_place, got_here, judged_length, next_found, verdict_of}
 use Rattle.bx_theory.specs.Laws.{Each, EachOf, Slice}
 use Rattle.bx_theory.specs.Events.{GetsPublish, EachEvent, WasPublished, GivenWasPublished}
-use Rattle.bx_theory.proofs.Counts.{unopened_in_step}
-use Rattle.bx_theory.proofs.Moves.{each_map}
+use Rattle.bx_theory.proofs.{Counts.unopened_in_step, Moves.each_map, Rising.each_of_take, Rising.each_of_drop, Lists.find_each, Gained.events_were_published}
 use Rattle.bx_theory.proofs.Runs.{Grown, run_grown, all_places}
-use Rattle.bx_theory.proofs.Rising.{each_of_take, each_of_drop}
-use Rattle.bx_theory.proofs.Lists.{find_each}
-use Rattle.bx_theory.proofs.Gained.{events_were_published}
 
 -- ---- a publish entry stands where the list has a publish
 

@@ -1,20 +1,15 @@
 -- A held connect stays held until the first entry that ends it, and is answered there.
 use Rattle.std.proofs.Common.{◌≡◌, ℕ, Bool, true, false, Option, Some, List, [], ◌∷◌, ◌++◌, fold, ◌==◌, refl, sym, ap, ◌∙◌, subst, append_assoc, arith}
-use Rattle.std.proofs.lemmas.Bool.{cond-true}
-use Rattle.std.proofs.lemmas.Grind.{common_steps}
-use Rattle.bx_advice.specs.declared.config.Config.{Config}
-use Rattle.bx_advice.specs.declared.advice.Outcome.{Outcome}
+use Rattle.std.proofs.lemmas.{Bool.cond-true, Grind.common_steps}
+use Rattle.bx_advice.specs.declared.{config.Config.Config, advice.Outcome.Outcome}
 use Rattle.bx_advice.specs.declared.advice.Outcome.TheVariants.{Failed}
 use Rattle.bx_advice.specs.declared.error.Error.TheVariants.{SupersededConnect}
 use Rattle.bx_message.specs.Replies.{connect_reply}
-use Rattle.bx_entry.specs.declared.entry.Entry.{Entry}
-use Rattle.bx_entry.specs.declared.entry.EntryKind.{EntryKind}
+use Rattle.bx_entry.specs.declared.entry.{Entry.Entry, EntryKind.EntryKind, Rider.Rider}
 use Rattle.bx_entry.specs.declared.entry.EntryKind.TheVariants.{Connect}
-use Rattle.bx_entry.specs.declared.entry.Rider.{Rider}
 use Rattle.bx_entry.specs.Sessions.{Session, Publication, Pending, Filed, ack_given, filing, unheld, released_from, released, connected, step_by, step, ridden_by, rider_of}
 use Rattle.bx_theory.specs.Readings.{ends_by, ending_events, ending_outcome, HeldReading, EndingReading}
-use Rattle.bx_theory.proofs.Counts.{ride_both}
-use Rattle.bx_theory.proofs.Keeps.{Keeps, freed_k, ride_k}
+use Rattle.bx_theory.proofs.{Counts.ride_both, Keeps.Keeps, Keeps.freed_k, Keeps.ride_k}
 
 -- ---- what doesn't end it
 

@@ -1,11 +1,9 @@
 -- Texts that are written from values read back as them.
 use Rattle.std.proofs.Common.{◌≡◌, ℕ, suc, ◌^◌, ◌<◌, ◌≤◌, Bool, true, false, ◌&&◌, List, [], ◌∷◌, ◌++◌, map, decimal, Some, None, option_map, option_and_then, refl, sym, ap, ◌∙◌, subst, arith}
-use Rattle.std.proofs.lemmas.List.{append-nil, append_assoc, drop_all}
-use Rattle.std.specs.List.{join_with_byte, list_all, prefix_len}
-use Rattle.std.specs.Ordering.{nat_cmp, match_ordering}
+use Rattle.std.proofs.lemmas.{List.append-nil, List.append_assoc, List.drop_all, Bool.and_parts}
+use Rattle.std.specs.{List.join_with_byte, List.list_all, List.prefix_len, Ordering.nat_cmp, Ordering.match_ordering, Cmp.Lexicographic.slice_cmp}
 use Rattle.std.specs.declared.cmp.Ordering.{Ordering}
 use Rattle.std.specs.declared.cmp.Ordering.TheVariants.{Greater}
-use Rattle.std.specs.Cmp.Lexicographic.{slice_cmp}
 use Rattle.json.specs.Token.{Token, begin_object, end_object, begin_array, end_array, key}
 use Rattle.json.specs.Token as token
 use Rattle.json.specs.Json.{Json}
@@ -23,15 +21,9 @@ use Rattle.serde_json.specs.Data.{Data, unsigned, number, string, array, object,
 use Rattle.serde_json.specs.Data as values
 use Rattle.serde_json.specs.Read.{of_json, of_items, of_members}
 use Rattle.serde_json.proofs.Numbers.{number_of-decimal}
-use Rattle.std.proofs.lemmas.Bool.{and_parts}
-use Rattle.bx_cut.specs.Laws.{IsBlank}
-use Rattle.bx_cut.specs.Cut.{past_blank}
+use Rattle.bx_cut.specs.Words.{IsBlank, past_blank}
 use Rattle.bx_cut.proofs.Bytes.{Blank, Blank-blanks, blanks, split_blanks}
-use Rattle.bx_cut.proofs.Nested.{find}
-use Rattle.bx_cut.proofs.Readings.{whole_within, reads_within}
-use Rattle.bx_cut.proofs.Seen.{start}
-use Rattle.bx_cut.proofs.Slices.{nothing_left}
-use Rattle.bx_cut.proofs.Values.{Fits}
+use Rattle.bx_cut.proofs.{Nested.find, Readings.whole_within, Readings.reads_within, Seen.start, Slices.nothing_left, Values.Fits}
 use Rattle.bx_message.specs.Texts as texts
 use Rattle.bx_laws.specs.ReadBack.{read_within, Row, members_in, names_in, keys, stands_behind, Ascend, IsObjectOf, AllReadAs}
 use Rattle.bx_message.proofs.ObjectLemmas.{joined}

@@ -1,22 +1,15 @@
 -- What the texts of replies, events and responses read as, by the grammar that `serde_json` reads.
 use Rattle.std.specs.Prelude.{◌≡◌, ℕ, suc, ◌^◌, ◌<◌, ◌≤◌, List, [], ◌∷◌, ◌++◌, map, codes, Bool, true, false, Option, Some, None, option_map, option_and_then, IfSome, ⊤}
-use Rattle.std.specs.List.{list_all}
-use Rattle.std.specs.Ordering.{nat_cmp, match_ordering}
-use Rattle.std.specs.Cmp.Lexicographic.{slice_cmp}
+use Rattle.std.specs.{List.list_all, Ordering.nat_cmp, Ordering.match_ordering, Cmp.Lexicographic.slice_cmp}
 use Rattle.json.specs.Json as json
 use Rattle.json.specs.Lex.{tokens}
 use Rattle.json.specs.Tree.{json_tokens}
 use Rattle.serde_json.specs.Data.{Data, unsigned, boolean, number, string, array, object, Items, no_items, item, Members, no_members, member}
 use Rattle.serde_json.specs.Read.{of_json}
 use Rattle.bx_advice.specs.Errors.{error_text}
-use Rattle.bx_advice.specs.declared.advice.Advice.{Advice}
-use Rattle.bx_advice.specs.declared.advice.Outcome.{Outcome}
+use Rattle.bx_advice.specs.declared.advice.{Advice.Advice, Outcome.Outcome}
 use Rattle.bx_advice.specs.declared.advice.Outcome.TheVariants.{Failed}
-use Rattle.bx_message.specs.declared.message_kind.MessageKind.{MessageKind}
-use Rattle.bx_message.specs.declared.event.Event.{Event}
-use Rattle.bx_message.specs.declared.reply.Reply.{Reply}
-use Rattle.bx_message.specs.declared.reply.Item.{Item}
-use Rattle.bx_message.specs.declared.reply.AckReply.{AckReply}
+use Rattle.bx_message.specs.declared.{message_kind.MessageKind.MessageKind, event.Event.Event, reply.Reply.Reply, reply.Item.Item, reply.AckReply.AckReply}
 use Rattle.bx_message.specs.declared.reply.AckReply.TheVariants.{NoAck, AckTrue, AckNumber}
 use Rattle.bx_message.specs.Texts.{reconnect_text, reply_text, event_text, item_text, body_text}
 

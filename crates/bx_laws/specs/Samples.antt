@@ -1,26 +1,17 @@
 -- Messages and replies that the worked runs are made of.
 use Rattle.std.specs.Prelude.{ℕ, replicate, Bool, true, false, List, [], ◌∷◌, ◌++◌, map, codes, Option, Some, None, Ok, Err}
 use Rattle.std.proofs.Common.{lit≤}
-use Rattle.bx_names.specs.Globs.{matches, glob_of}
-use Rattle.bx_names.specs.Segments.{segments}
-use Rattle.bx_message.specs.declared.message.Message.{Message}
+use Rattle.bx_names.specs.Words.{matches, glob_of, segments}
+use Rattle.bx_message.specs.declared.{message.Message.Message, message_kind.MessageKind.MessageKind, reply.Reply.Reply, reply.Item.Item, reply.AckReply.AckReply}
 use Rattle.bx_message.specs.declared.message.TextMember.TheVariants.{Absent, Text}
 use Rattle.bx_message.specs.declared.message.AckMember.TheVariants.{NoAck, AckTrue, AckNumber}
-use Rattle.bx_message.specs.declared.message_kind.MessageKind.{MessageKind}
-use Rattle.bx_advice.specs.declared.error.Error.{Error}
+use Rattle.bx_advice.specs.declared.{error.Error.Error, config.Config.Config, advice.Outcome.Outcome}
 use Rattle.bx_advice.specs.declared.error.Error.TheVariants.{UnknownClient}
-use Rattle.bx_advice.specs.declared.config.Config.{Config}
 use Rattle.bx_advice.specs.Advice.{advice_of}
 use Rattle.bx_advice.specs.Limits.{standard_limits}
-use Rattle.bx_advice.specs.declared.advice.Outcome.{Outcome}
 use Rattle.bx_advice.specs.declared.advice.Outcome.TheVariants.{Opened, Connected, Done, Failed}
-use Rattle.bx_message.specs.declared.reply.Reply.{Reply}
-use Rattle.bx_message.specs.declared.reply.Item.{Item}
 use Rattle.bx_message.specs.declared.reply.Item.TheVariants.{EventItem, ReplyItem}
-use Rattle.bx_message.specs.declared.reply.AckReply.{AckReply}
-use Rattle.bx_entry.specs.Registry.{client_id}
-use Rattle.bx_entry.specs.Inputs.{ReadInput, Request}
-use Rattle.bx_entry.specs.Runs.{Out, outs}
+use Rattle.bx_entry.specs.Words.{client_id, ReadInput, Request, Out, outs}
 use Rattle.bx_entry.specs.declared.input.Refusal.{Refusal}
 use Rattle.bx_message.specs.Texts.{body_text}
 use Rattle.std.specs.Prelude.{Result}

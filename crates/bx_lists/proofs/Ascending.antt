@@ -1,14 +1,10 @@
 -- Which numbers a list has, and that ascending lists with the same numbers are the same.
 use Rattle.std.proofs.Common.{◌≡◌, ◌≢◌, ℕ, ◌<◌, ◌≤◌, Bool, true, false, List, [], ◌∷◌, refl, sym, ap, subst, ◌∙◌, cond, arith, inl, inr, eqb, eq-eqb, eqb-true, ne_eqb}
 use Rattle.std.specs.Prelude.{◌&&◌, ◌||◌, ◌==◌, ◌⊎◌}
-use Rattle.std.specs.List.{AllByRecursion, Contains, dedup, filter}
-use Rattle.std.specs.List.Sorted.{IsStrictlySortedBy}
-use Rattle.std.specs.Ordering.{nat_cmp}
+use Rattle.std.specs.{List.AllByRecursion, List.Contains, List.dedup, List.filter, List.Sorted.IsStrictlySortedBy, Ordering.nat_cmp}
 use Rattle.std.specs.declared.cmp.Ordering.TheVariants.{Less}
 use Rattle.std.proofs.Math.Bool.{and-false}
-use Rattle.std.proofs.lemmas.Bool.{cases_lt, eqb-false}
-use Rattle.std.proofs.lemmas.List.Folds.{Any-from_list_any, list_any-from_Any}
-use Rattle.std.proofs.lemmas.List.Kept.{Contains-dedup_nat, Contains-from_dedup}
+use Rattle.std.proofs.lemmas.{Bool.cases_lt, Bool.eqb-false, List.Folds.Any-from_list_any, List.Folds.list_any-from_Any, List.Kept.Contains-dedup_nat, List.Kept.Contains-from_dedup}
 use Rattle.bx_lists.specs.Members.{has}
 use Rattle.bx_lists.proofs.Tests.{same-tests, less-from-cmp}
 

@@ -1,14 +1,7 @@
 -- What the fields of a message are made of.
 use Rattle.std.proofs.Common.{◌≡◌, ℕ, ◌<◌, ◌^◌, ◌&&◌, Bool, true, false, ltb, cond, List, [], ◌∷◌, length, Result, Ok, Err, Some, None, refl, sym, ◌∙◌}
-use Rattle.std.specs.List.{list_all}
-use Rattle.std.specs.Result.{OkIff, result_ok}
-use Rattle.std.specs.Str.{all_ascii_digits, IsUtf8}
-use Rattle.std.specs.Str.Parse.{ParsesUnsigned, digits_value}
-use Rattle.std.proofs.lemmas.Str.{IsUtf8-from_ascii}
-use Rattle.std.proofs.lemmas.Str.Parse.{IsNumeralModel, parse_digits, numerals_by_value, tells_all_ascii_digits}
-use Rattle.std.proofs.lemmas.Fmt.{IsAscii-from_digits}
-use Rattle.std.proofs.lemmas.Bool.{lt-ltb, ltb-true}
-use Rattle.std.specs.Char.{is_ascii_digit}
+use Rattle.std.specs.{List.list_all, Result.OkIff, Result.result_ok, Str.all_ascii_digits, Str.IsUtf8, Str.Parse.ParsesUnsigned, Str.Parse.digits_value, Char.is_ascii_digit}
+use Rattle.std.proofs.lemmas.{Str.IsUtf8-from_ascii, Str.Parse.IsNumeralModel, Str.Parse.parse_digits, Str.Parse.numerals_by_value, Str.Parse.tells_all_ascii_digits, Fmt.IsAscii-from_digits, Bool.lt-ltb, Bool.ltb-true}
 use Rattle.bx_message.specs.Fields.{number_of}
 
 each_digit : (bs : List ℕ) → list_all is_ascii_digit bs ≡ all_ascii_digits bs

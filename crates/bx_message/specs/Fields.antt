@@ -1,17 +1,9 @@
 -- What the fields of a message are, by its members: each is a name and the text of its value, and of several with one name the last counts.
 use Rattle.std.specs.Prelude.{ℕ, ◌^◌, ◌==◌, ◌&&◌, ◌||◌, nat_lt, Bool, false, if◌then◌else◌, List, [], ◌∷◌, length, codes, Option, Some, None, option_map, option_and_then, is_some, slice_get}
-use Rattle.std.specs.Option.{option_map_or}
-use Rattle.std.specs.List.{filter_map, list_all}
-use Rattle.std.specs.Char.{is_ascii_digit}
-use Rattle.std.specs.Str.{bytes_eq, all_ascii_digits}
-use Rattle.std.specs.Str.Parse.{digits_value}
-use Rattle.bx_cut.specs.Cut.{Member}
-use Rattle.bx_cut.specs.Pieces.{last_member, member_text, elements}
-use Rattle.bx_cut.specs.Strings.{spelled}
-use Rattle.bx_message.specs.declared.message.Message.{Message}
-use Rattle.bx_message.specs.declared.message.TextMember.{TextMember}
+use Rattle.std.specs.{Option.option_map_or, List.filter_map, List.list_all, Char.is_ascii_digit, Str.bytes_eq, Str.all_ascii_digits, Str.Parse.digits_value}
+use Rattle.bx_cut.specs.Words.{Member, last_member, member_text, elements, spelled}
+use Rattle.bx_message.specs.declared.message.{Message.Message, TextMember.TextMember, AckMember.AckMember}
 use Rattle.bx_message.specs.declared.message.TextMember.TheVariants.{Absent, NotText, Text}
-use Rattle.bx_message.specs.declared.message.AckMember.{AckMember}
 use Rattle.bx_message.specs.declared.message.AckMember.TheVariants.{NoAck, AckTrue, AckNumber}
 
 -- ---- one value

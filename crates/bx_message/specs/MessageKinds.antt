@@ -2,8 +2,7 @@
 use Rattle.std.specs.Prelude.{Bool, List, ℕ, codes, if◌then◌else◌}
 use Rattle.std.specs.Str.{bytes_eq}
 use Rattle.bx_names.specs.Kinds.{is_meta}
-use Rattle.bx_message.specs.declared.message.Message.{Message}
-use Rattle.bx_message.specs.declared.message_kind.MessageKind.{MessageKind}
+use Rattle.bx_message.specs.declared.{message.Message.Message, message_kind.MessageKind.MessageKind}
 use Rattle.bx_message.specs.declared.message_kind.MessageKind.TheVariants.{Handshake, Connect, Subscribe, Unsubscribe, Disconnect, Publish, UnknownMeta}
 
 -- by the channel: one of the five meta messages, another message to a meta channel, or a publish

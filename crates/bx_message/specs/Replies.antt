@@ -1,13 +1,9 @@
 -- What a reply repeats of its message, and what it tells the client.
 use Rattle.std.specs.Prelude.{ℕ, List, codes, Option, Some, None}
-use Rattle.bx_advice.specs.declared.config.Config.{Config}
-use Rattle.bx_advice.specs.declared.advice.Outcome.{Outcome}
+use Rattle.bx_advice.specs.declared.{config.Config.Config, advice.Outcome.Outcome}
 use Rattle.bx_advice.specs.Advice.{advice_of}
-use Rattle.bx_message.specs.declared.message.Message.{Message}
-use Rattle.bx_message.specs.declared.message_kind.MessageKind.{MessageKind}
+use Rattle.bx_message.specs.declared.{message.Message.Message, message_kind.MessageKind.MessageKind, reply.AckReply.AckReply, reply.Reply.Reply}
 use Rattle.bx_message.specs.declared.message_kind.MessageKind.TheVariants.{Connect, Subscribe, Unsubscribe, Publish, UnknownMeta}
-use Rattle.bx_message.specs.declared.reply.AckReply.{AckReply}
-use Rattle.bx_message.specs.declared.reply.Reply.{Reply}
 
 -- the reply to a message of this kind carries the client id, where its session is known
 abbrev pub client_for : MessageKind → Option (List ℕ) → Option (List ℕ)

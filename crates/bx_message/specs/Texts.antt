@@ -3,17 +3,11 @@ use Rattle.std.specs.Prelude.{ℕ, List, [], ◌∷◌, ◌++◌, map, drop, nat
 use Rattle.std.specs.List.{join_with_byte, starts_with}
 use Rattle.json.specs.Print.{quoted}
 use Rattle.bx_advice.specs.Errors.{error_text}
-use Rattle.bx_advice.specs.declared.advice.Advice.{Advice}
-use Rattle.bx_advice.specs.declared.advice.Reconnect.{Reconnect}
+use Rattle.bx_advice.specs.declared.advice.{Advice.Advice, Reconnect.Reconnect, Outcome.Outcome}
 use Rattle.bx_advice.specs.declared.advice.Reconnect.TheVariants.{Retry, Handshake, Never}
-use Rattle.bx_advice.specs.declared.advice.Outcome.{Outcome}
 use Rattle.bx_advice.specs.declared.advice.Outcome.TheVariants.{Failed}
-use Rattle.bx_message.specs.declared.message_kind.MessageKind.{MessageKind}
-use Rattle.bx_message.specs.declared.event.Event.{Event}
-use Rattle.bx_message.specs.declared.reply.Reply.{Reply}
-use Rattle.bx_message.specs.declared.reply.Item.{Item}
+use Rattle.bx_message.specs.declared.{message_kind.MessageKind.MessageKind, event.Event.Event, reply.Reply.Reply, reply.Item.Item, reply.AckReply.AckReply}
 use Rattle.bx_message.specs.declared.reply.Item.TheVariants.{EventItem, ReplyItem}
-use Rattle.bx_message.specs.declared.reply.AckReply.{AckReply}
 use Rattle.bx_message.specs.declared.reply.AckReply.TheVariants.{NoAck, AckTrue, AckNumber}
 
 -- a member: its name as JSON writes it, and the text of its value

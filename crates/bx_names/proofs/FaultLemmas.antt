@@ -2,12 +2,10 @@
 use Rattle.std.proofs.Common.{◌≡◌, ℕ, ◌≤◌, Bool, true, false, not, cond, ltb, IsTrue, Option, Some, None, Ok, List, length, arith, refl, ap, ◌∙◌}
 use Rattle.std.proofs.lemmas.Bool.Decides.{nat_tests}
 use Rattle.std.specs.List.{list_any}
-use Rattle.bx_names.specs.Segments.{segments, is_absolute, is_empty, is_path}
-use Rattle.bx_names.specs.Faults.{path_fault, name_fault, read_by, read_name, read_pattern, has_bad_byte, has_star}
+use Rattle.bx_names.specs.Words.{segments, is_absolute, is_empty, is_path, path_fault, name_fault, read_by, read_name, read_pattern, has_bad_byte, has_star}
 use Rattle.bx_names.specs.declared.error.NameError.{NameError}
 use Rattle.bx_names.specs.declared.tail.Tail.TheVariants.{Exact}
-use Rattle.bx_names.proofs.PathLemmas.{path_from_absolute}
-use Rattle.bx_names.proofs.GlobLemmas.{glob_of-plain}
+use Rattle.bx_names.proofs.{PathLemmas.path_from_absolute, GlobLemmas.glob_of-plain}
 use Rattle.bx_names.specs.declared.error.NameError.TheVariants.{NoSlash, EmptySegment, BadByte, Wild, TooLong, TooDeep}
 
 -- where a table of cases holds none, its first does not hold, nor does any after it

@@ -1,15 +1,9 @@
 -- What the segments of a text make of its pattern, and which names it then matches.
 use Rattle.std.proofs.Common.{◌≡◌, ◌≢◌, ℕ, ◌-◌, ◌<◌, Bool, true, false, IsTrue, List, [], ◌∷◌, ◌++◌, length, take, cond, refl, sym, ap, ◌∙◌, arith, append-nil, codes}
-use Rattle.std.specs.Bool.{Decides}
+use Rattle.std.specs.{Bool.Decides, List.list_any, Str.bytes_eq}
 use Rattle.std.specs.Prelude.{◌||◌}
-use Rattle.std.specs.List.{list_any}
-use Rattle.std.proofs.lemmas.Bool.{false≢true}
-use Rattle.bx_names.specs.Faults.{has_star}
-use Rattle.std.specs.Str.{bytes_eq}
-use Rattle.std.proofs.lemmas.Grind.{common_steps}
-use Rattle.std.proofs.lemmas.Slice.Eq.{bytes_eq-Decides}
-use Rattle.bx_names.specs.Segments.{segments, is_path, path_of}
-use Rattle.bx_names.specs.Globs.{Glob, last_segment, ending_in, glob_of, glob_text}
+use Rattle.std.proofs.lemmas.{Bool.false≢true, Grind.common_steps, Slice.Eq.bytes_eq-Decides}
+use Rattle.bx_names.specs.Words.{has_star, segments, is_path, path_of, Glob, last_segment, ending_in, glob_of, glob_text}
 use Rattle.bx_names.specs.declared.tail.Tail.TheVariants.{Exact, One, Many}
 use Rattle.bx_names.proofs.PathLemmas.{segments-append, path_of-append, path_of-segments, parts_some}
 

@@ -1,18 +1,9 @@
 -- Matching by texts: which names a pattern matches is told by what stands in the name's text behind the pattern's own.
 use Rattle.std.proofs.Common.{◌≡◌, ◌≢◌, ℕ, ◌+◌, ◌<◌, ◌==◌, ◌&&◌, Bool, true, false, nat_lt, eqb, IsTrue, List, [], ◌∷◌, ◌++◌, length, take, drop, refl, sym, ap, ◌∙◌, arith, append-nil, cond, get_or, zero, suc, ◌≤◌, Option, Some, None, MatchOption}
-use Rattle.std.specs.Bool.{Decides, one_answer}
-use Rattle.std.specs.List.{starts_with}
-use Rattle.std.specs.Str.{bytes_eq}
-use Rattle.std.proofs.lemmas.Bool.Decides.{Decides-eqb, Decides-ltb}
-use Rattle.std.proofs.lemmas.Slice.Eq.{bytes_eq-Decides, starts_is}
+use Rattle.std.specs.{Bool.Decides, Bool.one_answer, List.starts_with, Str.bytes_eq, List.onto_first, Option.option_eq}
+use Rattle.std.proofs.lemmas.{Bool.Decides.Decides-eqb, Bool.Decides.Decides-ltb, Slice.Eq.bytes_eq-Decides, Slice.Eq.starts_is, List.append_cancel_left, List.nil_from_length, Bool.false≢true, Bool.and_parts}
 use Rattle.std.proofs.Common.{length-append}
-use Rattle.std.proofs.lemmas.List.{append_cancel_left, nil_from_length}
-use Rattle.std.specs.List.{onto_first}
-use Rattle.std.specs.Option.{option_eq}
-use Rattle.std.proofs.lemmas.Bool.{false≢true, and_parts}
-use Rattle.bx_names.specs.Segments.{is_slash, parts, segments, is_absolute, is_path, path_of}
-use Rattle.bx_names.specs.Globs.{same_segments, matches_by}
-use Rattle.bx_names.specs.Equality.{same_segments-decides}
+use Rattle.bx_names.specs.Words.{is_slash, parts, segments, is_absolute, is_path, path_of, same_segments, matches_by, same_segments-decides}
 use Rattle.bx_names.specs.declared.tail.Tail.{Tail}
 use Rattle.bx_names.specs.declared.tail.Tail.TheVariants.{Exact, One, Many}
 use Rattle.bx_names.proofs.PathLemmas.{segments-append, path_of-append, path_of-segments, parts_some, slash-is}

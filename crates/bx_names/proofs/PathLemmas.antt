@@ -1,14 +1,7 @@
 -- Paths as texts and as lists of segments, and the two ways between them.
 use Rattle.std.proofs.Common.{◌≡◌, ◌≢◌, ℕ, suc, ◌+◌, ◌<◌, Bool, true, false, IsTrue, Option, Some, None, MatchOption, List, [], ◌∷◌, ◌++◌, length, cond, not, refl, sym, ap, ◌∙◌, arith, lit<, Bor}
-use Rattle.std.specs.Option.{option_map_or}
-use Rattle.std.specs.List.{onto_first, position_or_len}
-use Rattle.std.proofs.lemmas.Grind.{flat_map-append}
-use Rattle.std.proofs.lemmas.Bool.Decides.{nat_tests}
-use Rattle.std.specs.Bool.{Decides}
-use Rattle.std.specs.Str.{bytes_eq}
-use Rattle.std.proofs.lemmas.Slice.Eq.{bytes_eq-Decides}
-use Rattle.std.proofs.lemmas.List.Splits.{slice_split_first, length-slice_split}
-use Rattle.std.proofs.lemmas.Str.Pattern.{IsSplitOnceResult, split_once_first}
+use Rattle.std.specs.{Option.option_map_or, List.onto_first, List.position_or_len, Bool.Decides, Str.bytes_eq}
+use Rattle.std.proofs.lemmas.{Grind.flat_map-append, Bool.Decides.nat_tests, Slice.Eq.bytes_eq-Decides, List.Splits.slice_split_first, List.Splits.length-slice_split, Str.Pattern.IsSplitOnceResult, Str.Pattern.split_once_first}
 use Rattle.bx_names.specs.Segments.{is_slash, parts, segments, is_absolute, is_path, path_of}
 
 -- ---- the parts of a text

@@ -2,11 +2,9 @@
 use Rattle.std.proofs.Common.{◌≡◌, ℕ, ◌+◌, ◌<◌, ◌==◌, ◌&&◌, ◌||◌, Bool, true, false, cond, IsTrue, List, [], ◌∷◌, length, drop, refl, sym, ap, ◌∙◌, arith}
 use Rattle.std.specs.Prelude.{slice_index}
 use Rattle.std.specs.List.{list_any, count_by, onto_first}
-use Rattle.std.proofs.lemmas.List.Recursion.{is_count_by}
-use Rattle.std.proofs.lemmas.List.Splits.{length-slice_split}
+use Rattle.std.proofs.lemmas.{List.Recursion.is_count_by, List.Splits.length-slice_split}
 use Rattle.bx_lists.proofs.Tests.{or_assoc}
-use Rattle.bx_names.specs.Segments.{is_slash, parts, segments, is_absolute, is_empty, is_path}
-use Rattle.bx_names.specs.Faults.{is_bad_byte, is_star, has_bad_byte, has_star}
+use Rattle.bx_names.specs.Words.{is_slash, parts, segments, is_absolute, is_empty, is_path, is_bad_byte, is_star, has_bad_byte, has_star}
 use Rattle.bx_names.proofs.PathLemmas.{parts_some, slash-is}
 
 -- whether a segment without bytes ends in a text, before which a slash stands, or does not

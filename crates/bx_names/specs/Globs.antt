@@ -1,8 +1,6 @@
 -- What a pattern stands for, and which names it matches: the channel globbing of Bayeux 1.0.
 use Rattle.std.specs.Prelude.{ℕ, ◌+◌, ◌-◌, ◌==◌, ◌&&◌, Bool, true, false, List, [], ◌∷◌, ◌++◌, length, take, nat_lt, codes, if◌then◌else◌}
-use Rattle.std.specs.List.{starts_with, list_any}
-use Rattle.std.specs.Cmp.Lexicographic.{pointwise}
-use Rattle.std.specs.Str.{bytes_eq}
+use Rattle.std.specs.{List.starts_with, List.list_any, Cmp.Lexicographic.pointwise, Str.bytes_eq}
 use Rattle.bx_names.specs.Segments.{path_of}
 use Rattle.bx_names.specs.declared.tail.Tail.{Tail}
 use Rattle.bx_names.specs.declared.tail.Tail.TheVariants.{Exact, One, Many}

@@ -4,3 +4,4 @@ pub mod Equality
 pub mod Faults
 pub mod Kinds
 pub mod InForce
+pub mod Words

@@ -1,21 +1,14 @@
 -- The number behind a client id's nonce is read back.
 use Rattle.std.proofs.Common.{◌≡◌, ℕ, zero, suc, ◌+◌, ◌*◌, ◌/◌, ◌%◌, ◌^◌, ◌<◌, ◌≤◌, Bool, true, false, List, [], ◌∷◌, ◌++◌, length, drop, refl, sym, ap, subst, ◌∙◌, arith, length-append, eqb-true}
 use Rattle.std.specs.Prelude.{if◌then◌else◌, ◌==◌, ◌&&◌, Option, Some, None}
-use Rattle.std.specs.Str.{bytes_eq}
-use Rattle.std.proofs.lemmas.Slice.Eq.{bytes_eq-Decides}
-use Rattle.std.proofs.lemmas.Grind.{common_steps}
-use Rattle.std.specs.Char.{digit_char}
-use Rattle.std.proofs.lemmas.Bool.Decides.{nat_tests}
+use Rattle.std.specs.{Str.bytes_eq, Char.digit_char}
+use Rattle.std.proofs.lemmas.{Slice.Eq.bytes_eq-Decides, Grind.common_steps, Bool.Decides.nat_tests, Nat.div-add-mod', List.Sums.fold-append, Bool.eqb-false}
 use Rattle.std.proofs.Math.Nat.{pow-suc, div-lt_iff_lt-mul, mod-lt, mod-eq_of_lt}
 use Rattle.std.proofs.Math.Seq.{drop-append_seam}
-use Rattle.std.proofs.lemmas.Nat.{div-add-mod'}
-use Rattle.std.proofs.lemmas.List.Sums.{fold-append}
-use Rattle.std.proofs.lemmas.Bool.{eqb-false}
 use Rattle.bx_entry.specs.Registry.{Registered, hex_digits, client_id, live_with_id}
 use Rattle.bx_roster.specs.Tables.{IsNamed, IsTable, AllLive, known_of, known_at}
 use Rattle.bx_roster.proofs.Tables.{IsTable-bounds}
-use Rattle.bx_registry.specs.Ids.{digit_value, with_digit, hex_value, number_in}
-use Rattle.bx_registry.specs.Drafts.{IsSender}
+use Rattle.bx_registry.specs.Words.{digit_value, with_digit, hex_value, number_in, IsSender}
 
 digit_value-char : (d : ℕ) → d < 16 → digit_value (digit_char d) ≡ d
 digit_value-char d lt = grind (arith, common_steps, nat_tests)

@@ -1,18 +1,13 @@
 -- The sessions behind the edits of a request.
 use Rattle.std.proofs.Common.{◌≡◌, ℕ, ◌+◌, ◌-◌, Bool, false, List, [], ◌∷◌, ◌++◌, length, length-append, map, fold, refl, sym, ap, subst, ◌∙◌, cond, arith}
 use Rattle.std.specs.Prelude.{◌==◌, max, Option, Some, None, IsSome, if◌then◌else◌}
-use Rattle.std.proofs.lemmas.Grind.{common_steps}
+use Rattle.std.proofs.lemmas.{Grind.common_steps, List.length-map, List.Sums.fold-append}
 use Rattle.std.specs.Option.{option_or}
-use Rattle.std.proofs.lemmas.List.{length-map}
-use Rattle.std.proofs.lemmas.List.Sums.{fold-append}
 use Rattle.bx_entry.specs.Registry.{Registered, extended, closed}
-use Rattle.bx_roster.proofs.Sessions.{AllLive-push}
-use Rattle.bx_roster.specs.Live.{Members, live_in}
-use Rattle.bx_roster.specs.Tables.{IsTable, AllLive, known_of, known_at}
-use Rattle.bx_roster.specs.Edits.{edited, CanEdit, CanEditEach, IsNext}
+use Rattle.bx_roster.proofs.{Sessions.AllLive-push, Live.live_in-extended}
+use Rattle.bx_roster.specs.Words.{Members, live_in, IsTable, AllLive, known_of, known_at, edited, CanEdit, CanEditEach, IsNext}
 use Rattle.bx_roster.specs.declared.edit.Edit.{Edit}
 use Rattle.bx_roster.specs.declared.edit.Edit.TheVariants.{Open, Extend, Close}
-use Rattle.bx_roster.proofs.Live.{live_in-extended}
 use Rattle.bx_roster.proofs.Tables.{IsTable-filter, IsTable-map, IsTable-push, IsTable-absent, map-absent, live_in-all, AllLive-live, changed-number, changed-client, closing-number, closing-client}
 use Rattle.bx_registry.specs.Drafts.{IsDrafted, known_after}
 

@@ -1,40 +1,26 @@
 -- What a message comes to, by the edit, the entry and the slot that are made for it.
 use Rattle.std.proofs.Common.{◌≡◌, ℕ, ◌+◌, ◌<◌, ◌^◌, Bool, true, false, List, [], ◌∷◌, ◌++◌, length, refl, sym, ap, subst, ◌∙◌, arith, Result, Ok, Err}
 use Rattle.std.specs.Prelude.{nat_le, Option, Some, None, IsSome, IfOk, MatchOption, is_some, option_map, if◌then◌else◌}
-use Rattle.std.proofs.lemmas.Bool.{cond-true, leb-false}
-use Rattle.std.proofs.lemmas.Grind.{common_steps}
+use Rattle.std.proofs.lemmas.{Bool.cond-true, Bool.leb-false, Grind.common_steps}
 use Rattle.bx_names.specs.Faults.{first_case}
-use Rattle.bx_advice.specs.declared.config.Config.{Config}
-use Rattle.bx_advice.specs.declared.error.Error.{Error}
-use Rattle.bx_registry.specs.declared.draft.Sender.{Sender}
-use Rattle.bx_registry.specs.Drafts.{named}
+use Rattle.bx_advice.specs.declared.{config.Config.Config, error.Error.Error}
+use Rattle.bx_registry.specs.declared.{draft.Sender.Sender, judge.Judgement.Judgement}
+use Rattle.bx_registry.specs.Words.{named, state_of, IsSender, planned_at, edit_for, IsRidden, IsVerdict}
 use Rattle.bx_advice.specs.declared.advice.Outcome.TheVariants.{Failed}
 use Rattle.bx_advice.specs.declared.advice.Outcome.TheVariants as advice
-use Rattle.bx_message.specs.declared.message_kind.MessageKind.{MessageKind}
+use Rattle.bx_message.specs.declared.{message_kind.MessageKind.MessageKind, message.Message.Message, message.TextMember.TextMember}
 use Rattle.bx_message.specs.declared.message_kind.MessageKind.TheVariants.{Handshake, Disconnect, UnknownMeta}
-use Rattle.bx_message.specs.declared.message.Message.{Message}
-use Rattle.bx_message.specs.declared.message.TextMember.{TextMember}
 use Rattle.bx_message.specs.declared.message.TextMember.TheVariants.{Text}
 use Rattle.bx_message.specs.declared.reply.AckReply.TheVariants as replies
 use Rattle.bx_message.specs.MessageKinds.{message_kind_of, is_handshake}
 use Rattle.bx_message.specs.Replies.{reply_to}
-use Rattle.bx_entry.specs.Listing.{Posted}
-use Rattle.bx_entry.specs.declared.entry.Rider.{Rider}
-use Rattle.bx_entry.specs.declared.senders.Senders.{Senders}
+use Rattle.bx_entry.specs.Words.{Posted, due_of, newcomer, rider_by, sessionless_kind, verdict, judged_by, unnamed, Registered, cases_of, client_id, closed, count_live, extended, hold_of, is_ack, is_rider, joined, kind_for, left_by, live_with_id, named_by, refusal, rider_for, sender_of, senders_behind, slot_for, slot_with, PlaceSlot}
+use Rattle.bx_entry.specs.declared.{entry.Rider.Rider, senders.Senders.Senders}
 use Rattle.bx_entry.specs.declared.senders.Senders.TheVariants.{Mixed}
 use Rattle.bx_entry.specs.declared.entry.EntryKind.TheVariants as entries
-use Rattle.bx_entry.specs.Registry.{due_of, newcomer, rider_by, sessionless_kind, verdict, judged_by, unnamed, Registered, cases_of, client_id, closed, count_live, extended, hold_of, is_ack, is_rider, joined, kind_for, left_by, live_with_id, named_by, refusal, rider_for, sender_of, senders_behind, slot_for, slot_with, PlaceSlot}
-use Rattle.bx_roster.specs.Live.{Members, live_in, with_live}
-use Rattle.bx_roster.specs.Tables.{known_at, AllLive}
-use Rattle.bx_roster.specs.Edits.{edited, CanEdit}
+use Rattle.bx_roster.specs.Words.{Members, live_in, with_live, known_at, AllLive, edited, CanEdit}
 use Rattle.bx_roster.specs.declared.edit.Edit.TheVariants.{Open}
-use Rattle.bx_roster.proofs.Sessions.{AllLive-push}
-use Rattle.bx_roster.proofs.Tables.{live_in-all}
-use Rattle.bx_registry.specs.Rolls.{state_of}
-use Rattle.bx_registry.specs.Drafts.{IsSender}
-use Rattle.bx_registry.specs.Plans.{planned_at}
-use Rattle.bx_registry.specs.Judgements.{edit_for, IsRidden, IsVerdict}
-use Rattle.bx_registry.specs.declared.judge.Judgement.{Judgement}
+use Rattle.bx_roster.proofs.{Sessions.AllLive-push, Tables.live_in-all}
 use Rattle.bx_registry.specs.declared.plan.Planned.TheVariants.{Ready}
 use Rattle.bx_registry.proofs.Digits.{drop-client_id}
 

@@ -3,20 +3,16 @@ use Rattle.std.proofs.Common.{◌≡◌, ℕ, ◌+◌, ◌≤◌, Bool, true, fa
 use Rattle.std.specs.Prelude.{◌&&◌, ◌||◌, ◌==◌, max, length, if◌then◌else◌, Option, Some}
 use Rattle.std.proofs.lemmas.Grind.{common_steps}
 use Rattle.bx_names.specs.Faults.{first_case}
-use Rattle.bx_advice.specs.declared.config.Config.{Config}
-use Rattle.bx_advice.specs.declared.error.Error.{Error}
+use Rattle.bx_advice.specs.declared.{config.Config.Config, error.Error.Error}
 use Rattle.bx_advice.specs.declared.error.Error.TheVariants.{SecondHandshake}
 use Rattle.bx_message.specs.declared.message.Message.{Message}
 use Rattle.bx_message.specs.MessageKinds.{message_kind_of, is_handshake}
-use Rattle.bx_entry.specs.Listing.{Posted, Post, listed_from, request}
-use Rattle.bx_entry.specs.Registry.{Registered, State, cases_of, judged_by, named_by, refusal}
-use Rattle.bx_roster.specs.Live.{Members}
-use Rattle.bx_roster.specs.Edits.{CanEdit, CanEditEach, edited, opened_by, opened_by_each}
+use Rattle.bx_entry.specs.Words.{Posted, Post, listed_from, request, Registered, State, cases_of, judged_by, named_by, refusal}
+use Rattle.bx_roster.specs.Words.{Members, CanEdit, CanEditEach, edited, opened_by, opened_by_each}
 use Rattle.bx_roster.specs.declared.edit.Edit.{Edit}
 use Rattle.bx_roster.specs.declared.edit.Edit.TheVariants.{Open}
 use Rattle.bx_roster.specs.declared.edit.Edits.TheVariants.{Each}
-use Rattle.bx_registry.specs.Rolls.{Roll, after, next, state_of}
-use Rattle.bx_registry.specs.Changes.{changed}
+use Rattle.bx_registry.specs.Words.{Roll, after, next, state_of, changed}
 use Rattle.bx_registry.proofs.Judging.{handshake-kind}
 
 -- how many sessions may be opened behind the messages of which it is said whether a handshake was seen

@@ -2,27 +2,18 @@
 use Rattle.std.proofs.Common.{◌≡◌, ℕ, ◌+◌, ◌≤◌, Bool, true, false, List, [], ◌∷◌, ◌++◌, length, fold, refl, sym, ap, subst, ◌∙◌, arith, append_assoc, append-nil}
 use Rattle.std.specs.Prelude.{Ok, ◌&&◌, ◌||◌, ◌==◌, max, Option}
 use Rattle.std.proofs.lemmas.Grind.{common_steps}
-use Rattle.bx_advice.specs.declared.config.Config.{Config}
-use Rattle.bx_advice.specs.declared.error.Error.{Error}
+use Rattle.bx_advice.specs.declared.{config.Config.Config, error.Error.Error}
 use Rattle.bx_advice.specs.Limits.{greatest_moment, greatest_length}
 use Rattle.bx_message.specs.declared.message.Message.{Message}
 use Rattle.bx_message.specs.MessageKinds.{message_kind_of, is_handshake}
-use Rattle.bx_entry.specs.Listing.{Posted, Listed, Post, listed_from, request}
-use Rattle.bx_entry.specs.declared.entry.Entry.{Entry}
-use Rattle.bx_entry.specs.declared.senders.Senders.{Senders}
+use Rattle.bx_entry.specs.Words.{Posted, Listed, Post, listed_from, request, Registered, State, Verdict, judged_by, named_by, refusal, verdict}
+use Rattle.bx_entry.specs.declared.{entry.Entry.Entry, senders.Senders.Senders}
 use Rattle.bx_entry.specs.declared.senders.Senders.TheVariants.{NoneYet}
-use Rattle.bx_entry.specs.Registry.{Registered, State, Verdict, judged_by, named_by, refusal, verdict}
-use Rattle.bx_roster.specs.Live.{Members}
-use Rattle.bx_registry.specs.Rolls.{Roll, after, found, next, state_of, step}
-use Rattle.bx_registry.specs.Drafts.{Drafted, members_of}
-use Rattle.bx_roster.specs.Edits.{CanEditEach, edited, edited_by}
-use Rattle.bx_roster.specs.declared.edit.Edit.{Edit}
-use Rattle.bx_roster.specs.declared.edit.Edits.{Edits}
+use Rattle.bx_roster.specs.Words.{Members, CanEditEach, edited, edited_by}
+use Rattle.bx_registry.specs.Words.{Roll, after, found, next, state_of, step, Drafted, members_of, Amendment, IsPlannedAt, IsWithin, changed, checked, fault_of, entries_in, slots_in, IsFoundAt, IsPlannedBy, roll_between, roll_with}
+use Rattle.bx_roster.specs.declared.edit.{Edit.Edit, Edits.Edits}
 use Rattle.bx_roster.specs.declared.edit.Edits.TheVariants.{Each, Sweep}
-use Rattle.bx_registry.specs.Changes.{Amendment, IsPlannedAt, IsWithin, changed}
 use Rattle.bx_registry.proofs.Drafting.{limit-same}
-use Rattle.bx_registry.specs.Plans.{checked, fault_of, entries_in, slots_in}
-use Rattle.bx_registry.specs.Planners.{IsFoundAt, IsPlannedBy, roll_between, roll_with}
 use Rattle.bx_registry.specs.declared.plan.Planned.{Planned}
 
 judged-opened : (config : Config) (state : State) (moment : ℕ) (p : Posted) (sender : Option Registered) (fault : Option Error) → (judged_by config state moment p sender fault).state.opened ≤ state.opened + 1

@@ -2,8 +2,7 @@
 use Rattle.std.specs.Prelude.{ℕ, Bool, ◌≡◌, ◌≤◌}
 use Rattle.bx_advice.specs.declared.config.Config.{Config}
 use Rattle.bx_advice.specs.Limits.{greatest_moment, greatest_length}
-use Rattle.bx_roster.specs.Live.{Members}
-use Rattle.bx_roster.specs.Edits.{CanEditBy, edited_by, opens, room_of}
+use Rattle.bx_roster.specs.Words.{Members, CanEditBy, edited_by, opens, room_of}
 use Rattle.bx_roster.specs.declared.edit.Edits.{Edits}
 use Rattle.bx_registry.specs.Rolls.{Roll}
 

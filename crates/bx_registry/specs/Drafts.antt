@@ -2,9 +2,7 @@
 use Rattle.std.specs.Prelude.{ℕ, ◌≡◌, ◌<◌, ◌^◌, ◌==◌, Bool, true, List, length, fold, if◌then◌else◌, Option, Some, None}
 use Rattle.std.specs.Option.{option_or}
 use Rattle.bx_entry.specs.Registry.{Registered}
-use Rattle.bx_roster.specs.Live.{Members}
-use Rattle.bx_roster.specs.Tables.{AllLive, IsTable, known_of}
-use Rattle.bx_roster.specs.Edits.{edited, CanEditEach}
+use Rattle.bx_roster.specs.Words.{Members, AllLive, IsTable, known_of, edited, CanEditEach}
 use Rattle.bx_roster.specs.declared.edit.Edit.{Edit}
 use Rattle.bx_roster.specs.declared.edit.Edit.TheVariants.{Open, Extend, Close}
 use Rattle.bx_registry.specs.declared.draft.Sender.{Sender}

@@ -3,20 +3,16 @@ use Rattle.std.specs.Prelude.{ℕ, ◌≡◌, ⊤, Bool, true, false, List, fold
 use Rattle.std.specs.List.{list_any}
 use Rattle.bx_names.specs.Faults.{name_fault, pattern_fault}
 use Rattle.bx_advice.specs.declared.config.Config.{Config}
-use Rattle.bx_message.specs.declared.message.Message.{Message}
-use Rattle.bx_message.specs.declared.message.TextMember.{TextMember}
-use Rattle.bx_message.specs.declared.message_kind.MessageKind.{MessageKind}
+use Rattle.bx_message.specs.declared.{message.Message.Message, message.TextMember.TextMember, message_kind.MessageKind.MessageKind}
 use Rattle.bx_message.specs.declared.message_kind.MessageKind.TheVariants as message_kinds
 use Rattle.bx_entry.specs.declared.entry.Rider.{Rider}
 use Rattle.bx_entry.specs.Registry.{PlaceSlot, Verdict, needs_session, slot_with}
-use Rattle.bx_roster.specs.Live.{Members}
-use Rattle.bx_roster.specs.Edits.{edited, CanEditEach}
+use Rattle.bx_roster.specs.Words.{Members, edited, CanEditEach}
 use Rattle.bx_roster.specs.declared.edit.Edit.{Edit}
 use Rattle.bx_roster.specs.declared.edit.Edit.TheVariants.{Extend, Close}
 use Rattle.bx_registry.specs.Rolls.{members_after}
 use Rattle.bx_registry.specs.Plans.{planned_at}
-use Rattle.bx_registry.specs.declared.plan.Planned.{Planned}
-use Rattle.bx_registry.specs.declared.judge.Judgement.{Judgement}
+use Rattle.bx_registry.specs.declared.{plan.Planned.Planned, judge.Judgement.Judgement}
 
 -- an accepted message of a session moves its due moment on; a disconnect closes the session
 abbrev pub edit_for : MessageKind → ℕ → ℕ → Edit

@@ -1,8 +1,7 @@
 -- A roll goes on as its registry does.
 use Rattle.std.specs.Prelude.{◌≡◌, List, [], ◌∷◌, ◌++◌, fold}
 use Rattle.bx_advice.specs.declared.config.Config.{Config}
-use Rattle.bx_entry.specs.Listing.{Listed}
-use Rattle.bx_entry.specs.Registry.{Registry, judge}
+use Rattle.bx_entry.specs.Words.{Listed, Registry, judge}
 use Rattle.bx_registry.specs.Rolls.{roll_of, after, found}
 
 -- this registry is what comes of the other: of its roll the same elements make the same roll, and find the same

@@ -7,3 +7,4 @@ pub mod Postings
 pub mod Plans
 pub mod Judgements
 pub mod Planners
+pub mod Words

@@ -2,12 +2,10 @@
 use Rattle.std.specs.Prelude.{ℕ, ◌≡◌, ◌+◌, ◌≤◌, List, length, Some}
 use Rattle.bx_advice.specs.declared.config.Config.{Config}
 use Rattle.bx_advice.specs.Limits.{greatest_moment}
-use Rattle.bx_entry.specs.Listing.{Listed}
-use Rattle.bx_entry.specs.declared.entry.Entry.{Entry}
-use Rattle.bx_entry.specs.declared.senders.Senders.{Senders}
+use Rattle.bx_entry.specs.Words.{Listed, Verdict}
+use Rattle.bx_entry.specs.declared.{entry.Entry.Entry, senders.Senders.Senders}
 use Rattle.bx_entry.specs.declared.senders.Senders.TheVariants.{NoneYet}
 use Rattle.bx_roster.specs.Live.{Members}
-use Rattle.bx_entry.specs.Registry.{Verdict}
 use Rattle.bx_registry.specs.Rolls.{Roll, after, found, members_after}
 use Rattle.bx_registry.specs.Plans.{planned_at, entries_in, slots_in}
 use Rattle.bx_registry.specs.declared.plan.Planned.{Planned}

@@ -5,9 +5,8 @@ use Rattle.bx_advice.specs.Limits.{greatest_moment, greatest_length}
 use Rattle.bx_entry.specs.declared.entry.Entry.{Entry}
 use Rattle.bx_entry.specs.Registry.{Judged, PlaceSlot}
 use Rattle.bx_entry.specs.Registry as slots
-use Rattle.bx_registry.specs.declared.plan.Planned.{Planned}
+use Rattle.bx_registry.specs.declared.plan.{Planned.Planned, AdmitFault.AdmitFault}
 use Rattle.bx_registry.specs.declared.plan.Planned.TheVariants.{Ready, Waiting}
-use Rattle.bx_registry.specs.declared.plan.AdmitFault.{AdmitFault}
 use Rattle.bx_registry.specs.declared.plan.AdmitFault.TheVariants.{BadMoment, Ended}
 
 -- why nothing is admitted: moments and the list have an end

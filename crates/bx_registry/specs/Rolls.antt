@@ -2,9 +2,8 @@
 use Rattle.std.specs.Prelude.{ℕ, ◌+◌, max, List, [], ◌∷◌, length, fold}
 use Rattle.bx_advice.specs.declared.config.Config.{Config}
 use Rattle.bx_entry.specs.declared.senders.Senders.{Senders}
-use Rattle.bx_entry.specs.Listing.{Listed, Post}
+use Rattle.bx_entry.specs.Words.{Listed, Post, Registry, State, Verdict, Judged, found_at, tick_verdict, verdict}
 use Rattle.bx_entry.specs.Listing as messages
-use Rattle.bx_entry.specs.Registry.{Registry, State, Verdict, Judged, found_at, tick_verdict, verdict}
 use Rattle.bx_roster.specs.Live.{Members, live_in}
 
 -- the configuration, the sessions, the greatest moment so far, how many entries the list has, and whose the messages so far of the request at

@@ -1,36 +1,26 @@
 -- What is written at a fault is a front of what all lines print.
 use Rattle.std.proofs.Common.{◌≡◌, ℕ, suc, ◌+◌, ◌<◌, Option, Some, None, List, [], ◌∷◌, ◌++◌, length, map, take, drop, drop-cons, take-append-drop, get_or, slice_get, Result, Ok, Err, refl, sym, ap, ◌∙◌, subst, append-nil, append_assoc, arith}
-use Rattle.std.proofs.lemmas.Grind.{flat_map-append}
-use Rattle.std.proofs.lemmas.List.{map-append}
+use Rattle.std.proofs.lemmas.{Grind.flat_map-append, List.map-append}
 use Rattle.std.specs.Prelude.{IfErr, IfSome, IsErr, OnErr, option_map, string_bytes}
 use Rattle.std.proofs.Common.{Global, String}
 use Rattle.std.specs.Io.KnownBytes.{Appends}
-use Rattle.bx_script.specs.Output.{IsWriteFault}
-use Rattle.bx_script.specs.declared.error.ScriptFault.{ScriptFault}
+use Rattle.bx_script.specs.Words.{IsWriteFault, Line, Bad, Rejected, Accepted, Resharded, Numbered, inputs_from, held_text, line_of, lines_of, out_by, replay_text, result_text, said_by, AppendsFront, Writes, numbered}
+use Rattle.bx_script.specs.declared.{error.ScriptFault.ScriptFault, lines.Lines.Lines, output.Output.Output}
 use Rattle.bx_script.specs.declared.error.ScriptFault.TheVariants.{Memory, Read, Write}
-use Rattle.bx_script.specs.declared.lines.Lines.{Lines}
-use Rattle.bx_script.specs.declared.output.Output.{Output}
 use Rattle.bx_replay.specs.Faults.{IsReplayFault}
 use Rattle.bx_replay.specs.Kept.{AreKept, IsKept, held_texts}
 use Rattle.bx_replay.specs.Serving.{Served, HandsFront, Prints, PrintsFront, Reads, seen_lines}
 use Rattle.bx_replay.specs.declared.kept.PendingLine.{PendingLine}
-use Rattle.bx_replay.proofs.Keeping.{TicksAs, out_same}
-use Rattle.bx_replay.proofs.Steps.{many_of, seen_more, texts_handed}
+use Rattle.bx_replay.proofs.{Keeping.TicksAs, Keeping.out_same, Steps.many_of, Steps.seen_more, Steps.texts_handed}
 use Rattle.bx_advice.specs.declared.config.Config.{Config}
-use Rattle.bx_entry.specs.Inputs.{ReadInput}
-use Rattle.bx_script.specs.Replay.{Line, Bad, Rejected, Accepted, Resharded, Numbered, inputs_from, held_text, line_of, lines_of, out_by, replay_text, result_text}
-use Rattle.bx_entry.specs.Requests.{read_input}
-use Rattle.bx_entry.specs.Runs.{Out, held, outs, whole_at, wholes}
-use Rattle.bx_entry.specs.declared.Placing.{Ghosts}
-use Rattle.bx_entry.specs.declared.input.Input.{Input}
+use Rattle.bx_entry.specs.Words.{ReadInput, read_input, Out, held, outs, whole_at, wholes}
+use Rattle.bx_entry.specs.declared.{Placing.Ghosts, input.Input.Input}
 use Rattle.bx_fanout.specs.Rounds.{added_by, inputs_of, setup_in}
 use Rattle.bx_fanout.specs.Stages.{seen_out}
 use Rattle.bx_fanout.specs.declared.out.Out as fanout
 use Rattle.bx_fanout.specs.declared.round.Round.{Round}
 use Rattle.bx_theory.specs.Lines.{AddsOuts, inputs_in, line_prints, outs_text, printed_so_far}
 use Rattle.bx_theory.proofs.Lines.{lines_go_on, outs_last}
-use Rattle.bx_script.specs.Lines.{said_by}
-use Rattle.bx_script.specs.Printing.{AppendsFront, Writes, numbered}
 use Rattle.bx_script.specs.declared.line.Line as script
 use Rattle.bx_script.proofs.Fronts.{fault_writes, front_first, front_none, front_second}
 

@@ -1,22 +1,15 @@
 -- What is kept of inputs, and what their outs print.
 use Rattle.std.proofs.Common.{◌≡◌, ℕ, ◌+◌, ◌<◌, Bool, true, false, cond, Option, Some, None, option_map, List, [], ◌∷◌, ◌++◌, length, map, take, get_or, slice_get, string_bytes, codes, OnOk, Result, Ok, Err, refl, sym, ap, ◌∙◌, subst, arith, append-nil, append_assoc}
-use Rattle.std.specs.BTreeMap.{is_at}
-use Rattle.std.specs.Io.KnownBytes.{Appends}
-use Rattle.std.specs.Ordering.{nat_cmp}
-use Rattle.std.proofs.lemmas.Bool.Decides.{nat_tests}
-use Rattle.std.proofs.lemmas.Grind.{flat_map-append}
-use Rattle.std.proofs.lemmas.List.{map-append, take_more}
-use Rattle.std.proofs.lemmas.Option.{slice_get_within}
+use Rattle.std.specs.{BTreeMap.is_at, Io.KnownBytes.Appends, Ordering.nat_cmp}
+use Rattle.std.proofs.lemmas.{Bool.Decides.nat_tests, Grind.flat_map-append, List.map-append, List.take_more, Option.slice_get_within}
 use Rattle.bx_replay.specs.Kept.{IsKept, AreKept, PrintsOuts, held_texts}
 use Rattle.bx_replay.specs.declared.kept.PendingLine.{PendingLine}
-use Rattle.bx_entry.specs.Inputs.{ReadInput}
-use Rattle.bx_script.specs.Replay.{Numbered, line_text, result_text, out_by, held_text}
-use Rattle.bx_entry.specs.Runs.{Out}
+use Rattle.bx_entry.specs.Words.{ReadInput, Out}
+use Rattle.bx_script.specs.Words.{Numbered, line_text, result_text, out_by, held_text, is_tick}
 use Rattle.bx_fanout.specs.Stages.{seen_out}
 use Rattle.bx_fanout.specs.declared.out.Out as fanout
 use Rattle.bx_theory.specs.Lines.{outs_text}
 use Rattle.bx_theory.proofs.Lines.{get_front}
-use Rattle.bx_script.specs.Printing.{is_tick}
 use Rattle.bx_script.specs.Printing as script
 
 -- ---- what is written

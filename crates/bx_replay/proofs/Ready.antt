@@ -1,19 +1,14 @@
 -- That what is printed was kept.
 use Rattle.std.proofs.Common.{◌≡◌, ℕ, zero, suc, ◌+◌, ◌<◌, Bool, true, false, cond, not, Option, Some, None, List, [], ◌∷◌, ◌++◌, length, map, filter, drop, drop-cons, get_or, refl, sym, ap, ◌∙◌, subst, arith, append-nil, eqb-true}
 use Rattle.std.specs.Prelude.{◌==◌, IsSome, is_some}
-use Rattle.std.specs.BTreeMap.{is_at}
-use Rattle.std.specs.Ordering.{nat_cmp}
-use Rattle.std.proofs.lemmas.Bool.Decides.{nat_tests}
-use Rattle.std.proofs.lemmas.List.{map-append, append_cancel_left}
-use Rattle.std.proofs.lemmas.Option.{slice_get_within}
+use Rattle.std.specs.{BTreeMap.is_at, Ordering.nat_cmp}
+use Rattle.std.proofs.lemmas.{Bool.Decides.nat_tests, List.map-append, List.append_cancel_left, Option.slice_get_within}
 use Rattle.bx_lists.proofs.Tests.{eqb_sym}
 use Rattle.bx_replay.specs.Kept.{AllKept, AreKept, IsKept, Keeps, inputs_given, without}
 use Rattle.bx_replay.specs.declared.kept.PendingLine.{PendingLine}
 use Rattle.bx_advice.specs.declared.config.Config.{Config}
-use Rattle.bx_entry.specs.Inputs.{ReadInput}
-use Rattle.bx_entry.specs.Registry.{Registry}
+use Rattle.bx_entry.specs.Words.{ReadInput, Registry, Out, held, outs}
 use Rattle.bx_script.specs.Replay.{Numbered}
-use Rattle.bx_entry.specs.Runs.{Out, held, outs}
 use Rattle.bx_theory.specs.Opens as opens
 use Rattle.bx_theory.specs.Opens.{is_whole, newest, open_after, out_of, registry_after, waiting_at}
 use Rattle.bx_fanout.specs.Stages.{seen_out}

@@ -7,26 +7,18 @@ use Rattle.std.proofs.Common.{Global, String}
 use Rattle.bx_replay.specs.Kept.{AllKept, AreKept, Keeps}
 use Rattle.bx_replay.specs.Serving.{Served, Hands, IsAll, Prints, Reads, held_lines, seen_lines}
 use Rattle.bx_replay.specs.declared.kept.PendingLine.{PendingLine}
-use Rattle.bx_replay.proofs.Keeping.{appends_more, appends_none}
-use Rattle.bx_replay.proofs.Ready.{none_last}
+use Rattle.bx_replay.proofs.{Keeping.appends_more, Keeping.appends_none, Ready.none_last}
 use Rattle.bx_advice.specs.declared.config.Config.{Config}
-use Rattle.bx_entry.specs.Inputs.{ReadInput}
-use Rattle.bx_script.specs.Replay.{Line, Bad, Rejected, Accepted, Resharded, Numbered, inputs_from, line_of, lines_of, printed, replay_text}
-use Rattle.bx_entry.specs.Requests.{read_input}
-use Rattle.bx_entry.specs.Runs.{Out, held, outs}
-use Rattle.bx_entry.specs.declared.Placing.{Ghosts}
-use Rattle.bx_entry.specs.declared.input.Input.{Input}
+use Rattle.bx_entry.specs.Words.{ReadInput, read_input, Out, held, outs}
+use Rattle.bx_script.specs.Words.{Line, Bad, Rejected, Accepted, Resharded, Numbered, inputs_from, line_of, lines_of, printed, replay_text, IsNext, NextLine, said_by, Writes, numbered, rest_of}
+use Rattle.bx_entry.specs.declared.{Placing.Ghosts, input.Input.Input}
 use Rattle.bx_fanout.specs.Rounds.{IsRun, added_by, inputs_of, setup_in}
 use Rattle.bx_fanout.specs.Stages.{seen_out}
 use Rattle.bx_fanout.specs.declared.out.Out as fanout
-use Rattle.bx_fanout.specs.declared.out.RoundFault.{RoundFault}
-use Rattle.bx_fanout.specs.declared.round.Round.{Round}
+use Rattle.bx_fanout.specs.declared.{out.RoundFault.RoundFault, round.Round.Round}
 use Rattle.bx_theory.specs.Lines.{AddsOuts, inputs_in, line_prints, outs_text, printed_so_far}
 use Rattle.bx_theory.proofs.Lines.{inputs_go_on, lines_go_on}
-use Rattle.bx_script.specs.Lines.{IsNext, NextLine, said_by}
-use Rattle.bx_script.specs.Printing.{Writes, numbered}
 use Rattle.bx_script.proofs.Fronts.{writes_second}
-use Rattle.bx_script.specs.Reading.{rest_of}
 use Rattle.bx_script.specs.declared.line.Line as script
 
 -- ---- lines that are no inputs

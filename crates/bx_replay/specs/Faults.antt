@@ -1,11 +1,8 @@
 -- Why a replay may end early.
 use Rattle.std.specs.Prelude.{⊤}
-use Rattle.bx_script.specs.Lines.{CannotRead}
-use Rattle.bx_script.specs.Output.{HasFailed}
-use Rattle.bx_script.specs.declared.error.ScriptFault.{ScriptFault}
+use Rattle.bx_script.specs.Words.{CannotRead, HasFailed}
+use Rattle.bx_script.specs.declared.{error.ScriptFault.ScriptFault, lines.Lines.Lines, output.Output.Output}
 use Rattle.bx_script.specs.declared.error.ScriptFault.TheVariants.{Memory, Read, Write}
-use Rattle.bx_script.specs.declared.lines.Lines.{Lines}
-use Rattle.bx_script.specs.declared.output.Output.{Output}
 
 -- memory was refused, a read of the script failed or there were as many as there may be, or a write failed
 abbrev pub IsReplayFault : {R W : Type 0} → Lines R → Output W → ScriptFault → Type 0

@@ -2,11 +2,10 @@
 use Rattle.std.specs.Prelude.{ℕ, ◌≡◌, ◌==◌, IsSome, None, ⊤, if◌then◌else◌, map, [], ◌∷◌, List, flat_map, option_map, slice_get, string_bytes, Option, Some}
 use Rattle.std.specs.Io.KnownBytes.{Appends}
 use Rattle.bx_replay.specs.declared.kept.PendingLine.{PendingLine}
-use Rattle.bx_script.specs.Replay.{Numbered, held_text}
+use Rattle.bx_script.specs.Words.{Numbered, held_text, is_tick}
 use Rattle.bx_entry.specs.Runs.{Out}
 use Rattle.bx_fanout.specs.declared.out.Out as fanout
 use Rattle.bx_theory.specs.Lines.{outs_text}
-use Rattle.bx_script.specs.Printing.{is_tick}
 
 -- what is kept of the input of this number
 pub record IsKept (numbered : List Numbered) (i : ℕ) (a : PendingLine) : Type 0 where

@@ -1,21 +1,15 @@
 -- What a server has taken in of a script, and what was printed of that.
 use Rattle.std.specs.Prelude.{ℕ, ◌≡◌, ◌++◌, List, [], ◌∷◌, length, map, ⊤, Option, Some, None}
-use Rattle.std.specs.BTreeMap.{get}
-use Rattle.std.specs.Io.KnownBytes.{Appends}
-use Rattle.std.specs.Ordering.{nat_cmp}
+use Rattle.std.specs.{BTreeMap.get, Io.KnownBytes.Appends, Ordering.nat_cmp}
 use Rattle.bx_replay.specs.Kept.{AllKept, AreKept, PrintsOuts, held_texts}
-use Rattle.bx_replay.specs.declared.kept.PendingLine.{PendingLine}
-use Rattle.bx_replay.specs.declared.server.Server.{Server}
+use Rattle.bx_replay.specs.declared.{kept.PendingLine.PendingLine, server.Server.Server}
 use Rattle.bx_advice.specs.declared.config.Config.{Config}
-use Rattle.bx_entry.specs.Inputs.{ReadInput}
-use Rattle.bx_script.specs.Replay.{Line, Numbered, inputs_from, line_of, lines_of}
-use Rattle.bx_entry.specs.Runs.{Out, held, outs}
+use Rattle.bx_entry.specs.Words.{ReadInput, Out, held, outs}
+use Rattle.bx_script.specs.Words.{Line, Numbered, inputs_from, line_of, lines_of, said_by, AppendsFront}
 use Rattle.bx_entry.specs.declared.Placing.{Ghosts}
 use Rattle.bx_fanout.specs.Rounds.{added_by, inputs_of, setup_in}
 use Rattle.bx_fanout.specs.declared.round.Round.{Round}
 use Rattle.bx_theory.specs.Lines.{inputs_in, outs_text, printed_so_far}
-use Rattle.bx_script.specs.Lines.{said_by}
-use Rattle.bx_script.specs.Printing.{AppendsFront}
 use Rattle.bx_script.specs.declared.line.Line as script
 use Rattle.bx_script.specs.declared.line.Line.TheVariants.{Bad, Rejected, Accepted, Resharded}
 

@@ -3,10 +3,8 @@ use Rattle.std.proofs.Common.{arith, ◌≡◌, ℕ, nat_eq, ◌&&◌, Bool, tru
 use Rattle.std.specs.Option.{option_or}
 use Rattle.bx_lists.proofs.Tests.{either}
 use Rattle.bx_entry.specs.Keeping.{Kept}
-use Rattle.bx_connects.specs.declared.connects.ConnectState.{ConnectState}
+use Rattle.bx_connects.specs.declared.{connects.ConnectState.ConnectState, connects.FiledAnswer.FiledAnswer, held.HeldConnect.HeldConnect}
 use Rattle.bx_connects.specs.declared.connects.ConnectState.TheVariants.{Held, Filed}
-use Rattle.bx_connects.specs.declared.connects.FiledAnswer.{FiledAnswer}
-use Rattle.bx_connects.specs.declared.held.HeldConnect.{HeldConnect}
 use Rattle.bx_connects.specs.Connects.{connect_at, filed_as, filing_at, hold_at, is_both, known_as, state_by}
 use Rattle.bx_shard.specs.declared.sessions.Sessions.{Sessions}
 use Rattle.bx_reshard.specs.Redistribution.{redistributed_connect}

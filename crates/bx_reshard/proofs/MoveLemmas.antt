@@ -1,18 +1,13 @@
 -- What is lent and what moves, one session and one connect at a time.
 use Rattle.std.proofs.Common.{◌≡◌, ◌&&◌, ◌||◌, not, ℕ, zero, suc, ◌<◌, nat_eq, length, slice_get, arith, Bool, true, false, cond, is_some, Option, Some, None, option_map, List, [], ◌∷◌, ◌++◌, refl, sym, ap, ◌∙◌, eqb-true}
 use Rattle.std.proofs.lemmas.List.Elements.{All-nil, All-push}
-use Rattle.std.specs.List.{All}
-use Rattle.std.specs.Map.{lookup}
-use Rattle.std.specs.Option.{option_or}
-use Rattle.bx_lists.proofs.Lists.{or_none}
-use Rattle.bx_lists.proofs.Tests.{eqb_sym}
+use Rattle.std.specs.{List.All, Map.lookup, Option.option_or}
+use Rattle.bx_lists.proofs.{Lists.or_none, Tests.eqb_sym}
 use Rattle.bx_names.specs.Globs.{Glob}
 use Rattle.bx_advice.specs.declared.config.Config.{Config}
 use Rattle.bx_entry.specs.Keeping.{Kept}
 use Rattle.bx_session.specs.Views.{WithRoom}
-use Rattle.bx_connects.specs.declared.connects.ConnectState.{ConnectState}
-use Rattle.bx_connects.specs.declared.connects.FiledAnswer.{FiledAnswer}
-use Rattle.bx_connects.specs.declared.held.HeldConnect.{HeldConnect}
+use Rattle.bx_connects.specs.declared.{connects.ConnectState.ConnectState, connects.FiledAnswer.FiledAnswer, held.HeldConnect.HeldConnect}
 use Rattle.bx_connects.specs.Connects.{AreApart, connect_at, filed_as, filing_at, known_as, state_by}
 use Rattle.bx_shard.specs.declared.sessions.Sessions.{Sessions}
 use Rattle.bx_reshard.specs.Heirs.{AreAllClean, AreLent, AreMoved, IsEmptyOf, SameConnects, SameSessions, answered_all, answered_with, config_of, connect_of, connect_there, lent_among, lent_as, overlaid, patterns_among, patterns_at, patterns_there, kept_among, kept_by, kept_of, kept_there, settled, settled_all}

@@ -1,22 +1,16 @@
 -- Shards whose sessions were redistributed.
 use Rattle.std.proofs.Common.{◌≡◌, ℕ, suc, ◌<◌, nat_eq, Bool, true, cond, Option, Some, None, List, [], ◌∷◌, length, get_or, map, slice_get, option_map, refl, sym, ap, ◌∙◌, subst, arith}
-use Rattle.std.proofs.lemmas.List.{length-map}
-use Rattle.std.proofs.lemmas.Option.{slice_get-get_or, slice_get-map, slice_get_within}
-use Rattle.std.specs.Arc.{arc_value}
-use Rattle.std.specs.List.{All}
-use Rattle.std.specs.Option.{option_or}
+use Rattle.std.proofs.lemmas.{List.length-map, Option.slice_get-get_or, Option.slice_get-map, Option.slice_get_within}
+use Rattle.std.specs.{Arc.arc_value, List.All, Option.option_or}
 use Rattle.bx_names.specs.Globs.{Glob}
 use Rattle.bx_advice.specs.declared.config.Config.{Config}
 use Rattle.bx_entry.specs.Keeping.{Kept}
 use Rattle.bx_connects.specs.Connects.{connect_at}
-use Rattle.bx_shard.specs.declared.sessions.Sessions.{Sessions}
-use Rattle.bx_shard.specs.declared.shard.Shard.{Shard}
+use Rattle.bx_shard.specs.declared.{sessions.Sessions.Sessions, shard.Shard.Shard}
 use Rattle.bx_reshard.specs.Redistribution.{AreAlike, AreApart, Redistributed, IsRedistributed, connect_among, redistributed_connect, session_among}
 use Rattle.bx_reshard.specs.Heirs.{AreLent, AreMoved, connect_there, patterns_among, patterns_there, kept_among, kept_there}
 use Rattle.bx_reshard.specs.Making.{AreMade}
-use Rattle.bx_shard.specs.Seen.{state}
-use Rattle.bx_shard.specs.Sessions.{Fits, IsCounted, has_formed_at_most, held_until, holds_until, patterns_in, kept_in}
-use Rattle.bx_shard.specs.States.{State, connect_in, session_in}
+use Rattle.bx_shard.specs.Words.{state, Fits, IsCounted, has_formed_at_most, held_until, holds_until, patterns_in, kept_in, State, connect_in, session_in}
 use Rattle.bx_reshard.proofs.Among.{Each, HaveOnce, IsApart, KnowOnce, connect_redistributed, counted_among, formed_among, held_among, held_redistributed, holds_redistributed, known_among, session_redistributed, unknown_among}
 
 each_of_all : (Q : Sessions → Type 0) (ss : List Sessions) → All Q ss → Each Q ss

@@ -1,29 +1,19 @@
 -- What shards hold once their sessions were redistributed.
 use Rattle.std.proofs.Common.{◌≡◌, ◌≢◌, ℕ, zero, suc, ◌<◌, Bool, true, false, cond, is_some, Option, Some, None, List, [], ◌∷◌, length, take, drop, map, filter, flat_map, option_map, slice_get, ◌==◌, refl, sym, ap, ◌∙◌, subst, arith, eqb-true, eq-eqb}
-use Rattle.std.proofs.lemmas.Bool.{cond_both, cond-true}
-use Rattle.std.proofs.lemmas.List.{take-append-drop}
-use Rattle.std.proofs.lemmas.List.Folds.{find-append}
+use Rattle.std.proofs.lemmas.{Bool.cond_both, Bool.cond-true, List.take-append-drop, List.Folds.find-append}
 use Rattle.std.specs.Option.{option_or}
-use Rattle.bx_lists.proofs.Lists.{or_none}
-use Rattle.bx_lists.proofs.Tests.{either}
+use Rattle.bx_lists.proofs.{Lists.or_none, Tests.either}
 use Rattle.bx_advice.specs.declared.config.Config.{Config}
 use Rattle.bx_entry.specs.declared.entry.Entry.{Entry}
-use Rattle.bx_entry.specs.Listing.{Listed}
-use Rattle.bx_entry.specs.Answers.{answer_of}
-use Rattle.bx_entry.specs.Keeping.{Kept, kept}
-use Rattle.bx_entry.specs.Registry.{Judged, PlaceSlot, Registered, Waiting, Ready, NoSlot, entries_of, registry}
-use Rattle.bx_entry.specs.Sessions.{Filed, Session, session, unopened}
+use Rattle.bx_entry.specs.Words.{Listed, answer_of, Kept, kept, Judged, PlaceSlot, Registered, Waiting, Ready, NoSlot, entries_of, registry, Filed, Session, session, unopened}
 use Rattle.bx_connects.specs.declared.connects.ConnectState.{ConnectState}
 use Rattle.bx_connects.specs.declared.connects.ConnectState.TheVariants as states
 use Rattle.bx_connects.specs.Connects.{session_at}
 use Rattle.bx_reshard.specs.Redistribution.{AreAlike, AreApart, HoldersAreApart, RefinesRedistributed, IsRedistributed, among, connect_among, redistributed_connect, session_among}
 use Rattle.bx_shard.specs.Refining.{Refines, IsConnectOf, IsOwn, filed_with_place}
-use Rattle.bx_shard.specs.Shards.{Setup, is_taken, live_among, sessions_in, shard_at, stands_in}
-use Rattle.bx_shard.specs.States.{State, connect_in, session_in}
-use Rattle.bx_shard.proofs.Finding.{find_kept}
-use Rattle.bx_shard.proofs.Taking.{connect_of_filed, none_taken, waits_later}
+use Rattle.bx_shard.specs.Words.{Setup, is_taken, live_among, sessions_in, shard_at, stands_in, State, connect_in, session_in}
+use Rattle.bx_shard.proofs.{Finding.find_kept, Taking.connect_of_filed, Taking.none_taken, Taking.waits_later, Waits.WaitsAt, Waits.waits_over}
 use Rattle.bx_shard.proofs.Untaken.{find_of, find_untaken, untaken}
-use Rattle.bx_shard.proofs.Waits.{WaitsAt, waits_over}
 use Rattle.bx_theory.proofs.Closings.{run_number}
 use Rattle.bx_reshard.proofs.Among.{nobody}
 

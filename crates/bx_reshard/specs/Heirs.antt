@@ -1,14 +1,11 @@
 -- Shards that take over the sessions of others: pointwise by shard, and by the number of a session or the place of a connect.
 use Rattle.std.specs.Prelude.{ℕ, ◌≡◌, nat_eq, List, [], length, option_map, slice_get, if◌then◌else◌, ◌<◌, ◌&&◌, ◌∷◌, is_some, Option, Some, None}
-use Rattle.std.specs.List.{All}
-use Rattle.std.specs.Map.{lookup}
-use Rattle.std.specs.Option.{option_or}
+use Rattle.std.specs.{List.All, Map.lookup, Option.option_or}
 use Rattle.bx_names.specs.Globs.{Glob}
 use Rattle.bx_advice.specs.declared.config.Config.{Config}
 use Rattle.bx_entry.specs.Keeping.{Kept}
 use Rattle.bx_session.specs.Views.{WithRoom}
-use Rattle.bx_connects.specs.declared.connects.ConnectState.{ConnectState}
-use Rattle.bx_connects.specs.declared.connects.FiledAnswer.{FiledAnswer}
+use Rattle.bx_connects.specs.declared.connects.{ConnectState.ConnectState, FiledAnswer.FiledAnswer}
 use Rattle.bx_connects.specs.Connects.{AreApart, connect_at, filed_as, filing_at, held_by, known_as}
 use Rattle.bx_shard.specs.declared.sessions.Sessions.{Sessions}
 use Rattle.bx_shard.specs.Sessions.{patterns_in, kept_in}

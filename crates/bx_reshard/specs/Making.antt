@@ -1,7 +1,6 @@
 -- Shards that are made of the sessions that were redistributed.
 use Rattle.std.specs.Prelude.{ℕ, ◌≡◌, ◌≤◌, Bool, Some, List, [], length, map, slice_get, vec_capacity}
-use Rattle.std.specs.List.{All}
-use Rattle.std.specs.Arc.{arc_value}
+use Rattle.std.specs.{List.All, Arc.arc_value}
 use Rattle.std.specs.declared.sync.Arc.{Arc}
 use Rattle.bx_shard.specs.declared.shard.Shard.{Shard}
 use Rattle.bx_reshard.specs.declared.making.Room.{Room}

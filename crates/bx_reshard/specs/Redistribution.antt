@@ -1,13 +1,10 @@
 -- The sessions of some shards, redistributed among another number of shards.
 use Rattle.std.specs.Prelude.{ℕ, ◌==◌, ◌≡◌, ◌≢◌, ◌<◌, length, true, List, [], ◌∷◌, slice_get, if◌then◌else◌, is_some, Option, Some, None}
 use Rattle.std.specs.Option.{option_or}
-use Rattle.bx_entry.specs.Listing.{Listed}
-use Rattle.bx_entry.specs.Keeping.{Kept}
+use Rattle.bx_entry.specs.Words.{Listed, Kept}
 use Rattle.bx_connects.specs.declared.connects.ConnectState.{ConnectState}
 use Rattle.bx_connects.specs.declared.connects.ConnectState.TheVariants.{Held, Filed}
-use Rattle.bx_shard.specs.Refining.{Refines}
-use Rattle.bx_shard.specs.Shards.{Setup}
-use Rattle.bx_shard.specs.States.{IsSound, State, connect_in, session_in}
+use Rattle.bx_shard.specs.Words.{Refines, Setup, IsSound, State, connect_in, session_in}
 
 -- ---- what the shards have
 

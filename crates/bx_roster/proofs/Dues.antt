@@ -1,23 +1,15 @@
 -- The entries of a queue, the sessions that they file, and what a tick makes of them.
 use Rattle.std.proofs.Common.{◌≡◌, ◌≢◌, ℕ, ◌+◌, ◌<◌, ◌≤◌, Bool, true, false, List, [], ◌∷◌, ◌++◌, append_assoc, length, map, refl, sym, ap, subst, ◌∙◌, arith, eq-eqb, ne_eqb, eqb-true}
 use Rattle.std.specs.Prelude.{◌&&◌, ◌||◌, ◌==◌, nat_lt, nat_le, not, Some, None, if◌then◌else◌}
-use Rattle.std.specs.List.{filter, list_any}
-use Rattle.std.specs.List.Sorted.{IsPermutation}
-use Rattle.std.specs.BinaryHeap.{IsUpperBound}
-use Rattle.std.specs.Ordering.{is_lt, nat_cmp, ordering_then}
+use Rattle.std.specs.{List.filter, List.list_any, List.Sorted.IsPermutation, BinaryHeap.IsUpperBound, Ordering.is_lt, Ordering.nat_cmp, Ordering.ordering_then}
 use Rattle.std.specs.declared.cmp.Ordering.{Ordering}
 use Rattle.std.specs.declared.cmp.Ordering.TheVariants.{Less}
 use Rattle.std.proofs.Math.Bool.{and-false, or-true}
-use Rattle.std.proofs.lemmas.Grind.{common_steps}
-use Rattle.std.proofs.lemmas.Map.Keys.{ge_from_not_lt}
-use Rattle.std.proofs.lemmas.Bool.Decides.{nat_tests}
+use Rattle.std.proofs.lemmas.{Grind.common_steps, Map.Keys.ge_from_not_lt, Bool.Decides.nat_tests, Bool.leb-true, Bool.le-leb, Bool.and_parts}
 use Rattle.std.proofs.lemmas.List.Elements.{All-nil, All-cons, All-head, All-tail}
 use Rattle.std.proofs.lemmas.List.Sorted.{length_permutation, IsPermutation-sym, IsPermutation-trans, IsPermutation-middle, IsPermutation-append_right, list_any-IsPermutation}
-use Rattle.std.proofs.lemmas.Bool.{leb-true, le-leb, and_parts}
 use Rattle.bx_entry.specs.Registry.{Registered, extended, closed, swept, is_overdue}
-use Rattle.bx_roster.specs.Live.{Members, live_in, with_live}
-use Rattle.bx_roster.specs.Tables.{IsTable, IsAbsent, AllLive, due_at}
-use Rattle.bx_roster.specs.Queues.{AllFiled, IsFrom, due_order, files}
+use Rattle.bx_roster.specs.Words.{Members, live_in, with_live, IsTable, IsAbsent, AllLive, due_at, AllFiled, IsFrom, due_order, files}
 use Rattle.bx_roster.specs.declared.due_queue.Due.{Due}
 use Rattle.bx_roster.proofs.Live.{live_in-swept}
 use Rattle.bx_roster.proofs.Tables.{IsTable-absent, map-absent, live_in-all, changed-due, changed-number, closing-due, closing-number}

@@ -1,14 +1,11 @@
 -- A walk over the map files each session that stands under a number.
 use Rattle.std.proofs.Common.{◌≡◌, ℕ, zero, suc, ◌+◌, ◌≤◌, true, List, [], ◌∷◌, ◌++◌, length, Option, Some, None, is_some, refl, sym, ap, arith, true≢false}
 use Rattle.std.proofs.lemmas.Grind.{common_steps}
-use Rattle.std.specs.List.{list_any}
-use Rattle.std.specs.Map.{values_of}
+use Rattle.std.specs.{List.list_any, Map.values_of}
 use Rattle.bx_entry.specs.Registry.{Registered}
-use Rattle.bx_roster.specs.Kept.{IsKept, Record, session_of, with_one, sessions_in, sessions_to}
-use Rattle.bx_roster.specs.Queues.{AllFiled, files}
+use Rattle.bx_roster.specs.Words.{IsKept, Record, session_of, with_one, sessions_in, sessions_to, AllFiled, files}
 use Rattle.bx_roster.specs.declared.due_queue.Due.{Due}
-use Rattle.bx_roster.proofs.Dues.{filed-append}
-use Rattle.bx_roster.proofs.Kept.{under}
+use Rattle.bx_roster.proofs.{Dues.filed-append, Kept.under}
 
 abbrev inner : Option Registered → Option (Option Registered) → Option Registered
 inner d None = d

@@ -1,23 +1,12 @@
 -- What a change under one number makes of a roster.
 use Rattle.std.proofs.Common.{◌≡◌, ◌≢◌, ℕ, suc, ◌+◌, ◌-◌, ◌^◌, ◌<◌, ◌≤◌, Bool, true, false, List, [], ◌∷◌, ◌++◌, length, length-append, Option, Some, None, option_map, is_some, refl, sym, ap, subst, ◌∙◌, cond, arith, eq-eqb, ne_eqb, true≢false, inl, inr}
 use Rattle.std.specs.Prelude.{◌==◌, ◌⊎◌, max, nat_eq}
-use Rattle.std.proofs.lemmas.Bool.Decides.{eqb_tells}
-use Rattle.std.proofs.lemmas.Grind.{common_steps}
-use Rattle.std.proofs.lemmas.Bool.{cases_lt}
-use Rattle.std.proofs.lemmas.List.{length-map}
-use Rattle.std.specs.Map.{lookup}
-use Rattle.bx_roster.specs.Live.{Prepared}
-use Rattle.std.specs.List.{list_any}
-use Rattle.bx_roster.specs.Edits.{is_open, opened_by_each, room_of}
+use Rattle.std.proofs.lemmas.{Bool.Decides.eqb_tells, Grind.common_steps, Bool.cases_lt, List.length-map}
+use Rattle.std.specs.{Map.lookup, List.list_any}
+use Rattle.bx_roster.specs.Words.{Prepared, is_open, opened_by_each, room_of, IsRoster, later, live_in, IsNamed, known_of, known_at, due_at, Record, session_of, with_one, sessions_to, vacant_count, Stands, IsKept}
 use Rattle.bx_roster.specs.declared.edit.Edit.{Edit}
-use Rattle.bx_roster.specs.Queues.{IsRoster}
-use Rattle.bx_roster.specs.Kept.{later}
 use Rattle.bx_entry.specs.Registry.{Registered, extended, closed}
-use Rattle.bx_roster.specs.Live.{live_in}
-use Rattle.bx_roster.specs.Tables.{IsNamed, known_of, known_at, due_at}
-use Rattle.bx_roster.proofs.Live.{live_in-extended}
-use Rattle.bx_roster.proofs.Tables.{live_in-all}
-use Rattle.bx_roster.specs.Kept.{Record, session_of, with_one, sessions_to, vacant_count, Stands, IsKept}
+use Rattle.bx_roster.proofs.{Live.live_in-extended, Tables.live_in-all}
 use Rattle.bx_roster.proofs.Sessions.{IsTable-above, found, found-absent, found-to, known_at-found, due_at-found, same_to, table-to, live-to, closed-to, length-closed, extended-to, closed-none, extended-none}
 
 some-none : {A : Type 0} (a : A) → None ≡ Some a → ⊥

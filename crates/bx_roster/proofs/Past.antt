@@ -1,21 +1,15 @@
 -- The numbers of the overdue sessions, from the late entries of a queue.
 use Rattle.std.proofs.Common.{◌≡◌, ℕ, ◌<◌, Bool, true, false, List, [], ◌∷◌, ◌++◌, map, refl, sym, ap, ◌∙◌, arith, eqb}
 use Rattle.std.specs.Prelude.{◌&&◌, ◌==◌, nat_lt}
-use Rattle.std.specs.List.{dedup, list_any}
-use Rattle.std.specs.List.Sorted.{IsPermutation, IsSorted}
-use Rattle.std.specs.Ordering.{nat_cmp}
-use Rattle.std.proofs.lemmas.Grind.{common_steps}
+use Rattle.std.specs.{List.dedup, List.list_any, List.Sorted.IsPermutation, List.Sorted.IsSorted, Ordering.nat_cmp}
+use Rattle.std.proofs.lemmas.{Grind.common_steps, List.Sorted.list_any-IsPermutation, Map.Keys.IsStrictlyIncreasing-dedup, Map.Keys.sorted_from_strictly_increasing}
 use Rattle.std.proofs.Math.Bool.{and-false}
-use Rattle.std.proofs.lemmas.List.Sorted.{list_any-IsPermutation}
-use Rattle.std.proofs.lemmas.Map.Keys.{IsStrictlyIncreasing-dedup, sorted_from_strictly_increasing}
 use Rattle.bx_lists.specs.Members.{has}
 use Rattle.bx_lists.proofs.Ascending.{dedup-has, AllAbove, Ascends, above-lower, same-ascends, ascends-sorted, filter-has}
 use Rattle.bx_entry.specs.Registry.{Registered, is_overdue, overdue}
-use Rattle.bx_roster.specs.Tables.{IsTable, IsAbsent, AllLive, due_at}
-use Rattle.bx_roster.specs.Queues.{AllFiled, IsFrom, files, is_past, past_numbers}
+use Rattle.bx_roster.specs.Words.{IsTable, IsAbsent, AllLive, due_at, AllFiled, IsFrom, files, is_past, past_numbers}
 use Rattle.bx_roster.specs.declared.due_queue.Due.{Due}
-use Rattle.bx_roster.proofs.Tables.{IsTable-absent}
-use Rattle.bx_roster.proofs.Dues.{due-from, files-number}
+use Rattle.bx_roster.proofs.{Tables.IsTable-absent, Dues.due-from, Dues.files-number}
 
 -- ---- the overdue sessions
 

@@ -1,15 +1,10 @@
 -- The sessions of a map in the order of their numbers, and what a change under one number makes of them.
 use Rattle.std.proofs.Common.{◌≡◌, ◌≢◌, ℕ, zero, suc, ◌+◌, ◌<◌, ◌≤◌, true, false, List, [], ◌∷◌, ◌++◌, length, length-append, Option, Some, None, option_map, is_some, refl, sym, ap, ap₂, ◌∙◌, arith, eq-eqb, ne_eqb, append-nil, true≢false, inl, inr}
 use Rattle.std.specs.Prelude.{◌==◌, ◌⊎◌, max, if◌then◌else◌}
-use Rattle.std.proofs.lemmas.Bool.Decides.{eqb_tells}
-use Rattle.std.proofs.lemmas.List.{map-append}
-use Rattle.std.proofs.lemmas.List.Elements.{filter-append}
-use Rattle.std.proofs.lemmas.Grind.{common_steps}
+use Rattle.std.proofs.lemmas.{Bool.Decides.eqb_tells, List.map-append, List.Elements.filter-append, Grind.common_steps}
 use Rattle.bx_entry.specs.Registry.{Registered, extended, closed}
-use Rattle.bx_roster.specs.Live.{live_in}
-use Rattle.bx_roster.specs.Tables.{IsTable, IsAbsent, AllLive, known_of, known_at, due_at}
+use Rattle.bx_roster.specs.Words.{live_in, IsTable, IsAbsent, AllLive, known_of, known_at, due_at, Record, session_of, with_one, sessions_to, Stands}
 use Rattle.bx_roster.proofs.Tables.{IsTable-push, live_in-all, map-absent}
-use Rattle.bx_roster.specs.Kept.{Record, session_of, with_one, sessions_to, Stands}
 
 -- ---- lists
 

@@ -4,8 +4,7 @@ use Rattle.std.specs.Prelude.{◌==◌, max, if◌then◌else◌}
 use Rattle.std.specs.List.{filter}
 use Rattle.std.proofs.lemmas.Grind.{common_steps}
 use Rattle.bx_entry.specs.Registry.{Registered}
-use Rattle.bx_roster.specs.Live.{live_in}
-use Rattle.bx_roster.specs.Tables.{IsNamed, IsTable, IsAbsent, AllLive}
+use Rattle.bx_roster.specs.Words.{live_in, IsNamed, IsTable, IsAbsent, AllLive}
 
 -- ---- tables
 

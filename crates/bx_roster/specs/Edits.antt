@@ -3,9 +3,8 @@ use Rattle.std.specs.Prelude.{ℕ, ◌≡◌, ◌+◌, ◌<◌, ◌^◌, Bool, t
 use Rattle.bx_entry.specs.Registry.{Registered, extended, closed, swept}
 use Rattle.bx_roster.specs.Live.{Members, with_live, live_in}
 use Rattle.bx_roster.specs.Tables.{IsNamed, known_at}
-use Rattle.bx_roster.specs.declared.edit.Edit.{Edit}
+use Rattle.bx_roster.specs.declared.edit.{Edit.Edit, Edits.Edits}
 use Rattle.bx_roster.specs.declared.edit.Edit.TheVariants.{Open, Extend, Close}
-use Rattle.bx_roster.specs.declared.edit.Edits.{Edits}
 use Rattle.bx_roster.specs.declared.edit.Edits.TheVariants.{Each, Sweep}
 
 -- the sessions after one edit: one more session, a due moment moved on, or a session closed

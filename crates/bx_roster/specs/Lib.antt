@@ -3,3 +3,4 @@ pub mod Tables
 pub mod Queues
 pub mod Edits
 pub mod Kept
+pub mod Words

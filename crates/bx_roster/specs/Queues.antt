@@ -1,8 +1,6 @@
 -- The queue of due moments: for each session that is live an entry that stands at its due moment or before it.
 use Rattle.std.specs.Prelude.{ℕ, ◌≡◌, ◌+◌, ◌<◌, ◌≤◌, ◌==◌, ◌&&◌, nat_le, nat_lt, Bool, true, false, List, [], ◌∷◌, ◌++◌, All, length, map, filter, Option, Some, None}
-use Rattle.std.specs.List.{list_any}
-use Rattle.std.specs.BinaryHeap.{IsHeap}
-use Rattle.std.specs.Ordering.{nat_cmp, ordering_then}
+use Rattle.std.specs.{List.list_any, BinaryHeap.IsHeap, Ordering.nat_cmp, Ordering.ordering_then}
 use Rattle.std.specs.declared.cmp.Ordering.{Ordering}
 use Rattle.bx_entry.specs.Registry.{Registered}
 use Rattle.bx_roster.specs.Live.{Members}

@@ -1,8 +1,6 @@
 -- A list, cut at the first byte of a value.
 use Rattle.std.proofs.Common.{◌≡◌, ℕ, suc, ◌+◌, ◌<◌, ◌≤◌, Bool, true, false, eqb, cond, not, List, [], ◌∷◌, ◌++◌, length, take, drop, refl, sym, ap, ◌∙◌, arith, position, Option, Some, None, eqb-true, eq-eqb, append-nil, zero, ◌⊎◌, inl, inr}
-use Rattle.std.proofs.lemmas.Bool.{le-ltb, lt-ltb}
-use Rattle.std.proofs.lemmas.Grind.{common_steps}
-use Rattle.std.proofs.lemmas.List.Sums.{position_or_len_is}
+use Rattle.std.proofs.lemmas.{Bool.le-ltb, Bool.lt-ltb, Grind.common_steps, List.Sums.position_or_len_is}
 use Rattle.memchr.specs.Find.{IsFirstByte, is_byte}
 use Rattle.bx_script.specs.Replay.{is_newline}
 use Rattle.std.specs.List.{before_first, after_first, position_or_len, slice_split, onto_first}

@@ -3,8 +3,7 @@ use Rattle.std.proofs.Common.{◌≡◌, ℕ, Option, List, [], ◌∷◌, ◌++
 use Rattle.std.specs.Prelude.{IsErr, OnErr, OnOk}
 use Rattle.std.specs.Io.KnownBytes.{Appends, Keeps}
 use Rattle.std.proofs.KnownBytes.{Appends-kept, Appends-nil, Appends-trans}
-use Rattle.bx_script.specs.Replay.{line_text}
-use Rattle.bx_script.specs.Printing.{AppendsFront, Writes}
+use Rattle.bx_script.specs.Words.{line_text, AppendsFront, Writes}
 
 -- nothing was written
 pub front_none : (a : Option (List ℕ)) (text : List ℕ) → AppendsFront a a text

@@ -1,7 +1,6 @@
 -- What is kept of a line, in one piece.
 use Rattle.std.proofs.Common.{◌≡◌, ℕ, suc, ◌-◌, ◌<◌, ◌≤◌, Bool, true, false, eqb, ltb, cond, List, [], ◌∷◌, ◌++◌, fold, length, take, refl, sym, ap, ◌∙◌, arith, append_assoc, append-nil, length-append, take_all, min, eqb-true, Result, Ok, Err, OnOk, is_ok}
-use Rattle.std.proofs.lemmas.Grind.{common_steps}
-use Rattle.std.proofs.lemmas.Bool.{lt-ltb, ltb-true, ltb-false}
+use Rattle.std.proofs.lemmas.{Grind.common_steps, Bool.lt-ltb, Bool.ltb-true, Bool.ltb-false}
 use Rattle.bx_script.specs.Kept.{without_zeros, is_lone_zero, keep_byte}
 
 -- ---- behind a byte that is no lone zero

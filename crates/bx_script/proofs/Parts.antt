@@ -1,10 +1,7 @@
 -- What a read of a part of a line does to known bytes.
 use Rattle.std.proofs.Common.{◌≡◌, ◌≢◌, ℕ, ◌+◌, ◌<◌, List, [], ◌∷◌, ◌++◌, fold, length, take, refl, sym, ap, subst, ◌∙◌, arith, Option, Some, None, OnSome, take_all, append_assoc, append-nil, length-append}
-use Rattle.std.specs.List.{before_first, position_or_len}
-use Rattle.std.specs.Io.KnownBytes.{Consumes, IsAtEnd, Keeps}
-use Rattle.bx_script.specs.Replay.{is_newline}
-use Rattle.bx_script.specs.Kept.{kept_with, keep_byte}
-use Rattle.bx_script.specs.Reading.{first_of, rest_of, IsCut, PartRead, ReadsPart}
+use Rattle.std.specs.{List.before_first, List.position_or_len, Io.KnownBytes.Consumes, Io.KnownBytes.IsAtEnd, Io.KnownBytes.Keeps}
+use Rattle.bx_script.specs.Words.{is_newline, kept_with, keep_byte, first_of, rest_of, IsCut, PartRead, ReadsPart}
 use Rattle.bx_script.specs.declared.kept.TheConstants.{KEPT_LIMIT}
 use Rattle.bx_script.specs.declared.part.Step.{Step}
 use Rattle.bx_script.specs.declared.part.Step.TheVariants.{Again, More, Line, End}

@@ -1,19 +1,12 @@
 -- What is kept of a line says what the line says.
 use Rattle.std.proofs.Common.{◌≡◌, ℕ, zero, suc, ◌+◌, ◌-◌, ◌*◌, ◌^◌, ◌<◌, ◌≤◌, ◌&&◌, ◌⊎◌, inl, inr, Bool, true, false, eqb, ltb, cond, List, [], ◌∷◌, ◌++◌, length, take, refl, sym, ap, subst, ◌∙◌, arith, Option, Some, None, take_all, eqb-true, fold, lit≤, le_trans, length-take-le}
-use Rattle.std.proofs.lemmas.Grind.{common_steps}
-use Rattle.std.proofs.lemmas.List.{take-append-le}
-use Rattle.std.proofs.lemmas.Bool.{lt-ltb, ltb-true, ltb-false, le-ltb}
-use Rattle.std.proofs.lemmas.Bool.Decides.{nat_tests}
-use Rattle.std.specs.Str.Parse.{digits_value, digits_value_after}
-use Rattle.std.specs.Char.{digit_value}
+use Rattle.std.proofs.lemmas.{Grind.common_steps, List.take-append-le, Bool.lt-ltb, Bool.ltb-true, Bool.ltb-false, Bool.le-ltb, Bool.Decides.nat_tests}
+use Rattle.std.specs.{Str.Parse.digits_value, Str.Parse.digits_value_after, Char.digit_value, Str.bytes_eq, List.before_first, List.after_first, List.starts_with}
 use Rattle.std.specs.Prelude.{codes, nat_eq}
-use Rattle.std.specs.Str.{bytes_eq}
-use Rattle.std.specs.List.{before_first, after_first, starts_with}
 use Rattle.bx_entry.specs.Inputs.{Tick}
 use Rattle.bx_advice.specs.declared.config.TheConstants.{BODY_LIMIT}
 use Rattle.bx_message.specs.Fields.{number_of, is_digits}
-use Rattle.bx_script.specs.Replay.{is_space, Refused, body_taken, query_taken, Line, Bad, Accepted, command, line_by, line_of, resharded_by, handed_by}
-use Rattle.bx_script.specs.Kept.{without_zeros, kept_with, keep_byte}
+use Rattle.bx_script.specs.Words.{is_space, Refused, body_taken, query_taken, Line, Bad, Accepted, command, line_by, line_of, resharded_by, handed_by, without_zeros, kept_with, keep_byte}
 use Rattle.bx_script.specs.declared.kept.TheConstants.{KEPT_LIMIT}
 use Rattle.bx_script.proofs.Keeping.{keeps_room, keeps_behind_zero, strips, IsStripped}
 use Rattle.bx_script.proofs.Cuts.{Lacks, lacks_taken, after_all, before_it, after_it, before_past, after_past, Parted, parted}

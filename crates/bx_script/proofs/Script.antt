@@ -1,9 +1,7 @@
 -- The first line of a script, and the others.
 use Rattle.std.proofs.Common.{◌≡◌, ◌≢◌, ℕ, ◌⊎◌, inl, inr, true, false, List, [], ◌∷◌, ◌++◌, refl, sym, ap, ◌∙◌, Option, Some, None, IfSome}
 use Rattle.std.specs.List.{slice_split}
-use Rattle.bx_script.specs.Replay.{is_newline, lines_of, without_empty_end, line_of}
-use Rattle.bx_script.specs.Reading.{first_of, rest_of, ReadsLine}
-use Rattle.bx_script.specs.Lines.{IsNext, said_by}
+use Rattle.bx_script.specs.Words.{is_newline, lines_of, without_empty_end, line_of, first_of, rest_of, ReadsLine, IsNext, said_by}
 use Rattle.bx_script.specs.declared.line.Line.{Line}
 use Rattle.bx_script.proofs.Cuts.{Lacks, before_all, after_all, split_all, split_behind, before_it, after_it, Parted, parted, split_some}
 use Rattle.bx_script.proofs.Says.{kept_says}

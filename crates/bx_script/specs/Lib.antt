@@ -5,3 +5,4 @@ pub mod Printing
 pub mod Reading
 pub mod Reads
 pub mod Replay
+pub mod Words

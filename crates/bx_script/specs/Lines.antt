@@ -6,10 +6,8 @@ use Rattle.bx_entry.specs.Requests.{read_input}
 use Rattle.bx_message.specs.Statuses.{code_of}
 use Rattle.bx_script.specs.Reading.{first_of, rest_of}
 use Rattle.bx_script.specs.Reads.{HasEnded, IsReadFault}
-use Rattle.bx_script.specs.declared.error.ScriptFault.{ScriptFault}
-use Rattle.bx_script.specs.declared.line.Line.{Line}
+use Rattle.bx_script.specs.declared.{error.ScriptFault.ScriptFault, line.Line.Line, lines.Lines.Lines}
 use Rattle.bx_script.specs.declared.line.Line.TheVariants.{Bad, Rejected, Accepted, Resharded}
-use Rattle.bx_script.specs.declared.lines.Lines.{Lines}
 
 -- what a line is read as, in the words of the replay
 abbrev pub said_by : Line → replay.Line

@@ -1,8 +1,7 @@
 -- What a writer was given, and whether it failed.
 use Rattle.std.specs.Prelude.{ℕ, ⊤, IsTrue, List, Option}
-use Rattle.bx_script.specs.declared.error.ScriptFault.{ScriptFault}
+use Rattle.bx_script.specs.declared.{error.ScriptFault.ScriptFault, output.Output.Output}
 use Rattle.bx_script.specs.declared.error.ScriptFault.TheVariants.{Memory, Read, Write}
-use Rattle.bx_script.specs.declared.output.Output.{Output}
 
 -- what the writer holds
 abbrev pub written : {W : Type 0} → (W → Option (List ℕ)) → Output W → Option (List ℕ)

@@ -1,8 +1,7 @@
 -- Why a script is read no further.
 use Rattle.std.specs.Prelude.{◌≡◌, ◌⊎◌, ⊤, IsTrue}
-use Rattle.bx_script.specs.declared.error.ScriptFault.{ScriptFault}
+use Rattle.bx_script.specs.declared.{error.ScriptFault.ScriptFault, part.Reads.Reads}
 use Rattle.bx_script.specs.declared.error.ScriptFault.TheVariants.{Memory, Read, Write}
-use Rattle.bx_script.specs.declared.part.Reads.{Reads}
 
 -- a read failed, or there were as many as there may be
 abbrev pub HasEnded : Reads → Type 0

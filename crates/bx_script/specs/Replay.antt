@@ -1,7 +1,6 @@
 -- What a replay prints for a script, from the script's bytes to what is printed.
 use Rattle.std.specs.Prelude.{ℕ, ◌+◌, ◌==◌, ◌&&◌, Bool, List, [], ◌∷◌, ◌++◌, length, map, flat_map, drop, nat_lt, nat_eq, nat_le, codes, decimal, if◌then◌else◌, Option, Some, None, slice_get, Result, Ok, Err}
-use Rattle.std.specs.List.{starts_with, slice_split, before_first, after_first}
-use Rattle.std.specs.Str.{bytes_eq}
+use Rattle.std.specs.{List.starts_with, List.slice_split, List.before_first, List.after_first, Str.bytes_eq}
 use Rattle.bx_advice.specs.declared.config.Config.{Config}
 use Rattle.bx_advice.specs.declared.config.TheConstants.{BODY_LIMIT}
 use Rattle.bx_message.specs.declared.reply.Item.{Item}
@@ -10,9 +9,7 @@ use Rattle.bx_message.specs.Statuses.{code_of}
 use Rattle.bx_message.specs.Texts.{body_text, callback_text}
 use Rattle.bx_entry.specs.declared.input.Refusal.{Refusal}
 use Rattle.bx_entry.specs.Inputs.{ReadInput, Request, Unread, Tick}
-use Rattle.bx_entry.specs.Requests.{request_messages, read_by}
-use Rattle.bx_entry.specs.Statuses.{refusal_status}
-use Rattle.bx_entry.specs.Runs.{Out, Whole, wholes, whole_at, held}
+use Rattle.bx_entry.specs.Words.{request_messages, read_by, refusal_status, Out, Whole, wholes, whole_at, held}
 use Rattle.bx_transport.specs.declared.error.TransportError.{TransportError}
 use Rattle.bx_transport.specs.Statuses.{transport_status}
 use Rattle.bx_transport.specs.Transports.{get_taken, post_taken}

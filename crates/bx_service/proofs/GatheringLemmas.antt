@@ -1,15 +1,12 @@
 -- What is still to come goes on being what was to come.
 use Rattle.std.proofs.Common.{◌≡◌, List, [], ◌∷◌, ◌++◌, Bool, false, Option, Some, None, Result, Ok, Err, OnOk, refl, subst, ◌∙◌}
 use Rattle.std.proofs.lemmas.List.{append_assoc}
-use Rattle.bx_entry.specs.declared.entry.Slot.{Slot}
+use Rattle.bx_entry.specs.declared.entry.{Slot.Slot, Ticket.Ticket}
 use Rattle.bx_entry.specs.declared.entry.Slot.TheVariants.{Ready, Waiting}
-use Rattle.bx_entry.specs.declared.entry.Ticket.{Ticket}
 use Rattle.bx_held.specs.Outputs.{MayGive}
 use Rattle.bx_held.specs.declared.fault.HeldFault.{HeldFault}
-use Rattle.bx_message.specs.declared.reply.Answer.{Answer}
-use Rattle.bx_message.specs.declared.reply.Item.{Item}
+use Rattle.bx_message.specs.declared.reply.{Answer.Answer, Item.Item, Reply.Reply}
 use Rattle.bx_message.specs.declared.reply.Item.TheVariants.{ReplyItem}
-use Rattle.bx_message.specs.declared.reply.Reply.{Reply}
 use Rattle.bx_shard.specs.Shards.{Setup}
 use Rattle.bx_window.specs.declared.law.Step.{Step}
 use Rattle.bx_service.specs.Gatherings.{AreAll, Awaited, awaited_as, items_of}

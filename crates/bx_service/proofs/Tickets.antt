@@ -2,9 +2,7 @@
 use Rattle.std.proofs.Common.{◌≡◌, ℕ, ◌+◌, ◌-◌, ◌<◌, ◌≤◌, List, [], ◌∷◌, ◌++◌, length, take, drop, refl, sym, ap, ◌∙◌, subst, arith, length-append}
 use Rattle.std.proofs.lemmas.List.{length-drop, length-map, length-take-le}
 use Rattle.bx_admission.specs.Slots.{given_by, given_from, slots_of}
-use Rattle.bx_entry.specs.Inputs.{ReadInput, added_by}
-use Rattle.bx_entry.specs.Listing.{Listed}
-use Rattle.bx_entry.specs.Registry.{Judged, PlaceSlot, Ready, Waiting, NoSlot, registry}
+use Rattle.bx_entry.specs.Words.{ReadInput, added_by, Listed, Judged, PlaceSlot, Ready, Waiting, NoSlot, registry}
 use Rattle.bx_entry.specs.declared.entry.Slot.{Slot}
 use Rattle.bx_hub.specs.Posts.{AreSlotsAt, IsAdmittedAt}
 use Rattle.bx_theory.proofs.Lists.{judged_length}

@@ -6,9 +6,8 @@ use Rattle.http_header.specs.FieldValue.{FieldValue}
 use Rattle.http_header.specs.HeaderMap.{Entries, get}
 use Rattle.http_uri.specs.Uri.{uri_path, uri_query}
 use Rattle.bx_advice.specs.declared.config.TheConstants.{BODY_LIMIT}
-use Rattle.bx_service.specs.declared.exchange.State.{State}
+use Rattle.bx_service.specs.declared.{exchange.State.State, route.Route.Route}
 use Rattle.bx_service.specs.declared.exchange.State.TheVariants.{Collecting, Asked, Held, Refused}
-use Rattle.bx_service.specs.declared.route.Route.{Route}
 use Rattle.bx_service.specs.declared.route.Route.TheVariants as routes
 use Rattle.bx_message.specs.declared.status.Status.TheVariants.{TooLarge, Unavailable}
 use Rattle.bx_service.specs.Statuses.{route_of}

@@ -12,9 +12,7 @@ use Rattle.bx_cut.specs.declared.bodies.Bodies.{Bodies}
 use Rattle.bx_message.specs.declared.reply.Item.{Item}
 use Rattle.bx_transport.specs.Transports.{post_taken, get_taken}
 use Rattle.bx_transport.specs.declared.error.TransportError.{TransportError}
-use Rattle.bx_service.specs.declared.backend.Declined.{Declined}
-use Rattle.bx_service.specs.declared.backend.Unanswered.{Unanswered}
-use Rattle.bx_service.specs.declared.exchange.State.{State}
+use Rattle.bx_service.specs.declared.{backend.Declined.Declined, backend.Unanswered.Unanswered, exchange.State.State}
 use Rattle.bx_service.specs.declared.exchange.State.TheVariants.{Collecting, Asked, Held, Refused}
 use Rattle.bx_message.specs.declared.status.Status.TheVariants.{Unavailable}
 use Rattle.bx_service.specs.Responses.{IsAnswer, IsRefusal}

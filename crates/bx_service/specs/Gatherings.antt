@@ -1,23 +1,18 @@
 -- What the slots of a request come to, and why a request has none.
 use Rattle.std.specs.Prelude.{ℕ, ◌≡◌, ◌<◌, List, [], ◌∷◌, ◌++◌, map, Option, Some, None, false, Bool, Ok}
-use Rattle.std.specs.List.{AllByRecursion, AllByRecursion-prop}
+use Rattle.std.specs.{List.AllByRecursion, List.AllByRecursion-prop, Coded.Unit-prop}
 use Rattle.std.proofs.Props.{props}
-use Rattle.std.specs.Coded.{Unit-prop}
-use Rattle.bx_entry.specs.Inputs.{ReadInput}
-use Rattle.bx_entry.specs.Requests.{read_by, request_messages}
-use Rattle.bx_entry.specs.declared.entry.Slot.{Slot}
+use Rattle.bx_entry.specs.Words.{ReadInput, read_by, request_messages}
+use Rattle.bx_entry.specs.declared.entry.{Slot.Slot, Ticket.Ticket}
 use Rattle.bx_entry.specs.declared.entry.Slot.TheVariants.{Ready, Waiting}
-use Rattle.bx_entry.specs.declared.entry.Ticket.{Ticket}
 use Rattle.bx_held.specs.Outputs.{MayGive}
 use Rattle.bx_hub.specs.Posts.{AreSlotsAt, IsAdmittedAt, IsRefused}
 use Rattle.bx_hub.specs.declared.fault.PostFault.{PostFault}
-use Rattle.bx_message.specs.declared.reply.Answer.{Answer}
-use Rattle.bx_message.specs.declared.reply.Item.{Item}
+use Rattle.bx_message.specs.declared.{reply.Answer.Answer, reply.Item.Item, status.Status.Status}
 use Rattle.bx_message.specs.declared.reply.Item.TheVariants.{EventItem, ReplyItem}
 use Rattle.bx_shard.specs.Shards.{Setup}
 use Rattle.bx_window.specs.declared.law.Step.{Step}
 use Rattle.bx_service.specs.Statuses.{post_status}
-use Rattle.bx_message.specs.declared.status.Status.{Status}
 
 -- a connect or a rider that waits stands below this place
 abbrev pub IsBelow : ℕ → Slot → Type 0

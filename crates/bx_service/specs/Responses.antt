@@ -6,8 +6,7 @@ use Rattle.http_body_util.specs.declared.full.Full.{Full}
 use Rattle.http_header.specs.FieldValue.{FieldValue, plain_value}
 use Rattle.http_header.specs.HeaderMap.{Entries, insert}
 use Rattle.bx_message.specs.Texts.{body_text, callback_text}
-use Rattle.bx_message.specs.declared.reply.Item.{Item}
-use Rattle.bx_message.specs.declared.status.Status.{Status}
+use Rattle.bx_message.specs.declared.{reply.Item.Item, status.Status.Status}
 use Rattle.bx_message.specs.declared.status.Status.TheVariants.{Ok, BadRequest, NotFound, MethodNotAllowed, TooLarge, Unavailable}
 use Rattle.bx_message.specs.Statuses.{code_of}
 

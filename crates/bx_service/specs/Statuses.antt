@@ -1,7 +1,6 @@
 -- The statuses of requests.
 use Rattle.std.specs.Prelude.{ℕ, List, Bool, ◌||◌, nat_eq, codes, if◌then◌else◌}
-use Rattle.std.specs.List.{starts_with}
-use Rattle.std.specs.Str.{bytes_eq}
+use Rattle.std.specs.{List.starts_with, Str.bytes_eq}
 use Rattle.bx_body.specs.declared.collect.BodyFault.{BodyFault}
 use Rattle.bx_body.specs.declared.collect.BodyFault.TheVariants as bodies
 use Rattle.bx_entry.specs.Statuses.{refusal_status}

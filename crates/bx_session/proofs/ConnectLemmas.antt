@@ -1,14 +1,11 @@
 -- A connect in its parts: the hold that it ends, and what becomes of it once none is held.
 use Rattle.std.proofs.Common.{◌≡◌, ℕ, Option, List, ◌++◌, map, take, drop, sym, ap, ◌∙◌, arith}
-use Rattle.std.proofs.lemmas.Grind.{common_steps}
-use Rattle.std.proofs.lemmas.List.{drop-map, take-map, map-append}
-use Rattle.bx_advice.specs.declared.config.Config.{Config}
-use Rattle.bx_advice.specs.declared.advice.Outcome.{Outcome}
+use Rattle.std.proofs.lemmas.{Grind.common_steps, List.drop-map, List.take-map, List.map-append}
+use Rattle.bx_advice.specs.declared.{config.Config.Config, advice.Outcome.Outcome}
 use Rattle.bx_advice.specs.declared.advice.Outcome.TheVariants.{Failed}
 use Rattle.bx_advice.specs.declared.error.Error.TheVariants.{SupersededConnect}
 use Rattle.bx_message.specs.declared.event.Event.{Event}
-use Rattle.bx_entry.specs.Answers.{events_of}
-use Rattle.bx_entry.specs.Keeping.{Kept, after, answers_of, kept, resumed}
+use Rattle.bx_entry.specs.Words.{events_of, Kept, after, answers_of, kept, resumed}
 use Rattle.bx_entry.specs.Sessions.{Filed, Pending, Publication, Session, admitted, connected, released, unheld}
 use Rattle.bx_entry.proofs.Settled.{admitted_s}
 use Rattle.bx_session.specs.declared.answered.Answered.{Answered}

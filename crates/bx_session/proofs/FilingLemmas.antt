@@ -1,19 +1,13 @@
 -- An entry gives all its answers at its own place.
 use Rattle.std.proofs.Common.{◌≡◌, ℕ, Bool, Option, List, [], ◌∷◌, ◌++◌, map, ◌==◌, refl, sym, ap, ◌∙◌, arith}
-use Rattle.std.proofs.lemmas.Bool.{cond_both}
-use Rattle.std.proofs.lemmas.Grind.{common_steps}
-use Rattle.std.proofs.lemmas.List.{map-append}
-use Rattle.bx_advice.specs.declared.config.Config.{Config}
-use Rattle.bx_advice.specs.declared.advice.Outcome.{Outcome}
+use Rattle.std.proofs.lemmas.{Bool.cond_both, Grind.common_steps, List.map-append}
+use Rattle.bx_advice.specs.declared.{config.Config.Config, advice.Outcome.Outcome}
 use Rattle.bx_advice.specs.declared.advice.Outcome.TheVariants.{Failed}
 use Rattle.bx_advice.specs.declared.error.Error.TheVariants.{SupersededConnect}
-use Rattle.bx_entry.specs.declared.entry.Entry.{Entry}
-use Rattle.bx_entry.specs.declared.entry.EntryKind.{EntryKind}
+use Rattle.bx_entry.specs.declared.entry.{Entry.Entry, EntryKind.EntryKind, Rider.Rider}
 use Rattle.bx_entry.specs.declared.entry.EntryKind.TheVariants.{Connect, Publish}
-use Rattle.bx_entry.specs.Answers.{PlacedAnswer, events_of}
+use Rattle.bx_entry.specs.Words.{PlacedAnswer, events_of, Kept, resumed, kept_answers}
 use Rattle.bx_entry.specs.Sessions.{Session, Publication, Pending, Filed, released, admitted, connected, published, step_by, ridden_by, rider_of}
-use Rattle.bx_entry.specs.declared.entry.Rider.{Rider}
-use Rattle.bx_entry.specs.Keeping.{Kept, resumed, kept_answers}
 use Rattle.bx_session.specs.Views.{answered_of}
 use Rattle.bx_session.specs.Filing.{filed_as, filed_at}
 

@@ -2,11 +2,8 @@
 use Rattle.std.proofs.Common.{ℕ, ◌+◌, ◌≤◌, Option, List, [], ◌∷◌, length, fold, arith}
 use Rattle.std.proofs.lemmas.Grind.{common_steps}
 use Rattle.bx_advice.specs.declared.config.Config.{Config}
-use Rattle.bx_entry.specs.declared.entry.Entry.{Entry}
-use Rattle.bx_entry.specs.declared.entry.EntryKind.{EntryKind}
-use Rattle.bx_entry.specs.Sessions.{Session, unopened, step_by, ridden_by, rider_of, step, session}
-use Rattle.bx_entry.specs.declared.entry.Rider.{Rider}
-use Rattle.bx_entry.specs.Keeping.{Kept, resumed, kept_step}
+use Rattle.bx_entry.specs.declared.entry.{Entry.Entry, EntryKind.EntryKind, Rider.Rider}
+use Rattle.bx_entry.specs.Words.{Session, unopened, step_by, ridden_by, rider_of, step, session, Kept, resumed, kept_step}
 
 -- one batch more at most was formed
 step_n : (config : Config) (place moment : ℕ) (t : Session) (kind : EntryKind) → (step_by config place moment t kind).num ≤ t.num + 1

@@ -2,9 +2,7 @@
 use Rattle.std.specs.Prelude.{ℕ, ◌≡◌, map}
 use Rattle.bx_advice.specs.declared.config.Config.{Config}
 use Rattle.bx_entry.specs.declared.entry.Entry.{Entry}
-use Rattle.bx_entry.specs.Answers.{PlacedAnswer, answer_of}
-use Rattle.bx_entry.specs.Sessions.{Filed}
-use Rattle.bx_entry.specs.Keeping.{Kept, kept_answers}
+use Rattle.bx_entry.specs.Words.{PlacedAnswer, answer_of, Filed, Kept, kept_answers}
 use Rattle.bx_session.specs.declared.answered.Answered.{Answered}
 use Rattle.bx_session.specs.Views.{answered_of}
 

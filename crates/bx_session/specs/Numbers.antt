@@ -1,8 +1,7 @@
 -- How many batches a session forms.
 use Rattle.std.specs.Prelude.{ℕ, ◌+◌, ◌≤◌, List, length}
 use Rattle.bx_advice.specs.declared.config.Config.{Config}
-use Rattle.bx_entry.specs.Keeping.{Kept, kept_step}
-use Rattle.bx_entry.specs.Sessions.{session}
+use Rattle.bx_entry.specs.Words.{Kept, kept_step, session}
 use Rattle.bx_entry.specs.declared.entry.Entry.{Entry}
 
 -- an entry forms one batch at most

@@ -1,19 +1,12 @@
 -- A session as the program holds it, and what its calls answer, in the words of the definition.
 use Rattle.std.specs.Prelude.{ℕ, ◌+◌, ◌≤◌, ◌^◌, ◌&&◌, min, length, is_some, Bool, true, false, List, [], ◌∷◌, ◌++◌, nat_lt, if◌then◌else◌, Option, Some, None}
 use Rattle.std.specs.Option.{option_to_list}
-use Rattle.bx_advice.specs.declared.config.Config.{Config}
-use Rattle.bx_advice.specs.declared.advice.Outcome.{Outcome}
+use Rattle.bx_advice.specs.declared.{config.Config.Config, advice.Outcome.Outcome}
 use Rattle.bx_advice.specs.Limits.{greatest_length}
-use Rattle.bx_entry.specs.Answers.{events_of}
-use Rattle.bx_entry.specs.Keeping.{Kept}
-use Rattle.bx_entry.specs.Sessions.{Filed, Pending, deadline}
+use Rattle.bx_entry.specs.Words.{events_of, Kept, Filed, Pending, deadline}
 use Rattle.bx_message.specs.Replies.{connect_reply}
-use Rattle.bx_message.specs.declared.event.Event.{Event}
-use Rattle.bx_message.specs.declared.reply.AckReply.{AckReply}
-use Rattle.bx_message.specs.declared.reply.Reply.{Reply}
-use Rattle.bx_session.specs.declared.answered.Answered.{Answered}
-use Rattle.bx_session.specs.declared.answered.Connection.{Connection}
-use Rattle.bx_session.specs.declared.answered.Delivery.{Delivery}
+use Rattle.bx_message.specs.declared.{event.Event.Event, reply.AckReply.AckReply, reply.Reply.Reply}
+use Rattle.bx_session.specs.declared.answered.{Answered.Answered, Connection.Connection, Delivery.Delivery}
 use Rattle.bx_session.specs.declared.answered.Delivery.TheVariants.{Waits, Given, Overflowed}
 
 -- what is kept of a session, and for how many more events it has room without taking memory

@@ -4,10 +4,8 @@ use Rattle.bx_advice.specs.declared.config.Config.{Config}
 use Rattle.bx_entry.specs.declared.entry.Entry.{Entry}
 use Rattle.bx_connects.specs.Connects.{connect_at}
 use Rattle.bx_shard.specs.declared.sessions.Sessions.{Sessions}
-use Rattle.bx_shard.specs.Following.{Followed}
-use Rattle.bx_shard.specs.States.{Applied, IsSound, State, opens_in}
-use Rattle.bx_shard.proofs.Gives.{given_unanswered}
-use Rattle.bx_shard.proofs.Onwards.{begun_none}
+use Rattle.bx_shard.specs.Words.{Followed, Applied, IsSound, State, opens_in}
+use Rattle.bx_shard.proofs.{Gives.given_unanswered, Onwards.begun_none}
 
 module _ (shards : ℕ) (placing : ℕ → ℕ → ℕ) (index : ℕ) (shut : Bool) where
   -- the state of these sessions at this place

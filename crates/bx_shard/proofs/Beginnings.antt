@@ -1,13 +1,11 @@
 -- A connect of a session: the hold that it ends, its own, and what is filed of both.
 use Rattle.std.proofs.Common.{arith, Contains, ◌≡◌, ◌≢◌, ℕ, nat_eq, Bool, cond, Option, Some, None, option_map, is_none, List, [], ◌∷◌, ◌++◌, map, refl, sym, ap, ◌∙◌, true≢false, subst}
 use Rattle.std.specs.Option.{option_map_or}
-use Rattle.std.proofs.lemmas.Bool.{eq-eqb}
-use Rattle.std.proofs.lemmas.List.Elements.{Contains-append_left, Contains-append_right}
+use Rattle.std.proofs.lemmas.{Bool.eq-eqb, List.Elements.Contains-append_left, List.Elements.Contains-append_right}
 use Rattle.bx_advice.specs.declared.config.Config.{Config}
 use Rattle.bx_advice.specs.declared.advice.Outcome.TheVariants.{Failed}
 use Rattle.bx_advice.specs.declared.error.Error.TheVariants.{SupersededConnect}
-use Rattle.bx_entry.specs.Keeping.{Kept, after, answers_of, kept, resumed}
-use Rattle.bx_entry.specs.Sessions.{Pending, admitted, connected, released, unheld}
+use Rattle.bx_entry.specs.Words.{Kept, after, answers_of, kept, resumed, Pending, admitted, connected, released, unheld}
 use Rattle.bx_session.specs.declared.answered.Answered.{Answered}
 use Rattle.bx_session.specs.Views.{answered_of}
 use Rattle.bx_session.proofs.ConnectLemmas.{connected_answers, connected_kept, released_unheld}
@@ -16,9 +14,7 @@ use Rattle.bx_connects.specs.Connects.{filing}
 use Rattle.bx_shard.specs.Effects.{answers_by, connect_filing, filing_each, holding}
 use Rattle.bx_shard.specs.Sessions.{held_until, holds_until}
 use Rattle.bx_shard.proofs.Ends.{IsTo, Settles, to_hold, admitted_e, filing_agrees, held_to, is_to, kept_sessions, released_e, with_hold}
-use Rattle.bx_shard.proofs.Keeps.{AreElsewhere, unfiled}
-use Rattle.bx_shard.proofs.Singles.{the_one}
-use Rattle.bx_shard.proofs.Ties.{Agree, IsFree, still}
+use Rattle.bx_shard.proofs.{Keeps.AreElsewhere, Keeps.unfiled, Singles.the_one, Ties.Agree, Ties.IsFree, Ties.still}
 use Rattle.bx_shard.proofs.Ties as ties
 
 -- ---- several answers

@@ -5,9 +5,7 @@ use Rattle.std.proofs.lemmas.List.Folds.{list_any_more}
 use Rattle.bx_entry.specs.Keeping.{Kept}
 use Rattle.bx_connects.specs.declared.connects.ConnectState.{ConnectState}
 use Rattle.bx_connects.specs.declared.connects.ConnectState.TheVariants.{Held, Filed}
-use Rattle.bx_shard.specs.Effects.{forgetting, held_in}
-use Rattle.bx_shard.specs.Sessions.{held_until}
-use Rattle.bx_shard.specs.States.{let_go}
+use Rattle.bx_shard.specs.Words.{forgetting, held_in, held_until, let_go}
 use Rattle.bx_shard.proofs.Ties.{Agree}
 
 -- nothing is known any longer of the connect where this session holds it

@@ -1,17 +1,13 @@
 -- An entry lets each session form one batch at most.
 use Rattle.std.proofs.Common.{◌≡◌, ◌≤◌, ◌+◌, ℕ, nat_le, Bool, true, Option, Some, None, IfSome, arith, refl, ap, ◌∙◌}
 use Rattle.std.proofs.Math.Dec.{leb}
-use Rattle.std.proofs.lemmas.Bool.{cond_both}
-use Rattle.std.proofs.lemmas.Bool.Decides.{nat_tests}
+use Rattle.std.proofs.lemmas.{Bool.cond_both, Bool.Decides.nat_tests}
 use Rattle.bx_advice.specs.declared.config.Config.{Config}
-use Rattle.bx_entry.specs.declared.entry.Entry.{Entry}
-use Rattle.bx_entry.specs.declared.entry.EntryKind.{EntryKind}
-use Rattle.bx_entry.specs.Keeping.{Kept, kept_step}
-use Rattle.bx_entry.specs.Sessions.{is_live}
+use Rattle.bx_entry.specs.declared.entry.{Entry.Entry, EntryKind.EntryKind}
+use Rattle.bx_entry.specs.Words.{Kept, kept_step, is_live}
 use Rattle.bx_session.proofs.NumberLemmas.{numbers_step}
 use Rattle.bx_shard.specs.declared.sessions.Sessions.{Sessions}
-use Rattle.bx_shard.specs.Sessions.{has_formed_at_most, kept_in}
-use Rattle.bx_shard.specs.States.{if_live, opening, session_after}
+use Rattle.bx_shard.specs.Words.{has_formed_at_most, kept_in, if_live, opening, session_after}
 
 -- ---- the test
 

@@ -1,8 +1,7 @@
 -- Sessions stand with their patterns, whatever a change does.
 use Rattle.std.proofs.Common.{arith, ◌≡◌, ℕ, nat_eq, true, false, cond, Option, Some, None, option_map, List, [], ◌∷◌, length, fold, nat_lt, refl, sym, ◌∙◌}
 use Rattle.std.proofs.lemmas.Bool.{cond_both, both_ways}
-use Rattle.bx_names.specs.Globs.{Glob}
-use Rattle.bx_names.specs.InForce.{with_pattern}
+use Rattle.bx_names.specs.Words.{Glob, with_pattern}
 use Rattle.bx_advice.specs.declared.config.Config.{Config}
 use Rattle.bx_advice.specs.declared.advice.Outcome.TheVariants.{Connected}
 use Rattle.bx_entry.specs.Keeping.{Kept, after, kept, resumed}

@@ -1,28 +1,18 @@
 -- What one more element of the list does to the registry and to each session.
 use Rattle.std.proofs.Common.{◌&&◌, ◌≡◌, ℕ, zero, suc, ◌+◌, ◌<◌, ◌≤◌, max, Bool, true, false, cond, Option, Some, None, List, [], ◌∷◌, ◌++◌, length, take, map, option_map, slice_get, nat_lt, ◌==◌, refl, sym, ap, ◌∙◌, subst, arith, append-nil, append_assoc, length-take, eq-eqb, ne_eqb, ltb-true, ltb-false}
-use Rattle.std.proofs.lemmas.Bool.{cond_both, cond-false, both_ways}
-use Rattle.std.proofs.lemmas.List.{map-append, length-map, length_push}
-use Rattle.std.proofs.lemmas.List.Sums.{fold-append}
+use Rattle.std.proofs.lemmas.{Bool.cond_both, Bool.cond-false, Bool.both_ways, List.map-append, List.length-map, List.length_push, List.Sums.fold-append}
 use Rattle.std.specs.List.{list_any}
 use Rattle.bx_lists.proofs.Tests.{either}
-use Rattle.bx_advice.specs.declared.config.Config.{Config}
-use Rattle.bx_advice.specs.declared.error.Error.{Error}
-use Rattle.bx_message.specs.declared.message_kind.MessageKind.{MessageKind}
+use Rattle.bx_advice.specs.declared.{config.Config.Config, error.Error.Error}
+use Rattle.bx_message.specs.declared.{message_kind.MessageKind.MessageKind, message.Message.Message}
 use Rattle.bx_message.specs.MessageKinds.{message_kind_of, is_handshake}
-use Rattle.bx_message.specs.declared.message.Message.{Message}
-use Rattle.bx_entry.specs.Listing.{Listed, Post, Posted}
+use Rattle.bx_entry.specs.Words.{Listed, Post, Posted, due_of, Registry, Registered, Judged, judge, judged_by, kind_for, left_by, extended, swept, overdue, is_overdue, named_by, refusal, hold_of, registry, empty_registry, entries_of, entries, unnamed, sessionless_kind, PlaceSlot, is_rider, rider_for, slot_for, noted, state_of, Session, ended, ridden, ridden_by, rider_of, step_by, step, unopened, session}
 use Rattle.bx_entry.specs.Listing as messages
-use Rattle.bx_entry.specs.declared.entry.Entry.{Entry}
-use Rattle.bx_entry.specs.declared.entry.EntryKind.{EntryKind}
+use Rattle.bx_entry.specs.declared.entry.{Entry.Entry, EntryKind.EntryKind, Rider.Rider}
 use Rattle.bx_entry.specs.declared.entry.EntryKind.TheVariants.{Opened, Subscribe, Unsubscribe, Publish}
-use Rattle.bx_entry.specs.Registry.{due_of, Registry, Registered, Judged, judge, judged_by, kind_for, left_by, extended, swept, overdue, is_overdue, named_by, refusal, hold_of, registry, empty_registry, entries_of, entries, unnamed, sessionless_kind, PlaceSlot, is_rider, rider_for, slot_for, noted, state_of}
-use Rattle.bx_entry.specs.declared.entry.Rider.{Rider}
-use Rattle.bx_entry.specs.Sessions.{Session, ended, ridden, ridden_by, rider_of, step_by, step, unopened, session}
 use Rattle.bx_shard.proofs.Rides.{rider_of_none}
 use Rattle.bx_theory.specs.Readings.{opens_by}
-use Rattle.bx_theory.proofs.Dues.{numbered, numbered_below, named_session}
-use Rattle.bx_theory.proofs.Lives.{entries_push}
-use Rattle.bx_theory.proofs.Lists.{judged_more, judged_length}
+use Rattle.bx_theory.proofs.{Dues.numbered, Dues.numbered_below, Dues.named_session, Lives.entries_push, Lists.judged_more, Lists.judged_length}
 
 -- ---- the numbers of the registry
 

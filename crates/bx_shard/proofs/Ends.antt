@@ -2,15 +2,13 @@
 use Rattle.std.proofs.Common.{arith, Contains, subst, ◌≡◌, ◌⊎◌, inl, inr, ℕ, nat_eq, Bool, cond, ◌&&◌, Option, Some, None, option_map, List, [], ◌∷◌, ◌++◌, map, length, ◌==◌, refl, sym, ap, ◌∙◌}
 use Rattle.std.specs.Option.{option_and_then}
 use Rattle.std.proofs.lemmas.Bool.{cond_both, eq-eqb}
-use Rattle.bx_advice.specs.declared.config.Config.{Config}
-use Rattle.bx_advice.specs.declared.advice.Outcome.{Outcome}
+use Rattle.bx_advice.specs.declared.{config.Config.Config, advice.Outcome.Outcome}
 use Rattle.bx_advice.specs.declared.advice.Outcome.TheVariants.{Connected, Disconnected, Failed}
 use Rattle.bx_advice.specs.declared.error.Error.TheVariants.{QueueOverflow}
 use Rattle.bx_message.specs.declared.reply.Answer.{Answer}
-use Rattle.bx_entry.specs.Keeping.{Kept, after, kept, resumed}
+use Rattle.bx_entry.specs.Words.{Kept, after, kept, resumed, acknowledges, forms}
 use Rattle.bx_entry.specs.Sessions.{Pending, Publication, Session, acknowledged, admitted, answered, answered_or_held, cleared, delivered, delivered_to, ends_by, expired, expired_from, filing, forgotten, formed, given, gives, has_room, holding, idle, overflowed, portion, received, released, released_from, unheld, window_in, with_batch, with_event}
 use Rattle.bx_entry.specs.Sessions as sessions
-use Rattle.bx_entry.specs.Windows.{acknowledges, forms}
 use Rattle.bx_session.specs.declared.answered.Answered.{Answered}
 use Rattle.bx_session.specs.Views.{answered_of, deadline_of}
 use Rattle.bx_connects.specs.declared.connects.ConnectState.{ConnectState}
@@ -18,8 +16,7 @@ use Rattle.bx_connects.specs.declared.connects.ConnectState.TheVariants.{Filed}
 use Rattle.bx_connects.specs.Connects.{filed_as, session_at}
 use Rattle.bx_shard.specs.Effects.{answers_by, filing_each, forgetting, held_in}
 use Rattle.bx_shard.specs.Sessions.{ends_for, held_until, holds_until}
-use Rattle.bx_shard.proofs.Keeps.{filed_known, held_session}
-use Rattle.bx_shard.proofs.Singles.{nowhere, only_one}
+use Rattle.bx_shard.proofs.{Keeps.filed_known, Keeps.held_session, Singles.nowhere, Singles.only_one}
 use Rattle.bx_shard.proofs.Ties.{Agree, IsFree, IsNobody, ended, holds_own, still}
 
 -- an answer ends the hold of the session

@@ -1,25 +1,16 @@
 -- What a shard has filed after one more entry.
 use Rattle.std.proofs.Common.{◌≡◌, ℕ, ◌+◌, ◌<◌, Bool, false, Option, Some, None, List, [], ◌∷◌, ◌++◌, length, take, filter, ◌==◌, refl, sym, ap, ◌∙◌, arith, append-nil, find, flat_map, length-append}
-use Rattle.std.proofs.lemmas.Bool.{cond_both, cond-true, cond-false}
-use Rattle.std.proofs.lemmas.List.Elements.{filter-append}
+use Rattle.std.proofs.lemmas.{Bool.cond_both, Bool.cond-true, Bool.cond-false, List.Elements.filter-append, Grind.flat_map-append, List.Folds.find-append, List.Folds.flat_map-map}
 use Rattle.bx_lists.proofs.Tests.{either}
 use Rattle.bx_advice.specs.declared.config.Config.{Config}
-use Rattle.bx_entry.specs.Listing.{Listed}
-use Rattle.bx_entry.specs.declared.entry.Entry.{Entry}
-use Rattle.bx_entry.specs.declared.entry.EntryKind.{EntryKind}
+use Rattle.bx_entry.specs.Words.{Listed, Registry, judge, registry, entries_of, Waiting, Session, Live, is_live, step_by, step, unopened, session, Filed, Kept, kept, StepsAlike, kept_answers}
+use Rattle.bx_entry.specs.declared.entry.{Entry.Entry, EntryKind.EntryKind}
 use Rattle.bx_entry.specs.declared.entry.EntryKind.TheVariants.{Opened}
-use Rattle.bx_entry.specs.Registry.{Registry, judge, registry, entries_of, Waiting}
-use Rattle.bx_entry.specs.Sessions.{Session, Live, is_live, step_by, step, unopened, session, Filed}
-use Rattle.bx_entry.specs.Keeping.{Kept, kept, StepsAlike, kept_answers}
 use Rattle.bx_shard.specs.Shards.{Setup, stands_in, is_taken, shard_at, sessions_in}
-use Rattle.bx_theory.proofs.Kept.{kept_steps}
+use Rattle.bx_theory.proofs.{Kept.kept_steps, Closings.idle_next}
 use Rattle.std.specs.Option.{option_or}
-use Rattle.std.proofs.lemmas.Grind.{flat_map-append}
-use Rattle.std.proofs.lemmas.List.Folds.{find-append, flat_map-map}
 use Rattle.bx_shard.specs.Steps.{answers_by, ShardsFile}
-use Rattle.bx_theory.proofs.Closings.{idle_next}
-use Rattle.bx_shard.proofs.Waits.{waits_over}
-use Rattle.bx_shard.proofs.Untaken.{FoundBy, find_of, find_untaken, found_by}
+use Rattle.bx_shard.proofs.{Waits.waits_over, Untaken.FoundBy, Untaken.find_of, Untaken.find_untaken, Untaken.found_by}
 use Rattle.bx_shard.proofs.Elements.{numbers, opened_numbers, Adds, next_is, session_next, all_fresh, opens_above, Met, met}
 use Rattle.bx_shard.proofs.Stepping.{by_numbers, held_by, one_kept, held_cons, numbers_in, held_over, held_at}
 

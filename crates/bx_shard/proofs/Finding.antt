@@ -1,24 +1,17 @@
 -- Sessions found by their numbers, and answers found by the places of their connects.
 use Rattle.std.proofs.Common.{◌≡◌, ℕ, suc, ◌<◌, false, cond, Option, Some, None, List, [], ◌∷◌, map, filter, find, flat_map, ◌==◌, refl, sym, ap, ◌∙◌, subst, arith, eqb-true, eq-eqb}
-use Rattle.std.proofs.lemmas.Bool.{cond_both, cond-true, cond-false}
+use Rattle.std.proofs.lemmas.{Bool.cond_both, Bool.cond-true, Bool.cond-false, List.Folds.find-append, List.Kept.AllPairs-from_increasing}
 use Rattle.std.proofs.lemmas.List.Elements.{All-cons, All-nil, Contains-append_left, Contains-append_right}
-use Rattle.std.proofs.lemmas.List.Folds.{find-append}
-use Rattle.std.proofs.lemmas.List.Kept.{AllPairs-from_increasing}
-use Rattle.std.specs.List.{All, AllPairs, Contains}
-use Rattle.std.specs.List.Sorted.{IsStrictlyIncreasing}
-use Rattle.std.specs.Option.{option_or}
+use Rattle.std.specs.{List.All, List.AllPairs, List.Contains, List.Sorted.IsStrictlyIncreasing, Option.option_or}
 use Rattle.bx_lists.proofs.Tests.{either}
 use Rattle.bx_advice.specs.declared.config.Config.{Config}
 use Rattle.bx_entry.specs.declared.entry.Entry.{Entry}
-use Rattle.bx_entry.specs.Answers.{PlacedAnswer, answer_of}
-use Rattle.bx_entry.specs.Keeping.{Kept, kept_step}
-use Rattle.bx_entry.specs.Sessions.{Filed, is_live}
+use Rattle.bx_entry.specs.Words.{PlacedAnswer, answer_of, Kept, kept_step, Filed, is_live}
 use Rattle.bx_session.specs.declared.answered.Answered.{Answered}
 use Rattle.bx_session.specs.Views.{answered_of}
 use Rattle.bx_session.specs.Filing.{filed_as, filed_at}
 use Rattle.bx_shard.specs.Refining.{placed}
-use Rattle.bx_shard.proofs.Cases.{by_option}
-use Rattle.bx_shard.proofs.Untaken.{find_of}
+use Rattle.bx_shard.proofs.{Cases.by_option, Untaken.find_of}
 
 -- ---- numbers
 

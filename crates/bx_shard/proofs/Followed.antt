@@ -1,17 +1,13 @@
 -- What each kind of entry does to the sessions of a shard, from what the calls promise.
 use Rattle.std.proofs.Common.{arith, Contains, ◌≡◌, ◌≢◌, ◌&&◌, ◌⊎◌, inl, inr, ℕ, nat_eq, ◌==◌, Bool, true, false, cond, Option, Some, None, option_map, is_none, is_some, List, [], map, refl, sym, ap, ◌∙◌, true≢false, subst}
-use Rattle.std.specs.List.{list_any}
-use Rattle.std.specs.Option.{option_and_then, option_map_or}
-use Rattle.std.proofs.lemmas.Bool.{eqb-true, eq-eqb, cond_both}
-use Rattle.std.proofs.lemmas.List.Elements.{Contains-append_cases}
+use Rattle.std.specs.{List.list_any, Option.option_and_then, Option.option_map_or}
+use Rattle.std.proofs.lemmas.{Bool.eqb-true, Bool.eq-eqb, Bool.cond_both, List.Elements.Contains-append_cases}
 use Rattle.bx_names.specs.Globs.{Glob}
 use Rattle.bx_advice.specs.declared.advice.Outcome.TheVariants.{Disconnected}
 use Rattle.bx_message.specs.declared.event.Event.{Event}
-use Rattle.bx_entry.specs.declared.entry.Entry.{Entry}
-use Rattle.bx_entry.specs.declared.entry.EntryKind.{EntryKind}
+use Rattle.bx_entry.specs.declared.entry.{Entry.Entry, EntryKind.EntryKind}
 use Rattle.bx_entry.specs.declared.entry.EntryKind.TheVariants as kinds
-use Rattle.bx_entry.specs.Keeping.{Kept, after, kept, resumed}
-use Rattle.bx_entry.specs.Sessions.{Live, Pending, Session, Stage, Unopened, begun, closed_by, connected, disconnected, ended, expired, is_live, published, released, step, subscribed, unopened, unsubscribed}
+use Rattle.bx_entry.specs.Words.{Kept, after, kept, resumed, Live, Pending, Session, Stage, Unopened, begun, closed_by, connected, disconnected, ended, expired, is_live, published, released, step, subscribed, unopened, unsubscribed}
 use Rattle.bx_session.specs.declared.answered.Answered.{Answered}
 use Rattle.bx_session.specs.Views.{answered_of, deadline_of, pending}
 use Rattle.bx_connects.specs.declared.connects.ConnectState.{ConnectState}
@@ -19,17 +15,14 @@ use Rattle.bx_connects.specs.declared.connects.ConnectState.TheVariants.{Filed}
 use Rattle.bx_connects.specs.Connects.{connect_at, held_by, session_at}
 use Rattle.bx_shard.specs.declared.sessions.Sessions.{Sessions}
 use Rattle.bx_shard.specs.Effects.{answers_by, connect_filing, filing_each, holding}
-use Rattle.bx_shard.specs.Following.{Followed, alone}
-use Rattle.bx_shard.specs.Publishing.{published_at}
+use Rattle.bx_shard.specs.Words.{Followed, alone, published_at, Connects, IsGiven, if_live, let_go, session_after}
 use Rattle.bx_shard.specs.Sessions.{AreCounted, AreHeld, IsCounted, IsOwn, kept_in, patterns_in}
-use Rattle.bx_shard.specs.States.{Connects, IsGiven, if_live, let_go, session_after}
 use Rattle.bx_shard.specs.States as states
 use Rattle.bx_shard.proofs.Beginnings.{both_answers, filing_more, is_own, is_superseded, others_superseded, own_answers, superseded, to_itself}
 use Rattle.bx_theory.proofs.Keeps.{Keeps, connected_k, expired_from_k, released_from_k}
-use Rattle.bx_shard.proofs.Counts.{published_stage, subscribed_l, subscribed_quiet}
+use Rattle.bx_shard.proofs.{Counts.published_stage, Counts.subscribed_l, Counts.subscribed_quiet, Singles.nowhere}
 use Rattle.bx_shard.proofs.Ends.{IsTo, filed_only, filed_to, held_to, is_to, release_settles}
 use Rattle.bx_shard.proofs.Keeps.{AreElsewhere, filing_each_session, held_session, let_go_session, unfiled}
-use Rattle.bx_shard.proofs.Singles.{nowhere}
 
 -- without its rider an entry does what one of its kind does
 of_kind : (stands : Bool) (e : Entry) (kind : EntryKind) (old new : Sessions) → e.kind ≡ kind → Followed stands (record e { kind = kind; rides = None }) old new → Followed stands (alone e) old new

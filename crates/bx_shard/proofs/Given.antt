@@ -5,19 +5,12 @@ use mathlib.Core.List.{IsPrefix}
 use Rattle.bx_lists.proofs.Tests.{either}
 use Rattle.bx_advice.specs.declared.config.Config.{Config}
 use Rattle.bx_message.specs.declared.reply.Answer.{Answer}
-use Rattle.bx_entry.specs.Listing.{Listed}
-use Rattle.bx_entry.specs.Registry.{Registry, Judged, Waiting, registry, entries_of}
-use Rattle.bx_entry.specs.Sessions.{Filed, session}
-use Rattle.bx_entry.specs.Answers.{PlacedAnswer, answer_of, filed_for, answer_at, answer}
+use Rattle.bx_entry.specs.Words.{Listed, Registry, Judged, Waiting, registry, entries_of, Filed, session, PlacedAnswer, answer_of, filed_for, answer_at, answer}
 use Rattle.bx_connects.specs.Connects.{filed_answer, taken_from}
 use Rattle.bx_connects.specs.declared.connects.ConnectState.{ConnectState}
-use Rattle.bx_shard.specs.Refining.{FiledIsGiven, Took, filed_with_place, given_of}
-use Rattle.bx_shard.specs.Shards.{Setup, shard_at}
-use Rattle.bx_shard.specs.States.{State, IsAsBefore, connect_in}
+use Rattle.bx_shard.specs.Words.{FiledIsGiven, Took, filed_with_place, given_of, Setup, shard_at, State, IsAsBefore, connect_in}
 use Rattle.bx_theory.proofs.Lists.{answer_more}
-use Rattle.bx_shard.proofs.Waits.{waits_over}
-use Rattle.bx_shard.proofs.Cases.{by_option}
-use Rattle.bx_shard.proofs.Untaken.{found_in}
+use Rattle.bx_shard.proofs.{Waits.waits_over, Cases.by_option, Untaken.found_in}
 
 answer_waiting : (config : Config) (number place : ℕ) (a : PlacedAnswer) (r : Registry) (o : Option Judged) → option_map (λ (j : Judged). j.slot) o ≡ Some (Waiting number) →
     filed_for place (session config number (entries_of r)).answers ≡ Some a → answer_at config (entries_of r) place o ≡ Some a

@@ -1,16 +1,12 @@
 -- An entry answers only connects that weren't answered before.
 use Rattle.std.proofs.Common.{◌≡◌, ℕ, ◌⊎◌, ⊎_elim, inl, inr, Bool, true, false, cond, is_some, Option, Some, None, List, [], ◌∷◌, map, ◌==◌, refl, sym, ap, ◌∙◌, subst, arith}
-use Rattle.std.proofs.lemmas.Bool.{cond_both}
-use Rattle.std.proofs.lemmas.List.{map-append}
-use Rattle.std.proofs.lemmas.List.Elements.{Contains-append_cases}
+use Rattle.std.proofs.lemmas.{Bool.cond_both, List.map-append, List.Elements.Contains-append_cases}
 use Rattle.std.specs.List.{All, Contains, list_any}
 use Rattle.bx_names.specs.Globs.{Glob}
 use Rattle.bx_advice.specs.declared.config.Config.{Config}
 use Rattle.bx_advice.specs.declared.advice.Outcome.TheVariants.{Disconnected, Failed}
 use Rattle.bx_advice.specs.declared.error.Error.TheVariants.{SupersededConnect}
-use Rattle.bx_entry.specs.declared.entry.Entry.{Entry}
-use Rattle.bx_entry.specs.declared.entry.EntryKind.{EntryKind}
-use Rattle.bx_entry.specs.declared.entry.Rider.{Rider}
+use Rattle.bx_entry.specs.declared.entry.{Entry.Entry, EntryKind.EntryKind, Rider.Rider}
 use Rattle.bx_entry.specs.declared.entry.EntryKind.TheVariants.{Opened, Connect, Subscribe, Unsubscribe, Publish, Disconnect, Refused, Tick}
 use Rattle.bx_entry.specs.Keeping.{Kept, after, answers_of, kept, resumed}
 use Rattle.bx_entry.specs.Sessions.{Pending, Publication, Session, Stage, admitted, begun, connected, ended, expired, is_hit, is_riding, received, released, ridden, ridden_by, ride_filing, rider_of, step, step_by, subscribed, unheld}
@@ -19,14 +15,9 @@ use Rattle.bx_session.specs.Views.{answered_of, pending}
 use Rattle.bx_session.proofs.ConnectLemmas.{connected_answers}
 use Rattle.bx_connects.specs.declared.connects.ConnectState.{ConnectState}
 use Rattle.bx_shard.specs.Effects.{answers_by}
-use Rattle.bx_shard.specs.Refining.{filed_with_place}
-use Rattle.bx_shard.specs.Sessions.{ends_for, held_until, holds_until}
-use Rattle.bx_shard.specs.States.{IsGiven, IsSound, State, connect_in, session_in}
-use Rattle.bx_shard.proofs.Cases.{by_option}
-use Rattle.bx_shard.proofs.Counts.{subscribed_quiet}
-use Rattle.bx_shard.proofs.Rides.{of_riding}
+use Rattle.bx_shard.specs.Words.{filed_with_place, ends_for, held_until, holds_until, IsGiven, IsSound, State, connect_in, session_in}
+use Rattle.bx_shard.proofs.{Cases.by_option, Counts.subscribed_quiet, Rides.of_riding, Singles.nowhere, Singles.only_one}
 use Rattle.bx_shard.proofs.Ends.{From, IsTo, is_to, to_hold, admitted_e, expired_e, received_e, released_e, with_hold}
-use Rattle.bx_shard.proofs.Singles.{nowhere, only_one}
 
 -- ---- whom a session answers
 

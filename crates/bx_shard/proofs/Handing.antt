@@ -1,31 +1,23 @@
 -- What comes of an event that is handed to one session after another.
 use Rattle.std.proofs.Common.{zero, suc, not, ◌&&◌, slice_index, IfSome, Contains, IsTrue, ◌↔◌, ◌≤◌, length, arith, ◌<◌, ◌+◌, ◌≡◌, ◌≢◌, ℕ, nat_eq, Bool, true, false, cond, ◌||◌, Option, Some, None, option_map, List, [], ◌∷◌, map, refl, sym, ap, ◌∙◌, true≢false, subst}
-use Rattle.std.specs.List.{All, list_any}
-use Rattle.std.proofs.lemmas.List.Elements.{All-head, All-tail}
-use Rattle.std.specs.List.Sorted.{IsStrictlyIncreasing}
-use Rattle.bx_names.specs.Kinds.{is_broadcast}
+use Rattle.std.specs.{List.All, List.list_any, List.Sorted.IsStrictlyIncreasing}
+use Rattle.std.proofs.lemmas.{List.Elements.All-head, List.Elements.All-tail, Bool.eqb-true, Bool.eq-eqb, Bool.ne_eqb}
+use Rattle.bx_names.specs.Words.{is_broadcast, Glob, any_matches, segments}
 use Rattle.std.proofs.Math.Bool.{or-true}
-use Rattle.bx_message.specs.declared.reply.Answer.{Answer}
-use Rattle.std.proofs.lemmas.Bool.{eqb-true, eq-eqb, ne_eqb}
-use Rattle.bx_names.specs.Globs.{Glob, any_matches}
-use Rattle.bx_names.specs.Segments.{segments}
+use Rattle.bx_message.specs.declared.{reply.Answer.Answer, event.Event.Event}
 use Rattle.bx_advice.specs.declared.config.Config.{Config}
-use Rattle.bx_message.specs.declared.event.Event.{Event}
-use Rattle.bx_entry.specs.Keeping.{Kept, after, kept, resumed}
-use Rattle.bx_entry.specs.Sessions.{Session, Stage, is_hit, is_live, published, received}
+use Rattle.bx_entry.specs.Words.{Kept, after, kept, resumed, Session, Stage, is_hit, is_live, published, received}
 use Rattle.bx_session.specs.declared.answered.Answered.{Answered}
 use Rattle.bx_session.specs.Views.{Countable, answered_of, deadline_of, wants_two}
 use Rattle.bx_connects.specs.declared.connects.ConnectState.{ConnectState}
 use Rattle.bx_connects.specs.declared.connects.ConnectState.TheVariants.{Filed}
 use Rattle.bx_connects.specs.Connects.{connect_at, session_at}
-use Rattle.bx_shard.specs.declared.publish.Parcel.{Parcel}
-use Rattle.bx_shard.specs.declared.sessions.Sessions.{Sessions}
+use Rattle.bx_shard.specs.declared.{publish.Parcel.Parcel, sessions.Sessions.Sessions}
 use Rattle.bx_shard.specs.Effects.{answers_by, filing_each}
 use Rattle.bx_shard.specs.Publishing.{reaches, AllReady, IsPacked, IsReady, NoneFor, Turn, Turns, numbers_of, published_at}
 use Rattle.bx_shard.specs.Sessions.{AreCountable, AreCounted, AreHeld, IsCounted, IsOwn, HasRoom, held_until, kept_in, patterns_in}
 use Rattle.bx_shard.proofs.Ends.{IsTo, filed_to, held_to, is_to, received_e, settles_each}
-use Rattle.bx_shard.proofs.Keeps.{filing_each_session, unfiled}
-use Rattle.bx_shard.proofs.Singles.{nowhere}
+use Rattle.bx_shard.proofs.{Keeps.filing_each_session, Keeps.unfiled, Singles.nowhere}
 
 -- the other sessions can get their parcels as before
 pub ready_along : (s t : Sessions) (m : ℕ) (xs : List Parcel) → NoneFor m xs → ((n : ℕ) → nat_eq m n ≡ false → kept_in t n ≡ kept_in s n)

@@ -2,15 +2,10 @@
 use Rattle.std.proofs.Common.{◌≡◌, ℕ, zero, suc, ◌<◌, Option, Some, None, List, [], ◌∷◌, ◌++◌, length, take, map, filter, find, option_map, slice_get, ◌==◌, refl, sym, ap, ◌∙◌, arith, length-append}
 use Rattle.std.proofs.lemmas.List.{take-append-le}
 use Rattle.bx_advice.specs.declared.config.Config.{Config}
-use Rattle.bx_entry.specs.Listing.{Listed}
-use Rattle.bx_entry.specs.Answers.{answer_of}
-use Rattle.bx_entry.specs.Keeping.{Kept, kept}
-use Rattle.bx_entry.specs.Registry.{Registry, Registered, Judged, registry, entries_of}
-use Rattle.bx_entry.specs.Sessions.{Session, Filed, session}
+use Rattle.bx_entry.specs.Words.{Listed, answer_of, Kept, kept, Registry, Registered, Judged, registry, entries_of, Session, Filed, session}
 use Rattle.bx_theory.proofs.Lists.{judged_length, judged_more}
 use Rattle.bx_connects.specs.Connects.{session_at}
-use Rattle.bx_shard.specs.Shards.{Setup, filed_among, live_among, stands_in}
-use Rattle.bx_shard.specs.Refining.{RefinesAtFirst, RefinesLonger, RefinesStill, IsConnectOf, filed_with_place}
+use Rattle.bx_shard.specs.Words.{Setup, filed_among, live_among, stands_in, RefinesAtFirst, RefinesLonger, RefinesStill, IsConnectOf, filed_with_place}
 use Rattle.bx_shard.proofs.Taking.{waits_later}
 
 -- ---- at first, and after a call that changed nothing

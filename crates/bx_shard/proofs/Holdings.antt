@@ -1,25 +1,15 @@
 -- What a shard holds: each session is reached and live, and their numbers ascend.
 use Rattle.std.proofs.Common.{◌≡◌, ℕ, zero, suc, ◌+◌, ◌<◌, ◌≤◌, true, List, [], ◌∷◌, length, take, map, filter, slice_index, refl, sym, ap, ◌∙◌, subst, arith, length-take}
-use Rattle.std.proofs.lemmas.Bool.{cond_both}
-use Rattle.std.proofs.lemmas.List.{length-map}
-use Rattle.std.proofs.lemmas.List.Elements.{All-nil, All-cons}
-use Rattle.std.proofs.lemmas.List.Kept.{IsStrictlyIncreasing-filter}
-use Rattle.std.specs.List.{All}
-use Rattle.std.specs.List.Sorted.{IsStrictlyIncreasing}
+use Rattle.std.proofs.lemmas.{Bool.cond_both, List.length-map, List.Elements.All-nil, List.Elements.All-cons, List.Kept.IsStrictlyIncreasing-filter}
+use Rattle.std.specs.{List.All, List.Sorted.IsStrictlyIncreasing}
 use Rattle.bx_advice.specs.declared.config.Config.{Config}
 use Rattle.bx_entry.specs.declared.entry.Entry.{Entry}
-use Rattle.bx_entry.specs.Listing.{Listed}
-use Rattle.bx_entry.specs.Registry.{Registry, Registered, Judged, judge, registry, entries_of}
-use Rattle.bx_entry.specs.Sessions.{Session, is_live, unopened, session}
-use Rattle.bx_entry.specs.Keeping.{Kept, kept}
-use Rattle.bx_theory.proofs.Dues.{NumberedFrom, numbered}
-use Rattle.bx_theory.proofs.Lists.{judged_length}
+use Rattle.bx_entry.specs.Words.{Listed, Registry, Registered, Judged, judge, registry, entries_of, Session, is_live, unopened, session, Kept, kept}
+use Rattle.bx_theory.proofs.{Dues.NumberedFrom, Dues.numbered, Lists.judged_length, Closings.run_number, Closings.live_stage}
 use Rattle.bx_session.proofs.NumberLemmas.{numbers_count}
-use Rattle.bx_shard.specs.Shards.{Setup, shard_at, stands_in}
-use Rattle.bx_shard.specs.Holdings.{IsReached, SessionsReached, NumbersAscend, OpenedIsFresh}
+use Rattle.bx_shard.specs.Words.{Setup, shard_at, stands_in, IsReached, SessionsReached, NumbersAscend, OpenedIsFresh}
 use Rattle.bx_shard.proofs.Elements.{numbers, opens_above, Met, met}
 use Rattle.bx_shard.proofs.Stepping.{held_by, held_cons, numbers_in, held_at, EachNumber, numbers_below}
-use Rattle.bx_theory.proofs.Closings.{run_number, live_stage}
 
 -- ---- each that is held
 

@@ -1,16 +1,13 @@
 -- Whatever is filed or let go, a connect has the session that it had.
 use Rattle.std.proofs.Common.{arith, Contains, ◌≡◌, ◌≢◌, ℕ, Bool, cond, Option, Some, option_map, List, [], ◌∷◌, refl, ap, ◌∙◌}
-use Rattle.std.proofs.lemmas.Bool.{ne_eqb}
-use Rattle.std.proofs.lemmas.List.Elements.{Contains-append_left, Contains-append_right}
+use Rattle.std.proofs.lemmas.{Bool.ne_eqb, List.Elements.Contains-append_left, List.Elements.Contains-append_right}
 use Rattle.bx_message.specs.declared.reply.Answer.{Answer}
 use Rattle.futures.specs.declared.task.waker.Waker.{Waker}
 use Rattle.bx_session.specs.declared.answered.Answered.{Answered}
 use Rattle.bx_connects.specs.declared.connects.ConnectState.{ConnectState}
 use Rattle.bx_connects.specs.declared.connects.ConnectState.TheVariants.{Filed}
 use Rattle.bx_connects.specs.Connects.{filed_as, filing, session_at, unswept, unwatched, with_waker}
-use Rattle.bx_shard.specs.Effects.{filing_each}
-use Rattle.bx_shard.specs.Sessions.{held_until}
-use Rattle.bx_shard.specs.States.{let_go}
+use Rattle.bx_shard.specs.Words.{filing_each, held_until, let_go}
 use Rattle.bx_shard.proofs.Singles.{the_one}
 
 filed_session : (place : ℕ) (answer : Answer) (o : Option ConnectState) → session_at (filed_as place answer o) ≡ session_at o

@@ -1,23 +1,13 @@
 -- A shard that has applied an entry holds what the definition's shard holds after it.
 use Rattle.std.proofs.Common.{◌≡◌, ◌≢◌, ⊎_elim, get_or, ℕ, ◌+◌, ◌<◌, ◌≤◌, Bool, true, false, cond, ◌&&◌, is_some, Option, Some, None, List, [], ◌∷◌, ◌++◌, length, take, map, filter, flat_map, option_map, slice_get, ◌==◌, refl, sym, ap, ◌∙◌, subst, arith, eq-eqb, length-take}
 use Rattle.std.proofs.lemmas.Bool.{and_right, both_ways, cond_both, cond-true}
-use Rattle.std.proofs.lemmas.List.{length_push, map-append}
-use Rattle.std.proofs.lemmas.List.Elements.{All-map, filter-append}
-use Rattle.std.proofs.lemmas.List.Folds.{find-append}
-use Rattle.std.specs.List.{All, Contains, list_any}
-use Rattle.std.specs.Option.{option_and_then, option_or}
-use Rattle.bx_lists.proofs.Lists.{or_none}
-use Rattle.bx_lists.proofs.Tests.{either}
+use Rattle.std.proofs.lemmas.{List.length_push, List.map-append, List.Elements.All-map, List.Elements.filter-append, List.Folds.find-append}
+use Rattle.std.specs.{List.All, List.Contains, List.list_any, Option.option_and_then, Option.option_or}
+use Rattle.bx_lists.proofs.{Lists.or_none, Tests.either}
 use Rattle.bx_advice.specs.declared.config.Config.{Config}
-use Rattle.bx_entry.specs.declared.entry.Entry.{Entry}
-use Rattle.bx_entry.specs.declared.entry.EntryKind.{EntryKind}
-use Rattle.bx_entry.specs.declared.entry.Rider.{Rider}
+use Rattle.bx_entry.specs.declared.entry.{Entry.Entry, EntryKind.EntryKind, Rider.Rider}
 use Rattle.bx_entry.specs.declared.entry.EntryKind.TheVariants.{Opened}
-use Rattle.bx_entry.specs.Answers.{answer_of}
-use Rattle.bx_entry.specs.Listing.{Listed}
-use Rattle.bx_entry.specs.Keeping.{Kept, kept, kept_answers, kept_step, resumed}
-use Rattle.bx_entry.specs.Registry.{entries, registry}
-use Rattle.bx_entry.specs.Sessions.{Filed, Live, Session, is_live, step, unopened}
+use Rattle.bx_entry.specs.Words.{answer_of, Listed, Kept, kept, kept_answers, kept_step, resumed, entries, registry, Filed, Live, Session, is_live, step, unopened}
 use Rattle.bx_theory.proofs.Stages.{step_number}
 use Rattle.bx_session.specs.declared.answered.Answered.{Answered}
 use Rattle.bx_session.specs.Views.{answered_of}
@@ -26,23 +16,14 @@ use Rattle.bx_connects.specs.declared.connects.ConnectState.{ConnectState}
 use Rattle.bx_connects.specs.declared.connects.ConnectState.TheVariants as states
 use Rattle.bx_connects.specs.Connects.{session_at}
 use Rattle.bx_shard.specs.Effects as effects
-use Rattle.bx_shard.specs.Effects.{holding}
+use Rattle.bx_shard.specs.Words.{holding, IsReached, Setup, is_taken, sessions_in, shard_at, stands_in, Applied, IsGiven, IsSound, State, begun, connect_in, if_live, let_go, opening, opens_in, session_after, session_in}
 use Rattle.bx_shard.specs.Refining.{Refines, RefinesOnwards, IsConnectOf, IsOwn, filed_with_place, placed}
-use Rattle.bx_shard.specs.Holdings.{IsReached}
-use Rattle.bx_shard.specs.Shards.{Setup, is_taken, sessions_in, shard_at, stands_in}
-use Rattle.bx_shard.specs.States.{Applied, IsGiven, IsSound, State, begun, connect_in, if_live, let_go, opening, opens_in, session_after, session_in}
 use Rattle.bx_shard.specs.Steps.{answers_by, opening_by, stepped}
-use Rattle.bx_shard.proofs.Cases.{by_option}
-use Rattle.bx_shard.proofs.Elements.{Met, met}
-use Rattle.bx_shard.proofs.Filings.{shards_file}
+use Rattle.bx_shard.proofs.{Cases.by_option, Elements.Met, Elements.met, Filings.shards_file, Placed.entry_placed, Singles.nowhere, Stepping.shards_step, Untaken.find_of}
 use Rattle.bx_shard.proofs.Finding.{Apart, GivenBy, apart, contains_found, each_none, find_kept, found_each, given_by, next, none_there, numbers_of, placed_found, steps, steps_found}
 use Rattle.bx_shard.proofs.Gives.{Unanswered, all_contains, given_unanswered}
 use Rattle.bx_shard.proofs.Holdings.{holds_reached, holds_stand, sessions_ascend}
-use Rattle.bx_shard.proofs.Placed.{entry_placed}
-use Rattle.bx_shard.proofs.Singles.{nowhere}
-use Rattle.bx_shard.proofs.Stepping.{shards_step}
 use Rattle.bx_shard.proofs.Taking.{connect_of_filed, none_taken}
-use Rattle.bx_shard.proofs.Untaken.{find_of}
 use Rattle.bx_shard.proofs.Waits.{WaitsAt, connect_waits, rider_waits}
 
 -- an entry by its parts

@@ -1,9 +1,8 @@
 -- Each entry of a list stands at its own place.
 use Rattle.std.proofs.Common.{◌≡◌, ℕ, zero, suc, ◌+◌, Some, None, List, [], ◌∷◌, slice_get, ap, arith}
 use Rattle.bx_advice.specs.declared.config.Config.{Config}
-use Rattle.bx_entry.specs.Listing.{Listed}
+use Rattle.bx_entry.specs.Words.{Listed, entries}
 use Rattle.bx_entry.specs.declared.entry.Entry.{Entry}
-use Rattle.bx_entry.specs.Registry.{entries}
 use Rattle.bx_theory.specs.Laws.{PlacesFrom}
 use Rattle.bx_theory.proofs.Lists.{entries_in_order}
 

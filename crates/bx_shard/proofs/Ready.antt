@@ -2,20 +2,12 @@
 use Rattle.std.proofs.Common.{◌≡◌, ℕ, ◌<◌, ◌≤◌, Bool, Option, Some, None, List, slice_get, refl, sym, ◌∙◌, subst, arith}
 use Rattle.std.specs.Option.{IfSome}
 use Rattle.bx_advice.specs.Limits.{greatest_length}
-use Rattle.bx_entry.specs.Keeping.{Kept}
-use Rattle.bx_entry.specs.Listing.{Listed}
-use Rattle.bx_entry.specs.Registry.{entries}
+use Rattle.bx_entry.specs.Words.{Kept, Listed, entries}
 use Rattle.bx_entry.specs.declared.entry.Entry.{Entry}
 use Rattle.bx_entry.specs.declared.entry.EntryKind.TheVariants.{Opened}
 use Rattle.bx_session.specs.Views.{Countable}
-use Rattle.bx_shard.specs.Refining.{Refines}
-use Rattle.bx_shard.specs.Holdings.{IsReached}
-use Rattle.bx_shard.specs.Sessions.{AreCountable}
-use Rattle.bx_shard.specs.Shards.{Setup, shard_at}
-use Rattle.bx_shard.specs.States.{State, session_in}
-use Rattle.bx_shard.proofs.Cases.{by_option}
-use Rattle.bx_shard.proofs.Finding.{find_kept, found_each}
-use Rattle.bx_shard.proofs.Holdings.{holds_reached, opened_is_fresh}
+use Rattle.bx_shard.specs.Words.{Refines, IsReached, AreCountable, Setup, shard_at, State, session_in}
+use Rattle.bx_shard.proofs.{Cases.by_option, Finding.find_kept, Finding.found_each, Holdings.holds_reached, Holdings.opened_is_fresh}
 
 -- another batch of each session can be counted, as long as the list can grow
 pub holds_countable : (setup : Setup) (list : List Listed) (taken : List ℕ) (shard n : ℕ) (s : State) → 0 < setup.config.limits.batch → Refines setup list taken shard n s → n ≤ greatest_length → AreCountable s.sessions

@@ -2,16 +2,13 @@
 use Rattle.std.proofs.Common.{Contains, arith, ◌≡◌, ◌≢◌, ◌≤◌, ◌+◌, ◌&&◌, ◌⊎◌, inl, inr, ⊎_elim, ℕ, min, nat_eq, ◌==◌, Bool, true, false, cond, Option, Some, None, option_map, IfSome, is_some, List, [], ◌∷◌, length, map, refl, sym, ap, ◌∙◌, subst, true≢false}
 use Rattle.std.specs.Option.{option_and_then}
 use Rattle.std.proofs.lemmas.Bool.{and_parts, cond_both, cond-true, cond-false, eqb-true, eq-eqb}
-use Rattle.std.proofs.lemmas.List.{length_push, map-append}
-use Rattle.std.proofs.lemmas.List.Elements.{Contains-append_cases, Contains-append_left, Contains-append_right}
+use Rattle.std.proofs.lemmas.{List.length_push, List.map-append, List.Elements.Contains-append_cases, List.Elements.Contains-append_left, List.Elements.Contains-append_right}
 use Rattle.bx_lists.proofs.Tests.{either}
 use Rattle.bx_names.specs.Globs.{Glob}
 use Rattle.bx_advice.specs.declared.config.Config.{Config}
 use Rattle.bx_message.specs.declared.event.Event.{Event}
-use Rattle.bx_entry.specs.declared.entry.Entry.{Entry}
-use Rattle.bx_entry.specs.declared.entry.EntryKind.{EntryKind}
+use Rattle.bx_entry.specs.declared.entry.{Entry.Entry, EntryKind.EntryKind, Rider.Rider}
 use Rattle.bx_entry.specs.declared.entry.EntryKind.TheVariants.{Subscribe, Unsubscribe, Publish}
-use Rattle.bx_entry.specs.declared.entry.Rider.{Rider}
 use Rattle.bx_entry.specs.Keeping.{Kept, kept, resumed}
 use Rattle.bx_entry.specs.Sessions.{Live, Pending, Publication, Session, delivered, gives_one, has_room, is_hit, is_live, is_riding, overflowed, delivered_to, received, ridden, ridden_by, ride_filing, ride_portion, rider_of, step, step_by, subscribed, unheld, unsubscribed, with_event}
 use Rattle.bx_session.specs.declared.answered.Answered.{Answered}
@@ -21,16 +18,11 @@ use Rattle.bx_connects.specs.declared.connects.ConnectState.TheVariants as state
 use Rattle.bx_connects.specs.Connects.{completed, connect_at, session_at}
 use Rattle.bx_shard.specs.declared.sessions.Sessions.{Sessions}
 use Rattle.bx_shard.specs.Effects.{answers_by}
-use Rattle.bx_shard.specs.Following.{Followed, alone, completed_by, given_up, rider_in, rides_of, unridden}
+use Rattle.bx_shard.specs.Words.{Followed, alone, completed_by, given_up, rider_in, rides_of, unridden, Connects, IsGiven, begun, if_live, opening, riding, session_after}
 use Rattle.bx_shard.specs.Sessions.{AreCounted, AreHeld, IsCounted, IsOwn, ends_for, held_until, holds_until, kept_in, patterns_in}
-use Rattle.bx_shard.specs.States.{Connects, IsGiven, begun, if_live, opening, riding, session_after}
-use Rattle.bx_theory.proofs.Counts.{subscribed_by}
-use Rattle.bx_theory.proofs.Keeps.{delivered_to_k}
-use Rattle.bx_theory.proofs.Stages.{step_by_next}
-use Rattle.bx_shard.proofs.Followed.{at_number, live_there, none_here}
+use Rattle.bx_theory.proofs.{Counts.subscribed_by, Keeps.delivered_to_k, Stages.step_by_next}
+use Rattle.bx_shard.proofs.{Followed.at_number, Followed.live_there, Followed.none_here, Rides.of_riding, Rides.rider_of_none, Ties.Agree, Ties.still}
 use Rattle.bx_shard.proofs.Gives.{HoldsIt, holds_ends, rider_due}
-use Rattle.bx_shard.proofs.Rides.{of_riding, rider_of_none}
-use Rattle.bx_shard.proofs.Ties.{Agree, still}
 use Rattle.bx_shard.proofs.Singles.{nowhere, only_one, the_one}
 
 -- ---- what kinds of entries ride

@@ -1,26 +1,15 @@
 -- The live sessions of a shard after one more entry.
 use Rattle.std.proofs.Common.{arith, ◌≡◌, ℕ, ◌+◌, ◌<◌, Bool, true, false, cond, List, [], ◌∷◌, ◌++◌, length, take, map, filter, refl, sym, ap, ◌∙◌}
-use Rattle.std.proofs.lemmas.Bool.{cond_both, cond-true, cond-false}
-use Rattle.std.proofs.lemmas.List.{map-append}
-use Rattle.std.proofs.lemmas.List.Elements.{filter-append}
+use Rattle.std.proofs.lemmas.{Bool.cond_both, Bool.cond-true, Bool.cond-false, List.map-append, List.Elements.filter-append}
 use Rattle.bx_lists.proofs.Tests.{either}
 use Rattle.bx_advice.specs.declared.config.Config.{Config}
-use Rattle.bx_entry.specs.Listing.{Listed}
-use Rattle.bx_entry.specs.declared.entry.Entry.{Entry}
-use Rattle.bx_entry.specs.declared.entry.EntryKind.{EntryKind}
+use Rattle.bx_entry.specs.Words.{Listed, Registry, Registered, judge, registry, entries_of, Session, Stage, is_live, rider_of, stage_after, step, step_by, unopened, session, Kept, kept, kept_step, StepsAlike}
+use Rattle.bx_entry.specs.declared.entry.{Entry.Entry, EntryKind.EntryKind}
 use Rattle.bx_entry.specs.declared.entry.EntryKind.TheVariants.{Opened}
-use Rattle.bx_entry.specs.Registry.{Registry, Registered, judge, registry, entries_of}
-use Rattle.bx_entry.specs.Sessions.{Session, Stage, is_live, rider_of, stage_after, step, step_by, unopened, session}
 use Rattle.bx_theory.specs.Readings.{opens_by, closes_by, EachSession}
-use Rattle.bx_entry.specs.Keeping.{Kept, kept, kept_step, StepsAlike}
-use Rattle.bx_shard.specs.Shards.{Setup, stands_in, shard_at}
-use Rattle.bx_shard.specs.Steps.{opening_by, ShardsStep, stepped}
-use Rattle.bx_theory.proofs.Keeps.{ride_k}
-use Rattle.bx_theory.proofs.Stages.{Next, step_by_next}
-use Rattle.bx_theory.proofs.Dues.{numbered, numbered_below}
-use Rattle.bx_theory.proofs.Kept.{kept_steps}
+use Rattle.bx_shard.specs.Words.{Setup, stands_in, shard_at, opening_by, ShardsStep, stepped}
+use Rattle.bx_theory.proofs.{Keeps.ride_k, Stages.Next, Stages.step_by_next, Dues.numbered, Dues.numbered_below, Kept.kept_steps, Closings.run_number}
 use Rattle.bx_shard.proofs.Elements.{numbers, opened_numbers, Adds, next_is, session_next, all_fresh, opens_above, Met, met}
-use Rattle.bx_theory.proofs.Closings.{run_number}
 use Rattle.bx_shard.proofs.Finding.{steps}
 
 -- ---- sessions by their numbers

@@ -1,18 +1,11 @@
 -- What shards hold once a sweep dropped answers from one of them.
 use Rattle.std.proofs.Common.{arith, ◌≡◌, ℕ, Bool, true, false, ◌&&◌, is_some, Option, None, List, filter, nat_eq, ◌==◌, sym, ap, ◌∙◌, eqb-true}
-use Rattle.std.proofs.lemmas.Map.Made.{is_some-lookup}
-use Rattle.std.proofs.lemmas.Map.Views.{any-filter_same}
-use Rattle.std.specs.List.{list_any}
-use Rattle.std.specs.Map.{keys_of}
-use Rattle.std.specs.Option.{IsSome}
+use Rattle.std.proofs.lemmas.{Map.Made.is_some-lookup, Map.Views.any-filter_same}
+use Rattle.std.specs.{List.list_any, Map.keys_of, Option.IsSome}
 use Rattle.bx_lists.proofs.Tests.{either}
-use Rattle.bx_connects.specs.declared.connects.ConnectState.{ConnectState}
-use Rattle.bx_connects.specs.declared.connects.FiledAnswer.{FiledAnswer}
-use Rattle.bx_connects.specs.declared.held.HeldConnect.{HeldConnect}
+use Rattle.bx_connects.specs.declared.{connects.ConnectState.ConnectState, connects.FiledAnswer.FiledAnswer, held.HeldConnect.HeldConnect}
 use Rattle.bx_connects.specs.Connects.{filed_answer, filing_at, hold_at, state_by, unswept}
-use Rattle.bx_shard.specs.Shards.{is_taken}
-use Rattle.bx_shard.specs.States.{State, connect_in}
-use Rattle.bx_shard.specs.Refining.{RefinesBesideSwept, RefinesSwept, is_swept, swept_places}
+use Rattle.bx_shard.specs.Words.{is_taken, State, connect_in, RefinesBesideSwept, RefinesSwept, is_swept, swept_places}
 use Rattle.bx_shard.proofs.Taking.{refines_beside_gone, refines_gone}
 
 -- ---- one connect

@@ -1,24 +1,17 @@
 -- What shards hold once the answer to a connect was taken from one of them.
 use Rattle.std.proofs.Common.{◌≢◌, ◌≡◌, ℕ, ◌<◌, Bool, true, false, ◌||◌, is_some, Option, Some, None, List, [], ◌∷◌, ◌++◌, length, take, drop, filter, flat_map, option_map, slice_get, nat_eq, nat_lt, ◌==◌, not, refl, sym, ap, ◌∙◌, subst, arith, eqb-true, eq-eqb, ltb-true, ltb-false}
-use Rattle.std.proofs.lemmas.Bool.{both_ways, cond-true, cond-false, or_right}
-use Rattle.std.proofs.lemmas.List.{take-append-drop}
-use Rattle.std.proofs.lemmas.List.Folds.{list_any-append}
+use Rattle.std.proofs.lemmas.{Bool.both_ways, Bool.cond-true, Bool.cond-false, Bool.or_right, List.take-append-drop, List.Folds.list_any-append}
 use Rattle.std.specs.Option.{IsSome}
 use Rattle.bx_lists.proofs.Tests.{either}
 use Rattle.bx_advice.specs.declared.config.Config.{Config}
-use Rattle.bx_entry.specs.Listing.{Listed}
-use Rattle.bx_entry.specs.Answers.{answer_of}
-use Rattle.bx_entry.specs.Registry.{Judged, PlaceSlot, Waiting, registry}
-use Rattle.bx_entry.specs.Sessions.{Filed, Session}
+use Rattle.bx_entry.specs.Words.{Listed, answer_of, Judged, PlaceSlot, Waiting, registry, Filed, Session}
 use Rattle.bx_theory.proofs.Lists.{judged_more}
 use Rattle.bx_connects.specs.declared.connects.ConnectState.{ConnectState}
 use Rattle.bx_connects.specs.Connects.{filed_answer, session_at, taken_from}
-use Rattle.bx_shard.specs.Shards.{Setup, is_taken, sessions_in, shard_at}
-use Rattle.bx_shard.specs.States.{IsSound, State, connect_in, session_in}
+use Rattle.bx_shard.specs.Words.{Setup, is_taken, sessions_in, shard_at, IsSound, State, connect_in, session_in}
 use Rattle.bx_shard.specs.Refining.{Refines, RefinesBeside, RefinesTaken, IsConnectOf, IsOwn, filed_with_place}
-use Rattle.bx_shard.proofs.Cases.{by_option}
+use Rattle.bx_shard.proofs.{Cases.by_option, Waits.WaitsAt, Waits.waits_over}
 use Rattle.bx_shard.proofs.Untaken.{find_of, find_untaken, found_in, found_kept, untaken}
-use Rattle.bx_shard.proofs.Waits.{WaitsAt, waits_over}
 
 -- ---- which were taken
 

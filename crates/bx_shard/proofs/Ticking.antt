@@ -3,8 +3,7 @@ use Rattle.std.proofs.Common.{Contains, ◌≡◌, ◌≢◌, ◌⊎◌, inl, in
 use Rattle.std.proofs.lemmas.Bool.{cond_both, eqb-true, eq-eqb, ne_eqb}
 use Rattle.bx_advice.specs.declared.config.Config.{Config}
 use Rattle.bx_advice.specs.declared.advice.Outcome.TheVariants.{Connected}
-use Rattle.bx_entry.specs.Keeping.{Kept, after, kept, resumed}
-use Rattle.bx_entry.specs.Sessions.{Pending, Session, ends_by, expired, expired_from, released, released_from, unheld}
+use Rattle.bx_entry.specs.Words.{Kept, after, kept, resumed, Pending, Session, ends_by, expired, expired_from, released, released_from, unheld}
 use Rattle.bx_session.specs.declared.answered.Answered.{Answered}
 use Rattle.bx_session.specs.Views.{answered_of, deadline_of}
 use Rattle.futures.specs.declared.task.waker.Waker.{Waker}
@@ -13,9 +12,7 @@ use Rattle.bx_connects.specs.declared.connects.ConnectState.TheVariants.{Held, F
 use Rattle.bx_connects.specs.Connects.{filed_as, session_at}
 use Rattle.bx_shard.specs.Effects.{answers_by, filing_each}
 use Rattle.bx_shard.specs.Sessions.{held_until, holds_until}
-use Rattle.bx_shard.proofs.Keeps.{filing_each_session}
-use Rattle.bx_shard.proofs.Singles.{nowhere, only_one, the_one}
-use Rattle.bx_shard.proofs.Ties.{Agree, holds_own}
+use Rattle.bx_shard.proofs.{Keeps.filing_each_session, Singles.nowhere, Singles.only_one, Singles.the_one, Ties.Agree, Ties.holds_own}
 
 -- a hold whose deadline has come is due
 due_by : (moment d : ℕ) (q : Pending) → deadline_of q ≡ Some d → d ≤ moment → ends_by moment q ≡ true

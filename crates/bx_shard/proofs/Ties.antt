@@ -1,8 +1,7 @@
 -- A connect is held exactly where its session holds it, whatever a call does.
 use Rattle.std.proofs.Common.{arith, ◌≡◌, ℕ, nat_eq, Bool, true, false, cond, Option, Some, None, refl, sym, ap, ◌∙◌}
 use Rattle.std.proofs.lemmas.Bool.{eqb-true}
-use Rattle.bx_entry.specs.Sessions.{Pending}
-use Rattle.bx_entry.specs.Keeping.{Kept}
+use Rattle.bx_entry.specs.Words.{Pending, Kept}
 use Rattle.bx_session.specs.Views.{deadline_of}
 use Rattle.bx_connects.specs.declared.connects.ConnectState.{ConnectState}
 use Rattle.bx_connects.specs.declared.connects.ConnectState.TheVariants.{Held}

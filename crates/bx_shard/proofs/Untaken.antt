@@ -1,12 +1,8 @@
 -- What is found among the answers that weren't taken.
 use Rattle.std.proofs.Common.{arith, ◌≡◌, ℕ, false, not, Option, Some, None, List, [], ◌∷◌, take, filter, find, flat_map, ◌==◌, refl, sym, ap, ◌∙◌, true}
-use Rattle.std.specs.List.{All}
-use Rattle.std.specs.Option.{option_or}
-use Rattle.std.proofs.lemmas.List.Elements.{All-head, All-tail, filter_passes}
-use Rattle.std.proofs.lemmas.List.Folds.{find-append, flat_map-map}
-use Rattle.bx_entry.specs.Listing.{Listed}
-use Rattle.bx_entry.specs.Registry.{Registered, entries_of, registry}
-use Rattle.bx_entry.specs.Sessions.{Filed, Session, session}
+use Rattle.std.specs.{List.All, Option.option_or}
+use Rattle.std.proofs.lemmas.{List.Elements.All-head, List.Elements.All-tail, List.Elements.filter_passes, List.Folds.find-append, List.Folds.flat_map-map}
+use Rattle.bx_entry.specs.Words.{Listed, Registered, entries_of, registry, Filed, Session, session}
 use Rattle.bx_shard.proofs.Cases.{by_option}
 use Rattle.bx_shard.specs.Shards.{Setup, is_taken, sessions_in, shard_at, stands_in}
 

@@ -2,26 +2,17 @@
 use Rattle.std.proofs.Common.{arith, ◌≡◌, ◌==◌, ℕ, zero, suc, max, Option, Some, None, List, [], ◌∷◌, ◌++◌, length, map, fold, option_map, slice_get, refl, sym, ap, ◌∙◌, subst, eqb-true, append_assoc, Bool}
 use Rattle.std.proofs.lemmas.List.{length_push}
 use Rattle.bx_advice.specs.declared.config.Config.{Config}
-use Rattle.bx_message.specs.declared.message_kind.MessageKind.{MessageKind}
-use Rattle.bx_message.specs.declared.message.Message.{Message}
-use Rattle.bx_message.specs.declared.reply.Reply.{Reply}
-use Rattle.bx_entry.specs.Listing.{Listed, Post, Posted}
+use Rattle.bx_message.specs.declared.{message_kind.MessageKind.MessageKind, message.Message.Message, reply.Reply.Reply}
+use Rattle.bx_entry.specs.Words.{Listed, Post, Posted, Registry, Registered, Judged, PlaceSlot, Waiting, judge, kind_for, slot_for, slot_with, rider_for, is_rider, named_by, refusal, hold_of, registry, empty_registry, entries_of, sessionless_kind, Ready, noted, state_of, Filed, Session, rider_of, session, unopened}
 use Rattle.bx_message.specs.MessageKinds.{message_kind_of}
 use Rattle.bx_entry.specs.Listing as messages
-use Rattle.bx_entry.specs.declared.entry.Entry.{Entry}
-use Rattle.bx_entry.specs.declared.entry.EntryKind.{EntryKind}
+use Rattle.bx_entry.specs.declared.entry.{Entry.Entry, EntryKind.EntryKind, Rider.Rider}
 use Rattle.bx_entry.specs.declared.entry.EntryKind.TheVariants.{Connect, Subscribe, Unsubscribe, Publish}
-use Rattle.bx_entry.specs.Registry.{Registry, Registered, Judged, PlaceSlot, Waiting, judge, kind_for, slot_for, slot_with, rider_for, is_rider, named_by, refusal, hold_of, registry, empty_registry, entries_of, sessionless_kind, Ready, noted, state_of}
-use Rattle.bx_entry.specs.declared.entry.Rider.{Rider}
-use Rattle.bx_entry.specs.Sessions.{Filed, Session, rider_of, session, unopened}
 use Rattle.bx_shard.specs.States.{connecting, riding}
-use Rattle.bx_shard.proofs.Rides.{rider_of_none}
-use Rattle.bx_theory.proofs.Verdicts.{by_verdict}
+use Rattle.bx_shard.proofs.{Rides.rider_of_none, Untaken.find_of}
+use Rattle.bx_theory.proofs.{Verdicts.by_verdict, Runs.EachEntry, Lists.entries_in_order, Lists.find_each, Lists.find_true}
 use Rattle.bx_theory.specs.Laws.{PlacesFrom}
-use Rattle.bx_theory.proofs.Runs.{EachEntry}
 use Rattle.bx_theory.proofs.Places.{Only, Allowed, AllowedRide, run_only, only_unopened}
-use Rattle.bx_theory.proofs.Lists.{entries_in_order, find_each, find_true}
-use Rattle.bx_shard.proofs.Untaken.{find_of}
 
 abbrev WaitsBy : PlaceSlot → EntryKind → Type 0
 WaitsBy slot (Connect n client id acked hold) = slot ≡ Waiting n

@@ -6,12 +6,8 @@ use Rattle.bx_lists.proofs.Tests.{either}
 use Rattle.bx_connects.specs.declared.connects.ConnectState.{ConnectState}
 use Rattle.bx_advice.specs.declared.config.Config.{Config}
 use Rattle.bx_entry.specs.Keeping.{Kept}
-use Rattle.bx_connects.specs.Waking.{waker_of}
-use Rattle.bx_shard.specs.Following.{completed_by}
-use Rattle.bx_connects.specs.Connects.{session_at, unwatched, with_waker}
-use Rattle.bx_shard.specs.Sessions.{held_until}
-use Rattle.bx_shard.specs.States.{connect_in}
-use Rattle.bx_shard.specs.Refining.{RefinesShut, RefinesWatched, filed_with_place}
+use Rattle.bx_connects.specs.Words.{waker_of, session_at, unwatched, with_waker}
+use Rattle.bx_shard.specs.Words.{completed_by, held_until, connect_in, RefinesShut, RefinesWatched, filed_with_place}
 use Rattle.bx_shard.proofs.Keeps.{unwatched_session, watched_session}
 
 -- a waker changes no answer that is filed

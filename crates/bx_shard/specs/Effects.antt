@@ -1,7 +1,6 @@
 -- What the calls on one session do to the connects of its shard.
 use Rattle.std.specs.Prelude.{ℕ, nat_eq, List, [], ◌∷◌, map, Option, Some, None, option_map, if◌then◌else◌}
-use Rattle.bx_entry.specs.Keeping.{Kept, answers_of}
-use Rattle.bx_entry.specs.Sessions.{Pending, Session}
+use Rattle.bx_entry.specs.Words.{Kept, answers_of, Pending, Session}
 use Rattle.bx_session.specs.declared.answered.Answered.{Answered}
 use Rattle.bx_session.specs.Views.{answered_of, deadline_of}
 use Rattle.bx_connects.specs.declared.connects.ConnectState.{ConnectState}

@@ -3,12 +3,9 @@ use Rattle.std.specs.Prelude.{ℕ, ◌≡◌, Bool, [], take, is_some, if◌then
 use Rattle.std.specs.Option.{option_and_then}
 use Rattle.bx_advice.specs.declared.config.Config.{Config}
 use Rattle.bx_message.specs.declared.reply.Answer.{Answer}
-use Rattle.bx_entry.specs.Answers.{events_of}
-use Rattle.bx_entry.specs.Keeping.{Kept, after, resumed}
-use Rattle.bx_entry.specs.Sessions.{forgotten, ride_portion, rider_of}
-use Rattle.bx_entry.specs.declared.entry.Rider.{Rider}
+use Rattle.bx_entry.specs.Words.{events_of, Kept, after, resumed, forgotten, ride_portion, rider_of}
+use Rattle.bx_entry.specs.declared.entry.{Rider.Rider, Entry.Entry}
 use Rattle.bx_connects.specs.declared.connects.ConnectState.{ConnectState}
-use Rattle.bx_entry.specs.declared.entry.Entry.{Entry}
 use Rattle.bx_connects.specs.Connects.{completed, connect_at}
 use Rattle.bx_shard.specs.declared.sessions.Sessions.{Sessions}
 use Rattle.bx_shard.specs.Sessions.{AreCounted, AreHeld, kept_in}

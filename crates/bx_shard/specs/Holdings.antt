@@ -1,13 +1,9 @@
 -- What holds of the sessions that a shard holds.
 use Rattle.std.specs.Prelude.{ℕ, ◌<◌, ◌≤◌, ◌≡◌, Bool, List, map, slice_get, Some}
-use Rattle.std.specs.List.{All}
-use Rattle.std.specs.List.Sorted.{IsStrictlyIncreasing}
-use Rattle.bx_entry.specs.Listing.{Listed}
+use Rattle.std.specs.{List.All, List.Sorted.IsStrictlyIncreasing}
+use Rattle.bx_entry.specs.Words.{Listed, entries, Live, Kept}
 use Rattle.bx_entry.specs.declared.entry.Entry.{Entry}
 use Rattle.bx_entry.specs.declared.entry.EntryKind.TheVariants.{Opened}
-use Rattle.bx_entry.specs.Registry.{entries}
-use Rattle.bx_entry.specs.Sessions.{Live}
-use Rattle.bx_entry.specs.Keeping.{Kept}
 use Rattle.bx_shard.specs.Shards.{Setup, shard_at}
 
 -- the session is live, and no more batches were formed than entries stand before this place

@@ -9,3 +9,4 @@ pub mod Sessions
 pub mod Shards
 pub mod States
 pub mod Steps
+pub mod Words

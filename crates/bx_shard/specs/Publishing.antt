@@ -1,16 +1,13 @@
 -- An event is handed to one session after another.
 use Rattle.std.specs.Prelude.{ℕ, ◌≡◌, ◌&&◌, nat_eq, true, false, List, [], ◌∷◌, Bool, Some, map, option_map, IfSome, if◌then◌else◌}
-use Rattle.bx_names.specs.Globs.{Glob, any_matches}
-use Rattle.bx_names.specs.Segments.{segments}
-use Rattle.bx_names.specs.Kinds.{is_broadcast}
+use Rattle.bx_names.specs.Words.{Glob, any_matches, segments, is_broadcast}
 use Rattle.bx_advice.specs.declared.config.Config.{Config}
 use Rattle.bx_message.specs.declared.event.Event.{Event}
 use Rattle.bx_entry.specs.Keeping.{Kept, after}
 use Rattle.bx_entry.specs.Sessions.{Publication, received}
 use Rattle.bx_session.specs.Views.{Countable, wants_two}
 use Rattle.bx_connects.specs.Connects.{connect_at}
-use Rattle.bx_shard.specs.declared.publish.Parcel.{Parcel}
-use Rattle.bx_shard.specs.declared.sessions.Sessions.{Sessions}
+use Rattle.bx_shard.specs.declared.{publish.Parcel.Parcel, sessions.Sessions.Sessions}
 use Rattle.bx_shard.specs.Effects.{answers_by, filing_each}
 use Rattle.bx_shard.specs.Sessions.{AreHeld, HasRoom, kept_in}
 

@@ -2,11 +2,7 @@
 use Rattle.std.specs.Prelude.{ℕ, ◌+◌, ◌<◌, ◌≤◌, ◌==◌, ◌≡◌, ◌≢◌, length, Bool, true, false, List, [], ◌∷◌, ◌++◌, filter, find, slice_get, nat_eq, if◌then◌else◌, Option, Some, None, option_map, IsSome, take}
 use Rattle.std.specs.Map.{keys_of}
 use Rattle.futures.specs.declared.task.waker.Waker.{Waker}
-use Rattle.bx_entry.specs.Listing.{Listed}
-use Rattle.bx_entry.specs.Answers.{PlacedAnswer, answer, answer_of}
-use Rattle.bx_entry.specs.Keeping.{Kept}
-use Rattle.bx_entry.specs.Registry.{Judged, Waiting, entries, registry}
-use Rattle.bx_entry.specs.Sessions.{Filed}
+use Rattle.bx_entry.specs.Words.{Listed, PlacedAnswer, answer, answer_of, Kept, Judged, Waiting, entries, registry, Filed}
 use Rattle.bx_entry.specs.declared.entry.Entry.{Entry}
 use Rattle.bx_message.specs.declared.reply.Answer.{Answer}
 use Rattle.bx_connects.specs.declared.connects.ConnectState.{ConnectState}

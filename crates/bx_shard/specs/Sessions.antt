@@ -3,8 +3,7 @@ use Rattle.std.specs.Prelude.{ℕ, ◌≡◌, ◌<◌, ◌≤◌, nat_eq, true, 
 use Rattle.std.specs.Map.{lookup}
 use Rattle.bx_names.specs.Globs.{Glob}
 use Rattle.bx_tree.specs.Patterns.{patterns_of}
-use Rattle.bx_entry.specs.Keeping.{Kept}
-use Rattle.bx_entry.specs.Sessions.{Live, Pending}
+use Rattle.bx_entry.specs.Words.{Kept, Live, Pending}
 use Rattle.bx_session.specs.Views.{Countable, WithRoom, deadline_of}
 use Rattle.bx_connects.specs.declared.connects.ConnectState.{ConnectState}
 use Rattle.bx_connects.specs.declared.connects.ConnectState.TheVariants.{Held, Filed}

@@ -2,10 +2,7 @@
 use Rattle.std.specs.Prelude.{ℕ, ◌==◌, not, Bool, List, take, filter, map, flat_map}
 use Rattle.std.specs.List.{list_any}
 use Rattle.bx_advice.specs.declared.config.Config.{Config}
-use Rattle.bx_entry.specs.Listing.{Listed}
-use Rattle.bx_entry.specs.Registry.{Registered, registry, entries_of}
-use Rattle.bx_entry.specs.Sessions.{Session, Filed, session, is_live}
-use Rattle.bx_entry.specs.Keeping.{Kept, kept}
+use Rattle.bx_entry.specs.Words.{Listed, Registered, registry, entries_of, Session, Filed, session, is_live, Kept, kept}
 
 -- ---- placing
 

@@ -1,14 +1,10 @@
 -- A shard as the program holds it, and what one entry does to it.
 use Rattle.std.specs.Prelude.{ℕ, ◌⊎◌, ◌+◌, ◌==◌, ◌&&◌, ◌≡◌, ◌≢◌, ◌≤◌, Bool, true, false, List, if◌then◌else◌, nat_eq, option_map, Option, Some, None, is_some, is_none, Contains}
-use Rattle.std.specs.List.{list_any}
-use Rattle.std.specs.Option.{option_and_then, option_or}
+use Rattle.std.specs.{List.list_any, Option.option_and_then, Option.option_or}
 use Rattle.bx_advice.specs.declared.config.Config.{Config}
-use Rattle.bx_entry.specs.declared.entry.Entry.{Entry}
-use Rattle.bx_entry.specs.declared.entry.EntryKind.{EntryKind}
+use Rattle.bx_entry.specs.declared.entry.{Entry.Entry, EntryKind.EntryKind, Rider.Rider}
 use Rattle.bx_entry.specs.declared.entry.EntryKind.TheVariants.{Opened, Connect, Unsubscribe, Disconnect, Refused, Tick}
-use Rattle.bx_entry.specs.Keeping.{Kept, kept, kept_step}
-use Rattle.bx_entry.specs.Sessions.{is_live, rider_of, step, unopened}
-use Rattle.bx_entry.specs.declared.entry.Rider.{Rider}
+use Rattle.bx_entry.specs.Words.{Kept, kept, kept_step, is_live, rider_of, step, unopened}
 use Rattle.bx_session.specs.declared.answered.Answered.{Answered}
 use Rattle.bx_session.specs.Views.{pending}
 use Rattle.bx_connects.specs.declared.connects.ConnectState.{ConnectState}

@@ -2,13 +2,9 @@
 use Rattle.std.specs.Prelude.{ℕ, ◌+◌, ◌<◌, ◌==◌, ◌≡◌, false, List, [], ◌∷◌, ◌++◌, find, filter, map, flat_map, slice_get, Some, if◌then◌else◌}
 use Rattle.std.specs.Option.{option_or}
 use Rattle.bx_advice.specs.declared.config.Config.{Config}
-use Rattle.bx_entry.specs.Listing.{Listed}
-use Rattle.bx_entry.specs.declared.entry.Entry.{Entry}
-use Rattle.bx_entry.specs.declared.entry.EntryKind.{EntryKind}
+use Rattle.bx_entry.specs.Words.{Listed, entries, Filed, is_live, unopened, Kept, kept, kept_step, kept_answers}
+use Rattle.bx_entry.specs.declared.entry.{Entry.Entry, EntryKind.EntryKind}
 use Rattle.bx_entry.specs.declared.entry.EntryKind.TheVariants.{Opened}
-use Rattle.bx_entry.specs.Registry.{entries}
-use Rattle.bx_entry.specs.Sessions.{Filed, is_live, unopened}
-use Rattle.bx_entry.specs.Keeping.{Kept, kept, kept_step, kept_answers}
 use Rattle.bx_shard.specs.Shards.{Setup, is_taken, stands_in, shard_at}
 
 -- ---- the sessions

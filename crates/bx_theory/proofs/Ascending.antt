@@ -1,14 +1,10 @@
 -- What is open stands in the order of the inputs, and in that of the places of their messages.
 use Rattle.std.proofs.Common.{◌≡◌, ℕ, zero, suc, ◌+◌, ◌<◌, ◌≤◌, ⊎_elim, Bool, true, not, Option, Some, None, List, [], ◌∷◌, ◌++◌, length, map, filter, fold, slice_index, sym, subst, arith, length-append}
-use Rattle.std.proofs.lemmas.Bool.{cond_both, both_ways, cases_lt, not-true}
-use Rattle.std.proofs.lemmas.Grind.{common_steps}
+use Rattle.std.proofs.lemmas.{Bool.cond_both, Bool.both_ways, Bool.cases_lt, Bool.not-true, Grind.common_steps}
 use Rattle.std.specs.List.Sorted.{IsStrictlyIncreasing}
 use Rattle.bx_advice.specs.declared.config.Config.{Config}
-use Rattle.bx_entry.specs.Listing.{Listed}
-use Rattle.bx_entry.specs.Inputs.{ReadInput, refusal_of, added_by}
+use Rattle.bx_entry.specs.Words.{Listed, ReadInput, refusal_of, added_by, registry, Intake, Taking, taken_as, take_in, taken_in}
 use Rattle.bx_entry.specs.declared.input.Refusal.{Refusal}
-use Rattle.bx_entry.specs.Registry.{registry}
-use Rattle.bx_entry.specs.Runs.{Intake, Taking, taken_as, take_in, taken_in}
 use Rattle.bx_theory.specs.Opens.{Numbered, numbered_from, is_whole}
 use Rattle.bx_theory.specs.Sole.{OpensAscend}
 use Rattle.bx_theory.proofs.Sole.{none_missing}

@@ -1,34 +1,19 @@
 -- A message that is not its request's only one is answered at once, and so is a rider.
 use Rattle.std.proofs.Common.{◌≡◌, ℕ, ◌+◌, ◌<◌, max, ◌+◌, Bool, true, false, cond, ◌&&◌, ◌||◌, is_some, Option, Some, None, List, [], ◌∷◌, ◌++◌, length, map, find, option_map, slice_get, ◌==◌, refl, sym, ap, ◌∙◌, subst, append_assoc, eq-eqb, arith}
-use Rattle.std.proofs.lemmas.Bool.{cond_both, cond-true, cond-false}
-use Rattle.std.proofs.lemmas.List.{map-append, length_push}
-use Rattle.std.proofs.lemmas.Grind.{common_steps}
-use Rattle.std.proofs.lemmas.List.Sums.{fold-append}
+use Rattle.std.proofs.lemmas.{Bool.cond_both, Bool.cond-true, Bool.cond-false, List.map-append, List.length_push, Grind.common_steps, List.Sums.fold-append}
 use Rattle.bx_lists.proofs.Tests.{either}
-use Rattle.bx_advice.specs.declared.config.Config.{Config}
-use Rattle.bx_advice.specs.declared.advice.Outcome.{Outcome}
+use Rattle.bx_advice.specs.declared.{config.Config.Config, advice.Outcome.Outcome}
 use Rattle.bx_advice.specs.declared.advice.Outcome.TheVariants.{Connected, Failed}
 use Rattle.bx_advice.specs.declared.error.Error.TheVariants.{SupersededConnect, QueueOverflow}
-use Rattle.bx_message.specs.declared.message.Message.{Message}
-use Rattle.bx_message.specs.declared.reply.Reply.{Reply}
-use Rattle.bx_message.specs.declared.message_kind.MessageKind.{MessageKind}
+use Rattle.bx_message.specs.declared.{message.Message.Message, reply.Reply.Reply, message_kind.MessageKind.MessageKind}
 use Rattle.bx_message.specs.MessageKinds.{message_kind_of, is_connect, is_handshake}
-use Rattle.bx_entry.specs.Listing.{Listed, Post, Posted, listed_from}
-use Rattle.bx_entry.specs.declared.entry.Entry.{Entry}
+use Rattle.bx_entry.specs.Words.{Listed, Post, Posted, listed_from, opened, refused, sessionless, Verdict, Registry, Registered, Judged, Ready, Waiting, judge, served, slot_for, slot_with, rider_for, is_rider, may_ride, kind_for, named_by, refusal, hold_of, acked_by, registry, entries_of, noted, state_of, PlacedAnswer, answer_of, filed_for, answer_by, answer_at, answer_in, answer, latest, numbers_from}
+use Rattle.bx_entry.specs.declared.entry.{Entry.Entry, Rider.Rider, EntryKind.EntryKind}
 use Rattle.bx_entry.specs.declared.entry.EntryKind.TheVariants.{Connect}
-use Rattle.bx_entry.specs.Registry.{opened, refused, sessionless, Verdict, Registry, Registered, Judged, Ready, Waiting, judge, served, slot_for, slot_with, rider_for, is_rider, may_ride, kind_for, named_by, refusal, hold_of, acked_by, registry, entries_of, noted, state_of}
-use Rattle.bx_entry.specs.declared.entry.Rider.{Rider}
-use Rattle.bx_entry.specs.declared.entry.EntryKind.{EntryKind}
 use Rattle.bx_entry.specs.Sessions.{Session, Publication, Pending, Filed, filing, answered, released, given, gives, idle, answered_or_held, connected, step, session, unopened, is_live, ridden, ridden_by, ride_filing, step_by, rider_of}
-use Rattle.bx_entry.specs.Answers.{PlacedAnswer, answer_of, filed_for, answer_by, answer_at, answer_in, answer}
-use Rattle.bx_entry.specs.Runs.{latest, numbers_from}
 use Rattle.bx_theory.proofs.Verdicts.{by_verdict, got_here, registry_next}
-use Rattle.bx_theory.proofs.Lists.{answer_more, judged_length}
-use Rattle.bx_theory.proofs.Closings.{run_number}
+use Rattle.bx_theory.proofs.{Lists.answer_more, Lists.judged_length, Closings.run_number, Stages.step_by_next, Stages.live_reading, Senders.sender_reads, Lives.found_of}
 use Rattle.bx_theory.proofs.Counts.{freed, connected_by, ride_both}
-use Rattle.bx_theory.proofs.Stages.{step_by_next, live_reading}
-use Rattle.bx_theory.proofs.Senders.{sender_reads}
-use Rattle.bx_theory.proofs.Lives.{found_of}
 
 -- an answer that is there
 pub record There (o : Option PlacedAnswer) : Type 0 where

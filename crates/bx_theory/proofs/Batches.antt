@@ -1,23 +1,17 @@
 -- A batch is given again until it is acknowledged.
 use Rattle.std.proofs.Common.{◌≡◌, ℕ, ◌+◌, ◌<◌, ◌≤◌, ◌⊎◌, inl, inr, ⊎_elim, true, false, cond, Option, Some, None, List, [], ◌∷◌, ◌++◌, length, fold, ◌==◌, refl, sym, ap, ◌∙◌, subst, arith, append_assoc, eq-eqb, eq-zero-or-pos}
-use Rattle.std.proofs.lemmas.Bool.{cond_both, cond-true, cases_lt}
-use Rattle.std.proofs.lemmas.Grind.{common_steps}
-use Rattle.std.proofs.lemmas.List.Sums.{fold-append}
+use Rattle.std.proofs.lemmas.{Bool.cond_both, Bool.cond-true, Bool.cases_lt, Grind.common_steps, List.Sums.fold-append}
 use Rattle.bx_lists.proofs.Tests.{either}
-use Rattle.bx_advice.specs.declared.config.Config.{Config}
-use Rattle.bx_advice.specs.declared.advice.Outcome.{Outcome}
+use Rattle.bx_advice.specs.declared.{config.Config.Config, advice.Outcome.Outcome}
 use Rattle.bx_advice.specs.declared.advice.Outcome.TheVariants.{Connected, Failed}
 use Rattle.bx_advice.specs.declared.error.Error.TheVariants.{SupersededConnect}
 use Rattle.bx_message.specs.declared.reply.AckReply.TheVariants.{AckNumber, NoAck}
-use Rattle.bx_entry.specs.declared.entry.Entry.{Entry}
-use Rattle.bx_entry.specs.declared.entry.EntryKind.{EntryKind}
+use Rattle.bx_entry.specs.declared.entry.{Entry.Entry, EntryKind.EntryKind, Rider.Rider}
 use Rattle.bx_entry.specs.declared.entry.EntryKind.TheVariants.{Connect, Publish}
-use Rattle.bx_entry.specs.declared.entry.Rider.{Rider}
 use Rattle.bx_entry.specs.Sessions.{Session, Publication, Pending, Filed, filing, answered, unheld, released, ride_filing, batch, gives, given, idle, answered_or_held, connected, gives_one, with_event, delivered_to, delivered, overflowed, is_hit, has_room, published, step_by, step, session, unopened, ridden, is_riding, ridden_by, rider_of}
 use Rattle.bx_theory.specs.Laws.{InStep, Repeats, LastAnswer, LastGiven, SameBatch, Repetition, BatchRepeats}
 use Rattle.bx_theory.proofs.Counts.{Freed, freed, freed_leaves, connected_by, stays_in_step, all_in_step, unopened_in_step}
-use Rattle.bx_theory.proofs.Moves.{ride_num}
-use Rattle.bx_theory.proofs.Runs.{Grown, run_grown, all_places}
+use Rattle.bx_theory.proofs.{Moves.ride_num, Runs.Grown, Runs.run_grown, Runs.all_places}
 
 -- the session's last answer gave its outstanding batch
 record Formed (u : Session) : Type 0 where

@@ -2,18 +2,11 @@
 use Rattle.std.proofs.Common.{◌≡◌, ℕ, ◌+◌, ◌<◌, ◌≤◌, max, ⊎_elim, Bool, Option, Some, None, List, [], ◌∷◌, ◌==◌, length, map, find, fold, option_map, refl, sym, ap, ◌∙◌, subst, arith}
 use Rattle.std.proofs.lemmas.Bool.{cases_lt}
 use Rattle.bx_advice.specs.declared.config.Config.{Config}
-use Rattle.bx_entry.specs.Listing.{Listed}
+use Rattle.bx_entry.specs.Words.{Listed, Judged, PlaceSlot, Ready, Waiting, NoSlot, registry, entries_of, Session, Filed, step, session, unopened, PlacedAnswer, answer_of, filed_for, answer_by, answer_at, answer, latest}
 use Rattle.bx_entry.specs.declared.entry.Entry.{Entry}
-use Rattle.bx_entry.specs.Registry.{Judged, PlaceSlot, Ready, Waiting, NoSlot, registry, entries_of}
-use Rattle.bx_entry.specs.Sessions.{Session, Filed, step, session, unopened}
-use Rattle.bx_entry.specs.Answers.{PlacedAnswer, answer_of, filed_for, answer_by, answer_at, answer}
-use Rattle.bx_entry.specs.Runs.{latest}
 use Rattle.bx_theory.specs.Laws.{Each, InStep, PlacesFrom}
-use Rattle.bx_theory.proofs.Counts.{stays_in_step, unopened_in_step}
+use Rattle.bx_theory.proofs.{Counts.stays_in_step, Counts.unopened_in_step, Runs.EachEntry, Lists.entries_in_order, Lists.entries_length, Lists.find_each, Wholes.beyond}
 use Rattle.bx_theory.proofs.Moves.{Moved, each_map, each_append, step_moved}
-use Rattle.bx_theory.proofs.Runs.{EachEntry}
-use Rattle.bx_theory.proofs.Lists.{entries_in_order, entries_length, find_each}
-use Rattle.bx_theory.proofs.Wholes.{beyond}
 
 -- ---- what a session files
 

@@ -1,30 +1,18 @@
 -- Nothing more comes of a closed session.
 use Rattle.std.proofs.Common.{◌≡◌, ℕ, ◌+◌, ◌<◌, ◌≤◌, max, Bool, true, false, cond, Option, Some, None, List, [], ◌∷◌, ◌++◌, length, fold, ◌==◌, refl, sym, ap, ◌∙◌, subst, arith, append-nil, append_assoc, eqb-true}
-use Rattle.std.proofs.lemmas.Bool.{cond_both, both_ways}
-use Rattle.std.proofs.lemmas.Grind.{common_steps}
-use Rattle.std.proofs.lemmas.List.Sums.{fold-append}
+use Rattle.std.proofs.lemmas.{Bool.cond_both, Bool.both_ways, Grind.common_steps, List.Sums.fold-append}
 use Rattle.std.specs.List.{list_any}
-use Rattle.bx_advice.specs.declared.config.Config.{Config}
-use Rattle.bx_advice.specs.declared.error.Error.{Error}
-use Rattle.bx_message.specs.declared.message_kind.MessageKind.{MessageKind}
+use Rattle.bx_advice.specs.declared.{config.Config.Config, error.Error.Error}
+use Rattle.bx_message.specs.declared.{message_kind.MessageKind.MessageKind, message.Message.Message}
 use Rattle.bx_message.specs.MessageKinds.{message_kind_of}
-use Rattle.bx_message.specs.declared.message.Message.{Message}
-use Rattle.bx_entry.specs.Listing.{Listed, Post, Posted}
+use Rattle.bx_entry.specs.Words.{Listed, Post, Posted, refused, sessionless, served, due_of, Registry, Registered, PlaceSlot, slot_for, rider_for, is_rider, judge, judged_by, kind_for, left_by, extended, swept, overdue, is_overdue, named_by, refusal, hold_of, is_ack, acked_by, opened, registry, empty_registry, entries_of, sessionless_kind, noted, state_of, Session, Pending, Stage, Live, Closed, is_live, connected, expired, closed_by, begun, step_by, step, unopened, session, ridden_by, rider_of}
 use Rattle.bx_entry.specs.Listing as messages
-use Rattle.bx_entry.specs.declared.entry.Entry.{Entry}
-use Rattle.bx_entry.specs.Registry.{refused, sessionless, served, due_of, Registry, Registered, PlaceSlot, slot_for, rider_for, is_rider, judge, judged_by, kind_for, left_by, extended, swept, overdue, is_overdue, named_by, refusal, hold_of, is_ack, acked_by, opened, registry, empty_registry, entries_of, sessionless_kind, noted, state_of}
-use Rattle.bx_entry.specs.declared.entry.Rider.{Rider}
-use Rattle.bx_entry.specs.declared.entry.EntryKind.{EntryKind}
+use Rattle.bx_entry.specs.declared.entry.{Entry.Entry, Rider.Rider, EntryKind.EntryKind}
 use Rattle.bx_entry.specs.declared.entry.EntryKind.TheVariants.{Connect, Subscribe, Unsubscribe, Disconnect}
-use Rattle.bx_entry.specs.Sessions.{Session, Pending, Stage, Live, Closed, is_live, connected, expired, closed_by, begun, step_by, step, unopened, session, ridden_by, rider_of}
 use Rattle.bx_theory.specs.Readings.{unclosed, EachSession, NothingMore, ClosedIsOver}
-use Rattle.bx_theory.proofs.Counts.{ride_both}
-use Rattle.bx_theory.proofs.Verdicts.{by_verdict, each_registry}
-use Rattle.bx_theory.proofs.Keeps.{connected_k}
+use Rattle.bx_theory.proofs.{Counts.ride_both, Verdicts.by_verdict, Verdicts.each_registry, Keeps.connected_k, Lives.opened_later, Lives.entries_push, Senders.live_by, Senders.sender_reads}
 use Rattle.bx_theory.proofs.Stages.{live_reading, step_number, step_by_next}
 use Rattle.bx_theory.proofs.Dues.{each_session_push, each_session_through, left_each}
-use Rattle.bx_theory.proofs.Lives.{opened_later, entries_push}
-use Rattle.bx_theory.proofs.Senders.{live_by, sender_reads}
 
 -- ---- due moments only rise
 

@@ -1,19 +1,14 @@
 -- The counts of a session never pass each other, whatever entry comes. Here and in the other files on one session a claim about each entry is made of all
 -- kinds at once, and `grind` takes their cases apart; a connect has too many, and is taken in its parts (`connected_by`).
 use Rattle.std.proofs.Common.{◌≡◌, ℕ, ◌<◌, ◌≤◌, true, false, Option, Some, None, List, [], ◌∷◌, ◌++◌, length, drop, fold, nat_lt, ◌==◌, refl, ◌∙◌, arith}
-use Rattle.std.proofs.lemmas.Bool.{cond_both, cond-false}
-use Rattle.std.proofs.lemmas.Grind.{common_steps}
+use Rattle.std.proofs.lemmas.{Bool.cond_both, Bool.cond-false, Grind.common_steps}
 use Rattle.std.proofs.Math.Seq.{drop-append_seam}
-use Rattle.bx_advice.specs.declared.config.Config.{Config}
-use Rattle.bx_advice.specs.declared.advice.Outcome.{Outcome}
+use Rattle.bx_advice.specs.declared.{config.Config.Config, advice.Outcome.Outcome}
 use Rattle.bx_advice.specs.declared.advice.Outcome.TheVariants.{Failed}
 use Rattle.bx_advice.specs.declared.error.Error.TheVariants.{SupersededConnect, QueueOverflow}
-use Rattle.bx_names.specs.Globs.{Glob}
-use Rattle.bx_names.specs.InForce.{with_pattern, without_pattern}
-use Rattle.bx_entry.specs.declared.entry.Entry.{Entry}
-use Rattle.bx_entry.specs.declared.entry.EntryKind.{EntryKind}
+use Rattle.bx_names.specs.Words.{Glob, with_pattern, without_pattern}
+use Rattle.bx_entry.specs.declared.entry.{Entry.Entry, EntryKind.EntryKind, Rider.Rider}
 use Rattle.bx_entry.specs.declared.entry.EntryKind.TheVariants.{Connect, Subscribe, Unsubscribe, Publish}
-use Rattle.bx_entry.specs.declared.entry.Rider.{Rider}
 use Rattle.bx_entry.specs.Sessions.{Session, Publication, Pending, Filed, answered, released, acknowledged, answered_or_held, connected, overflowed, with_patterns, subscribed, published, step_by, step, unopened, ridden, is_riding, ridden_by, rider_of}
 use Rattle.bx_theory.specs.Laws.{InStep, CountsAgree, Each}
 

@@ -1,10 +1,8 @@
 -- What was given for good stays given for good.
 use Rattle.std.proofs.Common.{◌≤◌, ℕ, List, [], ◌∷◌, fold, arith, subst, sym}
-use Rattle.std.proofs.lemmas.List.Sums.{fold-append}
-use Rattle.std.proofs.lemmas.Grind.{common_steps}
+use Rattle.std.proofs.lemmas.{List.Sums.fold-append, Grind.common_steps}
 use Rattle.bx_advice.specs.declared.config.Config.{Config}
-use Rattle.bx_entry.specs.declared.entry.Entry.{Entry}
-use Rattle.bx_entry.specs.declared.entry.EntryKind.{EntryKind}
+use Rattle.bx_entry.specs.declared.entry.{Entry.Entry, EntryKind.EntryKind}
 use Rattle.bx_entry.specs.Sessions.{Session, step_by, step, session, unopened, rider_of}
 use Rattle.bx_theory.specs.Laws.{DoneNeverFalls}
 use Rattle.bx_theory.proofs.Counts.{ride_both}

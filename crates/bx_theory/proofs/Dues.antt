@@ -1,19 +1,13 @@
 -- The registry's running values are what they stand for over the whole list.
 use Rattle.std.proofs.Common.{◌≡◌, ℕ, ◌+◌, ◌<◌, max, Bool, true, false, cond, Option, Some, None, List, [], ◌∷◌, ◌++◌, length, map, filter, find, fold, ◌==◌, refl, sym, ap, ◌∙◌, subst, arith, eq-eqb, ne_eqb, map-id}
-use Rattle.std.proofs.lemmas.Bool.{cond_both, cond-true, cond-false}
+use Rattle.std.proofs.lemmas.{Bool.cond_both, Bool.cond-true, Bool.cond-false, Grind.common_steps, List.Elements.filter-append, List.Sums.fold-append}
 use Rattle.std.proofs.lemmas.List.{length-map, length_push, map-append}
-use Rattle.std.proofs.lemmas.Grind.{common_steps}
-use Rattle.std.proofs.lemmas.List.Elements.{filter-append}
-use Rattle.std.proofs.lemmas.List.Sums.{fold-append}
 use Rattle.std.specs.List.{AllByRecursion}
 use Rattle.bx_advice.specs.declared.config.Config.{Config}
-use Rattle.bx_message.specs.declared.message.Message.{Message}
-use Rattle.bx_message.specs.declared.message.TextMember.{TextMember}
+use Rattle.bx_message.specs.declared.{message.Message.Message, message.TextMember.TextMember, message_kind.MessageKind.MessageKind}
 use Rattle.bx_message.specs.declared.message.TextMember.TheVariants.{Text}
-use Rattle.bx_message.specs.declared.message_kind.MessageKind.{MessageKind}
-use Rattle.bx_entry.specs.Listing.{Listed, Post, Posted}
+use Rattle.bx_entry.specs.Words.{Listed, Post, Posted, due_of, extended, found_at, hold_of, newcomer, opened, Registry, Registered, Judged, Verdict, judge, left_by, is_overdue, named_by, refused, registry, sender_of, served, sessionless, state_of, swept, tick_verdict}
 use Rattle.bx_message.specs.MessageKinds.{message_kind_of}
-use Rattle.bx_entry.specs.Registry.{due_of, extended, found_at, hold_of, newcomer, opened, Registry, Registered, Judged, Verdict, judge, left_by, is_overdue, named_by, refused, registry, sender_of, served, sessionless, state_of, swept, tick_verdict}
 use Rattle.bx_entry.specs.Listing as messages
 use Rattle.bx_theory.proofs.Verdicts.{each_judge, each_registry, judge_is, next_noted}
 use Rattle.bx_theory.specs.Readings.{is_from, given_moments, EachSession, DueReading, moment_of, ClockReading}

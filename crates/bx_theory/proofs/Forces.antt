@@ -1,21 +1,15 @@
 -- A pattern is in force where its last mention is in a subscribe.
 use Rattle.std.proofs.Common.{◌≡◌, ℕ, Bool, true, false, not, ◌&&◌, ◌||◌, Option, Some, None, List, [], ◌∷◌, fold, filter_map, refl, sym, ap, ◌∙◌, arith}
-use Rattle.std.proofs.lemmas.Bool.{cond-true, cond-false, false_from_ne_true, both_ways}
-use Rattle.std.proofs.lemmas.Grind.{common_steps}
+use Rattle.std.proofs.lemmas.{Bool.cond-true, Bool.cond-false, Bool.false_from_ne_true, Bool.both_ways, Grind.common_steps}
 use Rattle.std.specs.List.{cons_option}
 use Rattle.bx_lists.proofs.Tests.{either}
 use Rattle.bx_advice.specs.declared.config.Config.{Config}
-use Rattle.bx_names.specs.Globs.{Glob, same_glob}
-use Rattle.bx_entry.specs.declared.entry.Entry.{Entry}
-use Rattle.bx_entry.specs.declared.entry.EntryKind.{EntryKind}
+use Rattle.bx_names.specs.Words.{Glob, same_glob, in_force, with_pattern, without_pattern, same_glob-decides}
+use Rattle.bx_entry.specs.declared.entry.{Entry.Entry, EntryKind.EntryKind, Rider.Rider}
 use Rattle.bx_entry.specs.declared.entry.EntryKind.TheVariants.{Subscribe, Unsubscribe}
-use Rattle.bx_names.specs.InForce.{in_force, with_pattern, without_pattern}
-use Rattle.bx_entry.specs.declared.entry.Rider.{Rider}
 use Rattle.bx_entry.specs.Sessions.{Session, step_by, step, unopened, ridden_by, rider_of}
 use Rattle.bx_theory.specs.Readings.{mention_by, last_of, InForceReading}
-use Rattle.bx_theory.proofs.Keeps.{or_false}
-use Rattle.bx_theory.proofs.Stages.{step_number}
-use Rattle.bx_names.specs.Equality.{same_glob-decides}
+use Rattle.bx_theory.proofs.{Keeps.or_false, Stages.step_number}
 
 -- ---- one pattern more or less
 

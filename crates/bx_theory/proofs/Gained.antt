@@ -1,27 +1,18 @@
 -- What a session gains by an entry: the event of a publish that it gets, and nothing else.
 use Rattle.std.proofs.Common.{◌≡◌, ℕ, ◌+◌, ◌<◌, Bool, true, false, cond, not, ◌&&◌, ◌||◌, List, [], ◌∷◌, ◌++◌, fold, refl, sym, ap, ◌∙◌, subst, append-nil, append_assoc, filter_map, arith}
-use Rattle.std.proofs.lemmas.Bool.{cond_both, cond-true, and_parts}
-use Rattle.std.proofs.lemmas.List.Sums.{fold-append}
-use Rattle.std.proofs.lemmas.Grind.{common_steps}
+use Rattle.std.proofs.lemmas.{Bool.cond_both, Bool.cond-true, Bool.and_parts, List.Sums.fold-append, Grind.common_steps}
 use Rattle.std.proofs.ByRecursion.{All-append, All-push, All-weaker}
 use Rattle.bx_lists.proofs.Tests.{either}
-use Rattle.bx_names.specs.Globs.{Glob, same_glob, matches, any_matches}
-use Rattle.bx_names.specs.Equality.{same_glob-decides}
-use Rattle.bx_names.specs.Segments.{segments}
-use Rattle.bx_names.specs.Kinds.{is_broadcast}
+use Rattle.bx_names.specs.Words.{Glob, same_glob, matches, any_matches, same_glob-decides, segments, is_broadcast, in_force}
 use Rattle.bx_advice.specs.declared.config.Config.{Config}
 use Rattle.bx_message.specs.declared.event.Event.{Event}
-use Rattle.bx_entry.specs.declared.entry.Entry.{Entry}
-use Rattle.bx_entry.specs.declared.entry.EntryKind.{EntryKind}
+use Rattle.bx_entry.specs.declared.entry.{Entry.Entry, EntryKind.EntryKind}
 use Rattle.bx_entry.specs.declared.entry.EntryKind.TheVariants.{Publish}
-use Rattle.bx_names.specs.InForce.{in_force}
 use Rattle.bx_entry.specs.Sessions.{Session, Publication, is_live, is_hit, has_room, pending_count, step_by, step, unopened, session, rider_of}
 use Rattle.bx_theory.specs.Readings.{mention_by, last_of}
 use Rattle.bx_theory.specs.Laws.{EachOf, PlacesFrom}
 use Rattle.bx_theory.specs.Events.{IsEvent, GetsPublish, Rising, EventsWerePublished, PublishesAreEvents, EventsRise}
-use Rattle.bx_theory.proofs.Keeps.{ride_k, overflow_reading}
-use Rattle.bx_theory.proofs.Stages.{live_reading}
-use Rattle.bx_theory.proofs.Forces.{in_force_reading}
+use Rattle.bx_theory.proofs.{Keeps.ride_k, Keeps.overflow_reading, Stages.live_reading, Forces.in_force_reading}
 
 -- ---- one entry
 

@@ -1,15 +1,13 @@
 -- What is kept of a session is kept step by step, and stays in its bounds.
 use Rattle.std.proofs.Common.{◌≡◌, List, [], ◌∷◌, drop, fold, refl, ap, ◌∙◌}
-use Rattle.std.proofs.lemmas.Bool.{cond_both}
-use Rattle.std.proofs.lemmas.List.{drop_all}
+use Rattle.std.proofs.lemmas.{Bool.cond_both, List.drop_all}
 use Rattle.bx_advice.specs.declared.config.Config.{Config}
 use Rattle.bx_entry.specs.declared.entry.Entry.{Entry}
 use Rattle.bx_entry.specs.Sessions.{Session, Publication, step, unopened, session}
 use Rattle.bx_entry.specs.Keeping.{Kept, kept, kept_step, KeptSteps, KeptRuns, KeptInBounds}
 use Rattle.bx_entry.proofs.Settled.{Settled, step_s}
 use Rattle.bx_theory.specs.Laws.{InStep}
-use Rattle.bx_theory.proofs.Keeps.{queue_bounded}
-use Rattle.bx_theory.proofs.Counts.{all_in_step, unopened_in_step}
+use Rattle.bx_theory.proofs.{Keeps.queue_bounded, Counts.all_in_step, Counts.unopened_in_step}
 
 pub kept_steps : KeptSteps
 kept_steps config s e = let a : Settled (λ (t : Session). step config t e) = step_s config e in record { state = a.state s; answers = a.answers s }

@@ -1,13 +1,9 @@
 -- What is printed for more lines begins with what is printed for fewer.
 use Rattle.std.proofs.Common.{◌≡◌, ℕ, zero, suc, ◌+◌, ◌<◌, ◌≤◌, Bool, cond, Option, List, [], ◌∷◌, ◌++◌, length, map, flat_map, slice_get, codes, decimal, refl, sym, ap, ◌∙◌, subst, arith, append-nil, append_assoc, length-append}
-use Rattle.std.proofs.lemmas.Grind.{common_steps, flat_map-append}
-use Rattle.std.proofs.lemmas.List.{map-append, append_cancel_left, length-map}
-use Rattle.std.proofs.lemmas.List.Sums.{fold-append}
+use Rattle.std.proofs.lemmas.{Grind.common_steps, Grind.flat_map-append, List.map-append, List.append_cancel_left, List.length-map, List.Sums.fold-append}
 use Rattle.bx_advice.specs.declared.config.Config.{Config}
-use Rattle.bx_entry.specs.Inputs.{ReadInput}
-use Rattle.bx_entry.specs.Registry.{Registry, registry}
+use Rattle.bx_entry.specs.Words.{ReadInput, Registry, registry, Intake, Taking, take_in, taken_in, Out, numbers_from, Whole, whole_of, wholes_from, wholes, is_at, whole_at, outs}
 use Rattle.bx_script.specs.Replay.{Line, Bad, Rejected, Accepted, Resharded, Numbered, inputs_from, line_text, out_by, outs_at, printed_from}
-use Rattle.bx_entry.specs.Runs.{Intake, Taking, take_in, taken_in, Out, numbers_from, Whole, whole_of, wholes_from, wholes, is_at, whole_at, outs}
 use Rattle.bx_theory.specs.Lines.{inputs_in, printed_so_far, AddsOuts, outs_text, line_prints, InputsGoOn, LinesGoOn, HeldComeLast}
 use Rattle.bx_theory.proofs.Wholes.{Took, took, whole_push, numbers_split, flat_same, Grows, grows, ends_of, many_of}
 

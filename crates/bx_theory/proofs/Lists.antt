@@ -1,23 +1,15 @@
 -- The registry's list grows with the list, and an answer stays.
 use Rattle.std.proofs.Common.{◌≡◌, ℕ, zero, suc, ◌+◌, ◌<◌, ◌≤◌, ⊎_elim, Bool, true, Option, Some, None, List, [], ◌∷◌, ◌++◌, length, take, drop, map, find, fold, option_map, slice_get, ◌==◌, refl, sym, ap, ◌∙◌, subst, arith, eqb-true, length-take, take-append-drop, take_all}
-use Rattle.std.proofs.lemmas.Bool.{cases_lt}
-use Rattle.std.proofs.lemmas.List.{length-map, length_push}
+use Rattle.std.proofs.lemmas.{Bool.cases_lt, List.length-map, List.length_push, List.Sums.fold-append, List.Folds.find-append, Grind.common_steps}
 use Rattle.std.proofs.Math.Seq.{take-append_seam}
-use Rattle.std.proofs.lemmas.List.Sums.{fold-append}
-use Rattle.std.proofs.lemmas.List.Folds.{find-append}
-use Rattle.std.proofs.lemmas.Grind.{common_steps}
 use Rattle.std.specs.Option.{option_or}
 use Rattle.bx_advice.specs.declared.config.Config.{Config}
-use Rattle.bx_entry.specs.Listing.{Listed}
+use Rattle.bx_entry.specs.Words.{Listed, Registry, Judged, PlaceSlot, Ready, Waiting, NoSlot, judge, registry, empty_registry, entries_of, Filed, step, session, unopened, PlacedAnswer, answer_of, filed_for, answer_by, answer_at, answer}
 use Rattle.bx_entry.specs.declared.entry.Entry.{Entry}
-use Rattle.bx_entry.specs.Registry.{Registry, Judged, PlaceSlot, Ready, Waiting, NoSlot, judge, registry, empty_registry, entries_of}
 use Rattle.bx_theory.proofs.Verdicts.{entries_behind, found_from, judge_is, judged_behind, next_found}
 pub use Rattle.bx_theory.proofs.Verdicts.{judged_length}
-use Rattle.bx_entry.specs.Sessions.{Filed, step, session, unopened}
-use Rattle.bx_entry.specs.Answers.{PlacedAnswer, answer_of, filed_for, answer_by, answer_at, answer}
 use Rattle.bx_theory.specs.Laws.{Each, AnswersStay, PlacesFrom, EntriesInOrder}
-use Rattle.bx_theory.proofs.Counts.{all_in_step, unopened_in_step}
-use Rattle.bx_theory.proofs.Runs.{Grown, run_grown, EachEntry, all_places}
+use Rattle.bx_theory.proofs.{Counts.all_in_step, Counts.unopened_in_step, Runs.Grown, Runs.run_grown, Runs.EachEntry, Runs.all_places}
 use Rattle.bx_theory.proofs.Places.{Only, run_only, only_unopened, all_allowed}
 
 abbrev entry_of : Judged → Entry

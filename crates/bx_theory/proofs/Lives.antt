@@ -1,20 +1,14 @@
 -- Who is live by the registry is live by the entries.
 use Rattle.std.proofs.Common.{◌≡◌, ℕ, ◌+◌, ◌<◌, ◌≤◌, max, Bool, true, false, cond, not, ◌&&◌, ◌||◌, Option, Some, None, List, [], ◌∷◌, ◌++◌, length, map, filter, ◌==◌, refl, sym, ap, ◌∙◌, subst, arith, eq-eqb, ne_eqb}
-use Rattle.std.proofs.lemmas.Bool.{cond_both, cond-true, cond-false}
-use Rattle.std.proofs.lemmas.List.{map-append, length-map, length_push}
-use Rattle.std.proofs.lemmas.Grind.{common_steps}
-use Rattle.std.proofs.lemmas.List.Folds.{list_any-append}
+use Rattle.std.proofs.lemmas.{Bool.cond_both, Bool.cond-true, Bool.cond-false, List.map-append, List.length-map, List.length_push, Grind.common_steps, List.Folds.list_any-append}
 use Rattle.std.specs.List.{list_any}
 use Rattle.bx_advice.specs.declared.config.Config.{Config}
-use Rattle.bx_message.specs.declared.message_kind.MessageKind.{MessageKind}
-use Rattle.bx_message.specs.declared.message.Message.{Message}
-use Rattle.bx_entry.specs.Listing.{Listed, Post, Posted}
+use Rattle.bx_message.specs.declared.{message_kind.MessageKind.MessageKind, message.Message.Message}
+use Rattle.bx_entry.specs.Words.{Listed, Post, Posted, due_of, found_at, hold_of, is_ack, is_overdue, kind_for, newcomer, opened, overdue, refused, registry, served, sessionless, sessionless_kind, state_of, tick_verdict, Judged, Registered, Registry, Verdict, entries_of}
 use Rattle.bx_message.specs.MessageKinds.{message_kind_of}
 use Rattle.bx_entry.specs.Listing as messages
-use Rattle.bx_entry.specs.declared.entry.Entry.{Entry}
-use Rattle.bx_entry.specs.declared.entry.EntryKind.{EntryKind}
+use Rattle.bx_entry.specs.declared.entry.{Entry.Entry, EntryKind.EntryKind}
 use Rattle.bx_entry.specs.declared.entry.EntryKind.TheVariants.{Opened, Refused}
-use Rattle.bx_entry.specs.Registry.{due_of, found_at, hold_of, is_ack, is_overdue, kind_for, newcomer, opened, overdue, refused, registry, served, sessionless, sessionless_kind, state_of, tick_verdict, Judged, Registered, Registry, Verdict, entries_of}
 use Rattle.bx_theory.specs.Readings.{moment_of, opens_by, closes, closes_by, since_opening, unclosed, EachSession, SameLive}
 use Rattle.bx_theory.proofs.Verdicts.{each_judge, each_registry, next_noted}
 use Rattle.bx_theory.proofs.Dues.{NumberedFrom, Mapped, each_session_all, each_session_both, each_session_map, each_session_push, each_session_through, left, moved, numbered, numbered_below, served_sessions, shut, swept_sessions, unchanged}

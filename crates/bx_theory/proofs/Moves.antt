@@ -1,23 +1,17 @@
 -- What one entry changes of a session, and what many do: events and answers are added at the end, counts go up, and answers have slices of the events.
 use Rattle.std.proofs.Common.{◌≡◌, ℕ, ◌+◌, ◌<◌, ◌≤◌, true, false, cond, Option, Some, None, List, [], ◌∷◌, ◌++◌, length, take, drop, ◌==◌, refl, sym, ap, ◌∙◌, subst, arith, length-append, length-drop, append-nil, append_assoc}
-use Rattle.std.proofs.lemmas.Bool.{cond_both}
-use Rattle.std.proofs.lemmas.Grind.{common_steps}
-use Rattle.std.proofs.lemmas.List.{drop-append-le, take-append-le, drop_at, length_push}
+use Rattle.std.proofs.lemmas.{Bool.cond_both, Grind.common_steps, List.drop-append-le, List.take-append-le, List.drop_at, List.length_push}
 use Rattle.std.proofs.Math.Seq.{drop-append_seam}
 use Rattle.std.proofs.ByRecursion.{All-weaker}
 pub use Rattle.std.proofs.ByRecursion.{All-append as each_append}
 use Rattle.bx_advice.specs.declared.config.Config.{Config}
 use Rattle.bx_advice.specs.declared.advice.Outcome.TheVariants.{Connected}
-use Rattle.bx_entry.specs.declared.entry.Entry.{Entry}
-use Rattle.bx_entry.specs.declared.entry.EntryKind.{EntryKind}
+use Rattle.bx_entry.specs.declared.entry.{Entry.Entry, EntryKind.EntryKind, Rider.Rider}
 use Rattle.bx_entry.specs.declared.entry.EntryKind.TheVariants.{Connect, Publish}
-use Rattle.bx_entry.specs.declared.entry.Rider.{Rider}
 use Rattle.bx_entry.specs.Sessions.{Session, Publication, Pending, Filed, filing, answered, unheld, gives, given, idle, answered_or_held, connected, overflowed, gives_one, with_event, delivered_to, delivered, is_hit, has_room, published, step_by, step, ride_portion, ride_filing, ridden_by, rider_of}
 use Rattle.bx_theory.specs.Laws.{InStep, Each, Slice}
 use Rattle.bx_theory.proofs.Counts.{behind, Quiet, Freed, freed, freed_leaves, freed_in, connected_by, ride_both, step_by_in}
-use Rattle.bx_theory.proofs.Done.{done_by, done_step}
-use Rattle.bx_theory.proofs.Stages.{step_number}
-use Rattle.bx_theory.proofs.Gained.{gains, step_gains}
+use Rattle.bx_theory.proofs.{Done.done_by, Done.done_step, Stages.step_number, Gained.gains, Gained.step_gains}
 
 -- the batch that is outstanding is the one that was, unless a new one was formed
 abbrev pub Still : Session → Session → Type 0

@@ -1,14 +1,10 @@
 -- The events of a plain session's answers, one answer after another, are its first `done` events.
 use Rattle.std.proofs.Common.{◌≡◌, ℕ, ◌<◌, false, Option, List, [], ◌∷◌, ◌++◌, take, fold, ◌==◌, refl, ap, ◌∙◌, arith, append-nil}
-use Rattle.std.proofs.lemmas.Bool.{cond_both}
-use Rattle.std.proofs.lemmas.List.{take-append-le, drop_at}
-use Rattle.std.proofs.lemmas.Grind.{common_steps, flat_map-append}
+use Rattle.std.proofs.lemmas.{Bool.cond_both, List.take-append-le, List.drop_at, Grind.common_steps, Grind.flat_map-append}
 use Rattle.std.proofs.Math.Seq.{take-add}
 use Rattle.bx_advice.specs.declared.config.Config.{Config}
-use Rattle.bx_entry.specs.declared.entry.Entry.{Entry}
-use Rattle.bx_entry.specs.declared.entry.EntryKind.{EntryKind}
+use Rattle.bx_entry.specs.declared.entry.{Entry.Entry, EntryKind.EntryKind, Rider.Rider}
 use Rattle.bx_entry.specs.declared.entry.EntryKind.TheVariants.{Connect, Publish}
-use Rattle.bx_entry.specs.declared.entry.Rider.{Rider}
 use Rattle.bx_entry.specs.Sessions.{Session, Publication, Pending, Filed, answered_or_held, connected, published, step_by, step, unopened, ridden_by, rider_of}
 use Rattle.bx_theory.specs.Laws.{InStep, given_in, GivenOnce}
 use Rattle.bx_theory.proofs.Counts.{Freed, freed, freed_leaves, freed_in, connected_by, step_by_in, stays_in_step, unopened_in_step}

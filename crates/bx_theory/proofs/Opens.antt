@@ -1,18 +1,10 @@
 -- One more input makes whole what waits for its places, and the rest stays open.
 use Rattle.std.proofs.Common.{◌≡◌, ℕ, zero, suc, ◌+◌, ◌<◌, ◌≤◌, ⊎_elim, Bool, true, false, cond, not, ◌&&◌, is_some, is_none, Option, Some, None, List, [], ◌∷◌, ◌++◌, length, map, filter, flat_map, fold, nat_lt, refl, sym, ap, ◌∙◌, subst, arith, append-nil, length-append, ne_eqb, eq-eqb, lt-ltb}
-use Rattle.std.proofs.lemmas.Bool.{cond-true, cases_lt}
-use Rattle.std.proofs.lemmas.List.{map-append}
-use Rattle.std.proofs.lemmas.List.Elements.{filter-append}
-use Rattle.std.proofs.lemmas.List.Sums.{fold-append}
-use Rattle.std.proofs.lemmas.Grind.{common_steps, flat_map-append}
+use Rattle.std.proofs.lemmas.{Bool.cond-true, Bool.cases_lt, List.map-append, List.Elements.filter-append, List.Sums.fold-append, Grind.common_steps, Grind.flat_map-append}
 use Rattle.std.specs.List.{position, position_or_len}
 use Rattle.bx_advice.specs.declared.config.Config.{Config}
-use Rattle.bx_entry.specs.Listing.{Listed}
-use Rattle.bx_entry.specs.Registry.{Registry, registry}
-use Rattle.bx_entry.specs.Answers.{PlacedAnswer, answer_in}
-use Rattle.bx_entry.specs.Inputs.{ReadInput, Request, refusal_of, added_by}
+use Rattle.bx_entry.specs.Words.{Listed, Registry, registry, PlacedAnswer, answer_in, ReadInput, Request, refusal_of, added_by, Intake, Taking, taken_as, take_in, taken_in, Out, numbers_from, places_of, latest, has_place, whole_by, Whole, whole_of, wholes_from, wholes_in, wholes, is_at, whole_at, outs}
 use Rattle.bx_entry.specs.declared.input.Refusal.{Refusal}
-use Rattle.bx_entry.specs.Runs.{Intake, Taking, taken_as, take_in, taken_in, Out, numbers_from, places_of, latest, has_place, whole_by, Whole, whole_of, wholes_from, wholes_in, wholes, is_at, whole_at, outs}
 use Rattle.bx_theory.proofs.Wholes.{EachIntake, Took, took, beyond, AheadAll, ahead_all, latest_same, latest_later, where_first, where_late, where_none, nowhere, whole_push, wholes_split, whole_append, numbers_split, flat_same, Grows, grows, placed, ends_of, many_of}
 use Rattle.bx_theory.specs.Opens.{Numbered, numbered_from, is_whole, out_of, registry_after, open_after, intake_as, newest, OutsAdd, OpensGoOn, OpenIsHeld}
 use Rattle.bx_theory.proofs.Below.{answer_below, first_below}

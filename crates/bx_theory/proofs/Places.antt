@@ -1,21 +1,14 @@
 -- An answer is one to a connect or a rider that was there.
 use Rattle.std.proofs.Common.{◌≡◌, refl, false, sym, ◌∙◌, true, ◌≤◌, ℕ, ◌+◌, ◌<◌, Bool, cond, Option, Some, None, List, [], ◌∷◌, ◌++◌, length, fold, ◌==◌, subst, arith}
-use Rattle.std.proofs.lemmas.Bool.{cond_both}
-use Rattle.std.proofs.lemmas.Grind.{common_steps}
-use Rattle.bx_advice.specs.declared.config.Config.{Config}
-use Rattle.bx_advice.specs.declared.advice.Outcome.{Outcome}
+use Rattle.std.proofs.lemmas.{Bool.cond_both, Grind.common_steps}
+use Rattle.bx_advice.specs.declared.{config.Config.Config, advice.Outcome.Outcome}
 use Rattle.bx_advice.specs.declared.advice.Outcome.TheVariants.{Failed}
 use Rattle.bx_advice.specs.declared.error.Error.TheVariants.{SupersededConnect, QueueOverflow}
-use Rattle.bx_entry.specs.declared.entry.Entry.{Entry}
-use Rattle.bx_entry.specs.declared.entry.EntryKind.{EntryKind}
+use Rattle.bx_entry.specs.declared.entry.{Entry.Entry, EntryKind.EntryKind, Rider.Rider}
 use Rattle.bx_entry.specs.declared.entry.EntryKind.TheVariants.{Connect}
-use Rattle.bx_entry.specs.declared.entry.Rider.{Rider}
 use Rattle.bx_entry.specs.Sessions.{Session, Pending, answered, released, acknowledged, answered_or_held, connected, step_by, step, unopened, ridden_by, rider_of, Filed}
 use Rattle.bx_theory.specs.Laws.{Each, PlacesFrom}
-use Rattle.bx_theory.proofs.Counts.{rider_of_both}
-use Rattle.bx_theory.proofs.Moves.{each_append}
-use Rattle.bx_theory.proofs.Runs.{EachEntry}
-use Rattle.bx_theory.proofs.Stages.{step_number, step_by_next}
+use Rattle.bx_theory.proofs.{Counts.rider_of_both, Moves.each_append, Runs.EachEntry, Stages.step_number, Stages.step_by_next}
 
 abbrev HeldOnly : (ℕ → Type 0) → Option Pending → Type 0
 HeldOnly P None = Unit {0}

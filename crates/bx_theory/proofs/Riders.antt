@@ -1,33 +1,22 @@
 -- Riders, where they are.
 use Rattle.std.proofs.Common.{◌≡◌, ℕ, ◌+◌, ◌<◌, max, Bool, true, false, cond, not, ◌&&◌, Option, Some, None, List, [], ◌∷◌, ◌++◌, length, map, fold, ◌==◌, refl, sym, ap, ◌∙◌, subst, arith, true≢false, ⊎_elim, append-nil, append_assoc, eqb-true, eq-eqb}
-use Rattle.std.proofs.lemmas.Bool.{cond-true, and_parts, not-true}
-use Rattle.std.proofs.lemmas.Grind.{common_steps}
-use Rattle.bx_advice.specs.declared.error.Error.{Error}
-use Rattle.std.proofs.lemmas.List.Sums.{fold-append}
+use Rattle.std.proofs.lemmas.{Bool.cond-true, Bool.and_parts, Bool.not-true, Grind.common_steps, List.Sums.fold-append}
+use Rattle.bx_advice.specs.declared.{error.Error.Error, config.Config.Config}
 use Rattle.bx_lists.proofs.Tests.{either}
 use Rattle.std.specs.List.{AllByRecursion}
-use Rattle.bx_advice.specs.declared.config.Config.{Config}
 use Rattle.bx_message.specs.MessageKinds.{message_kind_of}
-use Rattle.bx_entry.specs.Listing.{Listed, Post, Posted}
+use Rattle.bx_entry.specs.Words.{Listed, Post, Posted, Session, Unopened, begun, step_by, step, unopened, session, rider_of, Filed, due_of, found_at, hold_of, is_ack, is_one, is_rider, joined, judged_by, named_by, refusal, State, may_ride, opened, refused, registry, rider_for, served, sessionless, slot_for, state_of, tick_verdict, Judged, NoSlot, PlaceSlot, Ready, Registered, Registry, Verdict, Waiting, entries_of}
 use Rattle.bx_entry.specs.Listing as messages
-use Rattle.bx_entry.specs.declared.entry.Entry.{Entry}
+use Rattle.bx_entry.specs.declared.{entry.Entry.Entry, entry.Rider.Rider, entry.EntryKind.EntryKind, senders.Senders.Senders}
 use Rattle.bx_message.specs.declared.message_kind.MessageKind.{MessageKind}
-use Rattle.bx_entry.specs.declared.entry.Rider.{Rider}
-use Rattle.bx_entry.specs.declared.entry.EntryKind.{EntryKind}
 use Rattle.bx_entry.specs.declared.entry.EntryKind.TheVariants.{Connect, Subscribe, Unsubscribe, Publish, Disconnect, Refused, Tick}
 use Rattle.bx_entry.specs.declared.entry.EntryKind.TheVariants as entries
-use Rattle.bx_entry.specs.Sessions.{Session, Unopened, begun, step_by, step, unopened, session, rider_of, Filed}
-use Rattle.bx_entry.specs.declared.senders.Senders.{Senders}
-use Rattle.bx_entry.specs.Registry.{due_of, found_at, hold_of, is_ack, is_one, is_rider, joined, judged_by, named_by, refusal, State, may_ride, opened, refused, registry, rider_for, served, sessionless, slot_for, state_of, tick_verdict, Judged, NoSlot, PlaceSlot, Ready, Registered, Registry, Verdict, Waiting, entries_of}
 use Rattle.bx_theory.specs.Laws.{NoRidersUnasked, RidesPlain, RidersArePlain, LastAnswer, LastGiven, Repetition}
 use Rattle.bx_theory.specs.Readings.{closes_by, moment_of, opens_by, since_opening, EachSession}
 use Rattle.bx_theory.proofs.Verdicts.{each_found, each_judge, each_registry, each_verdict, verdict_of, entries_behind, found_from, next_noted}
-use Rattle.bx_theory.proofs.Counts.{ride_both, rider_of_both, all_in_step, unopened_in_step}
-use Rattle.bx_theory.proofs.Batches.{acks_with_batch}
+use Rattle.bx_theory.proofs.{Counts.ride_both, Counts.rider_of_both, Counts.all_in_step, Counts.unopened_in_step, Batches.acks_with_batch, Closings.run_number, Lives.opened_later, Lives.entries_push}
 use Rattle.bx_theory.proofs.Stages.{step_number, step_next, next_opened, next_unopened}
-use Rattle.bx_theory.proofs.Closings.{run_number}
 use Rattle.bx_theory.proofs.Dues.{Mapped, each_session_map, each_session_push, each_session_through, named_session, served_sessions, swept_sessions, unchanged}
-use Rattle.bx_theory.proofs.Lives.{opened_later, entries_push}
 
 -- ---- none is there unasked
 

@@ -1,34 +1,22 @@
 -- Which messages are riders, over whole requests, and what a rider is given.
 use Rattle.std.proofs.Common.{take-append-drop, ◌≡◌, ◌↔◌, ℕ, suc, ◌+◌, ◌<◌, ◌||◌, ne_eqb, max, Bool, true, false, cond, not, ◌&&◌, Option, Some, None, List, [], ◌∷◌, ◌++◌, length, take, drop, flat_map, fold, ◌==◌, refl, sym, ap, ◌∙◌, subst, arith, true≢false, append-nil, append_assoc, eqb-true, eq-eqb}
 use Rattle.std.proofs.lemmas.Bool.{cond_both, cond-true, cond-false, and_parts, both_ways, not-true}
-use Rattle.std.proofs.lemmas.List.{length_push}
-use Rattle.std.proofs.lemmas.Grind.{common_steps}
-use Rattle.std.proofs.lemmas.List.Sums.{fold-append}
+use Rattle.std.proofs.lemmas.{List.length_push, Grind.common_steps, List.Sums.fold-append}
 use Rattle.std.proofs.Math.Seq.{drop-append_seam, take-append_seam}
 use Rattle.std.proofs.ByRecursion.{All-push}
 use Rattle.std.specs.List.{AllByRecursion}
-use Rattle.bx_advice.specs.declared.config.Config.{Config}
-use Rattle.bx_advice.specs.declared.error.Error.{Error}
-use Rattle.bx_message.specs.declared.message.Message.{Message}
-use Rattle.bx_message.specs.declared.message_kind.MessageKind.{MessageKind}
+use Rattle.bx_advice.specs.declared.{config.Config.Config, error.Error.Error}
+use Rattle.bx_message.specs.declared.{message.Message.Message, message_kind.MessageKind.MessageKind}
 use Rattle.bx_message.specs.MessageKinds.{message_kind_of, is_handshake}
 use Rattle.bx_entry.specs.Inputs.{ReadInput, Request, Unread, Tick, added_by}
-use Rattle.bx_entry.specs.Listing.{Listed, Post, Posted, listed_from}
+use Rattle.bx_entry.specs.Words.{Listed, Post, Posted, listed_from, State, judged_by, Registry, Registered, Judged, PlaceSlot, is_one, joined, senders_behind, may_ride, is_rider, rider_for, kind_for, slot_for, judge, judged_by, named_by, refusal, hold_of, registry, empty_registry, entries_of, entries, noted, state_of, Session, Stage, Unopened, Live, is_live, session, step, step_by, rider_of, is_riding, ridden, ridden_by, ride_portion}
 use Rattle.bx_entry.specs.Listing as messages
-use Rattle.bx_entry.specs.declared.entry.Entry.{Entry}
-use Rattle.bx_entry.specs.declared.entry.Rider.{Rider}
-use Rattle.bx_entry.specs.declared.entry.EntryKind.{EntryKind}
-use Rattle.bx_entry.specs.declared.senders.Senders.{Senders}
+use Rattle.bx_entry.specs.declared.{entry.Entry.Entry, entry.Rider.Rider, entry.EntryKind.EntryKind, senders.Senders.Senders}
 use Rattle.bx_entry.specs.declared.senders.Senders.TheVariants.{NoneYet, Only, Mixed}
-use Rattle.bx_entry.specs.Registry.{State, judged_by, Registry, Registered, Judged, PlaceSlot, is_one, joined, senders_behind, may_ride, is_rider, rider_for, kind_for, slot_for, judge, judged_by, named_by, refusal, hold_of, registry, empty_registry, entries_of, entries, noted, state_of}
-use Rattle.bx_entry.specs.Sessions.{Session, Stage, Unopened, Live, is_live, session, step, step_by, rider_of, is_riding, ridden, ridden_by, ride_portion}
 use Rattle.bx_theory.specs.Readings.{is_from, opens_by}
 use Rattle.bx_theory.specs.Riding.{found_behind, is_own, may_have_rider, IsRiderOf, rider_session, RiderReading, NothingRidesBeside, OthersNeverRide, GivesRider, RiderGiven}
 use Rattle.bx_theory.proofs.Verdicts.{by_verdict, each_found, found_from, judged_behind, verdict_of}
-use Rattle.bx_theory.proofs.Dues.{named_session}
-use Rattle.bx_theory.proofs.Lists.{judged_length}
-use Rattle.bx_theory.proofs.Lives.{found_of}
-use Rattle.bx_theory.proofs.Stages.{Next, next_by, step_by_next}
+use Rattle.bx_theory.proofs.{Dues.named_session, Lists.judged_length, Lives.found_of, Stages.Next, Stages.next_by, Stages.step_by_next}
 use Rattle.bx_theory.proofs.Riders.{WasOpened, step_by_a, acks_later, entries_all}
 
 -- ---- the messages of one session

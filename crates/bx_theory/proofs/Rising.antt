@@ -1,16 +1,13 @@
 -- A session's events stand at rising places, so what is given once more is another event.
 use Rattle.std.proofs.Common.{◌≡◌, ℕ, zero, suc, ◌+◌, ◌-◌, ◌<◌, ◌≤◌, cond, List, [], ◌∷◌, ◌++◌, take, drop, fold, refl, sym, ap, ◌∙◌, subst, arith}
-use Rattle.std.proofs.lemmas.List.{drop-drop}
-use Rattle.std.proofs.lemmas.List.Sums.{fold-append}
+use Rattle.std.proofs.lemmas.{List.drop-drop, List.Sums.fold-append}
 use Rattle.std.proofs.ByRecursion.{All-weaker}
 pub use Rattle.std.proofs.ByRecursion.{All-take as each_of_take, All-drop as each_of_drop}
 use Rattle.bx_advice.specs.declared.config.Config.{Config}
 use Rattle.bx_entry.specs.Sessions.{Session, Publication, step, session, unopened}
 use Rattle.bx_theory.specs.Events.{Rising}
 use Rattle.bx_theory.specs.Laws.{EachOf, AllBelow, Slice, GivesFrom, GivesLater, NoEventTwice}
-use Rattle.bx_theory.proofs.Gained.{events_rise}
-use Rattle.bx_theory.proofs.Moves.{each_map}
-use Rattle.bx_theory.proofs.Runs.{never_given_again}
+use Rattle.bx_theory.proofs.{Gained.events_rise, Moves.each_map, Runs.never_given_again}
 
 -- ---- apart
 

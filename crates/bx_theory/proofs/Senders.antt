@@ -4,19 +4,14 @@ use Rattle.std.proofs.lemmas.Bool.{and_parts, both_ways}
 use Rattle.std.proofs.Math.Seq.{take-append_seam}
 use Rattle.std.specs.Str.{bytes_eq}
 use Rattle.bx_advice.specs.declared.config.Config.{Config}
-use Rattle.bx_message.specs.declared.message.Message.{Message}
-use Rattle.bx_message.specs.declared.message.TextMember.{TextMember}
+use Rattle.bx_message.specs.declared.{message.Message.Message, message.TextMember.TextMember, message_kind.MessageKind.MessageKind}
 use Rattle.bx_message.specs.declared.message.TextMember.TheVariants.{Text}
-use Rattle.bx_message.specs.declared.message_kind.MessageKind.{MessageKind}
 use Rattle.bx_message.specs.MessageKinds.{message_kind_of}
-use Rattle.bx_entry.specs.Listing.{Listed, Posted}
+use Rattle.bx_entry.specs.Words.{Listed, Posted, Registered, Judged, sender_of, named_by, registry, entries_of}
 use Rattle.bx_entry.specs.declared.entry.Entry.{Entry}
-use Rattle.bx_entry.specs.Registry.{Registered, Judged, sender_of, named_by, registry, entries_of}
 use Rattle.bx_theory.specs.Readings.{opens_by, since_opening, unclosed, AcceptedWhileLive}
 use Rattle.bx_theory.proofs.Verdicts.{FoundOf, each_verdict, found_of_place, got_here, judged_before, verdict_of}
-use Rattle.bx_theory.proofs.Dues.{named_session}
-use Rattle.bx_theory.proofs.Lists.{find_true}
-use Rattle.bx_theory.proofs.Lives.{same_live}
+use Rattle.bx_theory.proofs.{Dues.named_session, Lists.find_true, Lives.same_live}
 
 -- ---- the sender is live
 

@@ -1,17 +1,13 @@
 -- A publish without a client id is of no session.
 use Rattle.std.proofs.Common.{◌≡◌, ℕ, max, Bool, true, false, cond, not, ◌&&◌, is_some, is_none, Option, None, List, [], ◌∷◌, refl, sym, ap, ◌∙◌, subst}
 use Rattle.bx_names.specs.Faults.{first_case, name_fault}
-use Rattle.bx_advice.specs.declared.config.Config.{Config}
-use Rattle.bx_advice.specs.declared.error.Error.{Error}
+use Rattle.bx_advice.specs.declared.{config.Config.Config, error.Error.Error}
 use Rattle.bx_advice.specs.declared.error.Error.TheVariants.{NoClientId, UnknownClient, InvalidChannel, MissingData}
-use Rattle.bx_message.specs.declared.message.Message.{Message}
-use Rattle.bx_message.specs.declared.message.TextMember.{TextMember}
+use Rattle.bx_message.specs.declared.{message.Message.Message, message.TextMember.TextMember, message_kind.MessageKind.MessageKind}
 use Rattle.bx_message.specs.declared.message.TextMember.TheVariants.{Absent}
-use Rattle.bx_message.specs.declared.message_kind.MessageKind.{MessageKind}
 use Rattle.bx_message.specs.MessageKinds.{message_kind_of, is_handshake}
-use Rattle.bx_entry.specs.Listing.{Post, Posted}
+use Rattle.bx_entry.specs.Words.{Post, Posted, State, Verdict, verdict, Registry, Registered, cases_of, event_of, is_text, judged_by, named_by, needs_session, publish_cases, refusal, sender_of, sessionless_kind, unnamed, registry, state_of}
 use Rattle.bx_entry.specs.declared.entry.EntryKind.TheVariants.{Publish, Refused}
-use Rattle.bx_entry.specs.Registry.{State, Verdict, verdict, Registry, Registered, cases_of, event_of, is_text, judged_by, named_by, needs_session, publish_cases, refusal, sender_of, sessionless_kind, unnamed, registry, state_of}
 use Rattle.bx_theory.proofs.Verdicts.{registry_next}
 use Rattle.bx_theory.specs.Readings.{PublishesOfNone, IsOfNone}
 

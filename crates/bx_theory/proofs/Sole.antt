@@ -5,20 +5,13 @@ use Rattle.std.specs.List.{AllByRecursion}
 use Rattle.bx_advice.specs.declared.config.Config.{Config}
 use Rattle.bx_message.specs.declared.message.Message.{Message}
 use Rattle.bx_message.specs.MessageKinds.{message_kind_of}
-use Rattle.bx_entry.specs.Listing.{Listed, Post, Posted, listed_from}
-use Rattle.bx_entry.specs.Inputs.{ReadInput, Request, refusal_of, added_by}
-use Rattle.bx_entry.specs.declared.input.Refusal.{Refusal}
-use Rattle.bx_entry.specs.Registry.{Registry, Judged, PlaceSlot, Ready, Waiting, NoSlot, refusal, hold_of, registry, entries_of}
-use Rattle.bx_entry.specs.declared.entry.Rider.{Rider}
-use Rattle.bx_entry.specs.Answers.{answer_by, answer_at, answer_in, answer}
-use Rattle.bx_entry.specs.Runs.{Intake, Taking, taken_as, take_in, taken_in, numbers_from, places_of, latest}
+use Rattle.bx_entry.specs.Words.{Listed, Post, Posted, listed_from, ReadInput, Request, refusal_of, added_by, Registry, Judged, PlaceSlot, Ready, Waiting, NoSlot, refusal, hold_of, registry, entries_of, answer_by, answer_at, answer_in, answer, Intake, Taking, taken_as, take_in, taken_in, numbers_from, places_of, latest}
+use Rattle.bx_entry.specs.declared.{input.Refusal.Refusal, entry.Rider.Rider}
 use Rattle.bx_theory.specs.Opens.{Numbered, numbered_from, is_whole}
 use Rattle.bx_theory.specs.Sole.{IsConnect, OpenAreSole}
 use Rattle.bx_theory.proofs.Verdicts.{Slotted, each_verdict, found_there, judge_is, next_found, next_noted, registry_next, slotted, verdict_of}
-use Rattle.bx_theory.proofs.Lists.{judged_length}
+use Rattle.bx_theory.proofs.{Lists.judged_length, Senders.sender_reads, Stages.live_reading}
 use Rattle.bx_theory.proofs.AtOnce.{There, AllThere, latest_there, messages_there, rider_served, there_stays}
-use Rattle.bx_theory.proofs.Senders.{sender_reads}
-use Rattle.bx_theory.proofs.Stages.{live_reading}
 
 -- ---- where the messages of an input stand
 

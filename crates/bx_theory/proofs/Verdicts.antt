@@ -1,20 +1,16 @@
 -- What one more element of the list comes to, what is found of it, and what holds so of all that was judged.
 use Rattle.std.proofs.Common.{◌≡◌, ℕ, zero, suc, ◌+◌, max, true, false, Some, List, [], ◌∷◌, ◌++◌, length, map, take, fold, slice_get, refl, sym, ap, ◌∙◌, subst, arith, append-nil, append_assoc}
-use Rattle.std.proofs.lemmas.List.{length_push, map-append}
+use Rattle.std.proofs.lemmas.{List.length_push, List.map-append, List.Sums.fold-append}
 use Rattle.std.proofs.Math.Seq.{take-append_seam}
-use Rattle.std.proofs.lemmas.List.Sums.{fold-append}
 use Rattle.std.specs.Prelude.{Bool, Option, None}
 use Rattle.std.specs.List.{AllByRecursion}
 use Rattle.bx_lists.proofs.Lists.{mapped}
-use Rattle.bx_advice.specs.declared.config.Config.{Config}
-use Rattle.bx_advice.specs.declared.error.Error.{Error}
+use Rattle.bx_advice.specs.declared.{config.Config.Config, error.Error.Error}
 use Rattle.bx_message.specs.declared.message_kind.MessageKind.{MessageKind}
 use Rattle.bx_message.specs.MessageKinds.{message_kind_of, is_handshake}
-use Rattle.bx_entry.specs.Listing.{Listed, Post, Posted}
+use Rattle.bx_entry.specs.Words.{Listed, Post, Posted, Judged, NoSlot, PlaceSlot, Registered, Registry, State, Verdict, empty_registry, entries_of, found_at, hold_of, judge, judged_by, named_by, noted, opened, refusal, refused, registry, rider_by, served, slot_for, slot_with, sessionless, state_of, tick_verdict, unnamed, verdict}
 use Rattle.bx_entry.specs.Listing as messages
-use Rattle.bx_entry.specs.declared.entry.Entry.{Entry}
-use Rattle.bx_entry.specs.declared.entry.Rider.{Rider}
-use Rattle.bx_entry.specs.Registry.{Judged, NoSlot, PlaceSlot, Registered, Registry, State, Verdict, empty_registry, entries_of, found_at, hold_of, judge, judged_by, named_by, noted, opened, refusal, refused, registry, rider_by, served, slot_for, slot_with, sessionless, state_of, tick_verdict, unnamed, verdict}
+use Rattle.bx_entry.specs.declared.entry.{Entry.Entry, Rider.Rider}
 use Rattle.bx_theory.specs.Readings.{moment_of}
 
 -- ---- one element

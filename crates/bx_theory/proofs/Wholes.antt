@@ -1,16 +1,10 @@
 -- The outs of more inputs begin with the outs of fewer.
 use Rattle.std.proofs.Common.{◌≡◌, ℕ, zero, suc, ◌+◌, ◌<◌, ◌≤◌, max, Bool, true, false, cond, Option, Some, None, List, [], ◌∷◌, ◌++◌, length, map, flat_map, fold, slice_get, refl, sym, ap, ◌∙◌, subst, arith, append-nil, append_assoc, length-append, ne_eqb}
-use Rattle.std.proofs.lemmas.Bool.{cond-false}
-use Rattle.std.proofs.lemmas.List.Sums.{fold-append}
-use Rattle.std.proofs.lemmas.Grind.{common_steps, flat_map-append}
+use Rattle.std.proofs.lemmas.{Bool.cond-false, List.Sums.fold-append, Grind.common_steps, Grind.flat_map-append}
 use Rattle.std.specs.List.{position, position_or_len}
 use Rattle.bx_advice.specs.declared.config.Config.{Config}
-use Rattle.bx_entry.specs.Listing.{Listed}
-use Rattle.bx_entry.specs.Registry.{Judged, Registry, registry, entries_of}
-use Rattle.bx_entry.specs.Answers.{PlacedAnswer, answer_at, answer_in, answer}
-use Rattle.bx_entry.specs.Inputs.{ReadInput, Request, refusal_of, added_by}
+use Rattle.bx_entry.specs.Words.{Listed, Judged, Registry, registry, entries_of, PlacedAnswer, answer_at, answer_in, answer, ReadInput, Request, refusal_of, added_by, Intake, Taking, taken_as, take_in, taken_in, Out, numbers_from, places_of, latest, has_place, whole_by, result_by, Whole, whole_of, wholes_from, wholes, is_at, whole_at}
 use Rattle.bx_entry.specs.declared.input.Refusal.{Refusal}
-use Rattle.bx_entry.specs.Runs.{Intake, Taking, taken_as, take_in, taken_in, Out, numbers_from, places_of, latest, has_place, whole_by, result_by, Whole, whole_of, wholes_from, wholes, is_at, whole_at}
 use Rattle.bx_theory.specs.Outs.{OutsGrow}
 use Rattle.bx_theory.proofs.Lists.{answer_more, answer_less, judged_length}
 

@@ -1,18 +1,13 @@
 -- Which publishes are a session's events, and what answers give of them.
 use Rattle.std.specs.Prelude.{ℕ, ◌≡◌, ◌<◌, true, false, List, [], ◌∷◌, ◌++◌, filter_map, option_map, slice_get, Some, ⊤}
-use Rattle.bx_names.specs.Globs.{Glob, matches}
-use Rattle.bx_names.specs.Segments.{segments}
-use Rattle.bx_names.specs.Kinds.{is_broadcast}
+use Rattle.bx_names.specs.Words.{Glob, matches, segments, is_broadcast}
 use Rattle.bx_advice.specs.declared.config.Config.{Config}
-use Rattle.bx_message.specs.declared.event.Event.{Event}
-use Rattle.bx_message.specs.declared.message_kind.MessageKind.{MessageKind}
+use Rattle.bx_message.specs.declared.{event.Event.Event, message_kind.MessageKind.MessageKind}
 use Rattle.bx_message.specs.MessageKinds.{message_kind_of}
 use Rattle.bx_entry.specs.declared.entry.Entry.{Entry}
 use Rattle.bx_entry.specs.declared.entry.EntryKind.TheVariants.{Publish}
-use Rattle.bx_entry.specs.Listing.{Posted, Listed, Post}
-use Rattle.bx_entry.specs.Registry.{Judged, Waiting, event_of, registry, entries}
+use Rattle.bx_entry.specs.Words.{Posted, Listed, Post, Judged, Waiting, event_of, registry, entries, PlacedAnswer, answer}
 use Rattle.bx_entry.specs.Sessions.{Publication, pending_count, unopened, session}
-use Rattle.bx_entry.specs.Answers.{PlacedAnswer, answer}
 use Rattle.bx_theory.specs.Laws.{EachOf, PlacesFrom}
 use Rattle.bx_theory.specs.Readings.{since_opening, unclosed, mention_by, last_of, some_overfills}
 

@@ -2,14 +2,11 @@
 use Rattle.std.specs.Prelude.{ℕ, ◌⊎◌, ◌+◌, ◌≡◌, ◌≤◌, ◌<◌, true, false, is_some, List, [], ◌∷◌, ◌++◌, length, take, drop, fold, flat_map, if◌then◌else◌, Option, Some, None, ⊤}
 use Rattle.std.specs.List.{AllByRecursion}
 use Rattle.bx_advice.specs.declared.config.Config.{Config}
-use Rattle.bx_entry.specs.Listing.{Listed}
+use Rattle.bx_entry.specs.Words.{Listed, entries, PlacedAnswer, answer}
 use Rattle.bx_message.specs.declared.reply.AckReply.TheVariants.{AckNumber}
-use Rattle.bx_entry.specs.declared.entry.Entry.{Entry}
+use Rattle.bx_entry.specs.declared.entry.{Entry.Entry, Rider.Rider}
 use Rattle.bx_entry.specs.declared.entry.EntryKind.TheVariants.{Connect}
-use Rattle.bx_entry.specs.declared.entry.Rider.{Rider}
 use Rattle.bx_entry.specs.Sessions.{Session, Publication, Filed, Unopened, step, session, rider_of}
-use Rattle.bx_entry.specs.Registry.{entries}
-use Rattle.bx_entry.specs.Answers.{PlacedAnswer, answer}
 
 -- ---- counts
 

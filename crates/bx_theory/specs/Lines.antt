@@ -1,9 +1,8 @@
 -- What a replay has printed where it has taken in the first lines of a script, what one more line prints, and what comes at the end.
 use Rattle.std.specs.Prelude.{ℕ, ◌+◌, ◌<◌, ◌≡◌, List, [], ◌∷◌, ◌++◌, length, map, flat_map, slice_get, codes, decimal, ⊤}
 use Rattle.bx_advice.specs.declared.config.Config.{Config}
-use Rattle.bx_entry.specs.Inputs.{ReadInput}
+use Rattle.bx_entry.specs.Words.{ReadInput, Out, wholes, outs, held}
 use Rattle.bx_script.specs.Replay.{Line, Bad, Rejected, Accepted, Resharded, Numbered, inputs_from, line_text, out_by, printed_from, printed, held_text}
-use Rattle.bx_entry.specs.Runs.{Out, wholes, outs, held}
 
 -- the inputs among a script's first lines
 abbrev pub inputs_in : List Line → List ReadInput

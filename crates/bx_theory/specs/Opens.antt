@@ -1,10 +1,7 @@
 -- The inputs of a run that are not whole yet, and what one more input makes whole.
 use Rattle.std.specs.Prelude.{ℕ, ◌+◌, ◌<◌, ◌≡◌, not, Bool, List, [], ◌∷◌, ◌++◌, length, filter, map, is_some, Option, Some, None}
 use Rattle.bx_advice.specs.declared.config.Config.{Config}
-use Rattle.bx_entry.specs.Answers.{PlacedAnswer, answer_in}
-use Rattle.bx_entry.specs.Inputs.{ReadInput, added_by, refusal_of}
-use Rattle.bx_entry.specs.Registry.{Registry, registry}
-use Rattle.bx_entry.specs.Runs.{Intake, Out, held, latest, outs, places_of, result_by, taken_in}
+use Rattle.bx_entry.specs.Words.{PlacedAnswer, answer_in, ReadInput, added_by, refusal_of, Registry, registry, Intake, Out, held, latest, outs, places_of, result_by, taken_in}
 use Rattle.bx_entry.specs.declared.input.Refusal.{Refusal}
 
 -- an input that was taken in, and its number

@@ -1,8 +1,7 @@
 -- What is given after more inputs.
 use Rattle.std.specs.Prelude.{◌≡◌, ◌<◌, List, ◌++◌}
 use Rattle.bx_advice.specs.declared.config.Config.{Config}
-use Rattle.bx_entry.specs.Inputs.{ReadInput}
-use Rattle.bx_entry.specs.Runs.{Out, outs}
+use Rattle.bx_entry.specs.Words.{ReadInput, Out, outs}
 
 -- what is given after more inputs begins with what was given before them
 abbrev pub OutsGrow : Type 0

@@ -1,24 +1,18 @@
 -- What the words of a session mean, said of the whole list instead of step by step.
 use Rattle.std.specs.Prelude.{ℕ, ◌≡◌, ◌≤◌, ◌==◌, ◌&&◌, ◌||◌, not, max, is_some, is_none, Bool, true, false, List, [], ◌∷◌, ◌++◌, length, map, filter, filter_map, fold, nat_le, nat_lt, if◌then◌else◌, Option, Some, None, ⊤}
 use Rattle.std.specs.List.{list_any}
-use Rattle.bx_names.specs.Faults.{name_fault}
-use Rattle.bx_names.specs.Globs.{Glob}
-use Rattle.bx_advice.specs.declared.config.Config.{Config}
-use Rattle.bx_advice.specs.declared.advice.Outcome.{Outcome}
+use Rattle.bx_names.specs.Words.{name_fault, Glob, in_force, with_pattern}
+use Rattle.bx_advice.specs.declared.{config.Config.Config, advice.Outcome.Outcome}
 use Rattle.bx_advice.specs.declared.advice.Outcome.TheVariants.{Connected, Disconnected, Failed}
 use Rattle.bx_advice.specs.declared.error.Error.TheVariants.{SupersededConnect}
 use Rattle.bx_message.specs.Replies.{connect_reply}
-use Rattle.bx_message.specs.declared.message.Message.{Message}
+use Rattle.bx_message.specs.declared.{message.Message.Message, message_kind.MessageKind.MessageKind}
 use Rattle.bx_message.specs.declared.message.TextMember.TheVariants.{Absent}
-use Rattle.bx_message.specs.declared.message_kind.MessageKind.{MessageKind}
 use Rattle.bx_message.specs.MessageKinds.{message_kind_of}
-use Rattle.bx_entry.specs.Listing.{Listed, Post, Posted}
+use Rattle.bx_entry.specs.Words.{Listed, Post, Posted, due_of, Registered, Registry, Judged, event_of, registry, entries_of, entries}
 use Rattle.bx_entry.specs.Listing as messages
-use Rattle.bx_entry.specs.declared.entry.Entry.{Entry}
-use Rattle.bx_entry.specs.declared.entry.EntryKind.{EntryKind}
+use Rattle.bx_entry.specs.declared.entry.{Entry.Entry, EntryKind.EntryKind}
 use Rattle.bx_entry.specs.declared.entry.EntryKind.TheVariants.{Opened, Connect, Subscribe, Unsubscribe, Publish, Disconnect, Refused, Tick}
-use Rattle.bx_entry.specs.Registry.{due_of, Registered, Registry, Judged, event_of, registry, entries_of, entries}
-use Rattle.bx_names.specs.InForce.{in_force, with_pattern}
 use Rattle.bx_entry.specs.Sessions.{Session, Pending, Filed, Publication, ack_given, is_live, is_hit, has_room, pending_count, step, session, Closed, deadline}
 
 -- ---- live: opened, and not closed since

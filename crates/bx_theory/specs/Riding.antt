@@ -3,13 +3,9 @@ use Rattle.std.specs.Prelude.{ℕ, ◌-◌, min, ◌≡◌, ◌&&◌, ◌↔◌,
 use Rattle.std.specs.List.{AllByRecursion}
 use Rattle.bx_advice.specs.declared.config.Config.{Config}
 use Rattle.bx_message.specs.declared.message.Message.{Message}
-use Rattle.bx_entry.specs.Inputs.{ReadInput, Request, added_by}
-use Rattle.bx_entry.specs.Listing.{Listed}
-use Rattle.bx_entry.specs.declared.entry.Entry.{Entry}
-use Rattle.bx_entry.specs.declared.entry.EntryKind.{EntryKind}
+use Rattle.bx_entry.specs.Words.{ReadInput, Request, added_by, Listed, Judged, registry, entries}
+use Rattle.bx_entry.specs.declared.entry.{Entry.Entry, EntryKind.EntryKind, Rider.Rider}
 use Rattle.bx_entry.specs.declared.entry.EntryKind.TheVariants.{Subscribe, Unsubscribe, Publish}
-use Rattle.bx_entry.specs.declared.entry.Rider.{Rider}
-use Rattle.bx_entry.specs.Registry.{Judged, registry, entries}
 use Rattle.bx_entry.specs.Sessions.{Session, Publication, Live, session, step, step_by, rider_of}
 use Rattle.bx_theory.specs.Readings.{is_from, opens_by}
 

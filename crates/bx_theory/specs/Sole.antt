@@ -1,12 +1,8 @@
 -- An input that is not whole is a held connect, its request's only message.
 use Rattle.std.specs.Prelude.{ℕ, ◌<◌, ◌≡◌, List, [], ◌∷◌, map, slice_get, option_map, None, Some}
-use Rattle.std.specs.List.{AllByRecursion}
-use Rattle.std.specs.List.Sorted.{IsStrictlyIncreasing}
+use Rattle.std.specs.{List.AllByRecursion, List.Sorted.IsStrictlyIncreasing}
 use Rattle.bx_advice.specs.declared.config.Config.{Config}
-use Rattle.bx_entry.specs.Inputs.{ReadInput}
-use Rattle.bx_entry.specs.Listing.{Listed}
-use Rattle.bx_entry.specs.Registry.{Judged, Waiting, registry}
-use Rattle.bx_entry.specs.Runs.{places_of, taken_in}
+use Rattle.bx_entry.specs.Words.{ReadInput, Listed, Judged, Waiting, registry, places_of, taken_in}
 use Rattle.bx_theory.specs.Opens.{Numbered, open_after}
 
 -- the input is a request of one message, an accepted connect of this session: what waits for its session, and is no rider

@@ -1,7 +1,6 @@
 -- One separator of a text is replaced by its escape: what was lexed stays.
 use Rattle.std.proofs.Common.{◌≡◌, ℕ, zero, suc, ◌+◌, ◌*◌, ◌<◌, ◌≤◌, Bool, true, false, cond, ◌&&◌, ◌==◌, nat_lt, List, [], ◌∷◌, ◌++◌, length, Option, Some, None, option_and_then, refl, sym, ap, ap₂, ◌∙◌, subst, arith}
-use Rattle.std.proofs.lemmas.Bool.{true≢false, false≢true, eqb-true, ne_eqb}
-use Rattle.std.proofs.lemmas.List.{length-append}
+use Rattle.std.proofs.lemmas.{Bool.true≢false, Bool.false≢true, Bool.eqb-true, Bool.ne_eqb, List.length-append}
 use Rattle.std.specs.Char.{digit_value, is_digit, encode_utf8}
 use Rattle.std.specs.Prelude.{not}
 use Rattle.json.specs.Token.{Token, begin_object, end_object, begin_array, end_array, key, string, number, boolean, null, bad}
@@ -9,11 +8,9 @@ use Rattle.json.specs.Text.{code_unit, short_escape, is_high_surrogate, is_low_s
 use Rattle.json.specs.Word.{is_operator, is_space, ends_word, after_number, word}
 use Rattle.json.specs.Lex.{Lexeme, token, comma, colon, Mode, between, in_word, in_string, in_escape, Class, quote, backslash, operator, space, other, lex_byte, lex, string_token}
 use Rattle.json.proofs.Printed.Numbers.{in_word-ended, lex-number}
-use Rattle.bx_cut.proofs.Bytes.{Other, byte_cases, space_cases}
-use Rattle.bx_cut.proofs.Seen.{IsWord, is_word}
+use Rattle.bx_cut.proofs.{Bytes.Other, Bytes.byte_cases, Bytes.space_cases, Seen.IsWord, Seen.is_word, Local.from_prepend, Local.no_some}
 use Rattle.bx_cut.proofs.Values.{true_other, false_other, null_other}
 use Rattle.bx_cut.proofs.Words.{AllOther, WordText, Ended, word_text, true_text, false_text, null_text}
-use Rattle.bx_cut.proofs.Local.{from_prepend, no_some}
 
 -- a text with a separator, and the same with the escape in its place
 pub data Replaced : List ℕ → List ℕ → Type 0 where

@@ -1,9 +1,7 @@
 -- The parameters of a form or a query, by the words of `form_urlencoded`.
 use Rattle.std.specs.Prelude.{ℕ, ◌-◌, ◌==◌, ◌||◌, ◌&&◌, Bool, false, List, map, filter, fold, take, drop, length, nat_lt, nat_le, codes, Option, Some, None, unwrap_or}
 use Rattle.std.specs.List.{before_first, list_any, list_all, prefix_len, suffix_len}
-use Rattle.std.specs.Char.{is_ascii_alphanumeric, is_ascii_whitespace, to_ascii_lowercase}
-use Rattle.std.specs.Str.{bytes_eq}
-use Rattle.std.specs.Str.Lossy.{utf8_lossy}
+use Rattle.std.specs.{Char.is_ascii_alphanumeric, Char.is_ascii_whitespace, Char.to_ascii_lowercase, Str.bytes_eq, Str.Lossy.utf8_lossy}
 use Rattle.form_urlencoded.specs.Form.{decode, raw_pairs}
 
 -- ---- which bodies are forms

@@ -1,11 +1,7 @@
 -- Numbers among others.
 use Rattle.std.proofs.Common.{◌≡◌, ◌↔◌, ℕ, Bool, IsTrue, Result, Ok, Err, IfOk, OnOk, eqb, List, Contains, sym, ◌∙◌}
-use Rattle.std.specs.Bool.{Decides, one_answer}
-use Rattle.std.specs.List.{dedup}
-use Rattle.std.proofs.lemmas.Bool.{eqb-true}
-use Rattle.std.proofs.lemmas.Cmp.{nat_eq_equiv}
-use Rattle.std.proofs.lemmas.Map.Views.{Contains-from_any, list_any-from_Contains}
-use Rattle.std.proofs.lemmas.List.Kept.{Contains-dedup_nat, Contains-from_dedup}
+use Rattle.std.specs.{Bool.Decides, Bool.one_answer, List.dedup}
+use Rattle.std.proofs.lemmas.{Bool.eqb-true, Cmp.nat_eq_equiv, Map.Views.Contains-from_any, Map.Views.list_any-from_Contains, List.Kept.Contains-dedup_nat, List.Kept.Contains-from_dedup}
 use Rattle.bx_tree.specs.Walks.{is_among}
 
 -- the test says whether the number is in the list

@@ -1,10 +1,7 @@
 -- Patterns that come in at once: those that are not held yet.
 use Rattle.std.proofs.Common.{◌≡◌, ℕ, Bool, true, false, cond, not, ◌&&◌, ◌||◌, List, [], ◌∷◌, ◌++◌, take, drop, length, ◌≤◌, arith, sym, ap, ◌∙◌, append_assoc}
-use Rattle.std.proofs.lemmas.List.{take-append-drop}
-use Rattle.std.proofs.lemmas.List.Folds.{list_any-append}
-use Rattle.bx_names.specs.Globs.{Glob, same_glob}
-use Rattle.bx_names.specs.Equality.{same_glob-decides}
-use Rattle.bx_names.specs.InForce.{in_force, with_pattern, without_pattern}
+use Rattle.std.proofs.lemmas.{List.take-append-drop, List.Folds.list_any-append}
+use Rattle.bx_names.specs.Words.{Glob, same_glob, same_glob-decides, in_force, with_pattern, without_pattern}
 
 -- ---- one more pattern
 

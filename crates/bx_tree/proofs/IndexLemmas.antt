@@ -1,16 +1,10 @@
 -- What stands for which pattern stays what is in force.
 use Rattle.std.proofs.Common.{arith, ◌≡◌, ◌≢◌, ℕ, Bool, true, false, not, ◌==◌, ◌&&◌, ◌||◌, List, [], ◌∷◌, ◌++◌, refl, sym, ap, subst, ◌∙◌}
 use Rattle.std.specs.Bool.{one_answer}
-use Rattle.std.proofs.lemmas.Bool.{eqb-true, eq-eqb, and_parts, or_parts}
-use Rattle.std.proofs.lemmas.List.Folds.{list_any-append}
-use Rattle.std.proofs.lemmas.Map.Views.{any-filter_same}
-use Rattle.bx_names.specs.Globs.{Glob, same_glob}
-use Rattle.bx_names.specs.Equality.{same_glob-decides}
-use Rattle.bx_names.specs.InForce.{in_force, without_pattern}
+use Rattle.std.proofs.lemmas.{Bool.eqb-true, Bool.eq-eqb, Bool.and_parts, Bool.or_parts, List.Folds.list_any-append, Map.Views.any-filter_same}
+use Rattle.bx_names.specs.Words.{Glob, same_glob, same_glob-decides, in_force, without_pattern}
 use Rattle.bx_tree.specs.declared.nodes.Nodes.{Nodes}
-use Rattle.bx_tree.specs.Whole.{AreWhole}
-use Rattle.bx_tree.specs.Patterns.{patterns_of}
-use Rattle.bx_tree.specs.Lists.{stands_for, IsIndexOf}
+use Rattle.bx_tree.specs.Words.{AreWhole, patterns_of, stands_for, IsIndexOf}
 use Rattle.bx_tree.proofs.FreshLemmas.{AreApart}
 
 -- ---- tests

@@ -1,13 +1,7 @@
 -- No list is empty, after a change at one path.
 use Rattle.std.proofs.Common.{◌≡◌, ℕ, Bool, true, false, IsTrue, cond, Option, Some, Result, Ok, Err, OnOk, OnErr, List, [], ◌∷◌, length, ◌↔◌, String, string_bytes, refl, sym, ap, ◌∙◌}
-use Rattle.std.specs.List.{list_any}
-use Rattle.std.specs.Map.{update, lookup}
-use Rattle.std.specs.Ordering.{nat_cmp}
-use Rattle.std.specs.String.{string_cmp}
-use Rattle.std.specs.Cmp.Lexicographic.{slice_cmp}
-use Rattle.std.specs.Str.{bytes_eq}
+use Rattle.std.specs.{List.list_any, Map.update, Map.lookup, Ordering.nat_cmp, String.string_cmp, Cmp.Lexicographic.slice_cmp, Str.bytes_eq, BTreeSet.BTreeSet}
 use Rattle.std.specs.BTreeSet as sorted
-use Rattle.std.specs.BTreeSet.{BTreeSet}
 use Rattle.std.specs.BTreeMap as tree
 use Rattle.std.specs.BTreeMap.{BTreeMap, get_by_text, is_at}
 use Rattle.std.proofs.lemmas.Map.Text.{btree_map_updates_text}

@@ -2,19 +2,12 @@
 use Rattle.std.proofs.Common.{◌≡◌, ℕ, ◌<◌, true, ◌&&◌, ◌||◌, List, [], ◌∷◌, ◌++◌, length, take, drop, refl, sym, ap, subst, ◌∙◌, arith, append-nil, append_assoc, length-append, inl, inr, take-append-drop}
 use Rattle.std.specs.Bool.{one_answer}
 use Rattle.std.proofs.lemmas.Bool.{or_cases, or_left, or_right, and_parts}
-use Rattle.bx_names.specs.Segments.{parts, path_of}
-use Rattle.bx_names.specs.Globs.{Glob, matches, matches_by, any_matches, same_glob}
-use Rattle.bx_names.specs.Equality.{same_glob-decides}
-use Rattle.bx_names.specs.InForce.{in_force}
+use Rattle.bx_names.specs.Words.{parts, path_of, Glob, matches, matches_by, any_matches, same_glob, same_glob-decides, in_force}
 use Rattle.bx_names.specs.declared.tail.Tail.{Tail}
 use Rattle.bx_names.specs.declared.tail.Tail.TheVariants.{Exact, One, Many}
-use Rattle.bx_names.proofs.PathLemmas.{path_of-append}
-use Rattle.bx_names.proofs.MatchLemmas.{exact-decides, one-decides, many-decides}
+use Rattle.bx_names.proofs.{PathLemmas.path_of-append, MatchLemmas.exact-decides, MatchLemmas.one-decides, MatchLemmas.many-decides}
 use Rattle.bx_tree.specs.declared.nodes.Nodes.{Nodes}
-use Rattle.bx_tree.specs.Whole.{AreWhole}
-use Rattle.bx_tree.specs.Patterns.{patterns_of}
-use Rattle.bx_tree.specs.Lists.{stands_at, lists_of, IsIndexOf}
-use Rattle.bx_tree.specs.Walks.{is_end, is_met}
+use Rattle.bx_tree.specs.Words.{AreWhole, patterns_of, stands_at, lists_of, IsIndexOf, is_end, is_met}
 
 -- ---- what a pattern leaves of a name that it matches
 

@@ -2,15 +2,12 @@
 use Rattle.std.proofs.Common.{◌≡◌, ℕ, Bool, true, false, ◌==◌, ◌&&◌, List, refl, sym, ap, ◌∙◌}
 use Rattle.std.specs.Str.{bytes_eq}
 use Rattle.std.proofs.Math.Bool.{and-false}
-use Rattle.bx_names.specs.Segments.{path_of}
-use Rattle.bx_names.specs.Globs.{Glob, same_tail, same_segments, same_glob}
+use Rattle.bx_names.specs.Words.{path_of, Glob, same_tail, same_segments, same_glob, same_tail-decides}
 use Rattle.bx_names.specs.declared.tail.Tail.{Tail}
 use Rattle.bx_names.specs.declared.tail.Tail.TheVariants.{Exact, One, Many}
 use Rattle.bx_tree.specs.declared.nodes.Nodes.{Nodes}
-use Rattle.bx_tree.specs.Whole.{AreWhole}
-use Rattle.bx_tree.specs.Lists.{stands_at, lists_of, stands_for}
+use Rattle.bx_tree.specs.Words.{AreWhole, stands_at, lists_of, stands_for}
 use Rattle.bx_tree.proofs.WholeLemmas.{paths_decide}
-use Rattle.bx_names.specs.Equality.{same_tail-decides}
 
 and_true : (b : Bool) → (b && true) ≡ b
 and_true true = refl

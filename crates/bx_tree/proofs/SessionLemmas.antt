@@ -1,9 +1,6 @@
 -- The patterns of one session, after a change of one session's.
 use Rattle.std.proofs.Common.{◌≡◌, ◌≢◌, ℕ, nat_eq, eqb, Bool, true, false, cond, Option, Some, Result, Ok, Err, List, [], ◌∷◌, map, refl, sym, ap, ◌∙◌}
-use Rattle.std.specs.Option.{option_map_or, unwrap_or}
-use Rattle.std.specs.Result.{is_ok, is_err}
-use Rattle.std.specs.Map.{lookup, set_value}
-use Rattle.std.specs.HashMap.{HashMap, UpdatesBy}
+use Rattle.std.specs.{Option.option_map_or, Option.unwrap_or, Result.is_ok, Result.is_err, Map.lookup, Map.set_value, HashMap.HashMap, HashMap.UpdatesBy}
 use Rattle.std.proofs.lemmas.Bool.{ne_eqb}
 use Rattle.bx_names.specs.Globs.{Glob}
 use Rattle.bx_tree.specs.Patterns.{patterns_of}

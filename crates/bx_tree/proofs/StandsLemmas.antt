@@ -1,13 +1,8 @@
 -- How a change at one path changes what stands where.
 use Rattle.std.proofs.Common.{◌≡◌, ℕ, eqb, Bool, true, false, not, cond, ◌==◌, ◌&&◌, ◌||◌, Option, Result, Ok, Err, OnErr, List, [], ◌∷◌, length, refl, sym, ap, subst, ◌∙◌, arith}
-use Rattle.std.specs.List.{list_any}
-use Rattle.std.specs.Map.{update}
-use Rattle.std.specs.Option.{option_map_or}
-use Rattle.std.specs.Ordering.{is_eq, nat_cmp}
+use Rattle.std.specs.{List.list_any, Map.update, Option.option_map_or, Ordering.is_eq, Ordering.nat_cmp, Str.bytes_eq}
 use Rattle.std.specs.BTreeSet.{BTreeSet, contains, UpdatesBy}
-use Rattle.std.specs.Str.{bytes_eq}
-use Rattle.std.proofs.lemmas.Bool.Decides.{nat_tests}
-use Rattle.std.proofs.lemmas.Slice.Eq.{bytes_eq-Decides}
+use Rattle.std.proofs.lemmas.{Bool.Decides.nat_tests, Slice.Eq.bytes_eq-Decides}
 
 -- ---- a set of numbers
 

@@ -1,17 +1,11 @@
 -- Segments that no slash cuts, and the paths that they make.
 use Rattle.std.proofs.Common.{◌≡◌, ℕ, zero, suc, Bool, true, false, Ok, List, [], ◌∷◌, ◌++◌, take, length, ◌<◌, cond, refl, sym, ap, subst, ◌∙◌, append-nil, ◌-◌}
-use Rattle.std.specs.List.{onto_first}
-use Rattle.std.specs.Bool.{one_answer}
-use Rattle.std.specs.Str.{bytes_eq}
+use Rattle.std.specs.{List.onto_first, Bool.one_answer, Str.bytes_eq}
 use Rattle.std.proofs.lemmas.Slice.Eq.{bytes_eq-Decides}
-use Rattle.bx_names.specs.Segments.{is_slash, parts, segments, path_of}
-use Rattle.bx_names.specs.Globs.{Glob, last_segment, tail_of, ending_in, glob_of, same_segments}
-use Rattle.bx_names.specs.Faults.{pattern_fault, read_name, read_pattern}
-use Rattle.bx_names.specs.Equality.{same_segments-decides}
+use Rattle.bx_names.specs.Words.{is_slash, parts, segments, path_of, Glob, last_segment, tail_of, ending_in, glob_of, same_segments, pattern_fault, read_name, read_pattern, same_segments-decides}
 use Rattle.bx_names.specs.declared.tail.Tail.{Tail}
 use Rattle.bx_names.specs.declared.tail.Tail.TheVariants.{Exact}
-use Rattle.bx_names.proofs.PathLemmas.{parts-append, parts_some}
-use Rattle.bx_names.proofs.FaultLemmas.{name_text, read_by-ok}
+use Rattle.bx_names.proofs.{PathLemmas.parts-append, PathLemmas.parts_some, FaultLemmas.name_text, FaultLemmas.read_by-ok}
 use Rattle.bx_tree.specs.Whole.{AreWhole}
 
 -- ---- what is read is whole

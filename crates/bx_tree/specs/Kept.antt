@@ -1,7 +1,6 @@
 -- Which lists are kept: none that is empty.
 use Rattle.std.specs.Prelude.{ℕ, Bool, true, false, List, [], ◌∷◌, Option}
-use Rattle.std.specs.Option.{option_map_or}
-use Rattle.std.specs.BTreeSet.{BTreeSet}
+use Rattle.std.specs.{Option.option_map_or, BTreeSet.BTreeSet}
 
 -- whether there is a number
 abbrev pub is_occupied : List ℕ → Bool

@@ -3,3 +3,4 @@ pub mod Whole
 pub mod Patterns
 pub mod Lists
 pub mod Walks
+pub mod Words

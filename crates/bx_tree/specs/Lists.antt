@@ -1,16 +1,10 @@
 -- The numbers that stand at a path, and those that stand there for a pattern.
 use Rattle.std.specs.Prelude.{◌≡◌, ℕ, Bool, false, List}
-use Rattle.std.specs.Option.{option_map_or}
-use Rattle.std.specs.Ordering.{nat_cmp}
-use Rattle.std.specs.BTreeSet.{contains}
-use Rattle.std.specs.BTreeMap.{get_by_text}
-use Rattle.bx_names.specs.Segments.{path_of}
-use Rattle.bx_names.specs.Globs.{Glob}
-use Rattle.bx_names.specs.InForce.{in_force}
+use Rattle.std.specs.{Option.option_map_or, Ordering.nat_cmp, BTreeSet.contains, BTreeMap.get_by_text}
+use Rattle.bx_names.specs.Words.{path_of, Glob, in_force}
 use Rattle.bx_names.specs.declared.tail.Tail.{Tail}
 use Rattle.bx_names.specs.declared.tail.Tail.TheVariants.{Exact, One, Many}
-use Rattle.bx_tree.specs.declared.nodes.path_lists.PathLists.{PathLists}
-use Rattle.bx_tree.specs.declared.nodes.Nodes.{Nodes}
+use Rattle.bx_tree.specs.declared.nodes.{path_lists.PathLists.PathLists, Nodes.Nodes}
 use Rattle.bx_tree.specs.Whole.{AreWhole}
 use Rattle.bx_tree.specs.Patterns.{patterns_of}
 

@@ -1,7 +1,6 @@
 -- Which patterns are in force for which number: what the tree is seen as.
 use Rattle.std.specs.Prelude.{ℕ, nat_eq, List, []}
-use Rattle.std.specs.Option.{unwrap_or}
-use Rattle.std.specs.Map.{lookup}
+use Rattle.std.specs.{Option.unwrap_or, Map.lookup}
 use Rattle.bx_names.specs.Globs.{Glob}
 
 -- the patterns of one number, in the order in which they came; none where the number is not there

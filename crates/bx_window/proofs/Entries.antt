@@ -2,8 +2,7 @@
 use Rattle.std.proofs.Common.{◌≡◌, ℕ, ◌+◌, List, [], ◌∷◌, ◌++◌, length, refl, ap, sym, ◌∙◌, arith}
 use Rattle.std.proofs.lemmas.List.{map-append, length-map}
 use mathlib.Core.List.{IsPrefix}
-use Rattle.bx_window.specs.declared.law.Logged.{Logged}
-use Rattle.bx_window.specs.declared.law.Step.{Step}
+use Rattle.bx_window.specs.declared.law.{Logged.Logged, Step.Step}
 use Rattle.bx_window.specs.Rules.{IsBegun, key_from, key_of, steps_in, steps_of}
 
 step_in : Logged → Step

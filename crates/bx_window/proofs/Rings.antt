@@ -1,19 +1,16 @@
 -- What a ring holds, as its front grows.
 use Rattle.std.proofs.Common.{◌≡◌, ℕ, zero, suc, ◌+◌, ◌-◌, ◌<◌, ◌≤◌, List, [], ◌∷◌, ◌++◌, length, drop, map, slice_index_or, slice_get, Bool, true, false, nat_lt, Some, None, refl, ap, sym, ◌∙◌, subst, arith, length-append}
-use Rattle.std.proofs.lemmas.Bool.Decides.{nat_tests}
-use Rattle.std.proofs.lemmas.List.{map-append, length-map}
+use Rattle.std.proofs.lemmas.{Bool.Decides.nat_tests, List.map-append, List.length-map}
 use Rattle.std.proofs.Math.Seq.{take-append_seam}
 use Rattle.circular_buffer.specs.Buffer.{keep_last}
 use Rattle.bx_entry.specs.Listing.{Listed}
 use Rattle.bx_advice.specs.declared.config.Config.{Config}
 use Rattle.bx_entry.specs.declared.entry.Batch.{Batch}
-use Rattle.bx_window.specs.declared.batch.Bundle.{Bundle}
-use Rattle.bx_window.specs.declared.law.Step.{Step}
+use Rattle.bx_window.specs.declared.{batch.Bundle.Bundle, law.Step.Step}
 use Rattle.bx_window.specs.Places.{IsOf, Spans, Continues}
 use Rattle.bx_window.specs.Steps.{adding, trimming, list_of, firsts_of, begin_of, before, ends_in, ends_of, IsNewest, IsTrimmed}
-use Rattle.bx_window.proofs.Firsts.{kept_all}
+use Rattle.bx_window.proofs.{Firsts.kept_all, Places.many_elements}
 use Rattle.bx_window.proofs.Lists.{end_is, list_of-adding, firsts_of_adding, firsts_of_trimming, list_of_trimming}
-use Rattle.bx_window.proofs.Places.{many_elements}
 
 pub before_added : (log : List Step) (s : Step) → before (log ++ s ∷ []) ≡ log
 before_added log s =

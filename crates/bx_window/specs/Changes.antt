@@ -1,8 +1,7 @@
 -- What a change makes of the log that a ring shows.
 use Rattle.std.specs.Prelude.{List}
 use Rattle.bx_window.specs.declared.law.Naming as Naming
-use Rattle.bx_window.specs.declared.law.Step.{Step}
-use Rattle.bx_window.specs.declared.published.Change.{Change}
+use Rattle.bx_window.specs.declared.{law.Step.Step, published.Change.Change}
 use Rattle.bx_window.specs.declared.published.Change.TheVariants.{Add, Trim}
 use Rattle.bx_window.specs.Steps.{next_of}
 

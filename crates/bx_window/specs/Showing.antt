@@ -1,8 +1,7 @@
 -- How what is shown of a log stands to it.
 use Rattle.std.specs.Prelude.{◌≡◌, List, Option}
 use Rattle.std.specs.Option.{MatchOption}
-use Rattle.bx_window.specs.declared.law.Step.{Step}
-use Rattle.bx_window.specs.declared.showing.Late.{Late}
+use Rattle.bx_window.specs.declared.{law.Step.Step, showing.Late.Late}
 
 module _ {O : Type 0} where
   -- all of the log is shown; where a change is late, what is shown comes to all of it by that change

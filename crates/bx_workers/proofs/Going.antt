@@ -1,18 +1,12 @@
 -- A shard that applies some entries one after another.
 use Rattle.std.proofs.Common.{ℕ, ◌+◌, ◌-◌, ◌<◌, ◌≤◌, ◌≡◌, List, length, length-drop, drop, get_or, true, false, refl, ap, sym, subst, arith, ◌∙◌}
-use Rattle.std.proofs.lemmas.List.{get_or-drop}
-use Rattle.std.proofs.lemmas.Option.{same_Some, slice_get_read, slice_get_within}
+use Rattle.std.proofs.lemmas.{List.get_or-drop, Option.same_Some, Option.slice_get_read, Option.slice_get_within}
 use Rattle.std.specs.Prelude.{slice_get, Some, Bool}
-use Rattle.bx_entry.specs.Listing.{Listed}
-use Rattle.bx_entry.specs.Registry.{entries}
+use Rattle.bx_entry.specs.Words.{Listed, entries}
 use Rattle.bx_entry.specs.declared.entry.Entry.{Entry}
-use Rattle.bx_shard.specs.Refining.{Refines}
-use Rattle.bx_shard.specs.Seen.{setup_in, state}
-use Rattle.bx_shard.specs.Shards.{Setup}
-use Rattle.bx_shard.specs.States.{Applied, IsAsBefore, IsSound, takes_no_memory}
+use Rattle.bx_shard.specs.Words.{Refines, setup_in, state, Setup, Applied, IsAsBefore, IsSound, takes_no_memory}
 use Rattle.bx_shard.specs.declared.shard.Shard.{Shard}
-use Rattle.bx_shard.proofs.Holding.{refines_still}
-use Rattle.bx_shard.proofs.Onwards.{refines_onwards}
+use Rattle.bx_shard.proofs.{Holding.refines_still, Onwards.refines_onwards}
 use Rattle.bx_workers.specs.Upward.{AreConsecutive, AreOf, IsWithin, WentOn, end_of, first_of}
 
 -- the shard applied so many of the entries

@@ -1,8 +1,6 @@
 -- Shards that are brought up one after another, and in parts.
 use Rattle.std.proofs.Common.{ℕ, ◌+◌, ◌<◌, ◌≤◌, ◌≡◌, List, length, get_or, set, ap, sym, subst, arith, ◌∙◌, ⊎_elim}
-use Rattle.std.proofs.lemmas.Bool.{cases_eq}
-use Rattle.std.proofs.lemmas.List.{get_or-set_same, get_or-set_other}
-use Rattle.std.proofs.lemmas.Option.{get_or_from_slice_get, slice_get-get_or, slice_get_within}
+use Rattle.std.proofs.lemmas.{Bool.cases_eq, List.get_or-set_same, List.get_or-set_other, Option.get_or_from_slice_get, Option.slice_get-get_or, Option.slice_get_within}
 use Rattle.bx_entry.specs.declared.entry.Entry.{Entry}
 use Rattle.bx_shard.specs.declared.shard.Shard.{Shard}
 use Rattle.bx_workers.specs.Upward.{BroughtUp, WentOn}

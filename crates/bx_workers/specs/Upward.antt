@@ -1,12 +1,8 @@
 -- Shards that are brought up to the end of some entries.
 use Rattle.std.specs.Prelude.{ℕ, ◌+◌, ◌-◌, ◌<◌, ◌≤◌, ◌≡◌, List, [], ◌∷◌, length, count_by, nat_lt, slice_get, Some, Bool, false}
-use Rattle.bx_entry.specs.Listing.{Listed}
-use Rattle.bx_entry.specs.Registry.{entries}
+use Rattle.bx_entry.specs.Words.{Listed, entries}
 use Rattle.bx_entry.specs.declared.entry.Entry.{Entry}
-use Rattle.bx_shard.specs.Refining.{Refines}
-use Rattle.bx_shard.specs.Seen.{setup_in, state}
-use Rattle.bx_shard.specs.Shards.{Setup}
-use Rattle.bx_shard.specs.States.{takes_no_memory}
+use Rattle.bx_shard.specs.Words.{Refines, setup_in, state, Setup, takes_no_memory}
 use Rattle.bx_shard.specs.declared.shard.Shard.{Shard}
 
 -- ---- entries of the list

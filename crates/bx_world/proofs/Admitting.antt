@@ -7,15 +7,12 @@ use Rattle.bx_admission.specs.declared.plan.Plan.{Plan}
 use Rattle.bx_advice.specs.Limits.{greatest_moment, greatest_length}
 use Rattle.bx_entry.specs.declared.input.Refusal.{Refusal}
 use Rattle.bx_entry.specs.declared.input.Refusal.TheVariants as refusals
-use Rattle.bx_entry.specs.Inputs.{ReadInput, added_by, refusal_of, refused_beyond}
-use Rattle.bx_entry.specs.Listing.{Listed}
+use Rattle.bx_entry.specs.Words.{ReadInput, added_by, refusal_of, refused_beyond, Listed}
 use Rattle.bx_registry.specs.Plans.{fault_of}
 use Rattle.bx_registry.specs.declared.plan.AdmitFault.{AdmitFault}
 use Rattle.bx_registry.specs.declared.plan.AdmitFault.TheVariants as faults
-use Rattle.bx_world.specs.Admissions.{Admitting, IsAdmission}
-use Rattle.bx_world.specs.Outputs.{of_planning}
-use Rattle.bx_world.specs.declared.step.Admitted.{Admitted}
-use Rattle.bx_world.specs.declared.step.AdmissionFault.{AdmissionFault}
+use Rattle.bx_world.specs.Words.{Admitting, IsAdmission, of_planning}
+use Rattle.bx_world.specs.declared.step.{Admitted.Admitted, AdmissionFault.AdmissionFault}
 use Rattle.bx_world.specs.declared.step.AdmissionFault.TheVariants.{Refused, Memory}
 
 -- ---- what is refused

@@ -3,18 +3,13 @@ use Rattle.std.proofs.Common.{◌≡◌, ⊎_elim, ℕ, zero, suc, ◌<◌, Bool
 use Rattle.std.proofs.lemmas.Bool.{cond-true, cond-false}
 use Rattle.bx_lists.proofs.Tests.{either}
 use Rattle.bx_advice.specs.declared.config.Config.{Config}
-use Rattle.bx_entry.specs.Listing.{Listed}
-use Rattle.bx_entry.specs.Registry.{entries}
+use Rattle.bx_entry.specs.Words.{Listed, entries}
 use Rattle.bx_entry.specs.Sessions.{Session, Publication, Filed, session}
 use Rattle.bx_theory.specs.Events as events
 use Rattle.bx_theory.specs.Laws.{AllBelow, Each, EachOf, given_in}
-use Rattle.bx_theory.proofs.Gained.{events_rise}
-use Rattle.bx_theory.proofs.Lists.{entries_in_order, find_each, find_true}
-use Rattle.bx_theory.proofs.Once.{given_once}
+use Rattle.bx_theory.proofs.{Gained.events_rise, Lists.entries_in_order, Lists.find_each, Lists.find_true, Once.given_once, Rising.each_of_take}
 use Rattle.bx_world.specs.Headline.{GivenLater, PlainGivenOnce}
-use Rattle.bx_world.proofs.Giving.{none_given_again}
-use Rattle.bx_world.proofs.InTurn.{Before, Ordered, session_turn}
-use Rattle.bx_theory.proofs.Rising.{each_of_take}
+use Rattle.bx_world.proofs.{Giving.none_given_again, InTurn.Before, InTurn.Ordered, InTurn.session_turn}
 
 -- ---- parts of a list of publications
 

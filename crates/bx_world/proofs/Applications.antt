@@ -1,29 +1,17 @@
 -- What an application gives, and what the shards hold after it.
 use Rattle.std.proofs.Common.{◌≡◌, ℕ, ◌+◌, ◌<◌, ◌≤◌, ◌&&◌, Bool, true, false, not, Option, Some, None, option_map, List, [], ◌∷◌, length, map, slice_get, slice_set, get_or, refl, sym, ap, ◌∙◌, subst, arith, inl, inr, ⊎_elim}
 use Rattle.std.specs.Prelude.{slice_index, ◌⊎◌, IfNone}
-use Rattle.std.proofs.lemmas.Bool.{cases_lt, cond-true, cond-false}
-use Rattle.std.proofs.lemmas.List.{map-set}
-use Rattle.std.proofs.lemmas.Option.{slice_get_within, slice_get-get_or, none-some}
+use Rattle.std.proofs.lemmas.{Bool.cases_lt, Bool.cond-true, Bool.cond-false, List.map-set, Option.slice_get_within, Option.slice_get-get_or, Option.none-some}
 use Rattle.bx_advice.specs.declared.config.Config.{Config}
-use Rattle.bx_entry.specs.Listing.{Listed}
-use Rattle.bx_entry.specs.Registry.{entries}
-use Rattle.bx_entry.specs.declared.entry.Entry.{Entry}
+use Rattle.bx_entry.specs.Words.{Listed, entries}
+use Rattle.bx_entry.specs.declared.{entry.Entry.Entry, Placing.Ghosts}
 use Rattle.bx_theory.proofs.Lists.{entries_length}
-use Rattle.bx_shard.specs.Refining.{Refines}
-use Rattle.bx_shard.specs.Seen.{state}
-use Rattle.bx_shard.specs.Shards.{Setup}
+use Rattle.bx_shard.specs.Words.{Refines, state, Setup}
 use Rattle.bx_shard.specs.declared.shard.Shard.{Shard}
-use Rattle.bx_shard.proofs.Holding.{refines_still}
-use Rattle.bx_shard.proofs.Placed.{entry_placed}
-use Rattle.bx_shard.proofs.Onwards.{refines_onwards}
-use Rattle.bx_entry.specs.declared.Placing.{Ghosts}
-use Rattle.bx_world.specs.Admissions.{Admitting}
-use Rattle.bx_world.specs.Seen.{setup_of, world_of}
+use Rattle.bx_shard.proofs.{Holding.refines_still, Placed.entry_placed, Onwards.refines_onwards}
+use Rattle.bx_world.specs.Words.{Admitting, setup_of, world_of, StandFrom, EachRefines, HasApplied, HasStayed, RefinesFrom, IsApplication, application, WorldState, IsOutput, after, is_level, may_take_memory, next_entry}
 use Rattle.bx_world.specs.declared.world.World.{World}
 use Rattle.bx_admission.specs.Slots.{placed_by}
-use Rattle.bx_world.specs.Refining.{StandFrom, EachRefines, HasApplied, HasStayed, RefinesFrom, IsApplication}
-use Rattle.bx_world.specs.Outputs.{application}
-use Rattle.bx_world.specs.Worlds.{WorldState, IsOutput, after, is_level, may_take_memory, next_entry}
 use Rattle.bx_world.specs.declared.step.Applied as applications
 use Rattle.bx_world.specs.declared.step.Applied.TheVariants.{Done, Level, Memory}
 use Rattle.bx_world.specs.declared.step.Step.TheVariants.{Apply}

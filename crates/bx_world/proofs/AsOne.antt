@@ -2,18 +2,11 @@
 use Rattle.std.proofs.Common.{◌≡◌, ℕ, ◌+◌, ◌-◌, ◌≤◌, List, take, drop, sym, ap, ◌∙◌, subst, arith, ◌++◌}
 use Rattle.std.proofs.Math.Seq.{take-add}
 use Rattle.bx_advice.specs.declared.config.Config.{Config}
-use Rattle.bx_entry.specs.Listing.{Listed}
-use Rattle.bx_entry.specs.Registry.{entries}
-use Rattle.bx_entry.specs.Sessions.{session}
+use Rattle.bx_entry.specs.Words.{Listed, entries, session}
 use Rattle.bx_entry.specs.declared.entry.Entry.{Entry}
 use Rattle.bx_theory.proofs.Done.{done_never_falls}
 use Rattle.bx_world.specs.Headline.{Headline, session_before}
-use Rattle.bx_world.proofs.Takes.{list_is_admitted, takes_are_answers}
-use Rattle.bx_world.proofs.Files.{none_taken_twice}
-use Rattle.bx_world.proofs.Replies.{replies_are_answers}
-use Rattle.bx_world.proofs.Giving.{none_given_again}
-use Rattle.bx_world.proofs.Repeats.{batches_repeat}
-use Rattle.bx_world.proofs.Apart.{plain_given_once}
+use Rattle.bx_world.proofs.{Takes.list_is_admitted, Takes.takes_are_answers, Files.none_taken_twice, Replies.replies_are_answers, Giving.none_given_again, Repeats.batches_repeat, Apart.plain_given_once}
 
 -- what was given for good behind fewer entries was so behind more
 done_rises : (config : Config) (list : List Listed) (number m n : ℕ) → m ≤ n → (session_before config list number m).done ≤ (session_before config list number n).done

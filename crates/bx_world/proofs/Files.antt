@@ -1,37 +1,23 @@
 -- An answer that a shard has come past is filed there until it is taken, and none is taken twice.
 use Rattle.std.proofs.Common.{arith, ◌≡◌, ℕ, zero, suc, max, ⊎_elim, Bool, true, false, ◌||◌, Option, Some, None, List, [], ◌∷◌, ◌++◌, length, take, drop, map, filter, find, flat_map, fold, option_map, slice_get, slice_index, nat_lt, ◌==◌, refl, sym, ap, ◌∙◌, subst, eqb-true, eq-eqb, take-append-drop, true≢false}
-use Rattle.std.proofs.lemmas.Bool.{cond-true, cond-false, lt-ltb}
-use Rattle.std.proofs.lemmas.List.{map-append}
-use Rattle.std.proofs.lemmas.List.Folds.{find-append, list_any-append}
-use Rattle.std.specs.Option.{option_or}
-use Rattle.std.specs.List.{list_any}
+use Rattle.std.proofs.lemmas.{Bool.cond-true, Bool.cond-false, Bool.lt-ltb, List.map-append, List.Folds.find-append, List.Folds.list_any-append}
+use Rattle.std.specs.{Option.option_or, List.list_any}
 use Rattle.bx_lists.proofs.Tests.{either}
 use Rattle.bx_advice.specs.declared.config.Config.{Config}
-use Rattle.bx_message.specs.declared.reply.Answer.{Answer}
-use Rattle.bx_message.specs.declared.message_kind.MessageKind.{MessageKind}
-use Rattle.bx_entry.specs.Listing.{Listed, Post, Posted}
+use Rattle.bx_message.specs.declared.{reply.Answer.Answer, message_kind.MessageKind.MessageKind}
+use Rattle.bx_entry.specs.Words.{Listed, Post, Posted, due_of, Registry, Registered, Judged, PlaceSlot, Ready, Waiting, judge, served, slot_for, slot_with, rider_for, is_rider, left_by, extended, swept, named_by, refusal, hold_of, registry, empty_registry, entries_of, noted, state_of, Session, Filed, session, PlacedAnswer, answer_of, answer_by, answer_at}
 use Rattle.bx_message.specs.MessageKinds.{message_kind_of}
 use Rattle.bx_entry.specs.Listing as messages
-use Rattle.bx_entry.specs.Registry.{due_of, Registry, Registered, Judged, PlaceSlot, Ready, Waiting, judge, served, slot_for, slot_with, rider_for, is_rider, left_by, extended, swept, named_by, refusal, hold_of, registry, empty_registry, entries_of, noted, state_of}
-use Rattle.bx_entry.specs.declared.input.Input.{Input}
-use Rattle.bx_entry.specs.Sessions.{Session, Filed, session}
-use Rattle.bx_entry.specs.Answers.{PlacedAnswer, answer_of, answer_by, answer_at}
-use Rattle.bx_theory.proofs.Verdicts.{by_verdict}
+use Rattle.bx_entry.specs.declared.{input.Input.Input, entry.Ticket.Ticket}
+use Rattle.bx_theory.proofs.{Verdicts.by_verdict, Lists.judged_more, Lists.answer_within}
 use Rattle.bx_theory.specs.Readings.{EachSession}
-use Rattle.bx_shard.specs.Shards.{Setup, shard_at, sessions_in, stands_in, is_taken}
-use Rattle.bx_world.specs.Worlds.{WorldState, IsOutput, Runs, after, filed_under}
-use Rattle.bx_shard.specs.Refining.{given_of}
-use Rattle.bx_world.specs.declared.step.Step.{Step}
+use Rattle.bx_shard.specs.Words.{Setup, shard_at, sessions_in, stands_in, is_taken, given_of}
+use Rattle.bx_world.specs.Words.{WorldState, IsOutput, Runs, after, filed_under, AnswersAreFiled, AnswersCanBeTaken, NoneTakenTwice, SchedulesCompose, EachNew, taken_by, taken_places}
+use Rattle.bx_world.specs.declared.step.{Step.Step, StepOut.StepOut}
 use Rattle.bx_world.specs.declared.step.Step.TheVariants.{Admit, Apply, Take}
-use Rattle.bx_world.specs.declared.step.StepOut.{StepOut}
 use Rattle.bx_world.specs.declared.step.StepOut.TheVariants.{Admitted, Taken}
-use Rattle.bx_entry.specs.declared.entry.Ticket.{Ticket}
-use Rattle.bx_world.specs.Schedules.{AnswersAreFiled, AnswersCanBeTaken, NoneTakenTwice, SchedulesCompose, EachNew, taken_by, taken_places}
-use Rattle.bx_theory.proofs.Lists.{judged_more, answer_within}
 use Rattle.bx_theory.proofs.Dues.{EachJudged, each_judged_push, each_judged_map, each_session_map, named_session}
-use Rattle.bx_shard.proofs.Elements.{numbers, served_sessions, swept_same}
-use Rattle.bx_shard.proofs.Waits.{WaitsAt, waits_over}
-use Rattle.bx_shard.proofs.Untaken.{found_kept, find_untaken}
+use Rattle.bx_shard.proofs.{Elements.numbers, Elements.served_sessions, Elements.swept_same, Waits.WaitsAt, Waits.waits_over, Untaken.found_kept, Untaken.find_untaken}
 
 or_true : (a b : Bool) → b ≡ true → (a || b) ≡ true
 or_true a b e = grind arith

@@ -1,28 +1,19 @@
 -- Each answer that a taking gave is the one that its session filed, and has no event that was given for good before it.
 use Rattle.std.proofs.Common.{◌≡◌, ℕ, zero, suc, ◌+◌, ◌<◌, ◌≤◌, ⊎_elim, ◌==◌, Bool, cond, Option, Some, None, List, [], ◌∷◌, ◌++◌, length, take, find, fold, option_map, slice_get, refl, sym, ap, ◌∙◌, subst, arith, length-take}
-use Rattle.std.proofs.lemmas.List.Sums.{fold-append}
-use Rattle.std.proofs.lemmas.List.Folds.{find-append}
+use Rattle.std.proofs.lemmas.{List.Sums.fold-append, List.Folds.find-append}
 use Rattle.std.specs.Option.{option_or}
 use Rattle.bx_advice.specs.declared.config.Config.{Config}
 use Rattle.bx_message.specs.declared.reply.Answer.{Answer}
-use Rattle.bx_entry.specs.Listing.{Listed}
-use Rattle.bx_entry.specs.declared.entry.Entry.{Entry}
-use Rattle.bx_entry.specs.Registry.{Judged, Waiting, registry, entries}
-use Rattle.bx_entry.specs.Sessions.{Session, Filed, step, session, unopened}
-use Rattle.bx_entry.specs.Answers.{answer_of, events_of, filed_for, answer_by, answer_at, answer}
+use Rattle.bx_entry.specs.Words.{Listed, Judged, Waiting, registry, entries, Session, Filed, step, session, unopened, answer_of, events_of, filed_for, answer_by, answer_at, answer}
+use Rattle.bx_entry.specs.declared.entry.{Entry.Entry, Ticket.Ticket}
 use Rattle.bx_theory.specs.Laws.{InStep, Each, AllBelow, PlacesFrom, GivesLater}
 use Rattle.bx_shard.specs.Refining.{given_of}
-use Rattle.bx_world.specs.Schedules.{EachTook}
-use Rattle.bx_world.specs.Headline.{slot_at, Gave, GaveIn, GivenLater, NoneGivenAgain}
-use Rattle.bx_world.specs.declared.step.Step.{Step}
+use Rattle.bx_world.specs.Words.{EachTook, slot_at, Gave, GaveIn, GivenLater, NoneGivenAgain}
+use Rattle.bx_world.specs.declared.step.{Step.Step, StepOut.StepOut}
 use Rattle.bx_world.specs.declared.step.Step.TheVariants.{Take}
-use Rattle.bx_world.specs.declared.step.StepOut.{StepOut}
 use Rattle.bx_world.specs.declared.step.StepOut.TheVariants.{Taken}
-use Rattle.bx_entry.specs.declared.entry.Ticket.{Ticket}
-use Rattle.bx_theory.proofs.Counts.{stays_in_step, unopened_in_step}
+use Rattle.bx_theory.proofs.{Counts.stays_in_step, Counts.unopened_in_step, Lists.find_each, Lists.entries_in_order, Rising.no_event_twice}
 use Rattle.bx_theory.proofs.Moves.{Moved, step_moved, each_map, each_append}
-use Rattle.bx_theory.proofs.Lists.{find_each, entries_in_order}
-use Rattle.bx_theory.proofs.Rising.{no_event_twice}
 use Rattle.bx_world.proofs.Takes.{takes_are_answers}
 
 -- ---- what was given is the list's

@@ -10,13 +10,9 @@ use Rattle.bx_entry.proofs.RequestLemmas.{length-listed}
 use Rattle.bx_shard.specs.Shards.{Setup}
 use Rattle.bx_shard.specs.declared.shard.Shard.{Shard}
 use Rattle.bx_shard.proofs.Holding.{refines_longer}
-use Rattle.bx_world.specs.Admissions.{Admitting, IsAdmission}
+use Rattle.bx_world.specs.Words.{Admitting, IsAdmission, EachRefines, admission, WorldState, IsOutput, after, output_admit}
 use Rattle.bx_admission.specs.Slots.{placed_by}
-use Rattle.bx_world.specs.Refining.{EachRefines}
-use Rattle.bx_world.specs.Outputs.{admission}
-use Rattle.bx_world.specs.Worlds.{WorldState, IsOutput, after, output_admit}
-use Rattle.bx_world.specs.declared.step.Admitted.{Admitted}
-use Rattle.bx_world.specs.declared.step.AdmissionFault.{AdmissionFault}
+use Rattle.bx_world.specs.declared.step.{Admitted.Admitted, AdmissionFault.AdmissionFault}
 use Rattle.bx_world.specs.declared.step.AdmissionFault.TheVariants.{Refused, Memory}
 use Rattle.bx_world.specs.declared.step.Step.TheVariants.{Admit}
 use Rattle.bx_world.specs.declared.step.StepOut.TheVariants as outs

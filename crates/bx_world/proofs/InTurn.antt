@@ -1,22 +1,17 @@
 -- A session answers each connect and each rider once, and those that are given events in the order of their places.
 use Rattle.std.proofs.Common.{◌≡◌, ◌≢◌, ◌⊎◌, inl, inr, ℕ, zero, suc, ◌+◌, ◌<◌, ◌≤◌, Bool, true, cond, ◌&&◌, ◌==◌, is_some, Option, Some, None, List, [], ◌∷◌, ◌++◌, length, take, drop, find, fold, nat_lt, nat_le, refl, sym, ap, ◌∙◌, subst, arith, eq-eqb, ne_eqb}
-use Rattle.std.proofs.lemmas.Bool.{cond_both, cond-true, cond-false}
-use Rattle.std.proofs.lemmas.List.{drop_all}
+use Rattle.std.proofs.lemmas.{Bool.cond_both, Bool.cond-true, Bool.cond-false, List.drop_all}
 use Rattle.std.specs.List.{list_any}
-use Rattle.bx_advice.specs.declared.config.Config.{Config}
-use Rattle.bx_advice.specs.declared.advice.Outcome.{Outcome}
+use Rattle.bx_advice.specs.declared.{config.Config.Config, advice.Outcome.Outcome}
 use Rattle.bx_advice.specs.declared.advice.Outcome.TheVariants.{Connected, Disconnected, Failed}
 use Rattle.bx_advice.specs.declared.error.Error.TheVariants.{SupersededConnect, QueueOverflow}
-use Rattle.bx_entry.specs.declared.entry.Entry.{Entry}
+use Rattle.bx_entry.specs.declared.entry.{Entry.Entry, EntryKind.EntryKind, Rider.Rider}
 use Rattle.bx_message.specs.declared.reply.Reply.{Reply}
-use Rattle.bx_entry.specs.declared.entry.EntryKind.{EntryKind}
-use Rattle.bx_entry.specs.declared.entry.Rider.{Rider}
 use Rattle.bx_entry.specs.declared.entry.EntryKind.TheVariants.{Connect, Subscribe, Unsubscribe, Publish, Disconnect, Refused, Tick}
 use Rattle.bx_entry.specs.declared.entry.EntryKind.TheVariants as entries
 use Rattle.bx_entry.specs.Sessions.{Session, Publication, Pending, Filed, Stage, filing, answered, unheld, released_from, released, cleared, acknowledged, portion, with_batch, formed, forgotten, gives, given, holding, idle, answered_or_held, connected, subscribed, unsubscribed, gives_one, with_event, delivered_to, delivered, overflowed, is_hit, has_room, published, begun, expired_from, expired, ended, closed_by, disconnected, is_riding, ride_filing, ride_portion, ridden, ridden_by, rider_of, step_by, step, session, unopened}
 use Rattle.bx_theory.specs.Laws.{Each, InStep, PlacesFrom}
-use Rattle.bx_theory.proofs.Counts.{subscribed_by, stays_in_step, step_by_in, unopened_in_step}
-use Rattle.bx_theory.proofs.Moves.{each_map, each_append}
+use Rattle.bx_theory.proofs.{Counts.subscribed_by, Counts.stays_in_step, Counts.step_by_in, Counts.unopened_in_step, Moves.each_map, Moves.each_append}
 
 -- The answer stands before one to the connect at this place: it is another's, which came earlier, or one without events. (A rider may be answered while
 -- an earlier connect is held, and is given nothing then.)

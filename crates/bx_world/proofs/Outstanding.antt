@@ -2,17 +2,14 @@
 use Rattle.std.proofs.Common.{◌≡◌, ℕ, ◌<◌, min, false, true, ◌==◌, ◌&&◌, Option, Some, None, List, [], ◌∷◌, ◌++◌, length, take, nat_lt, nat_le, refl, sym, ap, ◌∙◌, subst, arith, length-take, eq-eqb}
 use Rattle.std.proofs.lemmas.Bool.{cond-true, cond-false, and_left, and_right, lt-leb, ne_eqb}
 use Rattle.bx_lists.proofs.Tests.{either}
-use Rattle.bx_advice.specs.declared.config.Config.{Config}
-use Rattle.bx_advice.specs.declared.advice.Outcome.{Outcome}
+use Rattle.bx_advice.specs.declared.{config.Config.Config, advice.Outcome.Outcome}
 use Rattle.bx_advice.specs.declared.advice.Outcome.TheVariants.{Connected, Failed}
 use Rattle.bx_advice.specs.declared.error.Error.TheVariants.{SupersededConnect, QueueOverflow}
-use Rattle.bx_entry.specs.declared.entry.Entry.{Entry}
-use Rattle.bx_entry.specs.declared.entry.EntryKind.{EntryKind}
+use Rattle.bx_entry.specs.declared.entry.{Entry.Entry, EntryKind.EntryKind}
 use Rattle.bx_entry.specs.declared.entry.EntryKind.TheVariants.{Connect}
 use Rattle.bx_entry.specs.Sessions.{Session, Publication, Pending, Filed, filing, answered, released_from, released, acknowledged, cleared, portion, batch, with_batch, formed, gives, given, idle, answered_or_held, connected, step, session, unopened}
 use Rattle.bx_theory.specs.Laws.{InStep, Repeats, LastAnswer}
-use Rattle.bx_theory.proofs.Counts.{all_in_step, unopened_in_step, released_in}
-use Rattle.bx_theory.proofs.Runs.{Grown, run_grown, all_places}
+use Rattle.bx_theory.proofs.{Counts.all_in_step, Counts.unopened_in_step, Counts.released_in, Runs.Grown, Runs.run_grown, Runs.all_places}
 
 -- a session with this batch outstanding
 record Stands (config : Config) (num : ℕ) (b : List Publication) (s : Session) : Type 0 where

@@ -3,25 +3,18 @@ use Rattle.std.proofs.Common.{◌≡◌, ℕ, ◌<◌, ◌≤◌, true, Some, Li
 use Rattle.std.specs.Prelude.{replicate}
 use Rattle.std.proofs.Common.{Vec, Global}
 use Rattle.std.proofs.Props.{props}
-use Rattle.std.proofs.lemmas.Option.{slice_get-map}
-use Rattle.std.proofs.lemmas.List.{length-map}
+use Rattle.std.proofs.lemmas.{Option.slice_get-map, List.length-map}
 use Rattle.bx_lists.proofs.Lists.{mapped}
 use Rattle.bx_advice.specs.Limits.{greatest_length}
 use Rattle.bx_entry.specs.Listing.{Listed}
 use Rattle.bx_entry.specs.declared.Placing.{Ghosts}
 use Rattle.bx_reshard.specs.Redistribution.{Redistributed}
-use Rattle.bx_shard.specs.Refining.{Refines}
-use Rattle.bx_shard.specs.Seen.{state}
-use Rattle.bx_shard.specs.Shards.{Setup}
-use Rattle.bx_shard.specs.States.{State}
+use Rattle.bx_shard.specs.Words.{Refines, state, Setup, State, holds_props}
 use Rattle.bx_shard.specs.declared.shard.Shard.{Shard}
 use Rattle.bx_reshard.proofs.RedistributionLaws.{refines_redistributed}
-use Rattle.bx_world.specs.Refining.{EachRefines, some_stands_at}
-use Rattle.bx_shard.specs.Props.{holds_props}
-use Rattle.bx_world.specs.Seen.{setup_of}
+use Rattle.bx_world.specs.Words.{EachRefines, some_stands_at, setup_of}
 use Rattle.bx_world.specs.declared.world.World.{World}
-use Rattle.bx_world.proofs.Slowest.{all_stand, not_below, not_above}
-use Rattle.bx_world.proofs.Starting.{all_same}
+use Rattle.bx_world.proofs.{Slowest.all_stand, Slowest.not_below, Slowest.not_above, Starting.all_same}
 
 module _ {P : Type 0} (place_of : P → ℕ → ℕ → ℕ) (setup : Setup) (list : List Listed) (taken : List ℕ) (first : ℕ) (xs : List (Shard P)) where
   -- where every shard has applied the whole list, each stands at its end

@@ -5,29 +5,17 @@ use Rattle.std.proofs.lemmas.List.Sums.{fold-append}
 use Rattle.bx_advice.specs.declared.config.Config.{Config}
 use Rattle.bx_message.specs.declared.reply.Answer.{Answer}
 use Rattle.bx_message.specs.declared.reply.AckReply.TheVariants.{AckNumber}
-use Rattle.bx_entry.specs.Listing.{Listed}
+use Rattle.bx_entry.specs.Words.{Listed, Waiting, registry, entries, Session, Filed, batch, step, session, unopened, answer_of, events_of, answer}
 use Rattle.bx_entry.specs.declared.entry.Entry.{Entry}
-use Rattle.bx_entry.specs.Registry.{Waiting, registry, entries}
-use Rattle.bx_entry.specs.Sessions.{Session, Filed, batch, step, session, unopened}
-use Rattle.bx_entry.specs.Answers.{answer_of, events_of, answer}
 use Rattle.bx_theory.specs.Laws.{Each, PlacesFrom, LastAnswer, Repetition}
-use Rattle.bx_theory.proofs.Batches.{batch_repeats}
-use Rattle.bx_theory.proofs.Counts.{all_in_step, unopened_in_step}
-use Rattle.bx_theory.proofs.Lists.{find_each, entries_in_order, entries_within}
-use Rattle.bx_theory.proofs.Riders.{batch_last}
+use Rattle.bx_theory.proofs.{Batches.batch_repeats, Counts.all_in_step, Counts.unopened_in_step, Lists.find_each, Lists.entries_in_order, Lists.entries_within, Riders.batch_last}
 use Rattle.bx_theory.proofs.Runs.{Grown, run_grown, all_places}
-use Rattle.bx_shard.proofs.Waits.{WaitsAt, answered_waits}
+use Rattle.bx_shard.proofs.{Waits.WaitsAt, Waits.answered_waits, Given.session_answer}
 use Rattle.bx_shard.specs.Refining.{given_of}
-use Rattle.bx_world.specs.Schedules.{EachTook}
-use Rattle.bx_world.specs.Headline.{slot_at, Gave, AsksAgain, GivenAgain, BatchesRepeat}
-use Rattle.bx_world.specs.declared.step.Step.{Step}
-use Rattle.bx_world.specs.declared.step.StepOut.{StepOut}
-use Rattle.bx_world.proofs.Giving.{places_front, gave_answer}
+use Rattle.bx_world.specs.Words.{EachTook, slot_at, Gave, AsksAgain, GivenAgain, BatchesRepeat}
+use Rattle.bx_world.specs.declared.step.{Step.Step, StepOut.StepOut}
+use Rattle.bx_world.proofs.{Giving.places_front, Giving.gave_answer, Outstanding.gives_batch, Takes.takes_are_answers, Applications.place_within}
 use Rattle.bx_world.proofs.InTurn.{Ordered, InTurn, session_turn, turn_below, find_middle}
-use Rattle.bx_world.proofs.Outstanding.{gives_batch}
-use Rattle.bx_shard.proofs.Given.{session_answer}
-use Rattle.bx_world.proofs.Takes.{takes_are_answers}
-use Rattle.bx_world.proofs.Applications.{place_within}
 
 -- ---- the answer that was given last
 

@@ -4,27 +4,18 @@ use Rattle.std.proofs.lemmas.List.{map-append, length-map, drop_at}
 use Rattle.bx_advice.specs.declared.config.Config.{Config}
 use Rattle.bx_message.specs.declared.message.Message.{Message}
 use Rattle.bx_message.specs.MessageKinds.{is_handshake}
-use Rattle.bx_entry.specs.Listing.{Listed, Post, Posted, listed_from}
+use Rattle.bx_entry.specs.Words.{Listed, Post, Posted, listed_from, read_input, Registry, Judged, PlaceSlot, Ready, Waiting, NoSlot, judge, refusal, registry, entries_of, answer_at, answer_by, refusal_of}
 use Rattle.bx_entry.specs.Listing as messages
 use Rattle.bx_entry.specs.Inputs.{ReadInput, Request, Unread, Tick, added_by}
-use Rattle.bx_entry.specs.Requests.{read_input}
-use Rattle.bx_entry.specs.Registry.{Registry, Judged, PlaceSlot, Ready, Waiting, NoSlot, judge, refusal, registry, entries_of}
-use Rattle.bx_entry.specs.Answers.{answer_at, answer_by}
-use Rattle.bx_entry.specs.declared.entry.Slot.{Slot}
-use Rattle.bx_entry.specs.declared.input.Input.{Input}
-use Rattle.bx_entry.specs.declared.input.Refusal.{Refusal}
-use Rattle.bx_entry.specs.Inputs.{refusal_of}
+use Rattle.bx_entry.specs.declared.{entry.Slot.Slot, input.Input.Input, input.Refusal.Refusal}
 use Rattle.bx_shard.specs.Shards.{Setup}
-use Rattle.bx_world.specs.Worlds.{WorldState, IsOutput, Runs, after, output_admit}
+use Rattle.bx_world.specs.Words.{WorldState, IsOutput, Runs, after, output_admit, EachSlot, IsAdmitted, RepliedBy, Replied, EachReplied, RepliesAreAnswers}
 use Rattle.bx_admission.specs.Slots.{given_by, given_from, admitted_slots}
-use Rattle.bx_world.specs.declared.step.Step.{Step}
+use Rattle.bx_world.specs.declared.step.{Step.Step, StepOut.StepOut}
 use Rattle.bx_world.specs.declared.step.Step.TheVariants.{Admit}
-use Rattle.bx_world.specs.declared.step.StepOut.{StepOut}
 use Rattle.bx_world.specs.declared.step.StepOut.TheVariants.{Admitted}
-use Rattle.bx_world.specs.Headline.{EachSlot, IsAdmitted, RepliedBy, Replied, EachReplied, RepliesAreAnswers}
 use Rattle.bx_world.proofs.Takes.{Longer, run_longer}
-use Rattle.bx_theory.proofs.Verdicts.{Slotted, found_from, judged_behind, slotted}
-use Rattle.bx_theory.proofs.Lists.{judged_more, judged_length}
+use Rattle.bx_theory.proofs.{Verdicts.Slotted, Verdicts.found_from, Verdicts.judged_behind, Verdicts.slotted, Lists.judged_more, Lists.judged_length}
 
 -- ---- the slots of what is found
 

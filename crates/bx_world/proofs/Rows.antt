@@ -1,7 +1,6 @@
 -- One of a row is replaced by another.
 use Rattle.std.proofs.Common.{◌≡◌, ◌≢◌, ℕ, ◌<◌, true, Some, List, length, map, option_map, slice_get, slice_set, get_or, nat_eq, refl, sym, ap, ◌∙◌, subst, eqb-true}
-use Rattle.std.proofs.lemmas.Bool.{eq-eqb}
-use Rattle.std.proofs.lemmas.Option.{get_or_from_slice_get, slice_get-map}
+use Rattle.std.proofs.lemmas.{Bool.eq-eqb, Option.get_or_from_slice_get, Option.slice_get-map}
 use Rattle.bx_lists.proofs.Tests.{either, eqb_sym}
 use Rattle.bx_reshard.proofs.HeirLemmas.{set_beside, set_here}
 

@@ -2,11 +2,8 @@
 use Rattle.std.proofs.Common.{◌≡◌, List, [], ◌∷◌, ◌++◌, refl, sym, ap, arith, ◌∙◌, subst, append-nil, append_assoc}
 use Rattle.bx_entry.specs.declared.Placing.{Ghosts}
 use Rattle.bx_shard.specs.Shards.{Setup}
-use Rattle.bx_world.specs.Seen.{Ran, Steps, setup_of, world_of}
-use Rattle.bx_world.specs.Worlds.{WorldState, IsOutput, Runs, after}
-use Rattle.bx_world.specs.declared.step.Step.{Step}
-use Rattle.bx_world.specs.declared.step.StepOut.{StepOut}
-use Rattle.bx_world.specs.declared.world.World.{World}
+use Rattle.bx_world.specs.Words.{Ran, Steps, setup_of, world_of, WorldState, IsOutput, Runs, after}
+use Rattle.bx_world.specs.declared.{step.Step.Step, step.StepOut.StepOut, world.World.World}
 use Rattle.bx_world.proofs.AsOne.{headline}
 
 runs_more : (setup : Setup) (w : WorldState) (steps : List Step) (outs : List StepOut) (last next : WorldState) (step : Step) (out : StepOut) → Runs setup w steps outs last → IsOutput setup last step out → next ≡ after last step out →

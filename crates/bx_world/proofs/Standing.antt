@@ -1,16 +1,13 @@
 -- One shard of the world, and what holds of all where another is put in its place.
 use Rattle.std.proofs.Common.{◌≡◌, ◌≢◌, ℕ, ◌<◌, true, Some, List, length, map, slice_get, slice_set, sym, ap, ◌∙◌, arith}
 use Rattle.std.specs.Prelude.{slice_index}
-use Rattle.std.proofs.lemmas.List.{length-map}
-use Rattle.std.proofs.lemmas.Option.{slice_get_within, get_or_from_slice_get}
+use Rattle.std.proofs.lemmas.{List.length-map, Option.slice_get_within, Option.get_or_from_slice_get}
 use Rattle.std.proofs.Math.Seq.{map-set_same}
 use Rattle.bx_entry.specs.declared.Placing.{Ghosts}
 use Rattle.bx_shard.specs.declared.shard.Shard.{Shard}
-use Rattle.bx_world.specs.Refining.{EachRefines, RefinesFrom, some_stands_at}
-use Rattle.bx_world.specs.Seen.{setup_of, world_of}
+use Rattle.bx_world.specs.Words.{EachRefines, RefinesFrom, some_stands_at, setup_of, world_of}
 use Rattle.bx_world.specs.declared.world.World.{World}
-use Rattle.bx_world.proofs.Rows.{each_set, number_there}
-use Rattle.bx_world.proofs.Slowest.{same_slowest}
+use Rattle.bx_world.proofs.{Rows.each_set, Rows.number_there, Slowest.same_slowest}
 
 module _ {P : Type 0} {g : Ghosts P} (w : World P g) (i : ℕ) (old : Shard P) (there : slice_get w.shards.items i ≡ Some old) where
   -- what it holds, and how far it has come

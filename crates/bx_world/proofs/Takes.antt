@@ -3,18 +3,13 @@ use Rattle.std.proofs.Common.{arith, ◌≡◌, ℕ, ◌<◌, ⊎_elim, Option, 
 use Rattle.std.proofs.lemmas.Bool.{cond-true, cond-false}
 use Rattle.bx_lists.proofs.Tests.{either}
 use Rattle.bx_message.specs.declared.reply.Answer.{Answer}
-use Rattle.bx_entry.specs.Listing.{Listed}
-use Rattle.bx_entry.specs.Sessions.{Filed}
-use Rattle.bx_entry.specs.Answers.{PlacedAnswer, answer_of, answer}
-use Rattle.bx_shard.specs.Shards.{Setup, shard_at}
-use Rattle.bx_world.specs.Worlds.{WorldState, IsOutput, Runs, after, filed_under}
-use Rattle.bx_shard.specs.Refining.{given_of}
-use Rattle.bx_world.specs.declared.step.Step.{Step}
+use Rattle.bx_entry.specs.Words.{Listed, Filed, PlacedAnswer, answer_of, answer}
+use Rattle.bx_shard.specs.Words.{Setup, shard_at, given_of}
+use Rattle.bx_world.specs.Words.{WorldState, IsOutput, Runs, after, filed_under, added_in, admitted_in, ListIsAdmitted, TookBy, Took, EachTook, TakesAreAnswers}
+use Rattle.bx_world.specs.declared.step.{Step.Step, StepOut.StepOut}
 use Rattle.bx_world.specs.declared.step.Step.TheVariants.{Take}
-use Rattle.bx_world.specs.declared.step.StepOut.{StepOut}
 use Rattle.bx_world.specs.declared.step.StepOut.TheVariants.{Taken}
 use Rattle.bx_entry.specs.declared.entry.Ticket.{Ticket}
-use Rattle.bx_world.specs.Schedules.{added_in, admitted_in, ListIsAdmitted, TookBy, Took, EachTook, TakesAreAnswers}
 use Rattle.bx_theory.proofs.Lists.{answer_more}
 use Rattle.bx_shard.proofs.Given.{found_answer}
 

@@ -3,24 +3,15 @@ use Rattle.std.proofs.Common.{◌≡◌, ℕ, ◌<◌, ◌≤◌, ◌==◌, true
 use Rattle.std.specs.Prelude.{slice_index, if◌then◌else◌}
 use Rattle.std.specs.Option.{IsSome}
 use Rattle.std.proofs.lemmas.Bool.{cond-true, lt-ltb, eq-eqb}
-use Rattle.bx_entry.specs.Answers.{PlacedAnswer, answer_of}
-use Rattle.bx_entry.specs.Sessions.{Filed}
-use Rattle.bx_entry.specs.declared.Placing.{Ghosts}
-use Rattle.bx_entry.specs.declared.entry.Ticket.{Ticket}
+use Rattle.bx_entry.specs.Words.{PlacedAnswer, answer_of, Filed}
+use Rattle.bx_entry.specs.declared.{Placing.Ghosts, entry.Ticket.Ticket}
 use Rattle.bx_message.specs.declared.reply.Answer.{Answer}
 use Rattle.bx_connects.specs.Connects.{filed_answer}
-use Rattle.bx_shard.specs.Refining.{Refines, Took, filed_with_place, given_of}
-use Rattle.bx_shard.specs.Seen.{state}
-use Rattle.bx_shard.specs.Shards.{shard_at}
-use Rattle.bx_shard.specs.States.{IsSound, State, connect_in}
+use Rattle.bx_shard.specs.Words.{Refines, Took, filed_with_place, given_of, state, shard_at, IsSound, State, connect_in}
 use Rattle.bx_connects.specs.declared.connects.ConnectState.{ConnectState}
 use Rattle.bx_shard.specs.declared.shard.Shard.{Shard}
-use Rattle.bx_shard.proofs.Given.{as_before, given_filed}
-use Rattle.bx_shard.proofs.Holding.{refines_still}
-use Rattle.bx_shard.proofs.Taking.{refines_beside, refines_taken}
-use Rattle.bx_world.specs.Refining.{EachRefines, RefinesFrom}
-use Rattle.bx_world.specs.Seen.{setup_of, world_of}
-use Rattle.bx_world.specs.Worlds.{IsOutput, filed_under}
+use Rattle.bx_shard.proofs.{Given.as_before, Given.given_filed, Holding.refines_still, Taking.refines_beside, Taking.refines_taken}
+use Rattle.bx_world.specs.Words.{EachRefines, RefinesFrom, setup_of, world_of, IsOutput, filed_under}
 use Rattle.bx_world.specs.declared.world.World.{World}
 use Rattle.bx_world.specs.declared.step.Step.TheVariants.{Take}
 use Rattle.bx_world.specs.declared.step.StepOut.TheVariants.{Taken}

@@ -1,21 +1,17 @@
 -- The entries that are kept, and the shards after they were brought up to their end.
 use Rattle.std.proofs.Common.{◌≡◌, ℕ, suc, ◌+◌, ◌-◌, ◌<◌, ◌≤◌, Bool, false, cond, Some, List, [], ◌∷◌, length, map, drop, take, ◌++◌, nat_lt, slice_get, get_or, refl, sym, ap, ◌∙◌, subst, arith, length-drop}
 use Rattle.std.specs.Prelude.{count_by}
-use Rattle.std.proofs.lemmas.Bool.{le-ltb}
-use Rattle.std.proofs.lemmas.List.{get_or-drop, take-append-le, take_all}
-use Rattle.std.proofs.lemmas.List.Sums.{sum_by-cons}
+use Rattle.std.proofs.lemmas.{Bool.le-ltb, List.get_or-drop, List.take-append-le, List.take_all, List.Sums.sum_by-cons}
 use Rattle.std.proofs.lemmas.Option.{get_or_from_slice_get, slice_get-get_or, slice_get_read, slice_get_within}
 use Rattle.bx_lists.proofs.Lists.{mapped}
 use Rattle.bx_advice.specs.Limits.{greatest_length}
 use Rattle.bx_entry.specs.Registry.{entries}
 use Rattle.bx_entry.specs.declared.entry.Entry.{Entry}
-use Rattle.bx_shard.specs.Shards.{Setup}
-use Rattle.bx_shard.specs.States.{takes_no_memory}
+use Rattle.bx_shard.specs.Words.{Setup, takes_no_memory}
 use Rattle.bx_shard.specs.declared.shard.Shard.{Shard}
 use Rattle.bx_shard.proofs.Placed.{entry_placed}
 use Rattle.bx_workers.specs.Upward.{AreConsecutive, AreOf, AreWithin, BroughtUp, WentOn, count_behind, end_of, first_of, is_behind}
-use Rattle.bx_world.specs.Admissions.{Admitting, entries_kept}
-use Rattle.bx_world.specs.Refining.{EachRefines, RefinesFrom, StandFrom, StandWithin}
+use Rattle.bx_world.specs.Words.{Admitting, entries_kept, EachRefines, RefinesFrom, StandFrom, StandWithin}
 use Rattle.bx_theory.proofs.Lists.{entries_length}
 use Rattle.bx_world.proofs.Applications.{place_within}
 

@@ -1,13 +1,10 @@
 -- The admission side of the world: the list, who is live, and the entries that some shard has not applied yet.
 use Rattle.std.specs.Prelude.{ℕ, ◌≡◌, length, List, drop, ◌++◌, Result, Ok, Err, Some, None}
 use Rattle.bx_advice.specs.declared.config.Config.{Config}
-use Rattle.bx_entry.specs.Inputs.{ReadInput, added_by, refusal_of}
-use Rattle.bx_entry.specs.Listing.{Listed}
-use Rattle.bx_entry.specs.Registry.{entries}
+use Rattle.bx_entry.specs.Words.{ReadInput, added_by, refusal_of, Listed, entries}
 use Rattle.bx_entry.specs.declared.entry.Entry.{Entry}
 use Rattle.bx_admission.specs.Slots.{admitted_slots, placed_by}
-use Rattle.bx_world.specs.declared.step.Admitted.{Admitted}
-use Rattle.bx_world.specs.declared.step.AdmissionFault.{AdmissionFault}
+use Rattle.bx_world.specs.declared.step.{Admitted.Admitted, AdmissionFault.AdmissionFault}
 use Rattle.bx_world.specs.declared.step.AdmissionFault.TheVariants.{Refused, Memory}
 
 -- the configuration, among how many shards sessions are placed, the list, and the place from which on its entries are kept

@@ -4,25 +4,16 @@ use Rattle.std.specs.Prelude.{if◌then◌else◌, ℕ, ◌+◌, ◌≡◌, ◌<
 use Rattle.bx_advice.specs.declared.config.Config.{Config}
 use Rattle.bx_message.specs.declared.reply.Answer.{Answer}
 use Rattle.bx_message.specs.declared.reply.AckReply.TheVariants.{AckNumber}
-use Rattle.bx_entry.specs.Listing.{Listed}
-use Rattle.bx_entry.specs.Inputs.{ReadInput, Request, added_by}
-use Rattle.bx_entry.specs.Requests.{read_input}
-use Rattle.bx_entry.specs.declared.entry.Entry.{Entry}
+use Rattle.bx_entry.specs.Words.{Listed, ReadInput, Request, added_by, read_input, PlaceSlot, Waiting, Judged, registry, entries, Session, Filed, batch, session, PlacedAnswer, answer, answer_of, events_of}
+use Rattle.bx_entry.specs.declared.{entry.Entry.Entry, entry.Slot.Slot, entry.Ticket.Ticket, input.Input.Input}
 use Rattle.bx_entry.specs.declared.entry.EntryKind.TheVariants.{Connect}
-use Rattle.bx_entry.specs.declared.entry.Slot.{Slot}
 use Rattle.bx_entry.specs.declared.entry.Slot.TheVariants as answers
-use Rattle.bx_entry.specs.declared.entry.Ticket.{Ticket}
-use Rattle.bx_entry.specs.declared.input.Input.{Input}
-use Rattle.bx_entry.specs.Registry.{PlaceSlot, Waiting, Judged, registry, entries}
-use Rattle.bx_entry.specs.Sessions.{Session, Filed, batch, session}
-use Rattle.bx_entry.specs.Answers.{PlacedAnswer, answer, answer_of, events_of}
 use Rattle.bx_theory.specs.Laws.{Repeats, LastAnswer, AllBelow}
 use Rattle.bx_shard.specs.Shards.{Setup}
 use Rattle.bx_world.specs.Worlds.{WorldState, Runs}
 use Rattle.bx_world.specs.Schedules.{admitted_in, EachTook, EachNew, taken_places}
-use Rattle.bx_world.specs.declared.step.Step.{Step}
+use Rattle.bx_world.specs.declared.step.{Step.Step, StepOut.StepOut}
 use Rattle.bx_world.specs.declared.step.Step.TheVariants.{Admit, Apply, Take}
-use Rattle.bx_world.specs.declared.step.StepOut.{StepOut}
 use Rattle.bx_world.specs.declared.step.StepOut.TheVariants.{Admitted, Taken}
 
 -- ---- replies that are given at once

@@ -6,3 +6,4 @@ pub mod Backlogs
 pub mod Admissions
 pub mod Refining
 pub mod Seen
+pub mod Words

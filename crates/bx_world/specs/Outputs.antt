@@ -5,12 +5,9 @@ use Rattle.bx_entry.specs.declared.read.ReadFault.{ReadFault}
 use Rattle.bx_entry.specs.declared.read.ReadFault.TheVariants as reads
 use Rattle.bx_registry.specs.declared.plan.AdmitFault.{AdmitFault}
 use Rattle.bx_registry.specs.declared.plan.AdmitFault.TheVariants as plans
-use Rattle.bx_world.specs.declared.step.Admitted.{Admitted}
-use Rattle.bx_world.specs.declared.step.AdmissionFault.{AdmissionFault}
+use Rattle.bx_world.specs.declared.step.{Admitted.Admitted, AdmissionFault.AdmissionFault, Applied.Applied, StepOut.StepOut}
 use Rattle.bx_world.specs.declared.step.AdmissionFault.TheVariants.{Refused, Memory}
-use Rattle.bx_world.specs.declared.step.Applied.{Applied}
 use Rattle.bx_world.specs.declared.step.Applied.TheVariants as applications
-use Rattle.bx_world.specs.declared.step.StepOut.{StepOut}
 use Rattle.bx_world.specs.declared.step.StepOut.TheVariants as outs
 
 -- what came of an admission

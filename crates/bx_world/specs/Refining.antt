@@ -3,11 +3,8 @@ use Rattle.std.specs.Prelude.{ℕ, ◌≡◌, ◌≤◌, ◌==◌, Bool, false, 
 use Rattle.std.specs.List.{list_any}
 use Rattle.bx_entry.specs.Listing.{Listed}
 use Rattle.bx_entry.specs.declared.entry.Entry.{Entry}
-use Rattle.bx_shard.specs.Refining.{Refines}
-use Rattle.bx_shard.specs.Seen.{state}
-use Rattle.bx_shard.specs.Shards.{Setup}
+use Rattle.bx_shard.specs.Words.{Refines, state, Setup, IsAsBefore, IsSound, takes_no_memory}
 use Rattle.bx_shard.specs.States as states
-use Rattle.bx_shard.specs.States.{IsAsBefore, IsSound, takes_no_memory}
 use Rattle.bx_shard.specs.declared.shard.Shard.{Shard}
 use Rattle.bx_world.specs.declared.step.Applied.{Applied}
 use Rattle.bx_world.specs.declared.step.Applied.TheVariants.{Done, Level, Memory}

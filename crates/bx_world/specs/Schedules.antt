@@ -1,20 +1,12 @@
 -- What holds of every schedule of admissions, applications and takings, whatever the placing and wherever memory was short.
 use Rattle.std.specs.Prelude.{ℕ, ◌≡◌, ◌<◌, ◌==◌, false, List, [], ◌∷◌, ◌++◌, length, find, slice_get, slice_index, option_map, Some, ⊤}
 use Rattle.bx_advice.specs.declared.config.Config.{Config}
-use Rattle.bx_entry.specs.Inputs.{added_by}
-use Rattle.bx_entry.specs.Listing.{Listed}
-use Rattle.bx_entry.specs.Requests.{read_input}
-use Rattle.bx_entry.specs.declared.input.Input.{Input}
-use Rattle.bx_entry.specs.declared.entry.Ticket.{Ticket}
-use Rattle.bx_entry.specs.Registry.{Judged, Waiting, registry}
-use Rattle.bx_entry.specs.Sessions.{Filed}
-use Rattle.bx_entry.specs.Answers.{PlacedAnswer, answer, answer_of}
-use Rattle.bx_shard.specs.Shards.{Setup, is_taken, shard_at}
+use Rattle.bx_entry.specs.Words.{added_by, Listed, read_input, Judged, Waiting, registry, Filed, PlacedAnswer, answer, answer_of}
+use Rattle.bx_entry.specs.declared.{input.Input.Input, entry.Ticket.Ticket}
+use Rattle.bx_shard.specs.Words.{Setup, is_taken, shard_at, given_of}
 use Rattle.bx_world.specs.Worlds.{WorldState, IsOutput, Runs}
-use Rattle.bx_shard.specs.Refining.{given_of}
-use Rattle.bx_world.specs.declared.step.Step.{Step}
+use Rattle.bx_world.specs.declared.step.{Step.Step, StepOut.StepOut}
 use Rattle.bx_world.specs.declared.step.Step.TheVariants.{Admit, Take}
-use Rattle.bx_world.specs.declared.step.StepOut.{StepOut}
 use Rattle.bx_world.specs.declared.step.StepOut.TheVariants.{Admitted, Taken}
 
 -- ---- the list

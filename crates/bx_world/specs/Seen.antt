@@ -2,16 +2,12 @@
 use Rattle.std.specs.Prelude.{ℕ, ◌≡◌, ◌++◌, ◌<◌, List, map, length, slice_get, take, Some, Result, Ok, Err}
 use Rattle.std.specs.Arc.{arc_value}
 use Rattle.bx_entry.specs.declared.Placing.{Ghosts}
-use Rattle.bx_shard.specs.Refining.{Refines}
-use Rattle.bx_shard.specs.Seen.{state}
-use Rattle.bx_shard.specs.Shards.{Setup}
+use Rattle.bx_shard.specs.Words.{Refines, state, Setup}
 use Rattle.bx_shard.specs.declared.shard.Shard.{Shard}
 use Rattle.bx_admission.specs.Slots.{placed_by}
 use Rattle.bx_world.specs.Headline.{AsOneThread}
 use Rattle.bx_world.specs.Worlds.{WorldState, IsOutput, Runs, after}
-use Rattle.bx_world.specs.declared.step.Step.{Step}
-use Rattle.bx_world.specs.declared.step.StepOut.{StepOut}
-use Rattle.bx_world.specs.declared.world.World.{World}
+use Rattle.bx_world.specs.declared.{step.Step.Step, step.StepOut.StepOut, world.World.World}
 
 module _ {P : Type 0} {g : Ghosts P} where
   -- the configuration with the number of shards and the placing

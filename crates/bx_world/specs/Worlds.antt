@@ -1,21 +1,11 @@
 -- The world of shards, step by step: admission, application and taking.
 use Rattle.std.specs.Prelude.{if◌then◌else◌, ℕ, find, ◌+◌, ◌==◌, ◌||◌, ◌&&◌, ◌≡◌, ◌⊎◌, not, Bool, true, false, List, [], ◌∷◌, ◌++◌, length, replicate, nat_lt, slice_get, slice_index, slice_set, Option, Some, None, option_map}
-use Rattle.bx_entry.specs.Listing.{Listed}
-use Rattle.bx_entry.specs.Inputs.{ReadInput, added_by, refusal_of}
-use Rattle.bx_entry.specs.Requests.{read_input}
-use Rattle.bx_entry.specs.declared.entry.Entry.{Entry}
-use Rattle.bx_entry.specs.declared.entry.Ticket.{Ticket}
-use Rattle.bx_entry.specs.declared.input.Refusal.{Refusal}
-use Rattle.bx_entry.specs.Registry.{entries}
-use Rattle.bx_entry.specs.Sessions.{Filed}
-use Rattle.bx_entry.specs.Answers.{PlacedAnswer, answer_of}
+use Rattle.bx_entry.specs.Words.{Listed, ReadInput, added_by, refusal_of, read_input, entries, Filed, PlacedAnswer, answer_of}
+use Rattle.bx_entry.specs.declared.{entry.Entry.Entry, entry.Ticket.Ticket, input.Refusal.Refusal}
 use Rattle.bx_admission.specs.Slots.{admitted_slots}
-use Rattle.bx_shard.specs.Refining.{given_of}
-use Rattle.bx_shard.specs.Shards.{Setup, shard_at}
-use Rattle.bx_shard.specs.States.{takes_no_memory}
-use Rattle.bx_world.specs.declared.step.Step.{Step}
+use Rattle.bx_shard.specs.Words.{given_of, Setup, shard_at, takes_no_memory}
+use Rattle.bx_world.specs.declared.step.{Step.Step, StepOut.StepOut}
 use Rattle.bx_world.specs.declared.step.Step.TheVariants.{Admit, Apply, Take}
-use Rattle.bx_world.specs.declared.step.StepOut.{StepOut}
 use Rattle.bx_world.specs.declared.step.StepOut.TheVariants.{Admitted, NotAdmitted, Applied, Level, Taken, OutOfMemory}
 
 -- ---- the world

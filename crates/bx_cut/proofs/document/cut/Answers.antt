@@ -1,8 +1,6 @@
 use Rattle.std.proofs.Common.{◌≡◌, ℕ, List, ◌++◌, Some, None, ap, ◌∙◌, rules}
-use Rattle.bx_cut.specs.Cut.{listed}
-use Rattle.bx_cut.specs.Pieces.{Object, split_object, pieces, pieces_of}
-use Rattle.bx_cut.proofs.Lists.{found-none, found-last, found-more}
-use Rattle.bx_cut.proofs.Objects.{Shortens-split_object}
+use Rattle.bx_cut.specs.Words.{listed, Object, split_object, pieces, pieces_of}
+use Rattle.bx_cut.proofs.{Lists.found-none, Lists.found-last, Lists.found-more, Objects.Shortens-split_object}
 use Rattle.bx_cut.proofs.document.cut.Goals as goal
 
 pub loop-pieces-init : goal.loop-pieces-init

@@ -1,8 +1,7 @@
 use Rattle.std.proofs.Common.{◌≡◌, ◌++◌, length}
 use denote.Text.{Utf8}
 use denote.Shadow.{shadow}
-use Rattle.bx_cut.specs.Cut.{listed}
-use Rattle.bx_cut.specs.Pieces.{split_object, pieces}
+use Rattle.bx_cut.specs.Words.{listed, split_object, pieces}
 use Rattle.bx_cut.proofs.document.cut.Given as goal
 
 abbrev pub invariant-loop-pieces : goal.invariant-loop-pieces

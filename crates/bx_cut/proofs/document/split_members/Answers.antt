@@ -1,10 +1,8 @@
 use Rattle.std.proofs.Common.{◌≡◌, ℕ, List, [], ◌∷◌, ◌++◌, map, ap, ◌∙◌, rules}
 use Rattle.std.proofs.lemmas.List.{map-append}
-use Rattle.bx_cut.specs.Cut.{Member, listed, split_member}
-use Rattle.bx_cut.specs.Views.{member_view}
+use Rattle.bx_cut.specs.Words.{Member, listed, split_member, member_view}
 use Rattle.bx_cut.specs.declared.split.Member as code
-use Rattle.bx_cut.proofs.Reach.{IsRest-of, IsRest-whole}
-use Rattle.bx_cut.proofs.Lists.{grown-none, grown-last, grown-more, Shortens-split_member}
+use Rattle.bx_cut.proofs.{Reach.IsRest-of, Reach.IsRest-whole, Lists.grown-none, Lists.grown-last, Lists.grown-more, Lists.Shortens-split_member}
 use Rattle.bx_cut.proofs.document.split_members.Goals as goal
 
 pushed : (old new : List code.Member) (m : code.Member) → new ≡ old ++ m ∷ [] → map member_view new ≡ map member_view old ++ member_view m ∷ []

@@ -1,8 +1,7 @@
 use Rattle.std.proofs.Common.{◌≡◌, ◌++◌, length, map}
 use denote.Text.{Utf8}
 use denote.Shadow.{shadow}
-use Rattle.bx_cut.specs.Cut.{IsRest, listed, split_member}
-use Rattle.bx_cut.specs.Views.{member_view}
+use Rattle.bx_cut.specs.Words.{IsRest, listed, split_member, member_view}
 use Rattle.bx_cut.proofs.document.split_members.Given as goal
 
 abbrev pub invariant-loop-member : goal.invariant-loop-member

@@ -1,8 +1,6 @@
 use Rattle.std.proofs.Common.{ℕ, List, Some, ap, ◌∙◌, map}
-use Rattle.bx_cut.specs.Cut.{Member}
-use Rattle.bx_cut.specs.Views.{member_view}
-use Rattle.bx_cut.proofs.Reach.{IsRest-of}
-use Rattle.bx_cut.proofs.Objects.{object-none, object-open, object-some}
+use Rattle.bx_cut.specs.Words.{Member, member_view}
+use Rattle.bx_cut.proofs.{Reach.IsRest-of, Objects.object-none, Objects.object-open, Objects.object-some}
 use Rattle.bx_cut.proofs.document.split_object.Goals as goal
 
 pub split_at-requires : goal.split_at-requires

@@ -1,6 +1,5 @@
 use Rattle.std.proofs.Common.{arith}
-use Rattle.std.proofs.lemmas.Grind.{common_steps}
-use Rattle.std.proofs.lemmas.Str.{IsCharBoundary-after_ascii, IsCharBoundary-start}
+use Rattle.std.proofs.lemmas.{Grind.common_steps, Str.IsCharBoundary-after_ascii, Str.IsCharBoundary-start}
 use Rattle.bx_cut.proofs.scan.blank_len.Goals as goal
 
 pub loop-at-init : goal.loop-at-init

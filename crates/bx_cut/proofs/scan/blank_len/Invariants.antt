@@ -1,6 +1,5 @@
 use Rattle.std.proofs.Common.{◌≡◌, ◌+◌, ◌-◌, ◌≤◌, length, drop}
-use Rattle.std.specs.List.{prefix_len}
-use Rattle.std.specs.Str.{IsCharBoundary}
+use Rattle.std.specs.{List.prefix_len, Str.IsCharBoundary}
 use Rattle.json.specs.Word.{is_space}
 use Rattle.bx_cut.proofs.scan.blank_len.Given as goal
 

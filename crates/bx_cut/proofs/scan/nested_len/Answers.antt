@@ -1,8 +1,7 @@
 use Rattle.std.proofs.Common.{◌≡◌, ℕ, ◌+◌, ◌-◌, ◌≤◌, false, List, length, take, drop, ap, ◌∙◌, subst, arith}
-use Rattle.std.proofs.lemmas.List.{take_all, length-drop, drop-drop}
+use Rattle.std.proofs.lemmas.{List.take_all, List.length-drop, List.drop-drop, Grind.common_steps}
 use Rattle.json.specs.Lex.{in_string}
 use Rattle.json.specs.Align.{span}
-use Rattle.std.proofs.lemmas.Grind.{common_steps}
 use Rattle.bx_cut.specs.Cut.{outside}
 use Rattle.bx_cut.proofs.Reach.{nest-outside, nest-end, nest-string}
 use Rattle.bx_cut.proofs.scan.nested_len.Goals as goal

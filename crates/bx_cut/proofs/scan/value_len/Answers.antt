@@ -1,6 +1,5 @@
 use Rattle.std.proofs.Common.{◌≡◌, ℕ, ◌+◌, ◌-◌, List, [], ◌<◌, length, take, drop, ap, ◌∙◌, sym, subst, arith}
-use Rattle.std.proofs.lemmas.Grind.{common_steps}
-use Rattle.std.proofs.lemmas.List.{take_all, length-drop}
+use Rattle.std.proofs.lemmas.{Grind.common_steps, List.take_all, List.length-drop}
 use Rattle.std.specs.Str.{IsCharBoundary}
 use Rattle.json.specs.Lex.{in_string}
 use Rattle.json.specs.Align.{span}

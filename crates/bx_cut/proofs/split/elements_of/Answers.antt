@@ -1,7 +1,6 @@
 use Rattle.std.proofs.Common.{ap, refl, ◌∙◌}
 use Rattle.bx_cut.specs.Pieces.{elements_inside}
-use Rattle.bx_cut.proofs.Names.{rest_or_nothing}
-use Rattle.bx_cut.proofs.Insides.{elements_read}
+use Rattle.bx_cut.proofs.{Names.rest_or_nothing, Insides.elements_read}
 use Rattle.bx_cut.proofs.split.elements_of.Goals as goal
 
 pub returns-clause-value : goal.returns-clause-value

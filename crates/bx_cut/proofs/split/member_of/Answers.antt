@@ -1,11 +1,7 @@
 use Rattle.std.proofs.Common.{Option, None, ◌≡◌, ℕ, cond, List, [], ◌∷◌, ◌++◌, Bool, Some, option_map, sym, ap, ◌∙◌, refl, rules}
 use Rattle.std.specs.Borrow.{Bor}
-use Rattle.bx_cut.specs.Cut.{Member, split_member}
-use Rattle.bx_cut.specs.Pieces.{member_text, members, members_inside, last_member}
-use Rattle.bx_cut.specs.Views.{member_view}
-use Rattle.bx_cut.proofs.Lists.{found-none, found-last, found-more, Shortens-split_member}
-use Rattle.bx_cut.proofs.Names.{one_more}
-use Rattle.bx_cut.proofs.Insides.{found_reads, found_bare}
+use Rattle.bx_cut.specs.Words.{Member, split_member, member_text, members, members_inside, last_member, member_view}
+use Rattle.bx_cut.proofs.{Lists.found-none, Lists.found-last, Lists.found-more, Lists.Shortens-split_member, Names.one_more, Insides.found_reads, Insides.found_bare}
 use Rattle.bx_cut.proofs.split.member_of.Goals as goal
 use Rattle.bx_cut.proofs.split.member_of.Goals.{then-spells, else-spells}
 

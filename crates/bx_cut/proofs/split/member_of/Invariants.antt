@@ -1,8 +1,7 @@
 use Rattle.std.proofs.Common.{◌≡◌, List, ◌++◌, length, option_map}
 use denote.Text.{Utf8}
 use denote.Shadow.{shadow}
-use Rattle.bx_cut.specs.Cut.{Member, listed, split_member}
-use Rattle.bx_cut.specs.Pieces.{members, last_member}
+use Rattle.bx_cut.specs.Words.{Member, listed, split_member, members, last_member}
 use Rattle.bx_cut.proofs.split.member_of.Given as goal
 
 abbrev pub invariant-loop-member : goal.invariant-loop-member

@@ -1,6 +1,5 @@
 use Rattle.std.proofs.Common.{List, ℕ, Option, Some, None}
-use Rattle.std.specs.Option.{IfSome}
-use Rattle.std.specs.Borrow.{Bor}
+use Rattle.std.specs.{Option.IfSome, Borrow.Bor}
 use Rattle.bx_cut.specs.Cut.{IsRest}
 use Rattle.bx_cut.proofs.Reach.{IsRest-of}
 use Rattle.bx_cut.proofs.split.past.Goals as goal

@@ -1,6 +1,5 @@
 use Rattle.std.proofs.Common.{◌≡◌, ◌-◌, length, take, drop, get_or, arith}
-use Rattle.std.proofs.lemmas.List.{length-drop, take_all, drop-drop, get_or-drop}
-use Rattle.std.proofs.lemmas.Grind.{common_steps}
+use Rattle.std.proofs.lemmas.{List.length-drop, List.take_all, List.drop-drop, List.get_or-drop, Grind.common_steps}
 use Rattle.std.specs.Char.{encode_utf8}
 use Rattle.bx_cut.proofs.Contents.{after_backslash-nil, after_backslash-at, unit-short, unit-at, high-short}
 use Rattle.bx_cut.proofs.string.escape.Goals as goal

@@ -1,6 +1,5 @@
 use Rattle.std.proofs.Common.{◌≡◌, ◌+◌, ◌-◌, List, ℕ, drop, sym, ap, ◌∙◌, subst, arith}
-use Rattle.std.specs.Char.{encode_utf8}
-use Rattle.std.specs.Str.{IsCharBoundary}
+use Rattle.std.specs.{Char.encode_utf8, Str.IsCharBoundary}
 use Rattle.std.proofs.lemmas.Str.{IsCharBoundary-after_ascii}
 use Rattle.json.specs.Text.{content, plain, prepend, after_backslash}
 use Rattle.bx_cut.proofs.Contents.{at-quote, at-backslash, at-fault}

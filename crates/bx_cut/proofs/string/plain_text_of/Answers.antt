@@ -1,12 +1,10 @@
 use Rattle.std.proofs.Common.{◌≡◌, ℕ, List, [], ◌∷◌, ◌++◌, drop, option_and_then, sym, ap, ◌∙◌}
-use Rattle.std.proofs.lemmas.Bool.{true≢false}
-use Rattle.std.proofs.lemmas.Option.{none-some}
+use Rattle.std.proofs.lemmas.{Bool.true≢false, Option.none-some}
 use Rattle.json.proofs.Found.{Some_inj}
 use Rattle.std.specs.List.{prefix_len}
 use Rattle.json.specs.Run.{is_plain}
 use Rattle.json.specs.Text.{content, plain}
-use Rattle.bx_cut.specs.Cut.{begins_with, after_first}
-use Rattle.bx_cut.specs.Strings.{spelled}
+use Rattle.bx_cut.specs.Words.{begins_with, after_first, spelled}
 use Rattle.bx_cut.proofs.Contents.{after-end, after-quote, after-run, at-quote, plain-then-quote, prepend-nil, run-plain}
 use Rattle.bx_cut.proofs.string.plain_text_of.Goals as goal
 

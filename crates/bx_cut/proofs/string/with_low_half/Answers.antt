@@ -1,9 +1,7 @@
 use Rattle.std.proofs.Common.{◌≡◌, inr, ℕ, List, Option, Some, None, drop, ap, sym, ◌∙◌, arith}
-use Rattle.std.proofs.lemmas.Bool.{false≢true}
-use Rattle.std.specs.Option.{SomeIff, MatchOption, IsSome}
-use Rattle.std.specs.Char.{IsScalar, InScalarRange, encode_utf8}
+use Rattle.std.proofs.lemmas.{Bool.false≢true, Grind.common_steps}
+use Rattle.std.specs.{Option.SomeIff, Option.MatchOption, Option.IsSome, Char.IsScalar, Char.InScalarRange, Char.encode_utf8}
 use Rattle.json.specs.Text.{surrogate_pair, content, plain, after_high, prepend}
-use Rattle.std.proofs.lemmas.Grind.{common_steps}
 use Rattle.bx_cut.proofs.Contents.{high-at}
 use Rattle.bx_cut.proofs.string.with_low_half.Goals as goal
 

@@ -1,8 +1,5 @@
 use Rattle.std.proofs.Common.{◌≡◌, ◌-◌, ◌++◌, length, take, drop, sym, ap, ◌∙◌, arith}
-use Rattle.std.proofs.lemmas.Bool.{true≢false}
-use Rattle.std.proofs.lemmas.Bool.Decides.{Decides-eqb}
-use Rattle.std.proofs.lemmas.List.{take_all, length-drop}
-use Rattle.std.proofs.lemmas.Slice.Eq.{starts_is}
+use Rattle.std.proofs.lemmas.{Bool.true≢false, Bool.Decides.Decides-eqb, List.take_all, List.length-drop, Slice.Eq.starts_is}
 use Rattle.bx_cut.proofs.string.without.Goals as goal
 
 pub returns-then-starts_with : goal.returns-then-starts_with

@@ -1,13 +1,10 @@
 use Rattle.std.proofs.Common.{◌++◌, ◌∷◌, [], List, map, subst, sym}
 use Rattle.bx_entry.specs.Requests.{read_input}
 use Rattle.bx_world.specs.Seen.{setup_of, world_of}
-use Rattle.bx_fanout.specs.HeldInputs.{Row}
-use Rattle.bx_fanout.specs.Draining.{CanDrain, Drained}
+use Rattle.bx_fanout.specs.Words.{Row, CanDrain, Drained, IsTakenIn, seen_out}
 use Rattle.bx_fanout.specs.CurrentInputs.{IsLevel, IsWhole, out_of}
-use Rattle.bx_fanout.specs.Stages.{IsTakenIn, seen_out}
-use Rattle.bx_fanout.proofs.Collecting.{level-kept}
+use Rattle.bx_fanout.proofs.{Collecting.level-kept, Stages.giving-held, Stages.giving-whole}
 use Rattle.bx_fanout.proofs.TakingIn.{can-drain, can-drain-held, collected-intake, giving-of, held-below, on-err}
-use Rattle.bx_fanout.proofs.Stages.{giving-held, giving-whole}
 use Rattle.bx_fanout.proofs.bring_in.bring_in.Goals as goal
 use Rattle.bx_fanout.proofs.bring_in.bring_in.Goals.{After-collect}
 

@@ -3,13 +3,11 @@ use Rattle.std.proofs.lemmas.List.{length-map}
 use Rattle.std.specs.Arc.{arc_value}
 use Rattle.bx_shard.specs.Shards.{Setup}
 use Rattle.bx_shard.specs.declared.shard.Shard.{Shard}
-use Rattle.bx_world.specs.Seen.{setup_of, world_of}
-use Rattle.bx_world.specs.Worlds.{IsOutput, WorldState, filed_under}
+use Rattle.bx_world.specs.Words.{setup_of, world_of, IsOutput, WorldState, filed_under}
 use Rattle.bx_world.specs.declared.step.Step.TheVariants.{Take}
 use Rattle.bx_world.specs.declared.step.StepOut.TheVariants.{Taken}
 use Rattle.bx_fanout.specs.Draining.{Draining}
-use Rattle.bx_fanout.proofs.Collecting.{AllPlaced}
-use Rattle.bx_fanout.proofs.Draining.{at-none, draining-more, draining-next, fewer-count}
+use Rattle.bx_fanout.proofs.{Collecting.AllPlaced, Draining.at-none, Draining.draining-more, Draining.draining-next, Draining.fewer-count}
 use Rattle.bx_fanout.proofs.drain.drain_shard.Goals as goal
 
 pub loop-filing-preserved : goal.loop-filing-preserved

@@ -1,7 +1,6 @@
 use Rattle.std.proofs.Common.{◌≡◌, List}
 use Rattle.bx_world.specs.Seen.{setup_of, world_of}
-use Rattle.bx_fanout.specs.HeldInputs.{Row}
-use Rattle.bx_fanout.specs.Draining.{Draining, count_filed}
+use Rattle.bx_fanout.specs.Words.{Row, Draining, count_filed}
 use Rattle.bx_fanout.proofs.drain.drain_shard.Given as goal
 
 abbrev pub invariant-loop-filing : goal.invariant-loop-filing

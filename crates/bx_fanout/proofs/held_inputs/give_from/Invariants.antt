@@ -1,6 +1,5 @@
 use Rattle.std.proofs.Common.{◌≡◌, ◌≤◌, length, reverse, vec_capacity}
-use Rattle.std.specs.BTreeMap.{IsOrdered}
-use Rattle.std.specs.Ordering.{nat_cmp}
+use Rattle.std.specs.{BTreeMap.IsOrdered, Ordering.nat_cmp}
 use Rattle.bx_fanout.specs.HeldInputs.{Gives, answered_places}
 use Rattle.bx_fanout.proofs.held_inputs.give_from.Given as goal
 

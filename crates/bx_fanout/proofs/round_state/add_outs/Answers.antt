@@ -4,8 +4,7 @@ use Rattle.bx_entry.specs.Requests.{read_input}
 use Rattle.bx_fanout.specs.Stages.{IsGiving, own, seen_out}
 use Rattle.bx_fanout.specs.declared.out.Out.{Out}
 use Rattle.bx_world.specs.Seen.{setup_of, world_of}
-use Rattle.bx_fanout.proofs.TakingIn.{giving-out}
-use Rattle.bx_fanout.proofs.Finishing.{behind-is, giving-at, staged-at}
+use Rattle.bx_fanout.proofs.{TakingIn.giving-out, Finishing.behind-is, Finishing.giving-at, Finishing.staged-at}
 use Rattle.bx_fanout.proofs.round_state.add_outs.Goals as goal
 
 pub returns-clause-stands : goal.returns-clause-stands

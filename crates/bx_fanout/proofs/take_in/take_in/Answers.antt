@@ -1,10 +1,8 @@
 use Rattle.std.proofs.Common.{◌≡◌, ◌++◌, ◌∷◌, [], ◌∙◌, Err, ap, length, map, subst, sym}
 use Rattle.std.proofs.lemmas.List.{length-map, map-append}
 use Rattle.bx_entry.specs.Requests.{read_input}
-use Rattle.bx_world.specs.Outputs.{admission}
-use Rattle.bx_world.specs.Seen.{Steps, setup_of, world_of}
-use Rattle.bx_world.specs.declared.step.AdmissionFault.{AdmissionFault}
-use Rattle.bx_world.specs.declared.step.Admitted.{Admitted}
+use Rattle.bx_world.specs.Words.{admission, Steps, setup_of, world_of}
+use Rattle.bx_world.specs.declared.step.{AdmissionFault.AdmissionFault, Admitted.Admitted}
 use Rattle.bx_world.specs.declared.step.Step.TheVariants.{Admit}
 use Rattle.bx_fanout.specs.Stages.{seen_out}
 use Rattle.bx_fanout.proofs.Admitted.{intake-admitted, intake-of, intake-refused}

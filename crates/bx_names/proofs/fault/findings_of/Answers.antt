@@ -1,8 +1,6 @@
 use Rattle.std.proofs.Common.{arith}
-use Rattle.std.proofs.lemmas.Grind.{common_steps}
-use Rattle.std.proofs.lemmas.List.{at_drop_all}
-use Rattle.bx_names.proofs.PathLemmas.{path_from_absolute}
-use Rattle.bx_names.proofs.WalkLemmas.{has_gap, gap-segments, bad-segments, length-segments}
+use Rattle.std.proofs.lemmas.{Grind.common_steps, List.at_drop_all}
+use Rattle.bx_names.proofs.{PathLemmas.path_from_absolute, WalkLemmas.has_gap, WalkLemmas.gap-segments, WalkLemmas.bad-segments, WalkLemmas.length-segments}
 use Rattle.bx_names.proofs.fault.findings_of.Goals as goal
 
 pub returns-clause-empty : goal.returns-clause-empty

@@ -1,7 +1,6 @@
 use Rattle.std.proofs.Common.{◌≡◌, ◌||◌, false, take, drop}
 use Rattle.std.specs.List.{list_any, count_by}
-use Rattle.bx_names.specs.Segments.{is_slash}
-use Rattle.bx_names.specs.Faults.{is_bad_byte}
+use Rattle.bx_names.specs.Words.{is_slash, is_bad_byte}
 use Rattle.bx_names.proofs.WalkLemmas.{has_gap}
 use Rattle.bx_names.proofs.fault.findings_of.Given as goal
 

@@ -1,8 +1,6 @@
 use Rattle.std.proofs.Common.{◌++◌, codes, ap, sym, ◌∙◌}
-use Rattle.bx_names.specs.Globs.{glob_of}
-use Rattle.bx_names.specs.Segments.{segments}
-use Rattle.bx_names.proofs.PathLemmas.{path_from_absolute}
-use Rattle.bx_names.proofs.GlobLemmas.{glob_of-many_text, glob_of-one_text, glob_of-exact_text}
+use Rattle.bx_names.specs.Words.{glob_of, segments}
+use Rattle.bx_names.proofs.{PathLemmas.path_from_absolute, GlobLemmas.glob_of-many_text, GlobLemmas.glob_of-one_text, GlobLemmas.glob_of-exact_text}
 use Rattle.bx_names.proofs.fault.split_tail.Goals as goal
 
 pub returns-in-Some-clause-glob : goal.returns-in-Some-clause-glob

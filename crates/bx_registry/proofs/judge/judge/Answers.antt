@@ -5,12 +5,9 @@ use Rattle.bx_message.specs.declared.message_kind.MessageKind.{MessageKind}
 use Rattle.bx_message.specs.declared.reply.AckReply.TheVariants as replies
 use Rattle.bx_message.specs.MessageKinds.{message_kind_of, is_handshake}
 use Rattle.bx_message.specs.Replies.{reply_to}
-use Rattle.bx_entry.specs.Listing.{Posted}
-use Rattle.bx_entry.specs.Registry.{due_of, rider_by, sessionless_kind, named_by, kind_for, slot_for, hold_of}
+use Rattle.bx_entry.specs.Words.{Posted, due_of, rider_by, sessionless_kind, named_by, kind_for, slot_for, hold_of}
 use Rattle.bx_roster.specs.Live.{Members}
-use Rattle.bx_registry.specs.Postings.{posted_of}
-use Rattle.bx_registry.specs.Drafts.{members_of, named}
-use Rattle.bx_registry.specs.Judgements.{IsRidden, edit_for}
+use Rattle.bx_registry.specs.Words.{posted_of, members_of, named, IsRidden, edit_for}
 use Rattle.bx_registry.specs.declared.draft.Sender.{Sender}
 use Rattle.bx_registry.specs.declared.plan.Planned.TheVariants.{Ready}
 use Rattle.bx_registry.proofs.Judging.{IsFound, all_four, refused-verdict, opened-verdict, served-verdict, sessionless-verdict, found-known, found-client}

@@ -1,8 +1,6 @@
 use Rattle.std.proofs.Common.{◌≡◌, map, take}
 use Rattle.std.specs.Prelude.{filter, not}
-use Rattle.bx_names.specs.Globs.{glob_of}
-use Rattle.bx_names.specs.Kinds.{is_service}
-use Rattle.bx_names.specs.Segments.{segments}
+use Rattle.bx_names.specs.Words.{glob_of, is_service, segments}
 use Rattle.bx_registry.proofs.judge.patterns_of.Given as goal
 
 abbrev pub invariant-loop-text : goal.invariant-loop-text

@@ -4,14 +4,10 @@ use Rattle.std.proofs.lemmas.List.{drop_all, drop_more}
 use Rattle.bx_advice.specs.Limits.{greatest_moment}
 use Rattle.bx_message.specs.declared.message.Message.{Message}
 use Rattle.bx_message.specs.MessageKinds.{is_handshake, message_kind_of}
-use Rattle.bx_entry.specs.Listing.{Listed, Posted, listed_from, request}
+use Rattle.bx_entry.specs.Words.{Listed, Posted, listed_from, request, verdict}
 use Rattle.bx_entry.specs.declared.senders.Senders.{Senders}
 use Rattle.bx_roster.specs.Live.{Members}
-use Rattle.bx_registry.specs.Postings.{posted_of}
-use Rattle.bx_entry.specs.Registry.{verdict}
-use Rattle.bx_registry.specs.Rolls.{state_of}
-use Rattle.bx_registry.specs.Planners.{IsFoundAt, roll_between}
-use Rattle.bx_registry.specs.Drafts.{members_of}
+use Rattle.bx_registry.specs.Words.{posted_of, state_of, IsFoundAt, roll_between, members_of}
 use Rattle.bx_entry.proofs.RequestLemmas.{length-listed}
 use Rattle.bx_registry.proofs.Planning.{SoFar, after-request, all_planned, one_next}
 use Rattle.bx_registry.proofs.planner.plan_all.Goals as goal

@@ -1,17 +1,11 @@
 use Rattle.std.proofs.Common.{◌≡◌, ◌+◌, ℕ, List, codes, false, ap, drop, take, get_or, refl, sym, subst, ◌∙◌}
 use Rattle.std.proofs.lemmas.List.{take_more}
-use Rattle.std.specs.BTreeMap.{get}
-use Rattle.std.specs.Io.KnownBytes.{Appends}
-use Rattle.std.specs.Ordering.{nat_cmp}
+use Rattle.std.specs.{BTreeMap.get, Io.KnownBytes.Appends, Ordering.nat_cmp, Option.option_copied}
 use Rattle.bx_replay.specs.Kept.{held_texts}
-use Rattle.std.specs.Option.{option_copied}
 use Rattle.std.specs.Prelude.{IsSome, is_some}
-use Rattle.bx_replay.proofs.Fronts.{held_front, numbers_split}
-use Rattle.bx_replay.proofs.Keeping.{held_printed, held_same}
-use Rattle.bx_script.specs.Replay.{line_text}
+use Rattle.bx_replay.proofs.{Fronts.held_front, Fronts.numbers_split, Keeping.held_printed, Keeping.held_same, Ready.kept_at}
+use Rattle.bx_script.specs.Words.{line_text, written}
 use Rattle.bx_script.proofs.Fronts.{fault_writes}
-use Rattle.bx_replay.proofs.Ready.{kept_at}
-use Rattle.bx_script.specs.Output.{written}
 use Rattle.bx_replay.proofs.kept.print_held.Goals as goal
 
 pub loop-number-preserved : goal.loop-number-preserved

@@ -1,10 +1,7 @@
 use Rattle.std.proofs.Common.{List, take}
-use Rattle.std.specs.BTreeMap.{get}
-use Rattle.std.specs.Io.KnownBytes.{Appends}
-use Rattle.std.specs.Ordering.{nat_cmp}
+use Rattle.std.specs.{BTreeMap.get, Io.KnownBytes.Appends, Ordering.nat_cmp}
 use Rattle.bx_replay.specs.Kept.{AreKept, held_texts}
-use Rattle.bx_script.specs.Replay.{Numbered}
-use Rattle.bx_script.specs.Output.{written}
+use Rattle.bx_script.specs.Words.{Numbered, written}
 use Rattle.bx_replay.proofs.kept.print_held.Given as goal
 
 abbrev pub invariant-loop-number : goal.invariant-loop-number

@@ -1,14 +1,10 @@
 use Rattle.std.proofs.Common.{option_map, string_bytes, sym, ◌∙◌}
-use Rattle.std.specs.BTreeMap.{get, is_at}
-use Rattle.std.specs.Io.KnownBytes.{Appends}
-use Rattle.std.specs.Ordering.{nat_cmp}
-use Rattle.bx_script.specs.Replay.{result_text}
+use Rattle.std.specs.{BTreeMap.get, BTreeMap.is_at, Io.KnownBytes.Appends, Ordering.nat_cmp}
+use Rattle.bx_script.specs.Words.{result_text, written}
 use Rattle.bx_fanout.specs.Stages.{seen_out}
 use Rattle.bx_script.specs.Printing as script
-use Rattle.bx_replay.proofs.Keeping.{TicksAs, ok_of, on_ok_each, out_printed}
-use Rattle.bx_replay.proofs.Fronts.{out_front}
+use Rattle.bx_replay.proofs.{Keeping.TicksAs, Keeping.ok_of, Keeping.on_ok_each, Keeping.out_printed, Fronts.out_front}
 use Rattle.bx_script.proofs.Fronts.{writes_ok}
-use Rattle.bx_script.specs.Output.{written}
 use Rattle.bx_replay.proofs.kept.print_out.Goals as goal
 
 pub returns-clause-prints : goal.returns-clause-prints

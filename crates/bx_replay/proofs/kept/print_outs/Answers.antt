@@ -1,14 +1,11 @@
 use Rattle.std.proofs.Common.{◌≡◌, ◌+◌, ◌++◌, [], ℕ, List, drop, length, map, take, ap, sym, subst, append-nil, arith, ◌∙◌}
 use Rattle.std.proofs.Math.Seq.{take-length}
-use Rattle.std.specs.BTreeMap.{get}
-use Rattle.std.specs.Ordering.{nat_cmp}
+use Rattle.std.specs.{BTreeMap.get, Ordering.nat_cmp}
 use Rattle.bx_replay.specs.Kept.{AllKept, PrintsOuts, inputs_given}
-use Rattle.bx_replay.proofs.Keeping.{outs_more, outs_next, outs_none}
-use Rattle.bx_replay.proofs.Ready.{kept_less_one, next_kept, past_all}
+use Rattle.bx_replay.proofs.{Keeping.outs_more, Keeping.outs_next, Keeping.outs_none, Ready.kept_less_one, Ready.next_kept, Ready.past_all, Fronts.outs_front, Fronts.outs_split}
 use Rattle.bx_entry.specs.Runs as runs
 use Rattle.bx_fanout.specs.Stages.{seen_out}
 use Rattle.bx_fanout.specs.declared.out.Out.{Out}
-use Rattle.bx_replay.proofs.Fronts.{outs_front, outs_split}
 use Rattle.bx_script.specs.Output.{written}
 use Rattle.bx_replay.proofs.kept.print_outs.Goals as goal
 use Rattle.bx_fanout.proofs.TakingIn.{on-err}

@@ -1,10 +1,8 @@
 use Rattle.std.proofs.Common.{ℕ, List, ◌++◌, drop, map, take}
-use Rattle.std.specs.BTreeMap.{get}
-use Rattle.std.specs.Ordering.{nat_cmp}
+use Rattle.std.specs.{BTreeMap.get, Ordering.nat_cmp}
 use Rattle.bx_replay.specs.Kept.{AllKept, AreKept, PrintsOuts, inputs_given}
-use Rattle.bx_script.specs.Replay.{Numbered}
+use Rattle.bx_script.specs.Words.{Numbered, written}
 use Rattle.bx_fanout.specs.Stages.{seen_out}
-use Rattle.bx_script.specs.Output.{written}
 use Rattle.bx_replay.proofs.kept.print_outs.Given as goal
 
 abbrev pub invariant-loop-out : goal.invariant-loop-out

@@ -4,8 +4,7 @@ use Rattle.bx_fanout.specs.Rounds.{setup_in}
 use Rattle.bx_script.specs.declared.line.Line.{Line}
 use Rattle.bx_replay.proofs.Steps.{number_more, prints_more, prints_none, reads_end, reads_more, reads_none}
 use Rattle.bx_replay.proofs.Fronts.{prints_all, prints_some, whole_front}
-use Rattle.bx_script.specs.Output.{written}
-use Rattle.bx_script.specs.Lines.{unread}
+use Rattle.bx_script.specs.Words.{written, unread}
 use Rattle.bx_replay.proofs.script.answer_all.Goals as goal
 use Rattle.bx_fanout.proofs.TakingIn.{on-err}
 

@@ -1,8 +1,7 @@
 use Rattle.std.proofs.Common.{◌≡◌, ◌+◌, ◌≤◌, ◌^◌, []}
 use Rattle.bx_replay.specs.Serving.{Prints, Reads, Serves}
 use Rattle.bx_fanout.specs.Rounds.{setup_in}
-use Rattle.bx_script.specs.Output.{written}
-use Rattle.bx_script.specs.Lines.{reads_left, unread}
+use Rattle.bx_script.specs.Words.{written, reads_left, unread}
 use Rattle.bx_replay.proofs.script.answer_all.Given as goal
 
 abbrev pub invariant-loop-server : goal.invariant-loop-server

@@ -1,16 +1,13 @@
 use Rattle.std.proofs.Common.{◌≡◌, ℕ, List, refl, ap, sym, subst, ◌∙◌}
-use Rattle.std.specs.BTreeMap.{get}
-use Rattle.std.specs.Ordering.{nat_cmp}
-use Rattle.std.specs.Io.KnownBytes.{Appends}
+use Rattle.std.specs.{BTreeMap.get, Ordering.nat_cmp, Io.KnownBytes.Appends}
 use Rattle.bx_replay.specs.Kept.{held_texts}
 use Rattle.bx_replay.specs.Serving.{held_lines, seen_lines}
 use Rattle.bx_replay.proofs.Steps.{added_served, held_served}
-use Rattle.bx_script.specs.Replay.{inputs_from}
+use Rattle.bx_script.specs.Words.{inputs_from, written}
 use Rattle.bx_entry.specs.Runs.{held}
 use Rattle.bx_theory.specs.Lines.{inputs_in}
 use Rattle.bx_script.proofs.Fronts.{fault_writes, front_none, writes_all}
 use Rattle.bx_fanout.specs.Rounds.{added_by, inputs_of, setup_in}
-use Rattle.bx_script.specs.Output.{written}
 use Rattle.bx_replay.proofs.script.finish.Goals as goal
 
 pub print_held-requires : goal.print_held-requires

@@ -1,9 +1,7 @@
 use Rattle.std.proofs.Common.{◌∙◌}
 use Rattle.bx_fanout.specs.Rounds.{setup_in}
-use Rattle.bx_replay.proofs.Fronts.{fault_known, none_known, written_behind}
-use Rattle.bx_replay.proofs.Steps.{replayed}
-use Rattle.bx_script.specs.Output.{written}
-use Rattle.bx_script.specs.Lines.{unread}
+use Rattle.bx_replay.proofs.{Fronts.fault_known, Fronts.none_known, Fronts.written_behind, Steps.replayed}
+use Rattle.bx_script.specs.Words.{written, unread}
 use Rattle.bx_replay.proofs.script.replay.Goals as goal
 
 pub returns-in_err-own-clause-text : goal.returns-in_err-own-clause-text

@@ -1,16 +1,13 @@
 use Rattle.std.proofs.Common.{◌+◌, [], ℕ, codes, decimal, refl, ap, arith, sym, ◌∙◌}
-use Rattle.std.specs.BTreeMap.{get}
-use Rattle.std.specs.Ordering.{nat_cmp}
+use Rattle.std.specs.{BTreeMap.get, Ordering.nat_cmp}
 use Rattle.bx_replay.specs.Serving.{seen_lines, shards_after}
 use Rattle.bx_message.specs.Statuses.{code_of}
-use Rattle.bx_script.specs.Replay.{line_text}
+use Rattle.bx_script.specs.Words.{line_text, written}
 use Rattle.bx_fanout.specs.Rounds.{added_by, inputs_of, setup_in}
 use Rattle.bx_script.specs.declared.line.Line.{Line}
-use Rattle.bx_replay.proofs.Keeping.{appends_none}
+use Rattle.bx_replay.proofs.{Keeping.appends_none, Fronts.front_line, Fronts.handed_front}
 use Rattle.bx_replay.proofs.Steps.{added_served, served_line, served_same, few_served, handed_served, handed_prints, keeps_served, prints_bare}
-use Rattle.bx_replay.proofs.Fronts.{front_line, handed_front}
 use Rattle.bx_script.proofs.Fronts.{front_none}
-use Rattle.bx_script.specs.Output.{written}
 use Rattle.bx_replay.proofs.server.answer.Goals as goal
 use Rattle.bx_fanout.proofs.TakingIn.{on-err}
 

@@ -1,24 +1,17 @@
 use Rattle.std.proofs.Common.{◌≡◌, [], ◌∷◌, ◌++◌, List, map, option_map, string_bytes, refl, sym, ap, subst, ◌∙◌}
-use Rattle.std.specs.BTreeMap.{get, is_at}
-use Rattle.std.specs.Ordering.{nat_cmp}
+use Rattle.std.specs.{BTreeMap.get, BTreeMap.is_at, Ordering.nat_cmp}
 use Rattle.bx_replay.specs.Kept.{AllKept, PrintsOuts, inputs_given}
 use Rattle.bx_replay.specs.declared.kept.PendingLine.{PendingLine}
 use Rattle.bx_advice.specs.declared.config.Config.{Config}
-use Rattle.bx_script.specs.Replay.{Numbered}
-use Rattle.bx_entry.specs.Requests.{read_input}
-use Rattle.bx_entry.specs.Runs.{held, outs}
+use Rattle.bx_script.specs.Words.{Numbered, AppendsFront, numbered, written}
+use Rattle.bx_entry.specs.Words.{read_input, held, outs}
 use Rattle.bx_fanout.specs.Rounds.{added_by, inputs_of, setup_in}
 use Rattle.bx_fanout.specs.Stages.{seen_out}
 use Rattle.bx_fanout.specs.declared.out.Out.{Out}
 use Rattle.bx_theory.specs.Lines.{outs_text}
-use Rattle.bx_script.specs.Printing.{AppendsFront, numbered}
 use Rattle.bx_entry.specs.Runs as runs
 use Rattle.std.proofs.lemmas.Result.{on_err_weaker}
-use Rattle.bx_replay.proofs.Fronts.{hands_none}
-use Rattle.bx_replay.proofs.Keeping.{at_is, kept_last, kept_more, on_ok_both}
-use Rattle.bx_replay.proofs.Ready.{kept_front, kept_given}
-use Rattle.bx_replay.proofs.Steps.{ran}
-use Rattle.bx_script.specs.Output.{written}
+use Rattle.bx_replay.proofs.{Fronts.hands_none, Keeping.at_is, Keeping.kept_last, Keeping.kept_more, Keeping.on_ok_both, Ready.kept_front, Ready.kept_given, Steps.ran}
 use Rattle.bx_replay.proofs.server.hand.Goals as goal
 use Rattle.bx_fanout.proofs.TakingIn.{on-err}
 

@@ -1,6 +1,5 @@
 use Rattle.std.proofs.Common.{◌≡◌, ℕ, nat_eq, take, if◌then◌else◌}
-use Rattle.std.specs.List.{list_any}
-use Rattle.std.specs.Option.{option_or}
+use Rattle.std.specs.{List.list_any, Option.option_or}
 use Rattle.bx_connects.specs.Connects.{connect_at, known_as}
 use Rattle.bx_reshard.specs.Heirs.{SameSessions, connect_of, lent_as}
 use Rattle.bx_reshard.proofs.lending.lend_connects.Given as goal

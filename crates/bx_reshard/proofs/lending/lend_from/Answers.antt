@@ -1,14 +1,11 @@
 use Rattle.std.proofs.Common.{◌≡◌, ◌&&◌, ◌||◌, nat_eq, not, Bool, cond, is_some, Option, sym, ap, ◌∙◌, subst}
 use Rattle.std.proofs.lemmas.Map.Made.{is_some-lookup}
-use Rattle.std.specs.List.{list_any}
-use Rattle.std.specs.Option.{option_or}
+use Rattle.std.specs.{List.list_any, Option.option_or, Map.lookup}
 use Rattle.bx_connects.specs.declared.connects.ConnectState.{ConnectState}
 use Rattle.bx_connects.specs.Connects.{AreApart, connect_at, filing_at, hold_at, known_as}
-use Rattle.std.specs.Map.{lookup}
 use Rattle.bx_reshard.specs.Heirs.{connect_of, lent_as, patterns_at, kept_of}
 use Rattle.bx_shard.specs.Sessions.{patterns_in}
-use Rattle.bx_reshard.proofs.HeirLemmas.{on_ok}
-use Rattle.bx_reshard.proofs.MoveLemmas.{lent_at_both, some_mapped, unknown}
+use Rattle.bx_reshard.proofs.{HeirLemmas.on_ok, MoveLemmas.lent_at_both, MoveLemmas.some_mapped, MoveLemmas.unknown}
 use Rattle.bx_reshard.proofs.lending.lend_from.Goals as goal
 
 pub returns-clause-sessions : goal.returns-clause-sessions

@@ -1,9 +1,7 @@
 use Rattle.std.proofs.Common.{◌≡◌, ◌≤◌, ◌+◌, ◌++◌, ℕ, suc, List, [], ◌∷◌, length, map, sym, ap, ◌∙◌, subst, arith, vec_capacity, append_assoc}
 use Rattle.std.proofs.lemmas.List.{length_push, map-append}
-use Rattle.std.specs.Arc.{arc_value}
-use Rattle.std.specs.List.{All}
-use Rattle.bx_shard.specs.declared.sessions.Sessions.{Sessions}
-use Rattle.bx_shard.specs.declared.shard.Shard.{Shard}
+use Rattle.std.specs.{Arc.arc_value, List.All}
+use Rattle.bx_shard.specs.declared.{sessions.Sessions.Sessions, shard.Shard.Shard}
 use Rattle.bx_shard.specs.Sessions.{Fits}
 use Rattle.bx_reshard.specs.Making.{AreHandlesOf, AreMadeWith}
 use Rattle.bx_reshard.proofs.Made.{all_but_last, last_of_all, none_made, one_more_made}

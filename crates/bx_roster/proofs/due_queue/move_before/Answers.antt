@@ -1,6 +1,5 @@
 use Rattle.std.proofs.Common.{◌≡◌, ◌+◌, ◌<◌, ◌++◌, ◌∷◌, [], Bool, List, vec_capacity, vec_len, heap_items, heap_len, IsPermutation, ap, cond, sym, subst, ◌∙◌, arith, ℕ, refl, append_assoc, append-nil}
-use Rattle.std.proofs.lemmas.List.Sorted.{IsPermutation-pop_more, IsPermutation-refl}
-use Rattle.std.proofs.lemmas.List.Elements.{All-nil, All-push}
+use Rattle.std.proofs.lemmas.{List.Sorted.IsPermutation-pop_more, List.Sorted.IsPermutation-refl, List.Elements.All-nil, List.Elements.All-push}
 use Rattle.bx_roster.specs.Queues.{IsLateBy}
 use Rattle.bx_roster.specs.declared.due_queue.Due.{Due}
 use Rattle.bx_roster.proofs.due_queue.move_before.Goals as goal

@@ -2,8 +2,7 @@ use Rattle.std.proofs.Common.{rules, ◌≡◌, ◌++◌, ◌∷◌, [], List, l
 use Rattle.bx_entry.specs.Registry.{Registered}
 use Rattle.bx_roster.specs.Kept.{sessions_in}
 use Rattle.bx_roster.specs.declared.due_queue.Due.{Due}
-use Rattle.bx_roster.proofs.Dues.{filed-push, length-push}
-use Rattle.bx_roster.proofs.Filing.{sessions-push}
+use Rattle.bx_roster.proofs.{Dues.filed-push, Dues.length-push, Filing.sessions-push}
 use Rattle.bx_roster.proofs.roster.file_each.Goals as goal
 
 pub loop-record-preserved-in-Some-record : goal.loop-record-preserved-in-Some-record

@@ -1,8 +1,7 @@
 use Rattle.std.proofs.Common.{◌≡◌, ◌++◌, List, length}
 use Rattle.std.specs.Map.{values_of}
 use Rattle.bx_entry.specs.Registry.{Registered}
-use Rattle.bx_roster.specs.Kept.{sessions_in}
-use Rattle.bx_roster.specs.Queues.{AllFiled, entries}
+use Rattle.bx_roster.specs.Words.{sessions_in, AllFiled, entries}
 use Rattle.bx_roster.proofs.roster.file_each.Given as goal
 
 -- those that were looked at are filed, and behind them are those that are left

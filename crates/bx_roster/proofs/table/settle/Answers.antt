@@ -1,8 +1,6 @@
 use Rattle.std.proofs.Common.{◌≤◌, ◌∷◌, ap, refl, sym}
-use Rattle.std.proofs.lemmas.List.Elements.{All-cons}
-use Rattle.std.proofs.lemmas.List.Sorted.{All-permutation}
-use Rattle.bx_roster.specs.Live.{with_live}
-use Rattle.bx_roster.specs.Queues.{entries}
+use Rattle.std.proofs.lemmas.{List.Elements.All-cons, List.Sorted.All-permutation}
+use Rattle.bx_roster.specs.Words.{with_live, entries}
 use Rattle.bx_roster.specs.declared.due_queue.Due.{Due}
 use Rattle.bx_roster.proofs.Dues.{filed-permuted, filed-moved, filed-gone, filed-absent, entries-filed, closed-swept, none-absent}
 use Rattle.bx_roster.proofs.table.settle.Goals as goal

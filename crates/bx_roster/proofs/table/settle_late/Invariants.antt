@@ -1,7 +1,6 @@
 use Rattle.std.proofs.Common.{◌≡◌, length}
 use Rattle.bx_entry.specs.Registry.{swept}
-use Rattle.bx_roster.specs.Live.{live_in, with_live}
-use Rattle.bx_roster.specs.Queues.{AllFiled, IsFrom, IsRoster, entries}
+use Rattle.bx_roster.specs.Words.{live_in, with_live, AllFiled, IsFrom, IsRoster, entries}
 use Rattle.bx_roster.proofs.table.settle_late.Given as goal
 
 abbrev pub invariant-loop-due : goal.invariant-loop-due

@@ -1,7 +1,5 @@
 use Rattle.std.proofs.Common.{◌∙◌}
-use Rattle.std.proofs.lemmas.Iterator.{YieldsList-from_take}
-use Rattle.std.proofs.lemmas.Iterator.Adapters.{YieldsList-from_skip}
-use Rattle.std.proofs.lemmas.Iterator.Consumers.{YieldsList-end, YieldsList-from_deque}
+use Rattle.std.proofs.lemmas.{Iterator.YieldsList-from_take, Iterator.Adapters.YieldsList-from_skip, Iterator.Consumers.YieldsList-end, Iterator.Consumers.YieldsList-from_deque}
 use Rattle.std.specs.VecDeque.Iter.{deque_iter_rest}
 use Rattle.bx_session.proofs.session.clone_part.Goals as goal
 

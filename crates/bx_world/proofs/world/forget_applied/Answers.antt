@@ -1,6 +1,5 @@
 use Rattle.std.proofs.Common.{◌≡◌, ℕ, Some, true, slice_get, sym, subst}
-use Rattle.bx_world.specs.Admissions.{Admitting}
-use Rattle.bx_world.specs.Refining.{some_stands_at}
+use Rattle.bx_world.specs.Words.{Admitting, some_stands_at}
 use Rattle.bx_world.proofs.Slowest.{greatest_of, stands_there}
 use Rattle.bx_world.proofs.world.forget_applied.Goals as goal
 

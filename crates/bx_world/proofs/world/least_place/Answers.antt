@@ -1,6 +1,5 @@
 use Rattle.std.proofs.Common.{◌≡◌, ◌<◌, ◌≤◌, Some, slice_get, length, min, refl, sym, ap, ◌∙◌, arith, ⊎_elim}
-use Rattle.std.proofs.lemmas.Bool.{cases_lt}
-use Rattle.std.proofs.lemmas.Option.{slice_get_read, slice_get_within}
+use Rattle.std.proofs.lemmas.{Bool.cases_lt, Option.slice_get_read, Option.slice_get_within}
 use Rattle.bx_shard.specs.declared.shard.Shard.{Shard}
 use Rattle.bx_world.proofs.Slowest.{least_of}
 use Rattle.bx_world.proofs.world.least_place.Goals as goal

@@ -1,13 +1,10 @@
 use Rattle.std.proofs.Common.{◌≡◌, ℕ, ◌++◌, List, map, sym, ap, ◌∙◌, subst}
 use Rattle.bx_entry.specs.Listing.{Listed, request}
-use Rattle.bx_registry.specs.Changes.{changed}
-use Rattle.bx_registry.specs.Plans.{entries_in}
-use Rattle.bx_registry.specs.Rolls.{Roll, after, found}
+use Rattle.bx_registry.specs.Words.{changed, entries_in, Roll, after, found}
 use Rattle.bx_admission.specs.Ledgers.{Ledger, roll_at}
 use Rattle.bx_admission.specs.Slots.{admitted_slots, placed_by, placed_slot}
 use Rattle.bx_admission.specs.declared.plan.Plan.{Plan}
-use Rattle.bx_admission.proofs.Planning.{continues}
-use Rattle.bx_admission.proofs.Slotting.{slots_by}
+use Rattle.bx_admission.proofs.{Planning.continues, Slotting.slots_by}
 use Rattle.bx_admission.proofs.ledger.Ledger.plan.Goals as goal
 
 pub returns-clause-continues : goal.returns-clause-continues

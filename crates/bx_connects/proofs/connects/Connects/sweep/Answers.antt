@@ -1,8 +1,6 @@
 use Rattle.std.proofs.Common.{rules, arith, ◌≡◌, ap, refl, ◌∙◌, length, not, nat_lt, ℕ, List, Option, Some, None, Bool, true, false, cond}
-use Rattle.bx_connects.specs.declared.connects.FiledAnswer.{FiledAnswer}
-use Rattle.bx_connects.specs.declared.held.HeldConnect.{HeldConnect}
-use Rattle.std.proofs.lemmas.List.Filters.{length-filter_both}
-use Rattle.std.proofs.lemmas.Map.Entries.{lookup-filter-values, option_filter}
+use Rattle.bx_connects.specs.declared.{connects.FiledAnswer.FiledAnswer, held.HeldConnect.HeldConnect}
+use Rattle.std.proofs.lemmas.{List.Filters.length-filter_both, Map.Entries.lookup-filter-values, Map.Entries.option_filter}
 use Rattle.std.specs.Cmp.{nat_eq_equiv}
 use Rattle.indexmap.proofs.CallerLemmas.{filter-RetainsPairs}
 use Rattle.bx_connects.specs.Connects.{KnownConnects, connect_at, count_filed_below, filing_at, hold_at, is_both, kept_from, state_by, swept, unswept}

@@ -1,8 +1,6 @@
 use Rattle.std.proofs.Common.{rules, ap, sym, ◌∙◌, option_map}
-use Rattle.bx_connects.specs.Connects.{hold_at, unwatched_hold}
-use Rattle.bx_connects.specs.Deadlines.{is_held_until}
-use Rattle.bx_connects.proofs.ConnectLemmas.{lookup-turned}
-use Rattle.bx_connects.proofs.HoldLemmas.{unwatched_still}
+use Rattle.bx_connects.specs.Words.{hold_at, unwatched_hold, is_held_until}
+use Rattle.bx_connects.proofs.{ConnectLemmas.lookup-turned, HoldLemmas.unwatched_still}
 use Rattle.bx_connects.proofs.held.HeldConnects.unwatch_all.Goals as goal
 
 pub invariant_of-self : goal.invariant_of-self

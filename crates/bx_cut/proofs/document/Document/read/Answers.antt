@@ -1,13 +1,10 @@
 use Rattle.std.proofs.Common.{◌≡◌, ℕ, List, Option, Some, Result, Ok, Err, sym, ap, ◌∙◌, subst}
 use Rattle.std.specs.Result.{IfErr, IsErrAnd}
 use Rattle.serde_json.specs.Read.{read}
-use Rattle.bx_cut.specs.Faults.{fault, value_fault}
+use Rattle.bx_cut.specs.Words.{fault, value_fault, ArePiecesOf, LieIn, Object}
 use Rattle.bx_cut.specs.declared.error.CutError.{CutError}
 use Rattle.bx_cut.specs.declared.error.CutError.TheVariants.{Memory}
-use Rattle.bx_cut.proofs.Checks.{fault-text, fault-no_text}
-use Rattle.bx_cut.proofs.Laws.{pieces_read, pieces_lie}
-use Rattle.bx_cut.specs.Laws.{ArePiecesOf, LieIn}
-use Rattle.bx_cut.specs.Pieces.{Object}
+use Rattle.bx_cut.proofs.{Checks.fault-text, Checks.fault-no_text, Laws.pieces_read, Laws.pieces_lie}
 use Rattle.bx_cut.proofs.document.Document.read.Goals as goal
 
 passed : {T : Type 0} (r : Result T CutError) (x : CutError) (o : Option CutError) → IsErrAnd r (λ e. e ≡ x) → ((x ≡ Memory → ⊥) → o ≡ Some x) → IfErr r (λ e. (e ≡ Memory → ⊥) → o ≡ Some e)

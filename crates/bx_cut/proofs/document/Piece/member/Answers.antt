@@ -1,8 +1,7 @@
 use Rattle.std.proofs.Common.{◌≡◌, ℕ, ◌+◌, cond, List, [], ◌∷◌, ◌++◌, Bool, Some, option_map, map, take, get_or, sym, ap, ◌∙◌, arith}
 use Rattle.std.proofs.lemmas.List.{map-append, take_more, take_all}
 use Rattle.std.specs.Borrow.{Bor}
-use Rattle.bx_cut.specs.Pieces.{Object, last_member}
-use Rattle.bx_cut.specs.Views.{member_view}
+use Rattle.bx_cut.specs.Words.{Object, last_member, member_view}
 use Rattle.bx_cut.specs.declared.split.Member as code
 use Rattle.bx_cut.proofs.Names.{one_more}
 use Rattle.bx_cut.proofs.document.Piece.member.Goals as goal

@@ -1,7 +1,6 @@
 use Rattle.std.proofs.Common.{◌≡◌, ℕ, List, map, option_map, take}
 use Rattle.std.specs.Borrow.{Bor}
-use Rattle.bx_cut.specs.Pieces.{last_member}
-use Rattle.bx_cut.specs.Views.{member_view}
+use Rattle.bx_cut.specs.Words.{last_member, member_view}
 use Rattle.bx_cut.proofs.document.Piece.member.Given as goal
 
 abbrev pub invariant-loop-member : goal.invariant-loop-member

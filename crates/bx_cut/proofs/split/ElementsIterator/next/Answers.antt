@@ -1,8 +1,6 @@
 use Rattle.std.proofs.Common.{◌≡◌, ℕ, List, [], ◌∷◌, sym, ap, refl, ◌∙◌, rules}
-use Rattle.bx_cut.specs.Cut.{first_and_more, listed, past_byte, split_value}
-use Rattle.bx_cut.specs.Pieces.{elements_inside}
-use Rattle.bx_cut.proofs.Names.{rest_or_nothing, then_elements}
-use Rattle.bx_cut.proofs.Lists.{turn, listed-none, Shortens-split_value}
+use Rattle.bx_cut.specs.Words.{first_and_more, listed, past_byte, split_value, elements_inside}
+use Rattle.bx_cut.proofs.{Names.rest_or_nothing, Names.then_elements, Lists.turn, Lists.listed-none, Lists.Shortens-split_value}
 use Rattle.bx_cut.proofs.split.ElementsIterator.next.Goals as goal
 
 pub returns-in_err-element-clause-steps : goal.returns-in_err-element-clause-steps

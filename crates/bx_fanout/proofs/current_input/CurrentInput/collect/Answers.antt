@@ -1,6 +1,5 @@
 use Rattle.std.proofs.Common.{◌≡◌, ◌<◌, ◌+◌, ◌++◌, ◌∷◌, [], ◌∙◌, arith, ap, length, List, refl, subst, sym}
-use Rattle.std.proofs.lemmas.Grind.{common_steps}
-use Rattle.std.proofs.lemmas.List.{length_push}
+use Rattle.std.proofs.lemmas.{Grind.common_steps, List.length_push}
 use Rattle.bx_message.specs.declared.reply.Answer.{Answer}
 use Rattle.bx_shard.specs.Shards.{Setup}
 use Rattle.bx_world.specs.Seen.{setup_of, world_of}

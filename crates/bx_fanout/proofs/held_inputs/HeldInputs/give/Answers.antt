@@ -1,7 +1,5 @@
 use Rattle.std.proofs.Common.{ap, sym, ◌∙◌, arith, List, length, filter}
-use Rattle.std.proofs.lemmas.List.Filters.{dedup_is}
-use Rattle.std.proofs.lemmas.List.Sums.{length-filter}
-use Rattle.std.proofs.lemmas.Result.{on_ok_weaker}
+use Rattle.std.proofs.lemmas.{List.Filters.dedup_is, List.Sums.length-filter, Result.on_ok_weaker}
 use Rattle.bx_fanout.specs.HeldInputs.{Row, waits}
 use Rattle.bx_fanout.proofs.Giving.{all-wait, marked-turned, marks-in-order}
 use Rattle.bx_fanout.proofs.held_inputs.HeldInputs.give.Goals as goal

@@ -1,9 +1,7 @@
 use Rattle.std.proofs.Common.{◌≡◌, ◌∙◌, ◌++◌, ◌∷◌, [], false, true, Global, List, Vec, ap, filter, map, subst, sym, ℕ}
 use Rattle.bx_entry.specs.Requests.{read_input}
 use Rattle.bx_world.specs.Seen.{setup_of, world_of}
-use Rattle.bx_fanout.specs.HeldInputs.{numbers, waits}
-use Rattle.bx_fanout.specs.Runs.{AreHeldBefore}
-use Rattle.bx_fanout.specs.Stages.{is_collecting, seen_out}
+use Rattle.bx_fanout.specs.Words.{numbers, waits, AreHeldBefore, is_collecting, seen_out}
 use Rattle.bx_fanout.proofs.Holding.{held-before, held-none, held-some}
 use Rattle.bx_fanout.proofs.round.Round.held.Goals.{in-Some+in_ok-push, in_default}
 use Rattle.bx_fanout.proofs.round.Round.held.Goals as goal

@@ -3,8 +3,7 @@ use Rattle.std.proofs.lemmas.Result.{IfOk-weaker}
 use Rattle.bx_admission.proofs.Faults.{planned_taken}
 use Rattle.bx_admission.specs.Ledgers.{Ledger}
 use Rattle.bx_admission.specs.Slots.{placed_by}
-use Rattle.bx_entry.specs.Inputs.{ReadInput, Request, added_by, refusal_of}
-use Rattle.bx_entry.specs.Listing.{Listed}
+use Rattle.bx_entry.specs.Words.{ReadInput, Request, added_by, refusal_of, Listed}
 use Rattle.bx_entry.proofs.RequestLemmas.{length-listed}
 use Rattle.bx_window.specs.Steps.{list_of}
 use Rattle.bx_hub.specs.Posts.{AreSlotsAt, IsAdmittedAt}

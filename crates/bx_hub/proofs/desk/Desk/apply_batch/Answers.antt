@@ -1,7 +1,6 @@
 use Rattle.std.proofs.Common.{rules, ◌≡◌, ◌≤◌, ◌∙◌, sym, arith}
 use Rattle.bx_connects.proofs.WakingLemmas.{woken_onwards}
-use Rattle.bx_shard.specs.Seen.{state}
-use Rattle.bx_shard.specs.States.{connect_in}
+use Rattle.bx_shard.specs.Words.{state, connect_in}
 use Rattle.bx_hub.proofs.desk.Desk.apply_batch.Goals as goal
 
 pub returns-in_err-step-clause-woken : goal.returns-in_err-step-clause-woken

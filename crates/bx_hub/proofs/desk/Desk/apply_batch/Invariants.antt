@@ -1,7 +1,6 @@
 use Rattle.std.proofs.Common.{◌≡◌, ◌≤◌, ◌-◌}
 use Rattle.bx_connects.specs.Waking.{AreWoken}
-use Rattle.bx_shard.specs.Seen.{state}
-use Rattle.bx_shard.specs.States.{connect_in}
+use Rattle.bx_shard.specs.Words.{state, connect_in}
 use Rattle.bx_hub.proofs.desk.Desk.apply_batch.Given as goal
 
 abbrev pub invariant-loop-place : goal.invariant-loop-place

@@ -1,6 +1,5 @@
 use Rattle.std.proofs.Common.{◌≡◌, ◌≤◌, ◌∙◌, List, length, ap, arith}
-use Rattle.bx_shard.specs.Seen.{state}
-use Rattle.bx_shard.specs.States.{connect_in}
+use Rattle.bx_shard.specs.Words.{state, connect_in}
 use Rattle.bx_window.specs.Steps.{list_of}
 use Rattle.bx_window.specs.declared.law.Step.{Step}
 use Rattle.bx_hub.proofs.Waking.{woken_along}

@@ -1,8 +1,7 @@
 use Rattle.std.proofs.Common.{[], ℕ, List, Bool, nat_eq, sym, ap, subst, arith}
 use Rattle.bx_admission.specs.Slots.{placed_by}
-use Rattle.bx_shard.specs.Seen.{state}
+use Rattle.bx_shard.specs.Words.{state, connect_in}
 use Rattle.bx_connects.specs.Connects.{filed_answer}
-use Rattle.bx_shard.specs.States.{connect_in}
 use Rattle.bx_hub.specs.Held.{Stands}
 use Rattle.bx_hub.proofs.Held.{held, stands_of, stands_taken, stands_untaken, own_filed, some_filed, filed_told, prefix_taken}
 use Rattle.bx_hub.proofs.desk.Desk.take.Goals as goal

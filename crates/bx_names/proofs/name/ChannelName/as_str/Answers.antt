@@ -1,7 +1,6 @@
 use Rattle.std.proofs.Common.{sym, ap, ◌∙◌, string_bytes}
 use Rattle.bx_names.specs.Segments.{segments, path_of}
-use Rattle.bx_names.proofs.PathLemmas.{path_of-segments, path_from_absolute}
-use Rattle.bx_names.proofs.FaultLemmas.{sound_text}
+use Rattle.bx_names.proofs.{PathLemmas.path_of-segments, PathLemmas.path_from_absolute, FaultLemmas.sound_text}
 use Rattle.bx_names.proofs.name.ChannelName.as_str.Goals as goal
 
 pub returns-clause-text : goal.returns-clause-text

@@ -1,10 +1,7 @@
 use Rattle.std.proofs.Common.{◌≡◌, string_bytes}
 use Rattle.std.specs.Bool.{Decides, one_answer}
-use Rattle.bx_names.specs.Segments.{segments}
-use Rattle.bx_names.specs.Globs.{same_segments}
-use Rattle.bx_names.specs.Equality.{same_segments-decides}
-use Rattle.bx_names.proofs.PathLemmas.{path_from_absolute, texts-decide}
-use Rattle.bx_names.proofs.FaultLemmas.{sound_text}
+use Rattle.bx_names.specs.Words.{segments, same_segments, same_segments-decides}
+use Rattle.bx_names.proofs.{PathLemmas.path_from_absolute, PathLemmas.texts-decide, FaultLemmas.sound_text}
 use Rattle.bx_names.proofs.name.ChannelNamePartialEq.eq.Goals as goal
 use Rattle.bx_names.proofs.name.ChannelNamePartialEq.eq.Goals.{After-eq}
 

@@ -1,9 +1,6 @@
 use Rattle.std.proofs.Common.{sym, ap, ◌∙◌, string_bytes}
-use Rattle.bx_names.specs.Segments.{segments}
-use Rattle.bx_names.specs.Globs.{glob_of, glob_text}
-use Rattle.bx_names.proofs.PathLemmas.{path_of-segments, path_from_absolute}
-use Rattle.bx_names.proofs.GlobLemmas.{glob_text-glob_of}
-use Rattle.bx_names.proofs.FaultLemmas.{sound_text}
+use Rattle.bx_names.specs.Words.{segments, glob_of, glob_text}
+use Rattle.bx_names.proofs.{PathLemmas.path_of-segments, PathLemmas.path_from_absolute, GlobLemmas.glob_text-glob_of, FaultLemmas.sound_text}
 use Rattle.bx_names.proofs.pattern.Pattern.as_str.Goals as goal
 
 pub returns-clause-text : goal.returns-clause-text

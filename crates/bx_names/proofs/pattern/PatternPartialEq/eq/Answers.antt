@@ -1,11 +1,7 @@
 use Rattle.std.proofs.Common.{◌≡◌, string_bytes}
 use Rattle.std.specs.Bool.{Decides, one_answer}
-use Rattle.bx_names.specs.Segments.{segments}
-use Rattle.bx_names.specs.Globs.{glob_of, same_glob}
-use Rattle.bx_names.specs.Equality.{same_glob-decides}
-use Rattle.bx_names.proofs.PathLemmas.{path_from_absolute}
-use Rattle.bx_names.proofs.GlobLemmas.{texts-decide}
-use Rattle.bx_names.proofs.FaultLemmas.{sound_text}
+use Rattle.bx_names.specs.Words.{segments, glob_of, same_glob, same_glob-decides}
+use Rattle.bx_names.proofs.{PathLemmas.path_from_absolute, GlobLemmas.texts-decide, FaultLemmas.sound_text}
 use Rattle.bx_names.proofs.pattern.PatternPartialEq.eq.Goals as goal
 use Rattle.bx_names.proofs.pattern.PatternPartialEq.eq.Goals.{After-eq}
 

@@ -1,7 +1,6 @@
 use Rattle.std.proofs.Common.{List, fold, ap, sym, ◌∙◌}
 use Rattle.std.proofs.lemmas.List.{take_all}
-use Rattle.bx_roster.specs.Live.{Members}
-use Rattle.bx_roster.specs.Tables.{known_at}
+use Rattle.bx_roster.specs.Words.{Members, known_at}
 use Rattle.bx_roster.specs.declared.edit.Edit.{Edit}
 use Rattle.bx_registry.specs.Drafts.{Drafted, known_after, members_of}
 use Rattle.bx_registry.proofs.Drafting.{known_at-all}

@@ -3,8 +3,7 @@ use Rattle.std.specs.Prelude.{Option, Some, None}
 use Rattle.std.proofs.lemmas.Slice.Eq.{bytes_eq-Decides}
 use Rattle.bx_entry.specs.Registry.{live_with_id}
 use Rattle.bx_roster.specs.Tables.{known_at}
-use Rattle.bx_registry.specs.Ids.{number_in}
-use Rattle.bx_registry.specs.Drafts.{Drafted, IsDrafted, IsSender, members_of}
+use Rattle.bx_registry.specs.Words.{number_in, Drafted, IsDrafted, IsSender, members_of}
 use Rattle.bx_registry.proofs.Digits.{Finds, finds}
 use Rattle.bx_registry.proofs.draft.Draft.live_with_id.Goals as goal
 

@@ -1,7 +1,6 @@
 use Rattle.std.proofs.Common.{ℕ, ◌<◌, List, length, fold, ap, sym, subst, ◌∙◌, arith}
 use Rattle.bx_entry.specs.Registry.{Registered}
-use Rattle.bx_roster.specs.Live.{Members}
-use Rattle.bx_roster.specs.Edits.{edited, CanEdit, IsNext}
+use Rattle.bx_roster.specs.Words.{Members, edited, CanEdit, IsNext}
 use Rattle.bx_roster.specs.declared.edit.Edit.{Edit}
 use Rattle.bx_registry.specs.Drafts.{Drafted, IsDrafted, members_of}
 use Rattle.bx_registry.proofs.Drafting.{limit-same, pushed-open, pushed-extend, pushed-close}

@@ -1,7 +1,6 @@
 use Rattle.std.proofs.Common.{sym, subst}
 use Rattle.bx_entry.specs.declared.senders.Senders.TheVariants.{NoneYet}
-use Rattle.bx_registry.specs.Rolls.{Roll}
-use Rattle.bx_registry.specs.Changes.{Amendment, IsPlannedAt, Standing}
+use Rattle.bx_registry.specs.Words.{Roll, Amendment, IsPlannedAt, Standing}
 use Rattle.bx_registry.proofs.Planning.{planned-within}
 use Rattle.bx_registry.proofs.registry.Registry.commit.Goals as goal
 

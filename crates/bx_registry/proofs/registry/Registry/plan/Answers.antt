@@ -3,15 +3,12 @@ use Rattle.std.specs.Prelude.{◌==◌}
 use Rattle.bx_advice.specs.Limits.{greatest_length}
 use Rattle.bx_entry.specs.Listing.{Listed, request}
 use Rattle.bx_entry.specs.declared.senders.Senders.TheVariants.{NoneYet}
-use Rattle.bx_roster.specs.Live.{Members}
-use Rattle.bx_roster.specs.Edits.{opened_by_each, room_of}
+use Rattle.bx_roster.specs.Words.{Members, opened_by_each, room_of}
 use Rattle.bx_roster.specs.declared.edit.Edit.{Edit}
 use Rattle.bx_roster.specs.declared.edit.Edits.TheVariants.{Each}
-use Rattle.bx_registry.specs.Rolls.{Roll}
-use Rattle.bx_registry.specs.Changes.{IsPlannedAt, Standing}
+use Rattle.bx_registry.specs.Words.{Roll, IsPlannedAt, Standing}
 use Rattle.bx_entry.proofs.RequestLemmas.{length-listed}
-use Rattle.bx_registry.proofs.Opening.{few-opened}
-use Rattle.bx_registry.proofs.Planning.{admitted, planned-at, planned-after}
+use Rattle.bx_registry.proofs.{Opening.few-opened, Planning.admitted, Planning.planned-at, Planning.planned-after}
 use Rattle.bx_registry.proofs.registry.Registry.plan.Goals as goal
 
 pub returns-clause-planned : goal.returns-clause-planned

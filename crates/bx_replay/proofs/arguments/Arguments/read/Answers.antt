@@ -1,7 +1,6 @@
 use Rattle.std.proofs.Common.{◌≡◌, ℕ, List, map, length, arith}
 use Rattle.std.specs.Prelude.{None, string_bytes}
-use Rattle.std.proofs.lemmas.Bool.{ltb-true, ltb-false}
-use Rattle.std.proofs.lemmas.List.{length-map}
+use Rattle.std.proofs.lemmas.{Bool.ltb-true, Bool.ltb-false, List.length-map}
 use Rattle.bx_replay.specs.Settings.{settings_in}
 use Rattle.bx_replay.proofs.Words.{few, many}
 use Rattle.bx_replay.proofs.arguments.Arguments.read.Goals.{in_default-via-then-words-lt5, in_default-via-else-words-lt5+else-words-lt6+else-words-lt7+else-words-lt8}

@@ -1,6 +1,5 @@
 use Rattle.std.proofs.Common.{◌≡◌, ◌+◌, ℕ, List, [], ◌∷◌, ◌++◌, length, sym, ap, ◌∙◌, subst}
-use Rattle.std.proofs.lemmas.List.{length_push}
-use Rattle.std.proofs.lemmas.List.Elements.{All-append, All-cons, All-nil}
+use Rattle.std.proofs.lemmas.{List.length_push, List.Elements.All-append, List.Elements.All-cons, List.Elements.All-nil}
 use Rattle.std.specs.List.{All}
 use Rattle.bx_tree.specs.Patterns.{patterns_of}
 use Rattle.bx_shard.specs.declared.sessions.Sessions.{Sessions}

@@ -1,6 +1,5 @@
 use Rattle.std.proofs.Common.{◌≤◌, length, sym, subst, arith}
-use Rattle.bx_roster.specs.Live.{Prepared}
-use Rattle.bx_roster.specs.Queues.{entries}
+use Rattle.bx_roster.specs.Words.{Prepared, entries}
 use Rattle.bx_roster.proofs.Filing.{all-filed, few-kept}
 use Rattle.bx_roster.proofs.roster.Roster.file_all.Goals as goal
 

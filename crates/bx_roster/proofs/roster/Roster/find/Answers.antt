@@ -1,7 +1,6 @@
 use Rattle.std.proofs.Common.{Some, sym, ap, ◌∙◌}
 use Rattle.std.specs.Option.{option_map}
-use Rattle.bx_roster.specs.Tables.{known_of}
-use Rattle.bx_roster.specs.Kept.{session_of}
+use Rattle.bx_roster.specs.Words.{known_of, session_of}
 use Rattle.bx_roster.proofs.Kept.{known-kept, due-kept}
 use Rattle.bx_roster.proofs.roster.Roster.find.Goals as goal
 

@@ -1,7 +1,6 @@
 use Rattle.std.proofs.Common.{◌≡◌, ◌+◌, ◌<◌, length, Some, is_some, sym, ap, subst, ◌∙◌, arith}
 use Rattle.bx_entry.specs.Registry.{Registered}
-use Rattle.bx_roster.specs.Live.{Prepared}
-use Rattle.bx_roster.specs.Kept.{sessions_to}
+use Rattle.bx_roster.specs.Words.{Prepared, sessions_to}
 use Rattle.bx_roster.proofs.Kept.{under, made, changed-by, opened-kept, opened-live, opened-next, kept-roster}
 use Rattle.bx_roster.proofs.roster.Roster.open.Goals as goal
 

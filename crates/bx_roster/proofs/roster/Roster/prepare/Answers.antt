@@ -1,7 +1,6 @@
 use Rattle.std.proofs.Common.{◌+◌, ℕ, cond, List, length, Option, Some, None, is_some, refl, sym, ap, subst, ◌∙◌}
 use Rattle.bx_entry.specs.Registry.{Registered}
-use Rattle.bx_roster.specs.Live.{with_live}
-use Rattle.bx_roster.specs.Kept.{IsKept}
+use Rattle.bx_roster.specs.Words.{with_live, IsKept}
 use Rattle.bx_roster.proofs.Kept.{under, changed-by, prepared-kept, prepared-same, prepared-size}
 use Rattle.bx_roster.proofs.roster.Roster.prepare.Goals as goal
 

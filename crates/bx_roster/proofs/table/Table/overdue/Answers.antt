@@ -1,10 +1,8 @@
 use Rattle.std.proofs.Common.{ap, ◌∙◌, arith}
 use Rattle.std.proofs.lemmas.List.Filters.{dedup_is}
 use Rattle.bx_entry.specs.Registry.{overdue}
-use Rattle.bx_roster.specs.Live.{Members, Prepared}
-use Rattle.bx_roster.specs.Queues.{entries, past_numbers}
-use Rattle.bx_roster.proofs.Dues.{filed-permuted}
-use Rattle.bx_roster.proofs.Past.{past-overdue}
+use Rattle.bx_roster.specs.Words.{Members, Prepared, entries, past_numbers}
+use Rattle.bx_roster.proofs.{Dues.filed-permuted, Past.past-overdue}
 use Rattle.bx_roster.proofs.table.Table.overdue.Goals as goal
 
 pub invariant_of-self : goal.invariant_of-self

@@ -1,6 +1,5 @@
 use Rattle.std.proofs.Common.{◌≡◌, true, subst, ap, ◌∙◌, rules}
-use Rattle.bx_script.specs.Replay.{line_of}
-use Rattle.bx_script.specs.Reading.{ReadsLine}
+use Rattle.bx_script.specs.Words.{line_of, ReadsLine}
 use Rattle.bx_script.proofs.Script.{is_next}
 use Rattle.bx_script.proofs.lines.Lines.next_line.Goals as goal
 

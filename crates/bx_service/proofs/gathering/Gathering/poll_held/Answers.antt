@@ -3,8 +3,7 @@ use Rattle.std.specs.Vec.Iter.{into_iter_items}
 use Rattle.bx_admission.specs.Slots.{placed_by}
 use Rattle.bx_held.specs.Outputs.{MayGive}
 use Rattle.bx_held.specs.declared.fault.HeldFault.{HeldFault}
-use Rattle.bx_message.specs.declared.reply.Answer.{Answer}
-use Rattle.bx_message.specs.declared.reply.Item.{Item}
+use Rattle.bx_message.specs.declared.reply.{Answer.Answer, Item.Item}
 use Rattle.bx_service.specs.Gatherings.{AreAll}
 use Rattle.bx_service.proofs.GatheringLemmas.{all_given, all_awaited}
 use Rattle.bx_service.proofs.gathering.Gathering.poll_held.Goals as goal

@@ -1,7 +1,6 @@
 use Rattle.std.proofs.Common.{rules, ap, ◌∙◌}
 use Rattle.std.specs.Option.{option_to_list}
-use Rattle.bx_entry.specs.Keeping.{Kept, after}
-use Rattle.bx_entry.specs.Sessions.{admitted}
+use Rattle.bx_entry.specs.Words.{Kept, after, admitted}
 use Rattle.bx_session.proofs.ConnectLemmas.{connected_answers, connected_kept}
 use Rattle.bx_session.proofs.session.Session.connect.Goals as goal
 

@@ -1,9 +1,8 @@
 use Rattle.std.proofs.Common.{rules, ◌≡◌, IfOk, List, subst}
 use Rattle.std.specs.VecDeque.Iter.{deque_iter_rest}
 use Rattle.bx_message.specs.declared.event.Event.{Event}
-use Rattle.bx_entry.specs.Answers.{events_of}
+use Rattle.bx_entry.specs.Words.{events_of, resumed}
 use Rattle.bx_entry.specs.Sessions.{Publication, acknowledged, given}
-use Rattle.bx_entry.specs.Keeping.{resumed}
 use Rattle.bx_session.proofs.ConnectLemmas.{part_events}
 use Rattle.bx_session.proofs.session.Session.events_for.Goals as goal
 

@@ -3,8 +3,7 @@ use Rattle.std.specs.List.{list_any}
 use Rattle.std.proofs.lemmas.List.{take_all}
 use Rattle.bx_connects.specs.Connects.{connect_at}
 use Rattle.bx_connects.proofs.WakingLemmas.{woken_onwards, woken_still}
-use Rattle.bx_shard.specs.Sessions.{kept_in}
-use Rattle.bx_shard.specs.States.{let_go}
+use Rattle.bx_shard.specs.Words.{kept_in, let_go}
 use Rattle.bx_shard.proofs.Closing.{closing_parts, gone_more, let_go_more, let_go_none, parted_from}
 use Rattle.bx_shard.proofs.sessions.Sessions.close_all.Goals as goal
 

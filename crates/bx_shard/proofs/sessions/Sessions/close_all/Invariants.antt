@@ -1,9 +1,7 @@
 use Rattle.std.proofs.Common.{◌≡◌, ◌==◌, ℕ, None, take, if◌then◌else◌}
 use Rattle.std.specs.List.{list_any}
-use Rattle.bx_connects.specs.Connects.{connect_at}
-use Rattle.bx_connects.specs.Waking.{AreWoken}
-use Rattle.bx_shard.specs.Sessions.{AreCounted, AreHeld, kept_in}
-use Rattle.bx_shard.specs.States.{let_go}
+use Rattle.bx_connects.specs.Words.{connect_at, AreWoken}
+use Rattle.bx_shard.specs.Words.{AreCounted, AreHeld, kept_in, let_go}
 use Rattle.bx_shard.proofs.sessions.Sessions.close_all.Given as goal
 
 abbrev pub invariant-loop-number : goal.invariant-loop-number

@@ -1,13 +1,10 @@
 use Rattle.std.proofs.Common.{rules, ◌≡◌, None, refl, sym, ap, option_map}
-use Rattle.bx_connects.specs.Connects.{connect_at, held_by}
-use Rattle.bx_connects.specs.Waking.{waker_of}
+use Rattle.bx_connects.specs.Words.{connect_at, held_by, waker_of}
 use Rattle.bx_connects.proofs.WakingLemmas.{woken_onwards, woken_put}
-use Rattle.bx_entry.specs.Keeping.{after, resumed}
+use Rattle.bx_entry.specs.Words.{after, resumed, connected}
 use Rattle.bx_theory.proofs.Keeps.{connected_k}
-use Rattle.bx_entry.specs.Sessions.{connected}
 use Rattle.bx_shard.specs.Sessions.{kept_in, patterns_in}
-use Rattle.bx_shard.proofs.Beginnings.{connect_agrees}
-use Rattle.bx_shard.proofs.Counts.{counts_along, keeps_counts}
+use Rattle.bx_shard.proofs.{Beginnings.connect_agrees, Counts.counts_along, Counts.keeps_counts}
 use Rattle.bx_shard.proofs.sessions.Sessions.connect.Goals as goal
 
 pub returns-in-Ok-clause-held : goal.returns-in-Ok-clause-held

@@ -1,6 +1,5 @@
 use Rattle.std.proofs.Common.{◌≡◌}
-use Rattle.bx_connects.specs.Connects.{connect_at, count_held}
-use Rattle.bx_connects.specs.Waking.{AreWoken}
+use Rattle.bx_connects.specs.Words.{connect_at, count_held, AreWoken}
 use Rattle.bx_shard.specs.Sessions.{AreCounted, AreHeld, kept_in}
 use Rattle.bx_shard.proofs.Ticking.{AreTicked}
 use Rattle.bx_shard.proofs.sessions.Sessions.end_holds.Given as goal

@@ -1,12 +1,10 @@
 use Rattle.std.proofs.Common.{rules, Some, sym, ap, ◌∙◌}
 use Rattle.std.proofs.lemmas.Result.{on_ok_weaker}
 use Rattle.std.specs.Option.{option_copied}
-use Rattle.bx_connects.specs.Connects.{connect_at}
+use Rattle.bx_connects.specs.Words.{connect_at, waker_of}
 use Rattle.bx_connects.specs.declared.connects.ConnectState.TheVariants.{Filed}
-use Rattle.bx_connects.specs.Waking.{waker_of}
 use Rattle.bx_connects.proofs.WakingLemmas.{woken_onwards, woken_put}
-use Rattle.bx_shard.specs.Following.{completed_by, unridden}
-use Rattle.bx_shard.specs.Sessions.{kept_in}
+use Rattle.bx_shard.specs.Words.{completed_by, unridden, kept_in}
 use Rattle.bx_shard.proofs.Riding.{away, followed_alone, followed_riding, mid_fits, rides_here}
 use Rattle.bx_shard.proofs.Waking.{completed_waker}
 use Rattle.bx_shard.proofs.sessions.Sessions.follow.Goals as goal

@@ -1,11 +1,9 @@
 use Rattle.std.proofs.Common.{◌≡◌, ℕ, nat_eq, false, cond, option_map, subst, sym, ap, ◌∙◌}
-use Rattle.bx_entry.specs.Keeping.{after}
-use Rattle.bx_entry.specs.Sessions.{received}
+use Rattle.bx_entry.specs.Words.{after, received}
 use Rattle.bx_connects.specs.Connects.{connect_at}
 use Rattle.bx_connects.proofs.WakingLemmas.{woken_onwards}
 use Rattle.bx_shard.specs.Effects.{answers_by, filing_each}
-use Rattle.bx_shard.specs.Publishing.{AllReady, Turn, Turns, published_at}
-use Rattle.bx_shard.specs.Sessions.{kept_in}
+use Rattle.bx_shard.specs.Words.{AllReady, Turn, Turns, published_at, kept_in}
 use Rattle.bx_shard.proofs.Handing.{ready_along}
 use Rattle.bx_shard.proofs.sessions.Sessions.hand_out.Goals as goal
 

@@ -1,9 +1,7 @@
 use Rattle.std.proofs.Common.{◌≡◌}
-use Rattle.bx_connects.specs.Connects.{connect_at}
-use Rattle.bx_connects.specs.Waking.{AreWoken}
+use Rattle.bx_connects.specs.Words.{connect_at, AreWoken}
 use Rattle.bx_shard.specs.declared.sessions.Sessions.{Sessions}
-use Rattle.bx_shard.specs.Publishing.{AllReady, Turns}
-use Rattle.bx_shard.specs.Sessions.{AreCounted, AreHeld}
+use Rattle.bx_shard.specs.Words.{AllReady, Turns, AreCounted, AreHeld}
 use Rattle.bx_shard.proofs.sessions.Sessions.hand_out.Given as goal
 
 abbrev pub invariant-loop-parcel : goal.invariant-loop-parcel

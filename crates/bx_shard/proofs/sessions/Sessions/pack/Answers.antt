@@ -1,7 +1,6 @@
 use Rattle.std.proofs.Common.{rules, ◌≡◌, ◌++◌, ◌∷◌, [], ◌∙◌, ℕ, IfSome, List, Some, true, ap, get_or, subst, sym}
-use Rattle.std.proofs.lemmas.List.{map-append, take_more}
+use Rattle.std.proofs.lemmas.{List.map-append, List.take_more, List.Elements.All-push, List.Elements.All-weaker}
 use Rattle.std.specs.List.{All}
-use Rattle.std.proofs.lemmas.List.Elements.{All-push, All-weaker}
 use Rattle.bx_entry.specs.Keeping.{Kept}
 use Rattle.bx_message.specs.declared.event.Event.{Event}
 use Rattle.bx_session.specs.Views.{wants_two}

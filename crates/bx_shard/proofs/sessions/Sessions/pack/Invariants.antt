@@ -1,8 +1,7 @@
 use Rattle.std.proofs.Common.{◌≡◌, ℕ, take}
 use Rattle.std.specs.List.{All}
 use Rattle.bx_shard.specs.declared.publish.Parcel.{Parcel}
-use Rattle.bx_shard.specs.Publishing.{IsPacked, numbers_of}
-use Rattle.bx_shard.specs.Sessions.{kept_in}
+use Rattle.bx_shard.specs.Words.{IsPacked, numbers_of, kept_in}
 use Rattle.bx_shard.proofs.sessions.Sessions.pack.Given as goal
 
 abbrev pub invariant-loop-number : goal.invariant-loop-number

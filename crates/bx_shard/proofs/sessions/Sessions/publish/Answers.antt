@@ -1,8 +1,7 @@
 use Rattle.std.proofs.Common.{rules, ◌≡◌, ◌↔◌, ℕ, Contains, IsTrue, List, sym, subst}
 use Rattle.std.specs.List.Sorted.{IsStrictlyIncreasing}
 use Rattle.bx_shard.specs.declared.sessions.Sessions.{Sessions}
-use Rattle.bx_shard.specs.Publishing.{Turns, numbers_of, reaches}
-use Rattle.bx_shard.specs.Sessions.{patterns_in}
+use Rattle.bx_shard.specs.Words.{Turns, numbers_of, reaches, patterns_in}
 use Rattle.bx_shard.proofs.Handing.{AreApart, AreOf, Handed, are_apart, are_of, are_ready, handed}
 use Rattle.bx_shard.proofs.sessions.Sessions.publish.Goals as goal
 use Rattle.bx_shard.proofs.sessions.Sessions.publish.Goals.{In_ok-parcels}

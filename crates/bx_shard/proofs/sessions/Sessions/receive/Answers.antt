@@ -1,9 +1,7 @@
 use Rattle.std.proofs.Common.{rules, ◌≡◌, Some, sym, subst}
-use Rattle.bx_entry.specs.Keeping.{after}
-use Rattle.bx_entry.specs.Sessions.{received}
+use Rattle.bx_entry.specs.Words.{after, received}
 use Rattle.bx_shard.specs.Effects.{answers_by}
-use Rattle.bx_shard.specs.Publishing.{published_at}
-use Rattle.bx_shard.specs.Sessions.{kept_in}
+use Rattle.bx_shard.specs.Words.{published_at, kept_in}
 use Rattle.bx_shard.proofs.Ends.{Settles, filing_agrees, received_e}
 use Rattle.bx_shard.proofs.sessions.Sessions.receive.Goals as goal
 

@@ -1,7 +1,5 @@
 use Rattle.std.proofs.Common.{◌≡◌, ◌&&◌, false, ap, sym, ◌∙◌}
-use Rattle.bx_names.specs.Globs.{any_matches}
-use Rattle.bx_names.specs.Kinds.{is_broadcast}
-use Rattle.bx_names.specs.Segments.{segments}
+use Rattle.bx_names.specs.Words.{any_matches, is_broadcast, segments}
 use Rattle.bx_message.specs.declared.event.Event.{Event}
 use Rattle.bx_shard.specs.Sessions.{patterns_in}
 use Rattle.bx_shard.proofs.Handing.{none_there}

@@ -1,11 +1,9 @@
 use Rattle.std.proofs.Common.{rules, option_map}
-use Rattle.bx_entry.specs.Keeping.{after, resumed}
+use Rattle.bx_entry.specs.Words.{after, resumed, expired}
 use Rattle.bx_theory.proofs.Keeps.{expired_from_k}
-use Rattle.bx_entry.specs.Sessions.{expired}
 use Rattle.bx_shard.specs.Effects.{answers_by}
 use Rattle.bx_shard.specs.Sessions.{kept_in, patterns_in}
-use Rattle.bx_shard.proofs.Counts.{counts_along, keeps_counts}
-use Rattle.bx_shard.proofs.Ends.{filing_agrees, tick_settles}
+use Rattle.bx_shard.proofs.{Counts.counts_along, Counts.keeps_counts, Ends.filing_agrees, Ends.tick_settles}
 use Rattle.bx_shard.proofs.sessions.Sessions.tick.Goals as goal
 
 pub returns-in-Some-tick-clause-held : goal.returns-in-Some-tick-clause-held

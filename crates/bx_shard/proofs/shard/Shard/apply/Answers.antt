@@ -1,9 +1,6 @@
 use Rattle.std.proofs.Common.{rules}
-use Rattle.bx_shard.specs.Following.{Followed}
-use Rattle.bx_shard.specs.States.{IsSound, opens_in}
-use Rattle.bx_shard.specs.Seen.{setup_in, state}
-use Rattle.bx_shard.proofs.Applying.{applied, still_fresh}
-use Rattle.bx_shard.proofs.Counting.{formed_few}
+use Rattle.bx_shard.specs.Words.{Followed, IsSound, opens_in, setup_in, state}
+use Rattle.bx_shard.proofs.{Applying.applied, Applying.still_fresh, Counting.formed_few}
 use Rattle.bx_shard.proofs.shard.Shard.apply.Goals as goal
 
 pub invariant_of-self-2 : goal.invariant_of-self-2

@@ -1,7 +1,6 @@
 use Rattle.std.proofs.Common.{refl, sym, ◌||◌}
 use Rattle.std.proofs.lemmas.Result.{on_ok_weaker}
-use Rattle.bx_tree.proofs.NodeLemmas.{but_exact, but_one, but_many, changed_for}
-use Rattle.bx_tree.proofs.StandsLemmas.{or_idle}
+use Rattle.bx_tree.proofs.{NodeLemmas.but_exact, NodeLemmas.but_one, NodeLemmas.but_many, NodeLemmas.changed_for, StandsLemmas.or_idle}
 use Rattle.bx_names.specs.declared.tail.Tail.TheVariants.{Exact, One, Many}
 use Rattle.bx_tree.specs.declared.nodes.Nodes.{Nodes}
 use Rattle.bx_tree.proofs.nodes.Nodes.add.Goals as goal

@@ -1,7 +1,6 @@
 use Rattle.std.proofs.Common.{not, ◌==◌, ◌&&◌, ◌||◌, ap, sym, ◌∙◌, take}
 use Rattle.std.proofs.lemmas.List.Folds.{list_any_more}
-use Rattle.bx_names.specs.Globs.{same_glob}
-use Rattle.bx_names.specs.InForce.{in_force}
+use Rattle.bx_names.specs.Words.{same_glob, in_force}
 use Rattle.bx_tree.specs.Lists.{stands_for}
 use Rattle.bx_tree.proofs.FreshLemmas.{or_more, early, gone_with_all}
 use Rattle.bx_tree.proofs.nodes.Nodes.add_each.Goals as goal

@@ -1,8 +1,6 @@
 use Rattle.std.proofs.Common.{◌≡◌, ℕ, ◌||◌, ◌==◌, ◌&&◌, take}
-use Rattle.bx_names.specs.Globs.{Glob}
-use Rattle.bx_names.specs.InForce.{in_force}
-use Rattle.bx_tree.specs.Whole.{AreWhole}
-use Rattle.bx_tree.specs.Lists.{stands_for}
+use Rattle.bx_names.specs.Words.{Glob, in_force}
+use Rattle.bx_tree.specs.Words.{AreWhole, stands_for}
 use Rattle.bx_tree.proofs.nodes.Nodes.add_each.Given as goal
 
 abbrev pub invariant-loop-pattern : goal.invariant-loop-pattern

@@ -1,11 +1,8 @@
 use Rattle.std.proofs.Common.{[]}
 use Rattle.bx_names.specs.Globs.{any_matches}
 use Rattle.bx_tree.specs.declared.nodes.found.Found.{Found}
-use Rattle.bx_tree.specs.Patterns.{patterns_of}
-use Rattle.bx_tree.specs.Walks.{is_met}
-use Rattle.bx_tree.specs.Whole.{AreWhole}
-use Rattle.bx_tree.proofs.MeetLemmas.{met_is}
-use Rattle.bx_tree.proofs.AmongLemmas.{exact_if_met}
+use Rattle.bx_tree.specs.Words.{patterns_of, is_met, AreWhole}
+use Rattle.bx_tree.proofs.{MeetLemmas.met_is, AmongLemmas.exact_if_met}
 use Rattle.bx_tree.proofs.nodes.Nodes.find.Goals as goal
 
 pub returns-clause-exact : goal.returns-clause-exact

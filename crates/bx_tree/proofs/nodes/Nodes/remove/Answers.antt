@@ -1,6 +1,5 @@
 use Rattle.std.proofs.Common.{refl, sym, not, ◌&&◌}
-use Rattle.bx_tree.proofs.NodeLemmas.{but_exact, but_one, but_many, changed_for}
-use Rattle.bx_tree.proofs.StandsLemmas.{not_idle}
+use Rattle.bx_tree.proofs.{NodeLemmas.but_exact, NodeLemmas.but_one, NodeLemmas.but_many, NodeLemmas.changed_for, StandsLemmas.not_idle}
 use Rattle.bx_names.specs.declared.tail.Tail.TheVariants.{Exact, One, Many}
 use Rattle.bx_tree.specs.declared.nodes.Nodes.{Nodes}
 use Rattle.bx_tree.proofs.nodes.Nodes.remove.Goals as goal

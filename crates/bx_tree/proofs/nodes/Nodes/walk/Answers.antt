@@ -1,7 +1,6 @@
 use Rattle.std.proofs.Common.{◌≡◌, ◌∷◌, drop, arith, rules, ap, ◌∙◌}
 use Rattle.bx_names.specs.Segments.{path_of}
-use Rattle.bx_tree.proofs.PathLemmas.{longer_within, longer_path, longer_ahead}
-use Rattle.bx_tree.proofs.WholeLemmas.{whole_name, some_segment}
+use Rattle.bx_tree.proofs.{PathLemmas.longer_within, PathLemmas.longer_path, PathLemmas.longer_ahead, WholeLemmas.whole_name, WholeLemmas.some_segment}
 use Rattle.bx_tree.proofs.nodes.Nodes.walk.Goals as goal
 
 pub loop-segment-preserved : goal.loop-segment-preserved

@@ -1,6 +1,5 @@
 use Rattle.std.proofs.Common.{◌≡◌, [], arith, vec_len, Some, None, sym, ap, ◌∙◌, rules}
-use Rattle.std.proofs.lemmas.Bool.{eqb-true}
-use Rattle.std.proofs.lemmas.List.{nil_from_length}
+use Rattle.std.proofs.lemmas.{Bool.eqb-true, List.nil_from_length}
 use Rattle.bx_names.specs.InForce.{without_pattern}
 use Rattle.bx_tree.specs.Patterns.{patterns_of}
 use Rattle.bx_tree.proofs.SessionLemmas.{seen, now_is, at_update, others_stay}

@@ -1,7 +1,6 @@
 use Rattle.std.proofs.Common.{[], ◌∷◌, ◌++◌, sym, ap, subst, ◌∙◌}
 use Rattle.bx_names.specs.InForce.{in_force}
-use Rattle.bx_tree.specs.Patterns.{patterns_of}
-use Rattle.bx_tree.specs.Lists.{IsIndexOf}
+use Rattle.bx_tree.specs.Words.{patterns_of, IsIndexOf}
 use Rattle.bx_tree.proofs.IndexLemmas.{index_added, index_undone}
 use Rattle.bx_tree.proofs.tree.Tree.add.Goals as goal
 

@@ -1,9 +1,7 @@
 use Rattle.std.proofs.Common.{not, ◌==◌, ◌&&◌, ◌||◌, sym, ap, subst, ◌∙◌}
 use Rattle.bx_names.specs.InForce.{in_force}
-use Rattle.bx_tree.specs.Lists.{stands_for, IsIndexOf}
-use Rattle.bx_tree.proofs.FreshLemmas.{AreApart}
-use Rattle.bx_tree.specs.Patterns.{patterns_of}
-use Rattle.bx_tree.proofs.IndexLemmas.{index_kept}
+use Rattle.bx_tree.specs.Words.{stands_for, IsIndexOf, patterns_of}
+use Rattle.bx_tree.proofs.{FreshLemmas.AreApart, IndexLemmas.index_kept}
 use Rattle.bx_tree.proofs.tree.Tree.add_all.Goals as goal
 
 pub invariant_of-self-in-Err : goal.invariant_of-self-in-Err

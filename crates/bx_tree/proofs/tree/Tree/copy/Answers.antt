@@ -1,10 +1,8 @@
 use Rattle.std.proofs.Common.{◌&&◌, sym, ap, subst, ◌∙◌}
 use Rattle.std.proofs.Math.Bool.{and-false}
 use Rattle.bx_names.specs.InForce.{in_force}
-use Rattle.bx_tree.specs.Lists.{IsIndexOf}
-use Rattle.bx_tree.proofs.FreshLemmas.{AreApart}
-use Rattle.bx_tree.specs.Patterns.{patterns_of}
-use Rattle.bx_tree.proofs.IndexLemmas.{index_kept}
+use Rattle.bx_tree.specs.Words.{IsIndexOf, patterns_of}
+use Rattle.bx_tree.proofs.{FreshLemmas.AreApart, IndexLemmas.index_kept}
 use Rattle.bx_tree.proofs.tree.Tree.copy.Goals as goal
 
 pub invariant_of-self-in-Err : goal.invariant_of-self-in-Err

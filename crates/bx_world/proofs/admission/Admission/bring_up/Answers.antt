@@ -2,9 +2,7 @@ use Rattle.std.proofs.Common.{◌≡◌, ◌≤◌, List, length, drop, sym, ap,
 use Rattle.bx_advice.specs.Limits.{greatest_length}
 use Rattle.bx_entry.specs.declared.entry.Entry.{Entry}
 use Rattle.bx_workers.specs.Upward.{AreConsecutive, AreWithin, end_of}
-use Rattle.bx_world.specs.Admissions.{Admitting, entries_kept}
-use Rattle.bx_world.specs.Backlogs.{kept_in}
-use Rattle.bx_world.specs.Refining.{StandFrom, StandWithin}
+use Rattle.bx_world.specs.Words.{Admitting, entries_kept, kept_in, StandFrom, StandWithin}
 use Rattle.bx_world.proofs.Upwards.{kept_bounded, kept_consecutive, kept_within}
 use Rattle.bx_world.proofs.admission.Admission.bring_up.Goals as goal
 

@@ -3,8 +3,7 @@ use Rattle.std.specs.Arc.{arc_value}
 use Rattle.bx_entry.specs.Requests.{read_input}
 use Rattle.bx_entry.specs.declared.input.Input.TheVariants.{Post}
 use Rattle.bx_shard.specs.declared.shard.Shard.{Shard}
-use Rattle.bx_world.specs.Admissions.{IsAdmission}
-use Rattle.bx_world.specs.Refining.{some_stands_at}
+use Rattle.bx_world.specs.Words.{IsAdmission, some_stands_at}
 use Rattle.bx_world.proofs.Growing.{admission_steps, each_longer, same_first, same_shards, still_bounded}
 use Rattle.bx_world.proofs.world.World.admit.Goals as goal
 

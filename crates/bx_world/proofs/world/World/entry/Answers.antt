@@ -1,6 +1,5 @@
 use Rattle.std.proofs.Common.{◌≤◌, inr, arith}
-use Rattle.bx_world.proofs.Applications.{none_past}
-use Rattle.bx_world.proofs.Slowest.{places_from}
+use Rattle.bx_world.proofs.{Applications.none_past, Slowest.places_from}
 use Rattle.bx_world.proofs.world.World.entry.Goals as goal
 
 pub returns-then-place-first-clause-none : goal.returns-then-place-first-clause-none

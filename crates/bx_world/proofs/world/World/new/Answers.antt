@@ -3,9 +3,8 @@ use Rattle.std.specs.Arc.{arc_value}
 use Rattle.std.proofs.lemmas.List.{length_push}
 use Rattle.bx_advice.specs.Limits.{greatest_length}
 use Rattle.bx_shard.specs.declared.shard.Shard.{Shard}
-use Rattle.bx_world.specs.Admissions.{Admitting}
+use Rattle.bx_world.specs.Words.{Admitting, EachRefines, some_stands_at}
 use Rattle.bx_admission.specs.Slots.{placed_by}
-use Rattle.bx_world.specs.Refining.{EachRefines, some_stands_at}
 use Rattle.bx_world.proofs.Slowest.{all_stand}
 use Rattle.bx_world.proofs.Starting.{AreFirst, IsFirst, first_hold, first_places, one_more_first, world_first}
 use Rattle.bx_world.proofs.world.World.new.Goals as goal

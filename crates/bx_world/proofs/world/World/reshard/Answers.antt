@@ -5,9 +5,8 @@ use Rattle.bx_reshard.specs.Redistribution.{AreAlike, AreApart, Redistributed}
 use Rattle.bx_shard.specs.Seen.{state}
 use Rattle.bx_shard.specs.declared.shard.Shard.{Shard}
 use Rattle.bx_reshard.proofs.RedistributionLaws.{holders_are_apart}
-use Rattle.bx_world.specs.Admissions.{Admitting}
+use Rattle.bx_world.specs.Words.{Admitting, EachRefines, some_stands_at}
 use Rattle.bx_admission.specs.Slots.{placed_by}
-use Rattle.bx_world.specs.Refining.{EachRefines, some_stands_at}
 use Rattle.bx_world.proofs.Redistribution.{AreAtEnd, redistributed_at_end, same_world, states_hold}
 use Rattle.bx_world.proofs.world.World.reshard.Goals as goal
 use Rattle.bx_world.proofs.world.World.reshard.Goals.{In-Ok-redistribute, Start}

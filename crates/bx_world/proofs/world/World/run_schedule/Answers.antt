@@ -1,8 +1,7 @@
 use Rattle.std.proofs.Common.{◌≡◌, ◌<◌, ◌+◌, List, [], ◌∷◌, ◌++◌, length, take, sym, ap, ◌∙◌, subst}
 use Rattle.std.proofs.lemmas.List.{take_more}
 use Rattle.bx_world.specs.Seen.{Ran}
-use Rattle.bx_world.specs.declared.step.Step.{Step}
-use Rattle.bx_world.specs.declared.step.StepOut.{StepOut}
+use Rattle.bx_world.specs.declared.step.{Step.Step, StepOut.StepOut}
 use Rattle.bx_world.proofs.Runs.{none_ran, one_more_ran}
 use Rattle.bx_world.proofs.world.World.run_schedule.Goals as goal
 

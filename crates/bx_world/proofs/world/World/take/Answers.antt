@@ -1,12 +1,8 @@
 use Rattle.std.proofs.Common.{◌≡◌, ◌<◌, ℕ, List, Option, Some, None, true, slice_get, slice_set, refl, sym, ap, ◌∙◌, subst, arith}
-use Rattle.std.proofs.lemmas.List.{length-set}
-use Rattle.std.proofs.lemmas.Option.{slice_get_read}
-use Rattle.bx_shard.specs.Refining.{Took}
-use Rattle.bx_shard.specs.Seen.{state}
+use Rattle.std.proofs.lemmas.{List.length-set, Option.slice_get_read}
+use Rattle.bx_shard.specs.Words.{Took, state}
 use Rattle.bx_message.specs.declared.reply.Answer.{Answer}
-use Rattle.bx_world.specs.Refining.{EachRefines}
-use Rattle.bx_world.specs.Seen.{setup_of, world_of}
-use Rattle.bx_world.specs.Worlds.{IsOutput, after}
+use Rattle.bx_world.specs.Words.{EachRefines, setup_of, world_of, IsOutput, after}
 use Rattle.bx_world.specs.declared.step.Step.TheVariants.{Take}
 use Rattle.bx_world.specs.declared.step.StepOut.TheVariants.{Taken}
 use Rattle.bx_world.proofs.Standing.{same_places, still_some}

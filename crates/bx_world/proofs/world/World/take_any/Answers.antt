@@ -1,16 +1,12 @@
 use Rattle.std.proofs.Common.{◌≡◌, ◌<◌, ℕ, List, Option, Some, None, true, map, slice_get, slice_set, refl, sym, ap, ◌∙◌, subst, arith}
 use Rattle.std.specs.Prelude.{IfNone}
-use Rattle.std.proofs.lemmas.List.{length-set}
-use Rattle.std.proofs.lemmas.Option.{slice_get_read}
+use Rattle.std.proofs.lemmas.{List.length-set, Option.slice_get_read}
 use Rattle.bx_entry.specs.declared.entry.Ticket.{Ticket}
 use Rattle.bx_connects.specs.Connects.{filed_answer}
 use Rattle.bx_connects.specs.declared.filing.Filing.{Filing}
 use Rattle.bx_shard.specs.declared.shard.Shard.{Shard}
-use Rattle.bx_world.specs.Refining.{EachRefines}
-use Rattle.bx_world.specs.Seen.{setup_of, world_of}
-use Rattle.bx_world.specs.Worlds.{WorldState, filed_under}
-use Rattle.bx_world.proofs.Standing.{same_places, still_some}
-use Rattle.bx_world.proofs.Takings.{each_same, each_taken, none_filed, taking_gives}
+use Rattle.bx_world.specs.Words.{EachRefines, setup_of, world_of, WorldState, filed_under}
+use Rattle.bx_world.proofs.{Standing.same_places, Standing.still_some, Takings.each_same, Takings.each_taken, Takings.none_filed, Takings.taking_gives}
 use Rattle.bx_world.proofs.world.World.take_any.Goals as goal
 use Rattle.bx_world.proofs.world.World.take_any.Goals.{After-take_any}
 

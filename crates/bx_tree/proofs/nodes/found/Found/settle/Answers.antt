@@ -1,7 +1,5 @@
 use Rattle.std.proofs.Common.{nat_eq, sym, ◌∙◌}
-use Rattle.std.proofs.lemmas.List.Filters.{dedup_is}
-use Rattle.std.proofs.lemmas.List.Sorted.{list_any-IsPermutation}
-use Rattle.std.proofs.lemmas.Map.Keys.{IsStrictlyIncreasing-dedup}
+use Rattle.std.proofs.lemmas.{List.Filters.dedup_is, List.Sorted.list_any-IsPermutation, Map.Keys.IsStrictlyIncreasing-dedup}
 use Rattle.bx_tree.proofs.AmongLemmas.{is_among-dedup}
 use Rattle.bx_tree.proofs.nodes.found.Found.settle.Goals as goal
 

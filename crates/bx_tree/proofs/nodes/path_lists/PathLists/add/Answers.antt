@@ -1,7 +1,5 @@
 use Rattle.std.proofs.Common.{Some, ◌||◌, ◌==◌, string_bytes, ap, ◌∙◌, rules}
-use Rattle.std.specs.List.{list_any}
-use Rattle.std.specs.Ordering.{is_eq, nat_cmp}
-use Rattle.std.specs.BTreeMap.{get_by_text}
+use Rattle.std.specs.{List.list_any, Ordering.is_eq, Ordering.nat_cmp, BTreeMap.get_by_text}
 use Rattle.std.proofs.lemmas.Map.Text.{btree_map_updates_text}
 use Rattle.bx_tree.proofs.StandsLemmas.{added, has, at_path, elsewhere, changed_at, unchanged_at, or_idle, on_err}
 use Rattle.bx_tree.specs.Kept.{is_kept}
