@@ -1,6 +1,5 @@
-//! The future of an answer: each poll asks the hub, and leaves a waker beside the connect while the answer is not
-//! filed.
-ghost use Rattle.std.specs.Prelude.{◌≡◌, ◌<◌, ⊤, true, false, length, Result, Err, IfSome, IfNone};
+//! What waits for an answer: each poll asks the hub, and leaves a waker beside the connect while the answer is not filed.
+ghost use Rattle.std.specs.Prelude.{◌≡◌, ◌<◌, true, false, length, Result, Err, IfSome, IfNone};
 ghost use mathlib.Core.List.{IsPrefix};
 ghost use Rattle.futures.specs.Poll.{IfReady, OnPending};
 ghost use Rattle.futures.specs.Task.{Covers, Keeps};
@@ -8,29 +7,26 @@ ghost use Rattle.futures.specs.declared.task.Poll.TheVariants as polls;
 ghost use Rattle.bx_admission.specs.Slots.{placed_by};
 ghost use Rattle.bx_window.specs.Steps.{list_of};
 ghost use Rattle.bx_held.specs.Outputs.{HasNone, IsGiven, MayGive};
+ghost use Rattle.bx_held.specs.Waiting.{IsWaitedFor};
 ghost use Rattle.bx_message.specs.declared.reply.Answer.{Answer};
 ghost use Rattle.bx_held.specs.declared.fault.HeldFault.{HeldFault};
 ghost use Rattle.bx_held.specs.declared.fault.HeldFault.TheVariants as faults;
 
 use crate::fault::HeldFault;
 use bx_entry::{Placing, Ticket};
-use bx_hub::{Gate, Hub, Pass, Watch};
+use bx_hub::{Gate, Hub, Left, Pass, Watch};
 use bx_message::Answer;
 use bx_window::Naming;
-use futures::Future;
 use futures::task::{Context, Poll, Source, Waker};
 use std::alloc::Global;
-use std::sync::{Arc, Wait};
+use std::sync::Wait;
 
-/// The answer to a connect or a rider, once it is filed.
+/// What waits for the answer to a connect or a rider, until it is filed.
 ///
 /// Each poll asks the hub for the answer. While there is none, it leaves a waker of the task that polls beside the connect, so
-/// that this task is woken once the connect is answered, also where the future went from one task to another meanwhile.
+/// that this task is woken once the connect is answered, also where what waits went from one task to another meanwhile.
 #[derive(Drop)]
-pub struct HeldConnect<J: Naming, P: Placing, G: Gate + Drop, H: Wait + Drop, R: Wait + Drop> {
-    rt: R,
-    alloc: Global,
-    hub: Arc<Hub<J, P, G, H>, Global>,
+pub struct HeldConnect<J: Naming> {
     pass: Pass<J>,
     ticket: Ticket,
     // Names what it waits for: that the connect is answered.
@@ -42,28 +38,13 @@ pub struct HeldConnect<J: Naming, P: Placing, G: Gate + Drop, H: Wait + Drop, R:
     ghost reached: { ticket.place < length (list_of pass) },
 }
 
-impl<J: Naming, P: Placing, G: Gate + Drop, H: Wait + Drop, R: Wait + Drop> HeldConnect<
-    J,
-    P,
-    G,
-    H,
-    R,
-> {
-    /// The answer under the ticket of a connect, or of a rider, that stands in what the pass has seen of the hub's list.
-    pub fn new(
-        rt: R,
-        alloc: Global,
-        hub: Arc<Hub<J, P, G, H>, Global>,
-        pass: Pass<J>,
-        ticket: Ticket,
-    ) -> HeldConnect<J, P, G, H, R>
+impl<J: Naming> HeldConnect<J> {
+    /// What waits for the answer under the ticket of a connect, or of a rider, that stands in what the pass has seen of a hub's list.
+    pub fn new(pass: Pass<J>, ticket: Ticket) -> HeldConnect<J>
         requires { ticket.place < length (list_of pass) }
         ensures { (result.pass ≡ pass) × (result.ticket ≡ ticket) × (result.is_done ≡ false) }
     {
         HeldConnect {
-            rt,
-            alloc,
-            hub,
             pass,
             ticket,
             source: Source::new(),
@@ -73,18 +54,20 @@ impl<J: Naming, P: Placing, G: Gate + Drop, H: Wait + Drop, R: Wait + Drop> Held
     }
 
     // What the hub says: the output, if there is one by now.
-    fn ask(&mut self) -> Option<Result<Answer, HeldFault>>
+    fn ask<P: Placing, G: Gate + Drop, H: Wait + Drop, R: Wait>(
+        &mut self,
+        rt: &R,
+        alloc: Global,
+        hub: &Hub<J, P, G, H>,
+    ) -> Option<Result<Answer, HeldFault>>
         ensures seen { IsPrefix self.old.pass self.new.pass }
-        ensures same { (self.new.ticket ≡ self.old.ticket) × (self.new.source ≡ self.old.source) × (self.new.hub ≡ self.old.hub) }
+        ensures same { (self.new.ticket ≡ self.old.ticket) × (self.new.source ≡ self.old.source) }
         ensures given { IfSome result (IsGiven (placed_by J.config J.config.shards J.placing) self.new.ticket self.new.pass) }
         ensures done { IfSome result (λ _. self.new.is_done ≡ true) }
         ensures none { IfNone result (HasNone (placed_by J.config J.config.shards J.placing) self.new.ticket self.new.pass) }
         ensures pending { IfNone result (self.new.is_done ≡ self.old.is_done) }
     {
-        match self
-            .hub
-            .poll_answer(&self.rt, self.alloc, &mut self.pass, self.ticket)
-        {
+        match hub.poll_answer(rt, alloc, &mut self.pass, self.ticket) {
             Ok(None) => None,
             Ok(Some(answer)) => {
                 self.is_done = true;
@@ -96,60 +79,60 @@ impl<J: Naming, P: Placing, G: Gate + Drop, H: Wait + Drop, R: Wait + Drop> Held
             }
         }
     }
-}
 
-impl<J: Naming, P: Placing + Drop, G: Gate + Drop, H: Wait + Drop, R: Wait + Drop> Future
-    for HeldConnect<J, P, G, H, R> {
-    type Output = Result<Answer, HeldFault>;
-
-    ghost needs = { λ held s. s ≡ held.source.id };
-
-    ghost gives = { λ held. MayGive (placed_by J.config J.config.shards J.placing) held.ticket held.pass held.is_done };
-
-    fn poll(&mut self, cx: &mut Context<'_>) -> Poll<Result<Answer, HeldFault>>
-        ensures value { IfReady result (MayGive (placed_by J.config J.config.shards J.placing) self.old.ticket self.old.pass self.old.is_done) }
-        ensures again { OnPending result ⊤ }
-        ensures same { OnPending result ((output : Result Answer HeldFault)
+    /// The output, once the hub has it: the answer; or `Unknown` where no connect is held under the ticket and no answer is filed, as behind its
+    /// output; or why the ticket's shard was not brought up. While there is none, a waker of the task that polls was left beside the connect, which
+    /// the token says that comes with it, or that task is polled again in any case.
+    pub fn poll<P: Placing + Drop, G: Gate + Drop, H: Wait + Drop, R: Wait>(
+        &mut self,
+        rt: &R,
+        alloc: Global,
+        hub: &Hub<J, P, G, H>,
+        cx: &mut Context<'_>,
+    ) -> (Poll<Result<Answer, HeldFault>>, Option<Left<J>>)
+        ensures value { IfReady result.0 (MayGive (placed_by J.config J.config.shards J.placing) self.old.ticket self.old.pass self.old.is_done) }
+        ensures same { OnPending result.0 ((output : Result Answer HeldFault)
             → MayGive (placed_by J.config J.config.shards J.placing) self.new.ticket self.new.pass self.new.is_done output
             → MayGive (placed_by J.config J.config.shards J.placing) self.old.ticket self.old.pass self.old.is_done output) }
-        ensures registered { OnPending result (Covers cx.new (λ s. s ≡ self.new.source.id)) }
+        ensures registered { OnPending result.0 (Covers cx.new (λ s. s ≡ self.new.source.id)) }
+        ensures left { OnPending result.0 (IsWaitedFor self.new.ticket result.1 cx.old cx.new) }
         ensures kept { Keeps cx.old cx.new }
         ensures seen { IsPrefix self.old.pass self.new.pass }
-        ensures given { self.old.is_done ≡ false → IfReady result (IsGiven (placed_by J.config J.config.shards J.placing) self.new.ticket self.new.pass) }
-        ensures done { IfReady result (λ _. self.new.is_done ≡ true) }
-        ensures pending { OnPending result (self.new.is_done ≡ false) }
-        ensures after { self.old.is_done ≡ true → result ≡ polls.Ready (Err faults.Unknown) }
+        ensures given { self.old.is_done ≡ false → IfReady result.0 (IsGiven (placed_by J.config J.config.shards J.placing) self.new.ticket self.new.pass) }
+        ensures done { IfReady result.0 (λ _. self.new.is_done ≡ true) }
+        ensures pending { OnPending result.0 (self.new.is_done ≡ false) }
+        ensures after { self.old.is_done ≡ true → result.0 ≡ polls.Ready (Err faults.Unknown) }
     {
         if self.is_done {
-            return Poll::Ready(Err(HeldFault::Unknown));
+            return (Poll::Ready(Err(HeldFault::Unknown)), None);
         }
-        if let Some(output) = self.ask() {
-            return Poll::Ready(output);
+        if let Some(output) = self.ask(rt, alloc, hub) {
+            return (Poll::Ready(output), None);
         }
         let pending = cx.register(&self.source, &mut self.own);
         let Some(waker) = self.own.take() else {
-            return pending;
+            return (pending, None);
         };
-        match self.hub.watch(&self.rt, self.ticket, waker) {
-            Watch::Stored(older, _) => {
+        match hub.watch(rt, self.ticket, waker) {
+            Watch::Stored(older, left) => {
                 self.own = older;
-                return pending;
+                return (pending, Some(left));
             }
             Watch::Ready(_) => {}
             Watch::Unknown(_) => {
                 self.is_done = true;
-                return Poll::Ready(Err(HeldFault::Unknown));
+                return (Poll::Ready(Err(HeldFault::Unknown)), None);
             }
             Watch::Shut(_) => {
                 self.is_done = true;
-                return Poll::Ready(Err(HeldFault::Closed));
+                return (Poll::Ready(Err(HeldFault::Closed)), None);
             }
         }
         // It was answered meanwhile.
-        if let Some(output) = self.ask() {
-            return Poll::Ready(output);
+        if let Some(output) = self.ask(rt, alloc, hub) {
+            return (Poll::Ready(output), None);
         }
         // Another has taken the answer since then.
-        cx.yield_now()
+        (cx.yield_now(), None)
     }
 }

@@ -1,4 +1,4 @@
-//! A connect that is held, as a future.
+//! A connect that is held: what waits for its answer.
 #![tactic(auto)]
 
 mod fault;

@@ -9,8 +9,9 @@ use Rattle.bx_advice.specs.declared.config.TheConstants.{BODY_LIMIT}
 use Rattle.bx_service.specs.declared.{exchange.State.State, route.Route.Route}
 use Rattle.bx_service.specs.declared.exchange.State.TheVariants.{Collecting, Asked, Held, Refused}
 use Rattle.bx_service.specs.declared.route.Route.TheVariants as routes
-use Rattle.bx_message.specs.declared.status.Status.TheVariants.{TooLarge, Unavailable}
-use Rattle.bx_service.specs.Statuses.{route_of}
+use Rattle.bx_body.specs.declared.collect.BodyFault.TheVariants.{TooLarge}
+use Rattle.bx_message.specs.declared.status.Status.TheVariants.{Unavailable}
+use Rattle.bx_service.specs.Statuses.{body_status, route_of}
 
 -- what the fields say of the body
 abbrev pub content_type_of : Entries FieldValue → Option (List ℕ)
@@ -43,7 +44,7 @@ module _ {I B : Type 0} where
 
   -- the state of a POST: one that says a length above the limit may be refused before its body comes
   abbrev pub IsPosted : Entries FieldValue → B → State I B → Type 0
-  IsPosted fields body state = IsPosting (content_type_of fields) body state ⊎ (IsTooLong (length_of fields) × (state ≡ Refused TooLarge))
+  IsPosted fields body state = IsPosting (content_type_of fields) body state ⊎ (IsTooLong (length_of fields) × (state ≡ Refused (body_status TooLarge)))
 
   -- the state of a request that is served so
   abbrev pub BeginsAs : Route → Parts → B → State I B → Type 0

@@ -8,7 +8,9 @@ use Rattle.bx_entry.specs.declared.input.Refusal.TheVariants as refusals
 use Rattle.bx_hub.specs.declared.fault.PostFault.{PostFault}
 use Rattle.bx_hub.specs.declared.fault.PostFault.TheVariants as posts
 use Rattle.bx_message.specs.declared.status.Status.{Status}
-use Rattle.bx_message.specs.declared.status.Status.TheVariants.{BadRequest, NotFound, MethodNotAllowed, TooLarge, Unavailable}
+use Rattle.bx_message.specs.declared.status.Status.TheVariants.{BadRequest, NotFound, MethodNotAllowed, Unavailable}
+use Rattle.bx_transport.specs.Statuses.{transport_status}
+use Rattle.bx_transport.specs.declared.error.TransportError.TheVariants as transports
 use Rattle.bx_service.specs.declared.route.Route.{Route}
 use Rattle.bx_service.specs.declared.route.Route.TheVariants as routes
 
@@ -22,11 +24,11 @@ route_of method path =
     if is_served path then (if bytes_eq method (codes "POST") then routes.Post else (if bytes_eq method (codes "GET") then routes.Get else routes.Refused MethodNotAllowed))
     else routes.Refused NotFound
 
--- of a POST whose body is not collected
+-- of a POST whose body is not collected: where it is too large, and for want of memory, as its transport has it
 abbrev pub body_status : BodyFault → Status
-body_status bodies.TooLarge = TooLarge
+body_status bodies.TooLarge = transport_status transports.TooLarge
 body_status bodies.Failed = BadRequest
-body_status bodies.Memory = Unavailable
+body_status bodies.Memory = transport_status transports.Memory
 
 -- of what the hub refuses; of what is not admitted that of its refusal
 abbrev pub post_status : PostFault → Status

@@ -89,7 +89,7 @@ impl<I: Future, B: Body> State<I, B> {
             Route::Refused(status) => State::Refused(status),
             Route::Get => State::asking(alloc, parts.uri.query()),
             Route::Post if is_too_long(parts.headers.get(CONTENT_LENGTH)) => {
-                State::Refused(Status::TooLarge)
+                State::Refused(body_status(BodyFault::TooLarge))
             }
             Route::Post => State::posting(alloc, parts.headers.get(CONTENT_TYPE), body),
         }

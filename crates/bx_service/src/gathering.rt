@@ -1,9 +1,12 @@
 //! The items of a response, as the answers come.
-ghost use Rattle.std.specs.Prelude.{◌≡◌, ◌++◌, ◌∷◌, ◌<◌, List, [], None, Some, false, IfOk, OnOk, MatchOption, option_map, length};
+ghost use Rattle.std.specs.Prelude.{◌≡◌, ◌++◌, ◌∷◌, ◌<◌, List, Result, [], None, Some, false, IfOk, OnOk, MatchOption, option_map, length};
 ghost use Rattle.std.specs.Vec.Iter.{into_iter_items};
 ghost use Rattle.futures.specs.Poll.{IfReady, OnPending};
 ghost use Rattle.futures.specs.Task.{Covers, Keeps};
 ghost use Rattle.bx_admission.specs.Slots.{placed_by};
+ghost use Rattle.bx_held.specs.Outputs.{MayGive};
+ghost use Rattle.bx_held.specs.declared.fault.HeldFault.{HeldFault};
+ghost use Rattle.bx_message.specs.declared.reply.Answer.{Answer};
 ghost use Rattle.bx_message.specs.declared.reply.Item.{Item};
 ghost use Rattle.bx_message.specs.declared.reply.Item.TheVariants.{ReplyItem};
 ghost use Rattle.bx_service.specs.Gatherings.{AreAll, AreBelow, IsBelow, are_below-prop, awaited_as, items_of};
@@ -11,7 +14,7 @@ ghost use Rattle.bx_window.specs.Steps.{list_of};
 
 use crate::backend::Unanswered;
 use bx_entry::{Placing, Slot, Ticket};
-use bx_held::HeldConnect;
+use bx_held::{HeldConnect, HeldFault};
 use bx_hub::{Gate, Hub, Pass};
 use bx_message::{Answer, Item, Reply, Sequence};
 use bx_window::Naming;
@@ -30,7 +33,7 @@ pub struct Gathering<J: Naming, P: Placing, G: Gate + Drop, R: Wait + Drop> {
     hub: Arc<Hub<J, P, G, R>, Global>,
     pass: Pass<J>,
     items: Vec<Item>,
-    held: Option<HeldConnect<J, P, G, R, R>>,
+    held: Option<HeldConnect<J>>,
     slots: IntoIter<Slot>,
     ghost within: { AreBelow (length (list_of pass)) (into_iter_items slots) } by { are_below-prop (length (list_of pass)) (into_iter_items slots) },
 }
@@ -60,15 +63,13 @@ impl<J: Naming, P: Placing + Drop, G: Gate + Drop, R: Wait + Copy + Drop> Gather
     }
 
     // From here on the answer under this ticket is waited for.
-    fn wait_for(&mut self, ticket: Ticket) -> Result<(), AllocError>
+    fn wait_for(&mut self, ticket: Ticket)
         requires { ticket.place < length (list_of self.old.pass) }
-        ensures waits { OnOk result (option_map (λ h. awaited_as h.ticket h.pass h.is_done) self.new.held ≡ Some (awaited_as ticket self.old.pass false)) }
+        ensures waits { option_map (λ h. awaited_as h.ticket h.pass h.is_done) self.new.held ≡ Some (awaited_as ticket self.old.pass false) }
         ensures same { (self.new.items ≡ self.old.items) × (self.new.pass ≡ self.old.pass) × (self.new.slots ≡ self.old.slots) }
     {
-        let hub = Arc::try_clone(&self.hub)?;
         let pass = Pass::of(self.pass.note());
-        self.held = Some(HeldConnect::new(self.rt, self.alloc, hub, pass, ticket));
-        Ok(())
+        self.held = Some(HeldConnect::new(pass, ticket));
     }
 
     // Puts the items of the message that is waited for behind the others, once they are there.
@@ -84,7 +85,7 @@ impl<J: Naming, P: Placing + Drop, G: Gate + Drop, R: Wait + Copy + Drop> Gather
         let Some(held) = &mut self.held else {
             return Ok(Poll::Ready(()));
         };
-        let Poll::Ready(given) = held.poll(cx) else {
+        let Poll::Ready(given) = poll_once(held, &self.rt, self.alloc, &*self.hub, cx) else {
             return Ok(Poll::Pending);
         };
         self.held = None;
@@ -110,7 +111,7 @@ impl<J: Naming, P: Placing + Drop, G: Gate + Drop, R: Wait + Copy + Drop> Gather
                 Ok(Poll::Ready(()))
             }
             Slot::Waiting(ticket) => {
-                self.wait_for(ticket)?;
+                self.wait_for(ticket);
                 self.poll_held(cx)
             }
         }
@@ -156,6 +157,25 @@ impl<J: Naming, P: Placing + Drop, G: Gate + Drop, R: Wait + Copy + Drop> Future
             Err(fault) => Poll::Ready(Err(fault)),
         }
     }
+}
+
+// What a poll gives, without the value that says which waker was left.
+fn poll_once<J: Naming, P: Placing + Drop, G: Gate + Drop, R: Wait + Drop>(
+    held: &mut HeldConnect<J>,
+    rt: &R,
+    alloc: Global,
+    hub: &Hub<J, P, G, R>,
+    cx: &mut Context<'_>,
+) -> Poll<Result<Answer, HeldFault>>
+    ensures value { IfReady result (MayGive (placed_by J.config J.config.shards J.placing) held.old.ticket held.old.pass held.old.is_done) }
+    ensures same { OnPending result ((output : Result Answer HeldFault)
+        → MayGive (placed_by J.config J.config.shards J.placing) held.new.ticket held.new.pass held.new.is_done output
+        → MayGive (placed_by J.config J.config.shards J.placing) held.old.ticket held.old.pass held.old.is_done output) }
+    ensures registered { OnPending result (Covers cx.new (λ s. s ≡ held.new.source.id)) }
+    ensures kept { Keeps cx.old cx.new }
+{
+    let (polled, _left) = held.poll(rt, alloc, hub, cx);
+    polled
 }
 
 // Puts the items of an answer behind the others: its events, then its reply.

@@ -7,6 +7,7 @@ use bx_body::BodyFault;
 use bx_entry::Refusal;
 use bx_hub::PostFault;
 use bx_message::Status;
+use bx_transport::TransportError;
 use http::StatusCode;
 
 /// The status as HTTP's parts have it.
@@ -19,14 +20,15 @@ pub(crate) fn code_of(status: Status) -> StatusCode
     }
 }
 
-/// The status of a POST whose body was not collected. (This server's choice.)
+/// The status of a POST whose body was not collected: of one that is too large, and where memory was refused, as the transport has it. (This
+/// server's choice.)
 pub(crate) fn body_status(fault: BodyFault) -> Status
     ensures { result ≡ body_status fault }
 {
     match fault {
-        BodyFault::TooLarge => Status::TooLarge,
+        BodyFault::TooLarge => TransportError::TooLarge.status(),
         BodyFault::Failed => Status::BadRequest,
-        BodyFault::Memory => Status::Unavailable,
+        BodyFault::Memory => TransportError::Memory.status(),
     }
 }
 

@@ -5,10 +5,10 @@ ghost use Rattle.bx_entry.specs.Placings.{by_remainder};
 mod bench;
 
 use crate::texts;
-use bench::{Bench, TICKET, Task, TestHeld, Want, check_poll};
+use bench::{Bench, TICKET, Task, Want, check_poll};
 use bx_advice::Config;
 use bx_entry::{ByRemainder, Ticket};
-use bx_held::HeldFault;
+use bx_held::{HeldConnect, HeldFault};
 use bx_hub::{Hub, OpenGate};
 use bx_window::{Naming, Opened};
 use futures::test::MockTask;
@@ -171,20 +171,20 @@ fn other<J: Naming, H: Wait + Drop, Q: Wait + Copy + Drop, R: Abort>(
     want: Want,
 ) -> Result<(), Fail> {
     let mut held = bench.wait(ticket)?;
-    check_poll(rt, bench.alloc, &bench.first.poll(&mut held), want)
+    check_poll(rt, bench.alloc, &bench.poll(Task::First, &mut held), want)
 }
 
 // It gives this, and has nothing more to give.
 fn gives<J: Naming, H: Wait + Drop, Q: Wait + Copy + Drop, R: Abort>(
     rt: &R,
-    alloc: Global,
-    task: &MockTask,
-    held: &mut TestHeld<J, H, Q>,
+    bench: &Bench<J, H, Q>,
+    task: Task,
+    held: &mut HeldConnect<J>,
     want: Want,
 ) -> Result<(), Fail> {
-    check_poll(rt, alloc, &task.poll(held), want)?;
+    check_poll(rt, bench.alloc, &bench.poll(task, held), want)?;
     for _ in 0..2 {
-        check_poll(rt, alloc, &task.poll(held), UNKNOWN)?;
+        check_poll(rt, bench.alloc, &bench.poll(task, held), UNKNOWN)?;
     }
     Ok(())
 }
@@ -192,16 +192,15 @@ fn gives<J: Naming, H: Wait + Drop, Q: Wait + Copy + Drop, R: Abort>(
 fn take<J: Naming, H: Wait + Drop, Q: Wait + Copy + Drop, R: Abort>(
     rt: &R,
     bench: &mut Bench<J, H, Q>,
-    held: &mut TestHeld<J, H, Q>,
+    held: &mut HeldConnect<J>,
     step: Step,
 ) -> Result<(), Fail> {
     match step {
         Step::Waits(task) => {
-            let task = bench.task(task);
-            check_poll(rt, bench.alloc, &task.poll(held), Want::Pending)?;
-            assert!(rt; !task.is_woken(), "{step:?}");
+            check_poll(rt, bench.alloc, &bench.poll(task, held), Want::Pending)?;
+            assert!(rt; !bench.task(task).is_woken(), "{step:?}");
         }
-        Step::Gives(task, want) => gives(rt, bench.alloc, bench.task(task), held, want)?,
+        Step::Gives(task, want) => gives(rt, bench, task, held, want)?,
         Step::Other(ticket, want) => other(rt, bench, ticket, want)?,
         Step::Woken(task, want) => assert_eq!(rt; bench.task(task).is_woken(), want, "{step:?}"),
         Step::Post(body) => bench.post(body)?,
@@ -216,7 +215,7 @@ fn take<J: Naming, H: Wait + Drop, Q: Wait + Copy + Drop, R: Abort>(
 fn take_all<J: Naming, H: Wait + Drop, Q: Wait + Copy + Drop, R: Abort>(
     rt: &R,
     bench: &mut Bench<J, H, Q>,
-    held: &mut TestHeld<J, H, Q>,
+    held: &mut HeldConnect<J>,
     steps: &[Step],
 ) -> Result<(), Fail> {
     for step in steps {

@@ -3,9 +3,9 @@ use crate::hubs::Served;
 use crate::hubs::said::{Said, connect, poll, post, tick};
 use crate::requests::{HANDSHAKE, PUBLISH};
 use crate::unlike::Unlike;
-use bx_entry::{ByRemainder, Ticket};
+use bx_entry::Ticket;
 use bx_held::{HeldConnect, HeldFault};
-use bx_hub::{OpenGate, Pass, Watch};
+use bx_hub::{Pass, Watch};
 use bx_message::Answer;
 use bx_window::Naming;
 use futures::task::{Poll, Source, Waker};
@@ -13,8 +13,6 @@ use futures::test::MockTask;
 use std::alloc::{AllocGlobal, Global};
 use std::random::RandomSource;
 use std::sync::{Arc, Wait};
-
-type Waiting<J, H, Q> = HeldConnect<J, ByRemainder, OpenGate, H, Q>;
 
 /// A session connects, and a task waits for the answer to that, until another session publishes.
 pub fn run<'a, J, R>(
@@ -61,19 +59,24 @@ fn is_there<J: Naming, H: Wait + Drop, R: Wait>(
 }
 
 // Who waits under the ticket, and has seen what the pass has.
-fn waiting<J: Naming, H: Wait + Drop, Q: Wait + Copy + Drop>(
-    rt: Q,
-    alloc: Global,
-    hub: &Arc<Served<J, H>, Global>,
-    pass: &Pass<J>,
-    ticket: Ticket,
-) -> Result<Waiting<J, H, Q>, Unlike> {
+fn waiting<J: Naming>(pass: &Pass<J>, ticket: Ticket) -> Result<HeldConnect<J>, Unlike> {
     let pass = Pass::of(pass.note());
     if ticket.place >= pass.seen() {
         return Err(Unlike::Wrong("a ticket beyond the list"));
     }
-    let hub = Arc::try_clone(hub)?;
-    Ok(HeldConnect::new(rt, alloc, hub, pass, ticket))
+    Ok(HeldConnect::new(pass, ticket))
+}
+
+// What a poll of the task gives.
+fn polled<J: Naming, H: Wait + Drop, R: Wait>(
+    rt: &R,
+    alloc: Global,
+    hub: &Served<J, H>,
+    task: &MockTask,
+    held: &mut HeldConnect<J>,
+) -> Poll<Result<Answer, HeldFault>> {
+    let (polled, _left) = task.enter(|cx| held.poll(rt, alloc, hub, cx));
+    polled
 }
 
 // What a poll gives that is to give nothing.
@@ -84,11 +87,14 @@ enum First {
     Other,
 }
 
-fn look<J: Naming, H: Wait + Drop, Q: Wait + Copy + Drop>(
-    held: &mut Waiting<J, H, Q>,
+fn look<J: Naming, H: Wait + Drop, R: Wait>(
+    rt: &R,
+    alloc: Global,
+    hub: &Served<J, H>,
     task: &MockTask,
+    held: &mut HeldConnect<J>,
 ) -> First {
-    match task.poll(held) {
+    match polled(rt, alloc, hub, task, held) {
         Poll::Pending => First::Pending,
         Poll::Ready(Err(HeldFault::Memory)) => First::Refused,
         Poll::Ready(_) => First::Other,
@@ -97,40 +103,40 @@ fn look<J: Naming, H: Wait + Drop, Q: Wait + Copy + Drop>(
 
 // Whether the connect is behind its shard or not, it is held once memory is there: a task waits for it. Where memory is refused to its
 // poll, another one does.
-fn wait<J: Naming, H: Wait + Drop, Q: Wait + Copy + Drop>(
-    rt: Q,
-    alloc: Global,
-    hub: &Arc<Served<J, H>, Global>,
-    pass: &mut Pass<J>,
-    ticket: Ticket,
-    task: &MockTask,
-    said: &mut Said,
-) -> Result<(), Unlike> {
-    let mut held = waiting(rt, alloc, hub, pass, ticket)?;
-    let mut first = look(&mut held, task);
-    if first == First::Refused {
-        held = waiting(rt, alloc, hub, pass, ticket)?;
-        first = look(&mut held, task);
-    }
-    if first != First::Pending || task.is_woken() {
-        return Err(Unlike::Wrong("an answer too soon"));
-    }
-    answer(&rt, alloc, hub, pass, ticket, task, &mut held, said)
-}
-
-// The other session publishes, and the connect is answered.
-fn answer<J: Naming, H: Wait + Drop, Q: Wait + Copy + Drop>(
-    rt: &Q,
+fn wait<J: Naming, H: Wait + Drop, R: Wait>(
+    rt: &R,
     alloc: Global,
     hub: &Served<J, H>,
     pass: &mut Pass<J>,
     ticket: Ticket,
     task: &MockTask,
-    held: &mut Waiting<J, H, Q>,
+    said: &mut Said,
+) -> Result<(), Unlike> {
+    let mut held = waiting(pass, ticket)?;
+    let mut first = look(rt, alloc, hub, task, &mut held);
+    if first == First::Refused {
+        held = waiting(pass, ticket)?;
+        first = look(rt, alloc, hub, task, &mut held);
+    }
+    if first != First::Pending || task.is_woken() {
+        return Err(Unlike::Wrong("an answer too soon"));
+    }
+    answer(rt, alloc, hub, pass, ticket, task, &mut held, said)
+}
+
+// The other session publishes, and the connect is answered.
+fn answer<J: Naming, H: Wait + Drop, R: Wait>(
+    rt: &R,
+    alloc: Global,
+    hub: &Served<J, H>,
+    pass: &mut Pass<J>,
+    ticket: Ticket,
+    task: &MockTask,
+    held: &mut HeldConnect<J>,
     said: &mut Said,
 ) -> Result<(), Unlike> {
     publish(rt, alloc, hub, task, said)?;
-    let answer = match task.poll(held) {
+    let answer = match polled(rt, alloc, hub, task, held) {
         Poll::Ready(Ok(answer)) => answer,
         Poll::Ready(Err(HeldFault::Memory)) => asked(rt, alloc, hub, pass, ticket)?,
         Poll::Ready(Err(_)) | Poll::Pending => return Err(Unlike::Wrong("no answer")),

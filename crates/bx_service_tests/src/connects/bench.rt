@@ -2,9 +2,9 @@
 use crate::bench::TestHub;
 use crate::texts::{CONNECT, HANDSHAKE, SUBSCRIBE};
 use bx_cut::Bodies;
-use bx_entry::{Arrival, ByRemainder, Ticket};
+use bx_entry::{Arrival, Ticket};
 use bx_held::{HeldConnect, HeldFault};
-use bx_hub::{OpenGate, Pass};
+use bx_hub::Pass;
 use bx_message::{Answer, event_text, reply_text};
 use bx_window::Naming;
 use futures::task::Poll;
@@ -13,9 +13,6 @@ use std::alloc::{AllocError, Global};
 use std::process::Abort;
 use std::sync::{Arc, Wait};
 use std::test::*;
-
-/// A held connect of the hub.
-pub type TestHeld<J, H, R> = HeldConnect<J, ByRemainder, OpenGate, H, R>;
 
 /// Where the answer to the connect of the first session is filed, which the bench opens.
 pub const TICKET: Ticket = Ticket { place: 2, shard: 1 };
@@ -122,12 +119,19 @@ impl<J: Naming, H: Wait + Drop, R: Wait + Copy + Drop> Bench<J, H, R> {
     }
 
     /// Who waits under a ticket, and has seen what the caller has.
-    pub fn wait(&self, ticket: Ticket) -> Result<TestHeld<J, H, R>, Fail> {
+    pub fn wait(&self, ticket: Ticket) -> Result<HeldConnect<J>, Fail> {
         let pass = Pass::of(self.pass.note());
         if ticket.place >= pass.seen() {
             return Err(Fail::from("the ticket is beyond the list"));
         }
-        let hub = Arc::try_clone(&self.hub)?;
-        Ok(HeldConnect::new(self.rt, self.alloc, hub, pass, ticket))
+        Ok(HeldConnect::new(pass, ticket))
+    }
+
+    /// What a poll by one of the tasks gives.
+    pub fn poll(&self, task: Task, held: &mut HeldConnect<J>) -> Poll<Result<Answer, HeldFault>> {
+        let (polled, _left) = self
+            .task(task)
+            .enter(|cx| held.poll(&self.rt, self.alloc, &*self.hub, cx));
+        polled
     }
 }

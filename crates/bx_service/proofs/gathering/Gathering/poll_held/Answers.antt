@@ -8,12 +8,12 @@ use Rattle.bx_service.specs.Gatherings.{AreAll}
 use Rattle.bx_service.proofs.GatheringLemmas.{all_given, all_awaited}
 use Rattle.bx_service.proofs.gathering.Gathering.poll_held.Goals as goal
 
-pub returns-in_default-poll-clause-same : goal.returns-in_default-poll-clause-same
-returns-in_default-poll-clause-same g c =
+pub returns-in_default-poll_once-clause-same : goal.returns-in_default-poll_once-clause-same
+returns-in_default-poll_once-clause-same g c =
     let config = g.J.Naming.config in
     let old = c.args.self.now in
     rw c.in-Some.is (λ all given. all_awaited (placed_by config config.shards g.J.Naming.placing) old.pass old.items.items (into_iter_items old.slots) all
-    c.in-Some.held.ticket c.poll.new.self.ticket c.in-Some.held.pass c.poll.new.self.pass c.in-Some.held.is_done c.poll.new.self.is_done c.in_default-poll.ensures.same given)
+    c.in-Some.held.ticket c.poll_once.new.held.ticket c.in-Some.held.pass c.poll_once.new.held.pass c.in-Some.held.is_done c.poll_once.new.held.is_done c.in_default-poll_once.ensures.same given)
 
 pub returns-clause-same : goal.returns-clause-same
 returns-clause-same g c =
