@@ -39,7 +39,7 @@ class Daemon:
         if not line.startswith("listening "):
             raise Wrong(f"it does not listen: {line!r} {self.told()!r}")
         host, _, port = line.split()[1].rpartition(":")
-        self.address = (host, int(port))
+        self.address = (host.strip("[]"), int(port))
 
     def told(self):
         """Returns what it wrote to standard error."""

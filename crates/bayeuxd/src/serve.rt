@@ -2,9 +2,9 @@
 ghost use Rattle.std.specs.Prelude.{◌≡◌};
 ghost use Rattle.bx_entry.specs.Placings.{by_remainder};
 
-use crate::arguments::Arguments;
 use crate::clock::{Drawn, SinceStart};
 use crate::ticker::tick;
+use bx_advice::Config;
 use bx_entry::ByRemainder;
 use bx_hub::{Hub, OpenGate};
 use bx_message::Item;
@@ -17,7 +17,7 @@ use rand_core::SeedableRng;
 use std::alloc::{AllocGlobal, Global};
 use std::io::Write;
 use std::marker::Brand;
-use std::net::Net;
+use std::net::{Net, SocketAddr};
 use std::random::RandomSource;
 use std::sync::atomic::{AtomicBool, Ordering};
 use std::sync::{Arc, Mutex, Wait};
@@ -27,21 +27,35 @@ use std::{io, thread};
 use tokio::net::TcpListener;
 use tokio::runtime::Runtime;
 
+/// How the server is run.
+#[derive(Clone, Copy)]
+pub struct Arguments {
+    /// How many shards there are, the times in milliseconds, the limits and the options.
+    pub config: Config,
+    /// Of the generator of nonces.
+    pub seed: [u8; 32],
+    /// After how many connections it ends; 0: never.
+    pub connections: u64,
+}
+
 /// How a server ended.
 #[derive(Clone, Copy, Debug, PartialEq, Eq)]
 pub enum ServeEnd {
     /// As many connections as were asked for have come and have ended.
     Done,
-    /// The words are no arguments.
-    Usage,
-    /// The system refused the address, the runtime, a thread or the print.
+    /// The system refused each address, the runtime, a thread or the print.
     CannotListen,
     /// Memory was refused.
     Memory,
 }
 
-/// Serves as the words say, and prints the address once it listens.
-pub fn serve<R, W>(rt: R, words: &[String], writer: &mut W) -> ServeEnd
+/// Serves on the first of the addresses that the system grants, and prints it once it listens.
+pub fn serve<R, W>(
+    rt: R,
+    addresses: &[SocketAddr],
+    arguments: Arguments,
+    writer: &mut W,
+) -> ServeEnd
 where
     R: Wait
         + Threads
@@ -56,10 +70,7 @@ where
         + 'static,
     W: Write,
 {
-    let Some(arguments) = Arguments::read(words) else {
-        return ServeEnd::Usage;
-    };
-    match begin(rt, arguments, writer) {
+    match begin(rt, addresses, arguments, writer) {
         Ok(()) => ServeEnd::Done,
         Err(error) if error.kind() == io::ErrorKind::OutOfMemory => ServeEnd::Memory,
         Err(_) => ServeEnd::CannotListen,
@@ -67,7 +78,12 @@ where
 }
 
 // Serves from now on.
-fn begin<R, W>(rt: R, arguments: Arguments, writer: &mut W) -> io::Result<()>
+fn begin<R, W>(
+    rt: R,
+    addresses: &[SocketAddr],
+    arguments: Arguments,
+    writer: &mut W,
+) -> io::Result<()>
 where
     R: Wait
         + Threads
@@ -84,13 +100,22 @@ where
 {
     let start = Instant::now(&rt)?;
     let placing = Arc::new(rt.alloc(), ByRemainder)?;
-    run::<Brand, R, W>(rt, Opened::new(), arguments, start, placing, writer)
+    run::<Brand, R, W>(
+        rt,
+        Opened::new(),
+        addresses,
+        arguments,
+        start,
+        placing,
+        writer,
+    )
 }
 
 // Serves over a hub of its own, while a thread lets the clock tick.
 fn run<J, R, W>(
     rt: R,
     opened: Opened,
+    addresses: &[SocketAddr],
     arguments: Arguments,
     start: Instant,
     placing: Arc<ByRemainder, Global>,
@@ -126,7 +151,7 @@ where
     )?;
     let hub = Arc::new(alloc, hub)?;
     let mut runtime = Runtime::new(&rt)?;
-    let listener = TcpListener::bind(&rt, arguments.address, runtime.handle().reactor())?;
+    let listener = bind(&rt, &runtime, addresses)?;
     writeln!(writer, "listening {}", listener.local_addr()?)?;
     writer.flush()?;
     let is_over = Arc::new(alloc, AtomicBool::new(false))?;
@@ -137,6 +162,18 @@ where
     ticker.join(&rt);
     hub.close(&rt);
     served
+}
+
+// Listens on the first of the addresses that the system grants; where it grants none, the error of the last.
+fn bind<R: Net>(rt: &R, runtime: &Runtime, addresses: &[SocketAddr]) -> io::Result<TcpListener> {
+    let mut refused = io::ErrorKind::AddrNotAvailable.into();
+    for address in addresses {
+        match TcpListener::bind(rt, *address, runtime.handle().reactor()) {
+            Ok(listener) => return Ok(listener),
+            Err(error) => refused = error,
+        }
+    }
+    Err(refused)
 }
 
 // Serves the connections of the listener over the hub.

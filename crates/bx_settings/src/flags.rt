@@ -1,0 +1,221 @@
+//! The flags.
+use crate::settings::{Seed, Settings};
+use crate::time::milliseconds;
+use bx_advice::{Config, MAX_SHARDS, Options};
+use bx_message::number_of;
+use clap::error::ErrorKind;
+use clap::{Arg, ArgAction, ArgMatches, Command, Error};
+use std::alloc::{AllocError, Global};
+
+/// The version that the program says.
+pub const VERSION: &str = "0.1.0";
+
+// What a flag's value is to be, where it is something else.
+const SHARDS: &str = "a number from 1 to 64";
+
+const TIME: &str = "a number of milliseconds up to 4294967295, or of seconds as 30s";
+
+const LIMIT: &str = "a number from 1 to 65536";
+
+const CONNECTIONS: &str = "a number";
+
+/// What these flags say, where so many processors are there; or what is wrong with them, with a text for it; or the text that
+/// `--help` or `--version` asks for. Without `--shards` there are as many shards as processors, up to 64.
+pub fn read_flags<'a>(
+    alloc: Global,
+    words: &'a [String],
+    processors: usize,
+) -> Result<Settings<'a>, Error> {
+    let mut command = command(alloc)?;
+    let matches = command.try_get_matches_from_mut(words)?;
+    let config = read_config(alloc, &mut command, &matches, processors)?;
+    let Some(connections) = number_of(value_of(&matches, "connections", "0").as_bytes()) else {
+        return Err(wrong(
+            alloc,
+            &mut command,
+            &matches,
+            "connections",
+            "N",
+            CONNECTIONS,
+        )?);
+    };
+    Ok(Settings {
+        listen: value_of(&matches, "listen", "127.0.0.1:8087"),
+        config,
+        seed: match matches.get_str("seed-file") {
+            Some(path) => Seed::File(path),
+            None => Seed::Drawn,
+        },
+        connections,
+    })
+}
+
+// The configuration that the flags say.
+fn read_config(
+    alloc: Global,
+    command: &mut Command<'_>,
+    matches: &ArgMatches<'_>,
+    processors: usize,
+) -> Result<Config, Error> {
+    let timeout = read_time(alloc, command, matches, "timeout", "30s")?;
+    let interval = read_time(alloc, command, matches, "interval", "0")?;
+    let max_interval = read_time(alloc, command, matches, "max-interval", "10s")?;
+    let Some(config) = config_of(matches, processors, timeout, interval, max_interval) else {
+        return Err(wrong(alloc, command, matches, "shards", "N", SHARDS)?);
+    };
+    let options = Options {
+        ride: matches.get_flag("ride"),
+        anonymous: matches.get_flag("anonymous"),
+    };
+    match with_limit(config.with(options), matches) {
+        Some(config) => Ok(config),
+        None => Err(wrong(alloc, command, matches, "limit", "N", LIMIT)?),
+    }
+}
+
+// The configuration of as many shards as are said, or as there are processors.
+fn config_of(
+    matches: &ArgMatches<'_>,
+    processors: usize,
+    timeout: u32,
+    interval: u32,
+    max_interval: u32,
+) -> Option<Config> {
+    let shards = match matches.get_str("shards") {
+        Some(text) => usize::try_from(number_of(text.as_bytes())?).ok()?,
+        None => processors.clamp(1, MAX_SHARDS),
+    };
+    Config::new(shards, timeout, interval, max_interval)
+}
+
+// The configuration with the limit of events that is said, if one is.
+fn with_limit(config: Config, matches: &ArgMatches<'_>) -> Option<Config> {
+    match matches.get_str("limit") {
+        Some(text) => config.with_limit(u32::try_from(number_of(text.as_bytes())?).ok()?),
+        None => Some(config),
+    }
+}
+
+// The milliseconds that the flag of this name says, or else its standard text.
+fn read_time(
+    alloc: Global,
+    command: &mut Command<'_>,
+    matches: &ArgMatches<'_>,
+    name: &str,
+    standard: &'static str,
+) -> Result<u32, Error> {
+    match milliseconds(value_of(matches, name, standard)) {
+        Some(time) => Ok(time),
+        None => Err(wrong(alloc, command, matches, name, "TIME", TIME)?),
+    }
+}
+
+// The text of the flag of this name, or else its standard one.
+fn value_of<'a>(matches: &ArgMatches<'a>, name: &str, standard: &'static str) -> &'a str {
+    match matches.get_str(name) {
+        Some(text) => text,
+        None => standard,
+    }
+}
+
+// That the value of this flag is not what it is to be.
+fn wrong(
+    alloc: Global,
+    command: &mut Command<'_>,
+    matches: &ArgMatches<'_>,
+    name: &str,
+    kind: &str,
+    right: &str,
+) -> Result<Error, AllocError> {
+    let value = matches.get_str(name).unwrap_or("");
+    let text = format!(in alloc; "invalid value '{value}' for '--{name} <{kind}>': {right}")?;
+    command.error(ErrorKind::ValueValidation, text.as_str())
+}
+
+fn command<'a>(alloc: Global) -> Result<Command<'a>, AllocError> {
+    let command = Command::new(alloc, "bayeuxd")
+        .about("Serves Bayeux over HTTP")
+        .version(VERSION)
+        .no_binary_name(true);
+    with_events(alloc, with_times(alloc, with_server(alloc, command)?)?)
+}
+
+// With the flags of the server as a whole.
+fn with_server<'a>(alloc: Global, command: Command<'a>) -> Result<Command<'a>, AllocError> {
+    command
+        .arg(value(
+            alloc,
+            "listen",
+            "ADDRESS",
+            "Where it listens: a name or an IP address, and a port [default: 127.0.0.1:8087]",
+        ))?
+        .arg(value(
+            alloc,
+            "shards",
+            "N",
+            "Into how many parts the sessions are placed, 1 to 64 [default: one for each processor]",
+        ))?
+        .arg(value(
+            alloc,
+            "seed-file",
+            "FILE",
+            "Where the 64 hexadecimal digits of the seed of client ids stand [default: the system draws it]",
+        ))?
+        .arg(value(
+            alloc,
+            "connections",
+            "N",
+            "After how many connections it ends, 0 for never [default: 0]",
+        ))
+}
+
+// With those of the times.
+fn with_times<'a>(alloc: Global, command: Command<'a>) -> Result<Command<'a>, AllocError> {
+    command
+        .arg(value(
+            alloc,
+            "timeout",
+            "TIME",
+            "How long a connect is held, in milliseconds, or as 30s [default: 30s]",
+        ))?
+        .arg(value(
+            alloc,
+            "interval",
+            "TIME",
+            "How long clients are advised to wait between two connects [default: 0]",
+        ))?
+        .arg(value(
+            alloc,
+            "max-interval",
+            "TIME",
+            "How long each accepted message keeps its session [default: 10s]",
+        ))
+}
+
+// With those of events.
+fn with_events<'a>(alloc: Global, command: Command<'a>) -> Result<Command<'a>, AllocError> {
+    command
+        .arg(value(
+            alloc,
+            "limit",
+            "N",
+            "How many events may wait for a session, 1 to 65536 [default: 1024]",
+        ))?
+        .arg(
+            Arg::new(alloc, "ride")
+                .long("ride")
+                .action(ArgAction::SetTrue)
+                .help("A session's waiting events ride on the reply to its own request"),
+        )?
+        .arg(
+            Arg::new(alloc, "anonymous")
+                .long("anonymous")
+                .action(ArgAction::SetTrue)
+                .help("Publishes without a client id are accepted"),
+        )
+}
+
+// A flag with a value.
+fn value<'a>(alloc: Global, name: &'a str, kind: &'a str, help: &'a str) -> Arg<'a> {
+    Arg::new(alloc, name).long(name).value_name(kind).help(help)
+}

@@ -1,0 +1,15 @@
+//! How the daemon is run, as its flags or its words say.
+#![tactic(auto)]
+
+mod flags;
+mod seed;
+mod settings;
+#[cfg(test)]
+mod tests;
+mod time;
+mod words;
+
+pub use flags::{VERSION, read_flags};
+pub use seed::{read_digits, read_seed};
+pub use settings::{Seed, Settings};
+pub use words::read_words;

@@ -1,0 +1,25 @@
+use bx_advice::Config;
+
+/// Where the seed of the generator of nonces comes from.
+#[derive(Clone, Copy, Debug, PartialEq, Eq)]
+pub enum Seed<'a> {
+    /// The system draws it.
+    Drawn,
+    /// The file of this name has it, as [`crate::read_seed`] reads it.
+    File(&'a str),
+    /// It was said.
+    Said([u8; 32]),
+}
+
+/// How the daemon is run.
+#[derive(Clone, Copy, Debug)]
+pub struct Settings<'a> {
+    /// Where it listens: a host's name or IP address, a colon and a port.
+    pub listen: &'a str,
+    /// How many shards there are, the times in milliseconds, the limits and the options.
+    pub config: Config,
+    /// Of the generator of nonces.
+    pub seed: Seed<'a>,
+    /// After how many connections it ends; 0: never.
+    pub connections: u64,
+}

@@ -1,0 +1,45 @@
+use crate::seed::read_digits;
+use crate::time::milliseconds;
+use std::test::Fail;
+
+// Times with the milliseconds that they say.
+const TIMES: [(&str, Option<u32>); 16] = [
+    ("0", Some(0)),
+    ("500", Some(500)),
+    ("500ms", Some(500)),
+    ("30s", Some(30_000)),
+    ("0s", Some(0)),
+    ("4294967295", Some(4_294_967_295)),
+    ("4294967s", Some(4_294_967_000)),
+    ("4294967296", None),
+    ("4294968s", None),
+    ("", None),
+    ("s", None),
+    ("ms", None),
+    ("3m", None),
+    ("+5", None),
+    ("-1", None),
+    ("5 s", None),
+];
+
+#[test]
+fn times_are_milliseconds_or_seconds(rt: HostRuntime) -> Result<(), Fail> {
+    for (text, time) in TIMES {
+        assert_eq!(rt; milliseconds(text), time, "{text}");
+    }
+    Ok(())
+}
+
+#[test]
+fn seeds_are_64_digits(rt: HostRuntime) -> Result<(), Fail> {
+    let digits = b"000102030405060708090a0b0c0d0e0f101112131415161718191A1B1C1D1E1F";
+    let seed = read_digits(digits).ok_or("a seed")?;
+    for (at, byte) in seed.iter().enumerate() {
+        assert_eq!(rt; *byte as usize, at);
+    }
+    assert!(rt; read_digits(&digits[1..]).is_none());
+    assert!(rt;
+        read_digits(b"g00102030405060708090a0b0c0d0e0f101112131415161718191a1b1c1d1e1f").is_none()
+    );
+    Ok(())
+}
