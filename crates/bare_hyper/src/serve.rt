@@ -44,12 +44,12 @@ impl<F: Future<Output = T>, T: Drop> Future for Quiet<F> {
 
 /// Serves each connection over HTTP alone.
 #[derive(Drop)]
-pub struct Server {
+pub struct BareServer {
     http: Builder,
     service: Bare,
 }
 
-impl Maker for Server {
+impl Maker for BareServer {
     type Task = Quiet<Connection<TcpStream, Bare, Full<Bytes>>>;
 
     fn make(&self, socket: TcpStream) -> Option<Self::Task> {
@@ -110,7 +110,7 @@ where
         .time()
         .interval(&rt, Duration::from_millis(PAUSE))?;
     let keys = RandomState::new(&rt)?;
-    let server = Server {
+    let server = BareServer {
         http: Builder::new(rt.alloc(), keys),
         service: Bare(rt.alloc()),
     };

@@ -2,9 +2,9 @@
 use crate::context::Context;
 use crate::fault::Fault;
 use crate::link::Link;
-use crate::role::{Role, Session};
+use crate::role::{Role, Subscriber};
 use crate::tally::Tally;
-use bx_load::{Item, client_of, connect, handshake, item_of, publish, subscribe, touch};
+use bx_load::{Received, client_of, connect, handshake, item_of, publish, subscribe, touch};
 use serde_json::Value;
 use std::alloc::Global;
 use std::sync::atomic::Ordering;
@@ -14,7 +14,7 @@ const QUIET: u64 = 5_000_000_000;
 
 /// What a client waits for.
 #[derive(Clone, Copy)]
-enum State {
+enum Awaited {
     Handshake,
     Subscription,
     Connect,
@@ -29,7 +29,7 @@ pub struct Client {
     link: Link,
     role: Role,
     id: String,
-    state: State,
+    state: Awaited,
     // When its last request was sent.
     asked: u64,
 }
@@ -41,7 +41,7 @@ impl Client {
             link,
             role,
             id: String::new(alloc),
-            state: State::Nothing,
+            state: Awaited::Nothing,
             asked: 0,
         }
     }
@@ -49,15 +49,15 @@ impl Client {
     /// Asks for a session. An error says why the load ends.
     pub fn begin(&mut self, context: &Context) -> Result<(), Fault> {
         let settings = &context.settings;
-        let acknowledges = settings.is_acknowledging && matches!(&self.role, Role::Session(_));
+        let acknowledges = settings.is_acknowledging && matches!(&self.role, Role::Subscriber(_));
         let request = handshake(context.alloc, &settings.target, acknowledges)?;
-        self.ask(State::Handshake, request, 0)
+        self.ask(Awaited::Handshake, request, 0)
     }
 
     /// How many events did not come.
     pub fn lost(&self) -> u64 {
         match &self.role {
-            Role::Session(session) => session.lost(),
+            Role::Subscriber(session) => session.lost(),
             Role::Publisher(_) => 0,
         }
     }
@@ -99,16 +99,16 @@ impl Client {
         let mut is_answered = false;
         for item in items {
             match (item_of(item), &mut self.role) {
-                (Item::Event(stamp), Role::Session(session)) => {
+                (Received::Event(stamp), Role::Subscriber(session)) => {
                     let arrival = session.take(&context.settings, stamp);
                     tally.arrived(arrival, stamp.moment, now);
                 }
-                (Item::Success(acknowledged), Role::Session(session)) => {
+                (Received::Success(acknowledged), Role::Subscriber(session)) => {
                     session.acknowledged = acknowledged;
                     is_answered = true;
                 }
-                (Item::Success(_), Role::Publisher(_)) => is_answered = true,
-                (Item::Refusal, _) => return Err(Fault::Refused),
+                (Received::Success(_), Role::Publisher(_)) => is_answered = true,
+                (Received::Refusal, _) => return Err(Fault::Refused),
                 _ => return Err(Fault::BadResponse),
             }
         }
@@ -133,44 +133,44 @@ impl Client {
         now: u64,
     ) -> Result<(), Fault> {
         match self.state {
-            State::Handshake => {
+            Awaited::Handshake => {
                 self.id = id_of(context, items)?;
                 self.subscribe(context, tally, now)
             }
-            State::Subscription => {
+            Awaited::Subscription => {
                 tally.ready = tally.ready.saturating_add(1);
                 context.unready.fetch_sub(1, Ordering::SeqCst);
                 self.poll(context, now)
             }
-            State::Connect => self.poll(context, now),
-            State::Publish => {
+            Awaited::Connect => self.poll(context, now),
+            Awaited::Publish => {
                 tally.published = tally.published.saturating_add(1);
                 tally.last_published = now;
                 context.unpublished.fetch_sub(1, Ordering::SeqCst);
-                self.state = State::Nothing;
+                self.state = Awaited::Nothing;
                 Ok(())
             }
-            State::Touch => {
-                self.state = State::Nothing;
+            Awaited::Touch => {
+                self.state = Awaited::Nothing;
                 Ok(())
             }
-            State::Nothing => Err(Fault::BadResponse),
+            Awaited::Nothing => Err(Fault::BadResponse),
         }
     }
 
     // Does what comes behind the handshake.
     fn subscribe(&mut self, context: &Context, tally: &mut Tally, now: u64) -> Result<(), Fault> {
         match &self.role {
-            Role::Session(Session { channel, .. }) => {
+            Role::Subscriber(Subscriber { channel, .. }) => {
                 let target = &context.settings.target;
                 let request = subscribe(context.alloc, target, self.id.as_str(), *channel)?;
-                self.ask(State::Subscription, request, now)
+                self.ask(Awaited::Subscription, request, now)
             }
             Role::Publisher(_) => {
                 tally.ready = tally.ready.saturating_add(1);
                 context.unready.fetch_sub(1, Ordering::SeqCst);
                 self.asked = now;
-                self.state = State::Nothing;
+                self.state = Awaited::Nothing;
                 Ok(())
             }
         }
@@ -179,12 +179,12 @@ impl Client {
     // Sends a connect.
     fn poll(&mut self, context: &Context, now: u64) -> Result<(), Fault> {
         let acknowledged = match &self.role {
-            Role::Session(session) => session.acknowledged,
+            Role::Subscriber(session) => session.acknowledged,
             Role::Publisher(_) => None,
         };
         let target = &context.settings.target;
         let request = connect(context.alloc, target, self.id.as_str(), acknowledged)?;
-        self.ask(State::Connect, request, now)
+        self.ask(Awaited::Connect, request, now)
     }
 
     /// Publishes where this is a publisher that waits for nothing, and its next event is due. An error says why the
@@ -195,7 +195,7 @@ impl Client {
         begun: Option<u64>,
         now: u64,
     ) -> Result<(), Fault> {
-        if !matches!(self.state, State::Nothing) {
+        if !matches!(self.state, Awaited::Nothing) {
             return Ok(());
         }
         let Role::Publisher(publisher) = &mut self.role else {
@@ -207,17 +207,17 @@ impl Client {
             && let Some(stamp) = publisher.next(settings, now.saturating_sub(begun), now)
         {
             let request = publish(alloc, target, id, publisher.channel, stamp)?;
-            return self.ask(State::Publish, request, now);
+            return self.ask(Awaited::Publish, request, now);
         }
         if now.saturating_sub(self.asked) > QUIET {
             let request = touch(alloc, target, id)?;
-            return self.ask(State::Touch, request, now);
+            return self.ask(Awaited::Touch, request, now);
         }
         Ok(())
     }
 
     // Sends a request, for whose answer it waits from then on.
-    fn ask(&mut self, state: State, request: String, now: u64) -> Result<(), Fault> {
+    fn ask(&mut self, state: Awaited, request: String, now: u64) -> Result<(), Fault> {
         self.state = state;
         self.asked = now;
         self.link.send(request)

@@ -1,6 +1,6 @@
 //! What all clients of a load share.
 use crate::fault::Fault;
-use bx_load::Settings;
+use bx_load::LoadSettings;
 use std::alloc::Global;
 use std::net::SocketAddr;
 use std::sync::atomic::{AtomicBool, AtomicU64, Ordering};
@@ -12,7 +12,7 @@ pub struct Context {
     /// Where memory is taken.
     pub alloc: Global,
     /// How the server is loaded.
-    pub settings: Settings,
+    pub settings: LoadSettings,
     /// The address of the server.
     pub address: SocketAddr,
     /// When the load began; moments are counted from here.
@@ -35,7 +35,7 @@ impl Context {
     /// Of so many threads, none of which did anything.
     pub fn new(
         alloc: Global,
-        settings: Settings,
+        settings: LoadSettings,
         address: SocketAddr,
         start: Instant,
         threads: u64,

@@ -1,10 +1,10 @@
 //! Loads a server by several threads.
 use crate::context::Context;
 use crate::fault::Fault;
-use crate::part::Part;
+use crate::part::LoadPart;
 use crate::tally::Tally;
 use crate::worker::work;
-use bx_load::{Settings, Target};
+use bx_load::{LoadSettings, Target};
 use std::alloc::{AllocGlobal, Global};
 use std::net::{Net, SocketAddr, TcpListener, TcpStream, ToSocketAddrs};
 use std::sync::{Arc, Wait};
@@ -19,7 +19,7 @@ const MOST_THREADS: u64 = 8;
 type Other = JoinHandle<Result<Tally, Fault>>;
 
 /// Loads the server as it is told, with a line of progress or without. An error says why the load ends.
-pub fn load<R>(rt: R, settings: Settings, is_shown: bool) -> Result<Tally, Fault>
+pub fn load<R>(rt: R, settings: LoadSettings, is_shown: bool) -> Result<Tally, Fault>
 where
     R: Net<Listener = TcpListener, Stream = TcpStream>
         + Clock
@@ -45,7 +45,7 @@ where
 // What the clients of so many threads share.
 fn context_of<R: Net + Clock + AllocGlobal>(
     rt: &R,
-    settings: Settings,
+    settings: LoadSettings,
     threads: u64,
 ) -> Result<Context, Fault> {
     match (address_of(rt, &settings.target), Instant::now(rt)) {
@@ -79,7 +79,7 @@ where
     for index in 1..threads {
         begin(rt, context, index, threads, &mut others)?;
     }
-    let own = match Part::new(context.alloc, 0, threads) {
+    let own = match LoadPart::new(context.alloc, 0, threads) {
         Ok(part) => work(&rt, &**context, part, is_shown),
         Err(_) => Err(Fault::Memory),
     };
@@ -109,7 +109,7 @@ where
         + Drop
         + 'static,
 {
-    let part = Part::new(context.alloc, index, threads)?;
+    let part = LoadPart::new(context.alloc, index, threads)?;
     let context = Arc::try_clone(context)?;
     match thread::spawn(&rt, move || work(&rt, &*context, part, false)) {
         Ok(other) => Ok(others.push(other)?),

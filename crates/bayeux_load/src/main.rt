@@ -12,7 +12,7 @@ mod role;
 mod tally;
 mod worker;
 
-use bx_load::Settings;
+use bx_load::LoadSettings;
 use fault::Fault;
 use load::load;
 use report::report;
@@ -39,12 +39,12 @@ fn main(rt: HostRuntime) -> ExitCode {
 }
 
 // What the arguments of the process say.
-fn settings(rt: &HostRuntime) -> io::Result<Option<Settings>> {
+fn settings(rt: &HostRuntime) -> io::Result<Option<LoadSettings>> {
     let mut words = Vec::new(rt.alloc());
     for word in env::args(rt)?.skip(1) {
         words.push(word)?;
     }
-    Ok(Settings::read(rt.alloc(), words.as_slice())?)
+    Ok(LoadSettings::read(rt.alloc(), words.as_slice())?)
 }
 
 // Prints what came of the load.

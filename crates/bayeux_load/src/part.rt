@@ -3,7 +3,7 @@ use crate::client::Client;
 use crate::context::Context;
 use crate::fault::Fault;
 use crate::link::Link;
-use crate::role::{Publisher, Role, Session};
+use crate::role::{Publisher, Role, Subscriber};
 use crate::tally::Tally;
 use mio::Registry;
 use std::alloc::{AllocError, Global};
@@ -22,7 +22,7 @@ const SILENCE: u64 = 30_000_000_000;
 
 /// The part of a load that one thread does.
 #[derive(Drop)]
-pub struct Part {
+pub struct LoadPart {
     clients: Vec<Client>,
     // How many of them are sessions, which stand before the publishers.
     sessions: usize,
@@ -39,10 +39,10 @@ pub struct Part {
     has_ended: bool,
 }
 
-impl Part {
+impl LoadPart {
     /// The part of this index among so many. An error means that memory was refused.
-    pub fn new(alloc: Global, index: u64, threads: u64) -> Result<Part, AllocError> {
-        Ok(Part {
+    pub fn new(alloc: Global, index: u64, threads: u64) -> Result<LoadPart, AllocError> {
+        Ok(LoadPart {
             clients: Vec::new(alloc),
             sessions: 0,
             next: index,
@@ -85,10 +85,10 @@ impl Part {
         match number.checked_sub(settings.sessions as u64) {
             Some(publisher) => Ok(Role::Publisher(Publisher::new(settings, publisher))),
             None => {
-                let session = Session::new(context.alloc, settings, number)?;
+                let session = Subscriber::new(context.alloc, settings, number)?;
                 self.sessions = self.sessions.saturating_add(1);
                 self.expected = self.expected.saturating_add(session.expected());
-                Ok(Role::Session(session))
+                Ok(Role::Subscriber(session))
             }
         }
     }

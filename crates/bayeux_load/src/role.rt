@@ -1,19 +1,19 @@
 //! What a client is for: to receive, or to publish.
-use bx_load::{Arrival, Arrivals, Settings, Stamp, due, events_of};
+use bx_load::{Arrivals, LoadSettings, Reception, Stamp, due, events_of};
 use std::alloc::{AllocError, Global};
 
 /// What a client is for.
 #[derive(Drop)]
 pub enum Role {
     /// It receives.
-    Session(Session),
+    Subscriber(Subscriber),
     /// It publishes.
     Publisher(Publisher),
 }
 
 /// One that receives the events of a channel.
 #[derive(Drop)]
-pub struct Session {
+pub struct Subscriber {
     /// The number of its channel, from 0 on.
     pub channel: u32,
     /// The batch that its next connect acknowledges.
@@ -22,9 +22,13 @@ pub struct Session {
     arrivals: Vec<Arrivals>,
 }
 
-impl Session {
+impl Subscriber {
     /// The session of this number, to which nothing came. An error means that memory was refused.
-    pub fn new(alloc: Global, settings: &Settings, number: u64) -> Result<Session, AllocError> {
+    pub fn new(
+        alloc: Global,
+        settings: &LoadSettings,
+        number: u64,
+    ) -> Result<Subscriber, AllocError> {
         let channel = (number % settings.channels as u64) as u32;
         let mut arrivals = Vec::new(alloc);
         for publisher in 0..settings.publishers {
@@ -33,7 +37,7 @@ impl Session {
                 arrivals.push(Arrivals::new(alloc, count as usize)?)?;
             }
         }
-        Ok(Session {
+        Ok(Subscriber {
             channel,
             acknowledged: None,
             arrivals,
@@ -59,15 +63,15 @@ impl Session {
     }
 
     /// The event of this stamp comes.
-    pub fn take(&mut self, settings: &Settings, stamp: Stamp) -> Arrival {
+    pub fn take(&mut self, settings: &LoadSettings, stamp: Stamp) -> Reception {
         let channels = settings.channels as u64;
         if stamp.publisher % channels != self.channel as u64 {
-            return Arrival::Unknown;
+            return Reception::Unknown;
         }
         let at = (stamp.publisher / channels) as usize;
         match self.arrivals.get_mut(at) {
             Some(arrivals) => arrivals.take(stamp.number as usize),
-            None => Arrival::Unknown,
+            None => Reception::Unknown,
         }
     }
 }
@@ -86,7 +90,7 @@ pub struct Publisher {
 
 impl Publisher {
     /// The publisher of this number, which sent nothing.
-    pub fn new(settings: &Settings, number: u64) -> Publisher {
+    pub fn new(settings: &LoadSettings, number: u64) -> Publisher {
         Publisher {
             number,
             channel: (number % settings.channels as u64) as u32,
@@ -97,7 +101,7 @@ impl Publisher {
 
     /// The stamp of its next event where that is due so many nanoseconds after the first; it counts as sent,
     /// at the moment `now` in nanoseconds since the start.
-    pub fn next(&mut self, settings: &Settings, passed: u64, now: u64) -> Option<Stamp> {
+    pub fn next(&mut self, settings: &LoadSettings, passed: u64, now: u64) -> Option<Stamp> {
         if self.next >= settings.events as u64 {
             return None;
         }

@@ -1,5 +1,5 @@
 //! What came of a load.
-use bx_load::{Arrival, Latencies};
+use bx_load::{Latencies, Reception};
 use std::alloc::{AllocError, Global};
 
 /// What came of a load, or of one thread's part of it. Moments are in nanoseconds since it began.
@@ -48,15 +48,15 @@ impl Tally {
     }
 
     /// An event came at the moment `now`, which was sent at the moment `sent`.
-    pub fn arrived(&mut self, arrival: Arrival, sent: u64, now: u64) {
+    pub fn arrived(&mut self, arrival: Reception, sent: u64, now: u64) {
         self.delivered = self.delivered.saturating_add(1);
         self.last_delivered = now;
         self.latencies.record(now.saturating_sub(sent) / 1000, 1);
         match arrival {
-            Arrival::InOrder => (),
-            Arrival::OutOfOrder => self.out_of_order = self.out_of_order.saturating_add(1),
-            Arrival::Doubled => self.doubled = self.doubled.saturating_add(1),
-            Arrival::Unknown => self.unknown = self.unknown.saturating_add(1),
+            Reception::InOrder => (),
+            Reception::OutOfOrder => self.out_of_order = self.out_of_order.saturating_add(1),
+            Reception::Doubled => self.doubled = self.doubled.saturating_add(1),
+            Reception::Unknown => self.unknown = self.unknown.saturating_add(1),
         }
     }
 

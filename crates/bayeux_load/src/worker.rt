@@ -1,7 +1,7 @@
 //! A thread of a load.
 use crate::context::Context;
 use crate::fault::Fault;
-use crate::part::Part;
+use crate::part::LoadPart;
 use crate::tally::Tally;
 use mio::{Events, Poll};
 use std::alloc::Global;
@@ -25,7 +25,12 @@ struct Waiting {
 
 /// What comes of a part of a load, in which all threads have nothing left to do. An error says why
 /// the load ends.
-pub fn work<R>(rt: &R, context: &Context, mut part: Part, is_shown: bool) -> Result<Tally, Fault>
+pub fn work<R>(
+    rt: &R,
+    context: &Context,
+    mut part: LoadPart,
+    is_shown: bool,
+) -> Result<Tally, Fault>
 where
     R: Net<Listener = TcpListener, Stream = TcpStream> + Clock + Wait + Eprint,
 {
@@ -52,7 +57,12 @@ fn make_waiting(net: &impl Net, alloc: Global, is_shown: bool) -> Result<Waiting
 }
 
 // Goes on until all threads have nothing left to do.
-fn turns<R>(rt: &R, context: &Context, part: &mut Part, waiting: &mut Waiting) -> Result<(), Fault>
+fn turns<R>(
+    rt: &R,
+    context: &Context,
+    part: &mut LoadPart,
+    waiting: &mut Waiting,
+) -> Result<(), Fault>
 where
     R: Net<Listener = TcpListener, Stream = TcpStream> + Clock + Wait + Eprint,
 {
@@ -68,7 +78,7 @@ where
 fn is_last<R>(
     rt: &R,
     context: &Context,
-    part: &mut Part,
+    part: &mut LoadPart,
     waiting: &mut Waiting,
 ) -> Result<bool, Fault>
 where
@@ -88,7 +98,12 @@ where
 }
 
 // Opens what is to be opened, waits, and goes on with the clients whose connections became ready.
-fn serve<R>(rt: &R, context: &Context, part: &mut Part, waiting: &mut Waiting) -> Result<(), Fault>
+fn serve<R>(
+    rt: &R,
+    context: &Context,
+    part: &mut LoadPart,
+    waiting: &mut Waiting,
+) -> Result<(), Fault>
 where
     R: Net<Listener = TcpListener, Stream = TcpStream> + Clock,
 {

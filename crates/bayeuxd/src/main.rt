@@ -6,7 +6,7 @@ mod serve;
 mod ticker;
 
 use bx_settings::{Seed, Settings, read_flags, read_seed, read_words};
-use serve::{Arguments, ServeEnd, serve};
+use serve::{ServeEnd, Serving, serve};
 use std::net::{SocketAddr, ToSocketAddrs};
 use std::process::ExitCode;
 use std::random::RandomSource;
@@ -37,7 +37,7 @@ fn main(rt: HostRuntime) -> ExitCode {
     let Ok(addresses) = addresses_of(&rt, settings.listen) else {
         return failed(&rt, CANNOT_LISTEN);
     };
-    let arguments = Arguments {
+    let arguments = Serving {
         config: settings.config,
         seed,
         connections: settings.connections,

@@ -29,7 +29,7 @@ use tokio::runtime::Runtime;
 
 /// How the server is run.
 #[derive(Clone, Copy)]
-pub struct Arguments {
+pub struct Serving {
     /// How many shards there are, the times in milliseconds, the limits and the options.
     pub config: Config,
     /// Of the generator of nonces.
@@ -50,12 +50,7 @@ pub enum ServeEnd {
 }
 
 /// Serves on the first of the addresses that the system grants, and prints it once it listens.
-pub fn serve<R, W>(
-    rt: R,
-    addresses: &[SocketAddr],
-    arguments: Arguments,
-    writer: &mut W,
-) -> ServeEnd
+pub fn serve<R, W>(rt: R, addresses: &[SocketAddr], arguments: Serving, writer: &mut W) -> ServeEnd
 where
     R: Wait
         + Threads
@@ -81,7 +76,7 @@ where
 fn begin<R, W>(
     rt: R,
     addresses: &[SocketAddr],
-    arguments: Arguments,
+    arguments: Serving,
     writer: &mut W,
 ) -> io::Result<()>
 where
@@ -116,7 +111,7 @@ fn run<J, R, W>(
     rt: R,
     opened: Opened,
     addresses: &[SocketAddr],
-    arguments: Arguments,
+    arguments: Serving,
     start: Instant,
     placing: Arc<ByRemainder, Global>,
     writer: &mut W,
@@ -184,7 +179,7 @@ fn serve_hub<J, R>(
     listener: TcpListener,
     hub: &Arc<Hub<J, ByRemainder, OpenGate, R>, Global>,
     clock: SinceStart<R>,
-    arguments: Arguments,
+    arguments: Serving,
 ) -> io::Result<()>
 where
     J: Naming + Send + Sync + 'static,

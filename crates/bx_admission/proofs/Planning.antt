@@ -10,7 +10,7 @@ use Rattle.bx_theory.proofs.Lists.{judged_length}
 use Rattle.bx_registry.specs.Words.{Amendment, CanCommit, Standing, changed, GoesOn, entries_in, Roll, roll_of, after, found}
 use Rattle.bx_registry.proofs.Steps.{runs_agree}
 use Rattle.bx_admission.specs.Ledgers.{Continues, LeadsTo, Ledger, roll_at, standing}
-use Rattle.bx_admission.specs.declared.plan.Plan.{Plan}
+use Rattle.bx_admission.specs.declared.plan.LedgerPlan.{LedgerPlan}
 
 -- ---- how long the list is
 
@@ -45,13 +45,13 @@ leads_to l change added planned made =
     record { planned = planned; registered = there; long = long; bounded = subst (λ (n : ℕ). n ≤ greatest_length) long planned.planned.length }
 
 -- a plan that was made at this roll continues the list
-pub continues : (shards : ℕ) (roll : Roll) (list added : List Listed) (ready : Bool) (p : Plan) → roll ≡ roll_at roll.config list → p.elements ≡ added → p.batch.first ≡ roll.length →
+pub continues : (shards : ℕ) (roll : Roll) (list added : List Listed) (ready : Bool) (p : LedgerPlan) → roll ≡ roll_at roll.config list → p.elements ≡ added → p.batch.first ≡ roll.length →
     p.batch.entries ≡ entries_in (found roll added) → CanCommit (record { roll = roll; ready = ready }) p.change → changed roll p.change ≡ after roll added →
     Continues (record { config = roll.config; shards = shards; list = list; ready = ready }) p
 continues shards roll list added ready p at elements first entered planned made =
     let config : Config = roll.config in
     let l : Ledger = record { config = config; shards = shards; list = list; ready = ready } in
-    subst (λ (es : List Listed). (let q : Plan = record p { elements = es } in Continues l q)) (sym elements)
+    subst (λ (es : List Listed). (let q : LedgerPlan = record p { elements = es } in Continues l q)) (sym elements)
     (record {
       first = first ∙ roll_length config list roll at;
       entries = entries_on config list added ∙ ap (λ (r : Roll). entries config list ++ entries_in (found r added)) (sym at) ∙ ap (λ (es : List Entry). entries config list ++ es) (sym entered);

@@ -4,7 +4,7 @@ use Rattle.bx_advice.specs.declared.config.Config.{Config}
 use Rattle.bx_advice.specs.Limits.{greatest_length}
 use Rattle.bx_entry.specs.Words.{Listed, Registered, Registry, registry, entries}
 use Rattle.bx_registry.specs.Words.{Amendment, CanCommit, Standing, changed, Roll, roll_of}
-use Rattle.bx_admission.specs.declared.plan.Plan.{Plan}
+use Rattle.bx_admission.specs.declared.plan.LedgerPlan.{LedgerPlan}
 
 -- the configuration, among how many shards sessions are placed, all that was admitted, and whether there is a vacant record for the next session
 pub record Ledger : Type 0 where
@@ -33,7 +33,7 @@ pub record LeadsTo (l : Ledger) (change : Amendment) (elements : List Listed) : 
   pub bounded : length (l.list ++ elements) ≤ greatest_length
 
 -- the batch begins where the list ends and has the entries that the elements come to behind it, and the change leads there
-pub record Continues (l : Ledger) (p : Plan) : Type 0 where
+pub record Continues (l : Ledger) (p : LedgerPlan) : Type 0 where
   pub first : p.batch.first ≡ length l.list
   pub entries : entries l.config (l.list ++ p.elements) ≡ entries l.config l.list ++ p.batch.entries
   pub change : LeadsTo l p.change p.elements

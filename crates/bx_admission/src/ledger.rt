@@ -9,7 +9,7 @@ ghost use Rattle.bx_registry.specs.declared.plan.AdmitFault.TheVariants.{Memory}
 ghost use Rattle.bx_admission.specs.Ledgers.{Continues, LeadsTo, count_live};
 ghost use Rattle.bx_admission.specs.Slots.{admitted_slots, placed_by};
 
-use crate::plan::Plan;
+use crate::plan::LedgerPlan;
 use crate::slots::placed;
 use bx_advice::{Config, ShardCount};
 use bx_entry::{Batch, Placing};
@@ -82,7 +82,7 @@ impl Ledger {
         moment: u64,
         nonce: u128,
         messages: &[Message],
-    ) -> Result<Plan, AdmitFault>
+    ) -> Result<LedgerPlan, AdmitFault>
         ensures same { self.new ≡ record self.old { ready = self.new.ready } }
         ensures fault { IfSome (fault_of moment (length self.old.list + length messages.now)) (λ fault. result ≡ Err fault) }
         ensures memory { fault_of moment (length self.old.list + length messages.now) ≡ None → IsOkUnless result Memory }
@@ -95,7 +95,7 @@ impl Ledger {
         let slots = placed(alloc, placing, self.shards, planned.slots)?;
         let mut elements = Listing::new();
         elements.post(moment, nonce, messages);
-        Ok(Plan {
+        Ok(LedgerPlan {
             batch: planned.batch,
             slots,
             elements,
@@ -105,7 +105,7 @@ impl Ledger {
 
     /// What a tick at this moment, in milliseconds, comes to: it closes the live sessions that were due before it. It
     /// is refused as a request with one message is.
-    pub fn plan_tick(&mut self, alloc: Global, moment: u64) -> Result<Plan, AdmitFault>
+    pub fn plan_tick(&mut self, alloc: Global, moment: u64) -> Result<LedgerPlan, AdmitFault>
         ensures same { self.new ≡ self.old }
         ensures fault { IfSome (fault_of moment (length self.old.list + 1)) (λ fault. result ≡ Err fault) }
         ensures memory { fault_of moment (length self.old.list + 1) ≡ None → IsOkUnless result Memory }
@@ -119,7 +119,7 @@ impl Ledger {
         entries.push(planned.entry)?;
         let mut elements = Listing::new();
         elements.tick(moment);
-        Ok(Plan {
+        Ok(LedgerPlan {
             batch: Batch { first, entries },
             slots: Sequence::new(alloc),
             elements,

@@ -6,4 +6,4 @@ mod plan;
 mod slots;
 
 pub use ledger::Ledger;
-pub use plan::Plan;
+pub use plan::LedgerPlan;

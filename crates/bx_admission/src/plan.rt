@@ -6,7 +6,7 @@ use bx_registry::Change;
 
 /// What a request or a tick adds to the list.
 #[derive(Drop)]
-pub struct Plan {
+pub struct LedgerPlan {
     /// The entries of its messages, or the tick's.
     pub batch: Batch,
     /// For each message in order how it is answered; none for a tick.

@@ -1,19 +1,16 @@
 -- The hold that comes first ends first.
-use Rattle.std.proofs.Common.{◌≡◌, ◌<◌, ◌≤◌, ◌⊎◌, inl, inr, ℕ, true, false, List, slice_index_or, arith, sym, ap, ◌∙◌, true≢false}
+use Rattle.std.proofs.Common.{◌≡◌, ◌<◌, ◌≤◌, ℕ, false, List, arith, sym, ap}
 use Rattle.std.proofs.Math.Dec.{leb}
-use Rattle.std.specs.Ordering.{nat_cmp, ordering_then, is_gt, is_eq}
-use Rattle.std.specs.declared.cmp.Ordering.TheVariants.{Less, Greater}
+use Rattle.std.specs.Ordering.{nat_cmp, ordering_then, is_eq}
+use Rattle.std.specs.declared.cmp.Ordering.TheVariants.{Less}
 use Rattle.std.specs.{Cmp.nat_cmp_is, BTreeMap.is_at, BTreeMap.Range.IsLeBy, List.All, List.list_any}
 use Rattle.std.proofs.lemmas.{Bool.Decides.leb_tells, List.Folds.list_any_none}
 use Rattle.bx_connects.specs.Deadlines.{hold_cmp}
+use Rattle.std.proofs.lemmas.Grind.{common_steps}
 
 -- what is not above another does not end before it
 pub ends_later : (k x : ℕ × ℕ × ℕ) → IsLeBy hold_cmp k x → k.0 ≤ x.0
-ends_later k x h = by (leb_tells k.0 x.0)
-  where
-    by : ((leb k.0 x.0 ≡ true) × (k.0 ≤ x.0)) ⊎ ((leb k.0 x.0 ≡ false) × (x.0 < k.0)) → k.0 ≤ x.0
-    by (inl told) = told.1
-    by (inr told) = absurd (true≢false (ap (λ o. is_gt (ordering_then (ordering_then o (nat_cmp k.1 x.1)) (nat_cmp k.2 x.2))) (nat_cmp_is k.0 x.0 Greater told.1) ∙ h))
+ends_later k x h = grind (arith, common_steps, leb_tells, leb)
 
 -- what ends before another is another
 pub is_another : (q x : ℕ × ℕ × ℕ) → q.0 < x.0 → is_at (hold_cmp q) x ≡ false
@@ -21,6 +18,4 @@ is_another q x h = ap (λ o. is_eq (ordering_then (ordering_then o (nat_cmp q.1 
 
 -- what ends before the first is not there
 pub none_before : (k : ℕ × ℕ × ℕ) (keys : List (ℕ × ℕ × ℕ)) → All (IsLeBy hold_cmp k) keys → (q : ℕ × ℕ × ℕ) → q.0 < k.0 → list_any (is_at (hold_cmp q)) keys ≡ false
-none_before k keys h q before =
-    list_any_none (is_at (hold_cmp q)) keys
-    (λ i d within. let x = slice_index_or keys i d in is_another q x (omega (arith, before, ends_later k x (h i d within))))
+none_before k keys h q before = grind (arith, common_steps, list_any_none, is_another, ends_later)

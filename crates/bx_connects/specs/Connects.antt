@@ -33,9 +33,8 @@ connect_at connects place = state_by (hold_at connects.held place) (filing_at co
 
 -- whether a connect is held and its answer is filed
 abbrev pub is_both : Option HeldConnect → Option FiledAnswer → Bool
-is_both None filed = false
-is_both (Some h) None = false
 is_both (Some h) (Some f) = true
+is_both _ _ = false
 
 -- no connect is held whose answer is filed
 abbrev pub AreApart : List (ℕ × HeldConnect) → List (ℕ × FiledAnswer) → Type 0
@@ -88,9 +87,8 @@ filed_as place answer (Some (Filed session earlier replaced)) = Some (Filed sess
 
 -- an answer that is filed, with these events
 abbrev pub completed : List Event → Option ConnectState → Option ConnectState
-completed events None = None
-completed events (Some (Held session deadline waker)) = Some (Held session deadline waker)
 completed events (Some (Filed session place answer)) = Some (Filed session place (record answer { events = events }))
+completed events state = state
 
 -- the connects with an answer filed for one of them, which the entry at this place gives
 abbrev pub filing : ℕ → Option Answered → (ℕ → Option ConnectState) → ℕ → Option ConnectState
@@ -99,15 +97,13 @@ filing place (Some a) connects p = if nat_eq a.place p then filed_as place a.ans
 
 -- the answer, where it is filed
 abbrev pub filed_answer : Option ConnectState → Option Answer
-filed_answer None = None
-filed_answer (Some (Held session deadline waker)) = None
 filed_answer (Some (Filed session place answer)) = Some answer
+filed_answer _ = None
 
 -- a filed answer is taken, and nothing is known of its connect from then on
 abbrev pub taken_from : Option ConnectState → Option ConnectState
-taken_from None = None
-taken_from (Some (Held session deadline waker)) = Some (Held session deadline waker)
 taken_from (Some (Filed session place answer)) = None
+taken_from state = state
 
 -- what comes of a waker for the connect; after the shard was shut none is stored
 abbrev pub watched : Bool → Waker → Option ConnectState → Watch
@@ -118,10 +114,8 @@ watched shut waker (Some (Filed session place answer)) = Ready waker
 
 -- the connect with a waker that is stored
 abbrev pub with_waker : Bool → Waker → Option ConnectState → Option ConnectState
-with_waker shut waker None = None
-with_waker true waker (Some (Held session deadline older)) = Some (Held session deadline older)
 with_waker false waker (Some (Held session deadline older)) = Some (Held session deadline (Some waker))
-with_waker shut waker (Some (Filed session place answer)) = Some (Filed session place answer)
+with_waker _ waker state = state
 
 -- the connect without a waker
 abbrev pub unwatched : ConnectState → ConnectState

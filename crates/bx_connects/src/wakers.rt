@@ -43,6 +43,7 @@ impl Wakers {
     }
 
     /// One waker more is to be woken.
+    #[tactic(auto, using(crate::proofs::WakingLemmas::pushed))]
     pub fn push(&mut self, waker: Waker)
         ensures { self.new ≡ self.old ++ waker ∷ [] }
     {

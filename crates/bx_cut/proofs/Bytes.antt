@@ -1,11 +1,12 @@
 -- The lexer's first step, by the byte that a text begins with.
-use Rattle.std.proofs.Common.{◌≡◌, ◌≢◌, ℕ, suc, ◌+◌, ◌⊎◌, inl, inr, Bool, true, false, cond, ◌||◌, ◌==◌, List, [], ◌∷◌, ◌++◌, length, take, drop, refl, sym, ap, ◌∙◌, subst, arith}
-use Rattle.std.proofs.lemmas.Bool.{true≢false, eqb-true, ne_eqb, or_cases, cases_eq}
+use Rattle.std.proofs.Common.{◌≡◌, ◌≢◌, ℕ, suc, ◌+◌, ◌⊎◌, Bool, true, false, cond, ◌||◌, ◌==◌, List, [], ◌∷◌, ◌++◌, length, take, drop, refl, sym, ap, ◌∙◌, subst, arith}
+use Rattle.std.proofs.lemmas.Bool.{true≢false, eqb-true, or_cases}
 use Rattle.std.proofs.lemmas.List.{take-append-drop}
 use Rattle.std.specs.List.{prefix_len}
 use Rattle.json.specs.Word.{is_operator, is_space, ends_word}
 use Rattle.json.specs.Lex.{between, other, class, lex}
 use Rattle.bx_cut.specs.Cut.{past_blank, outside, opens, closes, nest_len, is_word_byte}
+use Rattle.std.proofs.lemmas.Grind.{common_steps}
 
 pub space_cases : (P : ℕ → Type 0) → P 32 → P 9 → P 10 → P 13 → (x : ℕ) → is_space x ≡ true → P x
 space_cases P a b c d x h = third (or_cases ((x == 32) || (x == 9) || (x == 10)) (x == 13) h)
@@ -14,16 +15,13 @@ space_cases P a b c d x h = third (or_cases ((x == 32) || (x == 9) || (x == 10))
     at n p e = subst P (sym (eqb-true x n e)) p
 
     first : ((x == 32) ≡ true) ⊎ ((x == 9) ≡ true) → P x
-    first (inl e) = at 32 a e
-    first (inr e) = at 9 b e
+    first h1 = grind (arith, common_steps)
 
     second : (((x == 32) || (x == 9)) ≡ true) ⊎ ((x == 10) ≡ true) → P x
-    second (inl e) = first (or_cases (x == 32) (x == 9) e)
-    second (inr e) = at 10 c e
+    second h1 = grind (arith, common_steps)
 
     third : (((x == 32) || (x == 9) || (x == 10)) ≡ true) ⊎ ((x == 13) ≡ true) → P x
-    third (inl e) = second (or_cases ((x == 32) || (x == 9)) (x == 10) e)
-    third (inr e) = at 13 d e
+    third h1 = grind (arith, common_steps)
 
 pub record Other (x : ℕ) : Type 0 where
   pub class_is : class x ≡ other
@@ -34,13 +32,7 @@ pub record Other (x : ℕ) : Type 0 where
 
 -- a byte that is none of those with a meaning of their own
 pub is_other : (x : ℕ) → x ≢ 34 → x ≢ 92 → x ≢ 123 → x ≢ 125 → x ≢ 91 → x ≢ 93 → x ≢ 58 → x ≢ 44 → x ≢ 32 → x ≢ 9 → x ≢ 10 → x ≢ 13 → Other x
-is_other x a b c d e f g h i j k l = record {
-  class_is = rw (ne_eqb x 34 a, ne_eqb x 92 b, ne_eqb x 123 c, ne_eqb x 125 d, ne_eqb x 91 e, ne_eqb x 93 f, ne_eqb x 58 g, ne_eqb x 44 h, ne_eqb x 32 i, ne_eqb x 9 j, ne_eqb x 10 k, ne_eqb x 13 l);
-  quote_not = ne_eqb x 34 a;
-  opens_not = rw (ne_eqb x 123 c, ne_eqb x 91 e);
-  closes_not = rw (ne_eqb x 125 d, ne_eqb x 93 f);
-  word_byte = rw (ne_eqb x 123 c, ne_eqb x 125 d, ne_eqb x 91 e, ne_eqb x 93 f, ne_eqb x 58 g, ne_eqb x 44 h, ne_eqb x 32 i, ne_eqb x 9 j, ne_eqb x 10 k, ne_eqb x 13 l);
-}
+is_other x a b c d e f g h i j k l = grind (arith, common_steps)
 
 -- the cases of a byte that is no white space
 pub byte_cases : (P : ℕ → Type 0) → P 34 → P 92 → P 123 → P 125 → P 91 → P 93 → P 58 → P 44 → ((x : ℕ) → Other x → P x) → (x : ℕ) → is_space x ≡ false → P x
@@ -50,11 +42,7 @@ byte_cases P a b c d e f g h o x s =
     o x (is_other x i j k l m n p q (blank 32 refl) (blank 9 refl) (blank 10 refl) (blank 13 refl))))))))))
   where
     at : (n : ℕ) → P n → ((x ≡ n → ⊥) → P x) → P x
-    at n p q = go (cases_eq x n)
-      where
-        go : (x ≡ n) ⊎ (x ≡ n → ⊥) → P x
-        go (inl z) = subst P (sym z) p
-        go (inr z) = q z
+    at n p q = grind (arith, common_steps)
 
 -- ---- white space in front
 
@@ -85,8 +73,7 @@ blank_more w b x h = space_cases (λ y. Blank (y ∷ w)) (step 32 (λ z. refl) (
     }
       where
         or_true : (t : Bool) → (t || true) ≡ true
-        or_true true = refl
-        or_true false = refl
+        or_true t = grind (arith, common_steps)
 
 abbrev pub blanks : List ℕ → List ℕ
 blanks t = take (prefix_len is_space t) t
@@ -114,8 +101,4 @@ BeginsFull (x ∷ xs) = is_space x ≡ false
 
 pub past-full : (t : List ℕ) → BeginsFull (past_blank t)
 past-full [] = tt
-past-full (x ∷ xs) = by_test (is_space x) refl (past-full xs)
-  where
-    by_test : (s : Bool) → is_space x ≡ s → BeginsFull (past_blank xs) → BeginsFull (drop (cond s (1 + prefix_len is_space xs) 0) (x ∷ xs))
-    by_test true e f = subst BeginsFull (sym (next_one (prefix_len is_space xs) x xs)) f
-    by_test false e f = e
+past-full (x ∷ xs) = grind (arith, common_steps, next_one, past-full xs)

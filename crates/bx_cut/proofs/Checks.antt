@@ -10,6 +10,8 @@ use Rattle.serde_json.specs.View.{view, items_view}
 use Rattle.serde_json.specs.declared.value.Value.{Value}
 use Rattle.bx_cut.specs.Faults.{all_objects, array_fault, value_fault, fault}
 use Rattle.bx_cut.specs.declared.error.CutError.TheVariants.{NotJson, NotObject, TooMany}
+use Rattle.std.proofs.lemmas.Grind.{common_steps}
+use Rattle.std.proofs.Common.{arith}
 
 -- ---- a value
 
@@ -25,13 +27,7 @@ items_len-view [] = refl
 items_len-view (v ∷ vs) = ap suc (items_len-view vs)
 
 module _ (d : Data) where
-  pub object_passes : is_some (as_object d) ≡ true → value_fault (Some d) ≡ None
-  object_passes h = ap (λ b. cond b None (array_fault (as_array d))) h
-
   module _ (none : is_some (as_object d) ≡ false) where
-    pub no_array : None ≡ as_array d → value_fault (Some d) ≡ Some NotObject
-    no_array e = ap (λ b. cond b None (array_fault (as_array d))) none ∙ ap array_fault (sym e)
-
     module _ (vs : List Value) (there : Some (items_view vs) ≡ as_array d) where
       in_array : value_fault (Some d) ≡ array_fault (Some (items_view vs))
       in_array = ap (λ b. cond b None (array_fault (as_array d))) none ∙ ap array_fault (sym there)
@@ -40,9 +36,7 @@ module _ (d : Data) where
       other_item h = in_array ∙ ap (λ b. cond b (cond (nat_lt 256 (items_len (items_view vs))) (Some TooMany) None) (Some NotObject)) (sym (all_objects-view vs) ∙ h)
 
       all_pass : list_all is_object vs ≡ true → value_fault (Some d) ≡ cond (nat_lt 256 (length vs)) (Some TooMany) None
-      all_pass h =
-          in_array ∙ ap (λ b. cond b (cond (nat_lt 256 (items_len (items_view vs))) (Some TooMany) None) (Some NotObject)) (sym (all_objects-view vs) ∙ h)
-          ∙ ap (λ n. cond (nat_lt 256 n) (Some TooMany) None) (items_len-view vs)
+      all_pass h = grind (arith, common_steps, in_array, all_objects-view, items_len-view)
 
       pub too_many : list_all is_object vs ≡ true → 256 < length vs → value_fault (Some d) ≡ Some TooMany
       too_many h l = all_pass h ∙ ap (λ b. cond b (Some TooMany) None) (lt-ltb 256 (length vs) l)
@@ -61,5 +55,6 @@ unfolding fault
 fault-no_text body n = ap (λ b. cond b (value_fault (read body)) (Some NotJson)) (is_false (is_utf8 body) (IsUtf8-from_is_utf8 body))
   where
     is_false : (b : Bool) → (b ≡ true → IsUtf8 body) → b ≡ false
-    is_false true f = absurd (n (f refl))
-    is_false false f = refl
+    is_false b h1 = grind (arith, common_steps)
+
+pub ruleset faults = (other_item, too_many, within, common_steps)

@@ -1,33 +1,27 @@
 -- The content of a string, a part at a time.
 use Rattle.std.proofs.Common.{◌≡◌, ◌≢◌, ℕ, suc, ◌+◌, ◌<◌, ◌≤◌, Bool, true, false, cond, ◌&&◌, ◌==◌, nat_lt, List, [], ◌∷◌, ◌++◌, length, take, drop, get_or, Option, Some, None, option_and_then, refl, sym, ap, ◌∙◌, subst, arith}
-use Rattle.std.proofs.lemmas.List.{append_assoc, append-nil, length-append}
-use Rattle.std.proofs.lemmas.Bool.{and_parts, or_parts, not-true, eqb-true, false≢true, ne_eqb}
-use Rattle.std.specs.Prelude.{not, ◌||◌, IsTrue, slice_get}
-use Rattle.std.specs.{List.list_all, List.prefix_len, Char.encode_utf8}
+use Rattle.std.proofs.lemmas.List.{append_assoc, append-nil, length-append, length-drop, take_all, drop-drop, get_or-drop}
+use Rattle.std.proofs.lemmas.Bool.{and_parts, or_parts, not-true, false≢true, ne_eqb}
+use Rattle.std.specs.Prelude.{◌||◌, IsTrue, slice_get}
+use Rattle.std.specs.{List.list_all, List.prefix_len, Char.encode_utf8, Char.IsScalar, Char.InScalarRange, Option.SomeIff, Option.MatchOption, Option.IsSome}
 use Rattle.json.specs.Text.{code_unit, short_escape, is_high_surrogate, is_low_surrogate, surrogate_pair, plain, after_backslash, after_u, after_high, prepend, content}
 use Rattle.json.specs.Run.{is_plain}
 use Rattle.bx_cut.specs.Cut.{begins_with, after_first}
+use Rattle.std.proofs.lemmas.Grind.{common_steps}
 
 pub after_backslash-nil : (t : List ℕ) → length t ≡ 0 → content after_backslash t ≡ None
 unfolding content
-after_backslash-nil [] h = refl
-after_backslash-nil (x ∷ xs) h = let no : ⊥ = omega arith in absurd no
+after_backslash-nil t h1 = grind (arith, common_steps)
 
 pub after_backslash-at : (t : List ℕ) → 0 < length t → content after_backslash t
     ≡ cond (get_or t 0 0 == 117) (content after_u (drop 1 t)) (option_and_then (λ c. prepend (c ∷ []) (content plain (drop 1 t))) (short_escape (get_or t 0 0)))
 unfolding content
-after_backslash-at [] h = let no : ⊥ = omega arith in absurd no
-after_backslash-at (x ∷ xs) h = refl
+after_backslash-at t h1 = grind (arith, common_steps)
 
 -- what follows `\u` in a text that begins with the `u`
 pub unit-short : (t : List ℕ) → length t < 5 → content after_u (drop 1 t) ≡ None
 unfolding content
-unit-short [] h = refl
-unit-short (u ∷ []) h = refl
-unit-short (u ∷ a ∷ []) h = refl
-unit-short (u ∷ a ∷ b ∷ []) h = refl
-unit-short (u ∷ a ∷ b ∷ c ∷ []) h = refl
-unit-short (u ∷ a ∷ b ∷ c ∷ d ∷ xs) h = let no : ⊥ = omega arith in absurd no
+unit-short t h1 = grind (arith, common_steps)
 
 abbrev pub unit_within : List ℕ → ℕ → Option ℕ
 unit_within t i = code_unit (get_or t i 0) (get_or t (i + 1) 0) (get_or t (i + 2) 0) (get_or t (i + 3) 0)
@@ -44,13 +38,7 @@ unit-at (u ∷ a ∷ b ∷ c ∷ d ∷ xs) h = refl
 
 pub high-short : (high : ℕ) (t : List ℕ) → length t < 6 → content (after_high high) t ≡ None
 unfolding content
-high-short high [] h = refl
-high-short high (s ∷ []) h = refl
-high-short high (s ∷ u ∷ []) h = refl
-high-short high (s ∷ u ∷ a ∷ []) h = refl
-high-short high (s ∷ u ∷ a ∷ b ∷ []) h = refl
-high-short high (s ∷ u ∷ a ∷ b ∷ c ∷ []) h = refl
-high-short high (s ∷ u ∷ a ∷ b ∷ c ∷ d ∷ xs) h = let no : ⊥ = omega arith in absurd no
+high-short high t h1 = grind (arith, common_steps)
 
 pub high-at : (high : ℕ) (t : List ℕ) → 6 ≤ length t → content (after_high high) t
     ≡ cond ((get_or t 0 0 == 92) && (get_or t 1 0 == 117)) (option_and_then (λ l. cond (is_low_surrogate l) (prepend (encode_utf8 (surrogate_pair high l)) (content plain (drop 6 t))) None) (unit_within t 2)) None
@@ -64,12 +52,10 @@ high-at high (s ∷ u ∷ a ∷ b ∷ c ∷ []) h = let no : ⊥ = omega arith i
 high-at high (s ∷ u ∷ a ∷ b ∷ c ∷ d ∷ xs) h = refl
 
 pub prepend-prepend : (a b : List ℕ) (r : Option (List ℕ)) → prepend a (prepend b r) ≡ prepend (a ++ b) r
-prepend-prepend a b None = refl
-prepend-prepend a b (Some s) = ap Some (sym (append_assoc a b s))
+prepend-prepend a b r = grind (arith, common_steps)
 
 pub prepend-nil : (r : Option (List ℕ)) → prepend [] r ≡ r
-prepend-nil None = refl
-prepend-nil (Some s) = refl
+prepend-nil r = grind (arith, common_steps)
 
 -- plain bytes stand for themselves
 pub content-run : (xs : List ℕ) → content plain xs ≡ prepend (take (prefix_len is_plain xs) xs) (content plain (drop (prefix_len is_plain xs) xs))
@@ -94,10 +80,7 @@ run-plain [] = refl
 run-plain (x ∷ xs) = by_test (is_plain x) refl (run-plain xs)
   where
     by_test : (p : Bool) → is_plain x ≡ p → list_all is_plain (take (prefix_len is_plain xs) xs) ≡ true → list_all is_plain (take (cond p (1 + prefix_len is_plain xs) 0) (x ∷ xs)) ≡ true
-    by_test false e ih = refl
-    by_test true e ih =
-        let next : suc (prefix_len is_plain xs) ≡ 1 + prefix_len is_plain xs = omega arith in
-        subst (λ (k : ℕ). list_all is_plain (take k (x ∷ xs)) ≡ true) next (rw e ih)
+    by_test p h1 h2 = grind (arith, common_steps)
 
 -- where plain bytes and a quote stand in front, the quote stands behind the plain bytes
 pub plain-then-quote : (text rest : List ℕ) → list_all is_plain text ≡ true
@@ -119,45 +102,24 @@ plain-none [] = refl
 plain-none (x ∷ xs) = by_test (is_plain x) refl (plain-none xs)
   where
     by_test : (p : Bool) → p ≡ is_plain x → prefix_len is_plain (drop (prefix_len is_plain xs) xs) ≡ 0 → prefix_len is_plain (drop (cond p (1 + prefix_len is_plain xs) 0) (x ∷ xs)) ≡ 0
-    by_test true e ih = let next : suc (prefix_len is_plain xs) ≡ 1 + prefix_len is_plain xs = omega arith in subst (λ (k : ℕ). prefix_len is_plain (drop k (x ∷ xs)) ≡ 0) next ih
-    by_test false e ih = ap (λ b. cond b (1 + prefix_len is_plain xs) 0) (sym e)
+    by_test p h1 h2 = grind (arith, common_steps)
 
 -- ---- where no plain byte is next
 
 pub at-quote : (t : List ℕ) → begins_with 34 t ≡ true → content plain t ≡ Some []
 unfolding content
-at-quote [] h = cc
-at-quote (x ∷ xs) h = ap (λ b. cond b (Some []) (cond (x == 92) (content after_backslash xs) (cond (nat_lt x 32) None (prepend (x ∷ []) (content plain xs))))) h
+at-quote t h1 = grind (arith, common_steps)
 
 pub at-backslash : (t r : List ℕ) → Some r ≡ after_first 92 t → content plain t ≡ content after_backslash r
 unfolding content after_first
-at-backslash [] r h = cc
-at-backslash (x ∷ xs) r h = by_test (x == 92) refl h
-  where
-    by_test : (b : Bool) → (x == 92) ≡ b → Some r ≡ cond b (Some xs) None → content plain (x ∷ xs) ≡ content after_backslash r
-    by_test true e h =
-        let is : x ≡ 92 = eqb-true x 92 e in
-        let same : r ≡ xs = cc in
-        ap (λ y. content plain (y ∷ xs)) is ∙ ap (content after_backslash) (sym same)
-    by_test false e h = cc
+at-backslash t r h1 = grind (arith, common_steps)
 
 pub at-fault : (t : List ℕ) → prefix_len is_plain t ≡ 0 → begins_with 34 t ≡ false → None ≡ after_first 92 t → content plain t ≡ None
 unfolding content after_first
-at-fault [] z q h = refl
-at-fault (x ∷ xs) z q h = by_tests (x == 34) (x == 92) (nat_lt x 32) q h z
-  where
-    by_tests : (a b c : Bool) → a ≡ false → None ≡ cond b (Some xs) None → cond (not ((a || b) || c)) (1 + prefix_len is_plain xs) 0 ≡ 0
-        → cond a (Some []) (cond b (content after_backslash xs) (cond c None (prepend (x ∷ []) (content plain xs)))) ≡ None
-    by_tests true b c q h z = cc
-    by_tests false true c q h z = cc
-    by_tests false false true q h z = refl
-    by_tests false false false q h z = let no : ⊥ = omega (arith, z) in absurd no
+at-fault t h1 h2 h3 = grind (arith, common_steps)
 
 pub after-run : (t front run after : List ℕ) (n : ℕ) (o : Option (List ℕ)) → n ≡ prefix_len is_plain t → run ≡ take n t → after ≡ drop n t → o ≡ prepend front (content plain t) → o ≡ prepend (front ++ run) (content plain after)
-after-run t front run after n o e f g h =
-    let there : content plain t ≡ prepend (take n t) (content plain (drop n t)) = rw e (content-run t) in
-    let both = h ∙ ap (prepend front) there ∙ prepend-prepend front (take n t) (content plain (drop n t)) in
-    rw (f, g) both
+after-run t front run after n o e f g h = grind (arith, common_steps, content-run, prepend-prepend)
 
 pub after-end : (front text : List ℕ) (o : Option (List ℕ)) → content plain text ≡ Some [] → o ≡ prepend front (content plain text) → o ≡ Some front
 after-end front text o e h = h ∙ ap (prepend front) e ∙ ap Some (append-nil front)
@@ -170,30 +132,18 @@ after-fault front text o e h = h ∙ ap (prepend front) e
 
 -- ---- beside a text that is wanted
 
-abbrev first_of : Option (List ℕ) → ℕ
-first_of None = 0
-first_of (Some []) = 0
-first_of (Some (x ∷ xs)) = x
-
 -- a byte that is no backslash, and not the first one that is wanted, begins another text
 differs : (x y : ℕ) (xs ys : List ℕ) → x ≢ y → (x == 92) ≡ false → content plain (x ∷ xs) ≡ Some (y ∷ ys) → ⊥
 unfolding content
 differs x y xs ys other plainly e = by_tests (x == 34) (x == 92) (nat_lt x 32) plainly (content plain xs) e
   where
     by_tests : (q b c : Bool) → b ≡ false → (rest : Option (List ℕ)) → cond q (Some []) (cond b (content after_backslash xs) (cond c None (prepend (x ∷ []) rest))) ≡ Some (y ∷ ys) → ⊥
-    by_tests true b c is rest e = cc
-    by_tests false true c is rest e = cc
-    by_tests false false true is rest e = cc
-    by_tests false false false is None e = cc
-    by_tests false false false is (Some s) e = other (ap first_of e)
+    by_tests q b c h1 rest h2 = grind (arith, common_steps)
 
 pub differs-at-once : (t w : List ℕ) (x y : ℕ) → Some x ≡ slice_get t 0 → Some y ≡ slice_get w 0 → x ≢ y → (x == 92) ≡ false → content plain t ≡ Some w → ⊥
 differs-at-once [] w x y at beside other plainly e = cc
 differs-at-once (u ∷ t) [] x y at beside other plainly e = cc
-differs-at-once (u ∷ t) (v ∷ w) x y at beside other plainly e =
-    let first : x ≡ u = cc in
-    let second : y ≡ v = cc in
-    differs u v t w (λ same. other (first ∙ same ∙ sym second)) (ap (λ (n : ℕ). n == 92) (sym first) ∙ plainly) e
+differs-at-once (u ∷ t) (v ∷ w) x y at beside other plainly e = grind (arith, common_steps, differs)
 
 abbrev pub wanted_of : Option (List ℕ) → List ℕ
 wanted_of None = []
@@ -223,9 +173,7 @@ fault-not-spelled text o e = never (not_some text o e)
 -- the string ends: what is wanted has to end too
 pub end-spelled : (text done wanted run left : List ℕ) (o : Option (List ℕ)) (b : Bool) → text ≡ done ++ wanted → wanted ≡ run ++ left → o ≡ Some (done ++ run) → b ≡ (length left == 0)
     → (IsTrue b → o ≡ Some text) × (o ≡ Some text → IsTrue b)
-end-spelled text done wanted run [] o b t w h e =
-    let same : text ≡ done ++ run = t ∙ ap (λ x. done ++ x) (w ∙ append-nil run) in
-    (λ y. h ∙ ap Some (sym same), λ y. e)
+end-spelled text done wanted run [] o b t w h e = grind (arith, common_steps)
 end-spelled text done wanted run (x ∷ xs) o b t w h e =
     let some : (length (x ∷ xs) == 0) ≡ false = ne_eqb (length (x ∷ xs)) 0 (λ z. omega (arith, z)) in (
       λ y. absurd (false≢true (sym some ∙ sym e ∙ y)),
@@ -235,3 +183,15 @@ end-spelled text done wanted run (x ∷ xs) o b t w h e =
           let whole : text ≡ done ++ (run ++ (x ∷ xs)) = t ∙ ap (λ z. done ++ z) w in
           let no : ⊥ = omega (arith, ap length same, ap length whole, length-append done run, length-append done (run ++ (x ∷ xs)), length-append run (x ∷ xs)) in absurd no,
     )
+
+-- ---- what the functions on strings are proved by
+
+pub of_scalar : (r : Option ℕ) (code : ℕ) (text rest : Option (List ℕ)) → SomeIff r (IsScalar code) code → (InScalarRange code → IsSome r) → InScalarRange code → text ≡ prepend (encode_utf8 code) rest
+    → MatchOption r (text ≡ None) (λ c. text ≡ prepend (encode_utf8 c) rest)
+of_scalar r code text rest h1 h2 h3 h4 = grind (arith, common_steps)
+
+pub ruleset low_half = (high-at, of_scalar, common_steps)
+
+pub ruleset escapes = (after_backslash-nil, after_backslash-at, unit-short, unit-at, high-short, take_all, length-drop, drop-drop, get_or-drop, common_steps)
+
+pub ruleset differing = (not-true, differs-at-once, common_steps)

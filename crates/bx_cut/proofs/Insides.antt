@@ -12,20 +12,15 @@ use Rattle.bx_cut.specs.Words.{past_blank, past_byte, after_first, Member, split
 use Rattle.bx_cut.proofs.{Bytes.Other, Slices.text_bare, Reach.some_same, Reach.from_map, Readings.whole, Seen.Matches, Seen.seen}
 use Rattle.bx_cut.proofs.Laws.{text_reads, members_bare, items_parts, members_found, pick_none}
 use Rattle.bx_cut.proofs.Nested.{EachText, find_items, find_members, found_first, other_first}
+use Rattle.std.proofs.lemmas.Grind.{common_steps}
 
 -- what a text begins with, by its value
 pub record Begins (t : List ℕ) (x : ℕ) : Type 0 where
   pub rest : List ℕ
   pub at : past_blank t ≡ x ∷ rest
 
-no_byte : (t : List ℕ) (c x : ℕ) → Begins t x → (x == c) ≡ false → past_byte c t ≡ None
-no_byte t c x b e = other_first c x t b.rest b.at e
-
 other_opens : (x : ℕ) → Other x → ((x == 123) ≡ false) × ((x == 91) ≡ false)
 other_opens x o = or_parts (x == 123) (x == 91) o.opens_not
-
-abbrev WordAt : List ℕ → Type 0
-WordAt t = (x : ℕ) × Begins t x × Other x
 
 each_text : (js : json.Items) (vs : List (List ℕ)) (ds : Items) → EachText vs js → items_depth js ≤ 126 → Some ds ≡ of_items js → AreTextsOf vs ds
 each_text json.no_items [] ds t h e = subst (AreTextsOf []) (sym (some_same ds no_items e)) tt
@@ -46,9 +41,7 @@ module _ (t : List ℕ) (d : Data) where
   elements_of_json json.null (x, xs, e, o, w, l) n h f = subst (AreElementsOf (elements t)) (some_same null d f) (no_elements (other_first 91 x t xs e (other_opens x o).1))
   elements_of_json (json.boolean true) (x, xs, e, o, w, l) n h f = subst (AreElementsOf (elements t)) (some_same (boolean true) d f) (no_elements (other_first 91 x t xs e (other_opens x o).1))
   elements_of_json (json.boolean false) (x, xs, e, o, w, l) n h f = subst (AreElementsOf (elements t)) (some_same (boolean false) d f) (no_elements (other_first 91 x t xs e (other_opens x o).1))
-  elements_of_json (json.number s) (x, xs, e, o, w, l) n h f =
-      let m = from_map number (number_of s) d (sym f) in
-      subst (AreElementsOf (elements t)) (sym m.2) (no_elements (other_first 91 x t xs e (other_opens x o).1))
+  elements_of_json (json.number s) (x, xs, e, o, w, l) n h f = grind (arith, common_steps, from_map, no_elements, other_first, other_opens)
   elements_of_json (json.string s) (xs, e, c, b, l) n h f = subst (AreElementsOf (elements t)) (some_same (string s) d f) (no_elements (other_first 91 34 t xs e refl))
   elements_of_json (json.array js) (xs, e, l) n h f =
       let m = from_map array (of_items js) d (sym f) in
@@ -56,21 +49,15 @@ module _ (t : List ℕ) (d : Data) where
       let list : elements t ≡ found.text.found = ap elements_inside (found_first 91 t xs e refl) ∙ ap (λ (q : List (List ℕ) × List ℕ). q.0) (ap (listed split_value) found.front ∙ found.text.list found.r) in
       let each : AreElementsOf found.text.found d = subst (AreElementsOf found.text.found) (sym m.2) (each_text js found.text.found m.0 found.text.each (omega arith) m.1) in
       subst (λ (vs : List (List ℕ)). AreElementsOf vs d) (sym list) each
-  elements_of_json (json.object ms) (xs, e, l) n h f =
-      let m = from_map object (of_members ms no_members) d (sym f) in
-      subst (AreElementsOf (elements t)) (sym m.2) (no_elements (other_first 91 123 t xs e refl))
+  elements_of_json (json.object ms) (xs, e, l) n h f = grind (arith, common_steps, from_map, no_elements, other_first)
 
   member_of_json : (name : List ℕ) (j : json.Json) → Matches true t (json_tokens j) → HasNumbers j → depth j ≤ 127 → of_json j ≡ Some d → option_and_then read (member_text name t) ≡ get name d
   member_of_json name json.null (x, xs, e, o, w, l) n h f = no_members_in name (other_first 123 x t xs e (other_opens x o).0) ∙ ap (get name) (some_same null d f)
   member_of_json name (json.boolean true) (x, xs, e, o, w, l) n h f = no_members_in name (other_first 123 x t xs e (other_opens x o).0) ∙ ap (get name) (some_same (boolean true) d f)
   member_of_json name (json.boolean false) (x, xs, e, o, w, l) n h f = no_members_in name (other_first 123 x t xs e (other_opens x o).0) ∙ ap (get name) (some_same (boolean false) d f)
-  member_of_json name (json.number s) (x, xs, e, o, w, l) n h f =
-      let m = from_map number (number_of s) d (sym f) in
-      no_members_in name (other_first 123 x t xs e (other_opens x o).0) ∙ ap (get name) (sym m.2)
+  member_of_json name (json.number s) (x, xs, e, o, w, l) n h f = grind (arith, common_steps, from_map, no_members_in, other_first, other_opens)
   member_of_json name (json.string s) (xs, e, c, b, l) n h f = no_members_in name (other_first 123 34 t xs e refl) ∙ ap (get name) (some_same (string s) d f)
-  member_of_json name (json.array js) (xs, e, l) n h f =
-      let m = from_map array (of_items js) d (sym f) in
-      no_members_in name (other_first 123 91 t xs e refl) ∙ ap (get name) (sym m.2)
+  member_of_json name (json.array js) (xs, e, l) n h f = grind (arith, common_steps, from_map, no_members_in, other_first)
   member_of_json name (json.object ms) (xs, e, l) n h f =
       let m = from_map object (of_members ms no_members) d (sym f) in
       let found = find_members ms xs [] n (l ∙ sym (append-nil (members_tokens ms))) in

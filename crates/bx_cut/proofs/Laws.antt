@@ -1,7 +1,7 @@
 -- The pieces of a document read as its elements.
-use Rattle.std.proofs.Common.{◌≡◌, ℕ, suc, ◌-◌, ◌≤◌, Bool, true, false, cond, nat_lt, inl, inr, List, [], ◌∷◌, ◌++◌, length, take, Option, Some, None, is_some, IfSome, option_map, option_and_then, refl, sym, ap, ◌∙◌, subst, arith}
+use Rattle.std.proofs.Common.{◌≡◌, ℕ, suc, ◌-◌, ◌≤◌, Bool, true, false, cond, nat_lt, inl, inr, List, [], ◌∷◌, ◌++◌, length, take, Option, Some, None, is_some, IfSome, option_and_then, refl, sym, ap, ◌∙◌, subst, arith}
 use Rattle.std.proofs.lemmas.{Bool.false≢true, Bool.and_parts, List.append-nil, List.append_assoc, List.take_at, List.length-append, Slice.Eq.bytes_eq-Decides}
-use Rattle.std.specs.{Bool.Decides, Str.bytes_eq}
+use Rattle.std.specs.{Str.bytes_eq}
 use Rattle.json.specs.Token.{Token}
 use Rattle.json.specs.Json as json
 use Rattle.json.specs.Lex.{between, lex, fresh, after_value, punctuate, tokens}
@@ -20,6 +20,7 @@ use Rattle.bx_cut.proofs.Objects.{object-none, object-some, Shortens-split_objec
 use Rattle.bx_cut.proofs.Reach.{some_same, from_map, from_and_then}
 use Rattle.bx_cut.proofs.Seen.{start, Matches, seen}
 use Rattle.bx_cut.proofs.Slices.{text_bare, blanks_blank, nothing_left, shut_at, stands_at, goes_on_at}
+use Rattle.std.proofs.lemmas.Grind.{common_steps}
 
 -- a value's own bytes have its tokens
 text_tokens : (v : List ℕ) (ts : List Token) → Text v ts → tokens v ≡ ts
@@ -41,11 +42,7 @@ pick_later None false v e = refl
 pick_later (Some w) b v e = refl
 
 put_found : (name k : List ℕ) (d : Data) (ms : Members) (v : List ℕ) → read v ≡ Some d → get_member name (put k d ms) ≡ cond (bytes_eq k name) (read v) (get_member name ms)
-put_found name k d ms v r = by_test (bytes_eq k name) (bytes_eq-Decides k name)
-  where
-    by_test : (b : Bool) → Decides b (k ≡ name) → get_member name (put k d ms) ≡ cond b (read v) (get_member name ms)
-    by_test true h = ap (λ (n : List ℕ). get_member n (put k d ms)) (sym (h.0 refl)) ∙ get_member-put k d ms ∙ sym r
-    by_test false h = get_member-put_other name k d ms (λ e. false≢true (h.1 (sym e)))
+put_found name k d ms v r = grind (arith, common_steps, bytes_eq-Decides, get_member-put, get_member-put_other, false≢true)
 
 pub members_found : (ms : json.Members) (found : List Member) (name : List ℕ) (before dm : Members) → EachMember found ms → members_depth ms ≤ 126 → Some dm ≡ of_members ms before → get_member name dm ≡ pick (last_member name found) (get_member name before)
 members_found json.no_members [] name before dm each h e = ap (get_member name) (some_same dm before e)
@@ -156,10 +153,7 @@ no_items_left : (ds : Items) → Some ds ≡ of_items json.no_items → AreObjec
 no_items_left ds e = subst (AreObjectsOf []) (sym (some_same ds no_items e)) tt
 
 pub items_parts : (j : json.Json) (js : json.Items) (ds : Items) → Some ds ≡ of_items (json.item j js) → (d : Data) × (rest : Items) × (Some d ≡ of_json j) × (Some rest ≡ of_items js) × (ds ≡ item d rest)
-items_parts j js ds e =
-    let first = from_and_then (λ (x : Data). option_map (item x) (of_items js)) (of_json j) ds e in
-    let more = from_map (item first.0) (of_items js) ds first.2 in
-    (first.0, more.0, first.1, more.1, more.2)
+items_parts j js ds e = grind (arith, common_steps)
 
 objects_after : (js : json.Items) (ds : Items) (t : List ℕ) (rest : List Token) → rest ≡ [] → ItemsHaveNumbers js → items_depth js ≤ 126 → Some ds ≡ of_items js → all_objects ds ≡ true → punctuate after_value (lex between t) ≡ items_tokens js ++ rest → ObjectsAfter t ds
 objects_after json.no_items ds t rest z n h e o s =
@@ -231,22 +225,10 @@ object_pieces text dm e =
     subst (λ (l : List Object). ArePieces text l (object dm)) (sym cut) (object_is, lie)
 
 pub pieces_read : (text : List ℕ) (d : Data) → read text ≡ Some d → value_fault (read text) ≡ None → ArePieces text (pieces text) d
-pieces_read text null e f = absurd (refused (sym (ap value_fault e) ∙ f))
-  where
-    refused : value_fault (Some null) ≡ None → ⊥
-    refused g = cc
-pieces_read text (boolean b) e f = absurd (refused (sym (ap value_fault e) ∙ f))
-  where
-    refused : value_fault (Some (boolean b)) ≡ None → ⊥
-    refused g = cc
-pieces_read text (number n) e f = absurd (refused (sym (ap value_fault e) ∙ f))
-  where
-    refused : value_fault (Some (number n)) ≡ None → ⊥
-    refused g = cc
-pieces_read text (string s) e f = absurd (refused (sym (ap value_fault e) ∙ f))
-  where
-    refused : value_fault (Some (string s)) ≡ None → ⊥
-    refused g = cc
+pieces_read text null e f = grind (arith, common_steps)
+pieces_read text (boolean b) e f = grind (arith, common_steps)
+pieces_read text (number n) e f = grind (arith, common_steps)
+pieces_read text (string s) e f = grind (arith, common_steps)
 pieces_read text (array ds) e f = array_pieces text ds e (passes (all_objects ds) (sym (ap value_fault e) ∙ f))
   where
     passes : (b : Bool) → cond b (cond (nat_lt MAX_MESSAGES (items_len ds)) (Some TooMany) None) (Some NotObject) ≡ None → b ≡ true

@@ -1,32 +1,21 @@
 -- What commas separate, a turn at a time.
-use Rattle.std.proofs.Common.{◌≡◌, ℕ, zero, suc, ◌<◌, ◌≤◌, List, [], ◌∷◌, ◌++◌, length, Option, Some, None, refl, sym, ap, ◌∙◌, arith}
+use Rattle.std.proofs.Common.{◌≡◌, ℕ, zero, suc, ◌<◌, ◌≤◌, List, [], ◌∷◌, ◌++◌, length, Option, Some, None, sym, ap, ◌∙◌, arith}
 use Rattle.std.proofs.lemmas.List.{append_assoc, append-nil}
-use Rattle.bx_cut.specs.Cut.{past_byte, then_more, first_and_more, separated, listed, split_value, split_member}
+use Rattle.bx_cut.specs.Cut.{past_byte, first_and_more, separated, listed, split_value, split_member}
 use Rattle.bx_cut.proofs.Reach.{past_byte-shorter, split_value-shorter, split_member-shorter}
+use Rattle.std.proofs.lemmas.Grind.{common_steps}
 
 abbrev pub Shortens : {A : Type 0} → (List ℕ → Option (A × List ℕ)) → Type 0
 Shortens {A} split = (t : List ℕ) (p : A × List ℕ) → Some p ≡ split t → length p.1 < length t
 
 module _ {A : Type 0} (split : List ℕ → Option (A × List ℕ)) (shortens : Shortens split) where
-  then_same : (more again : List ℕ → List A × List ℕ) (t : List ℕ) (o : Option (List ℕ)) → ((r : List ℕ) → Some r ≡ o → more r ≡ again r) → then_more split more t o ≡ then_more split again t o
-  then_same more again t None h = refl
-  then_same more again t (Some r) h = h r refl
-
   first_same : (more again : List ℕ → List A × List ℕ) (t : List ℕ) (o : Option (A × List ℕ)) → ((p : A × List ℕ) (r : List ℕ) → Some p ≡ o → Some r ≡ past_byte 44 p.1 → more r ≡ again r)
       → first_and_more split more t o ≡ first_and_more split again t o
-  first_same more again t None h = refl
-  first_same more again t (Some p) h =
-      let both = then_same more again p.1 (past_byte 44 p.1) (λ r e. h p r refl e) in
-      ap (λ (q : List A × List ℕ). (p.0 ∷ q.0, q.1)) both
-
-  none_left : (t : List ℕ) (o : Option (A × List ℕ)) → length t ≡ 0 → o ≡ split t → o ≡ None
-  none_left t None h e = refl
-  none_left t (Some p) h e = let no : ⊥ = omega (arith, shortens t p e) in absurd no
+  first_same more again t o h1 = grind (arith, common_steps)
 
   at_end : (n : ℕ) (t : List ℕ) → length t ≡ 0 → ([], t) ≡ separated split n t
   unfolding separated
-  at_end zero t h = refl
-  at_end (suc n) t h = ap (first_and_more split (separated split n) t) (sym (none_left t (split t) h refl))
+  at_end n t h1 = grind (arith, common_steps)
 
   -- more turns than the text has bytes give no more
   pub enough : (n m : ℕ) (t : List ℕ) → length t ≤ n → length t ≤ m → separated split n t ≡ separated split m t
@@ -50,29 +39,22 @@ module _ {A : Type 0} (split : List ℕ → Option (A × List ℕ)) (shortens : 
   listed-none t e = turn t ∙ ap (first_and_more split (listed split) t) (sym e)
 
   pub listed-last : (t : List ℕ) (p : A × List ℕ) → Some p ≡ split t → None ≡ past_byte 44 p.1 → listed split t ≡ (p.0 ∷ [], p.1)
-  listed-last t p e f =
-      turn t ∙ ap (first_and_more split (listed split) t) (sym e) ∙ ap (λ (o : Option (List ℕ)). let q = then_more split (listed split) p.1 o in (p.0 ∷ q.0, q.1)) (sym f)
+  listed-last t p e f = grind (arith, common_steps, turn)
 
   pub listed-more : (t : List ℕ) (p : A × List ℕ) (r : List ℕ) → Some p ≡ split t → Some r ≡ past_byte 44 p.1 → listed split t ≡ (p.0 ∷ (listed split r).0, (listed split r).1)
-  listed-more t p r e f =
-      turn t ∙ ap (first_and_more split (listed split) t) (sym e) ∙ ap (λ (o : Option (List ℕ)). let q = then_more split (listed split) p.1 o in (p.0 ∷ q.0, q.1)) (sym f)
+  listed-more t p r e f = grind (arith, common_steps, turn)
 
   -- ---- what was found so far, and what is still to be found
 
   pub grown-none : (done : List A) (t : List ℕ) (whole : List A × List ℕ) → None ≡ split t → (done ++ (listed split t).0, (listed split t).1) ≡ whole → (done, t) ≡ whole
-  grown-none done t whole e h =
-      let last = ap (λ (q : List A × List ℕ). (done ++ q.0, q.1)) (listed-none t e) in
-      let all : (done ++ [], t) ≡ whole = sym last ∙ h in
-      sym (ap (λ (l : List A). (l, t)) (append-nil done)) ∙ all
+  grown-none done t whole e h = grind (arith, common_steps, listed-none, append-nil)
 
   pub grown-last : (done : List A) (t : List ℕ) (p : A × List ℕ) (whole : List A × List ℕ) → Some p ≡ split t → None ≡ past_byte 44 p.1 → (done ++ (listed split t).0, (listed split t).1) ≡ whole → (done ++ p.0 ∷ [], p.1) ≡ whole
   grown-last done t p whole e f h = sym (ap (λ (q : List A × List ℕ). (done ++ q.0, q.1)) (listed-last t p e f)) ∙ h
 
   pub grown-more : (done : List A) (t : List ℕ) (p : A × List ℕ) (r : List ℕ) (whole : List A × List ℕ) → Some p ≡ split t → Some r ≡ past_byte 44 p.1 → (done ++ (listed split t).0, (listed split t).1) ≡ whole
       → ((done ++ p.0 ∷ []) ++ (listed split r).0, (listed split r).1) ≡ whole
-  grown-more done t p r whole e f h =
-      let next = ap (λ (q : List A × List ℕ). (done ++ q.0, q.1)) (listed-more t p r e f) in
-      ap (λ (l : List A). (l, (listed split r).1)) (append_assoc done (p.0 ∷ []) (listed split r).0) ∙ sym next ∙ h
+  grown-more done t p r whole e f h = grind (arith, common_steps, listed-more, append_assoc)
 
   -- the same, of what was found alone
 

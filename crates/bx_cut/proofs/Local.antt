@@ -6,6 +6,7 @@ use Rattle.json.specs.Text.{code_unit, short_escape, is_high_surrogate, is_low_s
 use Rattle.json.specs.Lex.{Mode, in_string, in_escape}
 use Rattle.json.specs.Align.{span}
 use Rattle.bx_cut.proofs.Reach.{span-cons}
+use Rattle.std.proofs.lemmas.Grind.{common_steps}
 
 abbrev mode : Within → Mode
 mode plain = in_string
@@ -21,22 +22,13 @@ pub no_some : {P : Type 0} (s : List ℕ) → None ≡ Some s → P
 no_some s e = cc
 
 pub from_prepend : (p : List ℕ) (o : Option (List ℕ)) (s : List ℕ) → prepend p o ≡ Some s → (r : List ℕ) × (o ≡ Some r) × (Some (p ++ r) ≡ Some s)
-from_prepend p None s e = no_some s e
-from_prepend p (Some r) s e = (r, refl, e)
+from_prepend p o s h1 = grind (arith, common_steps)
 
 take_one : (n x : ℕ) (xs : List ℕ) → take (1 + n) (x ∷ xs) ≡ x ∷ take n xs
 take_one n x xs = let s : 1 + n ≡ suc n = omega arith in ap (λ k. take k (x ∷ xs)) s
 
 hex_span : (a : ℕ) (ys : List ℕ) → is_digit a 16 ≡ true → span in_string (a ∷ ys) ≡ 1 + span in_string ys
-hex_span a ys h = span-cons a ys ∙ by_tests (a == 34) (a == 92) (λ e. no 34 refl (eqb-true a 34 e)) (λ e. no 92 refl (eqb-true a 92 e))
-  where
-    no : (n : ℕ) → is_digit n 16 ≡ false → a ≡ n → ⊥
-    no n f e = true≢false (sym h ∙ ap (λ y. is_digit y 16) e ∙ f)
-
-    by_tests : (p q : Bool) → (p ≡ true → ⊥) → (q ≡ true → ⊥) → cond p 1 (cond q (1 + span in_escape ys) (1 + span in_string ys)) ≡ 1 + span in_string ys
-    by_tests true q f g = absurd (f refl)
-    by_tests false true f g = absurd (g refl)
-    by_tests false false f g = refl
+hex_span a ys h = grind (arith, common_steps, span-cons, eqb-true, true≢false)
 
 abbrev AreHex : ℕ → ℕ → ℕ → ℕ → Type 0
 AreHex a b c d = (is_digit a 16 ≡ true) × (is_digit b 16 ≡ true) × (is_digit c 16 ≡ true) × (is_digit d 16 ≡ true)
@@ -135,8 +127,7 @@ unit_of u high low pair rest = cond high pair (cond low None (prepend (encode_ut
 module _ (a b c d u : ℕ) (high low : Bool) (p : code_unit a b c d ≡ Some u) (q : is_high_surrogate u ≡ high) (r : is_low_surrogate u ≡ low) where
   unit_is : (xs : List ℕ) → content after_u (a ∷ b ∷ c ∷ d ∷ xs) ≡ unit_of u high low (content (after_high u) xs) (content plain xs)
   unfolding content
-  unit_is xs =
-      ap (option_and_then (λ v. cond (is_high_surrogate v) (content (after_high v) xs) (cond (is_low_surrogate v) None (prepend (encode_utf8 v) (content plain xs))))) p ∙ (λ i. unit_of u (q i) (r i) (content (after_high u) xs) (content plain xs))
+  unit_is xs = grind (arith, common_steps)
 
 no_unit : (a b c d : ℕ) (xs : List ℕ) → code_unit a b c d ≡ None → content after_u (a ∷ b ∷ c ∷ d ∷ xs) ≡ None
 unfolding content

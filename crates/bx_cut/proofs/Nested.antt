@@ -1,6 +1,6 @@
 -- Arrays and objects within a text, level by level.
-use Rattle.std.proofs.Common.{◌≡◌, ℕ, ◌+◌, ◌-◌, ◌<◌, Bool, true, false, cond, ◌==◌, List, [], ◌∷◌, ◌++◌, length, take, drop, Option, Some, None, option_and_then, refl, sym, ap, ◌∙◌, subst, arith}
-use Rattle.std.proofs.lemmas.{Bool.false≢true, Bool.ne_eqb, List.append_assoc, List.length-append, List.take_at, List.drop_at}
+use Rattle.std.proofs.Common.{◌≡◌, ℕ, ◌+◌, ◌-◌, ◌<◌, Bool, true, false, cond, ◌==◌, List, [], ◌∷◌, ◌++◌, length, take, Option, Some, None, option_and_then, refl, sym, ap, ◌∙◌, subst, arith}
+use Rattle.std.proofs.lemmas.{Bool.false≢true, List.append_assoc}
 use Rattle.json.specs.Token.{Token, begin_object, end_object, begin_array, end_array, key, string, number, boolean, null, bad}
 use Rattle.json.specs.Text.{content, plain}
 use Rattle.json.specs.Word.{ends_word, word}
@@ -8,12 +8,13 @@ use Rattle.json.specs.Json.{Json, Items, no_items, item, Members, no_members, me
 use Rattle.json.specs.Json as json
 use Rattle.json.specs.Tree.{json_tokens, items_tokens, members_tokens, HasNumbers, ItemsHaveNumbers, MembersHaveNumbers}
 use Rattle.json.specs.Lex.{Lexeme, token, comma, colon, Class, between, in_word, in_string, lex_byte, lex, string_token, fresh, after_value, after_comma, begins_colon, place_token, punctuate}
-use Rattle.bx_cut.specs.Cut.{past_blank, past_byte, after_first, begins_with, outside, nest_len, value_len, split_value, split_member, after_key, with_value, Member, then_more, first_and_more, listed}
+use Rattle.bx_cut.specs.Cut.{past_blank, past_byte, after_first, begins_with, outside, nest_len, value_len, split_value, split_member, after_key, Member, then_more, first_and_more, listed}
 use Rattle.bx_cut.proofs.Lists.{Shortens, turn, listed-none, Shortens-split_value, Shortens-split_member}
 use Rattle.json.specs.Align.{span}
 use Rattle.bx_cut.proofs.Bytes.{byte_cases, BeginsFull, past-full, past-lex, blanks, Blank-blanks, split_blanks}
 use Rattle.bx_cut.proofs.Seen.{start, SeenMark, Matches, seen, past_string, IsWord, is_word}
 use Rattle.bx_cut.proofs.Values.{Quote, quote, quote_at, Fits, Text, Found, find_string, find_number, find_true, find_false, find_null}
+use Rattle.std.proofs.lemmas.Grind.{common_steps}
 
 -- ---- what a text is, by its first token, after a value
 
@@ -22,29 +23,17 @@ SeenComma t ts = (xs : List ℕ) × (past_blank t ≡ 44 ∷ xs) × (punctuate a
 
 abbrev pub Next : List ℕ → List Token → Type 0
 Next t [] = Unit {0}
-Next t (begin_object ∷ rest) = SeenComma t (begin_object ∷ rest)
 Next t (end_object ∷ rest) = SeenMark 125 after_value t rest
-Next t (begin_array ∷ rest) = SeenComma t (begin_array ∷ rest)
 Next t (end_array ∷ rest) = SeenMark 93 after_value t rest
-Next t (key s ∷ rest) = SeenComma t (key s ∷ rest)
-Next t (string s ∷ rest) = SeenComma t (string s ∷ rest)
-Next t (number s ∷ rest) = SeenComma t (number s ∷ rest)
-Next t (boolean v ∷ rest) = SeenComma t (boolean v ∷ rest)
-Next t (null ∷ rest) = SeenComma t (null ∷ rest)
 Next t (bad ∷ rest) = Unit {0}
+Next t ts = SeenComma t ts
 
 after_the_comma : (t xs : List ℕ) → past_blank t ≡ 44 ∷ xs → (ts : List Token) → punctuate after_comma (lex between xs) ≡ ts → Matches false xs ts → Next t ts
 after_the_comma t xs e [] h m = tt
-after_the_comma t xs e (begin_object ∷ rest) h m = (xs, e, h)
 after_the_comma t xs e (end_object ∷ rest) h m = absurd (false≢true m.0)
-after_the_comma t xs e (begin_array ∷ rest) h m = (xs, e, h)
 after_the_comma t xs e (end_array ∷ rest) h m = absurd (false≢true m.0)
-after_the_comma t xs e (key s ∷ rest) h m = (xs, e, h)
-after_the_comma t xs e (string s ∷ rest) h m = (xs, e, h)
-after_the_comma t xs e (number s ∷ rest) h m = (xs, e, h)
-after_the_comma t xs e (boolean v ∷ rest) h m = (xs, e, h)
-after_the_comma t xs e (null ∷ rest) h m = (xs, e, h)
 after_the_comma t xs e (bad ∷ rest) h m = tt
+after_the_comma t xs e _ h m = (xs, e, h)
 
 text_refused : (t : List ℕ) (o : Option (List ℕ)) (ls : List Lexeme) (c : Bool) → Next t (place_token after_value (string_token o) c (λ next. punctuate next ls))
 text_refused t None ls c = tt
@@ -52,16 +41,11 @@ text_refused t (Some s) ls true = tt
 text_refused t (Some s) ls false = tt
 
 word_refused : (t : List ℕ) (k : Token) (ls : List Lexeme) (c : Bool) → IsWord k → Next t (place_token after_value k c (λ next. punctuate next ls))
-word_refused t begin_object ls c f = absurd f
-word_refused t end_object ls c f = absurd f
-word_refused t begin_array ls c f = absurd f
-word_refused t end_array ls c f = absurd f
-word_refused t (key s) ls c f = absurd f
-word_refused t (string s) ls c f = absurd f
 word_refused t (number s) ls c f = tt
 word_refused t (boolean v) ls c f = tt
 word_refused t null ls c f = tt
 word_refused t bad ls c f = tt
+word_refused t _ ls c f = absurd f
 
 pub next : (t : List ℕ) → Next t (punctuate after_value (lex between t))
 unfolding lex punctuate
@@ -84,10 +68,7 @@ pub record Closing (v : List ℕ) : Type 0 where
   pub nests : (depth : ℕ) (z : List ℕ) → nest_len outside (depth + 1) (v ++ z) ≡ length v + nest_len outside depth z
 
 closing_after : (a v : List ℕ) → Passing a → Closing v → Closing (a ++ v)
-closing_after a v p c = record {
-  ends = λ z. ap (nest_len outside 0) (append_assoc a v z) ∙ p 0 (v ++ z) ∙ omega (arith, c.ends z, length-append a v);
-  nests = λ depth z. ap (nest_len outside (depth + 1)) (append_assoc a v z) ∙ p (depth + 1) (v ++ z) ∙ omega (arith, c.nests depth z, length-append a v);
-}
+closing_after a v p c = grind (arith, common_steps)
 
 mark_closing : (c : ℕ) (v : List ℕ) → ((depth : ℕ) (z : List ℕ) → nest_len outside depth (c ∷ z) ≡ 1 + nest_len outside depth z) → Closing v → Closing (c ∷ v)
 mark_closing c v p h = record { ends = λ z. omega (arith, p 0 (v ++ z), h.ends z); nests = λ depth z. omega (arith, p (depth + 1) (v ++ z), h.nests depth z) }
@@ -101,10 +82,7 @@ unfolding nest_len
 colon_closing v = mark_closing 58 v (λ depth z. refl)
 
 closes_one : (depth : ℕ) (z : List ℕ) → 1 + cond ((depth + 1) == 0) 0 (nest_len outside (depth + 1 - 1) z) ≡ 1 + nest_len outside depth z
-closes_one depth z =
-    let some : ((depth + 1) == 0) ≡ false = ne_eqb (depth + 1) 0 (λ e. omega (arith, e)) in
-    let less : depth + 1 - 1 ≡ depth = omega arith in
-    ap (λ (b : Bool). 1 + cond b 0 (nest_len outside (depth + 1 - 1) z)) some ∙ ap (λ (k : ℕ). 1 + nest_len outside k z) less
+closes_one depth z = grind (arith, common_steps)
 
 three : (a b c z : List ℕ) → (a ++ (b ++ c)) ++ z ≡ a ++ (b ++ (c ++ z))
 three a b c z = append_assoc a (b ++ c) z ∙ ap (λ (x : List ℕ). a ++ x) (append_assoc b c z)
@@ -112,13 +90,7 @@ three a b c z = append_assoc a (b ++ c) z ∙ ap (λ (x : List ℕ). a ++ x) (ap
 -- the value that stands in front is split off
 split_text : (u v z : List ℕ) → past_blank u ≡ v ++ z → value_len (v ++ z) ≡ length v → 0 < length v → Some (v, z) ≡ split_value u
 unfolding split_value
-split_text u v z e n h =
-    let len : value_len (past_blank u) ≡ length v = ap value_len e ∙ n in
-    let some : (value_len (past_blank u) == 0) ≡ false = ne_eqb (value_len (past_blank u)) 0 (λ f. omega (arith, len, f, h)) in
-    let front : take (value_len (past_blank u)) (past_blank u) ≡ v = ap (take (value_len (past_blank u))) e ∙ take_at v z (value_len (past_blank u)) (sym len) in
-    let back : drop (value_len (past_blank u)) (past_blank u) ≡ z = ap (drop (value_len (past_blank u))) e ∙ drop_at v z (value_len (past_blank u)) (sym len) in
-    let parts : List ℕ × List ℕ = (take (value_len (past_blank u)) (past_blank u), drop (value_len (past_blank u)) (past_blank u)) in
-    sym (ap (λ (b : Bool). cond b None (Some parts)) some ∙ (λ i. Some (front i, back i)))
+split_text u v z e n h = grind (arith, common_steps)
 
 -- ---- what stands between two brackets
 
@@ -187,9 +159,7 @@ record Shuts (k : Between) (nothing : k.Said) (close : Token) : Type 0 where
 
 no_split : (u z : List ℕ) → past_blank u ≡ z → value_len z ≡ 0 → None ≡ split_value u
 unfolding split_value
-no_split u z e n =
-    let zero_len : (value_len (past_blank u) == 0) ≡ true = ap (λ (k : ℕ). k == 0) (ap value_len e ∙ n) in
-    sym (ap (λ (b : Bool). cond b None (Some (take (value_len (past_blank u)) (past_blank u), drop (value_len (past_blank u)) (past_blank u)))) zero_len)
+no_split u z e n = grind (arith, common_steps)
 
 pub found_first : (c : ℕ) (u z : List ℕ) → past_blank u ≡ c ∷ z → (c == c) ≡ true → past_byte c u ≡ Some z
 unfolding after_first
@@ -285,9 +255,8 @@ more_behind k t xs rest said e f =
 
 abbrev pub EachText : List (List ℕ) → Items → Type 0
 EachText [] no_items = Unit {0}
-EachText [] (item j js) = ⊥
-EachText (v ∷ vs) no_items = ⊥
 EachText (v ∷ vs) (item j js) = Text v (json_tokens j) × EachText vs js
+EachText _ _ = ⊥
 
 abbrev pub elements : Between
 elements = record { Thing = List ℕ; Said = Items; split = split_value; tokens = items_tokens; Each = EachText; shuts = 93 }
@@ -342,9 +311,8 @@ IsMember m k j = Quote m.0 k × Text m.1 (json_tokens j)
 
 abbrev pub EachMember : List Member → Members → Type 0
 EachMember [] no_members = Unit {0}
-EachMember [] (member k j ms) = ⊥
-EachMember (m ∷ found) no_members = ⊥
 EachMember (m ∷ found) (member k j ms) = IsMember m k j × EachMember found ms
+EachMember _ _ = ⊥
 
 abbrev pub entries : Between
 entries = record { Thing = Member; Said = Members; split = split_member; tokens = members_tokens; Each = EachMember; shuts = 125 }
@@ -384,12 +352,7 @@ lex_colon l = refl
 
 split_key : (u k rest more v left : List ℕ) → Some (k, rest) ≡ split_value u → begins_with 34 k ≡ true → Some more ≡ past_byte 58 rest → Some (v, left) ≡ split_value more → Some ((k, v), left) ≡ split_member u
 unfolding split_member
-split_key u k rest more v left a b c d =
-    let after : Member × List ℕ = ((k, v), left) in
-    let value : Some after ≡ with_value k (split_value more) = ap (with_value k) d in
-    let colon_past : with_value k (split_value more) ≡ option_and_then (λ (r : List ℕ). with_value k (split_value r)) (past_byte 58 rest) = ap (option_and_then (λ (r : List ℕ). with_value k (split_value r))) c in
-    let test = ap (λ (t : Bool). cond t (option_and_then (λ (r : List ℕ). with_value k (split_value r)) (past_byte 58 rest)) None) (sym b) in
-    value ∙ colon_past ∙ test ∙ ap (option_and_then after_key) a
+split_key u k rest more v left a b c d = grind (arith, common_steps)
 
 module _ (b : Bool) (t : List ℕ) (k : List ℕ) (j : Json) (ms : Members) (mid rest : List Token) (xs ys : List ℕ) (at : past_blank t ≡ 34 ∷ xs) (h : content plain xs ≡ Some k) (col : past_blank (past_string xs) ≡ 58 ∷ ys)
     (f : Found ys (json_tokens j) mid) (a : FoundBehind entries f.r ms rest) where
@@ -441,31 +404,11 @@ module _ (b : Bool) (t : List ℕ) (k : List ℕ) (j : Json) (ms : Members) (mid
 
 pub array_text : (v : List ℕ) (js : Items) → Inside elements true v js → Text (91 ∷ v) (begin_array ∷ items_tokens js)
 unfolding nest_len lex punctuate value_len
-array_text v js x = record {
-  nests = λ depth z. omega (arith, x.closing.nests depth z);
-  reads = λ b z f. opened b z (x.reads z);
-  long = λ z f. ap (λ (n : ℕ). 1 + n) (x.closing.ends z) ∙ omega arith;
-  some = omega arith;
-  full = λ z. refl;
-}
-  where
-    opened : (b : Bool) (z : List ℕ) → punctuate fresh (lex between (v ++ z)) ≡ items_tokens js ++ punctuate after_value (lex between z) → punctuate (start b) (lex between (91 ∷ (v ++ z))) ≡ begin_array ∷ (items_tokens js ++ punctuate after_value (lex between z))
-    opened true z e = ap (λ (l : List Token). begin_array ∷ l) e
-    opened false z e = ap (λ (l : List Token). begin_array ∷ l) e
+array_text v js x = grind (arith, common_steps)
 
 pub object_text : (v : List ℕ) (ms : Members) → Inside entries true v ms → Text (123 ∷ v) (begin_object ∷ members_tokens ms)
 unfolding nest_len lex punctuate value_len
-object_text v ms x = record {
-  nests = λ depth z. omega (arith, x.closing.nests depth z);
-  reads = λ b z f. opened b z (x.reads z);
-  long = λ z f. ap (λ (n : ℕ). 1 + n) (x.closing.ends z) ∙ omega arith;
-  some = omega arith;
-  full = λ z. refl;
-}
-  where
-    opened : (b : Bool) (z : List ℕ) → punctuate fresh (lex between (v ++ z)) ≡ members_tokens ms ++ punctuate after_value (lex between z) → punctuate (start b) (lex between (123 ∷ (v ++ z))) ≡ begin_object ∷ (members_tokens ms ++ punctuate after_value (lex between z))
-    opened true z e = ap (λ (l : List Token). begin_object ∷ l) e
-    opened false z e = ap (λ (l : List Token). begin_object ∷ l) e
+object_text v ms x = grind (arith, common_steps)
 
 array_here : (v r : List ℕ) → Closing v → value_len ((91 ∷ v) ++ r) ≡ length (91 ∷ v)
 unfolding value_len
@@ -485,11 +428,7 @@ found_object t xs ms rest e f = record { v = 123 ∷ f.v; r = f.r; front = e ∙
 
 pub next_comma : (j : Json) (t : List ℕ) (rest : List Token) → Next t (json_tokens j ++ rest) → SeenComma t (json_tokens j ++ rest)
 next_comma json.null t rest h = h
-next_comma (json.boolean b) t rest h = h
-next_comma (json.number s) t rest h = h
-next_comma (json.string s) t rest h = h
-next_comma (json.array js) t rest h = h
-next_comma (json.object ms) t rest h = h
+next_comma _ t rest h = h
 
 mutual
   pub find : (j : Json) (b : Bool) (t : List ℕ) (rest : List Token) → HasNumbers j → punctuate (start b) (lex between t) ≡ json_tokens j ++ rest → Found t (json_tokens j) rest

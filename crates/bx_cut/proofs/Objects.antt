@@ -5,6 +5,7 @@ use Rattle.std.specs.List.{prefix_len}
 use Rattle.json.specs.Word.{is_space}
 use Rattle.bx_cut.specs.Words.{past_blank, after_first, past_byte, Member, split_member, separated, listed, first_and_more, then_more, Object, closed, split_object}
 use Rattle.bx_cut.proofs.{Reach.from_map, Reach.from_and_then, Reach.after_first-length, Reach.past_byte-shorter, Lists.Shortens, Lists.Shortens-split_member}
+use Rattle.std.proofs.lemmas.Grind.{common_steps}
 
 pub object-none : (t : List ℕ) → None ≡ after_first 123 (past_blank t) → None ≡ split_object t
 unfolding split_object
@@ -13,9 +14,7 @@ object-none t e = ap (option_and_then (λ (inside : List ℕ). closed (past_blan
 module _ (t u inside : List ℕ) (ms : List Member × List ℕ) (at : u ≡ past_blank t) (opened : Some inside ≡ after_first 123 u) (found : ms ≡ listed split_member inside) where
   object-closed : closed u ms ≡ split_object t
   unfolding split_object
-  object-closed =
-      let here = ap (option_and_then (λ (i : List ℕ). closed (past_blank t) (listed split_member i))) (opened ∙ ap (after_first 123) at) in
-      ap (λ (x : List ℕ). closed x ms) at ∙ ap (closed (past_blank t)) found ∙ here
+  object-closed = grind (arith, common_steps)
 
   pub object-open : None ≡ past_byte 125 ms.1 → None ≡ split_object t
   object-open e = ap (option_map (λ (rest : List ℕ). ((take (length u - length rest) u, ms.0), rest))) e ∙ object-closed
@@ -25,12 +24,10 @@ module _ (t u inside : List ℕ) (ms : List Member × List ℕ) (at : u ≡ past
 
 module _ {A : Type 0} (split : List ℕ → Option (A × List ℕ)) (shortens : Shortens split) where
   then_within : (more : List ℕ → List A × List ℕ) (t : List ℕ) (o : Option (List ℕ)) (n : ℕ) → length t ≤ n → ((r : List ℕ) → Some r ≡ o → length (more r).1 ≤ n) → length (then_more split more t o).1 ≤ n
-  then_within more t None n le h = le
-  then_within more t (Some r) n le h = h r refl
+  then_within more t o n h1 h2 = grind (arith, common_steps)
 
   first_within : (more : List ℕ → List A × List ℕ) (t : List ℕ) (o : Option (A × List ℕ)) → o ≡ split t → ((r : List ℕ) → length r < length t → length (more r).1 ≤ length t) → length (first_and_more split more t o).1 ≤ length t
-  first_within more t None e h = omega arith
-  first_within more t (Some p) e h = then_within more p.1 (past_byte 44 p.1) (length t) (omega (arith, shortens t p e)) (λ r f. h r (omega (arith, shortens t p e, past_byte-shorter 44 p.1 r f)))
+  first_within more t o h1 h2 = grind (arith, common_steps, then_within, past_byte-shorter)
 
   separated-within : (n : ℕ) (t : List ℕ) → length (separated split n t).1 ≤ length t
   unfolding separated

@@ -1,7 +1,7 @@
 -- How far strings and nested values reach: the steps of a scan at a place of the text, and where a scan ends.
 use Rattle.std.proofs.Common.{◌≡◌, ℕ, suc, ◌+◌, ◌-◌, ◌<◌, ◌≤◌, ◌⊎◌, inl, inr, Bool, true, false, cond, ◌==◌, List, [], ◌∷◌, length, take, drop, get_or, Option, Some, None, option_map, option_and_then, refl, sym, ap, ◌∙◌, subst, arith}
-use Rattle.std.proofs.lemmas.{List.drop_more, List.drop_all, List.length-drop, List.drop-drop, Bool.eqb-true, Bool.true≢false, Grind.common_steps}
-use Rattle.std.proofs.lemmas.Str.{IsCharBoundary-end, IsCharBoundary-after_ascii, IsCharBoundary-start, IsCharBoundary-from_rest}
+use Rattle.std.proofs.lemmas.{List.drop_more, List.drop_all, List.take_all, List.length-drop, Bool.eqb-true, Bool.true≢false, Grind.common_steps}
+use Rattle.std.proofs.lemmas.Str.{IsCharBoundary-end, IsCharBoundary-after_ascii, IsCharBoundary-start}
 use Rattle.std.specs.{List.prefix_len, Str.IsUtf8, Str.IsCharBoundary}
 use Rattle.json.specs.Word.{is_space}
 use Rattle.json.specs.Lex.{Mode, in_string, in_escape, quote, backslash, operator, space, other}
@@ -9,11 +9,7 @@ use Rattle.json.specs.Align.{span, span_byte}
 use Rattle.bx_cut.specs.Cut.{Scan, outside, quoted, escaped, opens, closes, nest_len, value_len, is_word_byte, begins_with, after_first, past_byte, past_blank, split_value, split_member, Member, after_key, with_value, IsRest}
 
 span_of_tests : (a b c d : Bool) (k : Mode → ℕ) → span_byte in_string (cond a quote (cond b backslash (cond c operator (cond d space other)))) k ≡ cond a 1 (cond b (1 + k in_escape) (1 + k in_string))
-span_of_tests true b c d k = refl
-span_of_tests false true c d k = refl
-span_of_tests false false true d k = refl
-span_of_tests false false false true k = refl
-span_of_tests false false false false k = refl
+span_of_tests a b c d k = grind (arith, common_steps)
 
 -- a string's byte: its end, the beginning of an escape, or neither
 pub span-cons : (x : ℕ) (xs : List ℕ) → span in_string (x ∷ xs) ≡ cond (x == 34) 1 (cond (x == 92) (1 + span in_escape xs) (1 + span in_string xs))
@@ -60,15 +56,7 @@ unfolding nest_len span
 nest-string true depth [] = refl
 nest-string false depth [] = refl
 nest-string true depth (x ∷ xs) = one_more _ _ _ depth x xs (nest-string false depth xs) refl
-nest-string false depth (x ∷ xs) =
-    subst (λ n. nest_len quoted depth (x ∷ xs) ≡ n + nest_len outside depth (drop n (x ∷ xs))) (sym (span-cons x xs)) (by_tests (nest-string true depth xs) (nest-string false depth xs) (x == 34) (x == 92))
-  where
-    by_tests : nest_len escaped depth xs ≡ span in_escape xs + nest_len outside depth (drop (span in_escape xs) xs) → nest_len quoted depth xs ≡ span in_string xs + nest_len outside depth (drop (span in_string xs) xs)
-        → (a b : Bool) → 1 + cond a (nest_len outside depth xs) (cond b (nest_len escaped depth xs) (nest_len quoted depth xs))
-        ≡ cond a 1 (cond b (1 + span in_escape xs) (1 + span in_string xs)) + nest_len outside depth (drop (cond a 1 (cond b (1 + span in_escape xs) (1 + span in_string xs))) (x ∷ xs))
-    by_tests after_escape after_plain true b = refl
-    by_tests after_escape after_plain false true = one_more _ _ _ depth x xs after_escape refl
-    by_tests after_escape after_plain false false = one_more _ _ _ depth x xs after_plain refl
+nest-string false depth (x ∷ xs) = grind (arith, common_steps, span-cons, one_more, nest-string true depth xs, nest-string false depth xs)
 
 -- ---- a scan ends where the text does, or after a quote or a closing bracket
 
@@ -123,8 +111,7 @@ module _ (P : ℕ → Type 0) where
         by_tests f g h k false false false d q = ends_more x xs _ k
 
   ends_len : (t : List ℕ) (n : ℕ) → EndsBy P t n → n ≤ length t
-  ends_len t n (inl e) = omega arith
-  ends_len t n (inr e) = omega (arith, e.1, e.2)
+  ends_len t n h1 = grind (arith, common_steps)
 
 -- so such a place is a boundary of characters
 abbrev pub EndsWell : List ℕ → ℕ → Type 0
@@ -147,11 +134,7 @@ span_le xs = ends_len (λ x. x < 128) xs (span in_string xs) (well_string xs)
 
 prefix_len_le : (p : ℕ → Bool) (t : List ℕ) → prefix_len p t ≤ length t
 prefix_len_le p [] = omega arith
-prefix_len_le p (x ∷ xs) = by_test (p x) (prefix_len_le p xs)
-  where
-    by_test : (b : Bool) → prefix_len p xs ≤ length xs → cond b (1 + prefix_len p xs) 0 ≤ length (x ∷ xs)
-    by_test true h = omega arith
-    by_test false h = omega arith
+prefix_len_le p (x ∷ xs) = grind (arith, common_steps, prefix_len_le p xs)
 
 ends_boundary : (t : List ℕ) (n : ℕ) → IsUtf8 t → EndsWell t n → IsCharBoundary t n
 ends_boundary t n u (inl e) = subst (IsCharBoundary t) (sym e) (IsCharBoundary-end t)
@@ -169,8 +152,7 @@ nested_boundary (x ∷ xs) u h = ends_boundary (x ∷ xs) _ u (ends_more (λ x. 
 
 pub value_len-at : (t : List ℕ) → 0 < length t → value_len t ≡ cond (get_or t 0 0 == 34) (1 + span in_string (drop 1 t)) (cond (opens (get_or t 0 0)) (1 + nest_len outside 0 (drop 1 t)) (prefix_len is_word_byte t))
 unfolding value_len
-value_len-at [] h = let no : ⊥ = omega arith in absurd no
-value_len-at (x ∷ xs) h = refl
+value_len-at t h1 = grind (arith, common_steps)
 
 pub value_len-nil : value_len [] ≡ 0
 unfolding value_len
@@ -206,64 +188,30 @@ from_and_then f (Some x) y e = (x, refl, e)
 
 value_len_le : (t : List ℕ) → value_len t ≤ length t
 unfolding value_len
-value_len_le [] = omega arith
-value_len_le (x ∷ xs) = by_tests (x == 34) (opens x) (ends_len (λ x. x < 128) _ _ (well_string xs)) (ends_len (λ x. x < 128) _ _ (well_nested xs)) (prefix_len_le is_word_byte (x ∷ xs))
-  where
-    by_tests : (a b : Bool) → span in_string xs ≤ length xs → nest_len outside 0 xs ≤ length xs → prefix_len is_word_byte (x ∷ xs) ≤ length (x ∷ xs)
-        → cond a (1 + span in_string xs) (cond b (1 + nest_len outside 0 xs) (prefix_len is_word_byte (x ∷ xs))) ≤ length (x ∷ xs)
-    by_tests true b f g h = omega arith
-    by_tests false true f g h = omega arith
-    by_tests false false f g h = h
+value_len_le t = grind (arith, common_steps, ends_len, well_string, well_nested, prefix_len_le)
 
 pub after_first-length : (b : ℕ) (t r : List ℕ) → Some r ≡ after_first b t → length r + 1 ≡ length t
 unfolding after_first
-after_first-length b [] r e = some_none r e
-after_first-length b (x ∷ xs) r e = by_test (x == b) e
-  where
-    by_test : (a : Bool) → Some r ≡ cond a (Some xs) None → length r + 1 ≡ length (x ∷ xs)
-    by_test true e = let same : r ≡ xs = cc in omega (arith, ap length same)
-    by_test false e = some_none r e
+after_first-length b t r h1 = grind (arith, common_steps)
 
 pub IsRest-drop : (n : ℕ) (t : List ℕ) → IsCharBoundary t n → IsRest (drop n t) t
-IsRest-drop n t b =
-    let long : length (drop n t) ≡ length t - n = length-drop n t in
-    let back : n ≡ length t - length (drop n t) = omega (arith, long, b.0) in
-    record { within = omega (arith, long); same = ap (λ (k : ℕ). drop k t) back; boundary = subst (IsCharBoundary t) back b }
+IsRest-drop n t b = grind (arith, common_steps)
 
 pub IsRest-whole : (t : List ℕ) → IsUtf8 t → IsRest t t
 IsRest-whole t u = IsRest-drop 0 t (IsCharBoundary-start t u)
 
 pub IsRest-of : (s r t : List ℕ) → IsRest s r → IsRest r t → IsRest s t
-IsRest-of s r t h k =
-    let first = length t - length r in
-    let second = length r - length s in
-    let steps : first + second ≡ length t - length s = omega (arith, h.within, k.within) in
-    let at : IsCharBoundary t (first + second) = IsCharBoundary-from_rest t first second (omega arith) (subst (λ (x : List ℕ). IsCharBoundary x second) k.same h.boundary) in
-    record {
-      within = omega (arith, h.within, k.within);
-      same = h.same ∙ ap (drop second) k.same ∙ drop-drop second first t ∙ ap (λ (n : ℕ). drop n t) steps;
-      boundary = subst (IsCharBoundary t) steps at;
-    }
+IsRest-of s r t h k = grind (arith, common_steps)
 
 pub past_byte-shorter : (b : ℕ) (t r : List ℕ) → Some r ≡ past_byte b t → length r < length t
 past_byte-shorter b t r e = omega (arith, after_first-length b (past_blank t) r e, length-drop (prefix_len is_space t) t)
 
 pub split_value-shorter : (t : List ℕ) (p : List ℕ × List ℕ) → Some p ≡ split_value t → length p.1 < length t
 unfolding split_value
-split_value-shorter t p e =
-    let u = past_blank t in
-    let n = value_len u in
-    let parts : List ℕ × List ℕ = (take n u, drop n u) in
-    let c = from_cond_none p (n == 0) (Some parts) e in
-    let rest : p.1 ≡ drop n u = ap (λ (q : List ℕ × List ℕ). q.1) (some_same p parts c.1) in
-    let some : 0 < n = grind (arith, common_steps, c.0) in
-    let within : n ≤ length u = value_len_le u in
-    omega (arith, ap length rest, length-drop n u, length-drop (prefix_len is_space t) t)
+split_value-shorter t p e = grind (arith, common_steps, from_cond_none, some_same, common_steps, value_len_le, length-drop)
 
 with_value-shorter : (t key : List ℕ) (v : Option (List ℕ × List ℕ)) (p : Member × List ℕ) → ((q : List ℕ × List ℕ) → Some q ≡ v → length q.1 < length t) → Some p ≡ with_value key v → length p.1 < length t
-with_value-shorter t key v p h e =
-    let m = from_map (λ (q : List ℕ × List ℕ). ((key, q.0), q.1)) v p e in
-    subst (λ (q : Member × List ℕ). length q.1 < length t) (sym m.2) (h m.0 m.1)
+with_value-shorter t key v p h e = grind (arith, common_steps)
 
 pub split_member-shorter : (t : List ℕ) (p : Member × List ℕ) → Some p ≡ split_member t → length p.1 < length t
 unfolding split_member
@@ -276,3 +224,14 @@ split_member-shorter t p e =
     let second = past_byte-shorter 58 key.0.1 colon.0 colon.1 in
     let third = with_value-shorter colon.0 key.0.0 (split_value colon.0) p (split_value-shorter colon.0) colon.2 in
     omega (arith, first, second, third)
+
+-- ---- what the lengths are proved by
+
+pub ruleset string_ends = (span-in_string, span-in_escape, span-end, common_steps)
+
+pub ruleset nest_ends = (nest-outside, nest-end, common_steps)
+
+pub past_first : (b : List ℕ) → take (length b - 1) (drop 1 b) ≡ drop 1 b
+past_first b = take_all (length b - 1) (drop 1 b) (omega (arith, length-drop 1 b))
+
+pub ruleset value_ends = (past_first, value_len-nil, value_len-at, string_boundary, nested_boundary, common_steps)

@@ -1,17 +1,18 @@
 -- What the grammar reads, as the tokens of what it read and what is left.
-use Rattle.std.proofs.Common.{◌≡◌, ℕ, zero, suc, List, [], ◌∷◌, ◌++◌, ◌≤◌, length, Option, Some, None, option_and_then, refl, sym, ap, ◌∙◌}
-use Rattle.std.proofs.lemmas.List.{append_assoc, append-nil}
+use Rattle.std.proofs.Common.{◌≡◌, ℕ, zero, suc, List, [], ◌++◌, ◌≤◌, length, Option, Some, None, option_and_then, refl, sym, ap, ◌∙◌}
+use Rattle.std.proofs.lemmas.List.{append-nil}
 use Rattle.json.specs.Token.{Token}
-use Rattle.json.specs.Json.{Json, null, boolean, number, string, array, object, Items, no_items, item, Members, no_members, member, Parse, parse_map, after_end_array, read_key, items_step, members_step, items, members, value_with, value, if_last}
+use Rattle.json.specs.Json.{Json, Items, Members, Parse, after_end_array, read_key, items_step, members_step, items, members, value_with, value, if_last}
 use Rattle.json.specs.Lex.{tokens}
 use Rattle.json.specs.Tree.{json_tokens, items_tokens, members_tokens, HasNumbers, depth}
-use Rattle.json.proofs.Grammar.{closed_array, read_key_is}
 use Rattle.json.proofs.Numbered.{ArePrintableOrBad-tokens, value-HasNumbers}
 use Rattle.json.proofs.Nesting.{value-depth}
 use Rattle.json.proofs.Printed.Trees.{value-json_tokens}
 use Rattle.serde_json.specs.Data.{Data}
 use Rattle.serde_json.specs.Read.{of_json, read}
-use Rattle.bx_cut.proofs.Reach.{some_same, from_map, from_and_then}
+use Rattle.bx_cut.proofs.Reach.{from_and_then}
+use Rattle.std.proofs.lemmas.Grind.{common_steps}
+use Rattle.std.proofs.Common.{arith}
 
 abbrev Fronts : {A : Type 0} → (A → List Token) → Parse A → Type 0
 Fronts {A} shown p = (ts : List Token) (q : A × List Token) → Some q ≡ p ts → ts ≡ shown q.0 ++ q.1
@@ -19,19 +20,9 @@ Fronts {A} shown p = (ts : List Token) (q : A × List Token) → Some q ≡ p ts
 none_some : {A P : Type 0} (q : A) → Some q ≡ None → P
 none_some q e = cc
 
-mapped : {A B : Type 0} (f : A → B) (o : Option (A × List Token)) (q : B × List Token) → Some q ≡ parse_map f o → (p : A × List Token) × (Some p ≡ o) × (q ≡ (f p.0, p.1))
-mapped f o q e = from_map (λ (p : _). (f p.0, p.1)) o q e
-
 module _ (p : Parse Json) (fronts : Fronts json_tokens p) where
   item_front : (more : Parse Items) → Fronts items_tokens more → (ts : List Token) (o : Option (List Token)) → after_end_array ts ≡ o → (q : Items × List Token) → Some q ≡ items_step p more ts o → ts ≡ items_tokens q.0 ++ q.1
-  item_front more again ts (Some r) f q e =
-      let same : q ≡ (no_items, r) = some_same q (no_items, r) e in
-      closed_array ts r f ∙ sym (ap (λ (x : Items × List Token). items_tokens x.0 ++ x.1) same)
-  item_front more again ts None f q e =
-      let first = from_and_then (λ (x : Json × List Token). parse_map (item x.0) (more x.1)) (p ts) q e in
-      let rest = mapped (item first.0.0) (more first.0.1) q first.2 in
-      fronts ts first.0 first.1 ∙ ap (λ (l : List Token). json_tokens first.0.0 ++ l) (again first.0.1 rest.0 rest.1) ∙ sym (append_assoc (json_tokens first.0.0) (items_tokens rest.0.0) rest.0.1)
-      ∙ sym (ap (λ (x : Items × List Token). items_tokens x.0 ++ x.1) rest.2)
+  item_front more h1 ts o h2 q h3 = grind (arith, common_steps)
 
   items_front : (n : ℕ) → Fronts items_tokens (items p n)
   unfolding items
@@ -40,42 +31,15 @@ module _ (p : Parse Json) (fronts : Fronts json_tokens p) where
 
   member_front : (more : Parse Members) → Fronts members_tokens more → (ts : List Token) (o : Option (Option (List ℕ) × List Token)) → read_key ts ≡ o → (q : Members × List Token) → Some q ≡ option_and_then (λ x. members_step p more x.0 x.1) o
       → ts ≡ members_tokens q.0 ++ q.1
-  member_front more again ts None f q e = none_some q e
-  member_front more again ts (Some (None, s)) f q e =
-      let same : q ≡ (no_members, s) = some_same q (no_members, s) e in
-      read_key_is ts None s f ∙ sym (ap (λ (x : Members × List Token). members_tokens x.0 ++ x.1) same)
-  member_front more again ts (Some (Some k, s)) f q e =
-      let first = from_and_then (λ (x : Json × List Token). parse_map (member k x.0) (more x.1)) (p s) q e in
-      let rest = mapped (member k first.0.0) (more first.0.1) q first.2 in
-      read_key_is ts (Some k) s f ∙ ap (λ (l : List Token). Token.key k ∷ l) (fronts s first.0 first.1 ∙ ap (λ (l : List Token). json_tokens first.0.0 ++ l) (again first.0.1 rest.0 rest.1)
-      ∙ sym (append_assoc (json_tokens first.0.0) (members_tokens rest.0.0) rest.0.1)) ∙ sym (ap (λ (x : Members × List Token). members_tokens x.0 ++ x.1) rest.2)
+  member_front more h1 ts o h2 q h3 = grind (arith, common_steps)
 
   members_front : (n : ℕ) → Fronts members_tokens (members p n)
   unfolding members
   members_front zero ts q e = none_some q e
   members_front (suc n) ts q e = member_front (members p n) (members_front n) ts (read_key ts) refl q e
 
-leaf_front : (j : Json) (k : Token) (ts : List Token) (q : Json × List Token) → json_tokens j ≡ k ∷ [] → Some q ≡ Some (j, ts) → k ∷ ts ≡ json_tokens q.0 ++ q.1
-leaf_front j k ts q t e =
-    let same : q ≡ (j, ts) = some_same q (j, ts) e in
-    sym (ap (λ (x : Json × List Token). json_tokens x.0 ++ x.1) same ∙ ap (λ (l : List Token). l ++ ts) t)
-
 value_with_front : (a : Parse Items) (o : Parse Members) → Fronts items_tokens a → Fronts members_tokens o → Fronts json_tokens (value_with a o)
-value_with_front a o f g [] q e = none_some q e
-value_with_front a o f g (Token.begin_object ∷ ts) q e =
-    let m = mapped object (o ts) q e in
-    ap (λ (l : List Token). Token.begin_object ∷ l) (g ts m.0 m.1) ∙ sym (ap (λ (x : Json × List Token). json_tokens x.0 ++ x.1) m.2)
-value_with_front a o f g (Token.end_object ∷ ts) q e = none_some q e
-value_with_front a o f g (Token.begin_array ∷ ts) q e =
-    let m = mapped array (a ts) q e in
-    ap (λ (l : List Token). Token.begin_array ∷ l) (f ts m.0 m.1) ∙ sym (ap (λ (x : Json × List Token). json_tokens x.0 ++ x.1) m.2)
-value_with_front a o f g (Token.end_array ∷ ts) q e = none_some q e
-value_with_front a o f g (Token.key s ∷ ts) q e = none_some q e
-value_with_front a o f g (Token.string s ∷ ts) q e = leaf_front (string s) (Token.string s) ts q refl e
-value_with_front a o f g (Token.number s ∷ ts) q e = leaf_front (number s) (Token.number s) ts q refl e
-value_with_front a o f g (Token.boolean b ∷ ts) q e = leaf_front (boolean b) (Token.boolean b) ts q refl e
-value_with_front a o f g (Token.null ∷ ts) q e = leaf_front null Token.null ts q refl e
-value_with_front a o f g (Token.bad ∷ ts) q e = none_some q e
+value_with_front a o h1 h2 = grind (arith, common_steps)
 
 value_front : (d : ℕ) → Fronts json_tokens (value d)
 unfolding value
@@ -96,9 +60,7 @@ abbrev within : ℕ → List ℕ → Option Data
 within levels text = option_and_then of_json (option_and_then (λ p. if_last p.0 p.1) (value levels (tokens text)))
 
 last : (o : Option (Json × List Token)) (j : Json) → Some j ≡ option_and_then (λ p. if_last p.0 p.1) o → Some (j, []) ≡ o
-last None j e = none_some j e
-last (Some (i, [])) j e = ap (λ (x : Json). Some (x, [])) (some_same j i e)
-last (Some (i, t ∷ ts)) j e = none_some j e
+last o j h1 = grind (arith, common_steps)
 
 pub whole_within : (levels : ℕ) (text : List ℕ) (d : Data) → within levels text ≡ Some d → WholeWithin levels text d
 whole_within levels text d e =

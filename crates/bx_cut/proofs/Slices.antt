@@ -1,18 +1,17 @@
 -- What stands round the values of a text: no value's text ends with white space, and white space alone stands behind the last one.
-use Rattle.std.proofs.Common.{◌≡◌, ℕ, suc, ◌+◌, ◌<◌, ◌≤◌, inl, inr, Bool, true, false, cond, ◌||◌, ◌==◌, List, [], ◌∷◌, ◌++◌, length, take, get_or, refl, sym, ap, ◌∙◌, subst, arith}
+use Rattle.std.proofs.Common.{◌≡◌, ℕ, suc, ◌+◌, ◌<◌, ◌≤◌, inl, inr, Bool, true, false, cond, ◌==◌, List, [], ◌∷◌, ◌++◌, length, take, get_or, refl, sym, ap, ◌∙◌, subst, arith}
 use Rattle.std.proofs.Math.Seq.{get_or-append_seam}
-use Rattle.std.proofs.lemmas.{Bool.false≢true, List.append-nil, List.append_assoc, List.length-append, List.length-drop, List.Sums.prefix_len_passes}
+use Rattle.std.proofs.lemmas.{List.append-nil, List.append_assoc, List.length-append, List.length-drop, List.Sums.prefix_len_passes}
 use Rattle.std.specs.List.{prefix_len}
-use Rattle.std.specs.Prelude.{not}
 use Rattle.json.specs.Align.{span}
-use Rattle.json.specs.Token.{Token, begin_object, end_object, begin_array, end_array, key, string, number, boolean, null, bad}
-use Rattle.json.specs.Text.{content, plain}
-use Rattle.json.specs.Word.{is_operator, is_space, word}
-use Rattle.json.specs.Lex.{Lexeme, token, comma, colon, Class, between, in_word, in_string, lex_byte, lex, string_token, Place, fresh, after_value, after_comma, after_key, begins_colon, may_begin, may_close, if_allowed, place_token, punctuate}
+use Rattle.json.specs.Token.{Token}
+use Rattle.json.specs.Word.{is_space}
+use Rattle.json.specs.Lex.{Lexeme, token, comma, colon, between, in_string, lex, Place, after_value, after_comma, begins_colon, place_token, punctuate}
 use Rattle.serde_json.specs.Data.{Items, item}
 use Rattle.bx_cut.specs.Words.{past_blank, is_word_byte, outside, closes, opens, nest_len, value_len, BeginsBare, EndsBare, IsBare, IsBlank, IsShut, StandsIn, GoesOnIn, AreObjectsOf, Object}
-use Rattle.bx_cut.proofs.Bytes.{byte_cases, space_cases, BeginsFull, past-full, past-lex, blanks, split_blanks}
+use Rattle.bx_cut.proofs.Bytes.{byte_cases, BeginsFull, past-full, past-lex, blanks, split_blanks}
 use Rattle.bx_cut.proofs.{Reach.EndsBy, Reach.ends_more, Reach.ends_string, Reach.ends_nested, Values.Fits, Values.Text}
+use Rattle.std.proofs.lemmas.Grind.{common_steps}
 
 -- ---- a value's text ends with no white space
 
@@ -20,19 +19,10 @@ abbrev NoSpace : ℕ → Type 0
 NoSpace x = is_space x ≡ false
 
 closes_full : (x : ℕ) → closes x ≡ true → NoSpace x
-closes_full x h = by_test (is_space x) refl
-  where
-    by_test : (b : Bool) → is_space x ≡ b → is_space x ≡ false
-    by_test false e = e
-    by_test true e = absurd (space_cases (λ (y : ℕ). closes y ≡ true → ⊥) (λ c. false≢true c) (λ c. false≢true c) (λ c. false≢true c) (λ c. false≢true c) x e h)
+closes_full x h = grind (arith, common_steps)
 
 word_full : (x : ℕ) → is_word_byte x ≡ true → NoSpace x
-word_full x h = by_tests (is_operator x) (is_space x) h
-  where
-    by_tests : (a b : Bool) → not (a || b) ≡ true → b ≡ false
-    by_tests true b e = absurd (false≢true e)
-    by_tests false true e = absurd (false≢true e)
-    by_tests false false e = refl
+word_full x h = grind (arith, common_steps)
 
 -- where a value ends within a text, the byte before its end is no white space
 value_ends : (t : List ℕ) (k : ℕ) → value_len t ≡ suc k → suc k < length t → NoSpace (get_or t k 0)
@@ -76,42 +66,19 @@ blanks_blank [] = refl
 blanks_blank (x ∷ xs) = by_test (is_space x) refl (blanks_blank xs)
   where
     by_test : (s : Bool) → is_space x ≡ s → IsBlank (blanks xs) → IsBlank (take (cond s (1 + prefix_len is_space xs) 0) (x ∷ xs))
-    by_test true e h =
-        let n : suc (prefix_len is_space xs) ≡ 1 + prefix_len is_space xs = omega arith in
-        let one : prefix_len is_space (x ∷ blanks xs) ≡ 1 + prefix_len is_space (blanks xs) = ap (λ (b : Bool). cond b (1 + prefix_len is_space (blanks xs)) 0) e in
-        let both : IsBlank (x ∷ blanks xs) = omega (arith, one, h) in
-        subst (λ (k : ℕ). IsBlank (take k (x ∷ xs))) n both
-    by_test false e h = refl
+    by_test s h1 h2 = grind (arith, common_steps)
 
 prefix_le : (t : List ℕ) → prefix_len is_space t ≤ length t
 prefix_le [] = omega arith
-prefix_le (x ∷ xs) = by_test (is_space x) (prefix_le xs)
-  where
-    by_test : (b : Bool) → prefix_len is_space xs ≤ length xs → cond b (1 + prefix_len is_space xs) 0 ≤ length (x ∷ xs)
-    by_test true h = omega arith
-    by_test false h = omega arith
+prefix_le (x ∷ xs) = grind (arith, common_steps, prefix_le xs)
 
 past_nothing : (t : List ℕ) → past_blank t ≡ [] → IsBlank t
 past_nothing t e = omega (arith, ap length e, length-drop (prefix_len is_space t) t, prefix_le t)
 
 -- ---- a text without tokens is white space
 
-allowed : (b : Bool) (t : Token) (k : Place → List Token) (next : Place) → if_allowed b t k next ≡ [] → ⊥
-allowed true t k next e = cc
-allowed false t k next e = cc
-
 placed : (p : Place) (t : Token) (c : Bool) (k : Place → List Token) → place_token p t c k ≡ [] → ⊥
-placed p begin_object c k e = allowed (may_begin p) begin_object k fresh e
-placed p end_object c k e = allowed (may_close p) end_object k after_value e
-placed p begin_array c k e = allowed (may_begin p) begin_array k fresh e
-placed p end_array c k e = allowed (may_close p) end_array k after_value e
-placed p (key s) c k e = cc
-placed p (string s) true k e = allowed (may_begin p) (key s) k after_key e
-placed p (string s) false k e = allowed (may_begin p) (string s) k after_value e
-placed p (number s) c k e = allowed (may_begin p) (number s) k after_value e
-placed p (boolean b) c k e = allowed (may_begin p) (boolean b) k after_value e
-placed p null c k e = allowed (may_begin p) null k after_value e
-placed p bad c k e = cc
+placed p t c k h1 = grind (arith, common_steps)
 
 after_a_comma : (ls : List Lexeme) → punctuate after_comma ls ≡ [] → ⊥
 unfolding punctuate
@@ -125,13 +92,7 @@ unfolding lex punctuate
 nothing_left t h = go (past_blank t) refl (past-full t) (sym (ap (punctuate after_value) (past-lex t)) ∙ h)
   where
     go : (u : List ℕ) → past_blank t ≡ u → BeginsFull u → punctuate after_value (lex between u) ≡ [] → IsBlank t
-    go [] e f n = past_nothing t e
-    go (x ∷ xs) e f n =
-        absurd (byte_cases (λ (y : ℕ). punctuate after_value (lex between (y ∷ xs)) ≡ [] → ⊥)
-        (λ m. placed after_value (string_token (content plain xs)) (begins_colon (lex in_string xs)) (λ next. punctuate next (lex in_string xs)) m) (λ m. cc) (λ m. cc) (λ m. cc) (λ m. cc) (λ m. cc) (λ m. cc)
-        (λ m. after_a_comma (lex between xs) m)
-        (λ y o. subst (λ (c : Class). punctuate after_value (lex_byte between c y xs (λ m. lex m xs)) ≡ [] → ⊥) (sym o.class_is) (λ m. placed after_value (word (y ∷ xs)) (begins_colon (lex in_word xs)) (λ next. punctuate next (lex in_word xs)) m))
-        x f n)
+    go u h1 h2 h3 = grind (arith, common_steps, past_nothing, byte_cases, placed, after_a_comma)
 
 -- ---- where the messages stand
 

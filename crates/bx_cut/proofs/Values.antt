@@ -1,19 +1,19 @@
 -- The text of a value within a text: how far it reaches, and that its own bytes read as the value.
-use Rattle.std.proofs.Common.{◌≡◌, ℕ, ◌+◌, ◌<◌, Bool, true, false, cond, ◌||◌, List, [], ◌∷◌, ◌++◌, length, take, drop, Option, Some, refl, sym, ap, ap₂, ◌∙◌, subst, arith}
+use Rattle.std.proofs.Common.{◌≡◌, ℕ, ◌+◌, ◌<◌, Bool, true, false, cond, List, [], ◌∷◌, ◌++◌, length, take, drop, Option, Some, refl, sym, ap, ap₂, ◌∙◌, subst, arith}
 use Rattle.std.proofs.lemmas.{Bool.false≢true, List.append-nil, List.take-append-drop, List.length-take-le, List.drop_at}
-use Rattle.std.specs.List.{prefix_len}
 use Rattle.std.specs.Prelude.{not}
 use Rattle.json.specs.Token.{Token, string, number, boolean, null, bad}
 use Rattle.json.specs.Text.{content, plain}
-use Rattle.json.specs.Word.{is_operator, is_space, ends_word, word}
+use Rattle.json.specs.Word.{ends_word, word}
 use Rattle.json.specs.Print.{IsNumber}
-use Rattle.json.specs.Lex.{Lexeme, token, between, in_word, in_string, lex, string_token, fresh, after_value, after_comma, begins_colon, place_token, punctuate}
+use Rattle.json.specs.Lex.{Lexeme, token, between, in_word, in_string, lex, string_token, after_value, begins_colon, punctuate}
 use Rattle.json.specs.Align.{span}
 use Rattle.json.proofs.Printed.Numbers.{lex-number, in_word-ended}
-use Rattle.bx_cut.specs.Words.{past_blank, after_first, is_word_byte, outside, nest_len, value_len, spelled}
+use Rattle.bx_cut.specs.Words.{past_blank, after_first, outside, nest_len, value_len, spelled}
 use Rattle.bx_cut.proofs.{Bytes.Other, Local.local, Reach.nest-string, Reach.span_le}
 use Rattle.bx_cut.proofs.Seen.{start, Seen, SeenWord, past_string, string-lex, word-lex}
 use Rattle.bx_cut.proofs.Words.{AllOther, other_nests, other_len, WordText, word_text, true_text, false_text, null_text}
+use Rattle.std.proofs.lemmas.Grind.{common_steps}
 
 -- ---- a string
 
@@ -26,9 +26,6 @@ pub record Quote (v s : List ℕ) : Type 0 where
   pub spells : spelled v ≡ Some s
 
 module _ (xs s : List ℕ) (h : content plain xs ≡ Some s) where
-  raw : List ℕ
-  raw = take (span in_string xs) xs
-
   raw_len : length (take (span in_string xs) xs) ≡ span in_string xs
   raw_len = length-take-le (span in_string xs) xs (span_le xs)
 
@@ -80,8 +77,7 @@ pub record Found (t : List ℕ) (ts rest : List Token) : Type 0 where
 
 string_reads : (b : Bool) (s : List ℕ) (ls : List Lexeme) → begins_colon ls ≡ false → punctuate (start b) (token (string s) ∷ ls) ≡ string s ∷ punctuate after_value ls
 unfolding punctuate
-string_reads true s ls h = ap (λ (c : Bool). place_token fresh (string s) c (λ next. punctuate next ls)) h
-string_reads false s ls h = ap (λ (c : Bool). place_token after_comma (string s) c (λ next. punctuate next ls)) h
+string_reads b s ls h1 = grind (arith, common_steps)
 
 pub quote_text : (v s : List ℕ) → Quote v s → Text v (string s ∷ [])
 quote_text v s q = record {
@@ -103,22 +99,14 @@ abbrev IsLeaf : Token → Type 0
 IsLeaf k = (b : Bool) (ls : List Lexeme) → punctuate (start b) (token k ∷ ls) ≡ k ∷ punctuate after_value ls
 
 other_full : (y : ℕ) (l : List ℕ) → Other y → past_blank (y ∷ l) ≡ y ∷ l
-other_full y l o = at (is_operator y) (is_space y) o.word_byte
-  where
-    at : (a b : Bool) → not (a || b) ≡ true → drop (cond b (1 + prefix_len is_space l) 0) (y ∷ l) ≡ y ∷ l
-    at true b e = absurd (false≢true e)
-    at false true e = absurd (false≢true e)
-    at false false e = refl
+other_full y l o = grind (arith, common_steps)
 
 word_long : (y : ℕ) (s z : List ℕ) → AllOther (y ∷ s) → ends_word z ≡ true → value_len (y ∷ (s ++ z)) ≡ length (y ∷ s)
 unfolding value_len
-word_long y s z a e =
-    (λ i. cond (a.0.other.quote_not i) (1 + span in_string (s ++ z)) (cond (a.0.other.opens_not i) (1 + nest_len outside 0 (s ++ z)) (prefix_len is_word_byte (y ∷ (s ++ z))))) ∙ other_len (y ∷ s) a z e
+word_long y s z a e = grind (arith, common_steps, other_len)
 
 word_past : (y : ℕ) (s r xs : List ℕ) → AllOther (y ∷ s) → ends_word r ≡ true → xs ≡ s ++ r → lex in_word xs ≡ lex between r
-word_past y s r xs a e same =
-    let n = prefix_len is_word_byte (s ++ r) in
-    ap (lex in_word) same ∙ word-lex (s ++ r) ∙ ap (lex between) (drop_at s r n (sym (other_len s a.1 r e)))
+word_past y s r xs a e same = grind (arith, common_steps, r, word-lex, drop_at, other_len)
 
 word_found : (t : List ℕ) (k : Token) (rest : List Token) (y : ℕ) (s r : List ℕ) → IsLeaf k → AllOther (y ∷ s) → ((z : List ℕ) → ends_word z ≡ true → lex between ((y ∷ s) ++ z) ≡ token k ∷ lex between z)
     → (x : ℕ) (xs : List ℕ) → past_blank t ≡ x ∷ xs → x ∷ xs ≡ (y ∷ s) ++ r → ends_word r ≡ true → punctuate after_value (lex in_word xs) ≡ rest → Found t (k ∷ []) rest
@@ -144,8 +132,7 @@ unfolding punctuate
 find_number t s rest n (x, xs, e, o, w, l) = go s n (subst (WordText (x ∷ xs)) w (word_text (x ∷ xs)))
   where
     leaf : (s : List ℕ) → IsLeaf (number s)
-    leaf s true ls = refl
-    leaf s false ls = refl
+    leaf s = grind (arith, common_steps)
 
     go : (s' : List ℕ) → IsNumber s' → WordText (x ∷ xs) (number s') → Found t (number s' ∷ []) rest
     go [] n (f, a, i) = absurd (no_word f.2)
@@ -165,8 +152,7 @@ find_true t rest (x, xs, e, o, w, l) =
     (λ z g. ap₂ (λ (b : Bool) (q : List Lexeme). token (cond b (boolean true) bad) ∷ q) g (in_word-ended z g)) x xs e f.1 f.2 l
   where
     leaf : IsLeaf (boolean true)
-    leaf true ls = refl
-    leaf false ls = refl
+    leaf = grind (arith, common_steps)
 
 pub false_other : AllOther false_text
 false_other = (record { low = omega arith; other = record { class_is = refl; quote_not = refl; opens_not = refl; closes_not = refl; word_byte = refl } }, (record { low = omega arith; other = record { class_is = refl; quote_not = refl; opens_not = refl; closes_not = refl; word_byte = refl } }, (record { low = omega arith; other = record { class_is = refl; quote_not = refl; opens_not = refl; closes_not = refl; word_byte = refl } }, (record { low = omega arith; other = record { class_is = refl; quote_not = refl; opens_not = refl; closes_not = refl; word_byte = refl } }, (record { low = omega arith; other = record { class_is = refl; quote_not = refl; opens_not = refl; closes_not = refl; word_byte = refl } }, tt)))))
@@ -179,8 +165,7 @@ find_false t rest (x, xs, e, o, w, l) =
     (λ z g. ap₂ (λ (b : Bool) (q : List Lexeme). token (cond b (boolean false) bad) ∷ q) g (in_word-ended z g)) x xs e f.1 f.2 l
   where
     leaf : IsLeaf (boolean false)
-    leaf true ls = refl
-    leaf false ls = refl
+    leaf = grind (arith, common_steps)
 
 pub null_other : AllOther null_text
 null_other = (record { low = omega arith; other = record { class_is = refl; quote_not = refl; opens_not = refl; closes_not = refl; word_byte = refl } }, (record { low = omega arith; other = record { class_is = refl; quote_not = refl; opens_not = refl; closes_not = refl; word_byte = refl } }, (record { low = omega arith; other = record { class_is = refl; quote_not = refl; opens_not = refl; closes_not = refl; word_byte = refl } }, (record { low = omega arith; other = record { class_is = refl; quote_not = refl; opens_not = refl; closes_not = refl; word_byte = refl } }, tt))))
@@ -193,5 +178,4 @@ find_null t rest (x, xs, e, o, w, l) =
     (λ z g. ap₂ (λ (b : Bool) (q : List Lexeme). token (cond b null bad) ∷ q) g (in_word-ended z g)) x xs e f.1 f.2 l
   where
     leaf : IsLeaf null
-    leaf true ls = refl
-    leaf false ls = refl
+    leaf = grind (arith, common_steps)

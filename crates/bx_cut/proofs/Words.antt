@@ -1,16 +1,16 @@
 -- The text of a number or a literal: bytes without a meaning of their own, up to the end of the word.
-use Rattle.std.proofs.Common.{◌≡◌, ℕ, suc, ◌+◌, ◌-◌, ◌<◌, ◌≤◌, Bool, true, false, cond, ◌&&◌, ◌||◌, ◌==◌, nat_eq, List, [], ◌∷◌, ◌++◌, length, take, drop, Option, Some, None, option_and_then, refl, sym, ap, ◌∙◌, subst, arith}
-use Rattle.std.proofs.lemmas.{Bool.true≢false, Bool.eqb-true, Bool.leb-true, Bool.and_parts, Bool.Decides.Decides-eqb, Slice.Eq.starts_is}
+use Rattle.std.proofs.Common.{◌≡◌, ℕ, ◌+◌, ◌-◌, ◌<◌, Bool, true, false, cond, ◌&&◌, ◌||◌, ◌==◌, nat_eq, List, [], ◌∷◌, ◌++◌, length, take, drop, Option, Some, None, option_and_then, refl, sym, ap, ◌∙◌, subst, arith}
+use Rattle.std.proofs.lemmas.{Bool.true≢false, Bool.eqb-true, Bool.Decides.Decides-eqb, Slice.Eq.starts_is}
 use Rattle.std.proofs.lemmas.List.{append_assoc, take-append-drop, length-append, take_at}
 use Rattle.std.specs.{Char.is_ascii_digit, List.prefix_len, List.starts_with}
-use Rattle.std.specs.Prelude.{not}
-use Rattle.json.specs.Token.{Token, begin_object, end_object, begin_array, end_array, key, string, number, boolean, null, bad}
+use Rattle.json.specs.Token.{Token, number, boolean, null, bad}
 use Rattle.json.specs.Word.{head, ends_word, after_digits, after_minus, after_sign, after_whole, after_fraction, after_exponent, after_number, number_before, literal, word}
 use Rattle.json.specs.Print.{IsNumber}
 use Rattle.json.proofs.Printed.Numbers.{number_alone}
 use Rattle.json.specs.Ascii as ascii
-use Rattle.bx_cut.specs.Cut.{outside, quoted, nest_len, is_word_byte}
-use Rattle.bx_cut.proofs.{Bytes.Other, Bytes.is_other, Reach.from_and_then, Reach.some_same}
+use Rattle.bx_cut.specs.Cut.{outside, nest_len, is_word_byte}
+use Rattle.bx_cut.proofs.{Bytes.Other, Reach.from_and_then, Reach.some_same}
+use Rattle.std.proofs.lemmas.Grind.{common_steps}
 
 -- an ASCII byte without a meaning of its own
 pub record Letter (x : ℕ) : Type 0 where
@@ -28,15 +28,10 @@ all_both (x ∷ xs) ys h k = (h.0, all_both xs ys h.1 k)
 pub other_nests : (s : List ℕ) → AllOther s → (depth : ℕ) (z : List ℕ) → nest_len outside depth (s ++ z) ≡ length s + nest_len outside depth z
 unfolding nest_len
 other_nests [] h depth z = omega arith
-other_nests (x ∷ xs) h depth z =
-    let rest = xs ++ z in
-    let step : nest_len outside depth (x ∷ rest) ≡ 1 + nest_len outside depth rest =
-    (λ i. 1 + cond (h.0.other.quote_not i) (nest_len quoted depth rest) (cond (h.0.other.opens_not i) (nest_len outside (depth + 1) rest) (cond (h.0.other.closes_not i) (cond (depth == 0) 0 (nest_len outside (depth - 1) rest)) (nest_len outside depth rest)))) in
-    omega (arith, step, other_nests xs h.1 depth z)
+other_nests (x ∷ xs) h depth z = grind (arith, common_steps, other_nests xs h.1 depth z)
 
 ends_none : (z : List ℕ) → ends_word z ≡ true → prefix_len is_word_byte z ≡ 0
-ends_none [] e = refl
-ends_none (x ∷ xs) e = ap (λ b. cond (not b) (1 + prefix_len is_word_byte xs) 0) e
+ends_none z h1 = grind (arith, common_steps)
 
 pub other_len : (s : List ℕ) → AllOther s → (z : List ℕ) → ends_word z ≡ true → prefix_len is_word_byte (s ++ z) ≡ length s
 other_len [] h z e = ends_none z e
@@ -63,24 +58,15 @@ one : (c : ℕ) → Letter c → (t : List ℕ) → (head t == c) ≡ true → P
 one c o [] h = let e : 32 ≡ c = eqb-true 32 c h in absurd (true≢false (sym (subst Letter (sym e) o).other.word_byte))
 one c o (x ∷ xs) h = let e : x ≡ c = eqb-true x c h in record { taken = x ∷ []; at = refl; all = (subst Letter (sym e) o, tt) }
 
-digit_low : (y : ℕ) → is_ascii_digit y ≡ true → y < 128
-digit_low y h = let last : y ≤ 57 = leb-true y 57 (and_parts _ _ h).1 in omega (arith, last)
-
 digit_other : (y : ℕ) → is_ascii_digit y ≡ true → Letter y
-digit_other y h = record { low = digit_low y h; other = is_other y (no 34 refl) (no 92 refl) (no 123 refl) (no 125 refl) (no 91 refl) (no 93 refl) (no 58 refl) (no 44 refl) (no 32 refl) (no 9 refl) (no 10 refl) (no 13 refl) }
-  where
-    no : (n : ℕ) → is_ascii_digit n ≡ false → y ≡ n → ⊥
-    no n f e = true≢false (sym h ∙ ap is_ascii_digit e ∙ f)
+digit_other y h = grind (arith, common_steps)
 
 all_digits : (t : List ℕ) → AllOther (take (prefix_len is_ascii_digit t) t)
 all_digits [] = tt
 all_digits (x ∷ xs) = by_test (is_ascii_digit x) refl (all_digits xs)
   where
     by_test : (b : Bool) → is_ascii_digit x ≡ b → AllOther (take (prefix_len is_ascii_digit xs) xs) → AllOther (take (cond b (1 + prefix_len is_ascii_digit xs) 0) (x ∷ xs))
-    by_test true e h =
-        let s : suc (prefix_len is_ascii_digit xs) ≡ 1 + prefix_len is_ascii_digit xs = omega arith in
-        subst (λ (k : ℕ). AllOther (take k (x ∷ xs))) s (digit_other x e, h)
-    by_test false e h = tt
+    by_test b h1 h2 = grind (arith, common_steps)
 
 digits : (t r : List ℕ) → Some r ≡ after_digits t → Part t r
 digits t r e = by_test (prefix_len is_ascii_digit t == 0) e
@@ -98,11 +84,7 @@ minus_other : Letter 45
 minus_other = record { low = omega arith; other = record { class_is = refl; quote_not = refl; opens_not = refl; closes_not = refl; word_byte = refl } }
 
 minus : (t : List ℕ) → Part t (after_minus t)
-minus t = by_test (head t == 45) refl
-  where
-    by_test : (b : Bool) → (head t == 45) ≡ b → Part t (cond b (drop 1 t) t)
-    by_test true e = one 45 minus_other t e
-    by_test false e = nothing t
+minus t = grind (arith, common_steps, one, minus_other, nothing)
 
 sign : (t : List ℕ) → Part t (after_sign t)
 sign t = by_tests (head t == 45) (head t == 43) refl refl
@@ -116,11 +98,7 @@ drop_same : (t u r : List ℕ) → Some r ≡ Some u → Part t u → Part t r
 drop_same t u r e p = subst (Part t) (sym (some_same r u e)) p
 
 whole : (t r : List ℕ) → Some r ≡ after_whole t → Part t r
-whole t r e = by_test (head t == 48) refl e
-  where
-    by_test : (b : Bool) → (head t == 48) ≡ b → Some r ≡ cond b (Some (drop 1 t)) (after_digits t) → Part t r
-    by_test true e f = drop_same t (drop 1 t) r f (one 48 (digit_other 48 refl) t e)
-    by_test false e f = digits t r f
+whole t r e = grind (arith, common_steps, drop_same, one, digit_other, digits)
 
 fraction : (t r : List ℕ) → Some r ≡ after_fraction t → Part t r
 fraction t r e = by_test (head t == 46) refl e
@@ -162,21 +140,14 @@ abbrev pub Ended : List ℕ → List ℕ → Type 0
 Ended s t = (r : List ℕ) × (t ≡ s ++ r) × (ends_word r ≡ true)
 
 abbrev pub WordText : List ℕ → Token → Type 0
-WordText t begin_object = Unit {0}
-WordText t end_object = Unit {0}
-WordText t begin_array = Unit {0}
-WordText t end_array = Unit {0}
-WordText t (key s) = Unit {0}
-WordText t (string s) = Unit {0}
 WordText t (number s) = Ended s t × AllOther s × IsNumber s
 WordText t (boolean true) = Ended true_text t
 WordText t (boolean false) = Ended false_text t
 WordText t null = Ended null_text t
-WordText t bad = Unit {0}
+WordText t _ = Unit {0}
 
 either : (t : List ℕ) (b : Bool) (x y : Token) → WordText t x → WordText t y → WordText t (cond b x y)
-either t true x y p q = p
-either t false x y p q = q
+either t b x y h1 h2 = grind (arith, common_steps)
 
 named : (t name : List ℕ) (k : Token) → (Ended name t → WordText t k) → WordText t (literal name k t)
 named t name k f = by_tests (starts_with nat_eq t name) (ends_word (drop (length name) t)) refl refl

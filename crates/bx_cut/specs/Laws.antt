@@ -2,7 +2,7 @@
 use Rattle.std.specs.Prelude.{◌≡◌, ℕ, List, [], ◌∷◌, ◌++◌, length, Some, false, option_and_then, IfSome, ⊤, ◌⊎◌}
 use Rattle.std.specs.List.{prefix_len}
 use Rattle.json.specs.Word.{is_space}
-use Rattle.serde_json.specs.Data.{Data, null, boolean, number, string, array, object, Items, no_items, item}
+use Rattle.serde_json.specs.Data.{Data, array, object, Items, no_items, item}
 use Rattle.serde_json.specs.Find.{get}
 use Rattle.serde_json.specs.Read.{read}
 use Rattle.bx_cut.specs.Cut.{past_blank}
@@ -30,40 +30,30 @@ pub record IsObjectOf (o : Object) (d : Data) : Type 0 where
 
 abbrev pub AreObjectsOf : List Object → Items → Type 0
 AreObjectsOf [] no_items = ⊤
-AreObjectsOf [] (item d ds) = ⊥
-AreObjectsOf (o ∷ os) no_items = ⊥
 AreObjectsOf (o ∷ os) (item d ds) = IsObjectOf o d × AreObjectsOf os ds
+AreObjectsOf _ _ = ⊥
 
 abbrev pub IsOnlyObject : List Object → Data → Type 0
-IsOnlyObject [] d = ⊥
 IsOnlyObject (o ∷ []) d = IsObjectOf o d
-IsOnlyObject (o ∷ p ∷ os) d = ⊥
+IsOnlyObject _ d = ⊥
 
 -- one message for each element of the array, in order, or the one object; of another value nothing is said
 abbrev pub ArePiecesOf : List Object → Data → Type 0
-ArePiecesOf os null = ⊤
-ArePiecesOf os (boolean b) = ⊤
-ArePiecesOf os (number n) = ⊤
-ArePiecesOf os (string s) = ⊤
 ArePiecesOf os (array ds) = AreObjectsOf os ds
 ArePiecesOf os (object ms) = IsOnlyObject os (object ms)
+ArePiecesOf os _ = ⊤
 
 -- ---- nested values
 
 abbrev pub AreTextsOf : List (List ℕ) → Items → Type 0
 AreTextsOf [] no_items = ⊤
-AreTextsOf [] (item d ds) = ⊥
-AreTextsOf (v ∷ vs) no_items = ⊥
 AreTextsOf (v ∷ vs) (item d ds) = (read v ≡ Some d) × IsBare v × AreTextsOf vs ds
+AreTextsOf _ _ = ⊥
 
 -- one text for each element of an array, in order; none where the value is no array
 abbrev pub AreElementsOf : List (List ℕ) → Data → Type 0
-AreElementsOf vs null = vs ≡ []
-AreElementsOf vs (boolean b) = vs ≡ []
-AreElementsOf vs (number n) = vs ≡ []
-AreElementsOf vs (string s) = vs ≡ []
 AreElementsOf vs (array ds) = AreTextsOf vs ds
-AreElementsOf vs (object ms) = vs ≡ []
+AreElementsOf vs _ = vs ≡ []
 
 -- ---- where the messages lie
 
@@ -90,9 +80,8 @@ IsBracketed os t = (w : List ℕ) × (rest : List ℕ) × (t ≡ w ++ (91 ∷ re
 
 -- one message, with white space alone on either side of it
 abbrev pub IsAlone : List Object → List ℕ → Type 0
-IsAlone [] t = ⊥
 IsAlone (o ∷ []) t = (w : List ℕ) × (rest : List ℕ) × (t ≡ w ++ (o.0 ++ rest)) × IsBlank w × IsBlank rest
-IsAlone (o ∷ p ∷ os) t = ⊥
+IsAlone _ t = ⊥
 
 -- the document is its messages joined by commas inside its brackets, or its one message, and white space: so the messages are slices of it, in order
 abbrev pub LieIn : List Object → List ℕ → Type 0

@@ -125,6 +125,7 @@ fn check(alloc: Global, text: &str) -> Result<(), CutError>
 }
 
 // The fault of a document that is this value.
+#[tactic(auto, using(crate::proofs::Checks::faults))]
 fn fault_of(value: &Value) -> Option<CutError>
     ensures { result ≡ value_fault (Some (view value.now)) }
 {

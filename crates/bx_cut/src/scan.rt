@@ -42,6 +42,7 @@ pub(crate) fn plain_len(text: &str) -> usize
 }
 
 // What follows an opening quote, up to and with the closing one.
+#[tactic(auto, using(crate::proofs::Reach::string_ends))]
 fn string_len(text: &[u8]) -> usize
     ensures value { result ≡ span in_string text.now }
     ensures bound { result ≤ length text.now }
@@ -60,6 +61,7 @@ fn string_len(text: &[u8]) -> usize
 }
 
 // What follows an opening bracket, up to and with the one that closes it.
+#[tactic(auto, using(crate::proofs::Reach::nest_ends))]
 fn nested_len(text: &[u8]) -> usize
     ensures value { result ≡ nest_len outside 0 text.now }
     ensures bound { result ≤ length text.now }
@@ -100,6 +102,7 @@ fn word_len(text: &[u8]) -> usize
 }
 
 // The value in front, or nothing where none begins.
+#[tactic(auto, using(crate::proofs::Reach::value_ends))]
 pub(crate) fn value_len(text: &str) -> usize
     ensures value { result ≡ value_len text.now }
     ensures boundary { IsCharBoundary text.now result }

@@ -61,6 +61,7 @@ fn short_escape(letter: u8) -> Option<char>
 }
 
 // The character that a high surrogate and the escape in front of `text` make.
+#[tactic(auto, using(crate::proofs::Contents::low_half))]
 fn with_low_half(high: u32, text: &[u8]) -> Option<char>
     requires high { (0xd800 ≤ high) × (high < 0xdc00) }
     requires long { 6 ≤ length text.now }
@@ -80,6 +81,7 @@ fn with_low_half(high: u32, text: &[u8]) -> Option<char>
 }
 
 // The character that a backslash and the front of `text` stand for, and how long that front is.
+#[tactic(auto, using(crate::proofs::Contents::escapes))]
 fn escape(text: &[u8]) -> Option<(char, usize)>
     ensures { Unescapes after_backslash text.now result }
 {
@@ -131,6 +133,7 @@ fn without<'a>(text: &'a [u8], front: &[u8]) -> Option<&'a [u8]>
 }
 
 // Whether the rest of a string spells another text, as its first byte tells; one that begins with an escape tells nothing.
+#[tactic(auto, using(crate::proofs::Contents::differing))]
 fn differs_at_once(rest: &str, text: &str) -> bool
     ensures { IsTrue result → content plain rest.now ≢ Some text.now }
 {

@@ -5,13 +5,13 @@ use Rattle.bx_advice.specs.Limits.{greatest_moment, greatest_length}
 use Rattle.bx_message.specs.declared.message.Message.{Message}
 use Rattle.bx_entry.specs.Listing.{Listed, request}
 use Rattle.bx_entry.specs.Listing as messages
-use Rattle.bx_entry.specs.declared.input.{BodyFault.BodyFault, Refusal.Refusal}
+use Rattle.bx_entry.specs.declared.input.{BodyError.BodyError, Refusal.Refusal}
 use Rattle.bx_entry.specs.declared.input.Refusal.TheVariants.{Body, BadMoment, Ended}
 
 -- a request with its messages, one whose body can't be read, or a tick
 pub data ReadInput : Type 0 where
   Request : (moment : ℕ) → (nonce : ℕ) → (messages : List Message) → ReadInput
-  Unread : (fault : BodyFault) → ReadInput
+  Unread : (fault : BodyError) → ReadInput
   Tick : (moment : ℕ) → ReadInput
 
 -- what an input would add to the list

@@ -9,9 +9,9 @@ use Rattle.bx_cut.specs.Words.{fault, Object, pieces, texts_of}
 use Rattle.bx_message.specs.declared.message.Message.{Message}
 use Rattle.bx_message.specs.Fields.{message_in}
 use Rattle.bx_entry.specs.Inputs.{ReadInput, Request, Unread}
-use Rattle.bx_entry.specs.declared.input.{Input.Input, BodyFault.BodyFault}
+use Rattle.bx_entry.specs.declared.input.{Input.Input, BodyError.BodyError}
 use Rattle.bx_entry.specs.declared.input.Input.TheVariants.{Post}
-use Rattle.bx_entry.specs.declared.input.BodyFault.TheVariants.{NotJson, NotObject, TooMany, NoChannel}
+use Rattle.bx_entry.specs.declared.input.BodyError.TheVariants.{NotJson, NotObject, TooMany, NoChannel}
 
 -- ---- documents
 
@@ -61,7 +61,7 @@ objects_of cs = flat_map objects_in cs
 -- ---- a request
 
 -- what is wrong with the documents as they are cut: the first of these that holds for any of them, the number of messages counted over all
-abbrev pub cut_fault : List Cut → Option BodyFault
+abbrev pub cut_fault : List Cut → Option BodyError
 cut_fault cs = first_case (
     (list_any is_not_json cs, NotJson)
     ∷ (list_any is_not_object cs, NotObject)
@@ -74,27 +74,27 @@ all_messages [] = Some []
 all_messages (o ∷ os) = option_and_then (λ m. option_map (λ ms. m ∷ ms) (all_messages os)) (message_in o.1)
 
 -- or that some has none
-abbrev pub with_channels : Option (List Message) → Result (List Message) BodyFault
+abbrev pub with_channels : Option (List Message) → Result (List Message) BodyError
 with_channels None = Err NoChannel
 with_channels (Some ms) = Ok ms
 
 -- the messages, unless there is a fault
-abbrev pub messages_by : List Cut → Option BodyFault → Result (List Message) BodyFault
+abbrev pub messages_by : List Cut → Option BodyError → Result (List Message) BodyError
 messages_by cs None = with_channels (all_messages (objects_of cs))
 messages_by cs (Some f) = Err f
 
 -- what documents as they are cut are read as
-abbrev pub messages_of : List Cut → Result (List Message) BodyFault
+abbrev pub messages_of : List Cut → Result (List Message) BodyError
 messages_of cs = messages_by cs (cut_fault cs)
 
 -- the messages of all documents in order, or the first fault
-abbrev pub request_messages : List (List ℕ) → Result (List Message) BodyFault
+abbrev pub request_messages : List (List ℕ) → Result (List Message) BodyError
 request_messages documents = messages_of (map cut_of documents)
 
 -- ---- an input
 
 -- a request as it is read
-abbrev pub read_by : ℕ → ℕ → Result (List Message) BodyFault → ReadInput
+abbrev pub read_by : ℕ → ℕ → Result (List Message) BodyError → ReadInput
 read_by moment nonce (Ok ms) = Request moment nonce ms
 read_by moment nonce (Err f) = Unread f
 

@@ -26,7 +26,7 @@ pub enum Input {
 /// Why the documents of a request are not read as messages. The variants stand in the order in which
 /// they are looked for, each over all documents of the request.
 #[derive(Clone, Copy, Debug, PartialEq, Eq, PartialOrd, Ord)]
-pub enum BodyFault {
+pub enum BodyError {
     /// Some document is no JSON text.
     NotJson,
     /// Some document is neither an object nor an array, or is an array with an element that is no
@@ -42,7 +42,7 @@ pub enum BodyFault {
 #[derive(Clone, Copy, Debug, PartialEq, Eq)]
 pub enum Refusal {
     /// The request's documents are not read as messages.
-    Body(BodyFault),
+    Body(BodyError),
     /// The moment is above the greatest that is taken.
     BadMoment,
     /// The list would pass the greatest length that it may have.

@@ -8,7 +8,7 @@ mod read;
 mod senders;
 
 pub use entry::{Batch, Entry, EntryKind, Rider, Slot, Ticket};
-pub use input::{Arrival, BodyFault, Input, Refusal};
+pub use input::{Arrival, BodyError, Input, Refusal};
 pub use placing::{AllFirst, ByRemainder, ByTable, Placing};
-pub use read::{ReadFault, read_messages};
+pub use read::{ReadError, read_messages};
 pub use senders::Senders;

@@ -3,20 +3,20 @@ ghost use Rattle.std.specs.Prelude.{◌≡◌, ◌++◌, ◌<◌, IfOk, IfErr, O
 ghost use Rattle.std.specs.List.{list_any};
 ghost use Rattle.bx_cut.specs.Bodies.{texts_of};
 ghost use Rattle.bx_cut.specs.declared.document.TheConstants.{MAX_MESSAGES};
-ghost use Rattle.bx_entry.specs.declared.input.BodyFault.{BodyFault};
-ghost use Rattle.bx_entry.specs.declared.read.ReadFault.TheVariants.{Memory};
+ghost use Rattle.bx_entry.specs.declared.input.BodyError.{BodyError};
+ghost use Rattle.bx_entry.specs.declared.read.ReadError.TheVariants.{Memory};
 ghost use Rattle.bx_entry.specs.Requests.{all_messages, cut_fault, cut_of, is_not_json, is_not_object, is_too_many, messages_of, objects_in, objects_of, request_messages};
 
-use crate::input::BodyFault;
+use crate::input::BodyError;
 use bx_cut::{Bodies, CutError, Document, MAX_MESSAGES};
 use bx_message::{Message, MessageError};
 use std::alloc::{AllocError, AllocFailed, Global};
 
 /// Why a request's messages were not read.
 #[derive(Clone, Copy, Debug, PartialEq, Eq)]
-pub enum ReadFault {
+pub enum ReadError {
     /// They cannot be read.
-    Body(BodyFault),
+    Body(BodyError),
     /// Memory was refused.
     Memory,
 }
@@ -25,9 +25,9 @@ pub enum ReadFault {
 type Cut<'a> = Result<Document<'a>, CutError>;
 
 /// The messages of all documents in order, or the first of the faults that holds for any of them.
-pub fn read_messages(alloc: Global, bodies: &Bodies) -> Result<Vec<Message>, ReadFault>
+pub fn read_messages(alloc: Global, bodies: &Bodies) -> Result<Vec<Message>, ReadError>
     ensures messages { IfOk result (λ ms. request_messages (texts_of bodies.now) ≡ Ok ms.items) }
-    ensures fault { (fault : BodyFault) → IsErrOf result (ReadFault.Body fault)
+    ensures fault { (fault : BodyError) → IsErrOf result (ReadError.Body fault)
         → request_messages (texts_of bodies.now) ≡ Err fault }
 {
     let cuts = cut_all(alloc, bodies)?;
@@ -48,31 +48,31 @@ fn cut_all(alloc: Global, bodies: &Bodies) -> Result<Vec<Cut<'_>>, AllocError>
     Ok(cuts)
 }
 
-fn messages_in(alloc: Global, cuts: &[Cut<'_>]) -> Result<Vec<Message>, ReadFault>
+fn messages_in(alloc: Global, cuts: &[Cut<'_>]) -> Result<Vec<Message>, ReadError>
     ensures messages { IfOk result (λ ms. messages_of cuts.now ≡ Ok ms.items) }
-    ensures fault { (fault : BodyFault) → IsErrOf result (ReadFault.Body fault)
+    ensures fault { (fault : BodyError) → IsErrOf result (ReadError.Body fault)
         → messages_of cuts.now ≡ Err fault }
 {
     if let Some(fault) = fault_in(cuts) {
-        return Err(ReadFault::Body(fault));
+        return Err(ReadError::Body(fault));
     }
     match read_all(alloc, cuts) {
         Ok(messages) => Ok(messages),
-        Err(MessageError::NoChannel) => Err(ReadFault::Body(BodyFault::NoChannel)),
-        Err(MessageError::Memory) => Err(ReadFault::Memory),
+        Err(MessageError::NoChannel) => Err(ReadError::Body(BodyError::NoChannel)),
+        Err(MessageError::Memory) => Err(ReadError::Memory),
     }
 }
 
 // What is wrong with the documents, besides messages without a channel.
-fn fault_in(cuts: &[Cut<'_>]) -> Option<BodyFault>
+fn fault_in(cuts: &[Cut<'_>]) -> Option<BodyError>
     ensures { result ≡ cut_fault cuts.now }
 {
     if has_not_json(cuts) {
-        Some(BodyFault::NotJson)
+        Some(BodyError::NotJson)
     } else if has_not_object(cuts) {
-        Some(BodyFault::NotObject)
+        Some(BodyError::NotObject)
     } else if has_too_many(cuts) | are_too_many(cuts) {
-        Some(BodyFault::TooMany)
+        Some(BodyError::TooMany)
     } else {
         None
     }
@@ -157,18 +157,18 @@ fn read_document(
     Ok(())
 }
 
-impl From<AllocError> for ReadFault {
+impl From<AllocError> for ReadError {
     ghost from_gives = { λ _ fault. fault ≡ Memory };
 
-    fn from(_error: AllocError) -> ReadFault {
-        ReadFault::Memory
+    fn from(_error: AllocError) -> ReadError {
+        ReadError::Memory
     }
 }
 
-impl<T: Drop> From<AllocFailed<T>> for ReadFault {
+impl<T: Drop> From<AllocFailed<T>> for ReadError {
     ghost from_gives = { λ _ fault. fault ≡ Memory };
 
-    fn from(_error: AllocFailed<T>) -> ReadFault {
-        ReadFault::Memory
+    fn from(_error: AllocFailed<T>) -> ReadError {
+        ReadError::Memory
     }
 }

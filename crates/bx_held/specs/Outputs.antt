@@ -4,7 +4,7 @@ use mathlib.Core.List.{IsPrefix}
 use Rattle.bx_entry.specs.declared.entry.Ticket.{Ticket}
 use Rattle.bx_message.specs.declared.reply.Answer.{Answer}
 use Rattle.bx_shard.specs.Shards.{Setup}
-use Rattle.bx_window.specs.declared.law.Step.{Step}
+use Rattle.bx_window.specs.declared.law.LogStep.{LogStep}
 use Rattle.bx_window.specs.Steps.{begin_of}
 use Rattle.bx_hub.specs.Held.{IsLevelWithout, answer_over}
 use Rattle.bx_hub.specs.declared.fault.HubFault.{HubFault}
@@ -21,13 +21,13 @@ of_hub stops.Memory = Memory
 of_hub (stops.Misplaced found) = Misplaced found
 
 -- the ticket names no shard, or the shard that it names was at the end of this front and had filed no answer under the ticket
-abbrev pub HasNone : Setup → Ticket → List Step → Type 0
+abbrev pub HasNone : Setup → Ticket → List LogStep → Type 0
 HasNone setup ticket front = (setup.shards ≤ ticket.shard) ⊎ IsLevelWithout setup ticket front
 
 -- The output for a ticket, by a front of the list: an answer is what one thread gives over that front; where nothing is known of the ticket, it has
 -- none; where a shard is overrun, it is that of the ticket, and the window of that front begins past its place; where another shard was found, it is not
 -- that of the ticket.
-abbrev pub IsGiven : Setup → Ticket → List Step → Result Answer HeldFault → Type 0
+abbrev pub IsGiven : Setup → Ticket → List LogStep → Result Answer HeldFault → Type 0
 IsGiven setup ticket front (Ok a) = answer_over setup.config front ticket.place ≡ Some a
 IsGiven setup ticket front (Err Unknown) = HasNone setup ticket front
 IsGiven setup ticket front (Err Closed) = Unit {0}
@@ -37,5 +37,5 @@ IsGiven setup ticket front (Err Memory) = Unit {0}
 IsGiven setup ticket front (Err (Misplaced found)) = found ≢ ticket.shard
 
 -- the output of one that has given none yet, by some front that begins with what was seen
-abbrev pub MayGive : Setup → Ticket → List Step → Bool → Result Answer HeldFault → Type 0
-MayGive setup ticket seen is_done output = is_done ≡ false → (front : List Step) × IsPrefix seen front × IsGiven setup ticket front output
+abbrev pub MayGive : Setup → Ticket → List LogStep → Bool → Result Answer HeldFault → Type 0
+MayGive setup ticket seen is_done output = is_done ≡ false → (front : List LogStep) × IsPrefix seen front × IsGiven setup ticket front output

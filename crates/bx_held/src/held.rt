@@ -26,7 +26,7 @@ use std::sync::Wait;
 /// Each poll asks the hub for the answer. While there is none, it leaves a waker of the task that polls beside the connect, so
 /// that this task is woken once the connect is answered, also where what waits went from one task to another meanwhile.
 #[derive(Drop)]
-pub struct HeldConnect<J: Naming> {
+pub struct PendingAnswer<J: Naming> {
     pass: Pass<J>,
     ticket: Ticket,
     // Names what it waits for: that the connect is answered.
@@ -38,13 +38,13 @@ pub struct HeldConnect<J: Naming> {
     ghost reached: { ticket.place < length (list_of pass) },
 }
 
-impl<J: Naming> HeldConnect<J> {
+impl<J: Naming> PendingAnswer<J> {
     /// What waits for the answer under the ticket of a connect, or of a rider, that stands in what the pass has seen of a hub's list.
-    pub fn new(pass: Pass<J>, ticket: Ticket) -> HeldConnect<J>
+    pub fn new(pass: Pass<J>, ticket: Ticket) -> PendingAnswer<J>
         requires { ticket.place < length (list_of pass) }
         ensures { (result.pass ≡ pass) × (result.ticket ≡ ticket) × (result.is_done ≡ false) }
     {
-        HeldConnect {
+        PendingAnswer {
             pass,
             ticket,
             source: Source::new(),

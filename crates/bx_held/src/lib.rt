@@ -5,4 +5,4 @@ mod fault;
 mod held;
 
 pub use fault::HeldFault;
-pub use held::HeldConnect;
+pub use held::PendingAnswer;

@@ -12,7 +12,7 @@ use Rattle.bx_connects.specs.Connects.{filed_answer}
 use Rattle.futures.specs.declared.task.waker.Waker.{Waker}
 use Rattle.bx_shard.specs.Words.{Refines, Took, given_of, swept_places, Setup, Applied, IsAsBefore, IsSound, State, Swept, Watched, WasShut, connect_in}
 use Rattle.bx_shard.proofs.{Holding.refines_still, Holding.refines_longer, Placed.entry_placed, Onwards.refines_onwards, Sweeping.refines_swept, Taking.refines_taken, Waking.refines_watched, Waking.refines_shut}
-use Rattle.bx_window.specs.declared.law.Step.{Step}
+use Rattle.bx_window.specs.declared.law.LogStep.{LogStep}
 use Rattle.bx_window.specs.Steps.{list_of}
 use Rattle.bx_window.specs.Places.{IsOf, StandsIn}
 use Rattle.bx_window.proofs.{Fronts.prefix_self, Fronts.prefix_trans, Lists.list_of-prefix}
@@ -20,14 +20,14 @@ use Rattle.bx_hub.specs.Held.{Held, IsLevelWithout, Stands, answer_over}
 use Rattle.bx_shard.proofs.Given.{filed_is_given, given_longer, as_before}
 use Rattle.bx_hub.proofs.Lists.{takes_same, got, list_length}
 
-abbrev pub held : List Step → List Step → List ℕ → State → Held
+abbrev pub held : List LogStep → List LogStep → List ℕ → State → Held
 held seen told taken state = record { seen = seen; told = told; taken = taken; state = state }
 
 refines_over : (setup : Setup) (xs ys : List Listed) (taken : List ℕ) (k n : ℕ) (s : State) → IsPrefix xs ys → Refines setup xs taken k n s → Refines setup ys taken k n s
 refines_over setup xs ys taken k n s p h = subst (λ (l : List Listed). Refines setup l taken k n s) p.1 (refines_longer setup xs p.0 taken k n s h)
 
 -- the reader has seen more, and a longer note was brought
-pub stands_grown : (setup : Setup) (seen told seen' told' : List Step) (taken : List ℕ) (s : State) → Stands setup (held seen told taken s) → IsPrefix seen seen' → IsPrefix told told' → IsPrefix told' seen' → Stands setup (held seen' told' taken s)
+pub stands_grown : (setup : Setup) (seen told seen' told' : List LogStep) (taken : List ℕ) (s : State) → Stands setup (held seen told taken s) → IsPrefix seen seen' → IsPrefix told told' → IsPrefix told' seen' → Stands setup (held seen' told' taken s)
 stands_grown setup seen told seen' told' taken s h p q r =
     let a = list_length told told' q in
     record {
@@ -37,22 +37,22 @@ stands_grown setup seen told seen' told' taken s h p q r =
     }
 
 -- the reader alone has seen more
-pub stands_seen : (setup : Setup) (seen told seen' : List Step) (taken : List ℕ) (s : State) → Stands setup (held seen told taken s) → IsPrefix seen seen' → Stands setup (held seen' told taken s)
+pub stands_seen : (setup : Setup) (seen told seen' : List LogStep) (taken : List ℕ) (s : State) → Stands setup (held seen told taken s) → IsPrefix seen seen' → Stands setup (held seen' told taken s)
 stands_seen setup seen told seen' taken s h p = stands_grown setup seen told seen' told taken s h p (prefix_self told) (prefix_trans told seen seen' h.learnt p)
 
 -- the list does not end at a place below the note
-pub not_level : (setup : Setup) (seen told seen' : List Step) (taken : List ℕ) (s : State) → Stands setup (held seen told taken s) → IsPrefix seen seen' → s.place < length (list_of told) → ¬ (length (list_of seen') ≤ s.place)
+pub not_level : (setup : Setup) (seen told seen' : List LogStep) (taken : List ℕ) (s : State) → Stands setup (held seen told taken s) → IsPrefix seen seen' → s.place < length (list_of told) → ¬ (length (list_of seen') ≤ s.place)
 not_level setup seen told seen' taken s h p lt le =
     let a = list_length told seen h.learnt in
     let b = list_length seen seen' p in
     absurd (omega (arith, a, b, lt, le))
 
 -- the entry of a batch is the one of its place
-pub entry_here : (config : Config) (seen : List Step) (b : Batch) (place : ℕ) (e : Entry) → IsOf b place × StandsIn config (list_of seen) b → slice_get b.entries (place - b.first) ≡ Some e → e.place ≡ place
+pub entry_here : (config : Config) (seen : List LogStep) (b : Batch) (place : ℕ) (e : Entry) → IsOf b place × StandsIn config (list_of seen) b → slice_get b.entries (place - b.first) ≡ Some e → e.place ≡ place
 entry_here config seen b place e right is = entry_placed config (list_of seen) place e (got config (list_of seen) b place e right.1 right.0 is)
 
 -- the shard is the same but for what is not seen of it
-pub stands_still : (setup : Setup) (seen told : List Step) (taken : List ℕ) (s t : State) → Stands setup (held seen told taken s) → IsAsBefore s t → IsSound t → Stands setup (held seen told taken t)
+pub stands_still : (setup : Setup) (seen told : List LogStep) (taken : List ℕ) (s t : State) → Stands setup (held seen told taken s) → IsAsBefore s t → IsSound t → Stands setup (held seen told taken t)
 stands_still setup seen told taken s t h b sound =
     let on : Refines setup (list_of seen) taken s.index s.place t = refines_still setup (list_of seen) taken s.index s.place s t h.holds b sound in
     record {
@@ -62,7 +62,7 @@ stands_still setup seen told taken s t h b sound =
     }
 
 -- the next entry was applied
-pub stands_stepped : (setup : Setup) (seen told : List Step) (taken : List ℕ) (s t : State) (b : Batch) (e : Entry) → 0 < setup.config.limits.batch → Stands setup (held seen told taken s) → s.place < length (list_of told)
+pub stands_stepped : (setup : Setup) (seen told : List LogStep) (taken : List ℕ) (s t : State) (b : Batch) (e : Entry) → 0 < setup.config.limits.batch → Stands setup (held seen told taken s) → s.place < length (list_of told)
     → IsOf b s.place × StandsIn setup.config (list_of seen) b → slice_get b.entries (s.place - b.first) ≡ Some e → Applied s e t → IsSound t → Stands setup (held seen told taken t)
 stands_stepped setup seen told taken s t b e room h lt right is applied sound =
     let there : slice_get (entries setup.config (list_of seen)) s.place ≡ Some e = got setup.config (list_of seen) b s.place e right.1 right.0 is in
@@ -76,13 +76,13 @@ stands_stepped setup seen told taken s t b e room h lt right is applied sound =
     }
 
 -- the next entry was applied, or there was no memory
-pub stands_applied : {X Y : Type 0} (setup : Setup) (seen told : List Step) (taken : List ℕ) (s t : State) (b : Batch) (e : Entry) (r : Result X Y) → 0 < setup.config.limits.batch → Stands setup (held seen told taken s) → s.place < length (list_of told)
+pub stands_applied : {X Y : Type 0} (setup : Setup) (seen told : List LogStep) (taken : List ℕ) (s t : State) (b : Batch) (e : Entry) (r : Result X Y) → 0 < setup.config.limits.batch → Stands setup (held seen told taken s) → s.place < length (list_of told)
     → IsOf b s.place × StandsIn setup.config (list_of seen) b → slice_get b.entries (s.place - b.first) ≡ Some e → OnOk r (Applied s e t) → OnErr r (IsAsBefore s t) → IsSound t → Stands setup (held seen told taken t)
 stands_applied setup seen told taken s t b e (Ok x) room h lt right is done refused sound = stands_stepped setup seen told taken s t b e room h lt right is done sound
 stands_applied setup seen told taken s t b e (Err x) room h lt right is done refused sound = stands_still setup seen told taken s t h refused sound
 
 -- an answer was taken
-pub stands_taken : (setup : Setup) (seen told : List Step) (taken : List ℕ) (place : ℕ) (s t : State) → 0 < setup.config.limits.batch → Stands setup (held seen told taken s) → IsSome (filed_answer (connect_in s place)) → Took place s t → IsSound t
+pub stands_taken : (setup : Setup) (seen told : List LogStep) (taken : List ℕ) (place : ℕ) (s t : State) → 0 < setup.config.limits.batch → Stands setup (held seen told taken s) → IsSome (filed_answer (connect_in s place)) → Took place s t → IsSound t
     → Stands setup (held seen told (taken ++ place ∷ []) t)
 stands_taken setup seen told taken place s t room h some took sound =
     let on : Refines setup (list_of seen) (taken ++ place ∷ []) s.index s.place t = refines_taken setup (list_of seen) taken s.index s.place place s t room h.holds some took sound in
@@ -102,7 +102,7 @@ filed_told setup h place a room s e =
     given_longer setup.config (take n (list_of h.told)) (list_of h.told) place a room (drop n (list_of h.told), take-append-drop n (list_of h.told)) there
 
 -- and over every longer front
-pub over_longer : (config : Config) (xs ys : List Step) (place : ℕ) (a : Answer) → 0 < config.limits.batch → IsPrefix xs ys → answer_over config xs place ≡ Some a → answer_over config ys place ≡ Some a
+pub over_longer : (config : Config) (xs ys : List LogStep) (place : ℕ) (a : Answer) → 0 < config.limits.batch → IsPrefix xs ys → answer_over config xs place ≡ Some a → answer_over config ys place ≡ Some a
 over_longer config xs ys place a room p e = given_longer config (list_of xs) (list_of ys) place a room (list_of-prefix xs ys p) e
 
 -- ---- a taking
@@ -120,13 +120,13 @@ pub some_filed : (o : Option Answer) (a : Answer) → o ≡ Some a → IsSome o
 some_filed o a e = subst IsSome (sym e) refl
 
 -- where none was taken, the shard is the same
-pub stands_untaken : (setup : Setup) (seen told : List Step) (taken : List ℕ) (place : ℕ) (s t : State) (b : Bool) (r : Option Answer) → Stands setup (held seen told taken s) → r ≡ (if b then filed_answer (connect_in s place) else None) → r ≡ None →
+pub stands_untaken : (setup : Setup) (seen told : List LogStep) (taken : List ℕ) (place : ℕ) (s t : State) (b : Bool) (r : Option Answer) → Stands setup (held seen told taken s) → r ≡ (if b then filed_answer (connect_in s place) else None) → r ≡ None →
     (b ≡ true → Took place s t) → (b ≡ false → t ≡ s) → IsSound t → Stands setup (held seen told taken t)
 stands_untaken setup seen told taken place s t true r h e is took same sound = stands_still setup seen told taken s t h (as_before place s t (sym e ∙ is) (took refl)) sound
 stands_untaken setup seen told taken place s t false r h e is took same sound = subst (λ (u : State). Stands setup (held seen told taken u)) (sym (same refl)) h
 
 -- none was filed at the end of a front
-pub level_without : (setup : Setup) (h : Held) (t : Ticket) (front : List Step) (r : Option Answer) → r ≡ (if nat_eq t.shard h.state.index then filed_answer (connect_in h.state t.place) else None) → t.shard ≡ h.state.index → Stands setup h → h.told ≡ front →
+pub level_without : (setup : Setup) (h : Held) (t : Ticket) (front : List LogStep) (r : Option Answer) → r ≡ (if nat_eq t.shard h.state.index then filed_answer (connect_in h.state t.place) else None) → t.shard ≡ h.state.index → Stands setup h → h.told ≡ front →
     h.state.place ≡ length (list_of h.told) → IfNone r (IsLevelWithout setup t front)
 level_without setup h t front None filed here s told level =
     record {
@@ -134,7 +134,7 @@ level_without setup h t front None filed here s told level =
       stands = s;
       index = sym here;
       told = told;
-      level = level ∙ ap (λ (l : List Step). length (list_of l)) told;
+      level = level ∙ ap (λ (l : List LogStep). length (list_of l)) told;
       none = none_own (nat_eq t.shard h.state.index) (filed_answer (connect_in h.state t.place)) None filed refl (eq-eqb t.shard h.state.index here);
     }
 level_without setup h t front (Some a) filed here s told level = tt
@@ -148,7 +148,7 @@ filed_first {F} i j (Some a) r given filed here at =
 
 -- ---- the other calls
 
-pub stands_watched : (setup : Setup) (seen told : List Step) (taken : List ℕ) (place : ℕ) (waker : Waker) (s t : State) (b : Bool) → Stands setup (held seen told taken s) → (b ≡ true → Watched place waker s t) → (b ≡ false → t ≡ s) → IsSound t → Stands setup (held seen told taken t)
+pub stands_watched : (setup : Setup) (seen told : List LogStep) (taken : List ℕ) (place : ℕ) (waker : Waker) (s t : State) (b : Bool) → Stands setup (held seen told taken s) → (b ≡ true → Watched place waker s t) → (b ≡ false → t ≡ s) → IsSound t → Stands setup (held seen told taken t)
 stands_watched setup seen told taken place waker s t true h own other sound =
     let w = own refl in
     let on : Refines setup (list_of seen) taken s.index s.place t = refines_watched setup (list_of seen) taken s.index s.place place waker s t h.holds w sound in
@@ -163,7 +163,7 @@ pub watched_index : (place : ℕ) (waker : Waker) (s t : State) (b : Bool) → (
 watched_index place waker s t true own other = (own refl).index
 watched_index place waker s t false own other = ap (λ (u : State). u.index) (other refl)
 
-pub stands_swept : (setup : Setup) (seen told : List Step) (taken : List ℕ) (before : ℕ) (s t : State) → Stands setup (held seen told taken s) → Swept before s t → IsSound t → Stands setup (held seen told (taken ++ swept_places before s) t)
+pub stands_swept : (setup : Setup) (seen told : List LogStep) (taken : List ℕ) (before : ℕ) (s t : State) → Stands setup (held seen told taken s) → Swept before s t → IsSound t → Stands setup (held seen told (taken ++ swept_places before s) t)
 stands_swept setup seen told taken before s t h w sound =
     let on : Refines setup (list_of seen) (taken ++ swept_places before s) s.index s.place t = refines_swept setup (list_of seen) taken s.index s.place before s t h.holds w sound in
     record {
@@ -172,7 +172,7 @@ stands_swept setup seen told taken before s t h w sound =
       holds = subst (λ (i : ℕ). Refines setup (list_of seen) (taken ++ swept_places before s) i t.place t) (sym w.index) (subst (λ (n : ℕ). Refines setup (list_of seen) (taken ++ swept_places before s) s.index n t) (sym w.place) on);
     }
 
-pub stands_shut : (setup : Setup) (seen told : List Step) (taken : List ℕ) (s t : State) → Stands setup (held seen told taken s) → WasShut s t → IsSound t → Stands setup (held seen told taken t)
+pub stands_shut : (setup : Setup) (seen told : List LogStep) (taken : List ℕ) (s t : State) → Stands setup (held seen told taken s) → WasShut s t → IsSound t → Stands setup (held seen told taken t)
 stands_shut setup seen told taken s t h w sound =
     let on : Refines setup (list_of seen) taken s.index s.place t = refines_shut setup (list_of seen) taken s.index s.place s t h.holds w sound in
     record {
@@ -204,5 +204,5 @@ prefix_taken (x ∷ xs) (y ∷ ys) p =
 pub taken_prefix : {A : Type 0} (xs ys : List A) → take (length xs) ys ≡ xs → IsPrefix xs ys
 taken_prefix xs ys e = (drop (length xs) ys, ap (λ l. l ++ drop (length xs) ys) (sym e) ∙ take-append-drop (length xs) ys)
 
-pub stands_of : (setup : Setup) (seen told : List Step) (taken : List ℕ) (s : State) → take (length told) seen ≡ told → s.place ≤ length (list_of told) → Refines setup (list_of seen) taken s.index s.place s → Stands setup (held seen told taken s)
+pub stands_of : (setup : Setup) (seen told : List LogStep) (taken : List ℕ) (s : State) → take (length told) seen ≡ told → s.place ≤ length (list_of told) → Refines setup (list_of seen) taken s.index s.place s → Stands setup (held seen told taken s)
 stands_of setup seen told taken s learnt within holds = record { learnt = taken_prefix told seen learnt; within = within; holds = holds }

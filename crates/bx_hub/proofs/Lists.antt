@@ -4,7 +4,7 @@ use mathlib.Core.List.{IsPrefix}
 use Rattle.bx_advice.specs.declared.config.Config.{Config}
 use Rattle.bx_entry.specs.Words.{Listed, entries}
 use Rattle.bx_entry.specs.declared.entry.{Batch.Batch, Entry.Entry}
-use Rattle.bx_window.specs.declared.law.Step.{Step}
+use Rattle.bx_window.specs.declared.law.LogStep.{LogStep}
 use Rattle.bx_window.specs.Steps.{list_of}
 use Rattle.bx_window.specs.Places.{IsOf, StandsIn}
 use Rattle.bx_window.proofs.{Fronts.prefix_length, Lists.list_of-prefix}
@@ -34,5 +34,5 @@ got config list b place e h of g =
     let z : b.first + (place - b.first) ≡ place = omega (arith, of.0) in
     subst (λ p. slice_get (entries config list) p ≡ Some e) z (got_from (entries config list) b.entries b.first (place - b.first) e h g)
 
-pub list_length : (xs ys : List Step) → IsPrefix xs ys → length (list_of xs) ≤ length (list_of ys)
+pub list_length : (xs ys : List LogStep) → IsPrefix xs ys → length (list_of xs) ≤ length (list_of ys)
 list_length xs ys p = prefix_length (list_of xs) (list_of ys) (list_of-prefix xs ys p)

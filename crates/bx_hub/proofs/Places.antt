@@ -1,14 +1,29 @@
--- A place that is reached by one shard more.
-use Rattle.std.proofs.Common.{ℕ, ◌≤◌, List, [], ◌∷◌, ◌++◌, min, arith}
+-- The least place at which shards stand, and what a window that was trimmed there begins with.
+use Rattle.std.proofs.Common.{ℕ, suc, ◌≡◌, ◌+◌, ◌≤◌, List, [], ◌∷◌, ◌++◌, length, drop, nat_le, cond, slice_index_or, Bool, true, false, refl, ap, subst, arith}
 use Rattle.std.specs.List.{All}
 use Rattle.std.proofs.lemmas.List.Elements.{All-push}
+use Rattle.bx_window.specs.Steps.{below, firsts_of, list_of}
+use Rattle.bx_window.specs.declared.law.LogStep.{LogStep}
+use Rattle.bx_hub.specs.Posts.{IsUntrimmable}
 
-least-left : (a b : ℕ) → min a b ≤ a
-least-left a b = omega arith
+-- it is below the place of one shard more
+pub all_lower : (low place : ℕ) (ps : List ℕ) → place ≤ low → All (λ q. low ≤ q) ps → All (λ q. place ≤ q) (ps ++ place ∷ [])
+all_lower low place ps lower h = All-push (λ q. place ≤ q) ps place (λ k d lt. let a = h k d lt in omega (arith, a, lower)) (omega arith)
 
-least-right : (a b : ℕ) → min a b ≤ b
-least-right a b = omega arith
+pub all_kept : (low place : ℕ) (ps : List ℕ) → low ≤ place → All (λ q. low ≤ q) ps → All (λ q. low ≤ q) (ps ++ place ∷ [])
+all_kept low place ps higher h = All-push (λ q. low ≤ q) ps place h higher
 
-pub all_least : (place p : ℕ) (ps : List ℕ) → All (λ q. place ≤ q) ps → All (λ q. min place p ≤ q) (ps ++ p ∷ [])
-all_least place p ps h =
-    All-push (λ q. min place p ≤ q) ps p (λ k d lt. let a = h k d lt in let l = least-left place p in omega (arith, a, l)) (least-right place p)
+-- behind what lies wholly below a place stands nothing that does
+below_dropped : (n end : ℕ) (fs : List ℕ) → below n end (drop (below n end fs) fs) ≡ 0
+below_dropped n end [] = refl
+below_dropped n end (f ∷ fs) = by (below_dropped n end fs) (nat_le (slice_index_or fs 0 end) n) refl
+  where
+    by : below n end (drop (below n end fs) fs) ≡ 0 → (b : Bool) → nat_le (slice_index_or fs 0 end) n ≡ b → below n end (drop (cond b (1 + below n end fs) 0) (f ∷ fs)) ≡ 0
+    by rest true e =
+        let one : suc (below n end fs) ≡ 1 + below n end fs = omega arith in
+        subst (λ (k : ℕ). below n end (drop k (f ∷ fs)) ≡ 0) one rest
+    by rest false e = ap (λ (b : Bool). cond b (1 + below n end fs) 0) e
+
+-- so it is with a window that was trimmed there
+pub untrimmable : (place : ℕ) (old new : List LogStep) → list_of new ≡ list_of old → firsts_of new ≡ drop (below place (length (list_of old)) (firsts_of old)) (firsts_of old) → IsUntrimmable place new
+untrimmable place old new same trimmed = cc (same, trimmed, below_dropped place (length (list_of old)) (firsts_of old))

@@ -5,7 +5,7 @@ use Rattle.std.proofs.lemmas.List.{drop_at}
 use mathlib.Core.List.{IsPrefix}
 use Rattle.bx_admission.specs.Ledgers.{Continues, Ledger}
 use Rattle.bx_admission.specs.Slots.{admitted_slots, placed_by}
-use Rattle.bx_admission.specs.declared.plan.Plan.{Plan}
+use Rattle.bx_admission.specs.declared.plan.LedgerPlan.{LedgerPlan}
 use Rattle.bx_admission.proofs.Faults.{IsFault}
 use Rattle.bx_advice.specs.Limits.{greatest_length}
 use Rattle.bx_advice.specs.declared.config.Config.{Config}
@@ -17,24 +17,24 @@ use Rattle.bx_registry.specs.declared.plan.AdmitFault.TheVariants as faults
 use Rattle.bx_shard.specs.Shards.{Setup}
 use Rattle.bx_window.specs.Places as places
 use Rattle.bx_window.specs.Steps.{list_of}
-use Rattle.bx_window.specs.declared.law.Step.{Step}
+use Rattle.bx_window.specs.declared.law.LogStep.{LogStep}
 use Rattle.bx_hub.specs.Faults.{of_planning}
-use Rattle.bx_hub.specs.Posts.{AreSlotsAt, IsAdmittedAt, IsFullFor, IsRefused, IsUnpublished, IsWithoutRoom, WasFullFor}
+use Rattle.bx_hub.specs.Posts.{AreSlotsAt, IsAdmittedAt, IsFullFor, IsOverrun, IsRefused, IsUnpublished, IsWhole, IsWithoutRoom, WasFullFor}
 use Rattle.bx_hub.specs.declared.fault.PostFault.{PostFault}
-use Rattle.bx_hub.specs.declared.fault.PostFault.TheVariants.{Body, Closed, BadMoment, Ended, Behind, Overrun, Memory}
+use Rattle.bx_hub.specs.declared.fault.PostFault.TheVariants.{Body, Closed, BadMoment, Ended, Behind, Overrun, Misplaced, Memory}
 use Rattle.bx_window.proofs.Fronts.{prefix_self, prefix_trans}
 use Rattle.bx_hub.proofs.Lists.{list_length}
 
 -- ---- what is published
 
-entries_many : (l : Ledger) (p : Plan) → Continues l p → length p.batch.entries ≡ length p.elements
+entries_many : (l : Ledger) (p : LedgerPlan) → Continues l p → length p.batch.entries ≡ length p.elements
 entries_many l p c =
     let all = entries_length l.config (l.list ++ p.elements) in
     let old = entries_length l.config l.list in
     omega (arith, all, old, ap (λ (es : List Entry). length es) c.entries, length-append (entries l.config l.list) p.batch.entries, length-append l.list p.elements)
 
 -- a plan continues the list of the window
-pub continues : (config : Config) (list : List Listed) (l : Ledger) (p : Plan) → l.config ≡ config → l.list ≡ list → Continues l p → 0 < length p.elements →
+pub continues : (config : Config) (list : List Listed) (l : Ledger) (p : LedgerPlan) → l.config ≡ config → l.list ≡ list → Continues l p → 0 < length p.elements →
     places.Continues config list (record { batch = p.batch; elements = p.elements })
 continues config list l p same is c some =
     subst (λ (k : Config). places.Continues k list (record { batch = p.batch; elements = p.elements })) same
@@ -42,7 +42,7 @@ continues config list l p same is c some =
     (record { first = c.first; some = omega (arith, some, entries_many l p c); entries = c.entries }))
 
 -- the list with the batch has its end
-pub places_end : (list : List Listed) (l : Ledger) (p : Plan) → l.list ≡ list → Continues l p → length list + length p.batch.entries ≤ greatest_length
+pub places_end : (list : List Listed) (l : Ledger) (p : LedgerPlan) → l.list ≡ list → Continues l p → length list + length p.batch.entries ≤ greatest_length
 places_end list l p is c = omega (arith, ap (λ (xs : List Listed). length xs) is, c.change.bounded, length-append l.list p.elements, entries_many l p c)
 
 -- ---- where it stands
@@ -52,7 +52,7 @@ none_added [] e = refl
 none_added (x ∷ xs) e = absurd (omega (arith, e))
 
 -- the slots are those that a placing gives behind the ledger's list
-abbrev pub IsSlotted : (ℕ → ℕ → ℕ) → Ledger → Plan → Type 0
+abbrev pub IsSlotted : (ℕ → ℕ → ℕ) → Ledger → LedgerPlan → Type 0
 IsSlotted placing l p = p.slots ≡ admitted_slots (placed_by l.config l.shards placing) l.list p.elements
 
 take_front : {A : Type 0} (xs ys : List A) → take (length xs) (xs ++ ys) ≡ xs
@@ -60,7 +60,7 @@ take_front [] ys = refl
 take_front (x ∷ xs) ys = ap (λ l. x ∷ l) (take_front xs ys)
 
 -- the front that is then seen ends with what the input adds
-pub admitted_by : (input : ReadInput) (l : Ledger) (p : Plan) (old whole new : List Step) → l.list ≡ list_of whole → Continues l p → p.elements ≡ added_by input → refusal_of (length l.list) input ≡ None →
+pub admitted_by : (input : ReadInput) (l : Ledger) (p : LedgerPlan) (old whole new : List LogStep) → l.list ≡ list_of whole → Continues l p → p.elements ≡ added_by input → refusal_of (length l.list) input ≡ None →
     IsPrefix old whole → list_of new ≡ list_of whole ++ p.elements → IsAdmittedAt input p.batch.first old new
 admitted_by input l p old whole new is c added allowed pre grown =
     let first : p.batch.first ≡ length (list_of whole) = c.first ∙ ap (λ (xs : List Listed). length xs) is in
@@ -73,7 +73,7 @@ admitted_by input l p old whole new is c added allowed pre grown =
     }
 
 -- the slots are what the places of the front give
-pub slots_by : (placing : ℕ → ℕ → ℕ) (config : Config) (input : ReadInput) (l : Ledger) (p : Plan) (whole new : List Step) → l.config ≡ config → l.shards ≡ config.shards → l.list ≡ list_of whole → p.batch.first ≡ length l.list →
+pub slots_by : (placing : ℕ → ℕ → ℕ) (config : Config) (input : ReadInput) (l : Ledger) (p : LedgerPlan) (whole new : List LogStep) → l.config ≡ config → l.shards ≡ config.shards → l.list ≡ list_of whole → p.batch.first ≡ length l.list →
     p.slots ≡ admitted_slots (placed_by l.config l.shards placing) l.list p.elements → p.elements ≡ added_by input → list_of new ≡ list_of whole ++ p.elements → AreSlotsAt (placed_by config config.shards placing) input p.batch.first new p.slots
 slots_by placing config input l p whole new same many is here slots added grown =
     let setup : Setup = placed_by config config.shards placing in
@@ -84,28 +84,34 @@ slots_by placing config input l p whole new same many is here slots added grown 
     slots ∙ ap (λ (s : Setup). admitted_slots s l.list p.elements) one ∙ ap (admitted_slots setup l.list) added ∙ ap (λ (xs : List Listed). admitted_slots setup xs (added_by input)) (sym front)
 
 -- it stands there for whoever had seen less before
-pub admitted_before : (input : ReadInput) (first : ℕ) (old mid new : List Step) → IsPrefix old mid → IsAdmittedAt input first mid new → IsAdmittedAt input first old new
+pub admitted_before : (input : ReadInput) (first : ℕ) (old mid new : List LogStep) → IsPrefix old mid → IsAdmittedAt input first mid new → IsAdmittedAt input first old new
 admitted_before input first old mid new p a = record { allowed = a.allowed; fresh = omega (arith, list_length old mid p, a.fresh); there = a.there; end = a.end }
 
 -- ---- why it is refused
 
-pub refused_by : (input : ReadInput) (moment end : ℕ) (f : AdmitFault) (front : List Step) → refusal_of (length (list_of front)) input ≡ refused_beyond moment end → IsFault (refused_beyond moment end) f → IsRefused input (of_planning f) front
+pub refused_by : (input : ReadInput) (moment end : ℕ) (f : AdmitFault) (front : List LogStep) → refusal_of (length (list_of front)) input ≡ refused_beyond moment end → IsFault (refused_beyond moment end) f → IsRefused input (of_planning f) front
 refused_by input moment end faults.BadMoment front same is = same ∙ is
 refused_by input moment end faults.Ended front same is = inl (same ∙ is)
 refused_by input moment end faults.Memory front same is = tt
 
-pub unpublished : (input : ReadInput) (f : PostFault) (front : List Step) → refusal_of (length (list_of front)) input ≡ None → 0 < length (added_by input) → IsUnpublished f front → IsRefused input f front
+-- what is not planned is not refused by the window
+pub whole_planned : (f : AdmitFault) (front log : List LogStep) → IsWhole (of_planning f) front log
+whole_planned faults.BadMoment front log = tt
+whole_planned faults.Ended front log = tt
+whole_planned faults.Memory front log = tt
+
+pub unpublished : (input : ReadInput) (f : PostFault) (front : List LogStep) → refusal_of (length (list_of front)) input ≡ None → 0 < length (added_by input) → IsUnpublished f front → IsRefused input f front
 unpublished input Closed front allowed some u = tt
 unpublished input Ended front allowed some u = inr u
 unpublished input (Behind first) front allowed some u = record { allowed = allowed; some = some; full = u }
 unpublished input Memory front allowed some u = tt
 unpublished input _ front allowed some u = absurd u
 
-pub err_refused : {T : Type 0} (input : ReadInput) (f : PostFault) (front : List Step) (r : Result T PostFault) → IsErrAnd r (λ e. e ≡ f) → IsRefused input f front → IfErr r (λ e. IsRefused input e front)
+pub err_refused : {T : Type 0} (input : ReadInput) (f : PostFault) (front : List LogStep) (r : Result T PostFault) → IsErrAnd r (λ e. e ≡ f) → IsRefused input f front → IfErr r (λ e. IsRefused input e front)
 err_refused input f front (Ok x) is refused = absurd is
 err_refused input f front (Err e) is refused = subst (λ (g : PostFault). IsRefused input g front) (sym is) refused
 
-pub unpublished_result : {T : Type 0} {W : Type 0} (input : ReadInput) (list : List Listed) (writer unchanged : W) (whole new : List Step) (r : Result T PostFault) → refusal_of (length list) input ≡ None → list ≡ list_of whole → 0 < length (added_by input) →
+pub unpublished_result : {T : Type 0} {W : Type 0} (input : ReadInput) (list : List Listed) (writer unchanged : W) (whole new : List LogStep) (r : Result T PostFault) → refusal_of (length list) input ≡ None → list ≡ list_of whole → 0 < length (added_by input) →
     OnErr r ((unchanged ≡ writer) × (new ≡ whole)) → IfErr r (λ e. IsUnpublished e new) → IfErr r (λ e. IsRefused input e new)
 unpublished_result input list writer unchanged whole new (Ok x) allowed is some same u = tt
 unpublished_result input list writer unchanged whole new (Err e) allowed is some same u =
@@ -113,14 +119,22 @@ unpublished_result input list writer unchanged whole new (Err e) allowed is some
     unpublished input e new (subst (λ (xs : List Listed). refusal_of (length xs) input ≡ None) there allowed) some u
 
 -- where it was full, and there is no room now
-pub without_room : (input : ReadInput) (f : PostFault) (before front : List Step) → IsPrefix before front → WasFullFor input before → IsWithoutRoom f front → IsRefused input f front
+pub without_room : (input : ReadInput) (f : PostFault) (before front : List LogStep) → IsPrefix before front → WasFullFor input before → IsWithoutRoom f front → IsRefused input f front
 without_room input (Overrun shard place) before front p was o =
+    (record { before = was.before; first = was.first; begins = prefix_trans was.before before front was.begins p; full = was.full }, o)
+without_room input (Misplaced shard found) before front p was o =
     (record { before = was.before; first = was.first; begins = prefix_trans was.before before front was.begins p; full = was.full }, o)
 without_room input Memory before front p was o = tt
 without_room input _ before front p was o = absurd o
 
+-- an overrun shard leaves no room
+pub room_overrun : {T : Type 0} (index : ℕ) (front : List LogStep) (r : Result T PostFault) → IfErr r (λ f. IsOverrun f index front) → IfErr r (λ f. IsWithoutRoom f front)
+room_overrun index front (Ok x) o = tt
+room_overrun index front (Err (Overrun shard place)) o = o.1
+room_overrun index front (Err _) o = absurd o
+
 -- what was refused since the window is full
-pub was_full : {T : Type 0} (input : ReadInput) (first : ℕ) (front : List Step) (r : Result T PostFault) → r ≡ Err (Behind first) → IfErr r (λ e. IsRefused input e front) → WasFullFor input front
+pub was_full : {T : Type 0} (input : ReadInput) (first : ℕ) (front : List LogStep) (r : Result T PostFault) → r ≡ Err (Behind first) → IfErr r (λ e. IsRefused input e front) → WasFullFor input front
 was_full {T} input first front r is refused =
     let full : IsFullFor input first front = subst (λ (x : Result T PostFault). IfErr x (λ e. IsRefused input e front)) is refused in
     record { before = front; first = first; begins = prefix_self front; full = full }

@@ -1,11 +1,11 @@
 -- That every shard was brought up to a note.
 use Rattle.std.specs.Prelude.{ℕ, ◌≡◌, List, length}
-use Rattle.bx_hub.specs.declared.brought.Round.{Round}
+use Rattle.bx_hub.specs.declared.brought.AllBrought.{AllBrought}
 use Rattle.bx_window.specs.declared.law.Naming as Naming
-use Rattle.bx_window.specs.declared.law.Step.{Step}
+use Rattle.bx_window.specs.declared.law.LogStep.{LogStep}
 
 module _ {J : Type 0} {g : Naming.Ghosts J} where
   -- each of so many shards was brought up to this front
-  pub record IsOfAll (shards : ℕ) (front : List Step) (round : Round J g) : Type 0 where
+  pub record IsOfAll (shards : ℕ) (front : List LogStep) (round : AllBrought J g) : Type 0 where
     pub note : round.note.value ≡ front
     pub all : length round.stays ≡ shards

@@ -1,10 +1,10 @@
 -- Why a post is refused, and how many shards stay behind.
 use Rattle.std.specs.Prelude.{ℕ, ◌≡◌, ◌≢◌, ◌+◌, ◌<◌, List}
-use Rattle.bx_entry.specs.declared.read.ReadFault.{ReadFault}
-use Rattle.bx_entry.specs.declared.read.ReadFault.TheVariants as reads
+use Rattle.bx_entry.specs.declared.read.ReadError.{ReadError}
+use Rattle.bx_entry.specs.declared.read.ReadError.TheVariants as reads
 use Rattle.bx_registry.specs.declared.plan.AdmitFault.{AdmitFault}
 use Rattle.bx_registry.specs.declared.plan.AdmitFault.TheVariants as plans
-use Rattle.bx_window.specs.declared.law.Step.{Step}
+use Rattle.bx_window.specs.declared.law.LogStep.{LogStep}
 use Rattle.bx_window.specs.Steps.{begin_of}
 use Rattle.bx_hub.specs.declared.{activity.Activity.Activity, fault.HubFault.HubFault, fault.Lagging.Lagging, fault.PostFault.PostFault}
 use Rattle.bx_hub.specs.declared.activity.Activity.TheVariants.{Active, Paused, Closed}
@@ -12,7 +12,7 @@ use Rattle.bx_hub.specs.declared.fault.HubFault.TheVariants as stops
 use Rattle.bx_hub.specs.declared.fault.PostFault.TheVariants.{Body, BadMoment, Ended, Memory}
 
 -- why messages were not read, as why a post is refused
-abbrev pub of_reading : ReadFault → PostFault
+abbrev pub of_reading : ReadError → PostFault
 of_reading (reads.Body fault) = Body fault
 of_reading reads.Memory = Memory
 
@@ -36,7 +36,7 @@ one_more (stops.Misplaced found) l = record l { misplaced = l.misplaced + 1 }
 
 -- where the shard of this index is overrun, it is this one that is told, and the window of this front begins past its place; where another is found
 -- under its lock, it is another
-abbrev pub IsStopped : HubFault → ℕ → List Step → Type 0
+abbrev pub IsStopped : HubFault → ℕ → List LogStep → Type 0
 IsStopped (stops.Overrun shard place) index front = (shard ≡ index) × (place < begin_of front)
 IsStopped (stops.Misplaced found) index front = found ≢ index
 IsStopped _ index front = Unit {0}

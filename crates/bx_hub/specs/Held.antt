@@ -10,13 +10,13 @@ use Rattle.bx_entry.specs.declared.Placing as Placing
 use Rattle.bx_entry.specs.declared.entry.Ticket.{Ticket}
 use Rattle.bx_window.specs.declared.law.Naming as Naming
 use Rattle.bx_hub.specs.declared.desk.Desk.{Desk}
-use Rattle.bx_window.specs.declared.law.Step.{Step}
+use Rattle.bx_window.specs.declared.law.LogStep.{LogStep}
 use Rattle.bx_window.specs.Steps.{list_of}
 
 -- the log that the reader has seen, the longest note that was brought, which answers were taken, and the shard
 pub record Held : Type 0 where
-  pub seen : List Step
-  pub told : List Step
+  pub seen : List LogStep
+  pub told : List LogStep
   pub taken : List ℕ
   pub state : State
 
@@ -38,11 +38,11 @@ taken_by (Ok None) place taken = taken
 taken_by (Err e) place taken = taken
 
 -- what one thread gives over the list of a log to the message at a place
-abbrev pub answer_over : Config → List Step → ℕ → Option Answer
+abbrev pub answer_over : Config → List LogStep → ℕ → Option Answer
 answer_over config log place = option_map given_of (answer config (list_of log) place)
 
 -- the shard that the ticket names was at the end of this front, under its lock, and had filed no answer under the ticket
-pub record IsLevelWithout (setup : Setup) (ticket : Ticket) (front : List Step) : Type 0 where
+pub record IsLevelWithout (setup : Setup) (ticket : Ticket) (front : List LogStep) : Type 0 where
   pub held : Held
   pub stands : Stands setup held
   pub index : held.state.index ≡ ticket.shard

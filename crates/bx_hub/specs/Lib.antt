@@ -2,6 +2,7 @@ pub mod Bringing
 pub mod Faults
 pub mod Held
 pub mod Lagging
+pub mod Lags
 pub mod Lying
 pub mod Posts
 pub mod Watches

@@ -77,19 +77,19 @@ impl<J: Naming> Brought<J> {
 /// What came of bringing the shards up to a note, one after another: what stopped each that stays below it, in the order of their
 /// indices, for contracts alone, and how many those are.
 #[derive(Drop)]
-pub struct Round<J: Naming> {
+pub struct AllBrought<J: Naming> {
     note: Snapshot<Note<J>>,
     stays: History<Option<HubFault>>,
     behind: Lagging,
     ghost counted: { behind ≡ lagging_of stays },
 }
 
-impl<J: Naming> Round<J> {
+impl<J: Naming> AllBrought<J> {
     /// No shard was brought up to the note.
-    pub(crate) fn new(note: &Note<J>) -> Round<J>
+    pub(crate) fn new(note: &Note<J>) -> AllBrought<J>
         ensures { (result.note.value ≡ note.now) × (result.stays ≡ []) }
     {
-        Round {
+        AllBrought {
             note: Snapshot::of(note),
             stays: History::new(),
             behind: Lagging::none(),

@@ -178,7 +178,7 @@ impl<J: Naming, P: Placing> Desk<J, P> {
         ensures seen { IsPrefix pass.old pass.new }
         ensures stood { IfOk result.0 (λ s. s.index.value ≡ self.old.shard.index) }
         ensures still { OnOk result.0 (pass.new ≡ pass.old) }
-        ensures overrun { IfErr result.0 (λ f. IsOverrun f pass.new) }
+        ensures overrun { IfErr result.0 (λ f. IsOverrun f self.old.shard.index pass.new) }
         ensures woken { AreWoken (connect_in (state P.place_of self.old.shard)) (connect_in (state P.place_of self.new.shard)) wakers.old wakers.new }
         ensures put { wakers.new ≡ wakers.old ++ result.1 }
     {
@@ -330,7 +330,7 @@ impl<J: Naming, P: Placing> Desk<J, P> {
         ensures none { IfOk result.0 (λ o. IfNone o (IsLevelWithout (placed_by J.config J.config.shards J.placing) ticket pass.new)) }
         ensures filed { IfSome (filed_answer (connect_in (state P.place_of self.old.shard) ticket.place)) (λ a. result.0 ≡ Ok (Some a)) }
         ensures taken { self.new.taken ≡ taken_by result.0 ticket.place self.old.taken }
-        ensures stopped { IfErr result.0 (λ s. IsStopped s.fault ticket.shard pass.new × IsStoppedIn self.old.activity s.fault) }
+        ensures stopped { IfErr result.0 (λ s. (s.shard.value ≡ ticket.shard) × IsStopped s.fault ticket.shard pass.new × IsStoppedIn self.old.activity s.fault) }
         ensures woken { AreWoken (connect_in (state P.place_of self.old.shard)) (connect_in (state P.place_of self.new.shard)) wakers.old wakers.new }
         ensures put { wakers.new ≡ wakers.old ++ result.1 }
         ensures kept { (self.new.shard.index ≡ self.old.shard.index) × (self.new.activity ≡ self.old.activity) }
@@ -356,7 +356,7 @@ impl<J: Naming, P: Placing> Desk<J, P> {
         ensures none { IfOk result (λ o. IfNone o (IsLevelWithout (placed_by J.config J.config.shards J.placing) ticket pass.new)) }
         ensures filed { IfSome (filed_answer (connect_in (state P.place_of self.old.shard) ticket.place)) (λ a. result ≡ Ok (Some a)) }
         ensures taken { self.new.taken ≡ taken_by result ticket.place self.old.taken }
-        ensures stopped { IfErr result (λ s. IsStopped s.fault ticket.shard pass.new × IsStoppedIn self.old.activity s.fault) }
+        ensures stopped { IfErr result (λ s. (s.shard.value ≡ ticket.shard) × IsStopped s.fault ticket.shard pass.new × IsStoppedIn self.old.activity s.fault) }
         ensures woken { AreWoken (connect_in (state P.place_of self.old.shard)) (connect_in (state P.place_of self.new.shard)) wakers.old wakers.new }
         ensures kept { (self.new.shard.index ≡ self.old.shard.index) × (self.new.activity ≡ self.old.activity) }
     {

@@ -3,8 +3,8 @@ ghost use Rattle.std.specs.Prelude.{◌≡◌, ◌+◌, ◌<◌, ◌^◌};
 ghost use Rattle.bx_hub.specs.declared.fault.PostFault.TheVariants as faults;
 ghost use Rattle.bx_hub.specs.Faults.{count_of, of_planning, of_reading, one_more};
 
-use crate::brought::Round;
-use bx_entry::{BodyFault, ReadFault, Slot};
+use crate::brought::AllBrought;
+use bx_entry::{BodyError, ReadError, Slot};
 use bx_message::Sequence;
 use bx_registry::AdmitFault;
 use bx_window::Naming;
@@ -12,22 +12,22 @@ use std::alloc::AllocError;
 
 /// Where the messages of a request stand, and how they are answered.
 #[derive(Drop)]
-pub struct Posted<J: Naming> {
+pub struct PostReceipt<J: Naming> {
     /// The place of the first message; of a request without messages the length of the list.
     pub first: u64,
     /// For each message in order its reply, or the ticket of a connect or a rider.
     pub slots: Sequence<Slot>,
     /// What came of bringing the shards up to it: how many have not applied the whole request.
-    pub brought: Round<J>,
+    pub brought: AllBrought<J>,
 }
 
 /// Where a tick stands.
 #[derive(Drop)]
-pub struct Ticked<J: Naming> {
+pub struct TickReceipt<J: Naming> {
     /// The place of the tick.
     pub place: u64,
     /// What came of bringing the shards up to it: how many have not applied the tick.
-    pub brought: Round<J>,
+    pub brought: AllBrought<J>,
 }
 
 /// How many shards stayed behind, by what stopped them.
@@ -90,21 +90,23 @@ impl Lagging {
     }
 }
 
-/// Why a post or a tick is refused. Nothing is added to the list then.
+/// Why a post or a tick is refused.
 #[derive(Clone, Copy, Debug, PartialEq, Eq)]
 pub enum PostFault {
     /// Its documents cannot be read as messages.
-    Body(BodyFault),
+    Body(BodyError),
     /// The hub was closed.
     Closed,
     /// The moment is above the greatest that is taken.
     BadMoment,
     /// The list would pass the greatest length that it may have.
     Ended,
-    /// The window is full, since some shard stays behind. Its oldest batch begins at `first`.
+    /// The window is full, since some shard stands below its second batch. Its oldest batch begins at `first`.
     Behind { first: u64 },
     /// The window is full, and begins past the place where this shard stands.
     Overrun { shard: usize, place: u64 },
+    /// The window is full, and under the lock of this shard stood another one, as with `HubFault`.
+    Misplaced { shard: usize, found: usize },
     /// Memory was refused.
     Memory,
 }
@@ -133,13 +135,13 @@ impl From<AllocError> for PostFault {
     }
 }
 
-impl From<ReadFault> for PostFault {
+impl From<ReadError> for PostFault {
     ghost from_gives = { λ fault given. given ≡ of_reading fault };
 
-    fn from(fault: ReadFault) -> PostFault {
+    fn from(fault: ReadError) -> PostFault {
         match fault {
-            ReadFault::Body(fault) => PostFault::Body(fault),
-            ReadFault::Memory => PostFault::Memory,
+            ReadError::Body(fault) => PostFault::Body(fault),
+            ReadError::Memory => PostFault::Memory,
         }
     }
 }

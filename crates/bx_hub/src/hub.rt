@@ -8,14 +8,13 @@ ghost use Rattle.bx_entry.specs.declared.input.Input.TheVariants as inputs;
 ghost use Rattle.bx_window.specs.Steps.{list_of};
 ghost use Rattle.bx_hub.specs.Faults.{IsStopped};
 
-use crate::admission::{Admission, Admitted};
-use crate::brought::{Brought, Round};
+use crate::admission::{Admission, Receipt};
+use crate::brought::{AllBrought, Brought};
 use crate::desk::{Desk, Watch, Woken};
-use crate::fault::{HubFault, PostFault, Posted, Ticked};
+use crate::fault::{HubFault, PostFault, PostReceipt, TickReceipt};
 use crate::least::{Least, Stood};
 use crate::pass::Pass;
-use crate::reading::Reading;
-use crate::refused::Refused;
+use crate::reading::{Reading, Refused, Unlisted};
 use crate::stopped::Stopped;
 use bx_advice::Config;
 use bx_entry::{Arrival, Placing, Ticket};
@@ -49,7 +48,8 @@ impl<J: Naming, P: Placing, G: Gate + Drop, R: Wait + Drop> Hub<J, P, G, R> {
     ghost use Rattle.bx_entry.specs.Inputs as read;
     ghost use Rattle.bx_hub.specs.Bringing.{IsOfAll};
     ghost use Rattle.bx_hub.specs.Held.{IsLevelWithout, answer_over};
-    ghost use Rattle.bx_hub.specs.Posts.{AreSlotsAt, IsAdmittedAt, IsOverrun, IsRefused, IsWithoutRoom};
+    ghost use Rattle.bx_hub.specs.Lags.{IsLagging};
+    ghost use Rattle.bx_hub.specs.Posts.{AreSlotsAt, IsAdmittedAt, IsRefused, IsTrimmedTo, IsWithoutRoom};
     ghost use Rattle.bx_hub.specs.Waking.{put_of};
     ghost use Rattle.bx_hub.specs.Watches.{IsLeftOrBack};
     ghost use Rattle.bx_hub.specs.declared.desk.watch.Watch.TheVariants as watches;
@@ -102,25 +102,27 @@ impl<J: Naming, P: Placing, G: Gate + Drop, R: Wait + Drop> Hub<J, P, G, R> {
     /// Takes the messages of a request into the list, and brings each shard up. It is refused, in this order, where its
     /// documents cannot be read as messages, the hub was closed, its moment is above the greatest that is taken, the list
     /// would become too long, or the window is full. A request without messages adds nothing. To list a request uses it up;
-    /// one that is refused comes back. Who waits for a connect that it answers is woken under no shard's lock.
+    /// one that is refused comes back. Who waits for a connect that it answers is woken under no shard's lock; where the window is
+    /// full, under admission's.
     pub fn post<W: Wait>(
         &self,
         rt: &W,
         alloc: Global,
         pass: &mut Pass<J>,
         arrival: Arrival,
-    ) -> Result<Posted<J>, Refused<J>>
+    ) -> Result<PostReceipt<J>, Refused<J>>
         ensures seen { IsPrefix pass.old pass.new }
         ensures admitted { IfOk result (λ p. IsAdmittedAt (read_input (inputs.Post arrival)) p.first pass.old pass.new) }
         ensures slots { IfOk result (λ p. AreSlotsAt (placed_by J.config J.config.shards J.placing) (read_input (inputs.Post arrival)) p.first pass.new p.slots) }
         ensures back { IfErr result (λ r. r.arrival ≡ arrival) }
-        ensures refused { IfErr result (λ r. IsRefused (read_input (inputs.Post arrival)) r.fault pass.new) }
+        ensures refused { IfErr result (λ r. IsRefused (read_input (inputs.Post arrival)) r.why.fault pass.new) }
+        ensures lags { IfErr result (λ r. IsLagging r.why.fault r.why.lag pass.new) }
         ensures behind { IfOk result (λ p. IsOfAll J.config.shards pass.new p.brought) }
     {
         let reading = Reading::of(alloc, arrival)?;
-        let Admitted { first, slots } = self.admit(rt, alloc, &mut pass.front, reading)?;
+        let Receipt { first, slots } = self.admit(rt, alloc, &mut pass.front, reading)?;
         let brought = self.bring_all(rt, alloc, &pass.front);
-        Ok(Posted {
+        Ok(PostReceipt {
             first,
             slots,
             brought,
@@ -135,16 +137,17 @@ impl<J: Naming, P: Placing, G: Gate + Drop, R: Wait + Drop> Hub<J, P, G, R> {
         alloc: Global,
         pass: &mut Pass<J>,
         moment: u64,
-    ) -> Result<Ticked<J>, PostFault>
+    ) -> Result<TickReceipt<J>, Unlisted<J>>
         ensures seen { IsPrefix pass.old pass.new }
         ensures admitted { IfOk result (λ t. IsAdmittedAt (read_input (inputs.Tick moment)) t.place pass.old pass.new) }
-        ensures refused { IfErr result (λ f. IsRefused (read_input (inputs.Tick moment)) f pass.new) }
+        ensures refused { IfErr result (λ u. IsRefused (read_input (inputs.Tick moment)) u.fault pass.new) }
+        ensures lags { IfErr result (λ u. IsLagging u.fault u.lag pass.new) }
         ensures behind { IfOk result (λ t. IsOfAll J.config.shards pass.new t.brought) }
     {
-        let Admitted { first, .. } = self.admit_tick(rt, alloc, &mut pass.front, moment)?;
+        let Receipt { first, .. } = self.admit_tick(rt, alloc, &mut pass.front, moment)?;
         let brought = self.bring_all(rt, alloc, &pass.front);
         self.let_go(rt, alloc);
-        Ok(Ticked {
+        Ok(TickReceipt {
             place: first,
             brought,
         })
@@ -157,25 +160,36 @@ impl<J: Naming, P: Placing, G: Gate + Drop, R: Wait + Drop> Hub<J, P, G, R> {
         alloc: Global,
         pass: &mut Note<J>,
         reading: Reading,
-    ) -> Result<Admitted, Refused<J>>
+    ) -> Result<Receipt, Refused<J>>
         ensures seen { IsPrefix pass.old pass.new }
         ensures admitted { IfOk result (λ a. IsAdmittedAt (Request reading.arrival.moment reading.arrival.nonce reading.messages.items) a.first pass.old pass.new) }
         ensures slots { IfOk result (λ a. AreSlotsAt (placed_by J.config J.config.shards J.placing) (Request reading.arrival.moment reading.arrival.nonce reading.messages.items) a.first pass.new a.slots) }
         ensures back { IfErr result (λ r. r.arrival ≡ reading.arrival) }
-        ensures refused { IfErr result (λ r. IsRefused (Request reading.arrival.moment reading.arrival.nonce reading.messages.items) r.fault pass.new) }
+        ensures refused { IfErr result (λ r. IsRefused (Request reading.arrival.moment reading.arrival.nonce reading.messages.items) r.why.fault pass.new) }
+        ensures lags { IfErr result (λ r. IsLagging r.why.fault r.why.lag pass.new) }
     {
         let mut admission = self.admission.lock(rt);
         let reading = match admission.post(alloc, &*self.placing, pass, reading) {
             Ok(admitted) => return Ok(admitted),
             Err((reading, PostFault::Behind { .. })) => reading,
-            Err((reading, fault)) => return Err(Refused::of(&*admission, reading, fault)),
+            Err((reading, fault)) => {
+                let why = Unlisted::of(&*admission, fault, None);
+                return Err(Refused::of(why, reading.into_arrival()));
+            }
         };
-        if let Err(fault) = self.make_room(rt, alloc, &mut admission, pass) {
-            return Err(Refused::of(&*admission, reading, fault));
-        }
+        let lowest = match self.make_room(rt, alloc, &mut admission, pass) {
+            Ok(lowest) => lowest,
+            Err(fault) => {
+                let why = Unlisted::of(&*admission, fault, None);
+                return Err(Refused::of(why, reading.into_arrival()));
+            }
+        };
         match admission.post(alloc, &*self.placing, pass, reading) {
             Ok(admitted) => Ok(admitted),
-            Err((reading, fault)) => Err(Refused::of(&*admission, reading, fault)),
+            Err((reading, fault)) => {
+                let why = Unlisted::of(&*admission, fault, Some(lowest));
+                Err(Refused::of(why, reading.into_arrival()))
+            }
         }
     }
 
@@ -186,43 +200,48 @@ impl<J: Naming, P: Placing, G: Gate + Drop, R: Wait + Drop> Hub<J, P, G, R> {
         alloc: Global,
         pass: &mut Note<J>,
         moment: u64,
-    ) -> Result<Admitted, PostFault>
+    ) -> Result<Receipt, Unlisted<J>>
         ensures seen { IsPrefix pass.old pass.new }
         ensures admitted { IfOk result (λ a. IsAdmittedAt (read.Tick moment) a.first pass.old pass.new) }
-        ensures refused { IfErr result (λ f. IsRefused (read.Tick moment) f pass.new) }
+        ensures refused { IfErr result (λ u. IsRefused (read.Tick moment) u.fault pass.new) }
+        ensures lags { IfErr result (λ u. IsLagging u.fault u.lag pass.new) }
     {
         let mut admission = self.admission.lock(rt);
         match admission.tick(alloc, pass, moment) {
+            Ok(admitted) => return Ok(admitted),
+            Err(PostFault::Behind { .. }) => {}
+            Err(fault) => return Err(Unlisted::of(&*admission, fault, None)),
+        }
+        let lowest = match self.make_room(rt, alloc, &mut admission, pass) {
+            Ok(lowest) => lowest,
+            Err(fault) => return Err(Unlisted::of(&*admission, fault, None)),
+        };
+        match admission.tick(alloc, pass, moment) {
             Ok(admitted) => Ok(admitted),
-            Err(PostFault::Behind { .. }) => {
-                self.make_room(rt, alloc, &mut admission, pass)?;
-                admission.tick(alloc, pass, moment)
-            }
-            Err(fault) => Err(fault),
+            Err(fault) => Err(Unlisted::of(&*admission, fault, Some(lowest))),
         }
     }
 
-    // Lets the full window go of what all shards have passed, once they were brought up.
+    // Lets the full window go of what all shards have passed, once they were brought up, and tells one that stands at the least place.
     fn make_room<W: Wait>(
         &self,
         rt: &W,
         alloc: Global,
         admission: &mut Admission<J, R>,
         pass: &mut Note<J>,
-    ) -> Result<(), PostFault>
+    ) -> Result<Stood<J>, PostFault>
         ensures seen { IsPrefix pass.old pass.new }
         ensures refused { IfErr result (λ f. IsWithoutRoom f pass.new) }
+        ensures room { IfOk result (λ s. IsTrimmedTo s.place admission.new.writer) }
         ensures kept { admission.new.closed ≡ admission.old.closed }
     {
-        if let Some(least) = self.bring_least(rt, alloc, pass)? {
-            admission.trim(alloc, &least)?;
-        }
-        Ok(())
+        let least = self.bring_least(rt, alloc, pass)?;
+        Ok(admission.trim(alloc, least)?)
     }
 
     // Lets the window go of what all shards have passed. Where there is no memory for that, the next tick does it.
     fn let_go<W: Wait>(&self, rt: &W, alloc: Global) {
-        let mut least = Least::new(u64::MAX);
+        let mut least = Least::new();
         for index in 0..self.desks.len() {
             let Ok(desk) = self.desk(rt, index) else {
                 return;
@@ -231,35 +250,33 @@ impl<J: Naming, P: Placing, G: Gate + Drop, R: Wait + Drop> Hub<J, P, G, R> {
             drop(desk);
             least.add(stood);
         }
-        let _ = self.admission.lock(rt).trim(alloc, &least);
+        let _ = self.admission.lock(rt).trim(alloc, least);
     }
 
-    // Brings each shard up to the end of what was seen, and tells the least place where one stands; none where a shard is not found.
-    // Who waited for what a shard answers is woken once its lock is let go.
+    // Brings each shard up to the end of what was seen, and tells the least place where one stands. Who waited for what a shard answers is
+    // woken once its lock is let go.
     fn bring_least<W: Wait>(
         &self,
         rt: &W,
         alloc: Global,
         pass: &mut Note<J>,
-    ) -> Result<Option<Least<J>>, PostFault>
+    ) -> Result<Least<J>, PostFault>
         ensures seen { IsPrefix pass.old pass.new }
-        ensures overrun { IfErr result (λ f. IsOverrun f pass.new) }
-        ensures all { IfOk result (λ o. IfSome o (λ l. length l.stood ≡ J.config.shards)) }
+        ensures refused { IfErr result (λ f. IsWithoutRoom f pass.new) }
+        ensures all { IfOk result (λ l. length l.stood ≡ J.config.shards) }
     {
-        let mut least = Least::new(pass.len());
+        let mut least = Least::new();
         for index in 0..self.desks.len() {
             let mut wakers = Wakers::new(alloc);
             let (stood, _woken) = self.stand_one(rt, alloc, index, pass, &mut wakers);
-            let Some(stood) = stood? else {
-                return Ok(None);
-            };
-            least.add(stood);
+            least.add(stood?);
         }
-        Ok(Some(least))
+        Ok(least)
     }
 
-    // Brings a shard up to the end of what was seen, and tells where it stands; nothing where it is not found. The wakers of those
-    // who waited for what it answers are put into the list, which whoever made it drops once the shard's lock is let go.
+    // Brings a shard up to the end of what was seen, and tells where it stands. The wakers of those who waited for what it answers
+    // are put into the list, which whoever made it drops once the shard's lock is let go.
+    #[tactic(auto, using(crate::proofs::Posts::room_overrun))]
     fn stand_one<W: Wait>(
         &self,
         rt: &W,
@@ -267,29 +284,38 @@ impl<J: Naming, P: Placing, G: Gate + Drop, R: Wait + Drop> Hub<J, P, G, R> {
         index: usize,
         pass: &mut Note<J>,
         wakers: &mut Wakers,
-    ) -> (Result<Option<Stood<J>>, PostFault>, Option<Woken>)
+    ) -> (Result<Stood<J>, PostFault>, Option<Woken>)
         requires { index < length self.now.desks.items }
         ensures seen { IsPrefix pass.old pass.new }
-        ensures stood { IfOk result.0 (λ o. IfSome o (λ s. s.index.value ≡ index)) }
+        ensures stood { IfOk result.0 (λ s. s.index.value ≡ index) }
         ensures still { OnOk result.0 (pass.new ≡ pass.old) }
-        ensures overrun { IfErr result.0 (λ f. IsOverrun f pass.new) }
+        ensures refused { IfErr result.0 (λ f. IsWithoutRoom f pass.new) }
         ensures put { wakers.new ≡ wakers.old ++ put_of result.1 }
-        ensures asked { IfNone result.1 (result.0 ≡ Ok None) }
+        ensures asked { IfNone result.1 (IsErr result.0) }
     {
         match self.desk(rt, index) {
             Ok(mut desk) => {
                 let (stood, woken) = desk.stand(alloc, &self.gate, pass, wakers);
-                (stood.map(Some), Some(woken))
+                (stood, Some(woken))
             }
-            Err(_) => (Ok(None), None),
+            Err(other) => {
+                let found = other.index();
+                (
+                    Err(PostFault::Misplaced {
+                        shard: index,
+                        found,
+                    }),
+                    None,
+                )
+            }
         }
     }
 
     // Brings each shard up to the note, and says what came of it.
-    fn bring_all<W: Wait>(&self, rt: &W, alloc: Global, note: &Note<J>) -> Round<J>
+    fn bring_all<W: Wait>(&self, rt: &W, alloc: Global, note: &Note<J>) -> AllBrought<J>
         ensures { IsOfAll J.config.shards note.now result }
     {
-        let mut round = Round::new(note);
+        let mut round = AllBrought::new(note);
         for index in 0..self.desks.len() {
             let mut wakers = Wakers::new(alloc);
             round.add(self.bring_one(rt, alloc, index, note, &mut wakers));
@@ -349,7 +375,7 @@ impl<J: Naming, P: Placing, G: Gate + Drop, R: Wait + Drop> Hub<J, P, G, R> {
         ensures answer { IfOk result (λ o. IfSome o (λ a. answer_over J.config pass.new ticket.place ≡ Some a)) }
         ensures none { IfOk result (λ o. IfNone o ((J.config.shards ≤ ticket.shard)
             ⊎ IsLevelWithout (placed_by J.config J.config.shards J.placing) ticket pass.new)) }
-        ensures stopped { IfErr result (λ s. IsStopped s.fault ticket.shard pass.new) }
+        ensures stopped { IfErr result (λ s. (s.shard.value ≡ ticket.shard) × IsStopped s.fault ticket.shard pass.new) }
     {
         if ticket.shard >= self.desks.len() {
             return Ok(None);
@@ -373,7 +399,7 @@ impl<J: Naming, P: Placing, G: Gate + Drop, R: Wait + Drop> Hub<J, P, G, R> {
         ensures seen { IsPrefix pass.old pass.new }
         ensures answer { IfOk result.0 (λ o. IfSome o (λ a. answer_over J.config pass.new ticket.place ≡ Some a)) }
         ensures none { IfOk result.0 (λ o. IfNone o (IsLevelWithout (placed_by J.config J.config.shards J.placing) ticket pass.new)) }
-        ensures stopped { IfErr result.0 (λ s. IsStopped s.fault ticket.shard pass.new) }
+        ensures stopped { IfErr result.0 (λ s. (s.shard.value ≡ ticket.shard) × IsStopped s.fault ticket.shard pass.new) }
         ensures put { wakers.new ≡ wakers.old ++ put_of result.1 }
         ensures asked { IfNone result.1 (IsErr result.0) }
     {

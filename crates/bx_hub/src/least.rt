@@ -1,5 +1,5 @@
-//! A place that all shards have reached.
-ghost use Rattle.std.specs.Prelude.{◌≡◌, ◌≤◌, ◌++◌, ◌∷◌, [], length, min};
+//! The least place at which the shards stand.
+ghost use Rattle.std.specs.Prelude.{◌≡◌, ◌≤◌, ◌<◌, ◌++◌, ◌∷◌, [], length, is_some, true, None, IfSome, option_map, unwrap_or};
 ghost use Rattle.std.specs.List.{All};
 ghost use Rattle.std.proofs.Props.{props};
 
@@ -30,44 +30,57 @@ impl<J: Naming> Stood<J> {
             of: PhantomData,
         }
     }
-}
 
-/// A place that the shards have reached at which it has looked, one after another, with where those stood for contracts alone.
-#[derive(Drop)]
-pub(crate) struct Least<J: Naming> {
-    place: u64,
-    stood: History<u64>,
-    of: PhantomData<J>,
-    ghost least: { All (λ p. place ≤ p) stood } by { Prim.hlevel props },
-}
-
-impl<J: Naming> Least<J> {
-    /// At most this place. It has looked at no shard.
-    pub(crate) fn new(most: u64) -> Least<J>
-        ensures { (result.place ≡ most) × (result.stood ≡ []) }
-    {
-        Least {
-            place: most,
-            stood: History::new(),
-            of: PhantomData,
-        }
-    }
-
-    /// The next shard stands here.
-    #[tactic(auto, using(crate::proofs::Places::all_least))]
-    pub(crate) fn add(&mut self, stood: Stood<J>)
-        requires next { stood.index.value ≡ length self.old.stood }
-        ensures place { self.new.place ≡ min self.old.place stood.place }
-        ensures added { self.new.stood ≡ self.old.stood ++ stood.place ∷ [] }
-    {
-        self.stood.push(&stood.place);
-        self.place = self.place.min(stood.place);
-    }
-
-    /// The place: the least of where they stood, and of the most.
+    /// How many entries it had applied.
     pub(crate) fn place(&self) -> u64
         ensures { result ≡ self.now.place }
     {
         self.place
+    }
+}
+
+/// Of the shards at which it has looked, one after another, one that stands at the least place; and where all stood, for contracts
+/// alone.
+#[derive(Drop)]
+pub(crate) struct Least<J: Naming> {
+    lowest: Option<Stood<J>>,
+    stood: History<u64>,
+    ghost least: { All (λ p. unwrap_or (option_map (λ s. s.place) lowest) 0 ≤ p) stood } by { Prim.hlevel props },
+    ghost none: { lowest ≡ None → stood ≡ [] },
+}
+
+impl<J: Naming> Least<J> {
+    /// It has looked at no shard.
+    pub(crate) fn new() -> Least<J>
+        ensures { (result.lowest ≡ None) × (result.stood ≡ []) }
+    {
+        Least {
+            lowest: None,
+            stood: History::new(),
+        }
+    }
+
+    /// The next shard stands here.
+    pub(crate) fn add(&mut self, stood: Stood<J>)
+        requires next { stood.index.value ≡ length self.old.stood }
+        ensures added { self.new.stood ≡ self.old.stood ++ stood.place ∷ [] }
+    {
+        self.stood.push(&stood.place);
+        let is_lower = match &self.lowest {
+            Some(lowest) => stood.place < lowest.place,
+            None => true,
+        };
+        if is_lower {
+            self.lowest = Some(stood);
+        }
+    }
+
+    /// The shard that stands at the least place; none where it has looked at no shard.
+    pub(crate) fn into_lowest(self) -> Option<Stood<J>>
+        ensures lowest { result ≡ self.lowest }
+        ensures least { IfSome result (λ s. All (λ p. s.place ≤ p) self.stood) }
+        ensures some { 0 < length self.stood → is_some result ≡ true }
+    {
+        self.lowest
     }
 }

@@ -11,14 +11,13 @@ mod hub;
 mod least;
 mod pass;
 mod reading;
-mod refused;
 mod stopped;
 
-pub use brought::Round;
+pub use brought::AllBrought;
 pub use bx_workers::{Gate, OpenGate};
 pub use desk::{Left, Watch};
-pub use fault::{HubFault, Lagging, PostFault, Posted, Ticked};
+pub use fault::{HubFault, Lagging, PostFault, PostReceipt, TickReceipt};
 pub use hub::Hub;
 pub use pass::Pass;
-pub use refused::Refused;
+pub use reading::{Refused, Unlisted};
 pub use stopped::Stopped;

@@ -16,9 +16,9 @@ pub struct Pass<J: Naming> {
 
 impl<J: Naming> Model for Pass<J> {
     ghost use Rattle.std.specs.Prelude.{List};
-    ghost use Rattle.bx_window.specs.declared.law.Step.{Step};
+    ghost use Rattle.bx_window.specs.declared.law.LogStep.{LogStep};
 
-    ghost Value = { List Step };
+    ghost Value = { List LogStep };
 
     ghost view = { λ p. p.front };
 }

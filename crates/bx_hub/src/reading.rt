@@ -3,11 +3,15 @@ ghost use Rattle.std.specs.Prelude.{◌≡◌, List, Ok, IfOk, IfErr};
 ghost use Rattle.bx_cut.specs.Bodies.{texts_of};
 ghost use Rattle.bx_entry.specs.Requests.{request_messages};
 
-use crate::refused::Refused;
+mod refused;
+mod unlisted;
+
 use bx_entry::{Arrival, read_messages};
 use bx_message::Message;
 use bx_window::Naming;
+pub use refused::Refused;
 use std::alloc::Global;
+pub use unlisted::Unlisted;
 
 /// A request with the messages that were read of its documents. To list them uses it up, so whoever still has it has not listed
 /// them.
@@ -21,14 +25,15 @@ pub(crate) struct Reading {
 impl Reading {
     ghost use Rattle.bx_entry.specs.Requests.{read_input};
     ghost use Rattle.bx_entry.specs.declared.input.Input.TheVariants as inputs;
+    ghost use Rattle.bx_hub.specs.Lags.{IsLagging};
     ghost use Rattle.bx_hub.specs.Posts.{IsRefused};
-    ghost use Rattle.bx_window.specs.declared.law.Step.{Step};
+    ghost use Rattle.bx_window.specs.declared.law.LogStep.{LogStep};
 
     /// Reads the documents of a request. It is refused where they cannot be read as messages, and for want of memory.
     pub(crate) fn of<J: Naming>(alloc: Global, arrival: Arrival) -> Result<Reading, Refused<J>>
         ensures read { IfOk result (λ r. r.arrival ≡ arrival) }
-        ensures back { IfErr result (λ r. r.arrival ≡ arrival) }
-        ensures refused { IfErr result (λ r. (front : List Step) → IsRefused (read_input (inputs.Post arrival)) r.fault front) }
+        ensures back { IfErr result (λ r. (r.arrival ≡ arrival) × ((front : List LogStep) → IsLagging r.why.fault r.why.lag front)) }
+        ensures refused { IfErr result (λ r. (front : List LogStep) → IsRefused (read_input (inputs.Post arrival)) r.why.fault front) }
     {
         match read_messages(alloc, &arrival.bodies) {
             Ok(messages) => Ok(Reading { arrival, messages }),

@@ -8,10 +8,13 @@ use crate::fault::HubFault;
 use bx_entry::Placing;
 use bx_window::Naming;
 use std::marker::PhantomData;
+use std::snapshot::Snapshot;
 
-/// Why there is no telling whether an answer is filed. None is made but by a look at the shard, which the fault holds of.
+/// Why there is no telling whether an answer is filed. None is made but by a look at the shard of this index, which the fault holds of,
+/// or at another one that stood under its lock.
 #[derive(Drop)]
 pub struct Stopped<J: Naming> {
+    shard: Snapshot<usize>,
     fault: HubFault,
     of: PhantomData<J>,
 }
@@ -21,10 +24,10 @@ impl<J: Naming> Stopped<J> {
     pub(crate) fn of<P: Placing>(desk: &Desk<J, P>, fault: HubFault) -> Stopped<J>
         requires stopped { IsStopped fault desk.now.shard.index desk.now.reader }
         requires activity { IsStoppedIn desk.now.activity fault }
-        ensures { result.fault ≡ fault }
+        ensures { (result.fault ≡ fault) × (result.shard.value ≡ desk.now.shard.index) }
     {
-        let _ = desk;
         Stopped {
+            shard: Snapshot::of(&desk.index()),
             fault,
             of: PhantomData,
         }
@@ -33,10 +36,10 @@ impl<J: Naming> Stopped<J> {
     /// No shard of this index was found: another one stood under its lock.
     pub(crate) fn misplaced<P: Placing>(desk: &Desk<J, P>, index: &usize) -> Stopped<J>
         requires { desk.now.shard.index ≢ index.now }
-        ensures { result.fault ≡ faults.Misplaced desk.now.shard.index }
+        ensures { (result.fault ≡ faults.Misplaced desk.now.shard.index) × (result.shard.value ≡ index.now) }
     {
-        let _ = index;
         Stopped {
+            shard: Snapshot::of(index),
             fault: HubFault::Misplaced {
                 found: desk.index(),
             },

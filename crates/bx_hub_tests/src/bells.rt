@@ -2,7 +2,7 @@
 ghost use Rattle.std.specs.Prelude.{◌≡◌};
 ghost use Rattle.bx_entry.specs.Placings.{by_remainder};
 
-use crate::calls::{HANDSHAKE, PUBLISH, hold, post};
+use crate::calls::{ANSWER, Found, HANDSHAKE, PUBLISH, find, hold, post};
 use crate::same::same;
 use bx_advice::Config;
 use bx_entry::{ByRemainder, Placing, Ticket};
@@ -53,8 +53,16 @@ impl Counter {
     }
 }
 
-// What the threads tell each other: that the shards are brought up for the publish; that shard 1 is about to be; that the locks of all
-// shards were free behind that; and that the publish has ended.
+// The call that answers the connect, and so wakes the task: a publish, or a question for the answer, once the shard goes on that was paused
+// while the publish came.
+#[derive(Clone, Copy, Debug, PartialEq, Eq)]
+enum Waking {
+    Publish,
+    Question,
+}
+
+// What the threads tell each other: that shards are brought up by the call that wakes; that shard 1 is about to be; that the locks of all
+// shards were free behind that; and that the call has ended.
 #[derive(Drop)]
 struct Flags {
     is_armed: AtomicBool,
@@ -74,7 +82,7 @@ impl Flags {
     }
 }
 
-// Tells when the lock of shard 1 is held for the publish.
+// Tells when the lock of shard 1 is held for that call.
 #[derive(Drop)]
 struct Telling {
     flags: Arc<Flags, Global>,
@@ -100,19 +108,26 @@ fn wait_for<R: Clock>(rt: &R, flag: &AtomicBool) -> bool {
     false
 }
 
-fn publishes<J: Naming, P: Placing, G: Gate + Drop, H: Wait + Drop, R: Wait>(
+fn wakes<J: Naming, P: Placing, G: Gate + Drop, H: Wait + Drop, R: Wait>(
     rt: &R,
     alloc: Global,
     hub: &Hub<J, P, G, H>,
+    ticket: Ticket,
+    waking: Waking,
     flags: &Flags,
 ) -> bool {
+    let mut pass = hub.pass();
     flags.is_armed.store(true, Ordering::SeqCst);
-    let posted = post(rt, alloc, hub, &mut hub.pass(), PUBLISH).is_ok();
+    let answered = match waking {
+        Waking::Publish => post(rt, alloc, hub, &mut pass, PUBLISH).is_ok(),
+        Waking::Question => find(rt, alloc, hub, &mut pass, ticket, ANSWER).ok()
+            == Some(Found::Wanted),
+    };
     flags.ended.store(true, Ordering::SeqCst);
-    posted
+    answered
 }
 
-// Takes the locks of all shards, which the publish has to let go of before.
+// Takes the locks of all shards, which the call has to let go of before.
 fn sweeps<J: Naming, P: Placing, G: Gate + Drop, H: Wait + Drop, R: Wait + Clock>(
     rt: &R,
     hub: &Hub<J, P, G, H>,
@@ -129,7 +144,7 @@ fn sweeps<J: Naming, P: Placing, G: Gate + Drop, H: Wait + Drop, R: Wait + Clock
 struct Told {
     // The locks of all shards were free meanwhile.
     was_free: bool,
-    // The publish had ended before.
+    // The call had ended before.
     had_ended: bool,
     let_go: bool,
 }
@@ -166,22 +181,30 @@ fn beside<
     G: Gate + Drop + Send + Sync,
     H: Wait + Drop + Send,
     R: Threads + Wait + Clock + Abort + Sync,
->(rt: &R, alloc: Global, hub: &Hub<J, P, G, H>, flags: &Flags, counter: &Counter) {
-    let (posted, (stood, told)) = join(
+>(
+    rt: &R,
+    alloc: Global,
+    hub: &Hub<J, P, G, H>,
+    ticket: Ticket,
+    waking: Waking,
+    flags: &Flags,
+    counter: &Counter,
+) {
+    let (answered, (stood, told)) = join(
         rt,
-        || publishes(rt, alloc, hub, flags),
+        || wakes(rt, alloc, hub, ticket, waking, flags),
         || sweeps_and_lets_go(rt, hub, flags, counter),
     );
-    same(rt, (posted, stood), (true, true), "the calls");
+    same(rt, (answered, stood), (true, true), "the calls");
     let wanted = Told {
         was_free: true,
         had_ended: false,
         let_go: true,
     };
-    same(rt, told, wanted, "the wake");
+    same(rt, told, wanted, waking);
 }
 
-// Leaves a waker of the task beside the connect. The task counts as asleep until the publish has woken it.
+// Leaves a waker of the task beside the connect. The task counts as asleep until the call has woken it.
 fn rings<
     J: Naming + Send + Sync,
     P: Placing + Send + Sync,
@@ -193,6 +216,7 @@ fn rings<
     alloc: Global,
     hub: &Hub<J, P, G, H>,
     ticket: Ticket,
+    waking: Waking,
     task: &Solo,
     flags: &Flags,
     counter: &Counter,
@@ -203,7 +227,7 @@ fn rings<
     same(rt, counter.fill(), true, "a full counter");
     match task.sleep() {
         Some(asleep) => {
-            beside(rt, alloc, hub, flags, counter);
+            beside(rt, alloc, hub, ticket, waking, flags, counter);
             asleep.end();
             Ok(())
         }
@@ -230,13 +254,20 @@ fn held<
     rt: &R,
     alloc: Global,
     hub: &Hub<J, P, G, H>,
+    waking: Waking,
     task: &Solo,
     flags: &Flags,
     counter: &Counter,
 ) -> Result<(), Fail> {
-    let ticket = hold(rt, alloc, hub, &mut hub.pass())?;
-    post(rt, alloc, hub, &mut hub.pass(), HANDSHAKE)?;
-    rings(rt, alloc, hub, ticket, task, flags, counter)
+    let mut pass = hub.pass();
+    let ticket = hold(rt, alloc, hub, &mut pass)?;
+    post(rt, alloc, hub, &mut pass, HANDSHAKE)?;
+    if waking == Waking::Question {
+        same(rt, hub.pause(rt, 1), true, "pause 1");
+        post(rt, alloc, hub, &mut pass, PUBLISH)?;
+        same(rt, hub.resume(rt, 1), true, "resume 1");
+    }
+    rings(rt, alloc, hub, ticket, waking, task, flags, counter)
 }
 
 fn free<J: Naming + Send + Sync, R: Threads + Wait + Clock + Abort + Sync>(
@@ -246,6 +277,7 @@ fn free<J: Naming + Send + Sync, R: Threads + Wait + Clock + Abort + Sync>(
     config: Config,
     placing: Arc<ByRemainder, Global>,
     gate: Telling,
+    waking: Waking,
     task: &Solo,
     flags: &Flags,
     counter: &Counter,
@@ -255,12 +287,13 @@ fn free<J: Naming + Send + Sync, R: Threads + Wait + Clock + Abort + Sync>(
     requires placing { by_remainder ≡ J.placing }
 {
     let hub = Hub::<J, ByRemainder, Telling, &R>::new(alloc, rt, opened, config, placing, gate)?;
-    held(rt, alloc, &hub, task, flags, counter)
+    held(rt, alloc, &hub, waking, task, flags, counter)
 }
 
 fn frees<R: Threads + Wait + Clock + Abort + Sync>(
     rt: &R,
     alloc: Global,
+    waking: Waking,
     task: &Solo,
     flags: &Arc<Flags, Global>,
     counter: &Counter,
@@ -277,6 +310,7 @@ fn frees<R: Threads + Wait + Clock + Abort + Sync>(
         config,
         placing,
         gate,
+        waking,
         task,
         flags,
         counter,
@@ -285,8 +319,11 @@ fn frees<R: Threads + Wait + Clock + Abort + Sync>(
 
 #[test]
 fn wakes_wait_for_no_shard(rt: HostRuntime) -> Result<(), Fail> {
-    let flags = Arc::new(rt.alloc(), Flags::new())?;
-    let (counter, fd) = Counter::new().ok_or("no counter")?;
-    let task = Solo::new(&rt, Doorbell::from_event_fd(fd))?;
-    frees(&rt, rt.alloc(), &task, &flags, &counter)
+    for waking in [Waking::Publish, Waking::Question] {
+        let flags = Arc::new(rt.alloc(), Flags::new())?;
+        let (counter, fd) = Counter::new().ok_or("no counter")?;
+        let task = Solo::new(&rt, Doorbell::from_event_fd(fd))?;
+        frees(&rt, rt.alloc(), waking, &task, &flags, &counter)?;
+    }
+    Ok(())
 }

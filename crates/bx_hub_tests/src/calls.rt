@@ -1,6 +1,6 @@
 //! What the tests ask of a hub.
 use bx_cut::Bodies;
-use bx_entry::{Arrival, Placing, Slot, Ticket};
+use bx_entry::{Arrival, ByTable, Placing, Slot, Ticket};
 use bx_hub::{Gate, Hub, HubFault, Pass, PostFault};
 use bx_message::{Answer, Item, body_text};
 use bx_window::Naming;
@@ -219,6 +219,20 @@ pub fn fault_of<J: Naming, P: Placing, G: Gate + Drop, H: Wait + Drop, R: Wait>(
     match hub.poll_answer(rt, alloc, pass, ticket) {
         Ok(_) => None,
         Err(stopped) => Some(stopped.fault()),
+    }
+}
+
+/// How many shards a hub has in which the first session stands in this one: two, or five for one past the second.
+pub fn shards_for(home: usize) -> usize {
+    if home < 2 { 2 } else { 5 }
+}
+
+/// Sessions in turn among two shards, the first session in this one; or all in this one, past the second.
+pub fn in_turn(alloc: Global, home: usize) -> Result<ByTable, AllocError> {
+    match home {
+        0 => ByTable::new(alloc, &[1, 0]),
+        1 => ByTable::new(alloc, &[0, 1]),
+        _ => ByTable::new(alloc, &[4]),
     }
 }
 

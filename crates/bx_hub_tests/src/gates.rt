@@ -80,7 +80,8 @@ fn takes<J: Naming, P: Placing, H: Wait + Drop, R: Wait>(
         hint::spin_loop();
     }
     let late = (1 << 62) + 1;
-    let is_bad_moment = hub.tick(rt, alloc, &mut pass, late).err() == Some(PostFault::BadMoment);
+    let refused = hub.tick(rt, alloc, &mut pass, late).err();
+    let is_bad_moment = refused.map(|it| it.fault()) == Some(PostFault::BadMoment);
     let seen = pass.seen();
     let found = find(rt, alloc, hub, &mut pass, ticket, ANSWER).unwrap_or(Found::Other);
     flags.is_free.store(true, Ordering::SeqCst);

@@ -1,6 +1,6 @@
 //! The window's types may go to another thread.
 use bx_entry::{Batch, Entry};
-use bx_window::{Bundle, Front, LogReader, LogWriter, Naming, Next, Opened, Published, Ring};
+use bx_window::{Bundle, Front, LogReader, LogWriter, Naming, Next, Opened, PublishedBatch, Ring};
 use std::alloc::Global;
 use std::marker::Brand;
 use std::sync::{Arc, Wait};
@@ -14,7 +14,7 @@ fn all_move<J: Naming + Send + Sync, R: Wait + Drop + Send>() {
 }
 
 fn parts_move<J: Naming + Send + Sync>() {
-    moves::<Published<J>>();
+    moves::<PublishedBatch<J>>();
     moves::<Ring<J>>();
 }
 

@@ -1,14 +1,15 @@
 //! A shard that stands still.
 ghost use Rattle.std.specs.Prelude.{◌≡◌};
-ghost use Rattle.bx_entry.specs.Placings.{by_remainder};
+ghost use Rattle.std.specs.Arc.{arc_value};
+ghost use Rattle.bx_entry.specs.Placings.{by_table};
 
 use crate::calls::{
     ANSWER, Found, HANDSHAKE, PING, PUBLISH_OWN, RIDDEN, Refused, SUBSCRIBE, arrival, fault_of,
-    find, hold, is_of, post, publish, refuse,
+    find, hold, in_turn, is_of, post, publish, refuse, shards_for,
 };
 use crate::same::same;
 use bx_advice::{Config, Options};
-use bx_entry::{Arrival, ByRemainder, Placing};
+use bx_entry::{Arrival, ByTable, Placing};
 use bx_hub::{Gate, Hub, HubFault, Lagging, OpenGate, Pass, PostFault};
 use bx_window::{Naming, Opened};
 use std::alloc::Global;
@@ -74,9 +75,10 @@ fn fills<J: Naming, P: Placing, G: Gate + Drop, H: Wait + Drop, R: Wait + Abort>
     alloc: Global,
     hub: &Hub<J, P, G, H>,
     pass: &mut Pass<J>,
+    home: usize,
 ) -> Result<(), Fail> {
     same(rt, hub.pause(rt, 2), false, "pause 2");
-    same(rt, hub.pause(rt, 0), true, "pause 0");
+    same(rt, hub.pause(rt, home), true, "pause");
     same(
         rt,
         empty(rt, alloc, hub, pass),
@@ -100,7 +102,7 @@ fn fills<J: Naming, P: Placing, G: Gate + Drop, H: Wait + Drop, R: Wait + Abort>
     same(rt, fault, full, "the same ping");
     same(rt, is_of(&pinging, PING), true, "the ping that comes back");
     same(rt, hub.resume(rt, 2), false, "resume 2");
-    same(rt, hub.resume(rt, 0), true, "resume 0");
+    same(rt, hub.resume(rt, home), true, "resume");
     same(
         rt,
         taken(rt, alloc, hub, pass, pinging),
@@ -151,13 +153,14 @@ fn waits<J: Naming, P: Placing, G: Gate + Drop, H: Wait + Drop, R: Wait + Abort>
     alloc: Global,
     hub: &Hub<J, P, G, H>,
     pass: &mut Pass<J>,
+    home: usize,
 ) -> Result<(), Fail> {
     let ticket = hold(rt, alloc, hub, pass)?;
-    same(rt, hub.pause(rt, 1), true, "pause 1");
+    same(rt, hub.pause(rt, home), true, "pause");
     publish_apart(rt, alloc, hub, pass)?;
     let fault = fault_of(rt, alloc, hub, pass, ticket);
     same(rt, fault, Some(HubFault::Paused), "paused");
-    same(rt, hub.resume(rt, 1), true, "resume 1");
+    same(rt, hub.resume(rt, home), true, "resume");
     same(rt, hub.sweep(rt, 5), 0, "sweep 5");
     let found = find(rt, alloc, hub, pass, ticket, ANSWER)?;
     same(rt, found, Found::Wanted, "found");
@@ -170,10 +173,11 @@ fn gives<J: Naming, P: Placing, G: Gate + Drop, H: Wait + Drop, R: Wait + Abort>
     alloc: Global,
     hub: &Hub<J, P, G, H>,
     pass: &mut Pass<J>,
+    home: usize,
 ) -> Result<(), Fail> {
     let ticket = hold(rt, alloc, hub, pass)?;
     publish(rt, alloc, hub, pass)?;
-    same(rt, hub.pause(rt, 1), true, "pause 1");
+    same(rt, hub.pause(rt, home), true, "pause");
     let found = find(rt, alloc, hub, pass, ticket, ANSWER)?;
     same(rt, found, Found::Wanted, "found");
     let fault = fault_of(rt, alloc, hub, pass, ticket);
@@ -191,17 +195,18 @@ fn rides<J: Naming, P: Placing, G: Gate + Drop, H: Wait + Drop, R: Wait + Abort>
     alloc: Global,
     hub: &Hub<J, P, G, H>,
     pass: &mut Pass<J>,
+    home: usize,
 ) -> Result<(), Fail> {
     post(rt, alloc, hub, pass, HANDSHAKE)?;
     post(rt, alloc, hub, pass, SUBSCRIBE)?;
-    same(rt, hub.pause(rt, 1), true, "pause 1");
+    same(rt, hub.pause(rt, home), true, "pause");
     publish_apart(rt, alloc, hub, pass)?;
     let (place, ticket) = post(rt, alloc, hub, pass, PUBLISH_OWN)?;
     same(rt, place, 4, "the place of the rider");
     let ticket = ticket.ok_or("no rider")?;
     let fault = fault_of(rt, alloc, hub, pass, ticket);
     same(rt, fault, Some(HubFault::Paused), "paused");
-    same(rt, hub.resume(rt, 1), true, "resume 1");
+    same(rt, hub.resume(rt, home), true, "resume");
     let found = find(rt, alloc, hub, pass, ticket, RIDDEN)?;
     same(rt, found, Found::Wanted, "found");
     let again = find(rt, alloc, hub, pass, ticket, RIDDEN)?;
@@ -209,24 +214,55 @@ fn rides<J: Naming, P: Placing, G: Gate + Drop, H: Wait + Drop, R: Wait + Abort>
     Ok(())
 }
 
-// What is asked of a hub with a shard that stands still.
+// What is filed in a paused shard can be swept, and is not found then.
+fn sweeps<J: Naming, P: Placing, G: Gate + Drop, H: Wait + Drop, R: Wait + Abort>(
+    rt: &R,
+    alloc: Global,
+    hub: &Hub<J, P, G, H>,
+    pass: &mut Pass<J>,
+    home: usize,
+) -> Result<(), Fail> {
+    let ticket = hold(rt, alloc, hub, pass)?;
+    publish(rt, alloc, hub, pass)?;
+    same(rt, hub.pause(rt, home), true, "pause");
+    same(rt, hub.sweep(rt, 4), 0, "sweep 4");
+    same(rt, hub.sweep(rt, 5), 1, "sweep 5");
+    let fault = fault_of(rt, alloc, hub, pass, ticket);
+    same(rt, fault, Some(HubFault::Paused), "paused");
+    Ok(())
+}
+
+// What is asked of a hub with a shard that stands still; of that of the first session, which is named, where a session is asked for.
 #[derive(Clone, Copy, Debug)]
 enum Case {
-    Fills,
+    Fills(usize),
     GoesOn,
-    Waits,
-    Gives,
-    Rides,
+    Waits(usize),
+    Gives(usize),
+    Rides(usize),
+    Sweeps(usize),
+}
+
+// The shard of the first session.
+fn home_of(case: Case) -> usize {
+    match case {
+        Case::Fills(home)
+        | Case::Waits(home)
+        | Case::Gives(home)
+        | Case::Rides(home)
+        | Case::Sweeps(home) => home,
+        Case::GoesOn => 1,
+    }
 }
 
 // Where events ride, the hub's configuration says so.
 fn config_for(case: Case) -> Option<Config> {
-    let ride = matches!(case, Case::Rides);
+    let ride = matches!(case, Case::Rides(_));
     let options = Options {
         ride,
         anonymous: false,
     };
-    Some(Config::new(2, 30_000, 0, 10_000)?.with(options))
+    Some(Config::new(shards_for(home_of(case)), 30_000, 0, 10_000)?.with(options))
 }
 
 fn check<J: Naming, P: Placing, G: Gate + Drop, H: Wait + Drop, R: Wait + Abort>(
@@ -237,11 +273,12 @@ fn check<J: Naming, P: Placing, G: Gate + Drop, H: Wait + Drop, R: Wait + Abort>
     case: Case,
 ) -> Result<(), Fail> {
     match case {
-        Case::Fills => fills(rt, alloc, hub, pass),
+        Case::Fills(home) => fills(rt, alloc, hub, pass, home),
         Case::GoesOn => goes_on(rt, alloc, hub, pass),
-        Case::Waits => waits(rt, alloc, hub, pass),
-        Case::Gives => gives(rt, alloc, hub, pass),
-        Case::Rides => rides(rt, alloc, hub, pass),
+        Case::Waits(home) => waits(rt, alloc, hub, pass, home),
+        Case::Gives(home) => gives(rt, alloc, hub, pass, home),
+        Case::Rides(home) => rides(rt, alloc, hub, pass, home),
+        Case::Sweeps(home) => sweeps(rt, alloc, hub, pass, home),
     }
 }
 
@@ -250,16 +287,14 @@ fn stands<J: Naming, R: Wait + Abort>(
     alloc: Global,
     opened: Opened,
     config: Config,
-    placing: Arc<ByRemainder, Global>,
+    placing: Arc<ByTable, Global>,
     case: Case,
 ) -> Result<(), Fail>
     requires book { opened.seen.book ≡ J.book }
     requires config { config ≡ J.config }
-    requires placing { by_remainder ≡ J.placing }
+    requires placing { by_table (arc_value placing) ≡ J.placing }
 {
-    let hub = Hub::<J, ByRemainder, OpenGate, &R>::new(
-        alloc, rt, opened, config, placing, OpenGate,
-    )?;
+    let hub = Hub::<J, ByTable, OpenGate, &R>::new(alloc, rt, opened, config, placing, OpenGate)?;
     check(rt, alloc, &hub, &mut hub.pass(), case)
 }
 
@@ -267,14 +302,21 @@ fn stands<J: Naming, R: Wait + Abort>(
 fn a_shard_stands_still(rt: HostRuntime) -> Result<(), Fail> {
     let alloc = rt.alloc();
     for case in [
-        Case::Fills,
+        Case::Fills(0),
+        Case::Fills(1),
         Case::GoesOn,
-        Case::Waits,
-        Case::Gives,
-        Case::Rides,
+        Case::Waits(0),
+        Case::Waits(1),
+        Case::Waits(4),
+        Case::Gives(0),
+        Case::Gives(1),
+        Case::Gives(4),
+        Case::Rides(0),
+        Case::Rides(1),
+        Case::Sweeps(4),
     ] {
         let config = config_for(case).ok_or("no configuration")?;
-        let placing = Arc::new(alloc, ByRemainder)?;
+        let placing = Arc::new(alloc, in_turn(alloc, home_of(case))?)?;
         stands::<Brand, _>(&rt, alloc, Opened::new(), config, placing, case)?;
     }
     Ok(())

@@ -7,7 +7,7 @@ use crate::calls::{
 };
 use crate::same::same;
 use bx_advice::Config;
-use bx_entry::{BodyFault, ByRemainder, Placing, Ticket};
+use bx_entry::{BodyError, ByRemainder, Placing, Ticket};
 use bx_hub::{Gate, Hub, HubFault, OpenGate, Pass, PostFault};
 use bx_window::{Naming, Opened};
 use std::alloc::Global;
@@ -26,7 +26,7 @@ fn requests<J: Naming, P: Placing, G: Gate + Drop, H: Wait + Drop, R: Wait + Abo
     same(
         rt,
         refusal(rt, alloc, hub, pass, "[")?,
-        Some(PostFault::Body(BodyFault::NotJson)),
+        Some(PostFault::Body(BodyError::NotJson)),
         "a body that is cut off",
     );
     same(rt, pass.seen(), 0, "seen at first");
@@ -47,7 +47,7 @@ fn requests<J: Naming, P: Placing, G: Gate + Drop, H: Wait + Drop, R: Wait + Abo
     let late = (1 << 62) + 1;
     same(
         rt,
-        hub.tick(rt, alloc, pass, late).err(),
+        hub.tick(rt, alloc, pass, late).err().map(|it| it.fault()),
         Some(PostFault::BadMoment),
         "a late tick",
     );
@@ -227,7 +227,7 @@ fn closed<J: Naming, P: Placing, G: Gate + Drop, H: Wait + Drop, R: Wait + Abort
     same(
         rt,
         refusal(rt, alloc, hub, pass, "[")?,
-        Some(PostFault::Body(BodyFault::NotJson)),
+        Some(PostFault::Body(BodyError::NotJson)),
         "a body that is cut off",
     );
     same(
@@ -239,7 +239,8 @@ fn closed<J: Naming, P: Placing, G: Gate + Drop, H: Wait + Drop, R: Wait + Abort
     let late = (1 << 62) + 1;
     for moment in [0, late] {
         let refused = hub.tick(rt, alloc, pass, moment).err();
-        same(rt, refused, Some(PostFault::Closed), moment);
+        let fault = refused.map(|it| it.fault());
+        same(rt, fault, Some(PostFault::Closed), moment);
     }
     assert_found(
         rt,

@@ -1,29 +1,32 @@
 //! Who waits for a connect is woken, once the lock of its shard is let go.
 ghost use Rattle.std.specs.Prelude.{◌≡◌};
-ghost use Rattle.bx_entry.specs.Placings.{by_remainder};
+ghost use Rattle.std.specs.Arc.{arc_value};
+ghost use Rattle.bx_entry.specs.Placings.{by_table};
 
 use crate::calls::{
     ANSWER, ANSWER_THIRD, CONNECT, CONNECT_THIRD, Found, HANDSHAKE, PING, PUBLISH, Refused,
-    SUBSCRIBE, SUBSCRIBE_THIRD, TICKED, find, hold, post, publish, refusal,
+    SUBSCRIBE, SUBSCRIBE_THIRD, TICKED, find, hold, in_turn, post, publish, refusal, shards_for,
 };
 use crate::same::same;
 use bx_advice::Config;
-use bx_entry::{ByRemainder, Placing, Ticket};
+use bx_entry::{ByTable, Placing, Ticket};
 use bx_hub::{Gate, Hub, Pass, PostFault, Watch};
 use bx_window::{Naming, Opened};
 use futures::task::{Poll, Source, Waker};
 use futures::test::MockTask;
-use std::alloc::Global;
+use std::alloc::{AllocGlobal, Global};
 use std::marker::Brand;
 use std::process::Abort;
+use std::random::RandomSource;
 use std::sync::atomic::{AtomicBool, AtomicU64, Ordering};
 use std::sync::{Arc, Wait};
 use std::test::*;
 
-// The task that waits, whether it was woken while a shard's lock was held by whoever brought that shard up, another task, and how
-// often the gate was passed before shards were brought up and behind that.
+// The shard of the first session, the task that waits, whether it was woken while that shard's lock was held by whoever brought the shard up,
+// another task, and how often the gate was passed before shards were brought up and behind that.
 #[derive(Drop)]
 struct Waiting {
+    home: usize,
     task: MockTask,
     woken_under_lock: AtomicBool,
     other: MockTask,
@@ -42,10 +45,9 @@ impl Gate for Looking {
         self.waiting.before.fetch_add(1, Ordering::SeqCst);
     }
 
-    // The connect is of shard 1.
     fn after(&self, shard: usize) {
         self.waiting.after.fetch_add(1, Ordering::SeqCst);
-        if shard == 1 && self.waiting.task.is_woken() {
+        if shard == self.waiting.home && self.waiting.task.is_woken() {
             self.waiting.woken_under_lock.store(true, Ordering::SeqCst);
         }
     }
@@ -222,7 +224,7 @@ fn ticked<J: Naming, P: Placing, G: Gate + Drop, H: Wait + Drop, R: Wait + Abort
     Ok(())
 }
 
-// The tickets of two connects in shard 1 that are held at neighbouring places; a task waits for each.
+// The tickets of two connects in one shard that are held at neighbouring places; a task waits for each.
 fn hold_two<J: Naming, P: Placing, G: Gate + Drop, H: Wait + Drop, R: Wait + Abort>(
     rt: &R,
     alloc: Global,
@@ -285,9 +287,9 @@ fn asked<J: Naming, P: Placing, G: Gate + Drop, H: Wait + Drop, R: Wait + Abort>
     waiting: &Waiting,
 ) -> Result<(), Fail> {
     let tickets = hold_two(rt, alloc, hub, pass, waiting)?;
-    same(rt, hub.pause(rt, 1), true, "pause 1");
+    same(rt, hub.pause(rt, waiting.home), true, "pause");
     post(rt, alloc, hub, pass, PUBLISH)?;
-    same(rt, hub.resume(rt, 1), true, "resume 1");
+    same(rt, hub.resume(rt, waiting.home), true, "resume");
     same(rt, waiting.other.is_woken(), false, "before");
     let found = find(rt, alloc, hub, pass, tickets.0, ANSWER)?;
     same(rt, found, Found::Wanted, "found");
@@ -329,7 +331,7 @@ fn refused<J: Naming, P: Placing, G: Gate + Drop, H: Wait + Drop, R: Wait + Abor
     publish(rt, alloc, hub, pass)?;
     let full = Some(PostFault::Behind { first: 3 });
     same(rt, fill(rt, alloc, hub, pass)?, full, "a full window");
-    same(rt, hub.resume(rt, 1), true, "resume 1");
+    same(rt, hub.resume(rt, waiting.home), true, "resume");
     same(rt, waiting.task.is_woken(), false, "before");
     let fault = refusal(rt, alloc, hub, pass, PING)?;
     same(rt, fault, full, "a full window again");
@@ -378,58 +380,72 @@ fn wakes<J: Naming, R: Wait + Abort>(
     alloc: Global,
     opened: Opened,
     config: Config,
-    placing: Arc<ByRemainder, Global>,
+    placing: Arc<ByTable, Global>,
     gate: Looking,
     waiting: &Waiting,
     end: End,
 ) -> Result<(), Fail>
     requires book { opened.seen.book ≡ J.book }
     requires config { config ≡ J.config }
-    requires placing { by_remainder ≡ J.placing }
+    requires placing { by_table (arc_value placing) ≡ J.placing }
 {
-    let hub = Hub::<J, ByRemainder, Looking, &R>::new(alloc, rt, opened, config, placing, gate)?;
+    let hub = Hub::<J, ByTable, Looking, &R>::new(alloc, rt, opened, config, placing, gate)?;
     check(rt, alloc, &hub, &mut hub.pass(), waiting, end)
+}
+
+// The first session's shard is this one.
+fn check_end<R: Wait + Abort + AllocGlobal + RandomSource>(
+    rt: &R,
+    home: usize,
+    end: End,
+) -> Result<(), Fail> {
+    let alloc = rt.alloc();
+    let config = Config::new(shards_for(home), 30_000, 0, 10_000).ok_or("no configuration")?;
+    let placing = Arc::new(alloc, in_turn(alloc, home)?)?;
+    let waiting = Arc::new(
+        alloc,
+        Waiting {
+            home,
+            task: MockTask::new(rt)?,
+            woken_under_lock: AtomicBool::new(false),
+            other: MockTask::new(rt)?,
+            before: AtomicU64::new(0),
+            after: AtomicU64::new(0),
+        },
+    )?;
+    // A task is woken from the first on, until it is polled.
+    waiting.task.enter(|_cx| ());
+    waiting.other.enter(|_cx| ());
+    let gate = Looking {
+        waiting: Arc::try_clone(&waiting)?,
+    };
+    wakes::<Brand, _>(
+        rt,
+        alloc,
+        Opened::new(),
+        config,
+        placing,
+        gate,
+        &waiting,
+        end,
+    )
 }
 
 #[test]
 fn a_task_is_woken(rt: HostRuntime) -> Result<(), Fail> {
-    let alloc = rt.alloc();
-    let config = Config::new(2, 30_000, 0, 10_000).ok_or("no configuration")?;
-    for end in [
-        End::Publish,
-        End::Tick,
-        End::Close,
-        End::Both,
-        End::Asked,
-        End::Refused,
-    ] {
-        let placing = Arc::new(alloc, ByRemainder)?;
-        let waiting = Arc::new(
-            alloc,
-            Waiting {
-                task: MockTask::new(&rt)?,
-                woken_under_lock: AtomicBool::new(false),
-                other: MockTask::new(&rt)?,
-                before: AtomicU64::new(0),
-                after: AtomicU64::new(0),
-            },
-        )?;
-        // A task is woken from the first on, until it is polled.
-        waiting.task.enter(|_cx| ());
-        waiting.other.enter(|_cx| ());
-        let gate = Looking {
-            waiting: Arc::try_clone(&waiting)?,
-        };
-        wakes::<Brand, _>(
-            &rt,
-            alloc,
-            Opened::new(),
-            config,
-            placing,
-            gate,
-            &waiting,
-            end,
-        )?;
+    check_end(&rt, 4, End::Publish)?;
+    check_end(&rt, 4, End::Close)?;
+    for home in [0, 1] {
+        for end in [
+            End::Publish,
+            End::Tick,
+            End::Close,
+            End::Both,
+            End::Asked,
+            End::Refused,
+        ] {
+            check_end(&rt, home, end)?;
+        }
     }
     Ok(())
 }

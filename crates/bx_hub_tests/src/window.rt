@@ -3,7 +3,9 @@ ghost use Rattle.std.specs.Prelude.{◌≡◌, [], IfOk};
 
 use crate::same::same;
 use bx_ticks::{Taken, Ticker};
-use bx_window::{LogReader, MAX_BATCHES, Naming, Next, Note, Opened, Refusal, entry_of, log_pair};
+use bx_window::{
+    LogReader, MAX_BATCHES, Naming, Next, Note, Opened, PublishFault, entry_of, log_pair,
+};
 use std::alloc::{AllocError, Global};
 use std::marker::Brand;
 use std::process::Abort;
@@ -169,7 +171,7 @@ fn filled<J: Naming, H: Wait + Drop, R: Abort>(
 ) -> Result<(), AllocError> {
     same(rt, fill(alloc, writer)?, 4_096, "batches");
     let refused = Taken::Refused {
-        why: Refusal::Full,
+        why: PublishFault::Full,
         first: 4_096,
         entries: 2,
     };

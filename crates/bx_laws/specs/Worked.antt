@@ -12,7 +12,7 @@ use Rattle.bx_entry.specs.Inputs.{Tick}
 use Rattle.bx_entry.specs.declared.input.Refusal.TheVariants.{BadMoment}
 use Rattle.bx_entry.specs.Words.{outs, held, Unread, outs, held}
 use Rattle.bx_entry.specs.declared.input.Refusal.TheVariants.{Body}
-use Rattle.bx_entry.specs.declared.input.BodyFault.TheVariants.{NotJson}
+use Rattle.bx_entry.specs.declared.input.BodyError.TheVariants.{NotJson}
 use Rattle.bx_advice.specs.declared.error.Error.TheVariants.{UnknownConnectionType, InvalidPattern, TooManyPatterns}
 use Rattle.bx_message.specs.Texts.{callback_text}
 use Rattle.bx_laws.specs.Samples.{ack_connect, blank, id_of, versioned, handshake, ack_handshake, connect, connect_now, ack_connect_now, in_quotes, subscribe, unsubscribe, disconnect, publish, post, standard, reply, handshaken, ack_handshaken, connected_as, connected, ack_connected, subscribed, unsubscribed, disconnected, published, unknown_client, event, out, subscribe_all, subscribed_all, match_all, two_connects, held_with_ack, small, failed, four_batches, full_batch, texts, refused_messages, mixed, mixed_failed, crowded, anonymous, open_to_all, ridden_publishes, ridden_hold, ridden_behind, waits_behind, riding}

@@ -5,7 +5,7 @@ use std::alloc::{AllocError, Global};
 
 /// How an event came.
 #[derive(Clone, Copy)]
-pub enum Arrival {
+pub enum Reception {
     /// For the first time, and no later one came before it.
     InOrder,
     /// For the first time, behind a later one.
@@ -38,26 +38,26 @@ impl Arrivals {
     }
 
     /// The event of this number comes.
-    pub fn take(&mut self, number: usize) -> Arrival
-        ensures unknown { (result ≡ Arrival.Unknown) ↔ (vec_len self.old.seen ≤ number) }
-        ensures doubled { (result ≡ Arrival.Doubled) ↔ (slice_index_or self.old.seen.items number false ≡ true) }
-        ensures late { result ≡ Arrival.OutOfOrder → number < self.old.next }
-        ensures in_order { result ≡ Arrival.InOrder → (self.old.next ≤ number) × (self.new.next ≡ number + 1) }
+    pub fn take(&mut self, number: usize) -> Reception
+        ensures unknown { (result ≡ Reception.Unknown) ↔ (vec_len self.old.seen ≤ number) }
+        ensures doubled { (result ≡ Reception.Doubled) ↔ (slice_index_or self.old.seen.items number false ≡ true) }
+        ensures late { result ≡ Reception.OutOfOrder → number < self.old.next }
+        ensures in_order { result ≡ Reception.InOrder → (self.old.next ≤ number) × (self.new.next ≡ number + 1) }
         ensures seen { self.new.seen.items ≡ slice_set self.old.seen.items number true }
-        ensures kept { result ≢ Arrival.InOrder → self.new.next ≡ self.old.next }
+        ensures kept { result ≢ Reception.InOrder → self.new.next ≡ self.old.next }
     {
         if number >= self.seen.len() {
-            return Arrival::Unknown;
+            return Reception::Unknown;
         }
         if self.seen[number] {
-            return Arrival::Doubled;
+            return Reception::Doubled;
         }
         self.seen[number] = true;
         if number < self.next {
-            return Arrival::OutOfOrder;
+            return Reception::OutOfOrder;
         }
         self.next = number + 1;
-        Arrival::InOrder
+        Reception::InOrder
     }
 
     /// How many of the events did not come.

@@ -14,7 +14,7 @@ pub struct Stamp {
 
 /// What an item of a response is.
 #[derive(Clone, Copy)]
-pub enum Item {
+pub enum Received {
     /// An event of a load.
     Event(Stamp),
     /// The message succeeded; the number of a batch to be acknowledged.
@@ -26,20 +26,20 @@ pub enum Item {
 }
 
 /// What this item is.
-pub fn item_of(item: &Value) -> Item {
+pub fn item_of(item: &Value) -> Received {
     if let Some(data) = item.get("data") {
         return match stamp_of(data) {
-            Some(stamp) => Item::Event(stamp),
-            None => Item::Unknown,
+            Some(stamp) => Received::Event(stamp),
+            None => Received::Unknown,
         };
     }
     let Some(reply) = item.get("successful") else {
-        return Item::Unknown;
+        return Received::Unknown;
     };
     match reply.as_bool() {
-        Some(true) => Item::Success(acknowledgement_of(item)),
-        Some(false) => Item::Refusal,
-        None => Item::Unknown,
+        Some(true) => Received::Success(acknowledgement_of(item)),
+        Some(false) => Received::Refusal,
+        None => Received::Unknown,
     }
 }
 

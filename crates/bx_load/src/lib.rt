@@ -8,11 +8,13 @@ mod requests;
 mod response;
 mod settings;
 mod shares;
+#[cfg(test)]
+mod tests;
 
-pub use arrivals::{Arrival, Arrivals};
-pub use items::{Item, Stamp, client_of, item_of};
+pub use arrivals::{Arrivals, Reception};
+pub use items::{Received, Stamp, client_of, item_of};
 pub use latencies::Latencies;
 pub use requests::{connect, handshake, publish, subscribe, touch};
 pub use response::{Malformed, Response, read_response};
-pub use settings::{Settings, Target};
+pub use settings::{LoadSettings, Target};
 pub use shares::{due, events_of};

@@ -23,7 +23,7 @@ impl Target {
 
 /// How a server is loaded.
 #[derive(Drop)]
-pub struct Settings {
+pub struct LoadSettings {
     /// Where the server is.
     pub target: Target,
     /// How many sessions receive.
@@ -42,10 +42,10 @@ pub struct Settings {
     ghost some_publisher: { 0 < publishers },
 }
 
-impl Settings {
+impl LoadSettings {
     /// What these words say; none where they are not a URL, a number of sessions and three numbers above 0, and then a
     /// further one, `ack` or both. An error means that memory was refused.
-    pub fn read(alloc: Global, words: &[String]) -> Result<Option<Settings>, AllocError> {
+    pub fn read(alloc: Global, words: &[String]) -> Result<Option<LoadSettings>, AllocError> {
         let [url, sessions, channels, publishers, events, options @ ..] = words else {
             return Ok(None);
         };
@@ -64,7 +64,7 @@ impl Settings {
             return Ok(None);
         };
         let target = Target::new(alloc, host, path)?;
-        Ok(Some(Settings {
+        Ok(Some(LoadSettings {
             target,
             sessions,
             channels,

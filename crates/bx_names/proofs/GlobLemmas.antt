@@ -5,7 +5,7 @@ use Rattle.std.specs.Prelude.{◌||◌}
 use Rattle.std.proofs.lemmas.{Bool.false≢true, Grind.common_steps, Slice.Eq.bytes_eq-Decides}
 use Rattle.bx_names.specs.Words.{has_star, segments, is_path, path_of, Glob, last_segment, ending_in, glob_of, glob_text}
 use Rattle.bx_names.specs.declared.tail.Tail.TheVariants.{Exact, One, Many}
-use Rattle.bx_names.proofs.PathLemmas.{segments-append, path_of-append, path_of-segments, parts_some}
+use Rattle.bx_names.proofs.PathLemmas.{path_from_absolute, segments-append, path_of-append, path_of-segments, parts_some}
 
 -- ---- the last segment
 
@@ -44,9 +44,7 @@ pub glob_of-one_text : (own : List ℕ) → glob_of (segments (own ++ codes "/*"
 glob_of-one_text own = rw (segments-append own (codes "*")) (glob_of-one (segments own))
 
 glob_exact_by : (ss : List (List ℕ)) (one many : Bool) → (one ≡ true → ⊥) → (many ≡ true → ⊥) → ending_in (cond one One (cond many Many Exact)) ss ≡ record { segments = ss; tail = Exact }
-glob_exact_by ss true many not_one not_many = absurd (not_one refl)
-glob_exact_by ss false true not_one not_many = absurd (not_many refl)
-glob_exact_by ss false false not_one not_many = refl
+glob_exact_by ss one many h1 h2 = grind (arith, common_steps)
 
 -- a text that ends in a segment ends in a slash and that segment
 ends_in_segment : (text s : List ℕ) → IsTrue (is_path text) → 0 < length s → last_segment (segments text) ≡ s → text ≡ path_of (take (length (segments text) - 1) (segments text)) ++ 47 ∷ s
@@ -74,14 +72,10 @@ cut_by_tail (t ∷ ts) s some is =
     sym (ap path_of cut ∙ path_of-append (take (length ss - 1) ss) (s ∷ []) ∙ rw append-nil refl)
 
 glob_text_by : (ss : List (List ℕ)) (one many : Bool) → (one ≡ true → last_segment ss ≡ codes "*") → (many ≡ true → last_segment ss ≡ codes "**") → glob_text (ending_in (cond one One (cond many Many Exact)) ss) ≡ path_of ss
-glob_text_by ss true many is_one is_many = cut_by_tail ss (codes "*") (omega arith) (is_one refl)
-glob_text_by ss false true is_one is_many = cut_by_tail ss (codes "**") (omega arith) (is_many refl)
-glob_text_by ss false false is_one is_many = append-nil (path_of ss)
+glob_text_by ss one many h1 h2 = grind (arith, common_steps, cut_by_tail, append-nil)
 
 pub glob_text-glob_of : (ss : List (List ℕ)) → glob_text (glob_of ss) ≡ path_of ss
-glob_text-glob_of ss =
-    let last = last_segment ss in
-    glob_text_by ss (bytes_eq last (codes "*")) (bytes_eq last (codes "**")) ((bytes_eq-Decides last (codes "*")).0) ((bytes_eq-Decides last (codes "**")).0)
+glob_text-glob_of ss = grind (arith, common_steps, glob_text_by, bytes_eq-Decides)
 
 -- ---- equality by texts
 
@@ -99,8 +93,7 @@ texts-decide s t p q same is s_path t_path s_is t_is =
 -- ---- a pattern without a star
 
 or_none : (a b : Bool) → (a || b) ≡ false → (a ≡ false) × (b ≡ false)
-or_none true b h = (cc, cc)
-or_none false b h = (refl, h)
+or_none a b h1 = grind (arith, common_steps)
 
 no_star_in_last : (ss : List (List ℕ)) → list_any has_star ss ≡ false → has_star (last_segment ss) ≡ false
 no_star_in_last [] none = refl
@@ -114,3 +107,5 @@ glob_of-plain ss none =
     glob_exact_by ss (bytes_eq last (codes "*")) (bytes_eq last (codes "**"))
     (λ h. false≢true (sym plain ∙ ap has_star ((bytes_eq-Decides last (codes "*")).0 h)))
     (λ h. false≢true (sym plain ∙ ap has_star ((bytes_eq-Decides last (codes "**")).0 h)))
+
+pub ruleset cut = (path_from_absolute, glob_of-many_text, glob_of-one_text, glob_of-exact_text, common_steps)

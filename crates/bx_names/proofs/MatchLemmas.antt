@@ -7,20 +7,18 @@ use Rattle.bx_names.specs.Words.{is_slash, parts, segments, is_absolute, is_path
 use Rattle.bx_names.specs.declared.tail.Tail.{Tail}
 use Rattle.bx_names.specs.declared.tail.Tail.TheVariants.{Exact, One, Many}
 use Rattle.bx_names.proofs.PathLemmas.{segments-append, path_of-append, path_of-segments, parts_some, slash-is}
+use Rattle.std.proofs.lemmas.Grind.{common_steps}
 
 -- ---- texts that begin with another
 
 and_true : (a b : Bool) → a ≡ true → b ≡ true → (a && b) ≡ true
-and_true true b p q = q
-and_true false b p q = p
+and_true a b h1 h2 = grind (arith, common_steps)
 
 false_if : (b : Bool) → (b ≡ true → ⊥) → b ≡ false
-false_if true h = absurd (h refl)
-false_if false h = refl
+false_if b h1 = grind (arith, common_steps)
 
 pub segments_some : (text : List ℕ) → IsTrue (is_absolute text) → 0 < length (segments text)
-segments_some [] h = cc
-segments_some (x ∷ xs) h = parts_some xs
+segments_some text h1 = grind (arith, common_steps, parts_some)
 
 path_of-absolute : (ss : List (List ℕ)) → 0 < length ss → IsTrue (is_absolute (path_of ss))
 path_of-absolute [] h = absurd (omega arith)
@@ -28,8 +26,7 @@ path_of-absolute (s ∷ ss) h = refl
 
 -- what a longer text adds to the segments
 segments-longer : (own rest : List ℕ) → IsTrue (is_absolute rest) → segments (own ++ rest) ≡ segments own ++ segments rest
-segments-longer own [] h = cc
-segments-longer own (x ∷ xs) h = rw (slash-is x h) (segments-append own xs)
+segments-longer own rest h1 = grind (arith, common_steps, slash-is, segments-append)
 
 begins_if : (own rest : List (List ℕ)) (name : List (List ℕ)) → name ≡ own ++ rest → starts_with bytes_eq name own ≡ true
 begins_if own rest name h = (starts_is bytes_eq-Decides name own (starts_with bytes_eq name own) refl).1 rest h
@@ -88,11 +85,7 @@ module _ (own name rest : List ℕ) (own_path : IsTrue (is_path own)) (name_path
       rw (rest_is l) (path_of-absolute l.more (omega (arith, ap length l.by_segments, length-append (segments own) l.more)))
 
   many_if_absolute : IsTrue (is_absolute rest) → matches_by Many (segments own) (segments name) ≡ true
-  many_if_absolute h =
-      let some = segments_some rest h in
-      and_true (nat_lt (length (segments own)) (length (segments name))) (starts_with bytes_eq (segments name) (segments own))
-      ((Decides-ltb (length (segments own)) (length (segments name))).1 (omega (arith, ap length (split_if h), length-append (segments own) (segments rest))))
-      (begins_if (segments own) (segments rest) (segments name) (split_if h))
+  many_if_absolute h = grind (arith, common_steps, segments_some, and_true, split_if, length-append, begins_if)
 
   pub matches-many : is_absolute rest ≡ matches_by Many (segments own) (segments name)
   matches-many = one_answer {P = IsTrue (is_absolute rest)} (is_absolute rest) (matches_by Many (segments own) (segments name)) (λ h. h, λ h. h) (absolute_if_many, many_if_absolute)
@@ -107,12 +100,7 @@ module _ (own name rest : List ℕ) (own_path : IsTrue (is_path own)) (name_path
       and_true (is_absolute rest) (length (segments rest) == 1) absolute ((Decides-eqb (length (segments rest)) 1).1 (ap length same ∙ single))
 
   one_if : (is_absolute rest && (length (segments rest) == 1)) ≡ true → matches_by One (segments own) (segments name) ≡ true
-  one_if h =
-      let absolute = (and_parts (is_absolute rest) (length (segments rest) == 1) h).0 in
-      let single = (Decides-eqb (length (segments rest)) 1).0 (and_parts (is_absolute rest) (length (segments rest) == 1) h).1 in
-      and_true (length (segments name) == length (segments own) + 1) (starts_with bytes_eq (segments name) (segments own))
-      ((Decides-eqb (length (segments name)) (length (segments own) + 1)).1 (omega (arith, ap length (split_if absolute), length-append (segments own) (segments rest))))
-      (begins_if (segments own) (segments rest) (segments name) (split_if absolute))
+  one_if h = grind (arith, common_steps, and_parts, and_true, split_if, length-append, begins_if)
 
   pub matches-one : (is_absolute rest && (length (segments rest) == 1)) ≡ matches_by One (segments own) (segments name)
   matches-one = one_answer {P = matches_by One (segments own) (segments name) ≡ true} (is_absolute rest && (length (segments rest) == 1)) (matches_by One (segments own) (segments name)) (one_if, one_is) (λ h. h, λ h. h)
@@ -124,20 +112,17 @@ abbrev pub IsLastSlash : List ℕ → ℕ → Type 0
 IsLastSlash text k = (k < length text) × (get_or text k 0 ≡ 47) × ((i : ℕ) → k < i → i < length text → get_or text i 0 ≢ 47)
 
 whole_step : (x : ℕ) (xs : List ℕ) (ps : List (List ℕ)) (slash : Bool) → (slash ≡ true → ⊥) → ps ≡ xs ∷ [] → cond slash ([] ∷ ps) (onto_first x ps) ≡ (x ∷ xs) ∷ []
-whole_step x xs ps true no_slash whole = absurd (no_slash refl)
-whole_step x xs ps false no_slash whole = rw whole refl
+whole_step x xs ps slash h1 h2 = grind (arith, common_steps)
 
 parts_one : (xs : List ℕ) → ((i : ℕ) → i < length xs → get_or xs i 0 ≢ 47) → parts xs ≡ xs ∷ []
 parts_one [] none = refl
 parts_one (x ∷ xs) none = whole_step x xs (parts xs) (is_slash x) (λ slash. none 0 (omega arith) (slash-is x slash)) (parts_one xs (λ i below. none (suc i) (omega arith)))
 
 length-onto_first : (x : ℕ) (ps : List (List ℕ)) → length ps ≤ length (onto_first x ps)
-length-onto_first x [] = omega arith
-length-onto_first x (p ∷ ps) = omega arith
+length-onto_first x ps = grind (arith, common_steps)
 
 two_step : (x : ℕ) (ps : List (List ℕ)) (slash : Bool) → 1 < length ps → 1 < length (cond slash ([] ∷ ps) (onto_first x ps))
-two_step x ps true two = omega arith
-two_step x ps false two = omega (arith, length-onto_first x ps)
+two_step x ps slash h1 = grind (arith, common_steps, length-onto_first)
 
 parts_two : (xs : List ℕ) (i : ℕ) → i < length xs → get_or xs i 0 ≡ 47 → 1 < length (parts xs)
 parts_two [] i below slash = absurd (omega arith)
@@ -145,8 +130,7 @@ parts_two (x ∷ xs) zero below slash = let is : is_slash x ≡ true = rw slash 
 parts_two (x ∷ xs) (suc i) below slash = two_step x (parts xs) (is_slash x) (parts_two xs i (omega arith) slash)
 
 slash_at_start : (x : ℕ) (xs : List ℕ) (k : ℕ) → get_or (x ∷ xs) k 0 ≡ 47 → k ≡ 0 → is_slash x ≡ true
-slash_at_start x xs zero at start = (Decides-eqb x 47).1 at
-slash_at_start x xs (suc k) at start = absurd (omega (arith, start))
+slash_at_start x xs k h1 h2 = grind (arith, common_steps)
 
 one_if_first : (text : List ℕ) (k : ℕ) → IsLastSlash text k → k ≡ 0 → (is_absolute text && (length (segments text) == 1)) ≡ true
 one_if_first [] k last start = absurd (omega (arith, last.0))
@@ -155,14 +139,10 @@ one_if_first (x ∷ xs) k last start =
     and_true (is_slash x) (length (parts xs) == 1) slash (ap (λ ps. length ps == 1) (parts_one xs (λ i below. last.2 (suc i) (omega (arith, start)) (omega arith))))
 
 none_if_later : (text : List ℕ) (k : ℕ) → IsLastSlash text k → (k ≡ 0 → ⊥) → (is_absolute text && (length (segments text) == 1)) ≡ false
-none_if_later [] k last later = refl
-none_if_later (x ∷ xs) zero last later = absurd (later refl)
-none_if_later (x ∷ xs) (suc k) last later =
-    false_if _ (λ h. let single = (Decides-eqb (length (parts xs)) 1).0 (and_parts (is_slash x) (length (parts xs) == 1) h).1 in omega (arith, parts_two xs k (omega (arith, last.0)) last.1))
+none_if_later text k h1 h2 = grind (arith, common_steps, false_if, and_parts, parts_two)
 
 none_if_absent : (text : List ℕ) → ((i : ℕ) → i < length text → get_or text i 0 ≢ 47) → (is_absolute text && (length (segments text) == 1)) ≡ false
-none_if_absent [] none = refl
-none_if_absent (x ∷ xs) none = false_if _ (λ h. none 0 (omega arith) (slash-is x (and_parts (is_slash x) (length (parts xs) == 1) h).0))
+none_if_absent text h1 = grind (arith, common_steps, false_if, slash-is, and_parts)
 
 one_by_test : (text : List ℕ) (k : ℕ) (test : Bool) → IsLastSlash text k → Decides test (k ≡ 0) → test ≡ (is_absolute text && (length (segments text) == 1))
 one_by_test text k true last is = sym (one_if_first text k last (is.0 refl))
@@ -179,19 +159,19 @@ matches_at {s} {t} {ss} {ts} {ms} {ns} p q r = ap (λ x. matches_by x ss ms) p �
 
 -- ---- what matching means, as a fact of lists
 
-pub exact-decides : (own name : List (List ℕ)) → Decides (matches_by Exact own name) (name ≡ own)
-exact-decides own name = let same = same_segments-decides own name in (λ h. sym (same.0 h), λ h. same.1 (sym h))
+pub exact_decides : (own name : List (List ℕ)) → Decides (matches_by Exact own name) (name ≡ own)
+exact_decides own name = let same = same_segments-decides own name in (λ h. sym (same.0 h), λ h. same.1 (sym h))
 
-pub one-decides : (own name : List (List ℕ)) → Decides (matches_by One own name) ((length name ≡ length own + 1) × (take (length own) name ≡ own))
-one-decides own name =
+pub one_decides : (own name : List (List ℕ)) → Decides (matches_by One own name) ((length name ≡ length own + 1) × (take (length own) name ≡ own))
+one_decides own name =
     let count = Decides-eqb (length name) (length own + 1) in
     let same = same_segments-decides own (take (length own) name) in (
       λ h. (count.0 (and_parts _ (starts_with bytes_eq name own) h).0, sym (same.0 (and_parts (length name == length own + 1) _ h).1)),
       λ h. and_true (length name == length own + 1) (starts_with bytes_eq name own) (count.1 h.0) (same.1 (sym h.1)),
     )
 
-pub many-decides : (own name : List (List ℕ)) → Decides (matches_by Many own name) ((rest : List (List ℕ)) × (0 < length rest) × (name ≡ own ++ rest))
-many-decides own name =
+pub many_decides : (own name : List (List ℕ)) → Decides (matches_by Many own name) ((rest : List (List ℕ)) × (0 < length rest) × (name ≡ own ++ rest))
+many_decides own name =
     let count = Decides-ltb (length own) (length name) in
     let starts = starts_is bytes_eq-Decides name own (starts_with bytes_eq name own) refl in (
       λ h.

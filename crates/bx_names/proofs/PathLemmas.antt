@@ -1,8 +1,9 @@
 -- Paths as texts and as lists of segments, and the two ways between them.
-use Rattle.std.proofs.Common.{◌≡◌, ◌≢◌, ℕ, suc, ◌+◌, ◌<◌, Bool, true, false, IsTrue, Option, Some, None, MatchOption, List, [], ◌∷◌, ◌++◌, length, cond, not, refl, sym, ap, ◌∙◌, arith, lit<, Bor}
+use Rattle.std.proofs.Common.{◌≡◌, ◌≢◌, ℕ, suc, ◌+◌, ◌<◌, Bool, true, IsTrue, Option, Some, None, MatchOption, List, [], ◌∷◌, ◌++◌, length, cond, not, refl, sym, ap, ◌∙◌, arith, lit<, Bor}
 use Rattle.std.specs.{Option.option_map_or, List.onto_first, List.position_or_len, Bool.Decides, Str.bytes_eq}
 use Rattle.std.proofs.lemmas.{Grind.flat_map-append, Bool.Decides.nat_tests, Slice.Eq.bytes_eq-Decides, List.Splits.slice_split_first, List.Splits.length-slice_split, Str.Pattern.IsSplitOnceResult, Str.Pattern.split_once_first}
 use Rattle.bx_names.specs.Segments.{is_slash, parts, segments, is_absolute, is_path, path_of}
+use Rattle.std.proofs.lemmas.Grind.{common_steps}
 
 -- ---- the parts of a text
 
@@ -11,12 +12,10 @@ pub parts_some : (xs : List ℕ) → 0 < length (parts xs)
 parts_some xs = omega (arith, length-slice_split is_slash xs)
 
 onto_first-append : (x : ℕ) (ps qs : List (List ℕ)) → 0 < length ps → onto_first x (ps ++ qs) ≡ onto_first x ps ++ qs
-onto_first-append x [] qs h = absurd (omega arith)
-onto_first-append x (p ∷ ps) qs h = refl
+onto_first-append x ps qs h1 = grind (arith, common_steps)
 
 cond_parts-append : (b : Bool) (x : ℕ) (ps qs : List (List ℕ)) → 0 < length ps → cond b ([] ∷ (ps ++ qs)) (onto_first x (ps ++ qs)) ≡ cond b ([] ∷ ps) (onto_first x ps) ++ qs
-cond_parts-append true x ps qs h = refl
-cond_parts-append false x ps qs h = onto_first-append x ps qs h
+cond_parts-append b x ps qs h1 = grind (arith, common_steps, onto_first-append)
 
 -- a slash cuts a text in two
 pub parts-append : (xs ys : List ℕ) → parts (xs ++ 47 ∷ ys) ≡ parts xs ++ parts ys
@@ -24,12 +23,10 @@ parts-append [] ys = refl
 parts-append (x ∷ xs) ys = rw (parts-append xs ys) (cond_parts-append (is_slash x) x (parts xs) (parts ys) (parts_some xs))
 
 pub segments-append : (xs ys : List ℕ) → segments (xs ++ 47 ∷ ys) ≡ segments xs ++ parts ys
-segments-append [] ys = refl
-segments-append (x ∷ xs) ys = parts-append xs ys
+segments-append xs ys = grind (arith, common_steps, parts-append)
 
 cond_parts_whole : (b : Bool) (x : ℕ) (xs : List ℕ) (ps : List (List ℕ)) (n : ℕ) → (n ≡ length xs → ps ≡ xs ∷ []) → cond (not b) (1 + n) 0 ≡ suc (length xs) → cond b ([] ∷ ps) (onto_first x ps) ≡ (x ∷ xs) ∷ []
-cond_parts_whole true x xs ps n whole h = absurd (omega arith)
-cond_parts_whole false x xs ps n whole h = rw (whole (omega arith)) refl
+cond_parts_whole b x xs ps n h1 h2 = grind (arith, common_steps)
 
 -- a text without a slash is one part
 pub parts_whole : (xs : List ℕ) → position_or_len is_slash xs ≡ length xs → parts xs ≡ xs ∷ []
@@ -52,12 +49,10 @@ pub path_of-append : (ss ts : List (List ℕ)) → path_of (ss ++ ts) ≡ path_o
 path_of-append ss ts = flat_map-append (λ segment. 47 ∷ segment) ss ts
 
 path_of-onto_first : (x : ℕ) (xs : List ℕ) (ps : List (List ℕ)) → 0 < length ps → path_of ps ≡ 47 ∷ xs → path_of (onto_first x ps) ≡ 47 ∷ x ∷ xs
-path_of-onto_first x xs [] some h = absurd (omega arith)
-path_of-onto_first x xs (p ∷ ps) some h = let e : p ++ path_of ps ≡ xs = cc in ap (λ ys. 47 ∷ x ∷ ys) e
+path_of-onto_first x xs ps h1 h2 = grind (arith, common_steps)
 
 cond_path_of : (x : ℕ) (xs : List ℕ) (ps : List (List ℕ)) (b : Bool) → (b ≡ true → x ≡ 47) → 0 < length ps → path_of ps ≡ 47 ∷ xs → path_of (cond b ([] ∷ ps) (onto_first x ps)) ≡ 47 ∷ x ∷ xs
-cond_path_of x xs ps true is_47 some h = ap (λ ys. 47 ∷ ys) (h ∙ ap (λ y. y ∷ xs) (sym (is_47 refl)))
-cond_path_of x xs ps false is_47 some h = path_of-onto_first x xs ps some h
+cond_path_of x xs ps b h1 h2 h3 = grind (arith, common_steps, path_of-onto_first)
 
 pub slash-is : (x : ℕ) → is_slash x ≡ true → x ≡ 47
 slash-is x h = grind (arith, nat_tests)
@@ -69,19 +64,15 @@ path_of-parts (x ∷ xs) = cond_path_of x xs (parts xs) (is_slash x) (slash-is x
 
 -- a path is its segments, each led by a slash
 pub path_of-segments : (text : List ℕ) → IsTrue (is_path text) → path_of (segments text) ≡ text
-path_of-segments [] h = refl
-path_of-segments (x ∷ xs) h = path_of-parts xs ∙ ap (λ y. y ∷ xs) (sym (slash-is x h))
+path_of-segments text h1 = grind (arith, common_steps, path_of-parts, slash-is)
 
 -- ---- `strip_prefix` of a slash
 
 pub parts_stripped : (bs : List ℕ) (r : Option (Bor (List ℕ))) → MatchOption r ((rest : List ℕ) → bs ≢ 47 ∷ rest) (λ x. bs ≡ 47 ∷ x.now) → IsTrue (is_path bs) → option_map_or (λ rest. parts rest.now) r [] ≡ segments bs
-parts_stripped [] None h p = refl
-parts_stripped (y ∷ ys) None h p = absurd (h ys (ap (λ z. z ∷ ys) (slash-is y p)))
-parts_stripped bs (Some x) h p = rw h refl
+parts_stripped bs r h1 h2 = grind (arith, common_steps, slash-is)
 
 pub path_from_absolute : (text : List ℕ) → IsTrue (is_absolute text) → IsTrue (is_path text)
-path_from_absolute [] h = refl
-path_from_absolute (x ∷ xs) h = h
+path_from_absolute text h1 = grind (arith, common_steps)
 
 -- ---- equality by texts
 

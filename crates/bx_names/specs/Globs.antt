@@ -48,14 +48,9 @@ glob_text p = path_of p.segments ++ ending_text p.tail
 
 abbrev pub same_tail : Tail → Tail → Bool
 same_tail Exact Exact = true
-same_tail Exact One = false
-same_tail Exact Many = false
-same_tail One Exact = false
 same_tail One One = true
-same_tail One Many = false
-same_tail Many Exact = false
-same_tail Many One = false
 same_tail Many Many = true
+same_tail _ _ = false
 
 -- equality of lists of segments
 abbrev pub same_segments : List (List ℕ) → List (List ℕ) → Bool

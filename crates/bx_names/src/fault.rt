@@ -28,6 +28,7 @@ pub fn pattern_fault(text: &str) -> Option<NameError>
 }
 
 /// The text of a pattern without its wild segment, and what that segment is.
+#[tactic(auto, using(crate::proofs::GlobLemmas::cut))]
 pub(crate) fn split_tail(text: &str) -> (&str, Tail)
     ensures parts { text.now ≡ result.0.now ++ ending_text result.1 }
     ensures own { IsTrue (is_absolute text.now) → IsTrue (is_path result.0.now) }
@@ -44,6 +45,7 @@ pub(crate) fn split_tail(text: &str) -> (&str, Tail)
 }
 
 /// The first fault of a path whose part `own` may hold no star.
+#[tactic(auto, using(crate::proofs::WalkLemmas::star_segments))]
 fn path_fault(path: &str, own: &str) -> Option<NameError>
     requires { IsTrue (is_absolute path.now) → IsTrue (is_path own.now) }
     ensures fault { result ≡ path_fault path.now (segments own.now) }
@@ -76,6 +78,7 @@ struct Findings {
     segments: usize,
 }
 
+#[tactic(auto, using(crate::proofs::WalkLemmas::walked))]
 fn findings_of(path: &str) -> Findings
     requires { IsTrue (is_absolute path.now) }
     ensures empty { result.has_empty_segment ≡ list_any is_empty (segments path.now) }

@@ -8,12 +8,14 @@ use crate::name::ChannelName;
 use crate::pattern::Pattern;
 
 /// A pattern without a wild segment matches one name only: the one with its segments.
+#[tactic(auto, using(crate::proofs::MatchLemmas::exact_decides))]
 pub fn exact_pattern_matches_one_name(pattern: &Pattern, name: &ChannelName)
     requires { pattern.now.tail ≡ Exact }
     ensures { IsTrue (matches pattern.now name.now) ↔ (name.now ≡ pattern.now.segments) }
 {}
 
 /// A pattern that ends in `*` matches the names of its own length of which all but the last segment are its own.
+#[tactic(auto, using(crate::proofs::MatchLemmas::one_decides))]
 pub fn star_matches_one_more_segment(pattern: &Pattern, name: &ChannelName)
     requires { pattern.now.tail ≡ One }
     ensures { IsTrue (matches pattern.now name.now)
@@ -22,6 +24,7 @@ pub fn star_matches_one_more_segment(pattern: &Pattern, name: &ChannelName)
 {}
 
 /// A pattern that ends in `**` matches the names of which its own segments are a proper beginning.
+#[tactic(auto, using(crate::proofs::MatchLemmas::many_decides))]
 pub fn double_star_matches_any_longer_name(pattern: &Pattern, name: &ChannelName)
     requires { pattern.now.tail ≡ Many }
     ensures { IsTrue (matches pattern.now name.now)
@@ -38,6 +41,7 @@ pub fn stars_differ_on_depth(one: &Pattern, many: &Pattern, name: &ChannelName)
 {}
 
 /// A channel name is a pattern too, one without a wild segment.
+#[tactic(auto, using(crate::proofs::FaultLemmas::name_as_pattern))]
 pub fn name_reads_as_pattern(name: &ChannelName)
     ensures { read_pattern (path_of name.now) ≡ Ok (record { segments = name.now; tail = Exact }) }
 {

@@ -61,6 +61,7 @@ impl ChannelName {
     }
 
     /// The text of the name.
+    #[tactic(auto, using(crate::proofs::FaultLemmas::sound))]
     pub fn as_str(&self) -> &str
         ensures text { result.now ≡ path_of self.now }
         ensures reads_back { read_name result.now ≡ Ok self.now }

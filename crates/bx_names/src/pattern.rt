@@ -56,6 +56,7 @@ impl Pattern {
     }
 
     /// The text of the pattern.
+    #[tactic(auto, using(crate::proofs::FaultLemmas::sound))]
     pub fn as_str(&self) -> &str
         ensures text { result.now ≡ glob_text self.now }
         ensures reads_back { read_pattern result.now ≡ Ok self.now }

@@ -6,7 +6,7 @@ mod shows;
 use crate::requests::add_line;
 use crate::unlike::Unlike;
 use bx_ticks::Ticker;
-use bx_window::{LogReader, Naming, Opened, Refusal, log_pair};
+use bx_window::{LogReader, Naming, Opened, PublishFault, log_pair};
 use shows::shown;
 use std::alloc::Global;
 use std::marker::Brand;
@@ -94,7 +94,7 @@ fn publish<J: Naming, R: Wait + Drop>(
     let Err((back, why)) = writer.publish_bundle(alloc, bundle, count) else {
         return Ok(());
     };
-    if why != Refusal::Memory {
+    if why != PublishFault::Memory {
         return Err(Unlike::Wrong("the window is full"));
     }
     check_same(alloc, writer, reader, before)?;

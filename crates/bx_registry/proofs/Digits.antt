@@ -1,5 +1,5 @@
 -- The number behind a client id's nonce is read back.
-use Rattle.std.proofs.Common.{◌≡◌, ℕ, zero, suc, ◌+◌, ◌*◌, ◌/◌, ◌%◌, ◌^◌, ◌<◌, ◌≤◌, Bool, true, false, List, [], ◌∷◌, ◌++◌, length, drop, refl, sym, ap, subst, ◌∙◌, arith, length-append, eqb-true}
+use Rattle.std.proofs.Common.{◌≡◌, ℕ, zero, suc, ◌+◌, ◌*◌, ◌/◌, ◌%◌, ◌^◌, ◌<◌, ◌≤◌, Bool, true, false, List, [], ◌∷◌, length, drop, refl, sym, ap, ◌∙◌, arith, length-append}
 use Rattle.std.specs.Prelude.{if◌then◌else◌, ◌==◌, ◌&&◌, Option, Some, None}
 use Rattle.std.specs.{Str.bytes_eq, Char.digit_char}
 use Rattle.std.proofs.lemmas.{Slice.Eq.bytes_eq-Decides, Grind.common_steps, Bool.Decides.nat_tests, Nat.div-add-mod', List.Sums.fold-append, Bool.eqb-false}
@@ -38,9 +38,7 @@ number_in-named r named small = ap hex_value named ∙ hex_value-digits 16 r.num
 
 -- a client id ends in its number's digits
 pub drop-client_id : (nonce number : ℕ) → drop 32 (client_id nonce number) ≡ hex_digits 16 number
-drop-client_id nonce number =
-    let digits : length (hex_digits 32 nonce) ≡ 32 = length-hex_digits 32 nonce in
-    subst (λ (k : ℕ). drop k (hex_digits 32 nonce ++ hex_digits 16 number) ≡ hex_digits 16 number) digits (drop-append_seam (hex_digits 32 nonce) (hex_digits 16 number))
+drop-client_id nonce number = grind (arith, common_steps, length-hex_digits, drop-append_seam)
 
 -- ---- a client id names its session
 
@@ -54,9 +52,7 @@ found-next : (r : Registered) (rest : Option Registered) (text : List ℕ) → r
 found-next r rest text lives b e = ap (λ (c : Bool). if c && bytes_eq r.client text then Some r else rest) lives ∙ ap (λ (c : Bool). if c then Some r else rest) e
 
 not-same : (client text : List ℕ) → bytes_eq client text ≡ false → client ≡ text → ⊥
-not-same client text e same =
-    let yes : bytes_eq client text ≡ true = (bytes_eq-Decides client text).1 same in
-    cc
+not-same client text e same = grind (arith, common_steps, bytes_eq-Decides)
 
 of-some : (known k : List ℕ × Bool) → Some known ≡ Some k → known ≡ k
 of-some known k e = cc
@@ -82,17 +78,8 @@ finds-by low high r rs text t small all ih true e true f =
       (λ other. absurd (other (known_of r) refl same)),
     )
 finds-by low high r rs text t small all ih true e false f = absurd (eqb-false r.number (number_in text) f (sym (number-of low high r rs text t small e)))
-finds-by low high r rs text t small all ih false e true f =
-    let past : live_with_id (r ∷ rs) text ≡ live_with_id rs text = found-next r (live_with_id rs text) text all.0 false e in
-    let number : r.number ≡ number_in text = eqb-true r.number (number_in text) f in (
-      (λ k known is. absurd (not-same r.client text e (ap (λ (x : List ℕ × Bool). x.0) (of-some (known_of r) k known) ∙ is))),
-      (λ other. past ∙ found-none r.number high rs text t.2 small all.1 (omega (arith, number))),
-    )
-finds-by low high r rs text t small all ih false e false f =
-    let past : live_with_id (r ∷ rs) text ≡ live_with_id rs text = found-next r (live_with_id rs text) text all.0 false e in (
-      (λ k known is. rw past (ih.0 k known is)),
-      (λ other. past ∙ ih.1 other),
-    )
+finds-by low high r rs text t small all ih false e true f = grind (arith, common_steps, found-next, not-same, of-some, found-none)
+finds-by low high r rs text t small all ih false e false f = grind (arith, common_steps, found-next)
 
 pub finds : (low high : ℕ) (rs : List Registered) (text : List ℕ) → IsTable low high rs → high < 2 ^ 64 → AllLive rs → Finds rs text (known_at (number_in text) rs)
 finds low high [] text t small all = ((λ k known is. cc), (λ other. refl))

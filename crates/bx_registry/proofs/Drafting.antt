@@ -1,7 +1,7 @@
 -- The sessions behind the edits of a request.
 use Rattle.std.proofs.Common.{◌≡◌, ℕ, ◌+◌, ◌-◌, Bool, false, List, [], ◌∷◌, ◌++◌, length, length-append, map, fold, refl, sym, ap, subst, ◌∙◌, cond, arith}
 use Rattle.std.specs.Prelude.{◌==◌, max, Option, Some, None, IsSome, if◌then◌else◌}
-use Rattle.std.proofs.lemmas.{Grind.common_steps, List.length-map, List.Sums.fold-append}
+use Rattle.std.proofs.lemmas.{Grind.common_steps, List.length-map, List.take_all, List.Sums.fold-append}
 use Rattle.std.specs.Option.{option_or}
 use Rattle.bx_entry.specs.Registry.{Registered, extended, closed}
 use Rattle.bx_roster.proofs.{Sessions.AllLive-push, Live.live_in-extended}
@@ -113,9 +113,7 @@ known_at-closed n m [] all = none-either (m == n) None
 known_at-closed n m (r ∷ rs) all = grind (arith, common_steps, known_at-closed n m rs all.1)
 
 known_at-edited : (n : ℕ) (ms : Members) (e : Edit) → AllLive ms.live → known_at n (edited ms e).live ≡ known_after n (known_at n ms.live) e
-known_at-edited n ms (Open s) all = known_at-push n ms.live s
-known_at-edited n ms (Extend m due) all = ap (known_at n) (extend-all m due ms.live all) ∙ known_at-map n _ ms.live (λ r. changed-number due r _) (λ r. changed-known due r _)
-known_at-edited n ms (Close m) all = known_at-closed n m ms.live all
+known_at-edited n ms e h1 = grind (arith, common_steps, known_at-push, extend-all, known_at-map, changed-number, changed-known, known_at-closed)
 
 AllLive-edited : (ms : Members) (e : Edit) → AllLive ms.live → CanEdit ms e → AllLive (edited ms e).live
 AllLive-edited ms (Open s) all can = AllLive-push ms.live s all can.live
@@ -126,3 +124,9 @@ pub known_at-all : (n : ℕ) (ms : Members) (es : List Edit) → AllLive ms.live
 known_at-all n ms [] all can = refl
 known_at-all n ms (e ∷ es) all can =
     known_at-all n (edited ms e) es (AllLive-edited ms e all can.0) can.1 ∙ ap (λ (o : Option (List ℕ × Bool)). fold (known_after n) o es) (known_at-edited n ms e all)
+
+-- ---- what a draft's functions are proved by
+
+pub ruleset counting = (live_in-all, common_steps)
+
+pub ruleset knowing = (known_at-all, take_all, common_steps)

@@ -1,21 +1,21 @@
 -- What a message comes to, by the edit, the entry and the slot that are made for it.
-use Rattle.std.proofs.Common.{◌≡◌, ℕ, ◌+◌, ◌<◌, ◌^◌, Bool, true, false, List, [], ◌∷◌, ◌++◌, length, refl, sym, ap, subst, ◌∙◌, arith, Result, Ok, Err}
+use Rattle.std.proofs.Common.{◌≡◌, ℕ, ◌+◌, ◌<◌, ◌^◌, Bool, true, false, List, [], ◌∷◌, ◌++◌, length, refl, sym, ap, subst, arith, Result, Ok, Err, not, get_or}
 use Rattle.std.specs.Prelude.{nat_le, Option, Some, None, IsSome, IfOk, MatchOption, is_some, option_map, if◌then◌else◌}
-use Rattle.std.proofs.lemmas.{Bool.cond-true, Bool.leb-false, Grind.common_steps}
-use Rattle.bx_names.specs.Faults.{first_case}
+use Rattle.std.proofs.lemmas.{Bool.cond-true, Bool.leb-false, Grind.common_steps, List.Folds.list_any_at}
+use Rattle.bx_names.specs.Faults.{first_case, pattern_fault}
 use Rattle.bx_advice.specs.declared.{config.Config.Config, error.Error.Error}
 use Rattle.bx_registry.specs.declared.{draft.Sender.Sender, judge.Judgement.Judgement}
-use Rattle.bx_registry.specs.Words.{named, state_of, IsSender, planned_at, edit_for, IsRidden, IsVerdict}
+use Rattle.bx_registry.specs.Judgements.{has_fault}
+use Rattle.bx_registry.specs.Words.{named, state_of, IsSender, edit_for, IsRidden, IsVerdict}
 use Rattle.bx_advice.specs.declared.advice.Outcome.TheVariants.{Failed}
 use Rattle.bx_advice.specs.declared.advice.Outcome.TheVariants as advice
 use Rattle.bx_message.specs.declared.{message_kind.MessageKind.MessageKind, message.Message.Message, message.TextMember.TextMember}
-use Rattle.bx_message.specs.declared.message_kind.MessageKind.TheVariants.{Handshake, Disconnect, UnknownMeta}
-use Rattle.bx_message.specs.declared.message.TextMember.TheVariants.{Text}
+use Rattle.bx_message.specs.declared.message_kind.MessageKind.TheVariants.{Handshake}
 use Rattle.bx_message.specs.declared.reply.AckReply.TheVariants as replies
 use Rattle.bx_message.specs.MessageKinds.{message_kind_of, is_handshake}
 use Rattle.bx_message.specs.Replies.{reply_to}
-use Rattle.bx_entry.specs.Words.{Posted, due_of, newcomer, rider_by, sessionless_kind, verdict, judged_by, unnamed, Registered, cases_of, client_id, closed, count_live, extended, hold_of, is_ack, is_rider, joined, kind_for, left_by, live_with_id, named_by, refusal, rider_for, sender_of, senders_behind, slot_for, slot_with, PlaceSlot}
-use Rattle.bx_entry.specs.declared.{entry.Rider.Rider, senders.Senders.Senders}
+use Rattle.bx_entry.specs.Words.{Posted, due_of, newcomer, rider_by, sessionless_kind, verdict, judged_by, unnamed, Registered, cases_of, client_id, closed, count_live, extended, hold_of, is_ack, joined, kind_for, left_by, live_with_id, named_by, refusal, sender_of, senders_behind, slot_for}
+use Rattle.bx_entry.specs.declared.{senders.Senders.Senders}
 use Rattle.bx_entry.specs.declared.senders.Senders.TheVariants.{Mixed}
 use Rattle.bx_entry.specs.declared.entry.EntryKind.TheVariants as entries
 use Rattle.bx_roster.specs.Words.{Members, live_in, with_live, known_at, AllLive, edited, CanEdit}
@@ -28,74 +28,6 @@ pub all_four : {T E : Type 0} (r : Result T E) (P Q R S X : T → Type 0) → ((
 all_four (Ok x) P Q R S X f p q r s = f x p q r s
 all_four (Err e) P Q R S X f p q r s = tt
 
--- ---- a refused message
-
--- the sessions of a table are as they were where nothing comes of them
-same-members : (ms : Members) → AllLive ms.live → ms ≡ record ms { live = live_in ms.live }
-same-members ms all = ap (λ (live : List Registered). record ms { live = live }) (sym (live_in-all ms.live all))
-
-pub refused-verdict : (config : Config) (ms : Members) (senders : Senders) (moment place : ℕ) (p : Posted) (error : Error) (j : Judgement) (client : Option (List ℕ)) → AllLive ms.live →
-    refusal config ms.live p ≡ Some error → client ≡ option_map (λ (s : Registered). s.client) (named_by ms.live (message_kind_of p.message.channel) p.message) →
-    j.edit ≡ None → (j.kind ≡ entries.Refused) × (j.rides ≡ None) → j.senders ≡ senders_behind p Mixed →
-    j.slot ≡ Ready (reply_to config (message_kind_of p.message.channel) p.message client (Failed error) replies.NoAck) →
-    IsVerdict ms place (verdict config (state_of ms senders) moment p) j
-refused-verdict config ms senders moment place p error j client all is who e f behind g = rw is record {
-  members = rw e (same-members ms all);
-  can = rw e tt;
-  behind = behind;
-  what = f.0;
-  rider = f.1;
-  answer = rw (g, who) refl;
-}
-
--- ---- a handshake
-
--- where nothing refuses a handshake, there is room for one more session
-room : (config : Config) (live : List Registered) (p : Posted) → first_case (cases_of config live p Handshake) ≡ None → nat_le config.limits.sessions (count_live live) ≡ false
-room config live p h = grind (arith, common_steps)
-
-pub handshake-kind : (m : Message) → is_handshake m ≡ true → message_kind_of m.channel ≡ Handshake
-handshake-kind m h = cond-true (is_handshake m) Handshake _ h
-
-pub opened-verdict : (config : Config) (ms : Members) (senders : Senders) (moment place n : ℕ) (p : Posted) (j : Judgement) →
-    AllLive ms.live → ms.limit ≡ config.limits.sessions → n ≡ ms.opened + 1 → n < 2 ^ 64 → is_handshake p.message ≡ true →
-    refusal config ms.live p ≡ None → named_by ms.live (message_kind_of p.message.channel) p.message ≡ None →
-    j.edit ≡ Some (Open (newcomer config moment p n)) → (j.kind ≡ entries.Opened n (is_ack p.message.ack)) × (j.rides ≡ None) → j.senders ≡ senders_behind p Mixed →
-    j.slot ≡ Ready (reply_to config Handshake p.message (Some (client_id p.nonce n)) advice.Opened (if is_ack p.message.ack then replies.AckTrue else replies.NoAck)) →
-    IsVerdict ms place (verdict config (state_of ms senders) moment p) j
-opened-verdict config ms senders moment place n p j all limit number small opens is who e f behind g =
-    let full = room config ms.live p (subst (λ (k : MessageKind). first_case (cases_of config ms.live p k) ≡ None) (handshake-kind p.message opens) is) in
-    let free : length ms.live < ms.limit = omega (arith, leb-false config.limits.sessions (count_live ms.live) full, limit, ap length (live_in-all ms.live all)) in
-    let one : IsVerdict ms place (unnamed config (state_of ms senders) moment p true) j = record {
-      members = rw (e, number) (same-members (record ms { opened = ms.opened + 1; live = ms.live ++ newcomer config moment p (ms.opened + 1) ∷ [] }) (AllLive-push ms.live _ all refl));
-      can = rw (e, number) (record { room = free; number = refl; small = rw (← number) small; named = drop-client_id p.nonce (ms.opened + 1); live = refl }, tt);
-      behind = behind;
-      what = rw (f.0, number) refl;
-      rider = f.1;
-      answer = rw (g, number) refl;
-    } in
-    rw (is, who) (subst (λ (b : Bool). IsVerdict ms place (unnamed config (state_of ms senders) moment p b) j) (sym opens) one)
-
--- ---- a message of no session
-
-pub sessionless-verdict : (config : Config) (ms : Members) (senders : Senders) (moment place : ℕ) (p : Posted) (j : Judgement) → AllLive ms.live →
-    is_handshake p.message ≡ false → refusal config ms.live p ≡ None → named_by ms.live (message_kind_of p.message.channel) p.message ≡ None →
-    j.edit ≡ None → (j.kind ≡ sessionless_kind (message_kind_of p.message.channel) p.message) × (j.rides ≡ None) → j.senders ≡ senders_behind p Mixed →
-    j.slot ≡ Ready (reply_to config (message_kind_of p.message.channel) p.message None advice.Done replies.NoAck) →
-    IsVerdict ms place (verdict config (state_of ms senders) moment p) j
-sessionless-verdict config ms senders moment place p j all other is who e f behind g =
-    let one : IsVerdict ms place (unnamed config (state_of ms senders) moment p false) j = record {
-      members = rw e (same-members ms all);
-      can = rw e tt;
-      behind = behind;
-      what = f.0;
-      rider = f.1;
-      answer = rw g refl;
-    } in
-    rw (is, who) (subst (λ (b : Bool). IsVerdict ms place (unnamed config (state_of ms senders) moment p b) j) (sym other) one)
-
--- ---- the session that is named
-
 -- the code's finding, by its number, its client id and whether it acknowledges
 abbrev pub IsFound : Option Sender → Option Registered → Type 0
 IsFound o r = MatchOption o (r ≡ None) (λ s. IsSender r s.number s.client.now s.ack)
@@ -106,18 +38,68 @@ found-known o r e = grind (arith, common_steps)
 pub found-client : (o : Option Sender) (r : Option Registered) → IsFound o r → option_map (λ (s : Sender). s.client.now) o ≡ option_map (λ (s : Registered). s.client) r
 found-client o r e = grind (arith, common_steps)
 
+-- ---- a refused message
+
+-- the sessions of a table are as they were where nothing comes of them
+same-members : (ms : Members) → AllLive ms.live → ms ≡ record ms { live = live_in ms.live }
+same-members ms all = ap (λ (live : List Registered). record ms { live = live }) (sym (live_in-all ms.live all))
+
+pub refused-verdict : (config : Config) (ms : Members) (senders : Senders) (moment place : ℕ) (p : Posted) (message_kind : MessageKind) (error : Error) (o : Option Sender) (j : Judgement) →
+    message_kind ≡ message_kind_of p.message.channel → AllLive ms.live → refusal config ms.live p ≡ Some error → IsFound o (named_by ms.live message_kind p.message) →
+    j.edit ≡ None → (j.kind ≡ entries.Refused) × (j.rides ≡ None) → j.senders ≡ senders_behind p Mixed →
+    j.slot ≡ Ready (reply_to config message_kind p.message (option_map (λ (s : Sender). s.client.now) o) (Failed error) replies.NoAck) →
+    IsVerdict ms place (verdict config (state_of ms senders) moment p) j
+refused-verdict config ms senders moment place p message_kind error o j k all is found e f behind g =
+    grind (arith, common_steps, same-members, found-client)
+
+-- ---- a handshake
+
+-- where nothing refuses a handshake, there is room for one more session
+room : (config : Config) (live : List Registered) (p : Posted) → first_case (cases_of config live p Handshake) ≡ None → nat_le config.limits.sessions (count_live live) ≡ false
+room config live p h = grind (arith, common_steps)
+
+pub handshake-kind : (m : Message) → is_handshake m ≡ true → message_kind_of m.channel ≡ Handshake
+handshake-kind m h = cond-true (is_handshake m) Handshake _ h
+
+pub opened-verdict : (config : Config) (ms : Members) (senders : Senders) (moment place n : ℕ) (p : Posted) (message_kind : MessageKind) (j : Judgement) →
+    message_kind ≡ message_kind_of p.message.channel → AllLive ms.live → ms.limit ≡ config.limits.sessions → n ≡ ms.opened + 1 → n < 2 ^ 64 → is_handshake p.message ≡ true →
+    refusal config ms.live p ≡ None → named_by ms.live message_kind p.message ≡ None →
+    j.edit ≡ Some (Open (newcomer config moment p n)) → (j.kind ≡ entries.Opened n (is_ack p.message.ack)) × (j.rides ≡ None) → j.senders ≡ senders_behind p Mixed →
+    j.slot ≡ Ready (reply_to config Handshake p.message (Some (client_id p.nonce n)) advice.Opened (if is_ack p.message.ack then replies.AckTrue else replies.NoAck)) →
+    IsVerdict ms place (verdict config (state_of ms senders) moment p) j
+opened-verdict config ms senders moment place n p message_kind j k all limit number small opens is who e f behind g =
+    let full = room config ms.live p (rw (handshake-kind p.message opens) at is) in
+    let free : length ms.live < ms.limit = omega (arith, leb-false config.limits.sessions (count_live ms.live) full, limit, ap length (live_in-all ms.live all)) in
+    let one : IsVerdict ms place (unnamed config (state_of ms senders) moment p true) j = record {
+      members = rw (e, number) (same-members (record ms { opened = ms.opened + 1; live = ms.live ++ newcomer config moment p (ms.opened + 1) ∷ [] }) (AllLive-push ms.live _ all refl));
+      can = rw (e, number) (record { room = free; number = refl; small = rw (← number) small; named = drop-client_id p.nonce (ms.opened + 1); live = refl }, tt);
+      behind = behind;
+      what = rw (f.0, number) refl;
+      rider = f.1;
+      answer = rw (g, number) refl;
+    } in
+    rw (is, ← k, who) (subst (λ (b : Bool). IsVerdict ms place (unnamed config (state_of ms senders) moment p b) j) (sym opens) one)
+
+-- ---- a message of no session
+
+pub sessionless-verdict : (config : Config) (ms : Members) (senders : Senders) (moment place : ℕ) (p : Posted) (message_kind : MessageKind) (j : Judgement) →
+    message_kind ≡ message_kind_of p.message.channel → AllLive ms.live → is_handshake p.message ≡ false → refusal config ms.live p ≡ None → named_by ms.live message_kind p.message ≡ None →
+    j.edit ≡ None → (j.kind ≡ sessionless_kind message_kind p.message) × (j.rides ≡ None) → j.senders ≡ senders_behind p Mixed →
+    j.slot ≡ Ready (reply_to config message_kind p.message None advice.Done replies.NoAck) →
+    IsVerdict ms place (verdict config (state_of ms senders) moment p) j
+sessionless-verdict config ms senders moment place p message_kind j k all other is who e f behind g = grind (arith, common_steps, same-members)
+
+-- ---- the session that is named
+
 found-at : (r : Registered) (rs : List Registered) (text : List ℕ) → live_with_id rs text ≡ Some r → IsSome (known_at r.number rs)
 found-at r [] text e = cc
 found-at r (s ∷ rs) text e = grind (arith, common_steps, found-at r rs text)
 
 sender-at : (r : Registered) (rs : List Registered) (client : TextMember) → sender_of rs client ≡ Some r → IsSome (known_at r.number rs)
-sender-at r rs (Text text) e = found-at r rs text e
-sender-at r rs _ e = cc
+sender-at r rs client h1 = grind (arith, common_steps, found-at)
 
 named-at : (r : Registered) (rs : List Registered) (message_kind : MessageKind) (m : Message) → named_by rs message_kind m ≡ Some r → IsSome (known_at r.number rs)
-named-at r rs Handshake m e = cc
-named-at r rs UnknownMeta m e = cc
-named-at r rs _ m e = sender-at r rs m.client e
+named-at r rs message_kind m h1 = grind (arith, common_steps, sender-at)
 
 -- ---- an accepted message of a session
 
@@ -126,12 +108,10 @@ closed-extended n due [] = refl
 closed-extended n due (r ∷ rs) = grind (arith, common_steps, closed-extended n due rs)
 
 edited-for : (ms : Members) (message_kind : MessageKind) (n due : ℕ) → edited ms (edit_for message_kind n due) ≡ with_live ms (live_in (left_by message_kind n (extended n due ms.live)))
-edited-for ms Disconnect n due = ap (with_live ms) (sym (closed-extended n due ms.live))
-edited-for ms _ n due = refl
+edited-for ms message_kind n due = grind (arith, common_steps, closed-extended)
 
 can-for : (ms : Members) (message_kind : MessageKind) (n due : ℕ) → IsSome (known_at n ms.live) → CanEdit ms (edit_for message_kind n due)
-can-for ms Disconnect n due some = some
-can-for ms _ n due some = tt
+can-for ms message_kind n due h1 = grind (arith, common_steps)
 
 kind-for : (message_kind : MessageKind) (p : Posted) (s : Sender) (r : Registered) (hold : ℕ) → r.number ≡ s.number → r.client ≡ s.client.now → kind_for message_kind p (named s) hold ≡ kind_for message_kind p r hold
 kind-for message_kind p s r hold e f = grind (arith, common_steps)
@@ -141,36 +121,38 @@ slot-for config message_kind p s r e f = grind (arith, common_steps)
 
 ridden-for : (config : Config) (senders : Senders) (message_kind : MessageKind) (p : Posted) (s : Sender) (r : Registered) → r.number ≡ s.number → r.client ≡ s.client.now → r.ack ≡ s.ack →
     rider_by config senders message_kind p (named s) ≡ rider_by config senders message_kind p r
-ridden-for config senders message_kind p s r e f a =
-    ap (λ (answer : PlaceSlot). rider_for (is_rider config senders message_kind p (named s)) s.number answer) (slot-for config message_kind p s r e f) ∙ rw (e, a) refl
+ridden-for config senders message_kind p s r e f a = grind (arith, common_steps, slot-for)
 
-served-by : (config : Config) (ms : Members) (senders : Senders) (moment place due : ℕ) (p : Posted) (s : Sender) (o : Option Registered) (j : Judgement) →
-    o ≡ named_by ms.live (message_kind_of p.message.channel) p.message → IsSender o s.number s.client.now s.ack → due ≡ due_of config moment (hold_of config p) →
-    j.edit ≡ Some (edit_for (message_kind_of p.message.channel) s.number due) → j.kind ≡ kind_for (message_kind_of p.message.channel) p (named s) (hold_of config p) →
-    j.senders ≡ senders_behind p (joined senders s.number) →
-    IsRidden place (rider_by config senders (message_kind_of p.message.channel) p (named s)) (slot_for config (message_kind_of p.message.channel) p (named s)) j.rides j.slot →
+served-by : (config : Config) (ms : Members) (senders : Senders) (moment place due : ℕ) (p : Posted) (message_kind : MessageKind) (s : Sender) (o : Option Registered) (j : Judgement) →
+    message_kind ≡ message_kind_of p.message.channel → o ≡ named_by ms.live message_kind p.message → IsSender o s.number s.client.now s.ack → due ≡ due_of config moment (hold_of config p) →
+    j.edit ≡ Some (edit_for message_kind s.number due) → j.kind ≡ kind_for message_kind p (named s) (hold_of config p) → j.senders ≡ senders_behind p (joined senders s.number) →
+    IsRidden place (rider_by config senders message_kind p (named s)) (slot_for config message_kind p (named s)) j.rides j.slot →
     IsVerdict ms place (judged_by config (state_of ms senders) moment p o None) j
-served-by config ms senders moment place due p s None j is who d e f behind g = absurd who
-served-by config ms senders moment place due p s (Some r) j is who d e f behind g =
-    let message_kind = message_kind_of p.message.channel in
-    let some : IsSome (known_at s.number ms.live) = rw (← who.0) (named-at r ms.live message_kind p.message (sym is)) in
-    let rider = ridden-for config senders message_kind p s r who.0 who.1 who.2 in
-    let slot = slot-for config message_kind p s r who.0 who.1 in
-    record {
-      members = rw (e, d, ← who.0) (edited-for ms message_kind r.number (due_of config moment (hold_of config p)));
-      can = rw e (can-for ms message_kind s.number due some, tt);
-      behind = behind ∙ ap (λ (n : ℕ). senders_behind p (joined senders n)) (sym who.0);
-      what = f ∙ kind-for message_kind p s r (hold_of config p) who.0 who.1;
-      rider = g.same ∙ rider;
-      answer = sym (ap (λ (rider : Option Rider). planned_at place (slot_with rider (slot_for config message_kind p (named s)))) rider
-          ∙ ap (λ (answer : PlaceSlot). planned_at place (slot_with (rider_for (is_rider config senders message_kind p r) r.number (slot_for config message_kind p r)) answer)) slot) ∙ g.answered;
-    }
+served-by config ms senders moment place due p message_kind s o j h1 h2 h3 h4 h5 h6 h7 h8 =
+    grind (arith, common_steps, named-at, ridden-for, slot-for, edited-for, can-for, kind-for)
 
-pub served-verdict : (config : Config) (ms : Members) (senders : Senders) (moment place : ℕ) (p : Posted) (s : Sender) (j : Judgement) →
-    refusal config ms.live p ≡ None → IsSender (named_by ms.live (message_kind_of p.message.channel) p.message) s.number s.client.now s.ack →
-    j.edit ≡ Some (edit_for (message_kind_of p.message.channel) s.number (due_of config moment (hold_of config p))) → j.kind ≡ kind_for (message_kind_of p.message.channel) p (named s) (hold_of config p) →
+pub served-verdict : (config : Config) (ms : Members) (senders : Senders) (moment place : ℕ) (p : Posted) (message_kind : MessageKind) (s : Sender) (j : Judgement) →
+    message_kind ≡ message_kind_of p.message.channel → refusal config ms.live p ≡ None → IsSender (named_by ms.live message_kind p.message) s.number s.client.now s.ack →
+    j.edit ≡ Some (edit_for message_kind s.number (due_of config moment (hold_of config p))) → j.kind ≡ kind_for message_kind p (named s) (hold_of config p) →
     j.senders ≡ senders_behind p (joined senders s.number) →
-    IsRidden place (rider_by config senders (message_kind_of p.message.channel) p (named s)) (slot_for config (message_kind_of p.message.channel) p (named s)) j.rides j.slot →
+    IsRidden place (rider_by config senders message_kind p (named s)) (slot_for config message_kind p (named s)) j.rides j.slot →
     IsVerdict ms place (verdict config (state_of ms senders) moment p) j
-served-verdict config ms senders moment place p s j is who e f behind g =
-    rw is (served-by config ms senders moment place (due_of config moment (hold_of config p)) p s (named_by ms.live (message_kind_of p.message.channel) p.message) j refl who refl e f behind g)
+served-verdict config ms senders moment place p message_kind s j k is who e f behind g =
+    rw (is, ← k) (served-by config ms senders moment place _ p message_kind s (named_by ms.live message_kind p.message) j k refl who refl e f behind g)
+
+-- ---- patterns
+
+none_of : {A : Type 0} (o : Option A) → is_some o ≡ false → o ≡ None
+none_of None h = refl
+none_of (Some x) h = cc
+
+-- where no text has a fault, none has one at any index
+pub no_fault_at : (texts : List (List ℕ)) (i : ℕ) (d : List ℕ) → i < length texts → has_fault texts ≡ false → pattern_fault (get_or texts i d) ≡ None
+no_fault_at texts i d within none = grind (arith, common_steps, none_of, list_any_at)
+
+pub ruleset reading = (no_fault_at, common_steps)
+
+pub is_not : (b : Bool) → true ≡ not b → b ≡ false
+is_not b h1 = grind (arith, common_steps)
+
+pub ruleset accepted = (is_not, common_steps)

@@ -1,16 +1,14 @@
 -- A request opens at most one session.
-use Rattle.std.proofs.Common.{◌≡◌, ℕ, ◌+◌, ◌≤◌, Bool, true, false, List, [], ◌∷◌, fold, refl, ap, ◌∙◌, arith}
+use Rattle.std.proofs.Common.{◌≡◌, ℕ, ◌+◌, ◌≤◌, Bool, true, List, [], ◌∷◌, fold, refl, arith}
 use Rattle.std.specs.Prelude.{◌&&◌, ◌||◌, ◌==◌, max, length, if◌then◌else◌, Option, Some}
 use Rattle.std.proofs.lemmas.Grind.{common_steps}
-use Rattle.bx_names.specs.Faults.{first_case}
 use Rattle.bx_advice.specs.declared.{config.Config.Config, error.Error.Error}
 use Rattle.bx_advice.specs.declared.error.Error.TheVariants.{SecondHandshake}
 use Rattle.bx_message.specs.declared.message.Message.{Message}
 use Rattle.bx_message.specs.MessageKinds.{message_kind_of, is_handshake}
-use Rattle.bx_entry.specs.Words.{Posted, Post, listed_from, request, Registered, State, cases_of, judged_by, named_by, refusal}
+use Rattle.bx_entry.specs.Words.{Posted, Post, listed_from, request, Registered, State, judged_by, named_by, refusal}
 use Rattle.bx_roster.specs.Words.{Members, CanEdit, CanEditEach, edited, opened_by, opened_by_each}
 use Rattle.bx_roster.specs.declared.edit.Edit.{Edit}
-use Rattle.bx_roster.specs.declared.edit.Edit.TheVariants.{Open}
 use Rattle.bx_roster.specs.declared.edit.Edits.TheVariants.{Each}
 use Rattle.bx_registry.specs.Words.{Roll, after, next, state_of, changed}
 use Rattle.bx_registry.proofs.Judging.{handshake-kind}
@@ -19,16 +17,10 @@ use Rattle.bx_registry.proofs.Judging.{handshake-kind}
 abbrev left : Bool → ℕ
 left seen = if seen then 0 else 1
 
-left-more : (seen h : Bool) → left (seen || h) ≤ left seen
-left-more true h = omega arith
-left-more false true = omega arith
-left-more false false = omega arith
-
 -- ---- a message
 
 second-refused : (config : Config) (sessions : List Registered) (p : Posted) → is_handshake p.message ≡ true → p.second ≡ true → refusal config sessions p ≡ Some SecondHandshake
-second-refused config sessions p h second =
-    ap (λ kind. first_case (cases_of config sessions p kind)) (handshake-kind p.message h) ∙ rw second refl
+second-refused config sessions p h second = grind (arith, common_steps, handshake-kind)
 
 judged-once : (config : Config) (state : State) (moment : ℕ) (p : Posted) (seen : Bool) → p.second ≡ (seen && is_handshake p.message) →
     (sender : Option Registered) (fault : Option Error) → refusal config state.sessions p ≡ fault →
@@ -48,8 +40,7 @@ after-once roll moment nonce sole seen (m ∷ ms) =
 -- ---- the edits that were planned for it
 
 opened-edit : (ms : Members) (e : Edit) → CanEdit ms e → (edited ms e).opened ≡ ms.opened + opened_by e
-opened-edit ms (Open s) can = can.number
-opened-edit ms _ can = omega arith
+opened-edit ms e h1 = grind (arith, common_steps)
 
 opened-edits : (ms : Members) (es : List Edit) → CanEditEach ms es → (fold edited ms es).opened ≡ ms.opened + opened_by_each es
 opened-edits ms [] can = omega arith
@@ -57,5 +48,4 @@ opened-edits ms (e ∷ es) can = omega (arith, opened-edits (edited ms e) es can
 
 pub few-opened : (roll : Roll) (moment nonce : ℕ) (ms : List Message) (es : List Edit) (now end : ℕ) → CanEditEach roll.members es →
     changed roll (record { edits = Each es; clock = now; length = end }) ≡ after roll (request moment nonce ms) → opened_by_each es ≤ 1
-few-opened roll moment nonce ms es now end can same =
-    omega (arith, opened-edits roll.members es can, ap (λ (r : Roll). r.members.opened) same, after-once roll moment nonce (length ms == 1) false ms)
+few-opened roll moment nonce ms es now end can same = grind (arith, common_steps, opened-edits, after-once)

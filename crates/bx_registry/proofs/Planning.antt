@@ -12,7 +12,7 @@ use Rattle.bx_entry.specs.declared.senders.Senders.TheVariants.{NoneYet}
 use Rattle.bx_roster.specs.Words.{Members, CanEditEach, edited, edited_by}
 use Rattle.bx_registry.specs.Words.{Roll, after, found, next, state_of, step, Drafted, members_of, Amendment, IsPlannedAt, IsWithin, changed, checked, fault_of, entries_in, slots_in, IsFoundAt, IsPlannedBy, roll_between, roll_with}
 use Rattle.bx_roster.specs.declared.edit.{Edit.Edit, Edits.Edits}
-use Rattle.bx_roster.specs.declared.edit.Edits.TheVariants.{Each, Sweep}
+use Rattle.bx_roster.specs.declared.edit.Edits.TheVariants.{Each}
 use Rattle.bx_registry.proofs.Drafting.{limit-same}
 use Rattle.bx_registry.specs.declared.plan.Planned.{Planned}
 
@@ -24,10 +24,7 @@ judged-last : (config : Config) (state : State) (moment : ℕ) (p : Posted) (sen
 judged-last config state moment p sender fault last = grind (arith, common_steps)
 
 after-last : (roll : Roll) (moment nonce : ℕ) (sole seen : Bool) (m : Message) (ms : List Message) → (after roll (listed_from moment nonce sole seen (m ∷ ms))).senders ≡ NoneYet
-after-last roll moment nonce sole seen m [] =
-    let p : Posted = record { message = m; moment = moment; nonce = nonce; sole = sole; last = true; second = seen && is_handshake m } in
-    let live = roll.members.live in
-    judged-last roll.config (state_of roll.members roll.senders) (max roll.clock moment) p (named_by live (message_kind_of m.channel) m) (refusal roll.config live p) refl
+after-last roll moment nonce sole seen m [] = grind (arith, common_steps, judged-last)
 after-last roll moment nonce sole seen m (n ∷ ms) =
     let p : Posted = record { message = m; moment = moment; nonce = nonce; sole = sole; last = length (n ∷ ms) == 0; second = seen && is_handshake m } in
     after-last (next roll (Post p)) moment nonce sole (seen || is_handshake m) n ms
@@ -48,11 +45,11 @@ pub record SoFar (config : Config) (before base : Members) (clock first : ℕ) (
   pub moment : now ≤ greatest_moment
   pub end : place + length rest ≡ first + length list
 
-pub one_next : (config : Config) (before base : Members) (clock first : ℕ) (list rest : List Listed) (d e : Drafted) (senders behind : Senders) (now place : ℕ) (es : List Entry) (ss : List Planned) (p : Posted) (entry : Entry) (slot : Planned) →
+pub one_next : {config : Config} {before base : Members} {clock first : ℕ} {list rest : List Listed} {d e : Drafted} {senders behind : Senders} {now place : ℕ} {es : List Entry} {ss : List Planned} {entry : Entry} {slot : Planned} (p : Posted) →
     SoFar config before base clock first list (Post p ∷ rest) d senders now place es ss → max now p.moment ≤ greatest_moment → e.base ≡ d.base →
     IsFoundAt place (max now p.moment) (members_of d) (verdict config (state_of (members_of d) senders) (max now p.moment) p) (members_of e) behind entry slot →
     SoFar config before base clock first list rest e behind (max now p.moment) (place + 1) (es ++ entry ∷ []) (ss ++ slot ∷ [])
-one_next config before base clock first list rest d e senders behind now place es ss p entry slot so le same f =
+one_next {config} {before} {base} {clock} {first} {list} {rest} {d} {e} {senders} {behind} {now} {place} {es} {ss} {entry} {slot} p so le same f =
     let later = max now p.moment in
     let o : Verdict = verdict config (state_of (members_of d) senders) later p in
     let old : Roll = roll_with config (members_of d) senders now place in
@@ -81,10 +78,10 @@ one_next config before base clock first list rest d e senders behind now place e
     }
 
 -- nothing is left of a list behind which the senders are none
-pub all_planned : (config : Config) (before base : Members) (clock first : ℕ) (list : List Listed) (d : Drafted) (senders : Senders) (now place : ℕ) (es : List Entry) (ss : List Planned) →
+pub all_planned : {config : Config} {before base : Members} {clock first : ℕ} {list : List Listed} {d : Drafted} {senders : Senders} {now place : ℕ} {es : List Entry} {ss : List Planned} →
     SoFar config before base clock first list [] d senders now place es ss → (after (roll_between config before clock first) list).senders ≡ NoneYet →
     IsPlannedBy config before (members_of d) clock first list es ss now
-all_planned config before base clock first list d senders now place es ss so none =
+all_planned {config} {before} {base} {clock} {first} {list} {d} {senders} {now} {place} {es} {ss} so none =
     let behind : senders ≡ NoneYet = ap (λ (r : Roll). r.senders) so.roll ∙ none in
     let end : place ≡ first + length list = omega (arith, so.end) in
     record {
@@ -101,15 +98,13 @@ pub admitted : (moment end : ℕ) (x : Unit {0}) → Ok x ≡ checked (fault_of 
 admitted moment end x e = (grind (arith, common_steps), grind (arith, common_steps))
 
 pub planned_limit : (ms : Members) (edits : Edits) → (edited_by ms edits).limit ≡ ms.limit
-planned_limit ms (Each es) = limit-same ms es
-planned_limit ms (Sweep moment) = refl
+planned_limit ms edits = grind (arith, common_steps, limit-same)
 
 pub planned-within : (roll : Roll) (c : Amendment) → IsWithin roll.config roll.members roll.clock roll.length → IsPlannedAt roll c → IsWithin roll.config (edited_by roll.members c.edits) c.clock c.length
 planned-within roll c w p = record { limit = planned_limit roll.members c.edits ∙ w.limit; opened = p.opened; moment = p.clock; end = p.length }
 
 behind-is : (roll : Roll) (d e : Drafted) (es : List Edit) → d ≡ record { base = roll.members; edits = [] } → e.base ≡ d.base → es ≡ e.edits → members_of e ≡ fold edited roll.members es
-behind-is roll d e es start same is =
-    ap (λ (b : Members). fold edited b e.edits) (same ∙ ap (λ (x : Drafted). x.base) start) ∙ ap (fold edited roll.members) (sym is)
+behind-is roll d e es start same is = grind (arith, common_steps)
 
 pub planned-at : (roll : Roll) (d e : Drafted) (es : List Edit) (list : List Listed) (entries : List Entry) (slots : List Planned) (now end : ℕ) → d ≡ record { base = roll.members; edits = [] } → e.base ≡ d.base → es ≡ e.edits →
     CanEditEach e.base e.edits → IsPlannedBy roll.config (members_of d) (members_of e) roll.clock roll.length list entries slots now → end ≡ roll.length + length list → end ≤ greatest_length →
@@ -129,3 +124,5 @@ planned-after config ms clock first d e es list entries slots now end start same
     let behind = behind-is (roll_between config ms clock first) d e es start same is in
     ap (λ (x : Members). roll_between config x now end) (sym behind) ∙ ap (λ (k : ℕ). roll_between config (members_of e) now k) long
     ∙ sym p.roll ∙ ap (λ (x : Drafted). after (roll_between config (members_of x) clock first) list) start
+
+pub ruleset committing = (planned-within, common_steps)

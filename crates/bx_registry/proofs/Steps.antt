@@ -5,18 +5,19 @@ use Rattle.std.proofs.lemmas.{List.length-map, List.Elements.filter-append}
 use Rattle.bx_names.specs.Faults.{first_case}
 use Rattle.bx_advice.specs.declared.{config.Config.Config, error.Error.Error}
 use Rattle.bx_message.specs.declared.{message_kind.MessageKind.MessageKind, message.Message.Message, message.TextMember.TextMember}
-use Rattle.bx_message.specs.declared.message_kind.MessageKind.TheVariants.{Handshake, Disconnect, UnknownMeta}
 use Rattle.bx_message.specs.declared.message.TextMember.TheVariants.{Text}
 use Rattle.bx_message.specs.MessageKinds.{message_kind_of, is_handshake}
-use Rattle.bx_entry.specs.Words.{Posted, Listed, Post, State, due_of, Registered, Registry, Judged, judge, judged_by, refusal, cases_of, sender_of, named_by, count_live, extended, closed, left_by, overdue, hold_of, joined, senders_behind, unnamed, noted, state_of, Verdict, verdict}
+use Rattle.bx_entry.specs.Words.{Posted, Listed, Post, State, due_of, Registered, Registry, Judged, judge, judged_by, refusal, cases_of, sender_of, named_by, count_live, extended, left_by, overdue, hold_of, joined, senders_behind, unnamed, noted, state_of, Verdict, verdict}
 use Rattle.bx_entry.specs.Listing as messages
 use Rattle.bx_entry.specs.declared.senders.Senders.{Senders}
 use Rattle.bx_entry.specs.declared.senders.Senders.TheVariants.{Mixed}
 use Rattle.bx_roster.specs.Live.{live_in}
-use Rattle.bx_registry.specs.Words.{Roll, roll_of, step, next, after, found, GoesOn, StepsAgree, RunsAgree}
+use Rattle.bx_registry.specs.Words.{Roll, roll_of, step, after, found, GoesOn, StepsAgree, RunsAgree}
 use Rattle.bx_registry.specs.Rolls as rolls
 use Rattle.bx_roster.proofs.Live.{live_in-live, live_in-extended, live_in-closed, live_in-swept}
 use Rattle.bx_registry.proofs.Lists.{filter-more, find-more}
+use Rattle.std.proofs.lemmas.Grind.{common_steps}
+use Rattle.std.proofs.Common.{arith}
 
 abbrev is_live : Registered → Bool
 is_live r = r.live
@@ -29,31 +30,25 @@ sender_of-live sessions (Text client) = find-more is_live _ sessions
 sender_of-live sessions _ = refl
 
 cases_of-live : (config : Config) (sessions : List Registered) (p : Posted) (message_kind : MessageKind) → cases_of config (live_in sessions) p message_kind ≡ cases_of config sessions p message_kind
-cases_of-live config sessions p Handshake = rw count_live-live refl
-cases_of-live config sessions p UnknownMeta = refl
-cases_of-live config sessions p _ = rw sender_of-live refl
+cases_of-live config sessions p message_kind = grind (arith, common_steps, count_live-live, sender_of-live)
 
 pub refusal-live : (config : Config) (sessions : List Registered) (p : Posted) → refusal config (live_in sessions) p ≡ refusal config sessions p
 refusal-live config sessions p = ap first_case (cases_of-live config sessions p (message_kind_of p.message.channel))
 
 named_by-live : (sessions : List Registered) (message_kind : MessageKind) (m : Message) → named_by (live_in sessions) message_kind m ≡ named_by sessions message_kind m
-named_by-live sessions Handshake m = refl
-named_by-live sessions UnknownMeta m = refl
-named_by-live sessions _ m = sender_of-live sessions m.client
+named_by-live sessions message_kind m = grind (arith, common_steps, sender_of-live)
 
 pub overdue-live : (moment : ℕ) (sessions : List Registered) → overdue moment (live_in sessions) ≡ overdue moment sessions
 overdue-live moment sessions = ap (map (λ (r : Registered). r.number)) (filter-more is_live _ sessions)
 
 left_by-live : (message_kind : MessageKind) (number due : ℕ) (sessions : List Registered) →
     live_in (left_by message_kind number (extended number due (live_in sessions))) ≡ live_in (left_by message_kind number (extended number due sessions))
-left_by-live Disconnect number due sessions = ap (λ ss. live_in (closed number ss)) (sym (live_in-extended number due sessions)) ∙ live_in-closed number (extended number due sessions)
-left_by-live _ number due sessions = ap live_in (sym (live_in-extended number due sessions)) ∙ live_in-live (extended number due sessions)
+left_by-live message_kind number due sessions = grind (arith, common_steps, live_in-extended, live_in-closed, live_in-live)
 
 -- ---- one element
 
 length-left_by : (message_kind : MessageKind) (number due : ℕ) (sessions : List Registered) → length (left_by message_kind number (extended number due sessions)) ≡ length sessions
-length-left_by Disconnect number due sessions = length-map (extended number due sessions) _ ∙ length-map sessions _
-length-left_by _ number due sessions = length-map sessions _
+length-left_by message_kind number due sessions = grind (arith, common_steps, length-map)
 
 same_roll : (config : Config) (limit moment : ℕ) (senders : Senders) {opened opened' : ℕ} {live live' : List Registered} {len len' : ℕ} → opened ≡ opened' → live ≡ live' → len ≡ len' →
     let roll : Roll = record { config = config; members = record { limit = limit; opened = opened; live = live }; clock = moment; length = len; senders = senders } in
@@ -73,8 +68,7 @@ abbrev asked : Config → Registry → State
 asked config r = rolls.state_of (roll_of config r).members r.senders
 
 live_in-push : (sessions : List Registered) (r : Registered) → live_in (live_in sessions ++ r ∷ []) ≡ live_in (sessions ++ r ∷ [])
-live_in-push sessions r =
-    filter-append is_live (live_in sessions) (r ∷ []) ∙ ap (λ (rs : List Registered). rs ++ live_in (r ∷ [])) (live_in-live sessions) ∙ sym (filter-append is_live sessions (r ∷ []))
+live_in-push sessions r = grind (arith, common_steps, filter-append, live_in-live)
 
 goes-unnamed : (config : Config) (r : Registry) (moment : ℕ) (p : Posted) (b : Bool) → Went config r moment (unnamed config (asked config r) moment p b) (noted r moment (unnamed config (state_of r) moment p b))
 goes-unnamed config r moment p true = record {

@@ -54,6 +54,7 @@ impl<'a> Draft<'a> {
     }
 
     /// How many sessions are live, and how many were opened.
+    #[tactic(auto, using(crate::proofs::Drafting::counting))]
     pub(crate) fn counts(&self) -> (usize, u64)
         ensures live { result.0 ≡ count_live (members_of self.now).live }
         ensures all { AllLive (members_of self.now).live }
@@ -109,6 +110,7 @@ impl<'a> Draft<'a> {
     }
 
     // What is known of the live session with this number.
+    #[tactic(auto, using(crate::proofs::Drafting::knowing))]
     fn known_at(&self, number: u64) -> Option<Known<'_>>
         ensures { option_map (λ k. (k.client.now, k.ack)) result ≡ known_at number (members_of self.now).live }
     {

@@ -33,7 +33,7 @@ use bx_message::{
     share_json,
 };
 use bx_names::{ChannelName, NameError, Pattern, is_service};
-use bx_roster::{Edit, Session};
+use bx_roster::{Edit, LiveSession};
 use std::alloc::{AllocError, AllocFailed, Global};
 
 /// What a message comes to: what it changes of the sessions, its entry's kind and the rider that it is, how it is
@@ -345,7 +345,7 @@ fn open(
     let client = client_id(alloc, posted.nonce, number)?;
     let reply = opened_reply(config, posted.message, &client)?;
     let ack = is_ack(posted.message.ack);
-    let session = Session {
+    let session = LiveSession {
         number,
         client,
         ack,
@@ -430,6 +430,7 @@ fn edit_for(message_kind: MessageKind, number: u64, due: u64) -> Edit
 }
 
 // The subscription's patterns, without those of service channels.
+#[tactic(auto, using(crate::proofs::Judging::reading))]
 fn patterns_of(alloc: Global, message: &Message) -> Result<Sequence<Pattern>, AllocError>
     requires { has_fault message.now.texts ≡ false }
     ensures { IfOk result (λ ps. ps ≡ patterns_of message.now) }

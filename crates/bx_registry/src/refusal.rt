@@ -14,6 +14,7 @@ use bx_names::{ChannelKind, is_meta, kind_of, name_fault, pattern_fault};
 
 /// Why a message is refused, where so many sessions are live, and it is `known` whether it names one
 /// of them: the first line that holds. They stand in the order of the errors.
+#[tactic(auto, using(crate::proofs::Judging::accepted))]
 pub(crate) fn refusal(
     config: &Config,
     live: usize,

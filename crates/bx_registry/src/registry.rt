@@ -184,6 +184,7 @@ impl Registry {
     }
 
     /// Makes a change that was planned at this very registry, with nothing committed since.
+    #[tactic(auto, using(crate::proofs::Planning::committing))]
     pub fn commit(&mut self, change: Change)
         requires { CanCommit self.old change }
         ensures { self.new.roll ≡ changed self.old.roll change }

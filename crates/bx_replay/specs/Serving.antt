@@ -2,7 +2,7 @@
 use Rattle.std.specs.Prelude.{ℕ, ◌≡◌, ◌++◌, List, [], ◌∷◌, length, map, ⊤, Option, Some, None}
 use Rattle.std.specs.{BTreeMap.get, Io.KnownBytes.Appends, Ordering.nat_cmp}
 use Rattle.bx_replay.specs.Kept.{AllKept, AreKept, PrintsOuts, held_texts}
-use Rattle.bx_replay.specs.declared.{kept.PendingLine.PendingLine, server.Server.Server}
+use Rattle.bx_replay.specs.declared.{kept.PendingLine.PendingLine, server.ReplayServer.ReplayServer}
 use Rattle.bx_advice.specs.declared.config.Config.{Config}
 use Rattle.bx_entry.specs.Words.{ReadInput, Out, held, outs}
 use Rattle.bx_script.specs.Words.{Line, Numbered, inputs_from, line_of, lines_of, said_by, AppendsFront}
@@ -76,5 +76,5 @@ module _ {P : Type 0} {g : Ghosts P} where
     pub prints : (numbered : List Numbered) → length numbered ≡ length (inputs_of old) → AreKept numbered kept → AppendsFront before after (outs_text (numbered ++ one ∷ []) more)
 
   -- A server has taken in its lines: the outs of their inputs are printed, and it keeps the others.
-  abbrev pub Serves : Server P g → Type 0
+  abbrev pub Serves : ReplayServer P g → Type 0
   Serves s = Served (setup_in s.round).config (seen_lines s.lines) (inputs_of s.round) (added_by s.round) (get nat_cmp s.kept) s.number

@@ -9,7 +9,7 @@ ghost use Rattle.bx_script.specs.Output.{IsWriteFault, written};
 ghost use Rattle.bx_script.specs.Printing.{AppendsFront, Writes};
 
 use crate::kept::print_held;
-use crate::server::{Server, answer, new_server};
+use crate::server::{ReplayServer, answer, new_server};
 use bx_advice::Config;
 use bx_entry::Placing;
 use bx_script::{Lines, Output, ScriptFault};
@@ -48,10 +48,10 @@ fn answer_all<T: Threads + Sync, P: Placing + Drop + Send + Sync, R: BufRead, W:
     rt: &T,
     alloc: Global,
     placing: &Arc<P>,
-    mut server: Server<P>,
+    mut server: ReplayServer<P>,
     lines: &mut Lines<R>,
     writer: &mut Output<W>,
-) -> Result<Server<P>, ScriptFault>
+) -> Result<ReplayServer<P>, ScriptFault>
     requires serves { Serves server }
     requires none { server.lines ≡ [] }
     ensures serves { IfOk result (λ s. Serves s) }
@@ -73,7 +73,7 @@ fn answer_all<T: Threads + Sync, P: Placing + Drop + Send + Sync, R: BufRead, W:
 // Writes which lines have no answer.
 fn finish<P: Placing, W: Write>(
     alloc: Global,
-    server: &Server<P>,
+    server: &ReplayServer<P>,
     writer: &mut Output<W>,
 ) -> Result<(), ScriptFault>
     requires serves { Serves server.now }

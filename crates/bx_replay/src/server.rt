@@ -25,7 +25,7 @@ use std::thread::Threads;
 
 /// What the program has of a script so far.
 #[derive(Drop)]
-pub struct Server<P: Placing> {
+pub struct ReplayServer<P: Placing> {
     /// The round that the lines are handed to.
     pub round: Round<P>,
     /// The inputs whose outs are not printed yet, by their numbers.
@@ -42,14 +42,14 @@ pub fn new_server<P: Placing + Drop>(
     config: Config,
     placing: Arc<P>,
     workers: WorkerCount,
-) -> Result<Server<P>, ScriptFault>
+) -> Result<ReplayServer<P>, ScriptFault>
     ensures serves { IfOk result (λ s. Serves s) }
     ensures lines { IfOk result (λ s. s.lines ≡ []) }
     ensures config { IfOk result (λ s. (setup_in s.round).config ≡ config) }
     ensures reason { IfErr result (λ e. e ≡ ScriptFault.Memory) }
 {
     let round = Round::new(alloc, config, placing, workers)?;
-    Ok(Server {
+    Ok(ReplayServer {
         round,
         kept: BTreeMap::new(alloc),
         number: 0,
@@ -62,10 +62,10 @@ pub fn answer<T: Threads + Sync, P: Placing + Drop + Send + Sync, W: Write>(
     rt: &T,
     alloc: Global,
     placing: &Arc<P>,
-    mut server: Server<P>,
+    mut server: ReplayServer<P>,
     line: Line,
     writer: &mut Output<W>,
-) -> Result<Server<P>, ScriptFault>
+) -> Result<ReplayServer<P>, ScriptFault>
     requires serves { Serves server }
     requires few { server.number < 2 ^ 62 }
     ensures serves { IfOk result (λ s. Serves s) }
@@ -94,14 +94,14 @@ pub fn answer<T: Threads + Sync, P: Placing + Drop + Send + Sync, W: Write>(
             Ok(server)
         }
         Line::Resharded { shards } => {
-            let Server {
+            let ReplayServer {
                 round,
                 kept,
                 lines,
                 ..
             } = server;
             let round = reshard(rt, alloc, round, shards, placing)?;
-            Ok(Server {
+            Ok(ReplayServer {
                 round,
                 kept,
                 number,

@@ -1,11 +1,15 @@
 -- What becomes of many shards where one of them changes.
-use Rattle.std.proofs.Common.{◌≡◌, ◌≢◌, ℕ, ◌<◌, ◌≤◌, Bool, true, false, cond, Option, Some, option_map, Result, Ok, Err, OnOk, List, length, slice_get, slice_set, nat_eq, nat_lt, refl, sym, ap, ◌∙◌, subst, arith, eqb-true, eq-eqb, ltb-true, ltb-false}
-use Rattle.std.proofs.lemmas.{List.length-set, List.get_or-set_same, List.get_or-set_other, Option.slice_get-get_or, Option.slice_get_past}
+use Rattle.std.proofs.Common.{◌≡◌, ◌≢◌, ℕ, ◌<◌, ◌≤◌, Bool, true, false, cond, Option, Some, option_map, Result, Ok, Err, OnOk, Vec, Global, List, length, get_or, slice_get, slice_set, nat_eq, nat_lt, refl, sym, ap, ◌∙◌, arith, eq-eqb, ltb-true, ltb-false}
+use Rattle.std.proofs.lemmas.{List.length-set, List.get_or-set_same, List.get_or-set_other, Option.slice_get-get_or, Option.slice_get_read, Option.slice_get_past}
 use Rattle.bx_lists.proofs.Tests.{either}
 use Rattle.bx_connects.specs.Connects.{connect_at}
 use Rattle.bx_shard.specs.declared.sessions.Sessions.{Sessions}
 use Rattle.bx_shard.specs.Sessions.{kept_in, patterns_in}
 use Rattle.bx_reshard.specs.Heirs.{SameConnects, SameSessions, connect_there, kept_there, patterns_there}
+
+-- what is read of a row stands there
+pub row_here : (row : Vec Sessions Global) (slot : ℕ) (s : Sessions) → slot < length row.items → s ≡ get_or row.items slot s → slice_get row.items slot ≡ Some s
+row_here row slot s within is = slice_get_read row.items (length row.items) slot s refl within is
 
 pub set_here : {X : Type 0} (xs : List X) (i : ℕ) (y : X) → i < length xs → slice_get (slice_set xs i y) i ≡ Some y
 set_here xs i y h = slice_get-get_or (slice_set xs i y) i y (omega (arith, h, length-set xs i y)) ∙ ap Some (get_or-set_same xs i y y h)
@@ -24,16 +28,7 @@ set_beside xs i k y e =
 -- what holds of the one that changes, and of one that stays, holds of each
 pub at_each : (P : Option Sessions → Option Sessions → Bool → Type 0) (xs : List Sessions) (i : ℕ) (old new : Sessions) → i < length xs → slice_get xs i ≡ Some old →
     P (Some old) (Some new) true → ((o : Option Sessions) → P o o false) → (k : ℕ) → P (slice_get xs k) (slice_get (slice_set xs i new) k) (nat_eq i k)
-at_each P xs i old new within here own others k = either (nat_eq i k) (P (slice_get xs k) (slice_get (slice_set xs i new) k) (nat_eq i k))
-    (λ t.
-    let same : i ≡ k = eqb-true i k t in
-    let was : slice_get xs k ≡ Some old = ap (slice_get xs) (sym same) ∙ here in
-    let is : slice_get (slice_set xs i new) k ≡ Some new = ap (slice_get (slice_set xs i new)) (sym same) ∙ set_here xs i new within in
-    subst (λ b. P (slice_get xs k) (slice_get (slice_set xs i new) k) b) (sym t)
-    (subst (λ o. P o (slice_get (slice_set xs i new) k) true) (sym was) (subst (λ o. P (Some old) o true) (sym is) own)))
-    (λ f.
-    subst (λ b. P (slice_get xs k) (slice_get (slice_set xs i new) k) b) (sym f)
-    (subst (λ o. P (slice_get xs k) o false) (sym (set_beside xs i k new f)) (others (slice_get xs k))))
+at_each P xs i old new within here own others k = grind (arith, here, set_here xs i new within, set_beside xs i k new, own, others (slice_get xs k))
 
 -- so where the sessions stay, or the connects
 pub same_sessions : (xs : List Sessions) (i : ℕ) (old new : Sessions) → i < length xs → slice_get xs i ≡ Some old →

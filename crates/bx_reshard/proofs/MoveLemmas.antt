@@ -113,12 +113,6 @@ connect_more : (placing : ℕ → ℕ → ℕ) (count k : ℕ) (ss : List Sessio
 connect_more placing count k [] s p = or_none (lent_as placing count k (known_as (connect_at s.connects p)))
 connect_more placing count k (t ∷ ss) s p = grind (arith, connect_more placing count k ss s p)
 
-some_more : (q : Bool) (x y : Option Kept) → ((q && is_some y) || (q && is_some x)) ≡ (q && is_some (option_or x y))
-some_more q x y = grind arith
-
-patterns_lent : (q a b : Bool) (ps before : List Glob) → (a ≡ false → before ≡ []) → cond ((q && b) && not (q && a)) ps (cond q before []) ≡ cond q (cond a before (cond b ps [])) []
-patterns_lent q a b ps before h = grind arith
-
 pub lent_more : (placing : ℕ → ℕ → ℕ) (count : ℕ) (config : Config) (ss : List Sessions) (s : Sessions) (old new : List Sessions) → AreLent placing count ss config old →
     ((k n : ℕ) → is_some (kept_of new k n) ≡ ((nat_eq (placing n count) k && is_some (kept_in s n)) || is_some (kept_of old k n))) →
     ((k n : ℕ) → patterns_at new k n ≡ cond ((nat_eq (placing n count) k && is_some (kept_in s n)) && not (is_some (kept_of old k n))) (patterns_in s n) (patterns_at old k n)) →
@@ -127,19 +121,9 @@ pub lent_more : (placing : ℕ → ℕ → ℕ) (count : ℕ) (config : Config) 
 lent_more placing count config ss s old new h sessions patterns connects many configs apart = record {
   many = many;
   configs = λ k l. configs k ∙ h.configs k l;
-  sessions = λ k n.
-      sessions k n ∙ ap (λ b. (nat_eq (placing n count) k && is_some (kept_in s n)) || b) (h.sessions k n)
-      ∙ some_more (nat_eq (placing n count) k) (kept_among ss n) (kept_in s n)
-      ∙ ap (λ o. nat_eq (placing n count) k && is_some o) (sym (kept_more ss s n));
-  patterns = λ k n.
-      patterns k n
-      ∙ ap (λ b. cond ((nat_eq (placing n count) k && is_some (kept_in s n)) && not b) (patterns_in s n) (patterns_at old k n)) (h.sessions k n)
-      ∙ ap (cond ((nat_eq (placing n count) k && is_some (kept_in s n)) && not (nat_eq (placing n count) k && is_some (kept_among ss n))) (patterns_in s n)) (h.patterns k n)
-      ∙ patterns_lent (nat_eq (placing n count) k) (is_some (kept_among ss n)) (is_some (kept_in s n)) (patterns_in s n) (patterns_among ss n) (patterns_none ss n)
-      ∙ ap (λ ps. cond (nat_eq (placing n count) k) ps []) (sym (patterns_more ss s n));
-  connects = λ k p.
-      connects k p ∙ ap (λ o. option_or o (lent_as placing count k (known_as (connect_at s.connects p)))) (h.connects k p)
-      ∙ sym (connect_more placing count k ss s p);
+  sessions = λ k n. grind (arith, sessions k n, h.sessions k n, kept_more ss s n);
+  patterns = λ k n. grind (arith, patterns k n, h.sessions k n, h.patterns k n, patterns_none ss n, patterns_more ss s n);
+  connects = λ k p. grind (arith, connects k p, h.connects k p, connect_more placing count k ss s p);
   apart = All-push (λ (t : Sessions). AreApart t.connects.held t.connects.filed) ss s h.apart apart;
 }
 

@@ -1,5 +1,5 @@
 -- What shards hold once their sessions were redistributed.
-use Rattle.std.proofs.Common.{◌≡◌, ◌≢◌, ℕ, zero, suc, ◌<◌, Bool, true, false, cond, is_some, Option, Some, None, List, [], ◌∷◌, length, take, drop, map, filter, flat_map, option_map, slice_get, ◌==◌, refl, sym, ap, ◌∙◌, subst, arith, eqb-true, eq-eqb}
+use Rattle.std.proofs.Common.{◌≡◌, ◌≢◌, ℕ, zero, suc, ◌<◌, true, false, cond, is_some, Option, Some, None, List, [], ◌∷◌, length, take, drop, map, filter, flat_map, option_map, slice_get, ◌==◌, refl, sym, ap, ◌∙◌, subst, arith, eqb-true, eq-eqb}
 use Rattle.std.proofs.lemmas.{Bool.cond_both, Bool.cond-true, List.take-append-drop, List.Folds.find-append}
 use Rattle.std.specs.Option.{option_or}
 use Rattle.bx_lists.proofs.{Lists.or_none, Tests.either}
@@ -12,7 +12,7 @@ use Rattle.bx_connects.specs.Connects.{session_at}
 use Rattle.bx_reshard.specs.Redistribution.{AreAlike, AreApart, HoldersAreApart, RefinesRedistributed, IsRedistributed, among, connect_among, redistributed_connect, session_among}
 use Rattle.bx_shard.specs.Refining.{Refines, IsConnectOf, IsOwn, filed_with_place}
 use Rattle.bx_shard.specs.Words.{Setup, is_taken, live_among, sessions_in, shard_at, stands_in, State, connect_in, session_in}
-use Rattle.bx_shard.proofs.{Finding.find_kept, Taking.connect_of_filed, Taking.none_taken, Taking.waits_later, Waits.WaitsAt, Waits.waits_over}
+use Rattle.bx_shard.proofs.{Cases.by_option, Finding.find_kept, Taking.connect_of_filed, Taking.none_taken, Taking.waits_later, Waits.WaitsAt, Waits.waits_over}
 use Rattle.bx_shard.proofs.Untaken.{find_of, find_untaken, untaken}
 use Rattle.bx_theory.proofs.Closings.{run_number}
 use Rattle.bx_reshard.proofs.Among.{nobody}
@@ -69,7 +69,7 @@ kept_of m us = find_kept m (map kept (live_among us))
 found_standing : (setup : Setup) (shard m : ℕ) (es : List Entry) (rs : List Registered) →
     kept_of m (map (λ (s : Registered). session setup.config s.number es) (filter (λ (s : Registered). stands_in setup shard s.number) rs))
     ≡ cond (stands_in setup shard m) (kept_of m (map (λ (s : Registered). session setup.config s.number es) rs)) None
-found_standing setup shard m es [] = (elim (stands_in setup shard m) as (λ b. None ≡ cond {A = Option Kept} b None None) [ true ↦ refl | false ↦ refl ])
+found_standing setup shard m es [] = nobody (stands_in setup shard m)
 found_standing setup shard m es (r ∷ rs) = grind (arith, found_standing setup shard m es rs, run_number setup.config (unopened r.number) es)
 
 -- all sessions over the first n elements, wherever they stand
@@ -94,7 +94,7 @@ OnlyOf config es p m = (q : ℕ) → is_some (find_of p (session config q es).an
 answers_standing : (setup : Setup) (shard p m : ℕ) (es : List Entry) (rs : List Registered) → OnlyOf setup.config es p m →
     find_of p (answers_of (map (λ (s : Registered). session setup.config s.number es) (filter (λ (s : Registered). stands_in setup shard s.number) rs)))
     ≡ cond (stands_in setup shard m) (find_of p (answers_of (map (λ (s : Registered). session setup.config s.number es) rs))) None
-answers_standing setup shard p m es [] only = (elim (stands_in setup shard m) as (λ b. None ≡ cond {A = Option Filed} b None None) [ true ↦ refl | false ↦ refl ])
+answers_standing setup shard p m es [] only = nobody (stands_in setup shard m)
 answers_standing setup shard p m es (r ∷ rs) only =
     let S : Registered → Session = λ s. session setup.config s.number es in
     let here : List Registered = filter (λ (s : Registered). stands_in setup shard s.number) rs in
@@ -107,15 +107,12 @@ slot_once : (js : List Judged) (p q m : ℕ) → WaitsAt js q p → WaitsAt js m
 slot_once js p q m a b = let both : Some (Waiting q) ≡ Some (Waiting m) = sym a ∙ b in cc
 
 only_waits : (config : Config) (list : List Listed) (n p m : ℕ) → WaitsAt (registry config list).judged m p → OnlyOf config (entries_of (registry config (take n list))) p m
-only_waits config list n p m waits q here = by (find_of p (session config q (entries_of (registry config (take n list)))).answers) refl here
-  where
-    by : (o : Option Filed) → find_of p (session config q (entries_of (registry config (take n list)))).answers ≡ o → is_some o ≡ true → q ≡ m
-    by None e h = absurd (let no : false ≡ true = h in cc)
-    by (Some f) e h =
-        let early : WaitsAt (registry config (take n list)).judged q p = waits_over config q p (take n list) f e in
-        let late : WaitsAt (registry config list).judged q p =
-        subst (λ (xs : List Listed). WaitsAt (registry config xs).judged q p) (take-append-drop n list) (waits_later config (take n list) (drop n list) q p early) in
-        slot_once (registry config list).judged p q m late waits
+only_waits config list n p m waits q here =
+    by_option (λ o. is_some o ≡ true → q ≡ m) (find_of p (session config q (entries_of (registry config (take n list)))).answers) (λ e h. absurd (let no : false ≡ true = h in cc)) (λ f e h.
+    let early : WaitsAt (registry config (take n list)).judged q p = waits_over config q p (take n list) f e in
+    let late : WaitsAt (registry config list).judged q p =
+    subst (λ (xs : List Listed). WaitsAt (registry config xs).judged q p) (take-append-drop n list) (waits_later config (take n list) (drop n list) q p early) in
+    slot_once (registry config list).judged p q m late waits) here
 
 -- the answer to the connect is found in the shard where its session stands
 untaken_standing : (setup : Setup) (list : List Listed) (taken : List ℕ) (n p m : ℕ) → OnlyOf setup.config (entries_of (registry setup.config (take n list))) p m → (shard : ℕ) →
@@ -132,18 +129,15 @@ untaken_standing setup list taken n p m only shard =
 
 -- ---- the shards before
 
+standing : (placed k : ℕ) (o kept : Option Kept) → o ≡ cond (placed == k) kept None → is_some o ≡ true → placed ≡ k
+standing placed k o kept is here = grind arith
+
 module _ (setup : Setup) (list : List Listed) (taken : List ℕ) (n : ℕ) (old : List State) (each : (k : ℕ) (s : State) → slice_get old k ≡ Some s → Refines setup list taken k n s) where
   -- a session that a shard holds stands in it
   stands : (k : ℕ) (s : State) (m : ℕ) → slice_get old k ≡ Some s → is_some (session_in s m) ≡ true → setup.placing m setup.shards ≡ k
-  stands k s m at here = by (stands_in setup k m) refl
-    where
-      found : session_in s m ≡ cond (stands_in setup k m) (kept_of m (everyone setup.config list n)) None
-      found = (each k s at).sessions m ∙ session_found setup list taken k n m
-
-      by : (b : Bool) → stands_in setup k m ≡ b → setup.placing m setup.shards ≡ k
-      by true e = eqb-true (setup.placing m setup.shards) k e
-      by false e = absurd (let no : false ≡ true =
-          sym (ap is_some (found ∙ ap (λ (b : Bool). cond b (kept_of m (everyone setup.config list n)) None) e)) ∙ here in cc)
+  stands k s m at here =
+      let found : session_in s m ≡ cond (stands_in setup k m) (kept_of m (everyone setup.config list n)) None = (each k s at).sessions m ∙ session_found setup list taken k n m in
+      standing (setup.placing m setup.shards) k (session_in s m) (kept_of m (everyone setup.config list n)) found here
 
   -- a connect that a shard knows is one of a session that stands in it
   knows : (k : ℕ) (s : State) (p : ℕ) → slice_get old k ≡ Some s → is_some (connect_in s p) ≡ true → (m : ℕ) × IsOwn setup list k p m
@@ -162,8 +156,7 @@ module _ (setup : Setup) (list : List Listed) (taken : List ℕ) (n : ℕ) (old 
       ap (λ (q : ℕ). setup.placing q setup.shards) (sym same) ∙ eqb-true (setup.placing w.0 setup.shards) k w.1.stands
 
   none_of : {X : Type 0} (o : Option X) → (is_some o ≡ true → ⊥) → o ≡ None
-  none_of None h = refl
-  none_of (Some x) h = absurd (h refl)
+  none_of o h = grind arith
 
   alike : AreAlike old
   alike i j s t a b = (

@@ -1,23 +1,18 @@
 -- The entries of a queue, the sessions that they file, and what a tick makes of them.
 use Rattle.std.proofs.Common.{◌≡◌, ◌≢◌, ℕ, ◌+◌, ◌<◌, ◌≤◌, Bool, true, false, List, [], ◌∷◌, ◌++◌, append_assoc, length, map, refl, sym, ap, subst, ◌∙◌, arith, eq-eqb, ne_eqb, eqb-true}
 use Rattle.std.specs.Prelude.{◌&&◌, ◌||◌, ◌==◌, nat_lt, nat_le, not, Some, None, if◌then◌else◌}
-use Rattle.std.specs.{List.filter, List.list_any, List.Sorted.IsPermutation, BinaryHeap.IsUpperBound, Ordering.is_lt, Ordering.nat_cmp, Ordering.ordering_then}
-use Rattle.std.specs.declared.cmp.Ordering.{Ordering}
-use Rattle.std.specs.declared.cmp.Ordering.TheVariants.{Less}
+use Rattle.std.specs.{List.filter, List.list_any, List.Sorted.IsPermutation}
 use Rattle.std.proofs.Math.Bool.{and-false, or-true}
-use Rattle.std.proofs.lemmas.{Grind.common_steps, Map.Keys.ge_from_not_lt, Bool.Decides.nat_tests, Bool.leb-true, Bool.le-leb, Bool.and_parts}
-use Rattle.std.proofs.lemmas.List.Elements.{All-nil, All-cons, All-head, All-tail}
+use Rattle.std.proofs.lemmas.{Grind.common_steps, Bool.Decides.nat_tests, Bool.leb-true, Bool.le-leb, Bool.and_parts}
+use Rattle.std.proofs.lemmas.List.Elements.{All-head, All-tail}
 use Rattle.std.proofs.lemmas.List.Sorted.{length_permutation, IsPermutation-sym, IsPermutation-trans, IsPermutation-middle, IsPermutation-append_right, list_any-IsPermutation}
 use Rattle.bx_entry.specs.Registry.{Registered, extended, closed, swept, is_overdue}
-use Rattle.bx_roster.specs.Words.{Members, live_in, with_live, IsTable, IsAbsent, AllLive, due_at, AllFiled, IsFrom, due_order, files}
+use Rattle.bx_roster.specs.Words.{Members, live_in, with_live, IsTable, IsAbsent, AllLive, due_at, AllFiled, IsFrom, files}
 use Rattle.bx_roster.specs.declared.due_queue.Due.{Due}
 use Rattle.bx_roster.proofs.Live.{live_in-swept}
 use Rattle.bx_roster.proofs.Tables.{IsTable-absent, map-absent, live_in-all, changed-due, changed-number, closing-due, closing-number}
 
 -- ---- tests
-
-pub lt-from-test : (a b : ℕ) → nat_lt a b ≡ true → a < b
-lt-from-test a b e = grind (arith, nat_tests)
 
 not-less : (a b : ℕ) → b ≤ a → nat_lt a b ≡ false
 not-less a b le = grind (arith, nat_tests)
@@ -126,8 +121,7 @@ abbrev pub stays : ℕ → Registered → Bool
 stays moment r = r.live && nat_le moment r.due
 
 less-or-not : (a b : ℕ) (c : Bool) → nat_lt a b ≡ c → nat_le b a ≡ not c
-less-or-not a b true e = grind (arith, nat_tests)
-less-or-not a b false e = grind (arith, nat_tests)
+less-or-not a b c h1 = grind (arith, common_steps, nat_tests)
 
 pub stays-swept : (moment : ℕ) (rs : List Registered) → filter (stays moment) rs ≡ live_in (swept moment rs)
 stays-swept moment [] = refl
@@ -165,16 +159,3 @@ closed-stays n m due low high (r ∷ rs) late t is = grind (arith, common_steps,
 pub closed-swept : (n m due low high : ℕ) (rs : List Registered) → due < m → IsTable low high rs → due_at n rs ≡ Some due → live_in (swept m (live_in (closed n rs))) ≡ live_in (swept m rs)
 closed-swept n m due low high rs late t is =
     live_in-swept m (closed n rs) ∙ sym (stays-swept m (closed n rs)) ∙ closed-stays n m due low high rs late t is ∙ stays-swept m rs
-
--- ---- the first of a heap
-
-first-not-lt : (a b : Ordering) → is_lt (ordering_then a b) ≡ false → is_lt a ≡ false
-first-not-lt Less b e = e
-first-not-lt _ b e = refl
-
--- no entry stands before the first one
-pub from-first : (m : ℕ) (x : Due) (es : List Due) → m ≤ x.moment.0 → IsUpperBound due_order x es → IsFrom m es
-from-first m x [] le bound = All-nil (λ (d : Due). m ≤ d.moment.0)
-from-first m x (d ∷ es) le bound =
-    let up : x.moment.0 ≤ d.moment.0 = ge_from_not_lt d.moment.0 x.moment.0 (first-not-lt (nat_cmp d.moment.0 x.moment.0) (nat_cmp x.number d.number) bound.0) in
-    All-cons (λ (y : Due). m ≤ y.moment.0) d es (omega arith) (from-first m x es le bound.1)

@@ -7,10 +7,6 @@ use Rattle.bx_roster.specs.Words.{IsKept, Record, session_of, with_one, sessions
 use Rattle.bx_roster.specs.declared.due_queue.Due.{Due}
 use Rattle.bx_roster.proofs.{Dues.filed-append, Kept.under}
 
-abbrev inner : Option Registered → Option (Option Registered) → Option Registered
-inner d None = d
-inner d (Some o) = o
-
 module _ (dues : List Due) (r : Registered) where
   abbrev Filed : Type 0
   Filed = list_any (files r) dues ≡ true
@@ -21,9 +17,7 @@ module _ (dues : List Due) (r : Registered) where
 
 module _ (dues : List Due) (es : List (ℕ × Option Registered)) (all : AllFiled dues (sessions_in (values_of es))) where
   filed-one : (n : ℕ) (rs : List Registered) (o : Record) → under es n ≡ o → AllFiled dues rs → AllFiled dues (with_one rs (session_of o))
-  filed-one n rs None e filed = filed
-  filed-one n rs (Some None) e filed = filed
-  filed-one n rs (Some (Some r)) e filed = filed-append dues rs (r ∷ []) filed (among dues r n es e all, tt)
+  filed-one n rs o h1 h2 = grind (arith, common_steps, filed-append, among)
 
   pub all-filed : (k : ℕ) → AllFiled dues (sessions_to (under es) k)
   unfolding sessions_to

@@ -3,7 +3,7 @@ use Rattle.std.proofs.Common.{◌≡◌, ◌≢◌, ℕ, suc, ◌+◌, ◌-◌, 
 use Rattle.std.specs.Prelude.{◌==◌, ◌⊎◌, max, nat_eq}
 use Rattle.std.proofs.lemmas.{Bool.Decides.eqb_tells, Grind.common_steps, Bool.cases_lt, List.length-map}
 use Rattle.std.specs.{Map.lookup, List.list_any}
-use Rattle.bx_roster.specs.Words.{Prepared, is_open, opened_by_each, room_of, IsRoster, later, live_in, IsNamed, known_of, known_at, due_at, Record, session_of, with_one, sessions_to, vacant_count, Stands, IsKept}
+use Rattle.bx_roster.specs.Words.{Prepared, is_open, opened_by_each, room_of, IsRoster, later, live_in, IsNamed, known_of, known_at, due_at, Record, session_of, sessions_to, vacant_count, Stands, IsKept}
 use Rattle.bx_roster.specs.declared.edit.Edit.{Edit}
 use Rattle.bx_entry.specs.Registry.{Registered, extended, closed}
 use Rattle.bx_roster.proofs.{Live.live_in-extended, Tables.live_in-all}
@@ -19,16 +19,7 @@ under es n = lookup (nat_eq n) es
 -- the roster of nothing
 pub empty-kept : (limit : ℕ) → limit < 2 ^ 64 → IsKept (under []) 0 limit 0 0
 unfolding sessions_to
-empty-kept limit small = record {
-  fits = omega arith;
-  small = small;
-  counted = refl;
-  sized = refl;
-  next = refl;
-  beyond = λ q lt. refl;
-  vacant = λ q e. absurd (some-none None e);
-  stand = λ q r e. absurd (some-none (Some r) e);
-}
+empty-kept limit small = grind (arith, common_steps, some-none)
 
 pub empty-live : (at : ℕ → Record) → sessions_to at 0 ≡ []
 unfolding sessions_to
@@ -121,9 +112,7 @@ module _ {at : ℕ → Record} {records limit count opened : ℕ} (k : IsKept at
   module _ {new : ℕ → Record} (s : Registered) {m : ℕ} (number : s.number ≡ m) (is : m ≡ opened + 1) (c : Changed at new m (Some (Some s))) where
     live-suc : m ≡ suc opened → sessions_to new opened ≡ sessions_to at opened → sessions_to new m ≡ sessions_to at opened ++ s ∷ []
     unfolding sessions_to
-    live-suc e same =
-        ap (λ (i : ℕ). sessions_to new i) e ∙ ap (λ o. with_one (sessions_to new opened) (session_of o)) (ap new (sym e) ∙ c.here)
-        ∙ ap (λ (rs : List Registered). rs ++ s ∷ []) same
+    live-suc e same = grind (arith, common_steps, here, same)
 
     pub opened-live : sessions_to new m ≡ sessions_to at opened ++ s ∷ []
     opened-live = live-suc (omega (arith, is)) (same_to new at opened (λ q le. c.others q (λ e. omega (arith, le, e, is))))
@@ -157,9 +146,6 @@ module _ {at : ℕ → Record} {records limit count opened : ℕ} (k : IsKept at
 
     pub closed-ready : n ≤ opened → new (opened + 1) ≡ at (opened + 1)
     closed-ready le = c.others (opened + 1) (λ e. omega (arith, e, le))
-
-    pub closed-some : (r : Registered) → at n ≡ Some (Some r) → 0 < count
-    closed-some r there = omega (arith, k.counted, length-closed n at new k.stand c.here c.others r there opened (within n r there))
 
     pub closed-kept : (r : Registered) → at n ≡ Some (Some r) → {records' : ℕ} → records' + 1 ≡ records → IsKept new records' limit (count - 1) opened
     closed-kept r there {records'} size =
@@ -218,12 +204,10 @@ module _ {at : ℕ → Record} {records limit count opened : ℕ} (k : IsKept at
     moved-kept (Some x) e c size = subst (λ (m : ℕ). IsKept new m limit count opened) (sym size) (extended-kept n due x e c)
 
     pub moved-live : (o : Option Registered) → at n ≡ Some o → Changed at new n (Some (option_map (later due) o)) → sessions_to new opened ≡ live_in (extended n due (sessions_to at opened))
-    moved-live None e c = ap (λ (f : ℕ → Record). sessions_to f opened) (vacant-same e c) ∙ extended-same n due (ap session_of e)
-    moved-live (Some x) e c = extended-live n due x e c
+    moved-live o h1 h2 = grind (arith, common_steps, vacant-same, extended-same, extended-live)
 
     pub moved-ready : (o : Option Registered) → at n ≡ Some o → Changed at new n (Some (option_map (later due) o)) → new (opened + 1) ≡ at (opened + 1)
-    moved-ready None e c = ap (λ (f : ℕ → Record). f (opened + 1)) (vacant-same e c)
-    moved-ready (Some x) e c = extended-ready n due x e c
+    moved-ready o h1 h2 = grind (arith, common_steps, vacant-same, extended-ready)
 
   -- ---- what stands under a number
 
@@ -231,9 +215,7 @@ module _ {at : ℕ → Record} {records limit count opened : ℕ} (k : IsKept at
   prepared-size {records'} size = grind (arith, common_steps, k.sized)
 
   pub occupied : (n : ℕ) (o : Record) → at n ≡ o → is_some o ≡ true → n ≤ opened → (r : Registered) × (at n ≡ Some (Some r))
-  occupied n None e some le = absurd (true≢false (sym some))
-  occupied n (Some None) e some le = absurd (omega (arith, le, k.vacant n e))
-  occupied n (Some (Some r)) e some le = (r, e)
+  occupied n o h1 h2 h3 = grind (arith, common_steps)
 
 -- ---- edits
 

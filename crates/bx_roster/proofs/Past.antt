@@ -1,12 +1,12 @@
 -- The numbers of the overdue sessions, from the late entries of a queue.
 use Rattle.std.proofs.Common.{◌≡◌, ℕ, ◌<◌, Bool, true, false, List, [], ◌∷◌, ◌++◌, map, refl, sym, ap, ◌∙◌, arith, eqb}
-use Rattle.std.specs.Prelude.{◌&&◌, ◌==◌, nat_lt}
+use Rattle.std.specs.Prelude.{◌&&◌, ◌==◌}
 use Rattle.std.specs.{List.dedup, List.list_any, List.Sorted.IsPermutation, List.Sorted.IsSorted, Ordering.nat_cmp}
 use Rattle.std.proofs.lemmas.{Grind.common_steps, List.Sorted.list_any-IsPermutation, Map.Keys.IsStrictlyIncreasing-dedup, Map.Keys.sorted_from_strictly_increasing}
 use Rattle.std.proofs.Math.Bool.{and-false}
 use Rattle.bx_lists.specs.Members.{has}
 use Rattle.bx_lists.proofs.Ascending.{dedup-has, AllAbove, Ascends, above-lower, same-ascends, ascends-sorted, filter-has}
-use Rattle.bx_entry.specs.Registry.{Registered, is_overdue, overdue}
+use Rattle.bx_entry.specs.Registry.{Registered, overdue}
 use Rattle.bx_roster.specs.Words.{IsTable, IsAbsent, AllLive, due_at, AllFiled, IsFrom, files, is_past, past_numbers}
 use Rattle.bx_roster.specs.declared.due_queue.Due.{Due}
 use Rattle.bx_roster.proofs.{Tables.IsTable-absent, Dues.due-from, Dues.files-number}
@@ -25,10 +25,6 @@ absent-overdue : (m n : ℕ) (rs : List Registered) → IsAbsent n rs → has n 
 absent-overdue m n [] a = refl
 absent-overdue m n (r ∷ rs) a = grind (arith, common_steps, absent-overdue m n rs a.1)
 
--- a session is overdue by its due moment
-overdue-lives : (m : ℕ) (r : Registered) → r.live ≡ true → is_overdue m r ≡ nat_lt r.due m
-overdue-lives m r lives = ap (λ (b : Bool). b && nat_lt r.due m) lives
-
 past-has : (m n low high : ℕ) (rs : List Registered) → IsTable low high rs → AllLive rs → is_past m (due_at n rs) ≡ has n (overdue m rs)
 past-has m n low high [] t all = refl
 past-has m n low high (r ∷ rs) t all = grind (arith, common_steps, past-has m n r.number high rs t.2 all.1, absent-overdue, IsTable-absent)
@@ -46,8 +42,7 @@ overdue-late m n (r ∷ rs) late waiting from filed all h = grind (arith, common
 
 found-by : (m n : ℕ) (rs : List Registered) (late : List Due) → (has n (overdue m rs) ≡ true → has n (map (λ (e : Due). e.number) late) ≡ true) →
     (b : Bool) → has n (overdue m rs) ≡ b → (has n (map (λ (e : Due). e.number) late) && b) ≡ b
-found-by m n rs late there true e = ap (λ (b : Bool). b && true) (there e)
-found-by m n rs late there false e = and-false (has n (map (λ (e : Due). e.number) late))
+found-by m n rs late h1 b h2 = grind (arith, common_steps, and-false)
 
 -- in order and each once, they are the overdue sessions
 pub past-overdue : (m low high : ℕ) (rs : List Registered) (late waiting : List Due) (found sorted numbers : List ℕ) → IsFrom m waiting → AllFiled (late ++ waiting) rs → IsTable low high rs → AllLive rs →

@@ -1,5 +1,5 @@
 -- The sessions of a map in the order of their numbers, and what a change under one number makes of them.
-use Rattle.std.proofs.Common.{◌≡◌, ◌≢◌, ℕ, zero, suc, ◌+◌, ◌<◌, ◌≤◌, true, false, List, [], ◌∷◌, ◌++◌, length, length-append, Option, Some, None, option_map, is_some, refl, sym, ap, ap₂, ◌∙◌, arith, eq-eqb, ne_eqb, append-nil, true≢false, inl, inr}
+use Rattle.std.proofs.Common.{◌≡◌, ◌≢◌, ℕ, zero, suc, ◌+◌, ◌<◌, ◌≤◌, true, false, List, [], ◌∷◌, ◌++◌, length, length-append, Option, Some, None, option_map, is_some, refl, sym, ap, ap₂, ◌∙◌, arith, eq-eqb, ne_eqb, append-nil, true≢false}
 use Rattle.std.specs.Prelude.{◌==◌, ◌⊎◌, max, if◌then◌else◌}
 use Rattle.std.proofs.lemmas.{Bool.Decides.eqb_tells, List.map-append, List.Elements.filter-append, Grind.common_steps}
 use Rattle.bx_entry.specs.Registry.{Registered, extended, closed}
@@ -133,13 +133,7 @@ module _ (n : ℕ) where
     length-closed r there (suc k) le = by (λ h. length-closed r there k h) (eqb_tells (suc k) n)
       where
         by : (n ≤ k → length (sessions_to new k) + 1 ≡ length (sessions_to at k)) → ((suc k == n) ≡ true) × (suc k ≡ n) ⊎ ((suc k == n) ≡ false) × (suc k ≢ n) → length (with_one (sessions_to new k) (session_of (new (suc k)))) + 1 ≡ length (with_one (sessions_to at k) (session_of (at (suc k))))
-        by before (inl e) =
-            let same : sessions_to new k ≡ sessions_to at k = same_to new at k (λ q le. others q (omega (arith, le, e.1))) in
-            ap (λ o. length (with_one (sessions_to new k) (session_of o)) + 1) (ap new e.1 ∙ gone) ∙ ap (λ rs. length rs + 1) same ∙ sym (length-append (sessions_to at k) (r ∷ []))
-            ∙ ap (λ o. length (with_one (sessions_to at k) (session_of o))) (sym (ap at e.1 ∙ there))
-        by before (inr e) =
-            ap (λ o. length (with_one (sessions_to new k) (session_of o)) + 1) (others (suc k) e.1)
-            ∙ length-one (sessions_to new k) (sessions_to at k) (at (suc k)) (before (omega (arith, le, e.1)))
+        by h1 h2 = grind (arith, common_steps, same_to, length-append, length-one)
 
 -- ---- a due moment moved on
 

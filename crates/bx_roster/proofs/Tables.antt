@@ -30,8 +30,7 @@ IsTable-filter low high p (r ∷ rs) t = grind (arith, common_steps, IsTable-fil
 pub IsTable-map : (low high : ℕ) (g : Registered → Registered) (rs : List Registered) → ((r : Registered) → (g r).number ≡ r.number) → ((r : Registered) → (g r).client ≡ r.client) →
     IsTable low high rs → IsTable low high (map g rs)
 IsTable-map low high g [] number client t = t
-IsTable-map low high g (r ∷ rs) number client t =
-    (omega (arith, number r, t.0), rw (number r, client r) t.1, rw (number r) (IsTable-map r.number high g rs number client t.2))
+IsTable-map low high g (r ∷ rs) number client t = grind (arith, common_steps, IsTable-map r.number high g rs number client t.2)
 
 pub IsTable-push : (low high : ℕ) (rs : List Registered) (s : Registered) → high < s.number → IsNamed s → IsTable low high rs → IsTable low s.number (rs ++ s ∷ [])
 IsTable-push low high [] s above named t = (omega (arith, t), named, omega arith)

@@ -1,12 +1,12 @@
 //! What a request or a tick changes of the sessions.
-use crate::session::Session;
+use crate::session::LiveSession;
 use bx_message::Sequence;
 
 /// A change of the sessions.
 #[derive(Drop)]
 pub enum Edit {
     /// One more session.
-    Open(Session),
+    Open(LiveSession),
     /// The due moment of the session of this number moves on to this one, in milliseconds, never
     /// back.
     Extend { number: u64, due: u64 },

@@ -9,7 +9,7 @@ ghost use Rattle.bx_roster.specs.Edits.{IsNext};
 ghost use Rattle.bx_roster.specs.Kept.{later, sessions_in};
 
 use crate::due_queue::DueQueue;
-use crate::session::Session;
+use crate::session::LiveSession;
 use indexmap::IndexMap;
 use std::alloc::{AllocFailed, Global};
 use std::marker::Model;
@@ -19,7 +19,7 @@ use std::marker::Model;
 /// more than there are live sessions.
 #[derive(Drop)]
 pub(crate) struct Roster {
-    records: IndexMap<u64, Option<Session>>,
+    records: IndexMap<u64, Option<LiveSession>>,
     limit: usize,
     count: usize,
     opened: u64,
@@ -67,7 +67,7 @@ impl Roster {
     }
 
     /// The live session with this number.
-    pub(crate) fn find(&self, number: u64) -> Option<&Session>
+    pub(crate) fn find(&self, number: u64) -> Option<&LiveSession>
         ensures known { option_map (λ s. known_of s.now) result ≡ known_at number self.now.members.live }
         ensures due { option_map (λ s. s.now.due) result ≡ due_at number self.now.members.live }
     {
@@ -96,7 +96,7 @@ impl Roster {
     }
 
     /// Puts a vacant record under the next number, where there is none.
-    pub(crate) fn prepare(&mut self) -> Result<(), AllocFailed<(u64, Option<Session>)>>
+    pub(crate) fn prepare(&mut self) -> Result<(), AllocFailed<(u64, Option<LiveSession>)>>
         requires { self.old.members.opened + 1 < 2 ^ 64 }
         ensures members { self.new.members ≡ self.old.members }
         ensures ready { OnOk result (self.new.ready ≡ true) }
@@ -107,7 +107,7 @@ impl Roster {
     }
 
     /// Fills the vacant record with a session. It takes no memory.
-    pub(crate) fn open(&mut self, session: Session)
+    pub(crate) fn open(&mut self, session: LiveSession)
         requires next { IsNext self.old.members session }
         requires ready { self.old.ready ≡ true }
         ensures opened { self.new ≡ record {
@@ -158,7 +158,7 @@ impl Roster {
 }
 
 // Files the sessions among these records.
-fn file_each(queue: &mut DueQueue, records: &IndexMap<u64, Option<Session>>)
+fn file_each(queue: &mut DueQueue, records: &IndexMap<u64, Option<LiveSession>>)
     requires empty { entries queue.old ≡ [] }
     requires few { length (sessions_in (values records.now)) ≤ queue.old.room }
     ensures filed { AllFiled (entries queue.new) (sessions_in (values records.now)) }
@@ -173,7 +173,7 @@ fn file_each(queue: &mut DueQueue, records: &IndexMap<u64, Option<Session>>)
 }
 
 // Moves the due moment of a session on, never back.
-fn move_on(session: &mut Option<Session>, due: u64)
+fn move_on(session: &mut Option<LiveSession>, due: u64)
     ensures { session.new ≡ option_map (later due) session.old }
 {
     if let Some(session) = session {

@@ -7,7 +7,7 @@ use std::marker::Model;
 
 /// A session that was opened.
 #[derive(Drop)]
-pub struct Session {
+pub struct LiveSession {
     /// Sessions are counted from 1 on, in the order in which they were opened.
     pub number: u64,
     /// Its client id, which ends in the digits of its number.
@@ -20,7 +20,7 @@ pub struct Session {
     pub live: bool,
 }
 
-impl Model for Session {
+impl Model for LiveSession {
     ghost use Rattle.bx_entry.specs.Registry.{Registered};
 
     ghost Value = { Registered };
@@ -43,7 +43,7 @@ pub struct Known<'a> {
     pub ack: bool,
 }
 
-impl Session {
+impl LiveSession {
     /// What is known of it.
     pub fn known(&self) -> Known<'_>
         ensures { (result.client.now, result.ack) ≡ known_of self.now }

@@ -10,7 +10,7 @@ ghost use Rattle.bx_roster.specs.Edits.{CanEdit, CanEditBy, CanEditEach, IsNext,
 use crate::due_queue::{Due, DueQueue};
 use crate::edit::{Edit, Edits};
 use crate::roster::Roster;
-use crate::session::{Known, Session};
+use crate::session::{Known, LiveSession};
 use bx_message::Sequence;
 use std::alloc::{AllocError, AllocFailed, Global};
 use std::marker::Model;
@@ -84,7 +84,7 @@ impl Table {
     }
 
     // Adds a session.
-    fn open(&mut self, session: Session)
+    fn open(&mut self, session: LiveSession)
         requires next { IsNext self.old.members session }
         requires ready { self.old.ready ≡ true }
         ensures { self.new ≡ record {

@@ -3,8 +3,8 @@ use Rattle.std.proofs.Common.{◌≡◌, ◌≢◌, ℕ, ◌+◌, ◌<◌, List,
 use Rattle.std.specs.{List.before_first, List.position_or_len, Io.KnownBytes.Consumes, Io.KnownBytes.IsAtEnd, Io.KnownBytes.Keeps}
 use Rattle.bx_script.specs.Words.{is_newline, kept_with, keep_byte, first_of, rest_of, IsCut, PartRead, ReadsPart}
 use Rattle.bx_script.specs.declared.kept.TheConstants.{KEPT_LIMIT}
-use Rattle.bx_script.specs.declared.part.Step.{Step}
-use Rattle.bx_script.specs.declared.part.Step.TheVariants.{Again, More, Line, End}
+use Rattle.bx_script.specs.declared.part.ReadOutcome.{ReadOutcome}
+use Rattle.bx_script.specs.declared.part.ReadOutcome.TheVariants.{Again, More, Line, End}
 use Rattle.bx_script.proofs.Cuts.{Lacks, before_behind, after_behind, before_lacks, taken_through}
 
 fold-append : (f : List ℕ → ℕ → List ℕ) (k xs ys : List ℕ) → fold f k (xs ++ ys) ≡ fold f (fold f k xs) ys
@@ -36,7 +36,7 @@ line_read m y kept now lacks is =
       sym rest ∙ ap rest_of (sym joined),
     )
 
-part_read : (step : Step) (x y shown : List ℕ) (n used : ℕ) (kept now : List ℕ) → IsCut shown n used step → x ≡ take used shown ++ y → (length shown ≡ 0 → y ≡ []) → now ≡ kept_with kept (take n shown)
+part_read : (step : ReadOutcome) (x y shown : List ℕ) (n used : ℕ) (kept now : List ℕ) → IsCut shown n used step → x ≡ take used shown ++ y → (length shown ≡ 0 → y ≡ []) → now ≡ kept_with kept (take n shown)
     → PartRead step x y kept now
 part_read Again x y shown n used kept now cut e end is = absurd cut
 part_read More x y shown n used kept now cut e end is =
@@ -54,7 +54,7 @@ part_read End x y shown n used kept now cut e end is =
     (all ∙ none, sym all, is ∙ ap (λ k. kept_with kept (take k shown)) cut.1)
 
 -- where the bytes are known
-pub reads_part : (step : Step) (a c : Option (List ℕ)) (shown : List ℕ) (n used : ℕ) (kept now : List ℕ) → IsCut shown n used step
+pub reads_part : (step : ReadOutcome) (a c : Option (List ℕ)) (shown : List ℕ) (n used : ℕ) (kept now : List ℕ) → IsCut shown n used step
     → Consumes a c (take used shown) → (length shown ≡ 0 → OnSome a (IsAtEnd c)) → now ≡ kept_with kept (take n shown) → ReadsPart step a c kept now
 reads_part step None c shown n used kept now cut e end is = tt
 reads_part step (Some x) None shown n used kept now cut e end is = absurd e

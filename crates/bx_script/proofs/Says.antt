@@ -57,47 +57,23 @@ twenty_digits n ds some long =
     le_trans big (le_trans low high)
 
 pub many_digits : (m : List ℕ) → IsNormal m → 21 < length m → number_of m ≡ None
-many_digits [] h long = absurd (omega arith)
-many_digits (x ∷ []) h long = absurd (omega arith)
 many_digits (x ∷ y ∷ m) (inl first) long =
     let some : 1 ≤ 0 * 10 + digit_value x = omega (arith, first_digit x first) in
     large_is_none (x ∷ y ∷ m) (twenty_digits (0 * 10 + digit_value x) (y ∷ m) some (omega arith))
 many_digits (x ∷ y ∷ m) (inr second) long =
     let some : 1 ≤ (0 * 10 + digit_value x) * 10 + digit_value y = omega (arith, first_digit y second) in
     large_is_none (x ∷ y ∷ m) (twenty_digits ((0 * 10 + digit_value x) * 10 + digit_value y) m some (omega arith))
+many_digits _ h long = absurd (omega arith)
 
 -- ---- a long line
 
--- what a long body, query or number comes to
-large_body : (text : List ℕ) → BODY_LIMIT < length text → body_taken text ≡ Refused 413
-large_body text h = rw (lt-ltb BODY_LIMIT (length text) h)
-
-large_query : (text : List ℕ) → BODY_LIMIT < length text → query_taken text ≡ Refused 413
-large_query text h = rw (lt-ltb BODY_LIMIT (length text) h)
-
-large_number : (text : List ℕ) → BODY_LIMIT < length text → resharded_by text ≡ Bad
-large_number text h = rw (lt-ltb BODY_LIMIT (length text) h)
-
-same_line : (t p g s : Bool) (tick x u y v z w : Line) → x ≡ u → y ≡ v → z ≡ w
-    → cond t tick (cond p x (cond g y (cond s z Bad))) ≡ cond t tick (cond p u (cond g v (cond s w Bad)))
-same_line t p g s tick x u y v z w first second third = rw (first, second, third)
-
 -- it says the same without its end
 cut_command : (moment n : ℕ) (rest : List ℕ) → BODY_LIMIT + 2 < n → n < length rest → command moment (take n rest) ≡ command moment rest
-cut_command moment n [] long within = absurd (omega arith)
-cut_command moment n (a ∷ []) long within = absurd (omega arith)
-cut_command moment n (a ∷ b ∷ []) long within = absurd (omega arith)
-cut_command moment zero (a ∷ b ∷ rest) long within = absurd (omega arith)
-cut_command moment (suc zero) (a ∷ b ∷ rest) long within = absurd (omega arith)
-cut_command moment (suc (suc zero)) (a ∷ b ∷ c ∷ rest) long within = absurd (omega arith)
 cut_command moment (suc (suc (suc n))) (a ∷ b ∷ c ∷ rest) long within =
     let short : BODY_LIMIT < length (c ∷ take n rest) = omega (arith, length-take-le n rest (omega arith)) in
     let whole : BODY_LIMIT < length (c ∷ rest) = omega arith in
-    let text = a ∷ b ∷ c ∷ rest in
-    same_line (bytes_eq text (codes "T")) (starts_with nat_eq text (codes "P ")) (starts_with nat_eq text (codes "G ")) (starts_with nat_eq text (codes "S ")) (Accepted None (Tick moment)) _ _ _ _ _ _
-    (ap (handed_by moment) (large_body (c ∷ take n rest) short ∙ sym (large_body (c ∷ rest) whole)))
-    (ap (handed_by moment) (large_query (c ∷ take n rest) short ∙ sym (large_query (c ∷ rest) whole)))
-    (large_number (c ∷ take n rest) short ∙ sym (large_number (c ∷ rest) whole))
+    rw (lt-ltb BODY_LIMIT (length (c ∷ take n rest)) short, lt-ltb BODY_LIMIT (length (c ∷ rest)) whole)
+cut_command moment _ _ long within = absurd (omega arith)
 
 no_command : (o : Option ℕ) → line_by o [] ≡ Bad
 no_command o = grind (arith, common_steps)
@@ -110,9 +86,8 @@ at_space m r lacks =
     ap (λ l. line_by (number_of l) (after_first is_space (m ++ 32 ∷ r))) (before_it 32 m r lacks) ∙ ap (line_by (number_of m)) (after_it 32 m r lacks)
 
 front_is_normal : (m r : List ℕ) → IsNormal (m ++ r) → IsNormal m
-front_is_normal [] r h = tt
-front_is_normal (x ∷ []) r h = tt
 front_is_normal (x ∷ y ∷ m) r h = h
+front_is_normal _ r h = tt
 
 -- what is behind the moment, cut
 cut_rest : (m r : List ℕ) (n : ℕ) → IsNormal m → BODY_LIMIT + 24 < n + length m → line_by (number_of m) (take n r) ≡ line_by (number_of m) r

@@ -3,8 +3,8 @@ use Rattle.std.specs.Prelude.{ℕ, ◌≡◌, ◌≢◌, ◌<◌, ◌+◌, Bool,
 use Rattle.std.specs.List.{before_first, after_first, position_or_len}
 use Rattle.bx_script.specs.Replay.{is_newline}
 use Rattle.bx_script.specs.Kept.{kept_with}
-use Rattle.bx_script.specs.declared.part.Step.{Step}
-use Rattle.bx_script.specs.declared.part.Step.TheVariants.{Again, More, Line, End}
+use Rattle.bx_script.specs.declared.part.ReadOutcome.{ReadOutcome}
+use Rattle.bx_script.specs.declared.part.ReadOutcome.TheVariants.{Again, More, Line, End}
 
 -- the first line, and what stands behind it
 abbrev pub first_of : List ℕ → List ℕ
@@ -14,14 +14,14 @@ abbrev pub rest_of : List ℕ → List ℕ
 rest_of script = after_first is_newline script
 
 -- what a step made of the bytes that were left, and of what is kept
-abbrev pub PartRead : Step → List ℕ → List ℕ → List ℕ → List ℕ → Type 0
+abbrev pub PartRead : ReadOutcome → List ℕ → List ℕ → List ℕ → List ℕ → Type 0
 PartRead Again before after kept now = (after ≡ before) × (now ≡ kept)
 PartRead More before after kept now = (before ≢ []) × (kept_with now (first_of after) ≡ kept_with kept (first_of before)) × (rest_of after ≡ rest_of before)
 PartRead Line before after kept now = (before ≢ []) × (now ≡ kept_with kept (first_of before)) × (after ≡ rest_of before)
 PartRead End before after kept now = (before ≡ []) × (after ≡ before) × (now ≡ kept)
 
 -- the same where the reader's bytes are known
-abbrev pub ReadsPart : Step → Option (List ℕ) → Option (List ℕ) → List ℕ → List ℕ → Type 0
+abbrev pub ReadsPart : ReadOutcome → Option (List ℕ) → Option (List ℕ) → List ℕ → List ℕ → Type 0
 ReadsPart step None new kept now = ⊤
 ReadsPart step (Some before) None kept now = ⊥
 ReadsPart step (Some before) (Some after) kept now = PartRead step before after kept now
@@ -48,7 +48,7 @@ ReadingOn began (Some before) None kept = ⊥
 ReadingOn began (Some before) (Some after) kept = IsBegun began before after × (kept_with kept (first_of after) ≡ kept_with [] (first_of before)) × (rest_of after ≡ rest_of before)
 
 -- how many of these bytes stand in the line, and how many are read with its end
-abbrev pub IsCut : List ℕ → ℕ → ℕ → Step → Type 0
+abbrev pub IsCut : List ℕ → ℕ → ℕ → ReadOutcome → Type 0
 IsCut shown n used Again = ⊥
 IsCut shown n used More = (shown ≢ []) × (n ≡ length shown) × (used ≡ length shown) × (position_or_len is_newline shown ≡ length shown)
 IsCut shown n used Line = (n ≡ position_or_len is_newline shown) × (used ≡ n + 1) × (n < length shown)

@@ -110,10 +110,8 @@ pub record Numbered : Type 0 where
 -- the inputs among lines, which are counted from `number`
 abbrev pub inputs_from : ℕ → List Line → List Numbered
 inputs_from number [] = []
-inputs_from number (Bad ∷ ls) = inputs_from (number + 1) ls
-inputs_from number (Rejected status ∷ ls) = inputs_from (number + 1) ls
 inputs_from number (Accepted callback input ∷ ls) = record { line = number; callback = callback; input = input } ∷ inputs_from (number + 1) ls
-inputs_from number (Resharded shards ∷ ls) = inputs_from (number + 1) ls
+inputs_from number (_ ∷ ls) = inputs_from (number + 1) ls
 
 -- ---- what is printed
 
@@ -128,9 +126,8 @@ response_text (Some name) items = callback_text name items
 -- what an input prints once it is whole; a tick that is taken prints nothing, and no request is taken that can't be read
 abbrev pub result_text : Numbered → ReadInput → Result (List Item) Refusal → List ℕ
 result_text n input (Err refusal) = line_text n.line (decimal (code_of (refusal_status refusal)))
-result_text n (Request moment nonce ms) (Ok items) = line_text n.line (codes "200 " ++ response_text n.callback items)
-result_text n (Unread fault) (Ok items) = line_text n.line (codes "200 " ++ response_text n.callback items)
 result_text n (Tick moment) (Ok items) = []
+result_text n _ (Ok items) = line_text n.line (codes "200 " ++ response_text n.callback items)
 
 -- an out, by the input that it belongs to
 abbrev pub out_by : Out → Option Numbered → List ℕ

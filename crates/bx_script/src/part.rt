@@ -10,7 +10,7 @@ use std::io::{BufRead, ErrorKind};
 
 // What one read of a part of a line came to.
 #[derive(Clone, Copy)]
-enum Step {
+enum ReadOutcome {
     // It was interrupted.
     Again,
     // The line goes on.
@@ -61,10 +61,10 @@ impl Reads {
         while self.left > 0 {
             self.left -= 1;
             match self.read_part(reader, kept)? {
-                Step::Again => {}
-                Step::More => began = true,
-                Step::Line => return Ok(true),
-                Step::End => return Ok(began),
+                ReadOutcome::Again => {}
+                ReadOutcome::More => began = true,
+                ReadOutcome::Line => return Ok(true),
+                ReadOutcome::End => return Ok(began),
             }
         }
         Err(ScriptFault::Read)
@@ -75,7 +75,7 @@ impl Reads {
         &mut self,
         reader: &mut R,
         kept: &mut Vec<u8>,
-    ) -> Result<Step, ScriptFault>
+    ) -> Result<ReadOutcome, ScriptFault>
         ensures part { IfOk result (λ step. ReadsPart step (R.remaining reader.old) (R.remaining reader.new)
             kept.old.items kept.new.items) }
         ensures left { self.new.left ≡ self.old.left }
@@ -83,7 +83,7 @@ impl Reads {
     {
         let shown = match reader.fill_buf() {
             Ok(shown) => shown,
-            Err(error) if error.kind() == ErrorKind::Interrupted => return Ok(Step::Again),
+            Err(error) if error.kind() == ErrorKind::Interrupted => return Ok(ReadOutcome::Again),
             Err(error) => {
                 self.failed = true;
                 return Err(ScriptFault::of_read(&error));
@@ -97,17 +97,17 @@ impl Reads {
 }
 
 // How many of the bytes stand in the line, how many are read with its end, and what comes of reading these.
-fn cut(shown: &[u8]) -> (usize, usize, Step)
+fn cut(shown: &[u8]) -> (usize, usize, ReadOutcome)
     ensures parts { IsCut shown.now result.0 result.1 result.2 }
     ensures before { result.0 ≤ length shown.now }
     ensures within { result.1 ≤ length shown.now }
 {
     if shown.is_empty() {
-        return (0, 0, Step::End);
+        return (0, 0, ReadOutcome::End);
     }
     match newline_in(shown) {
-        Some(length) => (length, length + 1, Step::Line),
-        None => (shown.len(), shown.len(), Step::More),
+        Some(length) => (length, length + 1, ReadOutcome::Line),
+        None => (shown.len(), shown.len(), ReadOutcome::More),
     }
 }
 

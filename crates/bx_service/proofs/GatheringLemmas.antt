@@ -8,7 +8,7 @@ use Rattle.bx_held.specs.declared.fault.HeldFault.{HeldFault}
 use Rattle.bx_message.specs.declared.reply.{Answer.Answer, Item.Item, Reply.Reply}
 use Rattle.bx_message.specs.declared.reply.Item.TheVariants.{ReplyItem}
 use Rattle.bx_shard.specs.Shards.{Setup}
-use Rattle.bx_window.specs.declared.law.Step.{Step}
+use Rattle.bx_window.specs.declared.law.LogStep.{LogStep}
 use Rattle.bx_service.specs.Gatherings.{AreAll, Awaited, awaited_as, items_of}
 
 pub on_ok : {A E P Q : Type 0} (r : Result A E) → (P → Q) → OnOk r P → OnOk r Q
@@ -16,23 +16,23 @@ on_ok (Ok x) follows holds = follows holds
 on_ok (Err fault) follows holds = tt
 
 -- where nothing is changed but the names
-pub all_same : (setup : Setup) (seen was_seen : List Step) (there was_there : List Item) (awaited was_awaited : Option Awaited) (slots were_slots : List Slot) (all : List Item) →
+pub all_same : (setup : Setup) (seen was_seen : List LogStep) (there was_there : List Item) (awaited was_awaited : Option Awaited) (slots were_slots : List Slot) (all : List Item) →
     was_seen ≡ seen → was_there ≡ there → was_awaited ≡ awaited → were_slots ≡ slots → AreAll setup was_seen was_there was_awaited were_slots all → AreAll setup seen there awaited slots all
 all_same setup seen was_seen there was_there awaited was_awaited slots were_slots all s t a l given =
-    subst (λ (x : List Step). AreAll setup x there awaited slots all) s
+    subst (λ (x : List LogStep). AreAll setup x there awaited slots all) s
     (subst (λ (x : List Item). AreAll setup was_seen x awaited slots all) t
     (subst (λ (x : Option Awaited). AreAll setup was_seen was_there x slots all) a
     (subst (λ (x : List Slot). AreAll setup was_seen was_there was_awaited x all) l given)))
 
-module _ (setup : Setup) (seen : List Step) (there : List Item) (slots : List Slot) (all : List Item) where
+module _ (setup : Setup) (seen : List LogStep) (there : List Item) (slots : List Slot) (all : List Item) where
   -- an answer that came is put behind what is there
-  pub all_given : (ticket : Ticket) (from : List Step) (is_done : Bool) (a : Answer) → MayGive setup ticket from is_done (Ok a) →
+  pub all_given : (ticket : Ticket) (from : List LogStep) (is_done : Bool) (a : Answer) → MayGive setup ticket from is_done (Ok a) →
       AreAll setup seen (there ++ items_of a) None slots all → AreAll setup seen there (Some (awaited_as ticket from is_done)) slots all
   all_given ticket from is_done a may given =
       (items_of a ++ given.0, ((items_of a, ((a, (may, refl)), (given.0, (given.1.0, refl)))), given.1.1 ∙ append_assoc there (items_of a) given.0))
 
   -- what is waited for may be asked for once more
-  pub all_awaited : (t u : Ticket) (old new : List Step) (was is : Bool) → ((output : Result Answer HeldFault) → MayGive setup u new is output → MayGive setup t old was output) →
+  pub all_awaited : (t u : Ticket) (old new : List LogStep) (was is : Bool) → ((output : Result Answer HeldFault) → MayGive setup u new is output → MayGive setup t old was output) →
       AreAll setup seen there (Some (awaited_as u new is)) slots all → AreAll setup seen there (Some (awaited_as t old was)) slots all
   all_awaited t u old new was is same given =
       let left = given.1.0 in

@@ -1,3 +1,4 @@
+mod BodyLemmas
 mod ExchangeLemmas
 mod GatheringLemmas
 mod Tickets

@@ -8,7 +8,7 @@ use Rattle.bx_hub.specs.Posts.{AreSlotsAt, IsAdmittedAt}
 use Rattle.bx_theory.proofs.Lists.{judged_length}
 use Rattle.bx_shard.specs.Shards.{Setup}
 use Rattle.bx_window.specs.Steps.{list_of}
-use Rattle.bx_window.specs.declared.law.Step.{Step}
+use Rattle.bx_window.specs.declared.law.LogStep.{LogStep}
 use Rattle.bx_service.specs.Gatherings.{AreBelow}
 
 all_append : (end : ℕ) (xs ys : List Slot) → AreBelow end xs → AreBelow end ys → AreBelow end (xs ++ ys)
@@ -25,7 +25,7 @@ from_below setup end place [] l = tt
 from_below setup end place (slot ∷ slots) l =
     all_append end (given_by setup place slot) (given_from setup (place + 1) slots) (given_below setup end place slot (omega (arith, l))) (from_below setup end (place + 1) slots (omega (arith, l)))
 
-pub slots_below : (setup : Setup) (input : ReadInput) (first : ℕ) (old new : List Step) (slots : List Slot) → IsAdmittedAt input first old new → AreSlotsAt setup input first new slots →
+pub slots_below : (setup : Setup) (input : ReadInput) (first : ℕ) (old new : List LogStep) (slots : List Slot) → IsAdmittedAt input first old new → AreSlotsAt setup input first new slots →
     AreBelow (length (list_of new)) slots
 slots_below setup input first old new slots admitted are =
     let front : List Listed = take first (list_of new) in

@@ -9,7 +9,7 @@ use Rattle.bx_advice.specs.declared.config.TheConstants.{BODY_LIMIT}
 use Rattle.bx_service.specs.declared.{exchange.State.State, route.Route.Route}
 use Rattle.bx_service.specs.declared.exchange.State.TheVariants.{Collecting, Asked, Held, Refused}
 use Rattle.bx_service.specs.declared.route.Route.TheVariants as routes
-use Rattle.bx_body.specs.declared.collect.BodyFault.TheVariants.{TooLarge}
+use Rattle.bx_service.specs.declared.collect.CollectError.TheVariants.{TooLarge}
 use Rattle.bx_message.specs.declared.status.Status.TheVariants.{Unavailable}
 use Rattle.bx_service.specs.Statuses.{body_status, route_of}
 

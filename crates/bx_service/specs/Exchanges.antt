@@ -5,8 +5,8 @@ use Rattle.futures.specs.Runs.{Runs}
 use Rattle.http.specs.declared.response.Response.{Response}
 use Rattle.http_body.specs.declared.frame.Frame.{Frame}
 use Rattle.http_body_util.specs.declared.full.Full.{Full}
-use Rattle.bx_body.specs.Bodies.{Gives}
-use Rattle.bx_body.specs.declared.collect.BodyFault.{BodyFault}
+use Rattle.bx_service.specs.Bodies.{Gives}
+use Rattle.bx_service.specs.declared.collect.CollectError.{CollectError}
 use Rattle.bx_cut.specs.Bodies.{texts_of}
 use Rattle.bx_cut.specs.declared.bodies.Bodies.{Bodies}
 use Rattle.bx_message.specs.declared.reply.Item.{Item}
@@ -59,7 +59,7 @@ module _ {I : Type 0} (gives : I → Gathered → Type 0) where
     ForQuery (Err error) sent = IsRefusal (transport_status error) sent
 
     -- the response for a body that was collected, or was not; 503 where its documents found no memory
-    abbrev pub ForCollected : Option (List ℕ) → Result (Vec ℕ Global) BodyFault → Sent → Type 0
+    abbrev pub ForCollected : Option (List ℕ) → Result (Vec ℕ Global) CollectError → Sent → Type 0
     ForCollected kind (Ok all) sent = ForBody (post_taken kind all.items) sent ⊎ IsRefusal Unavailable sent
     ForCollected kind (Err fault) sent = IsRefusal (body_status fault) sent
 
@@ -71,7 +71,7 @@ module _ {I : Type 0} (gives : I → Gathered → Type 0) where
       -- The response for a request, by how far it is. While its body comes, it is that for what the body's collection may give.
       abbrev pub MayAnswer : State I B → Sent → Type 0
       MayAnswer (Collecting kind body) sent =
-          (collected : Result (Vec ℕ Global) BodyFault) × (Gives unread (yields body.body) body.limit body.bytes.items collected
+          (collected : Result (Vec ℕ Global) CollectError) × (Gives unread (yields body.body) body.limit body.bytes.items collected
           × ForCollected (option_map (λ text. text.items) kind) collected sent)
       MayAnswer (Asked query) sent = ForAsked query.items sent
       MayAnswer (Held callback items) sent = ForFuture (option_map string_bytes callback) items sent

@@ -11,7 +11,7 @@ use Rattle.bx_hub.specs.declared.fault.PostFault.{PostFault}
 use Rattle.bx_message.specs.declared.{reply.Answer.Answer, reply.Item.Item, status.Status.Status}
 use Rattle.bx_message.specs.declared.reply.Item.TheVariants.{EventItem, ReplyItem}
 use Rattle.bx_shard.specs.Shards.{Setup}
-use Rattle.bx_window.specs.declared.law.Step.{Step}
+use Rattle.bx_window.specs.declared.law.LogStep.{LogStep}
 use Rattle.bx_service.specs.Statuses.{post_status}
 
 -- a connect or a rider that waits stands below this place
@@ -37,18 +37,18 @@ items_of a = map EventItem a.events ++ ReplyItem a.reply ∷ []
 -- a connect or a rider that is waited for: its ticket, what had been seen when it was asked for last, and whether its answer was given
 pub record Awaited : Type 0 where
   pub ticket : Ticket
-  pub seen : List Step
+  pub seen : List LogStep
   pub is_done : Bool
 
-abbrev pub awaited_as : Ticket → List Step → Bool → Awaited
+abbrev pub awaited_as : Ticket → List LogStep → Bool → Awaited
 awaited_as ticket seen is_done = record { ticket = ticket; seen = seen; is_done = is_done }
 
 module _ (setup : Setup) where
   -- the items of a connect or a rider that waits: of an answer that it may be given since this was seen
-  abbrev pub AreItemsSince : Ticket → List Step → Bool → List Item → Type 0
+  abbrev pub AreItemsSince : Ticket → List LogStep → Bool → List Item → Type 0
   AreItemsSince ticket seen is_done items = (a : Answer) × (MayGive setup ticket seen is_done (Ok a) × (items ≡ items_of a))
 
-  module _ (seen : List Step) where
+  module _ (seen : List LogStep) where
     -- the items of a slot: its reply, or those of its connect or rider, by some front that begins with what was seen
     abbrev pub AreItemsFor : Slot → List Item → Type 0
     AreItemsFor (Ready reply) items = items ≡ ReplyItem reply ∷ []
@@ -75,7 +75,7 @@ request_of moment nonce documents = read_by moment nonce (request_messages docum
 module _ (tells draws : ℕ → Type 0) where
   -- At a moment that the clock tells and with a nonce that is drawn, the request stands at some place of what was then seen of the list, and the slots are
   -- what one thread gives for it there.
-  pub record AreSlotsFor (setup : Setup) (documents : List (List ℕ)) (seen : List Step) (slots : List Slot) : Type 0 where
+  pub record AreSlotsFor (setup : Setup) (documents : List (List ℕ)) (seen : List LogStep) (slots : List Slot) : Type 0 where
     pub moment : ℕ
     pub nonce : ℕ
     pub first : ℕ
@@ -89,7 +89,7 @@ module _ (tells draws : ℕ → Type 0) where
     pub moment : ℕ
     pub nonce : ℕ
     pub fault : PostFault
-    pub front : List Step
+    pub front : List LogStep
     pub told : tells moment
     pub drawn : draws nonce
     pub refused : IsRefused (request_of moment nonce documents) fault front

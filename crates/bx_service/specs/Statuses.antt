@@ -1,8 +1,8 @@
 -- The statuses of requests.
 use Rattle.std.specs.Prelude.{ℕ, List, Bool, ◌||◌, nat_eq, codes, if◌then◌else◌}
 use Rattle.std.specs.{List.starts_with, Str.bytes_eq}
-use Rattle.bx_body.specs.declared.collect.BodyFault.{BodyFault}
-use Rattle.bx_body.specs.declared.collect.BodyFault.TheVariants as bodies
+use Rattle.bx_service.specs.declared.collect.CollectError.{CollectError}
+use Rattle.bx_service.specs.declared.collect.CollectError.TheVariants as bodies
 use Rattle.bx_entry.specs.Statuses.{refusal_status}
 use Rattle.bx_entry.specs.declared.input.Refusal.TheVariants as refusals
 use Rattle.bx_hub.specs.declared.fault.PostFault.{PostFault}
@@ -25,7 +25,7 @@ route_of method path =
     else routes.Refused NotFound
 
 -- of a POST whose body is not collected: where it is too large, and for want of memory, as its transport has it
-abbrev pub body_status : BodyFault → Status
+abbrev pub body_status : CollectError → Status
 body_status bodies.TooLarge = transport_status transports.TooLarge
 body_status bodies.Failed = BadRequest
 body_status bodies.Memory = transport_status transports.Memory

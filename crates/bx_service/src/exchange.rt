@@ -10,12 +10,12 @@ ghost use Rattle.bx_service.specs.Beginnings.{Begins, IsAsking, IsPosting, IsToo
 ghost use Rattle.bx_service.specs.Exchanges.{ForAsked, ForCollected, ForDocuments, ForItems, MayAnswer, Sent};
 
 use crate::backend::{Backend, Unanswered};
+use crate::collect::{Collect, CollectError};
 use crate::response::{answer, refusal};
 use crate::route::Route;
 use crate::service::ServiceFault;
 use crate::status::body_status;
 use bx_advice::BODY_LIMIT;
-use bx_body::{BodyFault, Collect};
 use bx_cut::Bodies;
 use bx_message::{Item, Status};
 use bx_transport::{read_get, read_post};
@@ -89,7 +89,7 @@ impl<I: Future, B: Body> State<I, B> {
             Route::Refused(status) => State::Refused(status),
             Route::Get => State::asking(alloc, parts.uri.query()),
             Route::Post if is_too_long(parts.headers.get(CONTENT_LENGTH)) => {
-                State::Refused(body_status(BodyFault::TooLarge))
+                State::Refused(body_status(CollectError::TooLarge))
             }
             Route::Post => State::posting(alloc, parts.headers.get(CONTENT_TYPE), body),
         }
@@ -162,7 +162,7 @@ fn posted<S, I, B, D>(
     alloc: Global,
     backend: &S,
     content_type: Option<&[u8]>,
-    collected: Result<Vec<u8>, BodyFault>,
+    collected: Result<Vec<u8>, CollectError>,
 ) -> State<I, B>
 where
     S: Backend<Items = I>,

@@ -14,7 +14,7 @@ ghost use Rattle.bx_window.specs.Steps.{list_of};
 
 use crate::backend::Unanswered;
 use bx_entry::{Placing, Slot, Ticket};
-use bx_held::{HeldConnect, HeldFault};
+use bx_held::{HeldFault, PendingAnswer};
 use bx_hub::{Gate, Hub, Pass};
 use bx_message::{Answer, Item, Reply, Sequence};
 use bx_window::Naming;
@@ -33,7 +33,7 @@ pub struct Gathering<J: Naming, P: Placing, G: Gate + Drop, R: Wait + Drop> {
     hub: Arc<Hub<J, P, G, R>, Global>,
     pass: Pass<J>,
     items: Vec<Item>,
-    held: Option<HeldConnect<J>>,
+    held: Option<PendingAnswer<J>>,
     slots: IntoIter<Slot>,
     ghost within: { AreBelow (length (list_of pass)) (into_iter_items slots) } by { are_below-prop (length (list_of pass)) (into_iter_items slots) },
 }
@@ -69,7 +69,7 @@ impl<J: Naming, P: Placing + Drop, G: Gate + Drop, R: Wait + Copy + Drop> Gather
         ensures same { (self.new.items ≡ self.old.items) × (self.new.pass ≡ self.old.pass) × (self.new.slots ≡ self.old.slots) }
     {
         let pass = Pass::of(self.pass.note());
-        self.held = Some(HeldConnect::new(pass, ticket));
+        self.held = Some(PendingAnswer::new(pass, ticket));
     }
 
     // Puts the items of the message that is waited for behind the others, once they are there.
@@ -161,7 +161,7 @@ impl<J: Naming, P: Placing + Drop, G: Gate + Drop, R: Wait + Copy + Drop> Future
 
 // What a poll gives, without the value that says which waker was left.
 fn poll_once<J: Naming, P: Placing + Drop, G: Gate + Drop, R: Wait + Drop>(
-    held: &mut HeldConnect<J>,
+    held: &mut PendingAnswer<J>,
     rt: &R,
     alloc: Global,
     hub: &Hub<J, P, G, R>,

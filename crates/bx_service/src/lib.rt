@@ -2,6 +2,7 @@
 #![tactic(auto)]
 
 mod backend;
+mod collect;
 mod exchange;
 mod gathering;
 mod response;
@@ -10,6 +11,7 @@ mod service;
 mod status;
 
 pub use backend::{Backend, Clock, Declined, HubBackend, Nonces, Unanswered};
+pub use collect::{Collect, CollectError};
 pub use exchange::Exchange;
 pub use gathering::Gathering;
 pub use service::{BayeuxService, ServiceFault};

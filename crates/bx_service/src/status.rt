@@ -3,7 +3,7 @@ ghost use Rattle.std.specs.Prelude.{◌≡◌};
 ghost use Rattle.bx_message.specs.Statuses.{code_of};
 ghost use Rattle.bx_service.specs.Statuses.{body_status, post_status};
 
-use bx_body::BodyFault;
+use crate::collect::CollectError;
 use bx_entry::Refusal;
 use bx_hub::PostFault;
 use bx_message::Status;
@@ -22,13 +22,13 @@ pub(crate) fn code_of(status: Status) -> StatusCode
 
 /// The status of a POST whose body was not collected: of one that is too large, and where memory was refused, as the transport has it. (This
 /// server's choice.)
-pub(crate) fn body_status(fault: BodyFault) -> Status
+pub(crate) fn body_status(fault: CollectError) -> Status
     ensures { result ≡ body_status fault }
 {
     match fault {
-        BodyFault::TooLarge => TransportError::TooLarge.status(),
-        BodyFault::Failed => Status::BadRequest,
-        BodyFault::Memory => TransportError::Memory.status(),
+        CollectError::TooLarge => TransportError::TooLarge.status(),
+        CollectError::Failed => Status::BadRequest,
+        CollectError::Memory => TransportError::Memory.status(),
     }
 }
 
@@ -43,6 +43,7 @@ pub(crate) fn post_status(fault: PostFault) -> Status
         PostFault::Closed
         | PostFault::Behind { .. }
         | PostFault::Overrun { .. }
+        | PostFault::Misplaced { .. }
         | PostFault::Memory => Status::Unavailable,
     }
 }

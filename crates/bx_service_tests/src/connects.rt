@@ -8,7 +8,7 @@ use crate::texts;
 use bench::{Bench, TICKET, Task, Want, check_poll};
 use bx_advice::Config;
 use bx_entry::{ByRemainder, Ticket};
-use bx_held::{HeldConnect, HeldFault};
+use bx_held::{HeldFault, PendingAnswer};
 use bx_hub::{Hub, OpenGate};
 use bx_window::{Naming, Opened};
 use futures::test::MockTask;
@@ -179,7 +179,7 @@ fn gives<J: Naming, H: Wait + Drop, Q: Wait + Copy + Drop, R: Abort>(
     rt: &R,
     bench: &Bench<J, H, Q>,
     task: Task,
-    held: &mut HeldConnect<J>,
+    held: &mut PendingAnswer<J>,
     want: Want,
 ) -> Result<(), Fail> {
     check_poll(rt, bench.alloc, &bench.poll(task, held), want)?;
@@ -192,7 +192,7 @@ fn gives<J: Naming, H: Wait + Drop, Q: Wait + Copy + Drop, R: Abort>(
 fn take<J: Naming, H: Wait + Drop, Q: Wait + Copy + Drop, R: Abort>(
     rt: &R,
     bench: &mut Bench<J, H, Q>,
-    held: &mut HeldConnect<J>,
+    held: &mut PendingAnswer<J>,
     step: Step,
 ) -> Result<(), Fail> {
     match step {
@@ -215,7 +215,7 @@ fn take<J: Naming, H: Wait + Drop, Q: Wait + Copy + Drop, R: Abort>(
 fn take_all<J: Naming, H: Wait + Drop, Q: Wait + Copy + Drop, R: Abort>(
     rt: &R,
     bench: &mut Bench<J, H, Q>,
-    held: &mut HeldConnect<J>,
+    held: &mut PendingAnswer<J>,
     steps: &[Step],
 ) -> Result<(), Fail> {
     for step in steps {

@@ -1,7 +1,6 @@
 //! Requests as tables have them, and what each must be given.
 use crate::pieces::Pieces;
-use bx_body::Collect;
-use bx_service::ServiceFault;
+use bx_service::{Collect, ServiceFault};
 use bytes::Bytes;
 use futures::Future;
 use futures::task::Poll;

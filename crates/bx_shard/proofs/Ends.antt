@@ -1,14 +1,13 @@
 -- Each change of a session ends its hold with the answer that it gives, or leaves the hold.
-use Rattle.std.proofs.Common.{arith, Contains, subst, ◌≡◌, ◌⊎◌, inl, inr, ℕ, nat_eq, Bool, cond, ◌&&◌, Option, Some, None, option_map, List, [], ◌∷◌, ◌++◌, map, length, ◌==◌, refl, sym, ap, ◌∙◌}
+use Rattle.std.proofs.Common.{arith, Contains, subst, ◌≡◌, ◌⊎◌, inl, inr, ℕ, nat_eq, Bool, cond, Option, Some, None, option_map, List, [], ◌∷◌, map, refl, sym, ap, ◌∙◌}
 use Rattle.std.specs.Option.{option_and_then}
-use Rattle.std.proofs.lemmas.Bool.{cond_both, eq-eqb}
+use Rattle.std.proofs.lemmas.{Bool.cond_both, Bool.eq-eqb, Grind.common_steps}
 use Rattle.bx_advice.specs.declared.{config.Config.Config, advice.Outcome.Outcome}
-use Rattle.bx_advice.specs.declared.advice.Outcome.TheVariants.{Connected, Disconnected, Failed}
+use Rattle.bx_advice.specs.declared.advice.Outcome.TheVariants.{Disconnected, Failed}
 use Rattle.bx_advice.specs.declared.error.Error.TheVariants.{QueueOverflow}
 use Rattle.bx_message.specs.declared.reply.Answer.{Answer}
-use Rattle.bx_entry.specs.Words.{Kept, after, kept, resumed, acknowledges, forms}
-use Rattle.bx_entry.specs.Sessions.{Pending, Publication, Session, acknowledged, admitted, answered, answered_or_held, cleared, delivered, delivered_to, ends_by, expired, expired_from, filing, forgotten, formed, given, gives, has_room, holding, idle, overflowed, portion, received, released, released_from, unheld, window_in, with_batch, with_event}
-use Rattle.bx_entry.specs.Sessions as sessions
+use Rattle.bx_entry.specs.Words.{Kept, after, kept, resumed}
+use Rattle.bx_entry.specs.Sessions.{Pending, Publication, Session, acknowledged, admitted, answered, answered_or_held, delivered_to, expired, expired_from, given, gives, received, released, released_from, with_event}
 use Rattle.bx_session.specs.declared.answered.Answered.{Answered}
 use Rattle.bx_session.specs.Views.{answered_of, deadline_of}
 use Rattle.bx_connects.specs.declared.connects.ConnectState.{ConnectState}
@@ -117,32 +116,22 @@ ended_by : (k : Kept) (s : Session) (q : Pending) (a : Answered) → k.held ≡ 
 ended_by k s q a held given own free = inl (record { session = k; hold = q; answer = a; here = refl; held = held; given = given; own = own; free = λ p. ap (λ h. ends_for h p) free })
 
 released_from_e : (config : Config) (place : ℕ) (outcome : Outcome) (k : Kept) (held : Option Pending) → k.held ≡ held → From k (released_from config place outcome (resumed k) held)
-released_from_e config place outcome k None e = unchanged k (resumed k) refl refl
-released_from_e config place outcome k (Some q) e = ended_by k (released_from config place outcome (resumed k) (Some q)) q _ e refl refl refl
+released_from_e config place outcome k held e = grind (arith, common_steps)
 
 pub released_e : (config : Config) (place : ℕ) (outcome : Outcome) (k : Kept) → From k (released config place outcome (resumed k))
 released_e config place outcome k = released_from_e config place outcome k k.held refl
 
 expired_from_e : (config : Config) (place moment : ℕ) (k : Kept) (held : Option Pending) → k.held ≡ held → From k (expired_from config place moment (resumed k) held)
-expired_from_e config place moment k None e = unchanged k (resumed k) refl refl
-expired_from_e config place moment k (Some q) e =
-    cond_both (ends_by moment q) (released config place Connected (resumed k)) (resumed k) (From k) (λ h. released_e config place Connected k) (λ h. unchanged k (resumed k) refl refl)
+expired_from_e config place moment k held e = grind (arith, common_steps)
 
 pub expired_e : (config : Config) (place moment : ℕ) (k : Kept) → From k (expired config place moment (resumed k))
 expired_e config place moment k = expired_from_e config place moment k k.held refl
 
 delivered_e : (config : Config) (e : Publication) (k : Kept) (held : Option Pending) → k.held ≡ held → From k (delivered_to config e (with_event e (resumed k)) held)
-delivered_e config e k None h = unchanged k (with_event e (resumed k)) refl refl
-delivered_e config e k (Some q) h =
-    let t : Session = unheld (with_event e (resumed k)) in
-    cond_both k.ack (with_batch 1 t) (forgotten 1 t) (λ u. From k (answered config q e.place (e ∷ []) Connected u))
-    (λ g. ended_by k (answered config q e.place (e ∷ []) Connected (with_batch 1 t)) q _ h refl refl refl)
-    (λ g. ended_by k (answered config q e.place (e ∷ []) Connected (forgotten 1 t)) q _ h refl refl refl)
+delivered_e config e k held h = grind (arith, common_steps)
 
 pub received_e : (config : Config) (e : Publication) (k : Kept) → From k (received config e (resumed k))
-received_e config e k =
-    let s : Session = resumed k in
-    cond_both (has_room config s) (delivered config e s) (overflowed s) (From k) (λ g. delivered_e config e k k.held refl) (λ g. unchanged k (overflowed s) refl refl)
+received_e config e k = grind (arith, common_steps)
 
 -- ---- a connect where none is held
 
@@ -152,14 +141,10 @@ record Quiet (s t : Session) : Type 0 where
   answers : t.answers ≡ s.answers
 
 acknowledged_q : (acked : Option ℕ) (s : Session) → Quiet s (acknowledged acked s)
-acknowledged_q None s = record { held = refl; answers = refl }
-acknowledged_q (Some n) s = cond_both (s.ack && acknowledges n (window_in s)) (cleared s) s (Quiet s) (λ h. record { held = refl; answers = refl }) (λ h. record { held = refl; answers = refl })
+acknowledged_q acked s = grind (arith, common_steps)
 
 gives_q : (config : Config) (s : Session) → Quiet s (gives config s)
-gives_q config s =
-    cond_both s.ack (formed config s) (forgotten (portion config s) s) (Quiet s)
-    (λ h. cond_both (forms config.limits.batch (window_in s)) (with_batch (portion config s) s) s (Quiet s) (λ g. record { held = refl; answers = refl }) (λ g. record { held = refl; answers = refl }))
-    (λ h. record { held = refl; answers = refl })
+gives_q config s = grind (arith, common_steps)
 
 -- a session that holds a connect
 abbrev pub with_hold : Pending → Kept → Kept
@@ -167,16 +152,10 @@ with_hold p k = record k { held = Some p }
 
 module _ (config : Config) (p : Pending) (k : Kept) (free : k.held ≡ None) where
   answered_e : (events : List Publication) (outcome : Outcome) (t : Session) → Quiet (resumed k) t → From (with_hold p k) (answered config p p.place events outcome t)
-  answered_e events outcome t q =
-      ended_by (with_hold p k) (answered config p p.place events outcome t) p _ refl (ap (λ (fs : List sessions.Filed). map answered_of (fs ++ filing config p p.place events outcome t ∷ [])) q.answers) refl (q.held ∙ free)
+  answered_e events outcome t q = grind (arith, common_steps)
 
   settled_e : (t : Session) → Quiet (resumed k) t → From (with_hold p k) (answered_or_held config p t)
-  settled_e t q =
-      cond_both (length (given config t) == 0) (idle config p t) (answered config p p.place (given config t) Connected (gives config t)) (From (with_hold p k))
-      (λ h. cond_both (p.hold == 0) (answered config p p.place [] Connected t) (holding p t) (From (with_hold p k))
-      (λ g. answered_e [] Connected t q) (λ g. unchanged (with_hold p k) (holding p t) q.answers refl))
-      (λ h. let r : Quiet t (gives config t) = gives_q config t in
-      answered_e (given config t) Connected (gives config t) (record { held = r.held ∙ q.held; answers = r.answers ∙ q.answers }))
+  settled_e t q = grind (arith, common_steps)
 
   pub admitted_e : (acked : Option ℕ) (overflow : Bool) → From (with_hold p k) (admitted config p acked overflow (resumed k))
   admitted_e acked overflow =

@@ -1,9 +1,8 @@
 -- Sessions found by their numbers, and answers found by the places of their connects.
-use Rattle.std.proofs.Common.{◌≡◌, ℕ, suc, ◌<◌, false, cond, Option, Some, None, List, [], ◌∷◌, map, filter, find, flat_map, ◌==◌, refl, sym, ap, ◌∙◌, subst, arith, eqb-true, eq-eqb}
-use Rattle.std.proofs.lemmas.{Bool.cond_both, Bool.cond-true, Bool.cond-false, List.Folds.find-append, List.Kept.AllPairs-from_increasing}
+use Rattle.std.proofs.Common.{Bool, ◌≡◌, ℕ, suc, ◌<◌, false, cond, Option, Some, None, List, [], ◌∷◌, map, filter, find, flat_map, ◌==◌, refl, sym, ap, ◌∙◌, subst, arith}
+use Rattle.std.proofs.lemmas.{List.Folds.find-append, List.Kept.AllPairs-from_increasing}
 use Rattle.std.proofs.lemmas.List.Elements.{All-cons, All-nil, Contains-append_left, Contains-append_right}
 use Rattle.std.specs.{List.All, List.AllPairs, List.Contains, List.Sorted.IsStrictlyIncreasing, Option.option_or}
-use Rattle.bx_lists.proofs.Tests.{either}
 use Rattle.bx_advice.specs.declared.config.Config.{Config}
 use Rattle.bx_entry.specs.declared.entry.Entry.{Entry}
 use Rattle.bx_entry.specs.Words.{PlacedAnswer, answer_of, Kept, kept_step, Filed, is_live}
@@ -51,41 +50,35 @@ none_above m (k ∷ ks) h = grind (arith, none_above m ks h.1, h.0)
 -- what is found has the number, and all that holds of each
 pub found_each : (P : Kept → Type 0) (m : ℕ) (ks : List Kept) (k : Kept) → find_kept m ks ≡ Some k → All P ks → P k × (k.number ≡ m)
 found_each P m [] k e h = absurd (let no : None ≡ Some k = e in cc)
-found_each P m (j ∷ ks) k e h = either (j.number == m) (P k × (k.number ≡ m))
-    (λ t. let same : Some j ≡ Some k = sym (cond-true (j.number == m) (Some j) (find_kept m ks) t) ∙ e in
-    let one : j ≡ k = cc in
-    subst (λ (l : Kept). P l × (l.number ≡ m)) one (h 0 j (omega arith), eqb-true j.number m t))
-    (λ f. found_each P m ks k (sym (cond-false (j.number == m) (Some j) (find_kept m ks) f) ∙ e) (λ i d l. h (suc i) d (omega arith)))
+found_each P m (j ∷ ks) k e h =
+    let here : P j = h 0 j (omega arith) in
+    let later : find_kept m ks ≡ Some k → P k × (k.number ≡ m) = λ g. found_each P m ks k g (λ i d l. h (suc i) d (omega arith)) in
+    grind (arith, here, later)
 
 -- ---- a step of each
 
+abbrev live_of : (Kept → Kept) → List Kept → List Kept
+live_of F ks = filter (λ (k : Kept). is_live k.stage) (map F ks)
+
+abbrev live_then : (Kept → Kept) → Option Kept → Option Kept
+live_then F None = None
+live_then F (Some k) = cond (is_live (F k).stage) (Some (F k)) None
+
+live_found : (F : Kept → Kept) (m : ℕ) (ks : List Kept) → Apart (numbers_of ks) → All (λ k. (F k).number ≡ k.number) ks → find_kept m (live_of F ks) ≡ live_then F (find_kept m ks)
+live_found F m [] d h = refl
+live_found F m (k ∷ ks) d h =
+    let absent : k.number ≡ m → find_kept m ks ≡ None = λ same. none_above m ks (subst (λ (n : ℕ). Above n (numbers_of ks)) same d.0) in
+    grind (arith, h 0 k (omega arith), absent, live_found F m ks d.1 (λ i b a. h (suc i) b (omega arith)))
+
 abbrev pub steps : Config → Entry → List Kept → List Kept
-steps config e ks = filter (λ (k : Kept). is_live k.stage) (map (λ (k : Kept). kept_step config k e) ks)
+steps config e ks = live_of (λ (k : Kept). kept_step config k e) ks
 
 -- what the session that was found becomes, where it stays live
 abbrev pub next : Config → Entry → Option Kept → Option Kept
-next config e None = None
-next config e (Some k) = cond (is_live (kept_step config k e).stage) (Some (kept_step config k e)) None
+next config e o = live_then (λ (k : Kept). kept_step config k e) o
 
 pub steps_found : (config : Config) (e : Entry) (m : ℕ) (ks : List Kept) → Apart (numbers_of ks) → All (λ k. (kept_step config k e).number ≡ k.number) ks → find_kept m (steps config e ks) ≡ next config e (find_kept m ks)
-steps_found config e m [] d h = refl
-steps_found config e m (k ∷ ks) d h =
-    let l : Kept = kept_step config k e in
-    let rest : List Kept = steps config e ks in
-    let same : (kept_step config k e).number ≡ k.number = h 0 k (omega arith) in
-    let ih : find_kept m (steps config e ks) ≡ next config e (find_kept m ks) = steps_found config e m ks d.1 (λ i b a. h (suc i) b (omega arith)) in
-    either (k.number == m) (find_kept m (steps config e (k ∷ ks)) ≡ next config e (find_kept m (k ∷ ks)))
-    (λ t.
-    let none : find_kept m rest ≡ None = ih ∙ ap (next config e) (none_above m ks (subst (λ (n : ℕ). Above n (numbers_of ks)) (eqb-true k.number m t) d.0)) in
-    cond_both (is_live l.stage) (l ∷ rest) rest (λ (xs : List Kept). find_kept m xs ≡ next config e (Some k))
-    (λ live. cond-true (l.number == m) (Some l) (find_kept m rest) (ap (λ (n : ℕ). n == m) same ∙ t) ∙ sym (cond-true (is_live l.stage) (Some l) None live))
-    (λ dead. none ∙ sym (cond-false (is_live l.stage) (Some l) None dead))
-    ∙ sym (ap (next config e) (cond-true (k.number == m) (Some k) (find_kept m ks) t)))
-    (λ f.
-    cond_both (is_live l.stage) (l ∷ rest) rest (λ (xs : List Kept). find_kept m xs ≡ next config e (find_kept m ks))
-    (λ live. cond-false (l.number == m) (Some l) (find_kept m rest) (ap (λ (n : ℕ). n == m) same ∙ f) ∙ ih)
-    (λ dead. ih)
-    ∙ sym (ap (next config e) (cond-false (k.number == m) (Some k) (find_kept m ks) f)))
+steps_found config e m ks d h = live_found (λ (k : Kept). kept_step config k e) m ks d h
 
 -- ---- answers
 
@@ -101,9 +94,7 @@ each_none A p (k ∷ ks) h =
 
 pub none_there : (p : ℕ) (fs : List Filed) → find_of p fs ≡ None → All (λ f. (f.connect == p) ≡ false) fs
 none_there p [] h = All-nil (λ f. (f.connect == p) ≡ false)
-none_there p (f ∷ fs) h = either (f.connect == p) (All (λ g. (g.connect == p) ≡ false) (f ∷ fs))
-    (λ t. absurd (let no : Some f ≡ None = sym (cond-true (f.connect == p) (Some f) (find_of p fs) t) ∙ h in cc))
-    (λ n. All-cons (λ g. (g.connect == p) ≡ false) f fs n (none_there p fs (sym (cond-false (f.connect == p) (Some f) (find_of p fs) n) ∙ h)))
+none_there p (f ∷ fs) h = All-cons (λ g. (g.connect == p) ≡ false) f fs (grind arith) (none_there p fs (grind arith))
 
 -- the session that has the answer, and that is found by its number
 pub record GivenBy (A : Kept → List Filed) (ks : List Kept) (p : ℕ) (f : Filed) : Type 0 where
@@ -117,12 +108,9 @@ given_by A (k ∷ ks) p f d h =
     by_option (λ o. option_or o (find_of p (flat_map A ks)) ≡ Some f → GivenBy A (k ∷ ks) p f) (find_of p (A k))
     (λ a b.
     let g : GivenBy A ks p f = given_by A ks p f d.1 b in
-    let other : (k.number == g.one.number) ≡ false =
-    either (k.number == g.one.number) ((k.number == g.one.number) ≡ false)
-    (λ t. absurd (let no : None ≡ Some g.one = sym (none_above g.one.number ks (subst (λ (n : ℕ). Above n (numbers_of ks)) (eqb-true k.number g.one.number t) d.0)) ∙ g.found in cc))
-    (λ n. n) in
-    record { one = g.one; found = cond-false (k.number == g.one.number) (Some k) (find_kept g.one.number ks) other ∙ g.found; gives = g.gives })
-    (λ g a b. record { one = k; found = cond-true (k.number == k.number) (Some k) (find_kept k.number ks) (eq-eqb k.number k.number refl); gives = a ∙ b })
+    let absent : k.number ≡ g.one.number → find_kept g.one.number ks ≡ None = λ same. none_above g.one.number ks (subst (λ (n : ℕ). Above n (numbers_of ks)) same d.0) in
+    record { one = g.one; found = grind (arith, absent, g.found); gives = g.gives })
+    (λ g a b. record { one = k; found = grind arith; gives = a ∙ b })
     (sym (find-append (λ (g : Filed). g.connect == p) (A k) (flat_map A ks)) ∙ h)
 
 -- what is found is one of them
@@ -130,11 +118,12 @@ pub contains_found : (p : ℕ) (fs : List Filed) (f : Filed) → find_of p fs �
 contains_found p [] f h = absurd (let no : None ≡ Some f = h in cc)
 contains_found p (g ∷ fs) f h =
     let first : List Answered = answered_of g ∷ [] in
-    either (g.connect == p) (Contains (map answered_of (g ∷ fs)) (answered_of f))
-    (λ t. let same : Some g ≡ Some f = sym (cond-true (g.connect == p) (Some g) (find_of p fs) t) ∙ h in
-    let one : g ≡ f = cc in
-    subst (λ (x : Filed). Contains (answered_of g ∷ map answered_of fs) (answered_of x)) one (Contains-append_left first (map answered_of fs) (answered_of g) (0, omega arith, refl)))
-    (λ n. Contains-append_right first (map answered_of fs) (answered_of f) (contains_found p fs f (sym (cond-false (g.connect == p) (Some g) (find_of p fs) n) ∙ h)))
+    let here : Contains (map answered_of (g ∷ fs)) (answered_of g) = Contains-append_left first (map answered_of fs) (answered_of g) (0, omega arith, refl) in
+    let later : find_of p fs ≡ Some f → Contains (map answered_of (g ∷ fs)) (answered_of f) = λ e. Contains-append_right first (map answered_of fs) (answered_of f) (contains_found p fs f e) in
+    by_test (g.connect == p) g (find_of p fs) f (Contains (map answered_of (g ∷ fs))) here later h
+  where
+    by_test : (b : Bool) (g : Filed) (o : Option Filed) (f : Filed) (P : Answered → Type 0) → P (answered_of g) → (o ≡ Some f → P (answered_of f)) → cond b (Some g) o ≡ Some f → P (answered_of f)
+    by_test b g o f P here later is = grind arith
 
 -- what is found is the answer to that connect, given at the place at which all are
 pub placed_found : (p place : ℕ) (fs : List Filed) (f : Filed) → map filed_as fs ≡ map (filed_at place) (map answered_of fs) → find_of p fs ≡ Some f → (answer_of f ≡ placed place (answered_of f).answer) × (f.connect ≡ p)
@@ -142,8 +131,5 @@ placed_found p place [] f e h = absurd (let no : None ≡ Some f = h in cc)
 placed_found p place (g ∷ fs) f e h =
     let head : filed_as g ≡ filed_at place (answered_of g) = cc in
     let tail : map filed_as fs ≡ map (filed_at place) (map answered_of fs) = cc in
-    either (g.connect == p) ((answer_of f ≡ placed place (answered_of f).answer) × (f.connect ≡ p))
-    (λ t. let same : Some g ≡ Some f = sym (cond-true (g.connect == p) (Some g) (find_of p fs) t) ∙ h in
-    let one : g ≡ f = cc in
-    subst (λ (x : Filed). (answer_of x ≡ placed place (answered_of x).answer) × (x.connect ≡ p)) one (ap (λ (x : ℕ × PlacedAnswer). x.1) head, eqb-true g.connect p t))
-    (λ n. placed_found p place fs f tail (sym (cond-false (g.connect == p) (Some g) (find_of p fs) n) ∙ h))
+    let own : answer_of g ≡ placed place (answered_of g).answer = ap (λ (x : ℕ × PlacedAnswer). x.1) head in
+    grind (arith, own, placed_found p place fs f tail)

@@ -1,13 +1,13 @@
 -- What each kind of entry does to the sessions of a shard, from what the calls promise.
-use Rattle.std.proofs.Common.{arith, Contains, ◌≡◌, ◌≢◌, ◌&&◌, ◌⊎◌, inl, inr, ℕ, nat_eq, ◌==◌, Bool, true, false, cond, Option, Some, None, option_map, is_none, is_some, List, [], map, refl, sym, ap, ◌∙◌, true≢false, subst}
+use Rattle.std.proofs.Common.{arith, Contains, ◌≡◌, ◌≢◌, ◌⊎◌, inl, inr, ℕ, nat_eq, ◌==◌, Bool, true, false, cond, Option, Some, None, option_map, is_some, List, [], map, refl, sym, ap, ◌∙◌, subst}
 use Rattle.std.specs.{List.list_any, Option.option_and_then, Option.option_map_or}
-use Rattle.std.proofs.lemmas.{Bool.eqb-true, Bool.eq-eqb, Bool.cond_both, List.Elements.Contains-append_cases}
+use Rattle.std.proofs.lemmas.{Bool.eqb-true, Bool.eq-eqb, List.Elements.Contains-append_cases}
 use Rattle.bx_names.specs.Globs.{Glob}
 use Rattle.bx_advice.specs.declared.advice.Outcome.TheVariants.{Disconnected}
 use Rattle.bx_message.specs.declared.event.Event.{Event}
 use Rattle.bx_entry.specs.declared.entry.{Entry.Entry, EntryKind.EntryKind}
 use Rattle.bx_entry.specs.declared.entry.EntryKind.TheVariants as kinds
-use Rattle.bx_entry.specs.Words.{Kept, after, kept, resumed, Live, Pending, Session, Stage, Unopened, begun, closed_by, connected, disconnected, ended, expired, is_live, published, released, step, subscribed, unopened, unsubscribed}
+use Rattle.bx_entry.specs.Words.{Kept, after, kept, resumed, Live, Pending, Session, Stage, begun, closed_by, connected, disconnected, ended, expired, is_live, published, released, step, subscribed, unopened, unsubscribed}
 use Rattle.bx_session.specs.declared.answered.Answered.{Answered}
 use Rattle.bx_session.specs.Views.{answered_of, deadline_of, pending}
 use Rattle.bx_connects.specs.declared.connects.ConnectState.{ConnectState}
@@ -119,7 +119,7 @@ followed_opened_here stands e m ack old new kind here gone sessions others count
   config = others.0;
   sessions = λ n. sessions n ∙ by n (kept_in old n) refl (counted n);
   connects = record {
-    given = λ n a g. absurd (nothing n a (kept_in old n) (counted n) g);
+    given = λ n a g. absurd (nowhere a (rw (none n (kept_in old n)) at g));
     kept = λ p never. ap (λ c. connect_at c p) others.2;
   };
   known = λ p n k. inl (sym (ap (λ c. session_at (connect_at c p)) others.2) ∙ k);
@@ -133,37 +133,20 @@ followed_opened_here stands e m ack old new kind here gone sessions others count
     opened : Kept
     opened = after (λ s. begun ack s s.stage) (kept (unopened m))
 
-    first : (n : ℕ) (b : Bool) → nat_eq m n ≡ b → cond b (Some opened) None ≡ option_and_then (λ k. if_live (kept (step old.config (resumed k) follows))) (cond (b && stands) (Some (kept (unopened m))) None)
-    first n true same =
-        ap (λ b. if_live (kept (cond b (begun ack (unopened m) Unopened) (unopened m)))) (sym (eq-eqb m m refl))
-        ∙ ap (λ b. option_and_then (λ k. if_live (kept (step old.config (resumed k) follows))) (cond b (Some (kept (unopened m))) None)) (sym here)
-    first n false other = refl
-
-    already : (n : ℕ) (k : Kept) (b : Bool) → nat_eq m n ≡ b → kept_in old n ≡ Some k → IsOwn n k (patterns_in old n) → cond b (Some opened) (Some k) ≡ if_live (kept (cond b (begun ack (resumed k) k.stage) (resumed k)))
-    already n k true same is own = absurd (true≢false (ap is_none (sym gone ∙ ap (kept_in old) (eqb-true m n same) ∙ is)))
-    already n k false other is own = live_there (resumed k) own.live
-
     by : (n : ℕ) (o : Option Kept) → kept_in old n ≡ o → IsCounted n o (patterns_in old n) → cond (nat_eq m n) (Some opened) o ≡ session_after old.config stands follows n o
-    by n None is c = first n (nat_eq m n) refl
-    by n (Some k) is c = already n k (nat_eq m n) refl is c ∙ ap (λ (j : ℕ). if_live (kept (cond (m == j) (begun ack (resumed k) k.stage) (resumed k)))) (sym c.number)
+    by n o is c = grind (arith, gone)
 
-    begun_answers : (k : Kept) (stage : Stage) → (begun ack (resumed k) stage).answers ≡ []
-    begun_answers k stage = grind arith
-
-    nothing : (n : ℕ) (a : Answered) (o : Option Kept) → IsCounted n o (patterns_in old n) → Contains (answers_by (λ s. step old.config s follows) o) a → ⊥
-    nothing n a None c there = nowhere a there
-    nothing n a (Some k) c there =
-        nowhere a (subst (λ given. Contains (map answered_of given) a)
-        (cond_both (m == k.number) (begun ack (resumed k) k.stage) (resumed k) (λ (t : Session). t.answers ≡ []) (λ h. begun_answers k k.stage) (λ h. refl)) there)
+    none : (n : ℕ) (o : Option Kept) → answers_by (λ s. step old.config s follows) o ≡ []
+    none n o = grind arith
 
 -- an entry that changes nothing: no session takes a step, and none is opened
 unchanged : (stands : Bool) (e : Entry) (s : Sessions) (kind : EntryKind) → e.kind ≡ kind → ((n : ℕ) → kept_in s n ≡ session_after s.config stands (record e { kind = kind; rides = None }) n (kept_in s n))
-    → ((n : ℕ) (a : Answered) → IsGiven s.config (kept_in s) (record e { kind = kind; rides = None }) n a → ⊥)
+    → ((n : ℕ) → answers_by (λ t. step s.config t (record e { kind = kind; rides = None })) (kept_in s n) ≡ [])
     → ((p : ℕ) → connect_at s.connects p ≡ states.begun (kept_in s) (connect_at s.connects) (record e { kind = kind; rides = None }) kind p) → AreCounted s → AreHeld s → Followed stands (alone e) s s
-unchanged stands e s kind is sessions nothing connects counted held = of_kind stands e kind s s is (record {
+unchanged stands e s kind is sessions none connects counted held = of_kind stands e kind s s is (record {
   config = refl;
   sessions = sessions;
-  connects = record { given = λ n a g. absurd (nothing n a g); kept = λ p never. connects p };
+  connects = record { given = λ n a g. absurd (nowhere a (rw (none n) at g)); kept = λ p never. connects p };
   known = λ p m k. inl k;
   counted = counted;
   held = held;
@@ -173,27 +156,16 @@ unchanged stands e s kind is sessions nothing connects counted held = of_kind st
 pub followed_opened_elsewhere : (stands : Bool) (e : Entry) (m : ℕ) (ack : Bool) (old new : Sessions) → e.kind ≡ kinds.Opened m ack → (stands ≡ false) ⊎ (is_some (kept_in old m) ≡ true) → new ≡ old
     → AreCounted old → AreHeld old → Followed stands (alone e) old new
 followed_opened_elsewhere stands e m ack old new kind elsewhere same counted held =
-    subst (Followed stands (alone e) old) (sym same) (unchanged stands e old (kinds.Opened m ack) kind (λ n. by n (kept_in old n) refl (counted n)) (λ n a g. nothing n a (kept_in old n) (counted n) g) (λ p. refl) counted held)
+    subst (Followed stands (alone e) old) (sym same) (unchanged stands e old (kinds.Opened m ack) kind (λ n. by n (kept_in old n) refl (counted n)) (λ n. none (kept_in old n)) (λ p. refl) counted held)
   where
     follows : Entry
     follows = record e { kind = kinds.Opened m ack; rides = None }
 
-    begun_live : (k : Kept) (b : Bool) → k.stage ≡ Live → cond b (begun ack (resumed k) k.stage) (resumed k) ≡ resumed k
-    begun_live k b live = grind arith
-
-    none : (n : ℕ) (b : Bool) → nat_eq m n ≡ b → kept_in old n ≡ None → (stands ≡ false) ⊎ (is_some (kept_in old m) ≡ true)
-        → None ≡ option_and_then (λ k. if_live (kept (step old.config (resumed k) follows))) (cond (b && stands) (Some (kept (unopened m))) None)
-    none n true is gone (inl away) = ap (λ b. option_and_then (λ k. if_live (kept (step old.config (resumed k) follows))) (cond b (Some (kept (unopened m))) None)) (sym away)
-    none n true is gone (inr here) = absurd (true≢false (sym here ∙ ap (λ k. is_some (kept_in old k)) (eqb-true m n is) ∙ ap is_some gone))
-    none n false is gone why = refl
-
     by : (n : ℕ) (o : Option Kept) → kept_in old n ≡ o → IsCounted n o (patterns_in old n) → o ≡ session_after old.config stands follows n o
-    by n None gone c = none n (nat_eq m n) refl gone elsewhere
-    by n (Some k) here c = live_there (resumed k) c.live ∙ ap (λ (t : Session). if_live (kept t)) (sym (begun_live k (m == k.number) c.live))
+    by n o here c = grind (arith, elsewhere)
 
-    nothing : (n : ℕ) (a : Answered) (o : Option Kept) → IsCounted n o (patterns_in old n) → Contains (answers_by (λ s. step old.config s follows) o) a → ⊥
-    nothing n a None c there = nowhere a there
-    nothing n a (Some k) c there = nowhere a (subst (λ (t : Session). Contains (map answered_of t.answers) a) (begun_live k (m == k.number) c.live) there)
+    none : (o : Option Kept) → answers_by (λ s. step old.config s follows) o ≡ []
+    none o = grind arith
 
 -- ---- a connect
 
@@ -281,11 +253,8 @@ followed_pending stands e m client id acked hold old new kind fresh sessions con
 
     known : (p n : ℕ) (o : Option Kept) → kept_in old m ≡ o → session_at (connect_filing m connect change (kept_in old m) (connect_at old.connects) p) ≡ Some n
         → (session_at (connect_at old.connects p) ≡ Some n) ⊎ Connects (kept_in old) follows p n
-    known p n None gone k = inl (sym (ap (λ o. session_at (connect_filing m connect change o (connect_at old.connects) p)) gone) ∙ k)
-    known p n (Some x) here k =
-        by (nat_eq e.place p) refl
-        (sym (ap (λ o. session_at (connect_filing m connect change o (connect_at old.connects) p)) here
-        ∙ filing_each_session e.place (answers_by change (Some x)) (holding m connect (connect_at old.connects)) p) ∙ k)
+    known p n None gone k = inl (rw gone at k)
+    known p n (Some x) here k = by (nat_eq e.place p) refl (rw (here, filing_each_session e.place (answers_by change (Some x)) (holding m connect (connect_at old.connects)) p) at k)
       where
         by : (b : Bool) → nat_eq e.place p ≡ b → session_at (cond b (held_by m (deadline_of connect)) (connect_at old.connects p)) ≡ Some n
             → (session_at (connect_at old.connects p) ≡ Some n) ⊎ Connects (kept_in old) follows p n
@@ -300,14 +269,9 @@ followed_pending stands e m client id acked hold old new kind fresh sessions con
     kept_at p never = connects p ∙ by (kept_in old m) refl
       where
         by : (o : Option Kept) → kept_in old m ≡ o → connect_filing m connect change (kept_in old m) (connect_at old.connects) p ≡ states.begun (kept_in old) (connect_at old.connects) follows (kinds.Connect m client id acked hold) p
-        by None gone =
-            ap (λ o. connect_filing m connect change o (connect_at old.connects) p) gone
-            ∙ ap (λ o. cond (is_some o) (holding m connect (connect_at old.connects) p) (connect_at old.connects p)) (sym gone)
-        by (Some k) here =
-            ap (λ o. connect_filing m connect change o (connect_at old.connects) p) here
-            ∙ unfiled e.place (answers_by change (Some k)) (holding m connect (connect_at old.connects)) p
-            (λ a there. never m a (given_one stands e m old counted (kinds.Connect m client id acked hold) change (λ s. refl) a (subst (λ o. Contains (answers_by change o) a) (sym here) there)))
-            ∙ ap (λ o. cond (is_some o) (holding m connect (connect_at old.connects) p) (connect_at old.connects p)) (sym here)
+        by None gone = rw gone
+        by (Some k) here = rw here (unfiled e.place (answers_by change (Some k)) (holding m connect (connect_at old.connects)) p
+            (λ a there. never m a (given_one stands e m old counted (kinds.Connect m client id acked hold) change (λ s. refl) a (rw here there))))
 
 -- a connect of a session that is here, or is not
 pub followed_connect : (stands : Bool) (e : Entry) (m : ℕ) (client : List ℕ) (id : Option (List ℕ)) (acked : Option ℕ) (hold : ℕ) (connect : Pending) (old new : Sessions)
@@ -332,7 +296,7 @@ followed_connect_elsewhere stands e m client id acked hold old new kind gone sam
     subst (Followed stands (alone e) old) (sym same)
     (unchanged stands e old (kinds.Connect m client id acked hold) kind
     (λ n. away n (nat_eq m n) refl ∙ one_stepped stands e m old counted (kinds.Connect m client id acked hold) change (λ s. refl) (λ n. refl) (λ n k here. (connected_k old.config connect acked (resumed k)).stage) n)
-    nothing (λ p. ap (λ o. cond (is_some o) (holding m connect (connect_at old.connects) p) (connect_at old.connects p)) (sym gone)) counted held)
+    none (λ p. rw gone) counted held)
   where
     connect : Pending
     connect = pending e.place client id e.moment hold
@@ -343,9 +307,12 @@ followed_connect_elsewhere stands e m client id acked hold old new kind gone sam
     away : (n : ℕ) (b : Bool) → nat_eq m n ≡ b → kept_in old n ≡ cond b (option_map (after change) (kept_in old m)) (kept_in old n)
     away n b is = grind arith
 
-    nothing : (n : ℕ) (a : Answered) → IsGiven old.config (kept_in old) (record e { kind = kinds.Connect m client id acked hold; rides = None }) n a → ⊥
-    nothing n a g =
-        nowhere a (subst (λ o. Contains (answers_by change o) a) gone (one_given stands e m old counted (kinds.Connect m client id acked hold) change (λ s. refl) n a g).1)
+    none : (n : ℕ) → answers_by (λ s. step old.config s (record e { kind = kinds.Connect m client id acked hold; rides = None })) (kept_in old n) ≡ []
+    none n = one_answered stands e m old counted (kinds.Connect m client id acked hold) change (λ s. refl) n ∙ away_answers (nat_eq m n) refl
+      where
+        away_answers : (b : Bool) → nat_eq m n ≡ b → cond b (answers_by change (kept_in old n)) [] ≡ []
+        away_answers true is = rw (← eqb-true m n is, gone)
+        away_answers false is = refl
 
 -- ---- a disconnect
 
@@ -380,11 +347,7 @@ followed_disconnect stands e m old new kind sessions connects config counts hold
     given = answers_by (released old.config e.place Disconnected) (kept_in old m)
 
     same : answers_by (disconnected old.config e.place) (kept_in old m) ≡ given
-    same = of (kept_in old m)
-      where
-        of : (o : Option Kept) → answers_by (disconnected old.config e.place) o ≡ answers_by (released old.config e.place Disconnected) o
-        of None = refl
-        of (Some k) = refl
+    same = grind arith
 
     filed : (a : Answered) → Contains given a → connect_at new.connects a.place ≡ Some (Filed m e.place a.answer)
     filed a there = connects a.place ∙ filed_to (connect_at old.connects) (kept_in old) e.place m given a held (is_to (kept_in old m) None given a (release_settles old.config e.place (kept_in old m)) there)
@@ -393,15 +356,13 @@ followed_disconnect stands e m old new kind sessions connects config counts hold
 
 -- a refused message changes nothing
 pub followed_refused : (stands : Bool) (e : Entry) (s : Sessions) → e.kind ≡ kinds.Refused → AreCounted s → AreHeld s → Followed stands (alone e) s s
-followed_refused stands e s is counted held = unchanged stands e s kinds.Refused is (λ n. by n (kept_in s n) (counted n)) (λ n a g. nothing a (kept_in s n) g) (λ p. refl) counted held
+followed_refused stands e s is counted held = unchanged stands e s kinds.Refused is (λ n. by n (kept_in s n) (counted n)) (λ n. none (kept_in s n)) (λ p. refl) counted held
   where
     by : (n : ℕ) (o : Option Kept) → IsCounted n o (patterns_in s n) → o ≡ session_after s.config stands (record e { kind = kinds.Refused; rides = None }) n o
-    by n None c = refl
-    by n (Some k) c = live_there (resumed k) c.live
+    by n o c = grind arith
 
-    nothing : (a : Answered) (o : Option Kept) → Contains (answers_by (λ t. step s.config t (record e { kind = kinds.Refused; rides = None })) o) a → ⊥
-    nothing a None there = nowhere a there
-    nothing a (Some k) there = nowhere a there
+    none : (o : Option Kept) → answers_by (λ t. step s.config t (record e { kind = kinds.Refused; rides = None })) o ≡ []
+    none o = grind arith
 
 -- ---- patterns
 
@@ -415,7 +376,10 @@ followed_quiet : (stands : Bool) (e : Entry) (m : ℕ) (kind : EntryKind) (chang
 followed_quiet stands e m kind change old new is steps opens stage quiet begins sessions config connects before counted held = of_kind stands e kind old new is (record {
   config = config;
   sessions = λ n. sessions n ∙ one_stepped stands e m old before kind change steps opens stage n;
-  connects = record { given = λ n a g. absurd (nothing n a g); kept = λ p never. ap (λ c. connect_at c p) connects ∙ begins p };
+  connects = record {
+    given = λ n a g. absurd (nowhere a (rw (none (kept_in old m)) at (one_given stands e m old before kind change steps n a g).1));
+    kept = λ p never. ap (λ c. connect_at c p) connects ∙ begins p;
+  };
   known = λ p n k. inl (sym (ap (λ c. session_at (connect_at c p)) connects) ∙ k);
   counted = counted;
   held = held;
@@ -424,10 +388,6 @@ followed_quiet stands e m kind change old new is steps opens stage quiet begins 
     none : (o : Option Kept) → answers_by change o ≡ []
     none None = refl
     none (Some k) = ap (map answered_of) (quiet k)
-
-    nothing : (n : ℕ) (a : Answered) → IsGiven old.config (kept_in old) (record e { kind = kind; rides = None }) n a → ⊥
-    nothing n a g =
-        nowhere a (subst (λ answers. Contains answers a) (none (kept_in old m)) (one_given stands e m old before kind change steps n a g).1)
 
 -- a subscription changes the patterns of its session, and no connect
 pub followed_subscribe : (stands : Bool) (e : Entry) (m : ℕ) (patterns : List Glob) (old new : Sessions) → e.kind ≡ kinds.Subscribe m patterns
@@ -458,7 +418,7 @@ pub followed_publish : (stands : Bool) (e : Entry) (event : Event) (old new : Se
 followed_publish stands e event old new is sessions given kept_at known config before counted held = of_kind stands e (kinds.Publish event) old new is (record {
   config = config;
   sessions = λ n. sessions n ∙ by n (kept_in old n) (before n);
-  connects = record { given = λ n a g. given n a (same n a (kept_in old n) g); kept = λ p never. kept_at p (λ n a g. never n a (back n a (kept_in old n) g)) };
+  connects = record { given = λ n a g. given n a (rw (same (kept_in old n)) at g); kept = λ p never. kept_at p (λ n a g. never n a (subst (λ answers. Contains answers a) (sym (same (kept_in old n))) g)) };
   known = λ p m k. inl (sym (known p) ∙ k);
   counted = counted;
   held = held;
@@ -471,13 +431,9 @@ followed_publish stands e event old new is sessions given kept_at known config b
     by n None c = refl
     by n (Some k) c = live_there (change (resumed k)) (published_stage k old.config (published_at e.place event) ∙ c.live)
 
-    same : (n : ℕ) (a : Answered) (o : Option Kept) → Contains (answers_by (λ s. step old.config s (record e { kind = kinds.Publish event; rides = None })) o) a → Contains (answers_by change o) a
-    same n a None g = g
-    same n a (Some k) g = g
-
-    back : (n : ℕ) (a : Answered) (o : Option Kept) → Contains (answers_by change o) a → Contains (answers_by (λ s. step old.config s (record e { kind = kinds.Publish event; rides = None })) o) a
-    back n a None g = g
-    back n a (Some k) g = g
+    same : (o : Option Kept) → answers_by (λ s. step old.config s (record e { kind = kinds.Publish event; rides = None })) o ≡ answers_by change o
+    same None = refl
+    same (Some k) = refl
 
 -- ---- a tick
 
@@ -514,5 +470,4 @@ followed_tick stands e numbers old between new is ends given kept_at known confi
     by n (Some k) c = let s : Keeps (resumed k) (change (resumed k)) = expired_from_k old.config e.place e.moment (resumed k) k.held in closed_or_live n k (patterns_in old n) c numbers (change (resumed k)) s.stage s.number
 
     answered : (o : Option Kept) → answers_by (λ s. step old.config s follows) o ≡ answers_by change o
-    answered None = refl
-    answered (Some k) = cond_both (list_any (λ n. n == (change (resumed k)).number) numbers) (ended (change (resumed k))) (change (resumed k)) (λ (t : Session). map answered_of t.answers ≡ answers_by change (Some k)) (λ h. refl) (λ h. refl)
+    answered o = grind arith

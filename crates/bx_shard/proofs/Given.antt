@@ -1,8 +1,6 @@
 -- An answer that a shard has filed is the one that the list gives.
-use Rattle.std.proofs.Common.{arith, ◌≡◌, ℕ, ◌<◌, Bool, Option, Some, None, List, take, find, option_map, slice_get, nat_eq, ◌==◌, sym, ap, ◌∙◌, eqb-true}
-use Rattle.std.proofs.lemmas.Bool.{cond-true, cond-false}
+use Rattle.std.proofs.Common.{arith, ◌≡◌, ℕ, ◌<◌, Bool, Option, Some, None, List, take, find, option_map, slice_get, ◌==◌, sym, ap, ◌∙◌}
 use mathlib.Core.List.{IsPrefix}
-use Rattle.bx_lists.proofs.Tests.{either}
 use Rattle.bx_advice.specs.declared.config.Config.{Config}
 use Rattle.bx_message.specs.declared.reply.Answer.{Answer}
 use Rattle.bx_entry.specs.Words.{Listed, Registry, Judged, Waiting, registry, entries_of, Filed, session, PlacedAnswer, answer_of, filed_for, answer_at, answer}
@@ -57,7 +55,5 @@ as_before place old new none took = record {
   index = took.index_is;
   shut = took.shut_is;
   sessions = took.sessions;
-  connects = λ p. either (nat_eq place p) (connect_in new p ≡ connect_in old p)
-      (λ e. took.connects p ∙ cond-true (nat_eq place p) (taken_from (connect_in old place)) (connect_in old p) e ∙ none_taken (connect_in old place) none ∙ ap (connect_in old) (eqb-true place p e))
-      (λ e. took.connects p ∙ cond-false (nat_eq place p) (taken_from (connect_in old place)) (connect_in old p) e);
+  connects = λ p. grind (arith, took.connects p, none_taken (connect_in old place) none);
 }

@@ -1,23 +1,23 @@
 -- An entry answers only connects that weren't answered before.
 use Rattle.std.proofs.Common.{◌≡◌, ℕ, ◌⊎◌, ⊎_elim, inl, inr, Bool, true, false, cond, is_some, Option, Some, None, List, [], ◌∷◌, map, ◌==◌, refl, sym, ap, ◌∙◌, subst, arith}
-use Rattle.std.proofs.lemmas.{Bool.cond_both, List.map-append, List.Elements.Contains-append_cases}
-use Rattle.std.specs.List.{All, Contains, list_any}
-use Rattle.bx_names.specs.Globs.{Glob}
+use Rattle.std.proofs.lemmas.{Bool.cond_both, Grind.common_steps, List.map-append, List.Elements.Contains-append_cases}
+use Rattle.std.specs.List.{All, Contains}
 use Rattle.bx_advice.specs.declared.config.Config.{Config}
-use Rattle.bx_advice.specs.declared.advice.Outcome.TheVariants.{Disconnected, Failed}
+use Rattle.bx_advice.specs.declared.advice.Outcome.TheVariants.{Failed}
 use Rattle.bx_advice.specs.declared.error.Error.TheVariants.{SupersededConnect}
 use Rattle.bx_entry.specs.declared.entry.{Entry.Entry, EntryKind.EntryKind, Rider.Rider}
-use Rattle.bx_entry.specs.declared.entry.EntryKind.TheVariants.{Opened, Connect, Subscribe, Unsubscribe, Publish, Disconnect, Refused, Tick}
+use Rattle.bx_entry.specs.declared.entry.EntryKind.TheVariants.{Connect}
 use Rattle.bx_entry.specs.Keeping.{Kept, after, answers_of, kept, resumed}
-use Rattle.bx_entry.specs.Sessions.{Pending, Publication, Session, Stage, admitted, begun, connected, ended, expired, is_hit, is_riding, received, released, ridden, ridden_by, ride_filing, rider_of, step, step_by, subscribed, unheld}
+use Rattle.bx_entry.specs.Sessions.{Pending, Session, admitted, connected, is_riding, released, ridden, ridden_by, ride_filing, rider_of, step, step_by, unheld}
 use Rattle.bx_session.specs.declared.answered.Answered.{Answered}
 use Rattle.bx_session.specs.Views.{answered_of, pending}
 use Rattle.bx_session.proofs.ConnectLemmas.{connected_answers}
 use Rattle.bx_connects.specs.declared.connects.ConnectState.{ConnectState}
 use Rattle.bx_shard.specs.Effects.{answers_by}
 use Rattle.bx_shard.specs.Words.{filed_with_place, ends_for, held_until, holds_until, IsGiven, IsSound, State, connect_in, session_in}
-use Rattle.bx_shard.proofs.{Cases.by_option, Counts.subscribed_quiet, Rides.of_riding, Singles.nowhere, Singles.only_one}
-use Rattle.bx_shard.proofs.Ends.{From, IsTo, is_to, to_hold, admitted_e, expired_e, received_e, released_e, with_hold}
+use Rattle.bx_theory.proofs.Places.{is_connecting}
+use Rattle.bx_shard.proofs.{Cases.by_option, Singles.nowhere, Singles.only_one}
+use Rattle.bx_shard.proofs.Ends.{From, IsTo, is_to, to_hold, admitted_e, released_e, with_hold}
 
 -- ---- whom a session answers
 
@@ -40,9 +40,6 @@ held_due k t a from there =
 of_own : (b : Bool) (k : Kept) (t : Session) (a : Answered) → Contains (map answered_of (cond b t (resumed k)).answers) a → Contains (map answered_of t.answers) a
 of_own b k t a there = grind arith
 
-begun_nothing : (ack : Bool) (k : Kept) (stage : Stage) (a : Answered) → Contains (map answered_of (begun ack (resumed k) stage).answers) a → ⊥
-begun_nothing ack k stage a there = grind arith
-
 connected_due : (config : Config) (p : Pending) (acked : Option ℕ) (k : Kept) (a : Answered) → Contains (map answered_of (connected config p acked (resumed k)).answers) a → Due p.place k.held a
 connected_due config p acked k a there =
     let first : List Answered = map answered_of (answers_of (released config p.place (Failed SupersededConnect)) k) in
@@ -53,37 +50,27 @@ connected_due config p acked k a there =
     by (inl earlier) = inr (held_due k (released config p.place (Failed SupersededConnect) (resumed k)) a (released_e config p.place (Failed SupersededConnect) k) earlier)
     by (inr its_own) = inl (sym (held_due (with_hold p (after unheld k)) (admitted config p acked k.overflow (resumed (after unheld k))) a (admitted_e config p (after unheld k) refl acked k.overflow) its_own))
 
-subscribed_nothing : (config : Config) (k : Kept) (patterns : List Glob) (m : ℕ) (a : Answered) → Contains (map answered_of (cond (m == k.number) (subscribed config patterns (resumed k)) (resumed k)).answers) a → ⊥
-subscribed_nothing config k patterns m a there =
-    nowhere a (subst (λ given. Contains (map answered_of given) a) (subscribed_quiet k config patterns) (of_own (m == k.number) k (subscribed config patterns (resumed k)) a there))
+-- an entry that is no connect ends a hold with an answer, or gives none
+other_e : (config : Config) (place moment : ℕ) (k : Kept) (kind : EntryKind) → is_connecting kind ≡ false → From k (step_by config place moment (resumed k) kind)
+other_e config place moment k kind other = grind (arith, common_steps)
 
-received_due : (config : Config) (e : Publication) (k : Kept) (a : Answered) → Contains (map answered_of (cond (is_hit (resumed k) e.event) (received config e (resumed k)) (resumed k)).answers) a → HoldsIt k.held a.place
-received_due config e k a there = held_due k (received config e (resumed k)) a (received_e config e k) (of_own (is_hit (resumed k) e.event) k (received config e (resumed k)) a there)
+other_due : (config : Config) (place moment : ℕ) (k : Kept) (a : Answered) (kind : EntryKind) → is_connecting kind ≡ false → Contains (map answered_of (step_by config place moment (resumed k) kind).answers) a → HoldsIt k.held a.place
+other_due config place moment k a kind other there = held_due k (step_by config place moment (resumed k) kind) a (other_e config place moment k kind other) there
 
 -- every answer that an entry at this place gives
 answers_due : (config : Config) (place moment : ℕ) (k : Kept) (a : Answered) (kind : EntryKind) → Contains (map answered_of (step_by config place moment (resumed k) kind).answers) a → Due place k.held a
-answers_due config place moment k a (Opened m ack) there = absurd (begun_nothing ack k k.stage a (of_own (m == k.number) k (begun ack (resumed k) k.stage) a there))
 answers_due config place moment k a (Connect m client id acked hold) there =
     let p : Pending = pending place client id moment hold in
     connected_due config p acked k a (of_own (m == k.number) k (connected config p acked (resumed k)) a there)
-answers_due config place moment k a (Subscribe m patterns) there = absurd (subscribed_nothing config k patterns m a there)
-answers_due config place moment k a (Unsubscribe m patterns) there = absurd (nowhere a (of_own (m == k.number) k _ a there))
-answers_due config place moment k a (Publish event) there = inr (received_due config (record { place = place; event = event }) k a there)
-answers_due config place moment k a (Disconnect m) there =
-    inr (held_due k (released config place Disconnected (resumed k)) a (released_e config place Disconnected k) (of_own (m == k.number) k (ended (released config place Disconnected (resumed k))) a there))
-answers_due config place moment k a Refused there = absurd (nowhere a there)
-answers_due config place moment k a (Tick numbers) there =
-    let t : Session = expired config place moment (resumed k) in
-    inr (held_due k t a (expired_e config place moment k)
-    (subst (λ given. Contains (map answered_of given) a) (cond_both (list_any (λ n. n == t.number) numbers) (ended t) t (λ (u : Session). u.answers ≡ t.answers) (λ h. refl) (λ h. refl)) there))
+answers_due config place moment k a kind there = inr (other_due config place moment k a kind refl there)
+
+no_connect : (kind : EntryKind) (rides : Option Rider) (rider : Rider) → rider_of kind rides ≡ Some rider → is_connecting kind ≡ false
+no_connect kind rides rider is = grind arith
 
 -- an entry that may be a rider answers itself nothing but a connect that is held
 pub rider_due : (config : Config) (place moment : ℕ) (k : Kept) (a : Answered) (kind : EntryKind) (rides : Option Rider) (rider : Rider) → rider_of kind rides ≡ Some rider →
     Contains (map answered_of (step_by config place moment (resumed k) kind).answers) a → HoldsIt k.held a.place
-rider_due config place moment k a kind rides rider is = of_riding (λ i. Contains (map answered_of (step_by config place moment (resumed k) i).answers) a → HoldsIt k.held a.place) kind rides rider is
-    (λ m patterns there. absurd (subscribed_nothing config k patterns m a there))
-    (λ m patterns there. absurd (nowhere a (of_own (m == k.number) k _ a there)))
-    (λ event there. received_due config (record { place = place; event = event }) k a there)
+rider_due config place moment k a kind rides rider is there = other_due config place moment k a kind (no_connect kind rides rider is) there
 
 -- the answer to a rider is to the entry itself
 ridden_due : (config : Config) (place : ℕ) (k : Kept) (a : Answered) (t : Session) (rides : Option Rider) → (Contains (map answered_of t.answers) a → Due place k.held a) → Contains (map answered_of (ridden_by config place t rides).answers) a → Due place k.held a

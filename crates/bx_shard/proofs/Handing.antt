@@ -1,12 +1,13 @@
 -- What comes of an event that is handed to one session after another.
-use Rattle.std.proofs.Common.{zero, suc, not, ◌&&◌, slice_index, IfSome, Contains, IsTrue, ◌↔◌, ◌≤◌, length, arith, ◌<◌, ◌+◌, ◌≡◌, ◌≢◌, ℕ, nat_eq, Bool, true, false, cond, ◌||◌, Option, Some, None, option_map, List, [], ◌∷◌, map, refl, sym, ap, ◌∙◌, true≢false, subst}
+use Rattle.std.proofs.Common.{zero, suc, slice_index, IfSome, Contains, IsTrue, ◌↔◌, ◌≤◌, length, arith, ◌<◌, ◌+◌, ◌≡◌, ◌≢◌, ℕ, nat_eq, Bool, true, false, cond, ◌||◌, Option, Some, None, option_map, List, [], ◌∷◌, map, refl, sym, ap, ◌∙◌, true≢false, subst}
 use Rattle.std.specs.{List.All, List.list_any, List.Sorted.IsStrictlyIncreasing}
-use Rattle.std.proofs.lemmas.{List.Elements.All-head, List.Elements.All-tail, Bool.eqb-true, Bool.eq-eqb, Bool.ne_eqb}
-use Rattle.bx_names.specs.Words.{is_broadcast, Glob, any_matches, segments}
+use Rattle.std.proofs.lemmas.{Bool.and_right, List.Elements.All-head, List.Elements.All-tail, Bool.eqb-true, Bool.eq-eqb, Bool.ne_eqb}
+use Rattle.bx_lists.proofs.Tests.{either}
+use Rattle.bx_names.specs.Words.{is_broadcast, Glob}
 use Rattle.std.proofs.Math.Bool.{or-true}
 use Rattle.bx_message.specs.declared.{reply.Answer.Answer, event.Event.Event}
 use Rattle.bx_advice.specs.declared.config.Config.{Config}
-use Rattle.bx_entry.specs.Words.{Kept, after, kept, resumed, Session, Stage, is_hit, is_live, published, received}
+use Rattle.bx_entry.specs.Words.{Kept, after, kept, resumed, Session, is_hit, published, received}
 use Rattle.bx_session.specs.declared.answered.Answered.{Answered}
 use Rattle.bx_session.specs.Views.{Countable, answered_of, deadline_of, wants_two}
 use Rattle.bx_connects.specs.declared.connects.ConnectState.{ConnectState}
@@ -60,6 +61,11 @@ AreApart (x ∷ xs) = NoneFor x.number xs × AreApart xs
 
 -- ---- all turns
 
+-- one that gets a parcel has no later one
+turned : (F : Option Kept → Option Kept) (S : ℕ → Option Kept) (m n : ℕ) (later : Bool) (between : Option Kept) → (nat_eq m n ≡ true → later ≡ false) → between ≡ cond (nat_eq m n) (F (S m)) (S n) →
+    cond later (F between) between ≡ cond (nat_eq m n || later) (F (S n)) (S n)
+turned F S m n later between once is = grind arith
+
 -- the event of all parcels
 abbrev pub AreOf : Event → List Parcel → Type 0
 AreOf e [] = Unit {0}
@@ -74,21 +80,8 @@ module _ (config : Config) (place : ℕ) (e : Event) where
       → (n : ℕ) → kept_in new n ≡ cond (is_for xs n) (option_map (after gets) (kept_in old n)) (kept_in old n)
   sessions_turned [] old new of apart turns n = ap (λ s. kept_in s n) (sym turns)
   sessions_turned (x ∷ xs) old new of apart turns n =
-      let rest = sessions_turned xs turns.0 new of.1 apart.1 turns.2 n in
-      let one = turns.1.sessions n in
-      rest ∙ by (nat_eq x.number n) refl one
-    where
-      between : Sessions
-      between = turns.0
-
-      by : (b : Bool) → b ≡ nat_eq x.number n → kept_in between n ≡ cond b (option_map (after (received config (published_at place x.event))) (kept_in old x.number)) (kept_in old n)
-          → cond (is_for xs n) (option_map (after gets) (kept_in between n)) (kept_in between n)
-          ≡ cond (b || is_for xs n) (option_map (after gets) (kept_in old n)) (kept_in old n)
-      by true h one =
-          let same = eqb-true x.number n (sym h) in
-          ap (λ b. cond b (option_map (after gets) (kept_in between n)) (kept_in between n)) (subst (λ k. is_for xs k ≡ false) same (none_for xs x.number apart.0))
-          ∙ one ∙ ap (λ v. option_map (after (received config (published_at place v))) (kept_in old x.number)) of.0 ∙ ap (λ k. option_map (after gets) (kept_in old k)) same
-      by false h one = ap (λ o. cond (is_for xs n) (option_map (after gets) o) o) one
+      sessions_turned xs turns.0 new of.1 apart.1 turns.2 n
+      ∙ turned (option_map (after gets)) (kept_in old) x.number n (is_for xs n) (kept_in turns.0 n) (λ t. rw (← eqb-true x.number n t) (none_for xs x.number apart.0)) (rw (← of.0) (turns.1.sessions n))
 
   -- what a session answers, it answers to the connect that it holds
   answers_one : (s : Sessions) (n : ℕ) (a : Answered) → Contains (answers_by gets (kept_in s n)) a → IsTo (kept_in s n) (answers_by gets (kept_in s n)) a
@@ -199,12 +192,7 @@ containing (m ∷ ms) n told = by (nat_eq m n) refl told (containing ms n)
 
 -- the numbers are those that the test passes
 pub one_of_is : (ns : List ℕ) (n : ℕ) (b : Bool) → (Contains ns n ↔ IsTrue b) → is_one_of ns n ≡ b
-one_of_is ns n true iff = contained ns n (iff.1 refl)
-one_of_is ns n false iff = by (is_one_of ns n) refl
-  where
-    by : (b : Bool) → is_one_of ns n ≡ b → is_one_of ns n ≡ false
-    by true told = absurd (true≢false (sym (iff.0 (containing ns n told))))
-    by false told = told
+one_of_is ns n b iff = grind (arith, contained ns n, containing ns n)
 
 -- what is left of a list that rises still does
 rising_tail : (n : ℕ) (ns : List ℕ) → IsStrictlyIncreasing (n ∷ ns) → IsStrictlyIncreasing ns
@@ -242,26 +230,20 @@ all_ready s (x ∷ xs) apart packed ready = (
 
 -- no event reaches where no pattern is
 pub silent : (e : Event) (patterns : List Glob) → patterns ≡ [] → reaches e patterns ≡ false
-silent e patterns empty = ap (reaches e) empty ∙ not_reached (is_broadcast e.channel)
-  where
-    not_reached : (b : Bool) → (b && false) ≡ false
-    not_reached true = refl
-    not_reached false = refl
+silent e patterns empty = ap (reaches e) empty ∙ and_right (is_broadcast e.channel) false refl
 
 -- a session hears what reaches its patterns
 pub hears_is : (e : Event) (n : ℕ) (k : Kept) (patterns : List Glob) → IsOwn n k patterns → is_hit (resumed k) e ≡ reaches e patterns
-hears_is e n k patterns own =
-    ap (λ (stage : Stage). ((is_live stage && not k.overflow) && is_broadcast e.channel) && any_matches k.patterns (segments e.channel)) own.live
-    ∙ ap (λ (ps : List Glob). (not k.overflow && is_broadcast e.channel) && any_matches ps (segments e.channel)) own.patterns_are
-    ∙ told k.overflow (is_broadcast e.channel) (any_matches patterns (segments e.channel)) ∙ by k.overflow refl (reaches e patterns) refl
-  where
-    told : (o a b : Bool) → ((not o && a) && b) ≡ (not o && (a && b))
-    told o a b = grind arith
+hears_is e n k patterns own = grind (arith, silent e patterns)
 
-    by : (o : Bool) → k.overflow ≡ o → (r : Bool) → reaches e patterns ≡ r → (not o && reaches e patterns) ≡ reaches e patterns
-    by false h r g = refl
-    by true h false g = sym g
-    by true h true g = absurd (true≢false (sym g ∙ silent e patterns (own.emptied h)))
+heard : (change : Session → Session) (k : Kept) (b c : Bool) → c ≡ b → cond b (Some (after change k)) (Some k) ≡ Some (kept (cond c (change (resumed k)) (resumed k)))
+heard change k b c same = grind arith
+
+heard_answers : (change : Session → Session) (k : Kept) (b c : Bool) → c ≡ b → map answered_of (cond c (change (resumed k)) (resumed k)).answers ≡ cond b (answers_by change (Some k)) []
+heard_answers change k b c same = grind arith
+
+none_heard : (b : Bool) → cond {A = Option Kept} b None None ≡ None
+none_heard b = grind arith
 
 -- ---- the whole publish
 
@@ -286,6 +268,9 @@ module _ (config : Config) (place : ℕ) (e : Event) (s t new : Sessions) (xs : 
   hears_if : (n : ℕ) (k : Kept) → kept_in s n ≡ Some k → is_hit (resumed k) e ≡ is_for xs n
   hears_if n k here = hears_is e n k (patterns_in s n) (subst (λ o. IsCounted n o (patterns_in s n)) here (counted n)) ∙ sym (gets_if n)
 
+  answers_if : (n : ℕ) (k : Kept) {b : Bool} → kept_in s n ≡ Some k → is_for xs n ≡ b → answers_by hears (Some k) ≡ cond b (answers_by (gets config place e) (Some k)) []
+  answers_if n k {b} here gets_one = heard_answers (gets config place e) k b (is_hit (resumed k) e) (hears_if n k here ∙ gets_one)
+
   -- each session that hears the event gets it
   all_hear : AreApart xs → Turns config place xs t new → (n : ℕ) → kept_in new n ≡ option_map (after hears) (kept_in s n)
   all_hear apart turns n =
@@ -293,45 +278,27 @@ module _ (config : Config) (place : ℕ) (e : Event) (s t new : Sessions) (xs : 
       ∙ ap (λ o. cond (is_for xs n) (option_map (after (gets config place e)) o) o) (sessions n)
       ∙ by (kept_in s n) refl
     where
-      none : (b : Bool) → cond {A = Option Kept} b None None ≡ None
-      none true = refl
-      none false = refl
-
-      some : (k : Kept) (b c : Bool) → c ≡ b → cond b (Some (after (gets config place e) k)) (Some k) ≡ Some (kept (cond c (gets config place e (resumed k)) (resumed k)))
-      some k true true h = refl
-      some k false false h = refl
-      some k true false h = absurd (true≢false (sym h))
-      some k false true h = absurd (true≢false h)
-
       by : (o : Option Kept) → kept_in s n ≡ o → cond (is_for xs n) (option_map (after (gets config place e)) o) o ≡ option_map (after hears) o
-      by None h = none (is_for xs n)
-      by (Some k) h = some k (is_for xs n) (is_hit (resumed k) e) (hears_if n k h)
+      by None h = none_heard (is_for xs n)
+      by (Some k) h = heard (gets config place e) k (is_for xs n) (is_hit (resumed k) e) (hears_if n k h)
 
   -- what a session answers to the publish, it answers as one that gets the event
   gives_if : (n : ℕ) (a : Answered) → Contains (answers_by hears (kept_in s n)) a → Gives config place e t xs n a
   gives_if n a there = by (kept_in s n) refl there
     where
-      some : (k : Kept) (b c : Bool) → is_for xs n ≡ b → c ≡ b → kept_in s n ≡ Some k → Contains (map answered_of (cond c (gets config place e (resumed k)) (resumed k)).answers) a → Gives config place e t xs n a
-      some k true true f h here in_it = record { gets_one = f; given = subst (λ o. Contains (answers_by (gets config place e) o) a) (sym (sessions n ∙ here)) in_it }
-      some k true false f h here in_it = absurd (true≢false (sym h))
-      some k false true f h here in_it = absurd (true≢false h)
-      some k false false f h here in_it = absurd (nowhere a in_it)
-
       by : (o : Option Kept) → kept_in s n ≡ o → Contains (answers_by hears o) a → Gives config place e t xs n a
       by None here in_it = absurd (nowhere a in_it)
-      by (Some k) here in_it = some k (is_for xs n) (is_hit (resumed k) e) refl (hears_if n k here) here in_it
+      by (Some k) here in_it = either (is_for xs n) (Gives config place e t xs n a)
+          (λ f. record { gets_one = f; given = rw (sessions n, here) (subst (λ answers. Contains answers a) (answers_if n k here f) in_it) })
+          (λ f. absurd (nowhere a (subst (λ answers. Contains answers a) (answers_if n k here f) in_it)))
 
   -- and the other way round
   if_gives : (n : ℕ) (a : Answered) → Gives config place e t xs n a → Contains (answers_by hears (kept_in s n)) a
-  if_gives n a g = by (kept_in s n) refl (subst (λ o. Contains (answers_by (gets config place e) o) a) (sessions n) g.given)
+  if_gives n a g = by (kept_in s n) refl (rw (sessions n) at g.given)
     where
-      some : (k : Kept) (c : Bool) → c ≡ true → Contains (answers_by (gets config place e) (Some k)) a → Contains (map answered_of (cond c (gets config place e (resumed k)) (resumed k)).answers) a
-      some k true h in_it = in_it
-      some k false h in_it = absurd (true≢false (sym h))
-
       by : (o : Option Kept) → kept_in s n ≡ o → Contains (answers_by (gets config place e) o) a → Contains (answers_by hears o) a
       by None here in_it = absurd (nowhere a in_it)
-      by (Some k) here in_it = some k (is_hit (resumed k) e) (hears_if n k here ∙ g.gets_one) in_it
+      by (Some k) here in_it = subst (λ answers. Contains answers a) (sym (answers_if n k here g.gets_one)) in_it
 
   -- who is ready for a parcel
   pub are_ready : AreCountable s → AreApart xs → All (IsPacked t) xs → AllReady t xs
@@ -345,11 +312,8 @@ module _ (config : Config) (place : ℕ) (e : Event) (s t new : Sessions) (xs : 
         where
           by : (o : Option Kept) → kept_in s x.number ≡ o → IsCounted x.number o (patterns_in s x.number) → IfSome o Countable → IfSome o (λ (k : Kept). (k.overflow ≡ false) × Countable k)
           by None h c few = tt
-          by (Some k) h c few = (live k.overflow refl, few)
-            where
-              live : (o : Bool) → k.overflow ≡ o → k.overflow ≡ false
-              live false g = g
-              live true g = absurd (true≢false (sym ((reached x.number).0 there) ∙ silent e (patterns_in s x.number) (c.emptied g)))
+          by (Some k) h c few =
+              (either k.overflow (k.overflow ≡ false) (λ g. absurd (true≢false (sym ((reached x.number).0 there) ∙ silent e (patterns_in s x.number) (c.emptied g)))) (λ g. g), few)
 
   -- all that comes of it
   pub handed : AreApart xs → AreHeld t → t.connects ≡ s.connects → t.config ≡ s.config → Turns config place xs t new → Handed config place e s new

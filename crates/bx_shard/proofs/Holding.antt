@@ -1,9 +1,9 @@
 -- What a shard holds stays so: over a longer list, and after a call that left it as it was.
-use Rattle.std.proofs.Common.{◌≡◌, ℕ, zero, suc, ◌<◌, Option, Some, None, List, [], ◌∷◌, ◌++◌, length, take, map, filter, find, option_map, slice_get, ◌==◌, refl, sym, ap, ◌∙◌, arith, length-append}
+use Rattle.std.proofs.Common.{◌≡◌, ℕ, ◌<◌, Option, Some, None, List, ◌++◌, length, take, map, filter, find, option_map, slice_get, ◌==◌, sym, ap, ◌∙◌, arith, length-append}
 use Rattle.std.proofs.lemmas.List.{take-append-le}
 use Rattle.bx_advice.specs.declared.config.Config.{Config}
 use Rattle.bx_entry.specs.Words.{Listed, answer_of, Kept, kept, Registry, Registered, Judged, registry, entries_of, Session, Filed, session}
-use Rattle.bx_theory.proofs.Lists.{judged_length, judged_more}
+use Rattle.bx_theory.proofs.{Lists.judged_length, Lists.slice_get_less, Verdicts.found_from, Verdicts.judged_behind}
 use Rattle.bx_connects.specs.Connects.{session_at}
 use Rattle.bx_shard.specs.Words.{Setup, filed_among, live_among, stands_in, RefinesAtFirst, RefinesLonger, RefinesStill, IsConnectOf, filed_with_place}
 use Rattle.bx_shard.proofs.Taking.{waits_later}
@@ -53,20 +53,10 @@ found_session setup m ss = find (λ (k : Kept). k.number == m) (map kept (live_a
 abbrev found_answer : List ℕ → ℕ → List Session → Option Filed
 found_answer taken p ss = find (λ (f : Filed). f.connect == p) (filed_among taken ss)
 
-record Got (js : List Judged) (k : ℕ) : Type 0 where
-  one : Judged
-  there : slice_get js k ≡ Some one
-
-got : (js : List Judged) (k : ℕ) → k < length js → Got js k
-got [] k h = absurd (omega arith)
-got (j ∷ js) zero h = record { one = j; there = refl }
-got (j ∷ js) (suc k) h = let g : Got js k = got js k (omega arith) in record { one = g.one; there = g.there }
-
 -- what was found at a place of the list is found there over a longer one
 pub judged_alike : (config : Config) (xs ys : List Listed) (p : ℕ) → p < length xs → slice_get (registry config (xs ++ ys)).judged p ≡ slice_get (registry config xs).judged p
 judged_alike config xs ys p h =
-    let g : Got (registry config xs).judged p = got (registry config xs).judged p (omega (arith, h, judged_length config xs)) in
-    judged_more config xs ys p g.one g.there ∙ sym g.there
+    ap (λ (js : List Judged). slice_get js p) (judged_behind config xs ys) ∙ slice_get_less (registry config xs).judged (found_from config (registry config xs) ys) p (omega (arith, h, judged_length config xs))
 
 connect_before : (setup : Setup) (list more : List Listed) (shard p : ℕ) → p < length list → IsConnectOf setup (list ++ more) shard p → IsConnectOf setup list shard p
 connect_before setup list more shard p h c = record {

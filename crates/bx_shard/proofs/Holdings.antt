@@ -4,7 +4,7 @@ use Rattle.std.proofs.lemmas.{Bool.cond_both, List.length-map, List.Elements.All
 use Rattle.std.specs.{List.All, List.Sorted.IsStrictlyIncreasing}
 use Rattle.bx_advice.specs.declared.config.Config.{Config}
 use Rattle.bx_entry.specs.declared.entry.Entry.{Entry}
-use Rattle.bx_entry.specs.Words.{Listed, Registry, Registered, Judged, judge, registry, entries_of, Session, is_live, unopened, session, Kept, kept}
+use Rattle.bx_entry.specs.Words.{Listed, Registry, Registered, Judged, registry, entries_of, Session, is_live, unopened, session, Kept, kept}
 use Rattle.bx_theory.proofs.{Dues.NumberedFrom, Dues.numbered, Lists.judged_length, Closings.run_number, Closings.live_stage}
 use Rattle.bx_session.proofs.NumberLemmas.{numbers_count}
 use Rattle.bx_shard.specs.Words.{Setup, shard_at, stands_in, IsReached, SessionsReached, NumbersAscend, OpenedIsFresh}
@@ -92,8 +92,7 @@ opened_is_fresh setup list taken shard m number ack e there kind =
     let es : List Entry = entries_of (registry setup.config (take m list)) in
     let r : Registry = registry setup.config (take m list) in
     let d : Met setup.config list m e = met setup.config list m e there in
-    let past : length (registry setup.config (take m list)).sessions < number =
-    opens_above setup.config (registry setup.config (take m list)) (judge setup.config (registry setup.config (take m list)) d.element) d.adds number ack (ap (λ (x : Entry). x.kind) d.same ∙ kind) in
+    let past : length (registry setup.config (take m list)).sessions < number = opens_above setup.config (take m list) d.element number ack (ap (λ (x : Entry). x.kind) d.same ∙ kind) in
     subst (All (λ (k : Kept). k.number < number)) (sym (held_at setup list taken shard m))
     (each_held (λ k. k.number < number) (λ n. n < 1 + length (registry setup.config (take m list)).sessions) setup.config es (numbers_in setup shard (take m list))
     (λ n q l. let same : (session setup.config n (entries_of (registry setup.config (take m list)))).number ≡ n = kept_number setup.config n (entries_of (registry setup.config (take m list))) in omega (arith, q, same, past))

@@ -14,7 +14,6 @@ pub mod Handing
 pub mod Holding
 pub mod Holdings
 pub mod Keeps
-pub mod Rides
 pub mod Placed
 pub mod Counts
 pub mod Onwards

@@ -1,12 +1,11 @@
 -- A shard that has applied an entry holds what the definition's shard holds after it.
-use Rattle.std.proofs.Common.{◌≡◌, ◌≢◌, ⊎_elim, get_or, ℕ, ◌+◌, ◌<◌, ◌≤◌, Bool, true, false, cond, ◌&&◌, is_some, Option, Some, None, List, [], ◌∷◌, ◌++◌, length, take, map, filter, flat_map, option_map, slice_get, ◌==◌, refl, sym, ap, ◌∙◌, subst, arith, eq-eqb, length-take}
-use Rattle.std.proofs.lemmas.Bool.{and_right, both_ways, cond_both, cond-true}
-use Rattle.std.proofs.lemmas.{List.length_push, List.map-append, List.Elements.All-map, List.Elements.filter-append, List.Folds.find-append}
-use Rattle.std.specs.{List.All, List.Contains, List.list_any, Option.option_and_then, Option.option_or}
+use Rattle.std.proofs.Common.{◌≡◌, ◌≢◌, ⊎_elim, get_or, ℕ, ◌+◌, ◌<◌, ◌≤◌, Bool, true, false, is_some, Option, Some, None, List, [], ◌∷◌, ◌++◌, length, take, map, filter, flat_map, option_map, slice_get, ◌==◌, refl, sym, ap, ◌∙◌, subst, arith, eq-eqb, length-take}
+use Rattle.std.proofs.lemmas.Bool.{both_ways}
+use Rattle.std.proofs.lemmas.{Grind.common_steps, List.length_push, List.map-append, List.Elements.All-map, List.Elements.filter-append, List.Folds.find-append}
+use Rattle.std.specs.{List.All, List.Contains, Option.option_and_then, Option.option_or}
 use Rattle.bx_lists.proofs.{Lists.or_none, Tests.either}
 use Rattle.bx_advice.specs.declared.config.Config.{Config}
 use Rattle.bx_entry.specs.declared.entry.{Entry.Entry, EntryKind.EntryKind, Rider.Rider}
-use Rattle.bx_entry.specs.declared.entry.EntryKind.TheVariants.{Opened}
 use Rattle.bx_entry.specs.Words.{answer_of, Listed, Kept, kept, kept_answers, kept_step, resumed, entries, registry, Filed, Live, Session, is_live, step, unopened}
 use Rattle.bx_theory.proofs.Stages.{step_number}
 use Rattle.bx_session.specs.declared.answered.Answered.{Answered}
@@ -16,7 +15,7 @@ use Rattle.bx_connects.specs.declared.connects.ConnectState.{ConnectState}
 use Rattle.bx_connects.specs.declared.connects.ConnectState.TheVariants as states
 use Rattle.bx_connects.specs.Connects.{session_at}
 use Rattle.bx_shard.specs.Effects as effects
-use Rattle.bx_shard.specs.Words.{holding, IsReached, Setup, is_taken, sessions_in, shard_at, stands_in, Applied, IsGiven, IsSound, State, begun, connect_in, if_live, let_go, opening, opens_in, session_after, session_in}
+use Rattle.bx_shard.specs.Words.{IsReached, Setup, is_taken, sessions_in, shard_at, stands_in, Applied, IsGiven, IsSound, State, begun, connect_in, if_live, let_go, opening, opens_in, session_after, session_in}
 use Rattle.bx_shard.specs.Refining.{Refines, RefinesOnwards, IsConnectOf, IsOwn, filed_with_place, placed}
 use Rattle.bx_shard.specs.Steps.{answers_by, opening_by, stepped}
 use Rattle.bx_shard.proofs.{Cases.by_option, Elements.Met, Elements.met, Filings.shards_file, Placed.entry_placed, Singles.nowhere, Stepping.shards_step, Untaken.find_of}
@@ -42,41 +41,12 @@ module _ (config : Config) (e : Entry) where
   onward k = if_live (kept_step config k e)
 
   next_onward : (o : Option Kept) → next config e o ≡ option_and_then onward o
-  next_onward None = refl
-  next_onward (Some k) = refl
-
--- the session that a handshake opens, found by its number
-opened_one : (config : Config) (place moment : ℕ) (rides : Option Rider) (n : ℕ) (ack : Bool) (m : ℕ) → find_kept m (steps config (entry place moment rides (Opened n ack)) (kept (unopened n) ∷ []))
-    ≡ option_and_then (onward config (entry place moment rides (Opened n ack))) (cond (n == m) (Some (kept (unopened n))) None)
-opened_one config place moment rides n ack m =
-    let s : Session = resumed (kept (unopened n)) in
-    let t : Session = record s { stage = Live; ack = ack } in
-    let same : step config s (entry place moment rides (Opened n ack)) ≡ t = cond-true (n == n) t s (eq-eqb n n refl) in
-    let later : step config s (entry place moment rides (Opened n ack)) ≡ t = same in
-    ap (λ (x : Session). find_kept m (filter (λ (k : Kept). is_live k.stage) (kept x ∷ []))) same
-    ∙ (elim (n == m) as (λ b. cond b (Some (opened n ack)) None ≡ option_and_then (λ (k : Kept). if_live (opened n ack)) (cond b (Some (kept (unopened n))) None)) [ true ↦ refl | false ↦ refl ])
-    ∙ (elim (n == m) as (λ b. option_and_then (λ (k : Kept). if_live (opened n ack)) (cond b (Some (kept (unopened n))) None)
-    ≡ option_and_then (onward config (entry place moment rides (Opened n ack))) (cond b (Some (kept (unopened n))) None)) [
-      | true ↦ ap (λ (x : Session). if_live (kept x)) (sym later)
-      | false ↦ refl
-    ])
+  next_onward o = grind arith
 
 -- the session that the entry opens in the shard
 opened_found : (setup : Setup) (index place moment : ℕ) (rides : Option Rider) (m : ℕ) (kind : EntryKind) → find_kept m (steps setup.config (entry place moment rides kind) (opening_by setup index kind))
     ≡ option_and_then (onward setup.config (entry place moment rides kind)) (opening (opens_in setup index kind) kind m)
-opened_found setup index place moment rides m (Opened n ack) =
-    let e : Entry = entry place moment rides (Opened n ack) in
-    (elim (stands_in setup index n) as (λ b. find_kept m (steps setup.config (entry place moment rides (Opened n ack)) (cond b (kept (unopened n) ∷ []) []))
-    ≡ option_and_then (onward setup.config (entry place moment rides (Opened n ack))) (cond ((n == m) && b) (Some (kept (unopened n))) None)) [
-      | true ↦ opened_one setup.config place moment rides n ack m
-          ∙ ap (λ b. option_and_then (onward setup.config e) (cond b (Some (kept (unopened n))) None)) (sym (and_true (n == m)))
-      | false ↦ sym (ap (λ b. option_and_then (onward setup.config e) (cond b (Some (kept (unopened n))) None)) (and_right (n == m) false refl))
-    ])
-  where
-    and_true : (b : Bool) → (b && true) ≡ b
-    and_true true = refl
-    and_true false = refl
-opened_found setup index place moment rides m _ = refl
+opened_found setup index place moment rides m kind = grind (arith, common_steps)
 
 -- a session that is there is as the entry leaves it, whatever the entry opens
 onward_first : (config : Config) (stands : Bool) (place moment : ℕ) (rides : Option Rider) (m : ℕ) (k : Kept) (kind : EntryKind) → k.stage ≡ Live →
@@ -156,15 +126,10 @@ gave s e ks p f d known found =
 -- ---- the connects before any is answered
 
 let_go_filed : (numbers : List ℕ) (o : Option ConnectState) → filed_with_place (let_go numbers o) ≡ filed_with_place o
-let_go_filed numbers None = refl
-let_go_filed numbers (Some (states.Held session deadline waker)) =
-    cond_both (list_any (λ m. m == session) numbers) None (Some (states.Held session deadline waker)) (λ (o : Option ConnectState). filed_with_place o ≡ None) (λ h. refl) (λ h. refl)
-let_go_filed numbers (Some (states.Filed session place answer)) = refl
+let_go_filed numbers o = grind arith
 
 let_go_none : (numbers : List ℕ) (o : Option ConnectState) → o ≡ None → let_go numbers o ≡ None
-let_go_none numbers None h = refl
-let_go_none numbers (Some (states.Held session deadline waker)) h = absurd (let no : Some (states.Held session deadline waker) ≡ None = h in cc)
-let_go_none numbers (Some (states.Filed session place answer)) h = absurd (let no : Some (states.Filed session place answer) ≡ None = h in cc)
+let_go_none numbers o h = grind arith
 
 -- no answer is filed or lost by it
 begun_filed : (s : State) (e : Entry) (kind : EntryKind) (p : ℕ) → connect_in s e.place ≡ None → filed_with_place (begun (session_in s) (connect_in s) e kind p) ≡ filed_with_place (connect_in s p)

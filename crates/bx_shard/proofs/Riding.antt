@@ -1,16 +1,16 @@
 -- A rider is answered behind the rest of its entry.
-use Rattle.std.proofs.Common.{Contains, arith, ◌≡◌, ◌≢◌, ◌≤◌, ◌+◌, ◌&&◌, ◌⊎◌, inl, inr, ⊎_elim, ℕ, min, nat_eq, ◌==◌, Bool, true, false, cond, Option, Some, None, option_map, IfSome, is_some, List, [], ◌∷◌, length, map, refl, sym, ap, ◌∙◌, subst, true≢false}
+use Rattle.std.proofs.Common.{Contains, arith, ◌≡◌, ◌≢◌, ◌≤◌, ◌+◌, ◌&&◌, ◌⊎◌, inl, inr, ⊎_elim, ℕ, nat_eq, ◌==◌, Bool, true, false, cond, Option, Some, None, option_map, IfSome, is_some, List, [], ◌∷◌, length, map, refl, sym, ap, ◌∙◌, subst, true≢false}
 use Rattle.std.specs.Option.{option_and_then}
-use Rattle.std.proofs.lemmas.Bool.{and_parts, cond_both, cond-true, cond-false, eqb-true, eq-eqb}
+use Rattle.std.proofs.lemmas.{Bool.and_parts, Bool.cond_both, Bool.eqb-true, Bool.eq-eqb, Bool.ne_eqb, Grind.common_steps}
 use Rattle.std.proofs.lemmas.{List.length_push, List.map-append, List.Elements.Contains-append_cases, List.Elements.Contains-append_left, List.Elements.Contains-append_right}
 use Rattle.bx_lists.proofs.Tests.{either}
 use Rattle.bx_names.specs.Globs.{Glob}
 use Rattle.bx_advice.specs.declared.config.Config.{Config}
 use Rattle.bx_message.specs.declared.event.Event.{Event}
 use Rattle.bx_entry.specs.declared.entry.{Entry.Entry, EntryKind.EntryKind, Rider.Rider}
-use Rattle.bx_entry.specs.declared.entry.EntryKind.TheVariants.{Subscribe, Unsubscribe, Publish}
+use Rattle.bx_entry.specs.declared.entry.EntryKind.TheVariants.{Opened}
 use Rattle.bx_entry.specs.Keeping.{Kept, kept, resumed}
-use Rattle.bx_entry.specs.Sessions.{Live, Pending, Publication, Session, delivered, gives_one, has_room, is_hit, is_live, is_riding, overflowed, delivered_to, received, ridden, ridden_by, ride_filing, ride_portion, rider_of, step, step_by, subscribed, unheld, unsubscribed, with_event}
+use Rattle.bx_entry.specs.Sessions.{Live, Session, is_live, is_riding, ridden, ridden_by, ride_filing, ride_portion, rider_of, step, step_by}
 use Rattle.bx_session.specs.declared.answered.Answered.{Answered}
 use Rattle.bx_session.specs.Views.{answered_of, ride_most}
 use Rattle.bx_connects.specs.declared.connects.ConnectState.{ConnectState}
@@ -20,12 +20,19 @@ use Rattle.bx_shard.specs.declared.sessions.Sessions.{Sessions}
 use Rattle.bx_shard.specs.Effects.{answers_by}
 use Rattle.bx_shard.specs.Words.{Followed, alone, completed_by, given_up, rider_in, rides_of, unridden, Connects, IsGiven, begun, if_live, opening, riding, session_after}
 use Rattle.bx_shard.specs.Sessions.{AreCounted, AreHeld, IsCounted, IsOwn, ends_for, held_until, holds_until, kept_in, patterns_in}
-use Rattle.bx_theory.proofs.{Counts.subscribed_by, Keeps.delivered_to_k, Stages.step_by_next}
-use Rattle.bx_shard.proofs.{Followed.at_number, Followed.live_there, Followed.none_here, Rides.of_riding, Rides.rider_of_none, Ties.Agree, Ties.still}
+use Rattle.bx_theory.proofs.{Stages.step_by_next}
+use Rattle.bx_shard.proofs.{Followed.at_number, Followed.live_there, Followed.none_here, Ties.Agree, Ties.still}
 use Rattle.bx_shard.proofs.Gives.{HoldsIt, holds_ends, rider_due}
 use Rattle.bx_shard.proofs.Singles.{nowhere, only_one, the_one}
 
 -- ---- what kinds of entries ride
+
+portion_fits : (config : Config) (k : Kept) (t : Session) (room : ℕ) → t.ack ≡ k.ack → length t.queue ≤ length k.queue + 1 → ride_most config k ≤ room → ride_portion config t ≤ room
+portion_fits config k t room ack longer fits = grind (arith, common_steps)
+
+-- none does without a rider
+rider_of_none : (kind : EntryKind) → rider_of kind None ≡ None
+rider_of_none kind = grind arith
 
 -- an entry without its rider is one of its kind
 pub alone_step : (config : Config) (s : Session) (e : Entry) → step config s (alone e) ≡ step_by config e.place e.moment s e.kind
@@ -34,18 +41,15 @@ alone_step config s e = ap (ridden_by config e.place (step_by config e.place e.m
 module _ (kind : EntryKind) (rides : Option Rider) (rider : Rider) (is : rider_of kind rides ≡ Some rider) where
   -- it opens no session
   rider_opens : (stands : Bool) (n : ℕ) → opening stands kind n ≡ None
-  rider_opens stands n = of_riding (λ k. opening stands k n ≡ None) kind rides rider is (λ m ps. refl) (λ m ps. refl) (λ event. refl)
+  rider_opens stands n = grind arith
 
   -- and begins no connect
   rider_begins : (sessions : ℕ → Option Kept) (connects : ℕ → Option ConnectState) (e : Entry) (p : ℕ) → begun sessions connects e kind p ≡ connects p
-  rider_begins sessions connects e p = of_riding (λ k. begun sessions connects e k p ≡ connects p) kind rides rider is (λ m ps. refl) (λ m ps. refl) (λ event. refl)
+  rider_begins sessions connects e p = grind arith
 
   -- a session stays what it was
   rider_stays : (config : Config) (place moment : ℕ) (s : Session) → (step_by config place moment s kind).stage ≡ s.stage
-  rider_stays config place moment s = of_riding (λ k. (step_by config place moment s k).stage ≡ s.stage) kind rides rider is
-      (λ m ps. (step_by_next config place moment s (Subscribe m ps)).stage)
-      (λ m ps. (step_by_next config place moment s (Unsubscribe m ps)).stage)
-      (λ event. (step_by_next config place moment s (Publish event)).stage)
+  rider_stays config place moment s = grind (arith, (step_by_next config place moment s kind).stage)
 
   -- ---- room
 
@@ -54,42 +58,14 @@ module _ (kind : EntryKind) (rides : Option Rider) (rider : Rider) (is : rider_o
     ack : t.ack ≡ s.ack
     longer : length t.queue ≤ length s.queue + 1
 
-  one_same : (s : Session) → OneMore s s
-  one_same s = record { ack = refl; longer = omega arith }
-
-  one_gives : (s : Session) → (gives_one s).ack ≡ s.ack
-  one_gives s = cond_both s.ack _ _ (λ (u : Session). u.ack ≡ s.ack) (λ h. refl) (λ h. refl)
-
-  delivered_ack : (config : Config) (e : Publication) (s : Session) (held : Option Pending) → (delivered_to config e s held).ack ≡ s.ack
-  delivered_ack config e s None = refl
-  delivered_ack config e s (Some p) = one_gives (unheld s)
-
-  received_one : (config : Config) (e : Publication) (s : Session) → OneMore s (received config e s)
-  received_one config e s = cond_both (has_room config s) (delivered config e s) (overflowed s) (OneMore s)
-      (λ r. record {
-        ack = delivered_ack config e (with_event e s) s.held;
-        longer = omega (arith, (delivered_to_k config e (with_event e s) s.held).shorter, length_push s.queue e);
-      })
-      (λ r. record { ack = refl; longer = omega arith })
-
   rider_adds : (config : Config) (place moment : ℕ) (s : Session) → OneMore s (step_by config place moment s kind)
-  rider_adds config place moment s = of_riding (λ k. OneMore s (step_by config place moment s k)) kind rides rider is
-      (λ m ps. cond_both (m == s.number) (subscribed config ps s) s (OneMore s)
-      (λ g. subscribed_by config ps s (OneMore s) (one_same s) (record { ack = refl; longer = omega arith }) (record { ack = refl; longer = omega arith })) (λ g. one_same s))
-      (λ m ps. cond_both (m == s.number) (unsubscribed ps s) s (OneMore s) (λ g. record { ack = refl; longer = omega arith }) (λ g. one_same s))
-      (λ event. let e : Publication = record { place = place; event = event } in
-      cond_both (is_hit s event) (received config e s) s (OneMore s) (λ g. received_one config e s) (λ g. one_same s))
+  rider_adds config place moment s = grind (arith, common_steps, length_push)
 
   -- so the room that was made before is enough behind the entry's own effect
   rider_fits : (config : Config) (place moment : ℕ) (k : Kept) (room : ℕ) → ride_most config k ≤ room → ride_portion config (step_by config place moment (resumed k) kind) ≤ room
   rider_fits config place moment k room fits =
-      let t : Session = step_by config place moment (resumed k) kind in
       let one : OneMore (resumed k) (step_by config place moment (resumed k) kind) = rider_adds config place moment (resumed k) in
-      cond_both t.ack 0 (min config.limits.batch (length t.queue)) (λ (n : ℕ). n ≤ room) (λ h. omega arith)
-      (λ h.
-      let most : min config.limits.batch (length k.queue + 1) ≤ room = subst (λ (b : Bool). cond b 0 (min config.limits.batch (length k.queue + 1)) ≤ room) (sym one.ack ∙ h) fits in
-      let longer : length t.queue ≤ length k.queue + 1 = one.longer in
-      omega (arith, most, longer))
+      portion_fits config k (step_by config place moment (resumed k) kind) room one.ack one.longer fits
 
 -- ---- one session
 
@@ -105,16 +81,11 @@ module _ (config : Config) (place : ℕ) (rider : Rider) where
 
   -- what is given otherwise stays given
   still_given : (t : Session) (a : Answered) → Contains (map answered_of t.answers) a → Contains (map answered_of (ridden_by config place t (Some rider)).answers) a
-  still_given t a there = cond_both (is_riding rider t) (ridden config place rider.reply t) t (λ (u : Session). Contains (map answered_of u.answers) a)
-      (λ h. subst (λ (xs : List Answered). Contains xs a) (sym (map-append answered_of t.answers (ride_filing config place rider.reply t ∷ []))) (Contains-append_left (map answered_of t.answers) (ride_answer t ∷ []) a there))
-      (λ h. there)
+  still_given t a there = grind (arith, common_steps, map-append answered_of t.answers (ride_filing config place rider.reply t ∷ []), Contains-append_left (map answered_of t.answers) (ride_answer t ∷ []) a there)
 
   -- the rider's is
   ride_given : (t : Session) → is_riding rider t ≡ true → Contains (map answered_of (ridden_by config place t (Some rider)).answers) (ride_answer t)
-  ride_given t h =
-      subst (λ (u : Session). Contains (map answered_of u.answers) (ride_answer t)) (sym (cond-true (is_riding rider t) (ridden config place rider.reply t) t h))
-      (subst (λ (xs : List Answered). Contains xs (ride_answer t)) (sym (map-append answered_of t.answers (ride_filing config place rider.reply t ∷ [])))
-      (Contains-append_right (map answered_of t.answers) (ride_answer t ∷ []) (ride_answer t) (the_one (ride_answer t))))
+  ride_given t h = grind (arith, common_steps, map-append answered_of t.answers (ride_filing config place rider.reply t ∷ []), Contains-append_right (map answered_of t.answers) (ride_answer t ∷ []) (ride_answer t) (the_one (ride_answer t)))
 
   -- and nothing else is
   given_cases : (t : Session) (a : Answered) → Contains (map answered_of (ridden_by config place t (Some rider)).answers) a → Contains (map answered_of t.answers) a ⊎ ((is_riding rider t ≡ true) × (a ≡ ride_answer t))
@@ -122,8 +93,7 @@ module _ (config : Config) (place : ℕ) (rider : Rider) where
       (λ (u : Session). Contains (map answered_of u.answers) a → Contains (map answered_of t.answers) a ⊎ ((is_riding rider t ≡ true) × (a ≡ ride_answer t)))
       (λ h there.
       ⊎_elim (λ earlier. inl earlier) (λ last. inr (h, sym (only_one (ride_answer t) a last)))
-      (Contains-append_cases (map answered_of t.answers) (ride_answer t ∷ []) a
-      (subst (λ (xs : List Answered). Contains xs a) (map-append answered_of t.answers (ride_filing config place rider.reply t ∷ [])) there)))
+      (Contains-append_cases (map answered_of t.answers) (ride_answer t ∷ []) a (rw (map-append answered_of t.answers (ride_filing config place rider.reply t ∷ [])) at there)))
       (λ h there. inl there)
 
 -- ---- all sessions
@@ -136,15 +106,24 @@ convert sessions e p m c = record {
   here = c.here;
 }
 
+-- a session of another number than the rider's gives nothing to it
+ridden_other : (config : Config) (place n : ℕ) (t : Session) (rides : Option Rider) → t.number ≡ n → ((rider : Rider) → rides ≡ Some rider → (rider.session == n) ≡ false) → ridden_by config place t rides ≡ t
+ridden_other config place n t rides number away = grind arith
+
+-- what an entry opens has no rider
+opened_alone : (config : Config) (stands : Bool) (e : Entry) (n : ℕ) (kind : EntryKind) → session_after config stands (alone (record e { kind = kind })) n None ≡ session_after config stands (record e { kind = kind }) n None
+opened_alone config stands e n (Opened m ack) = refl
+opened_alone config stands e n _ = refl
+
 -- sessions that followed an entry without its rider have followed it where no session that is here rides
 pub followed_alone : (stands : Bool) (e : Entry) (old new : Sessions) → ((n : ℕ) (rider : Rider) → rides_of e ≡ Some rider → is_some (kept_in old n) ≡ true → (rider.session == n) ≡ false) → AreCounted old
     → Followed stands (alone e) old new → Followed stands e old new
 followed_alone stands e old new away counted f = record {
   config = f.config;
-  sessions = λ n. f.sessions n ∙ by n (kept_in old n) refl (counted n);
+  sessions = λ n. f.sessions n ∙ after n (kept_in old n) refl (counted n);
   connects = record {
-    given = λ n a g. f.connects.given n a (back n a (kept_in old n) refl (counted n) g);
-    kept = λ p others. f.connects.kept p (λ n a g. others n a (on n a (kept_in old n) refl (counted n) g));
+    given = λ n a g. f.connects.given n a (subst (λ answers. Contains answers a) (sym (answers n (kept_in old n) refl (counted n))) g);
+    kept = λ p others. f.connects.kept p (λ n a g. others n a (subst (λ answers. Contains answers a) (answers n (kept_in old n) refl (counted n)) g));
   };
   known = λ p m h. ⊎_elim (λ l. inl l) (λ r. inr (convert (kept_in old) e p m r)) (f.known p m h);
   counted = f.counted;
@@ -156,48 +135,17 @@ followed_alone stands e old new away counted f = record {
 
     -- a session that is here does the same
     same : (n : ℕ) (k : Kept) (patterns : List Glob) → kept_in old n ≡ Some k → IsOwn n k patterns → step config (resumed k) (alone e) ≡ step config (resumed k) e
-    same n k patterns here own = alone_step config (resumed k) e ∙ sym (at (rides_of e) refl)
-      where
-        t : Session
-        t = step_by config e.place e.moment (resumed k) e.kind
+    same n k patterns here own =
+        alone_step config (resumed k) e
+        ∙ sym (ridden_other config e.place n _ (rides_of e) ((step_by_next config e.place e.moment (resumed k) e.kind).number ∙ own.number) (λ rider h. away n rider h (ap is_some here)))
 
-        number : t.number ≡ n
-        number = (step_by_next config e.place e.moment (resumed k) e.kind).number ∙ own.number
+    after : (n : ℕ) (o : Option Kept) → kept_in old n ≡ o → IsCounted n o (patterns_in old n) → session_after config stands (alone e) n o ≡ session_after config stands e n o
+    after n None here c = opened_alone config stands e n e.kind
+    after n (Some k) here c = ap (λ (s : Session). if_live (kept s)) (same n k (patterns_in old n) here c)
 
-        at : (o : Option Rider) → rides_of e ≡ o → ridden_by config e.place t o ≡ t
-        at None h = refl
-        at (Some rider) h =
-            cond-false (is_riding rider t) (ridden config e.place rider.reply t) t
-            (ap (λ (m : ℕ). (rider.session == m) && is_live t.stage) number ∙ ap (λ (b : Bool). b && is_live t.stage) (away n rider h (ap is_some here)))
-
-    -- and so does one that the entry opens
-    opened : (n : ℕ) (o : Option Rider) → rides_of e ≡ o →
-        option_and_then (λ k. if_live (kept (step config (resumed k) (alone e)))) (opening stands e.kind n) ≡ option_and_then (λ k. if_live (kept (step config (resumed k) e))) (opening stands e.kind n)
-    opened n None h = by_none (opening stands e.kind n)
-      where
-        by_none : (o : Option Kept) → option_and_then (λ k. if_live (kept (step config (resumed k) (alone e)))) o ≡ option_and_then (λ k. if_live (kept (step config (resumed k) e))) o
-        by_none None = refl
-        by_none (Some k) = ap (λ (s : Session). if_live (kept s)) (alone_step config (resumed k) e ∙ sym (ap (ridden_by config e.place (step_by config e.place e.moment (resumed k) e.kind)) h))
-    opened n (Some rider) h =
-        let none : opening stands e.kind n ≡ None = rider_opens e.kind e.rides rider h stands n in
-        ap (option_and_then (λ k. if_live (kept (step config (resumed k) (alone e))))) none ∙ sym (ap (option_and_then (λ k. if_live (kept (step config (resumed k) e)))) none)
-
-    by : (n : ℕ) (o : Option Kept) → kept_in old n ≡ o → IsCounted n o (patterns_in old n) → session_after config stands (alone e) n o ≡ session_after config stands e n o
-    by n None here c = opened n (rides_of e) refl
-    by n (Some k) here c = ap (λ (s : Session). if_live (kept s)) (same n k (patterns_in old n) here c)
-
-    back : (n : ℕ) (a : Answered) (o : Option Kept) → kept_in old n ≡ o → IsCounted n o (patterns_in old n) → Contains (answers_by (λ s. step config s e) o) a → Contains (answers_by (λ s. step config s (alone e)) (kept_in old n)) a
-    back n a None here c g = absurd (nowhere a g)
-    back n a (Some k) here c g =
-        subst (λ o. Contains (answers_by (λ s. step config s (alone e)) o) a) (sym here)
-        (subst (λ (s : Session). Contains (map answered_of s.answers) a) (sym (same n k (patterns_in old n) here c)) g)
-
-    on : (n : ℕ) (a : Answered) (o : Option Kept) → kept_in old n ≡ o → IsCounted n o (patterns_in old n) → Contains (answers_by (λ s. step config s (alone e)) (kept_in old n)) a → Contains (answers_by (λ s. step config s e) (kept_in old n)) a
-    on n a None here c g = absurd (nowhere a (subst (λ o. Contains (answers_by (λ s. step config s (alone e)) o) a) here g))
-    on n a (Some k) here c g =
-        subst (λ o. Contains (answers_by (λ s. step config s e) o) a) (sym here)
-        (subst (λ (s : Session). Contains (map answered_of s.answers) a) (same n k (patterns_in old n) here c)
-        (subst (λ o. Contains (answers_by (λ s. step config s (alone e)) o) a) here g))
+    answers : (n : ℕ) (o : Option Kept) → kept_in old n ≡ o → IsCounted n o (patterns_in old n) → answers_by (λ s. step config s (alone e)) o ≡ answers_by (λ s. step config s e) o
+    answers n None here c = refl
+    answers n (Some k) here c = ap (λ (s : Session). map answered_of s.answers) (same n k (patterns_in old n) here c)
 
 -- no session that is here rides
 pub away : (sessions : ℕ → Option Kept) (e : Entry) → rider_in sessions e ≡ None → (n : ℕ) (rider : Rider) → rides_of e ≡ Some rider → is_some (sessions n) ≡ true → (rider.session == n) ≡ false
@@ -209,16 +157,7 @@ pub record Rides (sessions : ℕ → Option Kept) (e : Entry) (rider : Rider) : 
   pub here : is_some (sessions rider.session) ≡ true
 
 pub rides_here : (sessions : ℕ → Option Kept) (e : Entry) (rider : Rider) → Some rider ≡ rider_in sessions e → Rides sessions e rider
-rides_here sessions e rider is = by (rides_of e) refl is
-  where
-    found : (r : Rider) → rides_of e ≡ Some r → Some rider ≡ cond (is_some (sessions r.session)) (Some r) None → Rides sessions e rider
-    found r h = cond_both (is_some (sessions r.session)) (Some r) None (λ o. Some rider ≡ o → Rides sessions e rider)
-        (λ here g. let same : r ≡ rider = cc in record { rides = h ∙ ap (λ (x : Rider). Some x) same; here = subst (λ (x : Rider). is_some (sessions x.session) ≡ true) same here })
-        (λ gone g. absurd (let no : Some rider ≡ None = g in cc))
-
-    by : (o : Option Rider) → rides_of e ≡ o → Some rider ≡ option_and_then (λ (r : Rider). cond (is_some (sessions r.session)) (Some r) None) o → Rides sessions e rider
-    by None h g = absurd (let no : Some rider ≡ None = g in cc)
-    by (Some r) h g = found r h g
+rides_here sessions e rider is = grind arith
 
 -- a connect is held exactly where its session holds it, once a session gave a rider what waited
 pub ridden_held : (config : Config) (place number : ℕ) (events : List Event) (C D : ℕ → Option ConnectState) (S T : ℕ → Option Kept) → Agree C S
@@ -257,7 +196,7 @@ module _ (stands : Bool) (e : Entry) (rider : Rider) (rides : rides_of e ≡ Som
 
   -- what is kept behind it
   mid_kept : (n : ℕ) → kept_in mid n ≡ session_after config stands (alone e) n (kept_in old n)
-  mid_kept n = f.sessions n ∙ ap (λ (c : Config). session_after c stands (alone e) n (kept_in seated n)) seated_config ∙ ap (session_after config stands (alone e) n) (seated_sessions n)
+  mid_kept n = rw (f.sessions n, seated_config, seated_sessions n)
 
   mid_there : (n : ℕ) (k : Kept) (patterns : List Glob) → kept_in old n ≡ Some k → IsOwn n k patterns → kept_in mid n ≡ Some (kept (effect k))
   mid_there n k patterns is own =
@@ -272,28 +211,19 @@ module _ (stands : Bool) (e : Entry) (rider : Rider) (rides : rides_of e ≡ Som
   pub mid_fits : (room : ℕ) → IfSome (kept_in old rider.session) (λ (k : Kept). ride_most config k ≤ room) → IfSome (kept_in mid rider.session) (λ (k : Kept). ride_portion mid.config (resumed k) ≤ room)
   mid_fits room fits = by (kept_in old rider.session) refl (counted rider.session) fits
     where
-      Fits : Option Kept → Type 0
-      Fits o = IfSome o (λ (k : Kept). ride_portion mid.config (resumed k) ≤ room)
-
-      by : (o : Option Kept) → kept_in old rider.session ≡ o → IsCounted rider.session o (patterns_in old rider.session) → IfSome o (λ (k : Kept). ride_most config k ≤ room) → Fits (kept_in mid rider.session)
-      by None is c g = subst Fits (sym (mid_gone rider.session is)) tt
-      by (Some k) is c g =
-          subst Fits (sym (mid_there rider.session k (patterns_in old rider.session) is c))
-          (subst (λ (x : Config). ride_portion x (effect k) ≤ room) (sym mid_config) (rider_fits e.kind e.rides rider rides config e.place e.moment k room g))
+      by : (o : Option Kept) → kept_in old rider.session ≡ o → IsCounted rider.session o (patterns_in old rider.session) → IfSome o (λ (k : Kept). ride_most config k ≤ room)
+          → IfSome (kept_in mid rider.session) (λ (k : Kept). ride_portion mid.config (resumed k) ≤ room)
+      by None is c g = rw (mid_gone rider.session is) tt
+      by (Some k) is c g = rw (mid_there rider.session k (patterns_in old rider.session) is c, mid_config) (rider_fits e.kind e.rides rider rides config e.place e.moment k room g)
 
   -- ---- its answers
 
   -- what an entry without its rider gives is given over the sessions as they were before the answer was filed
   given_seated : (n : ℕ) (k : Kept) (a : Answered) → kept_in old n ≡ Some k → Contains (map answered_of (effect k).answers) a → IsGiven seated.config (kept_in seated) (alone e) n a
-  given_seated n k a is there =
-      subst (λ (c : Config). Contains (answers_by (λ s. step c s (alone e)) (kept_in seated n)) a) (sym seated_config)
-      (subst (λ o. Contains (answers_by (λ s. step config s (alone e)) o) a) (sym (seated_sessions n ∙ is))
-      (subst (λ (s : Session). Contains (map answered_of s.answers) a) (sym (alone_step config (resumed k) e)) there))
+  given_seated n k a is there = rw (seated_sessions n, is, seated_config, rider_of_none e.kind) there
 
   seated_given : (n : ℕ) (a : Answered) → IsGiven seated.config (kept_in seated) (alone e) n a → Contains (answers_by (λ s. step config s (alone e)) (kept_in old n)) a
-  seated_given n a g =
-      subst (λ o. Contains (answers_by (λ s. step config s (alone e)) o) a) (seated_sessions n)
-      (subst (λ (c : Config). Contains (answers_by (λ s. step c s (alone e)) (kept_in seated n)) a) seated_config g)
+  seated_given n a g = rw (seated_config, seated_sessions n) at g
 
   -- none of them is to the entry itself
   elsewhere : (n : ℕ) (k : Kept) (a : Answered) → kept_in old n ≡ Some k → Contains (map answered_of (effect k).answers) a → a.place ≢ e.place
@@ -305,16 +235,11 @@ module _ (stands : Bool) (e : Entry) (rider : Rider) (rides : rides_of e ≡ Som
 
   -- so the answer that was filed before is there behind the entry's own effect
   mid_filed : connect_at mid.connects e.place ≡ Some (states.Filed rider.session e.place (unridden rider))
-  mid_filed =
-      f.connects.kept e.place (λ n a g. by n a (kept_in old n) refl (seated_given n a g))
-      ∙ rider_begins e.kind e.rides rider rides (kept_in seated) (connect_at seated.connects) (alone e) e.place
-      ∙ seated_connects e.place
-      ∙ ap (λ (b : Bool). cond b (Some (states.Filed rider.session e.place (unridden rider))) (connect_at old.connects e.place)) (eq-eqb e.place e.place refl)
+  mid_filed = rw (f.connects.kept e.place (λ n a g. by n a (kept_in old n) refl (seated_given n a g)), rider_begins e.kind e.rides rider rides (kept_in seated) (connect_at seated.connects) (alone e) e.place, seated_connects e.place, eq-eqb e.place e.place refl)
     where
       by : (n : ℕ) (a : Answered) (o : Option Kept) → kept_in old n ≡ o → Contains (answers_by (λ s. step config s (alone e)) (kept_in old n)) a → a.place ≢ e.place
-      by n a None is g = absurd (nowhere a (subst (λ o. Contains (answers_by (λ s. step config s (alone e)) o) a) is g))
-      by n a (Some k) is g =
-          elsewhere n k a is (subst (λ (s : Session). Contains (map answered_of s.answers) a) (alone_step config (resumed k) e) (subst (λ o. Contains (answers_by (λ s. step config s (alone e)) o) a) is g))
+      by n a None is g = absurd (nowhere a (rw is at g))
+      by n a (Some k) is g = elsewhere n k a is (rw (is, rider_of_none e.kind) at g)
 
   -- ---- the whole
 
@@ -326,15 +251,10 @@ module _ (stands : Bool) (e : Entry) (rider : Rider) (rides : rides_of e ≡ Som
       (new_connects : (p : ℕ) → connect_at new.connects p ≡ cond (nat_eq e.place p) (completed_by mid.config (kept_in mid rider.session) (connect_at mid.connects e.place)) (connect_at mid.connects p))
       (new_config : new.config ≡ mid.config) (new_counted : AreCounted new) (new_held : AreHeld new) where
     followed_sessions : (n : ℕ) → kept_in new n ≡ session_after config stands e n (kept_in old n)
-    followed_sessions n =
-        new_sessions n ∙ ap (λ (c : Config). cond (nat_eq rider.session n) (option_map (given_up c) (kept_in mid rider.session)) (kept_in mid n)) mid_config
-        ∙ at_number rider.session n (option_map (given_up config)) (kept_in mid)
-        ∙ by (kept_in old n) refl (counted n)
+    followed_sessions n = rw (new_sessions n, mid_config, at_number rider.session n (option_map (given_up config)) (kept_in mid)) (by (kept_in old n) refl (counted n))
       where
         by : (o : Option Kept) → kept_in old n ≡ o → IsCounted n o (patterns_in old n) → cond (nat_eq rider.session n) (option_map (given_up config) (kept_in mid n)) (kept_in mid n) ≡ session_after config stands e n o
-        by None is c =
-            ap (λ o. cond (nat_eq rider.session n) (option_map (given_up config) o) o) (mid_gone n is) ∙ none_here (nat_eq rider.session n)
-            ∙ sym (ap (option_and_then (λ k. if_live (kept (step config (resumed k) e)))) (rider_opens e.kind e.rides rider rides stands n))
+        by None is c = rw (mid_gone n is, none_here (nat_eq rider.session n), rider_opens e.kind e.rides rider rides stands n)
         by (Some k) is c =
             ap (λ o. cond (nat_eq rider.session n) (option_map (given_up config) o) o) (mid_there n k (patterns_in old n) is c)
             ∙ rode config e.place rider.reply (nat_eq rider.session n) (effect k) (effect_live n k (patterns_in old n) c)
@@ -346,29 +266,18 @@ module _ (stands : Bool) (e : Entry) (rider : Rider) (rides : rides_of e ≡ Som
         connect_at new.connects e.place ≡ Some (states.Filed n e.place (ride_answer config e.place rider (effect k)).answer)
     own_answer n k patterns is own riding =
         let number : rider.session ≡ n = eqb-true rider.session (effect k).number (and_parts (rider.session == (effect k).number) (is_live (effect k).stage) riding).0 ∙ effect_number n k patterns own in
-        new_connects e.place
-        ∙ ap (λ (b : Bool). cond b (completed_by mid.config (kept_in mid rider.session) (connect_at mid.connects e.place)) (connect_at mid.connects e.place)) (eq-eqb e.place e.place refl)
-        ∙ ap (completed_by mid.config (kept_in mid rider.session)) mid_filed
-        ∙ ap (λ (c : Config). completed_by c (kept_in mid rider.session) (Some (states.Filed rider.session e.place (unridden rider)))) mid_config
-        ∙ ap (λ (m : ℕ). completed_by config (kept_in mid m) (Some (states.Filed m e.place (unridden rider)))) number
-        ∙ ap (λ o. completed_by config o (Some (states.Filed n e.place (unridden rider)))) (mid_there n k patterns is own)
+        rw (new_connects e.place, eq-eqb e.place e.place refl, mid_filed, mid_config, number, mid_there n k patterns is own)
 
     followed_given : (n : ℕ) (a : Answered) → IsGiven config (kept_in old) e n a → connect_at new.connects a.place ≡ Some (states.Filed n e.place a.answer)
     followed_given n a g = by (kept_in old n) refl (counted n) g
       where
         own : (k : Kept) → kept_in old n ≡ Some k → Contains (map answered_of (effect k).answers) a → connect_at new.connects a.place ≡ Some (states.Filed n e.place a.answer)
-        own k is there =
-            new_connects a.place
-            ∙ cond-false (nat_eq e.place a.place) (completed_by mid.config (kept_in mid rider.session) (connect_at mid.connects e.place)) (connect_at mid.connects a.place)
-            (either (nat_eq e.place a.place) (nat_eq e.place a.place ≡ false) (λ h. absurd (elsewhere n k a is there (sym (eqb-true e.place a.place h)))) (λ h. h))
-            ∙ f.connects.given n a (given_seated n k a is there)
+        own k is there = rw (new_connects a.place, ne_eqb e.place a.place (λ h. elsewhere n k a is there (sym h))) (f.connects.given n a (given_seated n k a is there))
 
         by : (o : Option Kept) → kept_in old n ≡ o → IsCounted n o (patterns_in old n) → Contains (answers_by (λ s. step config s e) o) a → connect_at new.connects a.place ≡ Some (states.Filed n e.place a.answer)
         by None is c there = absurd (nowhere a there)
         by (Some k) is c there =
-            ⊎_elim (λ earlier. own k is earlier)
-            (λ last. subst (λ (x : Answered). connect_at new.connects x.place ≡ Some (states.Filed n e.place x.answer)) (sym last.1) (own_answer n k (patterns_in old n) is c last.0))
-            (given_cases config e.place rider (effect k) a (subst (λ (s : Session). Contains (map answered_of s.answers) a) (ridden_step k) there))
+            ⊎_elim (λ earlier. own k is earlier) (λ last. rw last.1 (own_answer n k (patterns_in old n) is c last.0)) (given_cases config e.place rider (effect k) a (rw rides at there))
 
     -- the rider itself is answered
     answered : (p : ℕ) → ((n : ℕ) (a : Answered) → IsGiven config (kept_in old) e n a → a.place ≢ p) → nat_eq e.place p ≡ false
@@ -378,32 +287,26 @@ module _ (stands : Bool) (e : Entry) (rider : Rider) (rides : rides_of e ≡ Som
         by None is h c = absurd (true≢false (sym h))
         by (Some k) is h c =
             let t : Session = effect k in
-            let riding : is_riding rider t ≡ true =
-            ap (λ (m : ℕ). (rider.session == m) && is_live t.stage) (effect_number rider.session k (patterns_in old rider.session) c)
-            ∙ ap (λ (b : Bool). b && is_live t.stage) (eq-eqb rider.session rider.session refl) ∙ ap is_live (effect_live rider.session k (patterns_in old rider.session) c) in
-            let given : IsGiven config (kept_in old) e rider.session (ride_answer config e.place rider t) =
-            subst (λ o. Contains (answers_by (λ s. step config s e) o) (ride_answer config e.place rider t)) (sym is)
-            (subst (λ (s : Session). Contains (map answered_of s.answers) (ride_answer config e.place rider t)) (sym (ridden_step k)) (ride_given config e.place rider t riding)) in
-            either (nat_eq e.place p) (nat_eq e.place p ≡ false) (λ g. absurd (others rider.session (ride_answer config e.place rider t) given (eqb-true e.place p g))) (λ g. g)
+            let riding : is_riding rider t ≡ true = rw (effect_number rider.session k (patterns_in old rider.session) c, eq-eqb rider.session rider.session refl, effect_live rider.session k (patterns_in old rider.session) c) in
+            let given : IsGiven config (kept_in old) e rider.session (ride_answer config e.place rider t) = rw (is, rides) (ride_given config e.place rider t riding) in
+            ne_eqb e.place p (others rider.session (ride_answer config e.place rider t) given)
 
     followed_kept : (p : ℕ) → ((n : ℕ) (a : Answered) → IsGiven config (kept_in old) e n a → a.place ≢ p) → connect_at new.connects p ≡ begun (kept_in old) (connect_at old.connects) e e.kind p
     followed_kept p others =
         let other : nat_eq e.place p ≡ false = answered p others in
-        new_connects p
-        ∙ cond-false (nat_eq e.place p) (completed_by mid.config (kept_in mid rider.session) (connect_at mid.connects e.place)) (connect_at mid.connects p) other
-        ∙ f.connects.kept p (λ n a g. others n a (on n a (kept_in old n) refl (seated_given n a g)))
-        ∙ rider_begins e.kind e.rides rider rides (kept_in seated) (connect_at seated.connects) (alone e) p
-        ∙ seated_connects p
-        ∙ cond-false (nat_eq e.place p) (Some (states.Filed rider.session e.place (unridden rider))) (connect_at old.connects p) other
-        ∙ sym (rider_begins e.kind e.rides rider rides (kept_in old) (connect_at old.connects) e p)
+        rw (
+          new_connects p,
+          other,
+          f.connects.kept p (λ n a g. others n a (on n a (kept_in old n) refl (seated_given n a g))),
+          rider_begins e.kind e.rides rider rides (kept_in seated) (connect_at seated.connects) (alone e) p,
+          seated_connects p,
+          other,
+          rider_begins e.kind e.rides rider rides (kept_in old) (connect_at old.connects) e p,
+        )
       where
         on : (n : ℕ) (a : Answered) (o : Option Kept) → kept_in old n ≡ o → Contains (answers_by (λ s. step config s (alone e)) (kept_in old n)) a → IsGiven config (kept_in old) e n a
-        on n a None is g = absurd (nowhere a (subst (λ o. Contains (answers_by (λ s. step config s (alone e)) o) a) is g))
-        on n a (Some k) is g =
-            subst (λ o. Contains (answers_by (λ s. step config s e) o) a) (sym is)
-            (subst (λ (s : Session). Contains (map answered_of s.answers) a) (sym (ridden_step k))
-            (still_given config e.place rider (effect k) a (subst (λ (s : Session). Contains (map answered_of s.answers) a) (alone_step config (resumed k) e)
-            (subst (λ o. Contains (answers_by (λ s. step config s (alone e)) o) a) is g))))
+        on n a None is g = absurd (nowhere a (rw is at g))
+        on n a (Some k) is g = rw (is, rides) (still_given config e.place rider (effect k) a (rw (is, rider_of_none e.kind) at g))
 
     completed_session : (o : Option Kept) (p : ℕ) → session_at (completed_by mid.config o (Some (states.Filed rider.session p (unridden rider)))) ≡ Some rider.session
     completed_session None p = refl
@@ -414,20 +317,16 @@ module _ (stands : Bool) (e : Entry) (rider : Rider) (rides : rides_of e ≡ Som
       where
         own : nat_eq e.place p ≡ true → (session_at (connect_at old.connects p) ≡ Some m) ⊎ Connects (kept_in old) e p m
         own g =
-            let is : Some rider.session ≡ Some m =
-            sym (ap session_at (new_connects p ∙ cond-true (nat_eq e.place p) (completed_by mid.config (kept_in mid rider.session) (connect_at mid.connects e.place)) (connect_at mid.connects p) g ∙ ap (completed_by mid.config (kept_in mid rider.session)) mid_filed)
-            ∙ completed_session (kept_in mid rider.session) e.place) ∙ h in
+            let is : Some rider.session ≡ Some m = rw (new_connects p, g, mid_filed, completed_session (kept_in mid rider.session) e.place) at h in
             let same : rider.session ≡ m = cc in
             inr (record { place = eqb-true e.place p g; session = inr (ap riding rides ∙ is); here = subst (λ (n : ℕ). is_some (kept_in old n) ≡ true) same here })
 
         other : nat_eq e.place p ≡ false → (session_at (connect_at old.connects p) ≡ Some m) ⊎ Connects (kept_in old) e p m
         other g =
-            let at_mid : session_at (connect_at mid.connects p) ≡ Some m =
-            ap session_at (sym (new_connects p ∙ cond-false (nat_eq e.place p) (completed_by mid.config (kept_in mid rider.session) (connect_at mid.connects e.place)) (connect_at mid.connects p) g)) ∙ h in
-            ⊎_elim
-            (λ l. inl (ap session_at (sym (seated_connects p ∙ cond-false (nat_eq e.place p) (Some (states.Filed rider.session e.place (unridden rider))) (connect_at old.connects p) g)) ∙ l))
+            let at_mid : session_at (connect_at mid.connects p) ≡ Some m = rw (new_connects p, g) at h in
+            ⊎_elim (λ l. inl (rw (seated_connects p, g) at l))
             (λ r. let c : Connects (kept_in seated) e p m = convert (kept_in seated) e p m r in
-            inr (record { place = c.place; session = c.session; here = ap is_some (sym (seated_sessions m)) ∙ c.here }))
+            inr (record { place = c.place; session = c.session; here = rw (seated_sessions m) at c.here }))
             (f.known p m at_mid)
 
     pub followed_riding : Followed stands e old new

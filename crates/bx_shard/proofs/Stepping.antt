@@ -3,13 +3,13 @@ use Rattle.std.proofs.Common.{arith, ◌≡◌, ℕ, ◌+◌, ◌<◌, Bool, tru
 use Rattle.std.proofs.lemmas.{Bool.cond_both, Bool.cond-true, Bool.cond-false, List.map-append, List.Elements.filter-append}
 use Rattle.bx_lists.proofs.Tests.{either}
 use Rattle.bx_advice.specs.declared.config.Config.{Config}
-use Rattle.bx_entry.specs.Words.{Listed, Registry, Registered, judge, registry, entries_of, Session, Stage, is_live, rider_of, stage_after, step, step_by, unopened, session, Kept, kept, kept_step, StepsAlike}
+use Rattle.bx_entry.specs.Words.{Listed, Registry, Registered, registry, entries_of, Session, Stage, is_live, rider_of, stage_after, step, step_by, unopened, session, Kept, kept, kept_step, StepsAlike}
 use Rattle.bx_entry.specs.declared.entry.{Entry.Entry, EntryKind.EntryKind}
 use Rattle.bx_entry.specs.declared.entry.EntryKind.TheVariants.{Opened}
 use Rattle.bx_theory.specs.Readings.{opens_by, closes_by, EachSession}
 use Rattle.bx_shard.specs.Words.{Setup, stands_in, shard_at, opening_by, ShardsStep, stepped}
 use Rattle.bx_theory.proofs.{Keeps.ride_k, Stages.Next, Stages.step_by_next, Dues.numbered, Dues.numbered_below, Kept.kept_steps, Closings.run_number}
-use Rattle.bx_shard.proofs.Elements.{numbers, opened_numbers, Adds, next_is, session_next, all_fresh, opens_above, Met, met}
+use Rattle.bx_shard.proofs.Elements.{numbers, numbers_next, opened_numbers, opens_no_other, entry_next, session_next, all_fresh, opens_above, Met, met}
 use Rattle.bx_shard.proofs.Finding.{steps}
 
 -- ---- sessions by their numbers
@@ -93,56 +93,51 @@ numbers_below setup shard xs =
     each_number_filter (λ n. n < 1 + length r.sessions) (λ n. stands_in setup shard n) (numbers r.sessions)
     (each_number_of (λ n. n < 1 + length r.sessions) r.sessions (numbered_below 1 r.sessions (numbered setup.config xs)))
 
-held_step : (config : Config) (ys : List Listed) (x : Listed) (ns : List ℕ) → 0 < config.limits.batch → EachNumber (λ n. n < 1 + length (registry config ys).sessions) ns → (a : Adds config (registry config ys) (judge config (registry config ys) x)) →
-    held_by config (entries_of (registry config (ys ++ x ∷ []))) ns ≡ steps config a.found.entry (held_by config (entries_of (registry config ys)) ns)
-held_step config ys x [] room d a = refl
-held_step config ys x (n ∷ ns) room d a =
+held_step : (config : Config) (ys : List Listed) (x : Listed) (ns : List ℕ) → EachNumber (λ n. n < 1 + length (registry config ys).sessions) ns →
+    held_by config (entries_of (registry config (ys ++ x ∷ []))) ns ≡ steps config (entry_next config ys x) (held_by config (entries_of (registry config ys)) ns)
+held_step config ys x [] d = refl
+held_step config ys x (n ∷ ns) d =
     let es : List Entry = entries_of (registry config ys) in
-    let e : Entry = a.found.entry in
+    let e : Entry = entry_next config ys x in
     let s : Session = session config n (entries_of (registry config ys)) in
     let after : List Entry = entries_of (registry config (ys ++ x ∷ [])) in
-    let own : opens_by (session config n (entries_of (registry config ys))).number a.found.entry.kind ≡ false = ap (λ (m : ℕ). opens_by m e.kind) (run_number config (unopened n) es) ∙ a.new n d.0 in
+    let own : opens_by (session config n (entries_of (registry config ys))).number (entry_next config ys x).kind ≡ false = ap (λ (m : ℕ). opens_by m e.kind) (run_number config (unopened n) es) ∙ opens_no_other config ys x n d.0 in
     held_cons config after n ns
-    ∙ ap (λ (u : Session). one_kept u (held_by config after ns)) (session_next config n ys x a)
-    ∙ ap (one_kept (step config s e)) (held_step config ys x ns room d.1 a)
+    ∙ ap (λ (u : Session). one_kept u (held_by config after ns)) (session_next config n ys x)
+    ∙ ap (one_kept (step config s e)) (held_step config ys x ns d.1)
     ∙ one_step config s e (held_by config es ns) (kept_steps config s e) (λ h. dead_step config s e own h)
     ∙ sym (ap (steps config e) (held_cons config es n ns))
 
 -- the session that the entry opens
-opening_step : (setup : Setup) (shard : ℕ) (ys : List Listed) (x : Listed) (k : EntryKind) → 0 < setup.config.limits.batch → (a : Adds setup.config (registry setup.config ys) (judge setup.config (registry setup.config ys) x)) → a.found.entry.kind ≡ k →
-    held_by setup.config (entries_of (registry setup.config (ys ++ x ∷ []))) (filter (λ (n : ℕ). stands_in setup shard n) (opened_numbers k)) ≡ steps setup.config a.found.entry (opening_by setup shard k)
-opening_step setup shard ys x (Opened n ack) room a h =
-    let config : Config = setup.config in
-    let e : Entry = a.found.entry in
-    let es : List Entry = entries_of (registry setup.config ys) in
-    let after : List Entry = entries_of (registry setup.config (ys ++ x ∷ [])) in
+opening_step : (setup : Setup) (shard : ℕ) (ys : List Listed) (x : Listed) (k : EntryKind) → (entry_next setup.config ys x).kind ≡ k →
+    held_by setup.config (entries_of (registry setup.config (ys ++ x ∷ []))) (filter (λ (n : ℕ). stands_in setup shard n) (opened_numbers k)) ≡ steps setup.config (entry_next setup.config ys x) (opening_by setup shard k)
+opening_step setup shard ys x (Opened n ack) h =
+    let e : Entry = entry_next setup.config ys x in
     let none : List Kept = [] in
-    let past : length (registry setup.config ys).sessions < n = opens_above setup.config (registry setup.config ys) (judge setup.config (registry setup.config ys) x) a n ack h in
-    let begin : session setup.config n (entries_of (registry setup.config ys)) ≡ unopened n = all_fresh setup.config ys n past in
-    let one : session setup.config n (entries_of (registry setup.config (ys ++ x ∷ []))) ≡ step setup.config (unopened n) a.found.entry = session_next setup.config n ys x a ∙ ap (λ (s : Session). step setup.config s a.found.entry) begin in
-    (elim (stands_in setup shard n) as (λ b. held_by setup.config (entries_of (registry setup.config (ys ++ x ∷ []))) (cond b (n ∷ []) []) ≡ steps setup.config a.found.entry (cond b (kept (unopened n) ∷ []) [])) [
-      | true ↦ held_cons config after n [] ∙ ap (λ (s : Session). one_kept s none) one
-          ∙ ap (λ (k : Kept). cond (is_live k.stage) (k ∷ none) none) (kept_steps setup.config (unopened n) a.found.entry).state
+    let begin : session setup.config n (entries_of (registry setup.config ys)) ≡ unopened n = all_fresh setup.config ys n (opens_above setup.config ys x n ack h) in
+    let one : session setup.config n (entries_of (registry setup.config (ys ++ x ∷ []))) ≡ step setup.config (unopened n) (entry_next setup.config ys x) = session_next setup.config n ys x ∙ ap (λ (s : Session). step setup.config s e) begin in
+    (elim (stands_in setup shard n) as (λ b. held_by setup.config (entries_of (registry setup.config (ys ++ x ∷ []))) (cond b (n ∷ []) []) ≡ steps setup.config (entry_next setup.config ys x) (cond b (kept (unopened n) ∷ []) [])) [
+      | true ↦ held_cons setup.config (entries_of (registry setup.config (ys ++ x ∷ []))) n [] ∙ ap (λ (s : Session). one_kept s none) one
+          ∙ ap (λ (k : Kept). cond (is_live k.stage) (k ∷ none) none) (kept_steps setup.config (unopened n) e).state
       | false ↦ refl
     ])
-opening_step setup shard ys x _ room a h = refl
+opening_step setup shard ys x _ h = refl
 
-shard_next : (setup : Setup) (shard : ℕ) (ys : List Listed) (x : Listed) → 0 < setup.config.limits.batch → (a : Adds setup.config (registry setup.config ys) (judge setup.config (registry setup.config ys) x)) →
-    held_over setup shard (ys ++ x ∷ []) ≡ steps setup.config a.found.entry (held_over setup shard ys ++ opening_by setup shard a.found.entry.kind)
-shard_next setup shard ys x room a =
+shard_next : (setup : Setup) (shard : ℕ) (ys : List Listed) (x : Listed) →
+    held_over setup shard (ys ++ x ∷ []) ≡ steps setup.config (entry_next setup.config ys x) (held_over setup shard ys ++ opening_by setup shard (entry_next setup.config ys x).kind)
+shard_next setup shard ys x =
     let config : Config = setup.config in
     let r : Registry = registry setup.config ys in
-    let e : Entry = a.found.entry in
+    let e : Entry = entry_next setup.config ys x in
     let after : List Entry = entries_of (registry setup.config (ys ++ x ∷ [])) in
     let here : ℕ → Bool = λ n. stands_in setup shard n in
     let ns : List ℕ = numbers r.sessions in
     let ms : List ℕ = opened_numbers e.kind in
-    let nums : numbers (registry setup.config (ys ++ x ∷ [])).sessions ≡ numbers (registry setup.config ys).sessions ++ opened_numbers a.found.entry.kind = ap (λ (t : Registry). numbers t.sessions) (next_is config ys x) ∙ a.sessions in
-    ap (λ (ks : List ℕ). held_by config after (filter here ks)) nums
+    ap (λ (ks : List ℕ). held_by config after (filter here ks)) (numbers_next config ys x)
     ∙ ap (held_by config after) (filter-append here ns ms)
     ∙ held_append config after (filter here ns) (filter here ms)
-    ∙ ap (λ (ks : List Kept). ks ++ held_by config after (filter here ms)) (held_step config ys x (filter here ns) room (numbers_below setup shard ys) a)
-    ∙ ap (λ (ks : List Kept). steps config e (held_by config (entries_of r) (filter here ns)) ++ ks) (opening_step setup shard ys x e.kind room a refl)
+    ∙ ap (λ (ks : List Kept). ks ++ held_by config after (filter here ms)) (held_step config ys x (filter here ns) (numbers_below setup shard ys))
+    ∙ ap (λ (ks : List Kept). steps config e (held_by config (entries_of r) (filter here ns)) ++ ks) (opening_step setup shard ys x e.kind refl)
     ∙ sym (steps_append config e (held_by config (entries_of r) (filter here ns)) (opening_by setup shard e.kind))
 
 -- ---- the law
@@ -152,6 +147,6 @@ shards_step setup list taken shard n e room there =
     let m : Met setup.config list n e = met setup.config list n e there in
     held_at setup list taken shard (n + 1)
     ∙ ap (held_over setup shard) m.next
-    ∙ shard_next setup shard (take n list) m.element room m.adds
+    ∙ shard_next setup shard (take n list) m.element
     ∙ ap (λ (x : Entry). steps setup.config x (held_over setup shard (take n list) ++ opening_by setup shard x.kind)) m.same
     ∙ ap (stepped setup shard e) (sym (held_at setup list taken shard n))

@@ -2,7 +2,6 @@
 use Rattle.std.proofs.Common.{arith, ◌≡◌, ℕ, Bool, true, false, ◌&&◌, is_some, Option, None, List, filter, nat_eq, ◌==◌, sym, ap, ◌∙◌, eqb-true}
 use Rattle.std.proofs.lemmas.{Map.Made.is_some-lookup, Map.Views.any-filter_same}
 use Rattle.std.specs.{List.list_any, Map.keys_of, Option.IsSome}
-use Rattle.bx_lists.proofs.Tests.{either}
 use Rattle.bx_connects.specs.declared.{connects.ConnectState.ConnectState, connects.FiledAnswer.FiledAnswer, held.HeldConnect.HeldConnect}
 use Rattle.bx_connects.specs.Connects.{filed_answer, filing_at, hold_at, state_by, unswept}
 use Rattle.bx_shard.specs.Words.{is_taken, State, connect_in, RefinesBesideSwept, RefinesSwept, is_swept, swept_places}
@@ -28,20 +27,19 @@ either_way place ks = grind arith
 known_by : (before : ℕ) (held : Option HeldConnect) (filed : Option FiledAnswer) → is_swept before (state_by held filed) ≡ true → is_some filed ≡ true
 known_by before held filed said = grind arith
 
+both : (a b : Bool) → (a ≡ true → b ≡ true) → (a && b) ≡ a
+both a b h = grind arith
+
 -- the places of a sweep are those whose answers are filed below it
 swept_is : (before : ℕ) (s : State) (place : ℕ) → is_taken (swept_places before s) place ≡ is_swept before (connect_in s place)
 swept_is before s place =
     let keys : List ℕ = keys_of s.sessions.connects.filed in
     let test : ℕ → Bool = λ p. is_swept before (connect_in s p) in
     let among : is_taken (filter test keys) place ≡ (test place && is_taken keys place) = any-filter_same (λ t. t == place) test (test place) (λ k h. ap test (eqb-true k place h)) keys in
-    among
-    ∙ either (test place) ((test place && is_taken keys place) ≡ test place)
-    (λ h.
-    let known : is_taken keys place ≡ true =
+    let known : test place ≡ true → is_taken keys place ≡ true = λ h.
     sym (is_some-lookup (nat_eq place) s.sessions.connects.filed ∙ either_way place keys)
     ∙ known_by before (hold_at s.sessions.connects.held place) (filing_at s.sessions.connects.filed place) h in
-    ap (λ (b : Bool). b && is_taken keys place) h ∙ known ∙ sym h)
-    (λ h. ap (λ (b : Bool). b && is_taken keys place) h ∙ sym h)
+    among ∙ both (test place) (is_taken keys place) known
 
 -- ---- the shard from which they were dropped, and the others
 

@@ -1,5 +1,5 @@
 -- What shards hold once the answer to a connect was taken from one of them.
-use Rattle.std.proofs.Common.{◌≢◌, ◌≡◌, ℕ, ◌<◌, Bool, true, false, ◌||◌, is_some, Option, Some, None, List, [], ◌∷◌, ◌++◌, length, take, drop, filter, flat_map, option_map, slice_get, nat_eq, nat_lt, ◌==◌, not, refl, sym, ap, ◌∙◌, subst, arith, eqb-true, eq-eqb, ltb-true, ltb-false}
+use Rattle.std.proofs.Common.{◌≢◌, ◌≡◌, ℕ, ◌<◌, Bool, true, false, ◌||◌, is_some, Option, Some, None, List, [], ◌∷◌, ◌++◌, length, take, drop, filter, flat_map, option_map, slice_get, nat_eq, nat_lt, ◌==◌, not, refl, sym, ap, ◌∙◌, subst, arith, eqb-true, ltb-true, ltb-false}
 use Rattle.std.proofs.lemmas.{Bool.both_ways, Bool.cond-true, Bool.cond-false, Bool.or_right, List.take-append-drop, List.Folds.list_any-append}
 use Rattle.std.specs.Option.{IsSome}
 use Rattle.bx_lists.proofs.Tests.{either}
@@ -16,20 +16,21 @@ use Rattle.bx_shard.proofs.Untaken.{find_of, find_untaken, found_in, found_kept,
 -- ---- which were taken
 
 pub taken_own : (taken : List ℕ) (place : ℕ) → is_taken (taken ++ place ∷ []) place ≡ true
-taken_own [] place = ap (λ (b : Bool). b || false) (eq-eqb place place refl)
-taken_own (t ∷ ts) place = or_right (t == place) (is_taken (ts ++ place ∷ []) place) (taken_own ts place)
+taken_own taken place = list_any-append (λ (t : ℕ). t == place) taken (place ∷ []) ∙ or_right (is_taken taken place) (is_taken (place ∷ []) place) (grind arith)
 
 -- those that were taken before, and these
 taken_too : (taken places : List ℕ) (p : ℕ) → is_taken places p ≡ true → is_taken (taken ++ places) p ≡ true
 taken_too taken places p h = list_any-append (λ (t : ℕ). t == p) taken places ∙ or_right (is_taken taken p) (is_taken places p) h
 
+or_false : (a b : Bool) → b ≡ false → (a || b) ≡ a
+or_false a b h = grind arith
+
 taken_before : (taken places : List ℕ) (p : ℕ) → is_taken places p ≡ false → is_taken (taken ++ places) p ≡ is_taken taken p
-taken_before taken places p h =
-    list_any-append (λ (t : ℕ). t == p) taken places ∙ ap (λ (b : Bool). is_taken taken p || b) h ∙ (elim (is_taken taken p) as (λ (b : Bool). (b || false) ≡ b) [ true ↦ refl | false ↦ refl ])
+taken_before taken places p h = list_any-append (λ (t : ℕ). t == p) taken places ∙ or_false (is_taken taken p) (is_taken places p) h
 
 -- one place
 is_one : (place p : ℕ) (b : Bool) → is_taken (place ∷ []) p ≡ b → nat_eq place p ≡ b
-is_one place p b h = sym (elim (nat_eq place p) as (λ (c : Bool). (c || false) ≡ c) [ true ↦ refl | false ↦ refl ]) ∙ h
+is_one place p b h = grind arith
 
 -- ---- what is found among the answers that weren't taken
 

@@ -1,9 +1,11 @@
 -- A tick ends hold after hold, until none is due; every session is then as one tick leaves it.
-use Rattle.std.proofs.Common.{Contains, ◌≡◌, ◌≢◌, ◌⊎◌, inl, inr, ℕ, nat_eq, ◌+◌, ◌<◌, ◌≤◌, ◌^◌, Bool, true, false, cond, Option, Some, None, option_map, [], ◌∷◌, map, refl, sym, ap, ◌∙◌, subst, arith}
-use Rattle.std.proofs.lemmas.Bool.{cond_both, eqb-true, eq-eqb, ne_eqb}
+use Rattle.std.proofs.Common.{⊎_elim, Contains, ◌≡◌, ◌≢◌, ◌⊎◌, inl, inr, ℕ, nat_eq, ◌+◌, ◌<◌, ◌≤◌, ◌^◌, true, false, cond, Option, Some, option_map, [], ◌∷◌, refl, sym, ap, ◌∙◌, arith}
+use Rattle.std.proofs.lemmas.{Bool.eqb-true, Bool.eq-eqb, Bool.ne_eqb, Grind.common_steps}
+use Rattle.bx_lists.proofs.Tests.{either}
 use Rattle.bx_advice.specs.declared.config.Config.{Config}
 use Rattle.bx_advice.specs.declared.advice.Outcome.TheVariants.{Connected}
-use Rattle.bx_entry.specs.Words.{Kept, after, kept, resumed, Pending, Session, ends_by, expired, expired_from, released, released_from, unheld}
+use Rattle.bx_entry.specs.Words.{Kept, after, resumed, Pending, Session, ends_by, expired, unheld}
+use Rattle.bx_entry.specs.Sessions.{filing}
 use Rattle.bx_session.specs.declared.answered.Answered.{Answered}
 use Rattle.bx_session.specs.Views.{answered_of, deadline_of}
 use Rattle.futures.specs.declared.task.waker.Waker.{Waker}
@@ -44,6 +46,10 @@ pub record IsHolding (o : Option Kept) (place : ℕ) (deadline : Option ℕ) : T
 holding : (o : Option Kept) (place : ℕ) (deadline : Option ℕ) → holds_until o place ≡ Some deadline → IsHolding o place deadline
 holding o place deadline h = grind arith
 
+-- a change that a second one leaves, of one of the sessions
+twice : (F : Option Kept → Option Kept) (T U : ℕ → Option Kept) (m n : ℕ) → U n ≡ cond (nat_eq m n) (F (T m)) (T n) → F (F (T m)) ≡ F (T m) → F (U n) ≡ F (T n)
+twice F T U m n on same = grind arith
+
 -- ---- one session
 
 module _ (config : Config) (place moment : ℕ) where
@@ -51,64 +57,17 @@ module _ (config : Config) (place moment : ℕ) where
   abbrev pub tick : Session → Session
   tick = expired config place moment
 
-  -- it stays as it was, and gives no answer
-  record StaysAs (k : Kept) (t : Session) : Type 0 where
-    state : kept t ≡ k
-    none : map answered_of t.answers ≡ []
-
-  -- it lets go what it held, and answers that
-  record LetsGo (k : Kept) (t : Session) : Type 0 where
-    hold : Pending
-    answer : Answered
-    held : k.held ≡ Some hold
-    state : kept t ≡ after unheld k
-    given : map answered_of t.answers ≡ answer ∷ []
-    own : answer.place ≡ hold.place
-
-  abbrev Turns : Kept → Session → Type 0
-  Turns k t = StaysAs k t ⊎ LetsGo k t
-
-  released_turns : (k : Kept) (held : Option Pending) → k.held ≡ held → Turns k (released_from config place Connected (resumed k) held)
-  released_turns k None e = inl (record { state = refl; none = refl })
-  released_turns k (Some q) e = inr (record { hold = q; answer = _; held = e; state = refl; given = refl; own = refl })
-
-  expired_turns : (k : Kept) (held : Option Pending) → k.held ≡ held → Turns k (expired_from config place moment (resumed k) held)
-  expired_turns k None e = inl (record { state = refl; none = refl })
-  expired_turns k (Some q) e =
-      cond_both (ends_by moment q) (released config place Connected (resumed k)) (resumed k) (Turns k) (λ d. released_turns k k.held refl) (λ d. inl (record { state = refl; none = refl }))
-
   -- a session whose hold is not due gives no answer and stays
   pub record IsIdle (o : Option Kept) : Type 0 where
     pub none : answers_by tick o ≡ []
     pub same : option_map (after tick) o ≡ o
 
-  idle_none : IsIdle None
-  idle_none = record { none = refl; same = refl }
-
-  idle_free : (k : Kept) → k.held ≡ None → IsIdle (Some k)
-  idle_free k free =
-      let P : Option Pending → Type 0 = λ h. StaysAs k (expired_from config place moment (resumed k) h) in
-      let stays : StaysAs k (tick (resumed k)) = subst P (sym free) (record { state = refl; none = refl }) in
-      record { none = stays.none; same = ap Some stays.state }
-
-  idle_held : (k : Kept) (q : Pending) → k.held ≡ Some q → ends_by moment q ≡ false → IsIdle (Some k)
-  idle_held k q held late =
-      let P : Option Pending → Type 0 = λ h. StaysAs k (expired_from config place moment (resumed k) h) in
-      let Q : Bool → Type 0 = λ b. StaysAs k (cond b (released config place Connected (resumed k)) (resumed k)) in
-      let stays : StaysAs k (tick (resumed k)) = subst P (sym held) (subst Q (sym late) (record { state = refl; none = refl })) in
-      record { none = stays.none; same = ap Some stays.state }
+  idle : (o : Option Kept) → ((k : Kept) (q : Pending) → o ≡ Some k → k.held ≡ Some q → ends_by moment q ≡ false) → IsIdle o
+  idle o late = grind (arith, common_steps)
 
   -- after a tick a second one at the same moment changes nothing, and gives no answer
   idle_after : (o : Option Kept) → IsIdle (option_map (after tick) o)
-  idle_after None = idle_none
-  idle_after (Some k) = by (expired_turns k k.held refl)
-    where
-      by : Turns k (tick (resumed k)) → IsIdle (Some (after tick k))
-      by (inl stays) = record {
-        none = ap (λ (l : Kept). answers_by tick (Some l)) stays.state ∙ stays.none;
-        same = ap (λ (l : Kept). Some (after tick l)) stays.state;
-      }
-      by (inr goes) = subst (λ (l : Kept). IsIdle (Some l)) (sym goes.state) (idle_free (after unheld k) refl)
+  idle_after o = grind (arith, common_steps)
 
   -- the answer of a tick is that of the connect that is due
   pub record IsAnswered (o : Option Kept) (at : ℕ) : Type 0 where
@@ -117,41 +76,20 @@ module _ (config : Config) (place moment : ℕ) where
     pub own : answer.place ≡ at
 
   answered_due : (k : Kept) (q : Pending) → k.held ≡ Some q → ends_by moment q ≡ true → IsAnswered (Some k) q.place
-  answered_due k q held due =
-      let R : Session → Type 0 = λ t. (answer : Answered) × (map answered_of t.answers ≡ answer ∷ []) × (answer.place ≡ q.place) in
-      let P : Option Pending → Type 0 = λ h. R (expired_from config place moment (resumed k) h) in
-      let Q : Bool → Type 0 = λ b. R (cond b (released config place Connected (resumed k)) (resumed k)) in
-      let N : Option Pending → Type 0 = λ h. R (released_from config place Connected (resumed k) h) in
-      let w : R (tick (resumed k)) = subst P (sym held) (subst Q (sym due) (subst N (sym held) (_, refl, refl))) in
-      record { answer = w.0; given = w.1; own = w.2 }
+  answered_due k q held due = record { answer = answered_of (filing config q place [] Connected (unheld (resumed k))); given = grind (arith, common_steps); own = refl }
 
   module _ (C : ℕ → Option ConnectState) (S : ℕ → Option Kept) (agree : Agree C S) where
     pub due_answered : (n at deadline : ℕ) (waker : Option Waker) → C at ≡ Some (Held n (Some deadline) waker) → deadline ≤ moment → IsAnswered (S n) at
     due_answered n at deadline waker known late =
-        from (holding (S n) at (Some deadline) (sym (agree at n) ∙ ap (λ o. held_until o n) known ∙ ap (λ b. cond b (Some (Some deadline)) None) (eq-eqb n n refl)))
-      where
-        from : IsHolding (S n) at (Some deadline) → IsAnswered (S n) at
-        from h =
-            let one : IsAnswered (Some h.session) h.hold.place = answered_due h.session h.hold h.held (due_by moment deadline h.hold h.ends late) in
-            record { answer = one.answer; given = ap (answers_by tick) h.here ∙ one.given; own = one.own ∙ h.own }
+        let h : IsHolding (S n) at (Some deadline) = holding (S n) at (Some deadline) (rw (← agree at n, known, eq-eqb n n refl)) in
+        let one : IsAnswered (Some h.session) h.hold.place = answered_due h.session h.hold h.held (due_by moment deadline h.hold h.ends late) in
+        record { answer = one.answer; given = ap (answers_by tick) h.here ∙ one.given; own = one.own ∙ h.own }
 
     -- where no connect is due no session has an answer
     pub none_due : moment < 2 ^ 64 → ((at n deadline : ℕ) → IsHeldBy (C at) n (Some deadline) → moment < deadline) → (n : ℕ) → IsIdle (S n)
-    none_due fits later n = of (S n) refl
-      where
-        of : (o : Option Kept) → S n ≡ o → IsIdle o
-        of None e = idle_none
-        of (Some k) e = by k.held refl
-          where
-            by : (h : Option Pending) → k.held ≡ h → IsIdle (Some k)
-            by None g = idle_free k g
-            by (Some q) g = idle_held k q g (not_due moment q fits ahead)
-              where
-                held : IsHeldBy (C q.place) n (deadline_of q)
-                held = held_by (C q.place) n (deadline_of q) (agree q.place n ∙ ap (λ o. holds_until o q.place) e ∙ holds_own k q g)
-
-                ahead : (d : ℕ) → deadline_of q ≡ Some d → moment < d
-                ahead d ends = later q.place n d (record { waker = held.waker; is = held.is ∙ ap (λ o. Some (Held n o held.waker)) ends })
+    none_due fits later n = idle (S n) (λ k q here holds.
+        let held : IsHeldBy (C q.place) n (deadline_of q) = held_by (C q.place) n (deadline_of q) (rw (agree q.place n, here) (holds_own k q holds)) in
+        not_due moment q fits (λ d ends. later q.place n d (record { waker = held.waker; is = held.is ∙ ap (λ o. Some (Held n o held.waker)) ends })))
 
   -- ---- some holds have ended
 
@@ -178,10 +116,10 @@ module _ (config : Config) (place moment : ℕ) where
         → ((n : ℕ) → U n ≡ cond (nat_eq m n) (option_map (after tick) (T m)) (T n)) → ((p : ℕ) → E p ≡ filing_each place (answers_by tick (T m)) D p)
         → AreTicked S U C E
     one_ticked so answer held on at = record {
-      sessions = sessions;
-      left = left;
-      given = given;
-      kept_at = kept_at;
+      sessions = λ n. twice (option_map (after tick)) T U m n (on n) (idle_after (T m)).same ∙ so.sessions n;
+      left = λ n x there. either (nat_eq m n) (Contains (answers_by tick (S n)) x) (λ t. absurd (nowhere x (rw (on n, t, (idle_after (T m)).none) at there))) (λ f. so.left n x (rw (on n, f) at there));
+      given = λ n x there. ⊎_elim (waits n x) (filed n x) (so.given n x there);
+      kept_at = λ p none. other p (ne_eqb a.place p (none m a (so.left m a (rw answer (the_one a))))) ∙ so.kept_at p none;
       known = λ p. ap session_at (at p) ∙ filing_each_session place (answers_by tick (T m)) D p ∙ so.known p;
     }
       where
@@ -189,44 +127,26 @@ module _ (config : Config) (place moment : ℕ) where
         files p = at p ∙ ap (λ given. filing_each place given D p) answer
 
         own : E a.place ≡ Some (Filed m place a.answer)
-        own = files a.place ∙ ap (λ b. cond b (filed_as place a.answer (D a.place)) (D a.place)) (eq-eqb a.place a.place refl) ∙ ap (filed_as place a.answer) held
+        own = rw (files a.place, eq-eqb a.place a.place refl, held)
 
         other : (p : ℕ) → nat_eq a.place p ≡ false → E p ≡ D p
-        other p e = files p ∙ ap (λ b. cond b (filed_as place a.answer (D a.place)) (D p)) e
+        other p e = rw (files p, e)
 
-        sessions : (n : ℕ) → option_map (after tick) (U n) ≡ option_map (after tick) (S n)
-        sessions n = ap (option_map (after tick)) (on n) ∙ by (nat_eq m n) refl ∙ so.sessions n
-          where
-            by : (b : Bool) → nat_eq m n ≡ b → option_map (after tick) (cond b (option_map (after tick) (T m)) (T n)) ≡ option_map (after tick) (T n)
-            by true e = (idle_after (T m)).same ∙ ap (λ k. option_map (after tick) (T k)) (eqb-true m n e)
-            by false e = refl
+        Given : ℕ → Answered → Type 0
+        Given n x = Contains (answers_by tick (U n)) x ⊎ (E x.place ≡ Some (Filed n place x.answer))
 
-        left : (n : ℕ) (x : Answered) → Contains (answers_by tick (U n)) x → Contains (answers_by tick (S n)) x
-        left n x there = by (nat_eq m n) (subst (λ o. Contains (answers_by tick o) x) (on n) there)
-          where
-            by : (b : Bool) → Contains (answers_by tick (cond b (option_map (after tick) (T m)) (T n))) x → Contains (answers_by tick (S n)) x
-            by true f = absurd (nowhere x (subst (λ given. Contains given x) (idle_after (T m)).none f))
-            by false f = so.left n x f
+        waits : (n : ℕ) (x : Answered) → Contains (answers_by tick (T n)) x → Given n x
+        waits n x there = either (nat_eq m n) (Given n x)
+            (λ t.
+            let one : m ≡ n = eqb-true m n t in
+            let same : a ≡ x = only_one a x (rw (← one, answer) at there) in
+            inr (rw (← same, ← one) own))
+            (λ f. inl (rw (on n, f) there))
 
-        given : (n : ℕ) (x : Answered) → Contains (answers_by tick (S n)) x → Contains (answers_by tick (U n)) x ⊎ (E x.place ≡ Some (Filed n place x.answer))
-        given n x there = from (so.given n x there)
-          where
-            from : Contains (answers_by tick (T n)) x ⊎ (D x.place ≡ Some (Filed n place x.answer)) → Contains (answers_by tick (U n)) x ⊎ (E x.place ≡ Some (Filed n place x.answer))
-            from (inl waits) = by (nat_eq m n) refl
-              where
-                by : (b : Bool) → nat_eq m n ≡ b → Contains (answers_by tick (U n)) x ⊎ (E x.place ≡ Some (Filed n place x.answer))
-                by true f =
-                    let same : a ≡ x = only_one a x (subst (λ given. Contains given x) (ap (λ k. answers_by tick (T k)) (sym (eqb-true m n f)) ∙ answer) waits) in
-                    inr (ap (λ (y : Answered). E y.place) (sym same) ∙ own ∙ ap (λ (y : Answered). Some (Filed m place y.answer)) same ∙ ap (λ k. Some (Filed k place x.answer)) (eqb-true m n f))
-                by false f = inl (subst (λ o. Contains (answers_by tick o) x) (sym (on n ∙ ap (λ b. cond b (option_map (after tick) (T m)) (T n)) f)) waits)
-            from (inr filed) = by (nat_eq a.place x.place) refl
-              where
-                by : (b : Bool) → nat_eq a.place x.place ≡ b → Contains (answers_by tick (U n)) x ⊎ (E x.place ≡ Some (Filed n place x.answer))
-                by true f = absurd (let both : Some (Held m deadline waker) ≡ Some (Filed n place x.answer) = sym held ∙ ap D (eqb-true a.place x.place f) ∙ filed in cc)
-                by false f = inr (other x.place f ∙ filed)
-
-        kept_at : (p : ℕ) → ((n : ℕ) (x : Answered) → Contains (answers_by tick (S n)) x → x.place ≢ p) → E p ≡ C p
-        kept_at p none = other p (ne_eqb a.place p (none m a (so.left m a (subst (λ given. Contains given a) (sym answer) (the_one a))))) ∙ so.kept_at p none
+        filed : (n : ℕ) (x : Answered) → D x.place ≡ Some (Filed n place x.answer) → Given n x
+        filed n x there = either (nat_eq a.place x.place) (Given n x)
+            (λ t. absurd (let both : Some (Held m deadline waker) ≡ Some (Filed n place x.answer) = sym held ∙ ap D (eqb-true a.place x.place t) ∙ there in cc))
+            (λ f. inr (other x.place f ∙ there))
 
   -- ---- all holds that are due have ended
 
@@ -235,8 +155,4 @@ module _ (config : Config) (place moment : ℕ) where
     all_sessions n = sym ((idle n).same) ∙ so.sessions n
 
     pub all_given : (n : ℕ) (a : Answered) → Contains (answers_by tick (S n)) a → D a.place ≡ Some (Filed n place a.answer)
-    all_given n a there = from (so.given n a there)
-      where
-        from : Contains (answers_by tick (T n)) a ⊎ (D a.place ≡ Some (Filed n place a.answer)) → D a.place ≡ Some (Filed n place a.answer)
-        from (inl waits) = absurd (nowhere a (subst (λ given. Contains given a) (idle n).none waits))
-        from (inr filed) = filed
+    all_given n a there = ⊎_elim (λ waits. absurd (nowhere a (rw (idle n).none at waits))) (λ filed. filed) (so.given n a there)

@@ -1,8 +1,6 @@
 -- What a shard holds stays so when wakers come and go.
-use Rattle.std.proofs.Common.{arith, ◌≡◌, ℕ, nat_eq, if◌then◌else◌, Bool, Option, None, option_map, refl, sym, ap, ◌∙◌, subst, eqb-true}
-use Rattle.std.proofs.lemmas.Bool.{cond-true, cond-false}
+use Rattle.std.proofs.Common.{arith, ◌≡◌, ℕ, nat_eq, if◌then◌else◌, Bool, Option, None, option_map, refl, sym, ap, ◌∙◌}
 use Rattle.futures.specs.declared.task.waker.Waker.{Waker}
-use Rattle.bx_lists.proofs.Tests.{either}
 use Rattle.bx_connects.specs.declared.connects.ConnectState.{ConnectState}
 use Rattle.bx_advice.specs.declared.config.Config.{Config}
 use Rattle.bx_entry.specs.Keeping.{Kept}
@@ -29,15 +27,7 @@ watched_held shut waker o n = grind arith
 pub at_each : (P : Option ConnectState → Option ConnectState → Type 0) (shut : Bool) (connect : ℕ) (waker : Waker) (old new : ℕ → Option ConnectState) →
     ((p : ℕ) → new p ≡ (if nat_eq connect p then with_waker shut waker (old connect) else old p)) →
     ((o : Option ConnectState) → P o o) → ((o : Option ConnectState) → P o (with_waker shut waker o)) → (p : ℕ) → P (old p) (new p)
-at_each P shut connect waker old new stored same turned p =
-    let turn : Option ConnectState → Option ConnectState = with_waker shut waker in
-    either (nat_eq connect p) (P (old p) (new p))
-    (λ e.
-    let is : new p ≡ turn (old p) = stored p ∙ cond-true (nat_eq connect p) (turn (old connect)) (old p) e ∙ ap (λ (q : ℕ). turn (old q)) (eqb-true connect p e) in
-    subst (P (old p)) (sym is) (turned (old p)))
-    (λ e.
-    let is : new p ≡ old p = stored p ∙ cond-false (nat_eq connect p) (turn (old connect)) (old p) e in
-    subst (P (old p)) (sym is) (same (old p)))
+at_each P shut connect waker old new stored same turned p = grind (arith, stored p, same (old p), turned (old p))
 
 pub refines_watched : RefinesWatched
 refines_watched setup list taken shard n connect waker old new h w sound = record {

@@ -1,7 +1,7 @@
 //! Requests of several documents, and where sessions are placed.
 use crate::same::same;
 use bx_cut::Bodies;
-use bx_entry::{AllFirst, BodyFault, ByRemainder, ByTable, Placing, ReadFault, read_messages};
+use bx_entry::{AllFirst, BodyError, ByRemainder, ByTable, Placing, ReadError, read_messages};
 use bx_message::Message;
 use std::alloc::{AllocError, Global};
 use std::process::Abort;
@@ -31,14 +31,14 @@ fn channels(alloc: Global, messages: &[Message]) -> Result<String, AllocError> {
 enum Found {
     // So many messages.
     Messages(usize),
-    Fault(BodyFault),
+    Fault(BodyError),
 }
 
 fn read(alloc: Global, documents: &[&str]) -> Result<Found, Fail> {
     match &read_messages(alloc, &bodies(alloc, documents)?) {
         Ok(messages) => Ok(Found::Messages(messages.len())),
-        Err(ReadFault::Body(fault)) => Ok(Found::Fault(*fault)),
-        Err(ReadFault::Memory) => Err(Fail::from("out of memory")),
+        Err(ReadError::Body(fault)) => Ok(Found::Fault(*fault)),
+        Err(ReadError::Memory) => Err(Fail::from("out of memory")),
     }
 }
 
@@ -55,14 +55,14 @@ fn messages_come_in_order(rt: HostRuntime) -> Result<(), Fail> {
     Ok(())
 }
 
-const FAULTS: [(&str, &str, BodyFault); 4] = [
-    ("[1]", "{", BodyFault::NotJson),
-    ("[{}]", "7", BodyFault::NotObject),
-    ("[{}]", "[]", BodyFault::NoChannel),
+const FAULTS: [(&str, &str, BodyError); 4] = [
+    ("[1]", "{", BodyError::NotJson),
+    ("[{}]", "7", BodyError::NotObject),
+    ("[{}]", "[]", BodyError::NoChannel),
     (
         "{\"channel\":7}",
         "{\"channel\":\"/a\"}",
-        BodyFault::NoChannel,
+        BodyError::NoChannel,
     ),
 ];
 
@@ -97,8 +97,8 @@ fn found_in_two(alloc: Global, first: usize, second: usize) -> Result<Found, Fai
 
 const COUNTS: [(usize, usize, Found); 3] = [
     (200, 56, Found::Messages(256)),
-    (200, 57, Found::Fault(BodyFault::TooMany)),
-    (257, 0, Found::Fault(BodyFault::TooMany)),
+    (200, 57, Found::Fault(BodyError::TooMany)),
+    (257, 0, Found::Fault(BodyError::TooMany)),
 ];
 
 #[test]

@@ -150,6 +150,15 @@ connected_again : (config : Config) (p : Pending) (acked : Option ℕ) (s : Sess
 connected_again config p None s acks full out r i = grind (arith, common_steps)
 connected_again config p (Some n) s acks full out r i = grind (arith, common_steps)
 
+-- where one list ends as another, both have the same last answer
+last_same : (xs ys : List Filed) (f g : Filed) → xs ++ f ∷ [] ≡ ys ++ g ∷ [] → f ≡ g
+last_same [] [] f g e = cc
+last_same [] (y ∷ []) f g e = cc
+last_same [] (y ∷ z ∷ ys) f g e = cc
+last_same (x ∷ []) [] f g e = cc
+last_same (x ∷ z ∷ xs) [] f g e = cc
+last_same (x ∷ xs) (y ∷ ys) f g e = last_same xs ys f g (let h : xs ++ f ∷ [] ≡ ys ++ g ∷ [] = cc in h)
+
 -- ---- the law
 
 pub acks_with_batch : (config : Config) (s : Session) → InStep config s → 0 < s.out → s.ack ≡ true
@@ -239,10 +248,27 @@ repetition config number es e p acked room here out full r is =
           (repeated_at config f.forming s1 (fold (step config) s es) p acked i1 (all_in_step config s es room i) (grown_formed config s0 f.forming i0 f.grew) g (sym f.current) out full r));
     }
 
-pub batch_repeats : BatchRepeats
-batch_repeats config number es e client id acked hold room out full kind r =
+-- a connect of the session is one at its entry
+connect_step : (config : Config) (number : ℕ) (es : List Entry) (e : Entry) (client : List ℕ) (id : Option (List ℕ)) (acked : Option ℕ) (hold : ℕ) → 0 < config.limits.batch → e.kind ≡ Connect number client id acked hold →
+    step config (session config number es) e ≡ connected config (record { place = e.place; client = client; id = id; moment = e.moment; hold = hold }) acked (session config number es)
+connect_step config number es e client id acked hold room kind =
     let s = session config number es in
     let p : Pending = record { place = e.place; client = client; id = id; moment = e.moment; hold = hold } in
     let g : Grown 0 (unopened number) s = run_grown config 0 (unopened number) es room (unopened_in_step config number) (all_places es) in
-    repetition config number es e p acked room refl out full r
-    (ap (λ (k : EntryKind). ridden_by config e.place (step_by config e.place e.moment s k) (rider_of k e.rides)) kind ∙ cond-true (number == s.number) (connected config p acked s) s (eq-eqb number s.number (sym g.number)))
+    ap (λ (k : EntryKind). ridden_by config e.place (step_by config e.place e.moment s k) (rider_of k e.rides)) kind ∙ cond-true (number == s.number) (connected config p acked s) s (eq-eqb number s.number (sym g.number))
+
+pub batch_repeats : BatchRepeats
+batch_repeats config number es e client id acked hold room out full kind r = repetition config number es e _ acked room refl out full r (connect_step config number es e client id acked hold room kind)
+
+-- the last answer behind such a connect gives the batch that was outstanding
+pub gives_batch : (config : Config) (number : ℕ) (es : List Entry) (e : Entry) (client : List ℕ) (id : Option (List ℕ)) (acked : Option ℕ) (hold : ℕ) (f : Filed) → 0 < config.limits.batch →
+    0 < (session config number es).out → (session config number es).overflow ≡ false → e.kind ≡ Connect number client id acked hold → Repeats (session config number es).num acked →
+    LastAnswer (step config (session config number es) e) f → f.publications ≡ batch (session config number es)
+gives_batch config number es e client id acked hold f room out full kind r l =
+    let s : Session = session config number es in
+    let i : InStep config s = all_in_step config (unopened number) es room (unopened_in_step config number) in
+    let p : Pending = record { place = e.place; client = client; id = id; moment = e.moment; hold = hold } in
+    let free = released config p.place (Failed SupersededConnect) s in
+    let is : step config s e ≡ answered config p p.place (batch free) Connected free =
+    connect_step config number es e client id acked hold room kind ∙ connected_again config p acked s (acks_with_batch config s i out) full out r i in
+    ap (λ (g : Filed). g.publications) (last_same l.0 free.answers f (filing config p p.place (batch free) Connected free) (sym l.1 ∙ ap (λ (t : Session). t.answers) is)) ∙ (released_same config p.place (Failed SupersededConnect) s).same

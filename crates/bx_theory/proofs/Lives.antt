@@ -141,7 +141,7 @@ moved_live number due s = grind (arith, common_steps)
 served_live : (c : MessageKind) (p : Posted) (s : Registered) (hold due : ℕ) (q : Registered) → (left c s.number (moved s.number due q)).live ≡ (q.live && not (closes_by q.number (kind_for c p s hold)))
 served_live c p s hold due q = grind (arith, common_steps)
 
-served_opens : (c : MessageKind) (p : Posted) (s : Registered) (hold n : ℕ) → opens_by n (kind_for c p s hold) ≡ false
+pub served_opens : (c : MessageKind) (p : Posted) (s : Registered) (hold n : ℕ) → opens_by n (kind_for c p s hold) ≡ false
 served_opens c p s hold n = grind (arith, common_steps)
 
 -- what is found of it
@@ -151,7 +151,7 @@ found_of config r moment p c s hold = found_at (length r.judged) moment (served 
 -- ---- a message of no session
 
 -- it neither opens a session nor closes one
-none_opened : (c : MessageKind) (m : Message) (n : ℕ) → opens_by n (sessionless_kind c m) ≡ false
+pub none_opened : (c : MessageKind) (m : Message) (n : ℕ) → opens_by n (sessionless_kind c m) ≡ false
 none_opened c m n = grind (arith, common_steps)
 
 none_closed : (c : MessageKind) (m : Message) (n : ℕ) → closes_by n (sessionless_kind c m) ≡ false

@@ -35,7 +35,7 @@ freed_b : (P : ℕ → Type 0) (config : Config) (p : Pending) (acked : Option �
     Only P (cond s.overflow (answered config p p.place [] (Failed QueueOverflow) t) (answered_or_held config p (acknowledged acked t)))
 freed_b P config p acked s t h b = record { held = grind (arith, common_steps); answers = grind (arith, common_steps, one_answer) }
 
-abbrev is_connecting : EntryKind → Bool
+abbrev pub is_connecting : EntryKind → Bool
 is_connecting (Connect n client id acked hold) = true
 is_connecting _ = false
 

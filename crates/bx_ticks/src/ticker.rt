@@ -6,7 +6,7 @@ ghost use Rattle.bx_ticks.specs.Ticks.{ticks, tick_entries};
 use bx_entry::{Batch, Entry, EntryKind};
 use bx_listing::Listing;
 use bx_message::Sequence;
-use bx_window::{Bundle, Front, LogWriter, Naming, Note, Refusal};
+use bx_window::{Bundle, Front, LogWriter, Naming, Note, PublishFault};
 use std::alloc::{AllocError, Global};
 use std::sync::Wait;
 
@@ -21,7 +21,7 @@ pub enum Taken {
     /// It came back.
     Refused {
         /// Why it was not published.
-        why: Refusal,
+        why: PublishFault,
         /// Its first place.
         first: u64,
         /// How many entries it has.
@@ -89,7 +89,7 @@ impl<J: Naming, R: Wait + Drop> Ticker<J, R> {
         alloc: Global,
         bundle: Bundle,
         count: u64,
-    ) -> Result<(), (Bundle, Refusal)>
+    ) -> Result<(), (Bundle, PublishFault)>
         requires first { bundle.batch.first ≡ self.old.end }
         requires entries { bundle.batch.entries ≡ tick_entries self.old.end count }
         requires elements { bundle.elements ≡ ticks count }
@@ -97,7 +97,7 @@ impl<J: Naming, R: Wait + Drop> Ticker<J, R> {
         ensures same { OnErr result (self.new.end ≡ self.old.end) }
     {
         if count == 0 || count >= MOST || self.end >= MOST || self.writer.tell().steps() >= MOST {
-            return Err((bundle, Refusal::Full));
+            return Err((bundle, PublishFault::Full));
         }
         match self.writer.publish(alloc, bundle) {
             Ok(()) => {

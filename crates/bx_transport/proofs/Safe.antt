@@ -1,5 +1,5 @@
 -- A text that a script may hold reads as the text.
-use Rattle.std.proofs.Common.{◌≡◌, ℕ, Bool, true, false, List, [], ◌∷◌, ◌++◌, length, drop, nat_eq, Some, refl, sym, ap, ◌∙◌, subst, arith}
+use Rattle.std.proofs.Common.{◌≡◌, ℕ, Bool, true, false, cond, List, [], ◌∷◌, ◌++◌, length, drop, nat_eq, Some, refl, sym, ap, ◌∙◌, subst, arith}
 use Rattle.std.proofs.lemmas.List.{append_assoc}
 use Rattle.std.specs.List.{starts_with}
 use Rattle.json.specs.Json as json
@@ -11,7 +11,7 @@ use Rattle.serde_json.specs.Read.{read}
 use Rattle.bx_cut.proofs.Readings.{whole, reads_as}
 use Rattle.bx_message.specs.Texts.{line_separator, paragraph_separator, script_safe}
 use Rattle.bx_transport.specs.Laws.{ScriptsReadTheSame}
-use Rattle.bx_transport.proofs.Replaced.{Replaced, line_here, paragraph_here, there, Sound, lexes}
+use Rattle.bx_transport.proofs.Replaced.{Replaced, here, there, Sound, lexes}
 use Rattle.bx_transport.proofs.Scripts.{safe_by_tests, separator_is}
 
 -- ---- tokens
@@ -26,12 +26,9 @@ no_bad_both (x ∷ xs) ys h k = (h.0, no_bad_both xs ys h.1 k)
 
 mutual
   tree_sound : (j : json.Json) → NoBad (json_tokens j)
-  tree_sound json.null = ((λ e. cc), tt)
-  tree_sound (json.boolean b) = ((λ e. cc), tt)
-  tree_sound (json.number s) = ((λ e. cc), tt)
-  tree_sound (json.string s) = ((λ e. cc), tt)
   tree_sound (json.array js) = ((λ e. cc), items_sound js)
   tree_sound (json.object ms) = ((λ e. cc), members_sound ms)
+  tree_sound _ = ((λ e. cc), tt)
 
   items_sound : (js : json.Items) → NoBad (items_tokens js)
   items_sound json.no_items = ((λ e. cc), tt)
@@ -47,33 +44,19 @@ allowed true t ls next more h = more next h.1
 allowed false t ls next more h = absurd (h.0 refl)
 
 placed : (p : Place) (t : Token) (c : Bool) (ls : List Lexeme) → ((p : Place) → NoBad (punctuate p ls) → Sound ls) → NoBad (place_token p t c (λ next. punctuate next ls)) → (t ≡ bad → ⊥) × Sound ls
-placed p begin_object c ls more h = ((λ e. cc), allowed (may_begin p) begin_object ls fresh more h)
-placed p end_object c ls more h = ((λ e. cc), allowed (may_close p) end_object ls after_value more h)
-placed p begin_array c ls more h = ((λ e. cc), allowed (may_begin p) begin_array ls fresh more h)
-placed p end_array c ls more h = ((λ e. cc), allowed (may_close p) end_array ls after_value more h)
 placed p (key s) c ls more h = absurd (h.0 refl)
-placed p (string s) true ls more h = ((λ e. cc), allowed (may_begin p) (key s) ls after_key more h)
-placed p (string s) false ls more h = ((λ e. cc), allowed (may_begin p) (string s) ls after_value more h)
-placed p (number s) c ls more h = ((λ e. cc), allowed (may_begin p) (number s) ls after_value more h)
-placed p (boolean b) c ls more h = ((λ e. cc), allowed (may_begin p) (boolean b) ls after_value more h)
-placed p null c ls more h = ((λ e. cc), allowed (may_begin p) null ls after_value more h)
 placed p bad c ls more h = absurd (h.0 refl)
+placed p (string s) true ls more h = ((λ e. cc), allowed _ _ ls _ more h)
+placed p t c ls more h = ((λ e. cc), allowed _ _ ls _ more h)
 
 lexed_sound : (ls : List Lexeme) (p : Place) → NoBad (punctuate p ls) → Sound ls
 unfolding punctuate
 lexed_sound [] p h = tt
-lexed_sound (token t ∷ ls) fresh h = placed fresh t (begins_colon ls) ls (λ p k. lexed_sound ls p k) h
-lexed_sound (token t ∷ ls) after_value h = placed after_value t (begins_colon ls) ls (λ p k. lexed_sound ls p k) h
-lexed_sound (token t ∷ ls) after_comma h = placed after_comma t (begins_colon ls) ls (λ p k. lexed_sound ls p k) h
-lexed_sound (token t ∷ ls) after_key h = placed after_key t (begins_colon ls) ls (λ p k. lexed_sound ls p k) h
-lexed_sound (comma ∷ ls) fresh h = absurd (h.0 refl)
+lexed_sound (token t ∷ ls) fresh h = placed fresh t (begins_colon ls) ls (lexed_sound ls) h
+lexed_sound (token t ∷ ls) p h = placed p t (begins_colon ls) ls (lexed_sound ls) h
 lexed_sound (comma ∷ ls) after_value h = lexed_sound ls after_comma h
-lexed_sound (comma ∷ ls) after_comma h = absurd (h.0 refl)
-lexed_sound (comma ∷ ls) after_key h = absurd (h.0 refl)
-lexed_sound (colon ∷ ls) fresh h = absurd (h.0 refl)
-lexed_sound (colon ∷ ls) after_value h = absurd (h.0 refl)
-lexed_sound (colon ∷ ls) after_comma h = absurd (h.0 refl)
 lexed_sound (colon ∷ ls) after_key h = lexed_sound ls fresh h
+lexed_sound _ _ h = absurd (h.0 refl)
 
 -- ---- one separator
 
@@ -81,7 +64,7 @@ replaced_reads : (t v : List ℕ) (d : Data) → Replaced t v → read t ≡ Som
 replaced_reads t v d R e =
     let w = whole t d e in
     let sound = lexed_sound (lex between t) fresh (subst NoBad (sym w.tokens_are) (tree_sound w.json)) in
-    let same : tokens v ≡ tokens t = ap (punctuate fresh) (lexes (length t) t v (omega arith) R sound) in
+    let same : tokens v ≡ tokens t = ap (punctuate fresh) (lexes (length t) between t v (omega arith) R sound) in
     reads_as v w.json (same ∙ w.tokens_are) w.shallow ∙ w.data_is
 
 behind : (a t v : List ℕ) → Replaced t v → Replaced (a ++ t) (a ++ v)
@@ -90,21 +73,14 @@ behind (x ∷ a) t v R = there x (a ++ t) (a ++ v) (behind a t v R)
 
 -- ---- all of them, from the end on
 
+escaped : (a u : List ℕ) (d : Data) (b : Bool) → starts_with nat_eq u (226 ∷ 128 ∷ cond b 168 169 ∷ []) ≡ true → read (a ++ u) ≡ Some d → read (a ++ 92 ∷ 117 ∷ 50 ∷ 48 ∷ 50 ∷ cond b 56 57 ∷ drop 3 u) ≡ Some d
+escaped a u d b f e = replaced_reads _ _ d (behind a _ _ (here b (drop 3 u))) (ap (λ l. read (a ++ l)) (sym (separator_is u (cond b 168 169) f)) ∙ e)
+
 -- one more byte in front of a safe text
 one_more : (a : List ℕ) (x : ℕ) (xs : List ℕ) (d : Data) (p q : Bool) → starts_with nat_eq (x ∷ script_safe xs) line_separator ≡ p → starts_with nat_eq (x ∷ script_safe xs) paragraph_separator ≡ q
     → read (a ++ (x ∷ script_safe xs)) ≡ Some d → read (a ++ script_safe (x ∷ xs)) ≡ Some d
-one_more a x xs d true q f g e =
-    let u = x ∷ script_safe xs in
-    let rest = drop 3 u in
-    let at : u ≡ 226 ∷ 128 ∷ 168 ∷ rest = separator_is u 168 f in
-    let before : read (a ++ (226 ∷ 128 ∷ 168 ∷ rest)) ≡ Some d = ap (λ l. read (a ++ l)) (sym at) ∙ e in
-    ap (λ l. read (a ++ l)) (safe_by_tests x xs true q f g) ∙ replaced_reads (a ++ (226 ∷ 128 ∷ 168 ∷ rest)) (a ++ (92 ∷ 117 ∷ 50 ∷ 48 ∷ 50 ∷ 56 ∷ rest)) d (behind a _ _ (line_here rest)) before
-one_more a x xs d false true f g e =
-    let u = x ∷ script_safe xs in
-    let rest = drop 3 u in
-    let at : u ≡ 226 ∷ 128 ∷ 169 ∷ rest = separator_is u 169 g in
-    let before : read (a ++ (226 ∷ 128 ∷ 169 ∷ rest)) ≡ Some d = ap (λ l. read (a ++ l)) (sym at) ∙ e in
-    ap (λ l. read (a ++ l)) (safe_by_tests x xs false true f g) ∙ replaced_reads (a ++ (226 ∷ 128 ∷ 169 ∷ rest)) (a ++ (92 ∷ 117 ∷ 50 ∷ 48 ∷ 50 ∷ 57 ∷ rest)) d (behind a _ _ (paragraph_here rest)) before
+one_more a x xs d true q f g e = ap (λ l. read (a ++ l)) (safe_by_tests x xs true q f g) ∙ escaped a (x ∷ script_safe xs) d true f e
+one_more a x xs d false true f g e = ap (λ l. read (a ++ l)) (safe_by_tests x xs false true f g) ∙ escaped a (x ∷ script_safe xs) d false g e
 one_more a x xs d false false f g e = ap (λ l. read (a ++ l)) (safe_by_tests x xs false false f g) ∙ e
 
 safe_behind : (t a : List ℕ) (d : Data) → read (a ++ t) ≡ Some d → read (a ++ script_safe t) ≡ Some d

@@ -1,7 +1,6 @@
 -- Escapes in a script, from the front of a text on.
-use Rattle.std.proofs.Common.{◌≡◌, ℕ, ◌+◌, ◌⊎◌, inl, inr, Bool, true, false, cond, ◌&&◌, ◌==◌, nat_eq, List, [], ◌∷◌, ◌++◌, take, drop, codes, Some, None, refl, sym, ap, ◌∙◌}
-use Rattle.std.proofs.lemmas.Bool.{eqb-true, false≢true}
-use Rattle.std.proofs.Common.{◌<◌, ◌-◌, length, get_or, arith}
+use Rattle.std.proofs.Common.{◌≡◌, ℕ, ◌+◌, ◌-◌, ◌<◌, ◌⊎◌, inl, inr, Bool, true, false, cond, ◌&&◌, ◌==◌, nat_eq, List, [], ◌∷◌, ◌++◌, length, get_or, take, drop, codes, Some, None, refl, sym, ap, ◌∙◌, arith}
+use Rattle.std.proofs.lemmas.{Bool.eqb-true, Bool.false≢true, Bool.and_parts, Option.same_Some}
 use Rattle.std.proofs.lemmas.List.{append_assoc, take_all, take_more, drop_more, drop-drop, length-drop}
 use Rattle.std.specs.List.{starts_with}
 use Rattle.bx_message.specs.Texts.{line_separator, paragraph_separator, script_safe}
@@ -20,14 +19,13 @@ by_tests y ys a b = cond a (codes "\\u2028" ++ drop 3 (y ∷ script_safe ys)) (c
 pub safe_by_tests : (y : ℕ) (ys : List ℕ) (a b : Bool) → starts_with nat_eq (y ∷ script_safe ys) line_separator ≡ a → starts_with nat_eq (y ∷ script_safe ys) paragraph_separator ≡ b → script_safe (y ∷ ys) ≡ by_tests y ys a b
 safe_by_tests y ys a b e f i = by_tests y ys (e i) (f i)
 
-step_by : (y : ℕ) (ys : List ℕ) (a p q : Bool) → (226 == y) ≡ a → starts_with nat_eq (y ∷ script_safe ys) line_separator ≡ (a && p) → starts_with nat_eq (y ∷ script_safe ys) paragraph_separator ≡ (a && q) → Step y ys
-step_by y ys true true q e f g = inr (e, _, safe_by_tests y ys true q f g)
-step_by y ys true false true e f g = inr (e, _, safe_by_tests y ys false true f g)
-step_by y ys true false false e f g = inl (safe_by_tests y ys false false f g)
-step_by y ys false p q e f g = inl (safe_by_tests y ys false false f g)
-
 step : (y : ℕ) (ys : List ℕ) → Step y ys
-step y ys = step_by y ys (226 == y) (starts_with nat_eq (script_safe ys) (128 ∷ 168 ∷ [])) (starts_with nat_eq (script_safe ys) (128 ∷ 169 ∷ [])) refl refl refl
+step y ys = by_case (starts_with nat_eq (y ∷ script_safe ys) line_separator) (starts_with nat_eq (y ∷ script_safe ys) paragraph_separator) refl refl
+  where
+    by_case : (a b : Bool) → starts_with nat_eq (y ∷ script_safe ys) line_separator ≡ a → starts_with nat_eq (y ∷ script_safe ys) paragraph_separator ≡ b → Step y ys
+    by_case true b e f = inr ((and_parts (226 == y) _ e).0, _, safe_by_tests y ys true b e f)
+    by_case false true e f = inr ((and_parts (226 == y) _ f).0, _, safe_by_tests y ys false true e f)
+    by_case false false e f = inl (safe_by_tests y ys false false e f)
 
 -- a byte that no separator begins with, and that no escape begins with, begins the safe text where it begins the text
 same_start : (c : ℕ) (cs : List ℕ) → (c == 226) ≡ false → (c == 92) ≡ false → ((zs : List ℕ) → starts_with nat_eq (script_safe zs) cs ≡ starts_with nat_eq zs cs) → (xs : List ℕ) → starts_with nat_eq (script_safe xs) (c ∷ cs) ≡ starts_with nat_eq xs (c ∷ cs)
@@ -46,9 +44,8 @@ same_behind d h k = same_start 128 (d ∷ []) refl refl (same_start d [] h k (λ
 -- ---- at a place of the text
 
 none_here : (a b : Bool) (e f : List ℕ) → cond a (Some e) (cond b (Some f) None) ≡ None → (a ≡ false) × (b ≡ false)
-none_here true b e f h = cc
-none_here false true e f h = cc
 none_here false false e f h = (refl, refl)
+none_here _ _ e f h = cc
 
 -- where no separator begins, the byte stays
 pub stays : (x : ℕ) (xs : List ℕ) → escape_at (x ∷ xs) ≡ None → script_safe (x ∷ xs) ≡ x ∷ script_safe xs
@@ -62,35 +59,25 @@ stays x xs h =
 
 starts_true : (t : List ℕ) (c : ℕ) (cs : List ℕ) → starts_with nat_eq t (c ∷ cs) ≡ true → (r : List ℕ) × (t ≡ c ∷ r) × (starts_with nat_eq r cs ≡ true)
 starts_true [] c cs e = absurd (false≢true e)
-starts_true (x ∷ xs) c cs e = let parts = both (c == x) (starts_with nat_eq xs cs) e in (xs, ap (λ n. n ∷ xs) (sym (eqb-true c x parts.0)), parts.1)
-  where
-    both : (a b : Bool) → (a && b) ≡ true → (a ≡ true) × (b ≡ true)
-    both true true e = (refl, refl)
-    both true false e = absurd (false≢true e)
-    both false b e = absurd (false≢true e)
+starts_true (x ∷ xs) c cs e = let parts = and_parts (c == x) (starts_with nat_eq xs cs) e in (xs, ap (λ n. n ∷ xs) (sym (eqb-true c x parts.0)), parts.1)
 
 pub separator_is : (t : List ℕ) (d : ℕ) → starts_with nat_eq t (226 ∷ 128 ∷ d ∷ []) ≡ true → t ≡ 226 ∷ 128 ∷ d ∷ drop 3 t
 separator_is t d e =
     let a = starts_true t 226 (128 ∷ d ∷ []) e in
     let b = starts_true a.0 128 (d ∷ []) a.2 in
     let c = starts_true b.0 d [] b.2 in
-    let same : t ≡ 226 ∷ 128 ∷ d ∷ c.0 = a.1 ∙ ap (λ l. 226 ∷ l) (b.1 ∙ ap (λ l. 128 ∷ l) c.1) in
+    let same : t ≡ 226 ∷ 128 ∷ d ∷ c.0 = cc in
     same ∙ ap (λ l. 226 ∷ 128 ∷ d ∷ l) (sym (ap (drop 3) same))
-
-escaped_by : (t e : List ℕ) (a b : Bool) → starts_with nat_eq t line_separator ≡ a → starts_with nat_eq t paragraph_separator ≡ b → cond a (Some (codes "\\u2028")) (cond b (Some (codes "\\u2029")) None) ≡ Some e → script_safe t ≡ e ++ script_safe (drop 3 t)
-escaped_by t e true b f g h = ap script_safe (separator_is t 168 f) ∙ ap (λ l. l ++ script_safe (drop 3 t)) (some_is (codes "\\u2028") e h)
-  where
-    some_is : (x y : List ℕ) → Some x ≡ Some y → x ≡ y
-    some_is x y s = cc
-escaped_by t e false true f g h = ap script_safe (separator_is t 169 g) ∙ ap (λ l. l ++ script_safe (drop 3 t)) (some_is (codes "\\u2029") e h)
-  where
-    some_is : (x y : List ℕ) → Some x ≡ Some y → x ≡ y
-    some_is x y s = cc
-escaped_by t e false false f g h = cc
 
 -- where a separator begins, its escape stands in its place
 pub escaped : (t e : List ℕ) → escape_at t ≡ Some e → script_safe t ≡ e ++ script_safe (drop 3 t)
-escaped t e h = escaped_by t e (starts_with nat_eq t line_separator) (starts_with nat_eq t paragraph_separator) refl refl h
+escaped t e = by_case (starts_with nat_eq t line_separator) (starts_with nat_eq t paragraph_separator) refl refl
+  where
+    by_case : (a b : Bool) → starts_with nat_eq t line_separator ≡ a → starts_with nat_eq t paragraph_separator ≡ b → cond a (Some (codes "\\u2028")) (cond b (Some (codes "\\u2029")) None) ≡ Some e
+        → script_safe t ≡ e ++ script_safe (drop 3 t)
+    by_case true b f g h = ap script_safe (separator_is t 168 f) ∙ ap (λ l. l ++ script_safe (drop 3 t)) (same_Some _ e h)
+    by_case false true f g h = ap script_safe (separator_is t 169 g) ∙ ap (λ l. l ++ script_safe (drop 3 t)) (same_Some _ e h)
+    by_case false false f g h = cc
 
 -- ---- along a text
 

@@ -1,14 +1,14 @@
 -- Patterns that come in at once: those that are not held yet.
-use Rattle.std.proofs.Common.{◌≡◌, ℕ, Bool, true, false, cond, not, ◌&&◌, ◌||◌, List, [], ◌∷◌, ◌++◌, take, drop, length, ◌≤◌, arith, sym, ap, ◌∙◌, append_assoc}
+use Rattle.std.proofs.Common.{◌≡◌, ℕ, Bool, true, false, not, ◌&&◌, ◌||◌, List, [], ◌∷◌, ◌++◌, take, drop, length, ◌≤◌, arith, sym, ap, ◌∙◌, append_assoc}
 use Rattle.std.proofs.lemmas.{List.take-append-drop, List.Folds.list_any-append}
 use Rattle.bx_names.specs.Words.{Glob, same_glob, same_glob-decides, in_force, with_pattern, without_pattern}
+use Rattle.std.proofs.lemmas.Grind.{common_steps}
+use Rattle.std.proofs.lemmas.{List.Sums.fold_more, List.Folds.list_any_more}
 
 -- ---- one more pattern
 
 pub fresh_joins : (held fresh : List Glob) (p : Glob) → in_force held p ≡ false → in_force fresh p ≡ false → with_pattern (held ++ fresh) p ≡ held ++ (fresh ++ p ∷ [])
-fresh_joins held fresh p absent missing =
-    ap (λ b. cond b (held ++ fresh) ((held ++ fresh) ++ p ∷ [])) (list_any-append (same_glob p) held fresh ∙ ap (λ b. b || in_force fresh p) absent ∙ missing)
-    ∙ append_assoc held fresh (p ∷ [])
+fresh_joins held fresh p absent missing = grind (arith, common_steps, list_any-append, append_assoc)
 
 -- no pattern is in both lists
 abbrev pub AreApart : List Glob → List Glob → Type 0
@@ -40,8 +40,12 @@ gone_with_all s some all e h = grind arith
 
 pub without_shorter : (ps : List Glob) (p : Glob) → length (without_pattern ps p) ≤ length ps
 without_shorter [] p = omega arith
-without_shorter (q ∷ qs) p = by (same_glob p q) (without_shorter qs p)
-  where
-    by : (b : Bool) → length (without_pattern qs p) ≤ length qs → length (cond (not b) (q ∷ without_pattern qs p) (without_pattern qs p)) ≤ length (q ∷ qs)
-    by true h = omega arith
-    by false h = omega arith
+without_shorter (q ∷ qs) p = grind (arith, common_steps, without_shorter qs p)
+
+-- ---- what walks over several patterns are proved by
+
+pub ruleset taken_out = (fold_more, without_shorter, common_steps)
+
+pub ruleset made_fresh = (fold_more, fresh_joins, still_apart, common_steps)
+
+pub ruleset stood = (list_any_more, or_more, early, gone_with_all, common_steps)

@@ -1,11 +1,14 @@
 -- What stands for which pattern stays what is in force.
-use Rattle.std.proofs.Common.{arith, ◌≡◌, ◌≢◌, ℕ, Bool, true, false, not, ◌==◌, ◌&&◌, ◌||◌, List, [], ◌∷◌, ◌++◌, refl, sym, ap, subst, ◌∙◌}
+use Rattle.std.proofs.Common.{arith, ◌≡◌, ◌≢◌, ℕ, Bool, true, false, not, ◌==◌, ◌&&◌, ◌||◌, List, [], ◌∷◌, ◌++◌, refl, sym, ap, ◌∙◌}
 use Rattle.std.specs.Bool.{one_answer}
 use Rattle.std.proofs.lemmas.{Bool.eqb-true, Bool.eq-eqb, Bool.and_parts, Bool.or_parts, List.Folds.list_any-append, Map.Views.any-filter_same}
 use Rattle.bx_names.specs.Words.{Glob, same_glob, same_glob-decides, in_force, without_pattern}
 use Rattle.bx_tree.specs.declared.nodes.Nodes.{Nodes}
 use Rattle.bx_tree.specs.Words.{AreWhole, patterns_of, stands_for, IsIndexOf}
 use Rattle.bx_tree.proofs.FreshLemmas.{AreApart}
+use Rattle.std.proofs.lemmas.Grind.{common_steps}
+use Rattle.std.proofs.lemmas.List.Folds.{list_any_more}
+use Rattle.std.proofs.Math.Bool.{and-false}
 
 -- ---- tests
 
@@ -48,23 +51,14 @@ by_number : (number n : ℕ) (P : ℕ → Bool → Type 0) → P number true →
 by_number number n P own others = by (n == number) refl
   where
     by : (b : Bool) → (n == number) ≡ b → P n b
-    by true e = subst (λ m. P m true) (sym (eqb-true n number e)) own
-    by false e = others (λ same. let f : false ≡ true = sym e ∙ eq-eqb n number same in cc)
+    by b h1 = grind (arith, common_steps, eqb-true, eq-eqb)
 
 module _ (old new : Nodes) (all later : List (ℕ × List Glob)) (p : Glob) (number : ℕ) (index : IsIndexOf old all) where
   pub index_added : ((other : Glob) → AreWhole other.segments → (n : ℕ) → stands_for new other n ≡ (stands_for old other n || (same_glob other p && (n == number)))) → patterns_of later number ≡ patterns_of all number ++ p ∷ [] → ((n : ℕ) → n ≢ number → patterns_of later n ≡ patterns_of all n) → IsIndexOf new later
-  index_added stands own others other whole n =
-      stands other whole n ∙ ap (λ b. b || (same_glob other p && (n == number))) (index other whole n)
-      ∙ by_number number n (λ m b. (in_force (patterns_of all m) other || (same_glob other p && b)) ≡ in_force (patterns_of later m) other)
-      (or_last (in_force (patterns_of all number) other) (same_glob other p) ∙ sym (in_force-more (patterns_of all number) p other) ∙ ap (λ ps. in_force ps other) (sym own))
-      (λ differs. or_never (in_force (patterns_of all n) other) (same_glob other p) ∙ ap (λ ps. in_force ps other) (sym (others n differs)))
+  index_added stands own others other whole n = grind (arith, common_steps, by_number, or_last, in_force-more, or_never)
 
   pub index_removed : ((other : Glob) → AreWhole other.segments → (n : ℕ) → stands_for new other n ≡ (stands_for old other n && not (same_glob other p && (n == number)))) → patterns_of later number ≡ without_pattern (patterns_of all number) p → ((n : ℕ) → n ≢ number → patterns_of later n ≡ patterns_of all n) → IsIndexOf new later
-  index_removed stands own others other whole n =
-      stands other whole n ∙ ap (λ b. b && not (same_glob other p && (n == number))) (index other whole n)
-      ∙ by_number number n (λ m b. (in_force (patterns_of all m) other && not (same_glob other p && b)) ≡ in_force (patterns_of later m) other)
-      (and_now (in_force (patterns_of all number) other) (same_glob other p) ∙ sym (in_force-less (patterns_of all number) p other) ∙ ap (λ ps. in_force ps other) (sym own))
-      (λ differs. and_never (in_force (patterns_of all n) other) (same_glob other p) ∙ ap (λ ps. in_force ps other) (sym (others n differs)))
+  index_removed stands own others other whole n = grind (arith, common_steps, by_number, and_now, in_force-less, and_never)
 
 -- what is put in and taken out again was not there
 pub index_undone : (old mid new : Nodes) (all : List (ℕ × List Glob)) (p : Glob) (number : ℕ) → IsIndexOf old all → in_force (patterns_of all number) p ≡ false
@@ -99,9 +93,8 @@ pub index_kept : (old mid new : Nodes) (all : List (ℕ × List Glob)) (ps : Lis
     → ((other : Glob) → AreWhole other.segments → (n : ℕ) → stands_for mid other n ≡ (stands_for old other n || (in_force ps other && (n == number))))
     → ((other : Glob) → AreWhole other.segments → (n : ℕ) → stands_for new other n ≡ (stands_for mid other n && not (in_force ps other && (n == number))))
     → IsIndexOf new all
-index_kept old mid new all ps number index apart put took other whole n =
-    took other whole n ∙ ap (λ b. b && not (in_force ps other && (n == number))) (put other whole n) ∙ gone_again (stands_for old other n) (in_force ps other) (n == number)
-    ∙ ap (λ b. b && not (in_force ps other && (n == number))) (index other whole n)
-    ∙ by_number number n (λ m b. (in_force (patterns_of all m) other && not (in_force ps other && b)) ≡ in_force (patterns_of all m) other)
-    (apart_stays (in_force (patterns_of all number) other) (in_force ps other) (apart other))
-    (λ differs. and_never (in_force (patterns_of all n) other) (in_force ps other))
+index_kept old mid new all ps number index apart put took other whole n = grind (arith, common_steps, gone_again, by_number, apart_stays, and_never)
+
+pub ruleset stood_no_more = (list_any_more, gone_twice, common_steps)
+
+pub ruleset copied = (index_kept, and-false, common_steps)

@@ -5,9 +5,10 @@ use Rattle.std.proofs.lemmas.Bool.{or_cases, or_left, or_right, and_parts}
 use Rattle.bx_names.specs.Words.{parts, path_of, Glob, matches, matches_by, any_matches, same_glob, same_glob-decides, in_force}
 use Rattle.bx_names.specs.declared.tail.Tail.{Tail}
 use Rattle.bx_names.specs.declared.tail.Tail.TheVariants.{Exact, One, Many}
-use Rattle.bx_names.proofs.{PathLemmas.path_of-append, MatchLemmas.exact-decides, MatchLemmas.one-decides, MatchLemmas.many-decides}
+use Rattle.bx_names.proofs.{PathLemmas.path_of-append, MatchLemmas.exact_decides, MatchLemmas.one_decides, MatchLemmas.many_decides}
 use Rattle.bx_tree.specs.declared.nodes.Nodes.{Nodes}
 use Rattle.bx_tree.specs.Words.{AreWhole, patterns_of, stands_at, lists_of, IsIndexOf, is_end, is_met}
+use Rattle.std.proofs.lemmas.Grind.{common_steps}
 
 -- ---- what a pattern leaves of a name that it matches
 
@@ -26,25 +27,24 @@ take_and_drop : (k : ℕ) (xs own : List (List ℕ)) → take k xs ≡ own → x
 take_and_drop k xs own h = sym (take-append-drop k xs) ∙ ap (λ ys. ys ++ drop k xs) h
 
 rest_of : (own : List (List ℕ)) (tail : Tail) (name : List (List ℕ)) → matches_by tail own name ≡ true → Rest own tail name
-rest_of own Exact name h = record { more = []; is = (exact-decides own name).0 h ∙ sym (append-nil own); leaves = refl }
+rest_of own Exact name h = record { more = []; is = (exact_decides own name).0 h ∙ sym (append-nil own); leaves = refl }
 rest_of own One name h =
-    let told = (one-decides own name).0 h in
+    let told = (one_decides own name).0 h in
     let is = take_and_drop (length own) name own told.1 in
     record { more = drop (length own) name; is = is; leaves = omega (arith, told.0, ap length is, length-append own (drop (length own) name)) }
-rest_of own Many name h = let told = (many-decides own name).0 h in record { more = told.0; is = told.2; leaves = told.1 }
+rest_of own Many name h = let told = (many_decides own name).0 h in record { more = told.0; is = told.2; leaves = told.1 }
 
 take_front : (own more : List (List ℕ)) → take (length own) (own ++ more) ≡ own
 take_front [] more = refl
 take_front (s ∷ ss) more = ap (λ ts. s ∷ ts) (take_front ss more)
 
 nil_if : (xs : List (List ℕ)) → length xs ≡ 0 → xs ≡ []
-nil_if [] h = refl
-nil_if (x ∷ xs) h = absurd (omega arith)
+nil_if xs h1 = grind (arith, common_steps)
 
 matches_rest : (own : List (List ℕ)) (tail : Tail) (more : List (List ℕ)) → Leaves tail (length more) → matches_by tail own (own ++ more) ≡ true
-matches_rest own Exact more h = (exact-decides own (own ++ more)).1 (ap (λ ts. own ++ ts) (nil_if more h) ∙ append-nil own)
-matches_rest own One more h = (one-decides own (own ++ more)).1 (omega (arith, length-append own more), take_front own more)
-matches_rest own Many more h = (many-decides own (own ++ more)).1 (more, h, refl)
+matches_rest own Exact more h = (exact_decides own (own ++ more)).1 (ap (λ ts. own ++ ts) (nil_if more h) ∙ append-nil own)
+matches_rest own One more h = (one_decides own (own ++ more)).1 (omega (arith, length-append own more), take_front own more)
+matches_rest own Many more h = (many_decides own (own ++ more)).1 (more, h, refl)
 
 -- ---- some pattern in force
 
@@ -86,8 +86,7 @@ module _ (nodes : Nodes) (all : List (ℕ × List Glob)) (n : ℕ) (index : IsIn
   found ss tail more whole h leaves = any_if (patterns_of all n) (record { segments = ss; tail = tail }) (ss ++ more) (sym (at ss tail whole) ∙ h) (matches_rest ss tail more leaves)
 
   end_is : (rest : List (List ℕ)) → is_end rest ≡ true → length rest ≡ 0
-  end_is [] h = refl
-  end_is (s ∷ ss) h = cc
+  end_is rest h1 = grind (arith, common_steps)
 
   -- a number that is met has a pattern that matches
   met_then_any : (done rest : List (List ℕ)) → AreWhole done → AreWhole rest → is_met nodes (path_of done) rest n ≡ true → any_matches (patterns_of all n) (done ++ rest) ≡ true
@@ -111,16 +110,10 @@ module _ (nodes : Nodes) (all : List (ℕ × List Glob)) (n : ℕ) (index : IsIn
   met_here done Exact [] whole leaves h = at done Exact whole ∙ h
   met_here done Exact (s ∷ rest) whole leaves h = absurd (omega arith)
   met_here done One [] whole leaves h = absurd (omega arith)
-  met_here done One (s ∷ []) whole leaves h =
-      let path = path_of done in
-      or_left (stands_at nodes.many path n || (true && stands_at nodes.one path n)) (is_met nodes (path ++ 47 ∷ s) [] n)
-      (or_right (stands_at nodes.many path n) (stands_at nodes.one path n) (at done One whole ∙ h))
+  met_here done One (s ∷ []) whole leaves h = grind (arith, common_steps, or_left, or_right, at)
   met_here done One (s ∷ t ∷ rest) whole leaves h = absurd (omega arith)
   met_here done Many [] whole leaves h = absurd (omega arith)
-  met_here done Many (s ∷ rest) whole leaves h =
-      let path = path_of done in
-      or_left (stands_at nodes.many path n || (is_end rest && stands_at nodes.one path n)) (is_met nodes (path ++ 47 ∷ s) rest n)
-      (or_left (stands_at nodes.many path n) (is_end rest && stands_at nodes.one path n) (at done Many whole ∙ h))
+  met_here done Many (s ∷ rest) whole leaves h = grind (arith, common_steps, or_left, at)
 
   -- a number with a pattern that leaves this of the name is met
   met_below : (done own : List (List ℕ)) (tail : Tail) (more : List (List ℕ)) → AreWhole done → AreWhole own → Leaves tail (length more) → in_force (patterns_of all n) (record { segments = done ++ own; tail = tail }) ≡ true → is_met nodes (path_of done) (own ++ more) n ≡ true

@@ -1,9 +1,11 @@
 -- The patterns of one session, after a change of one session's.
 use Rattle.std.proofs.Common.{◌≡◌, ◌≢◌, ℕ, nat_eq, eqb, Bool, true, false, cond, Option, Some, Result, Ok, Err, List, [], ◌∷◌, map, refl, sym, ap, ◌∙◌}
-use Rattle.std.specs.{Option.option_map_or, Option.unwrap_or, Result.is_ok, Result.is_err, Map.lookup, Map.set_value, HashMap.HashMap, HashMap.UpdatesBy}
+use Rattle.std.specs.{Option.option_map_or, Result.is_ok, Result.is_err, Map.lookup, Map.set_value, HashMap.HashMap, HashMap.UpdatesBy}
 use Rattle.std.proofs.lemmas.Bool.{ne_eqb}
 use Rattle.bx_names.specs.Globs.{Glob}
 use Rattle.bx_tree.specs.Patterns.{patterns_of}
+use Rattle.std.proofs.lemmas.Grind.{common_steps}
+use Rattle.std.proofs.Common.{arith}
 
 -- what a result that is known leaves
 pub when_ok : {T E X : Type 0} (r : Result T E) (a b : X) {x : X} → is_err r ≡ false → x ≡ cond (is_ok r) a b → x ≡ a
@@ -21,11 +23,7 @@ module _ {X : Type 0} (f : X → List Glob) where
 
   pub looked_up : (es : List (ℕ × X)) (n : ℕ) → patterns_of (seen es) n ≡ option_map_or f (lookup (nat_eq n) es) []
   looked_up [] n = refl
-  looked_up (e ∷ es) n = by (nat_eq n e.0) (looked_up es n)
-    where
-      by : (b : Bool) → patterns_of (seen es) n ≡ option_map_or f (lookup (nat_eq n) es) [] → unwrap_or (cond b (Some (f e.1)) (lookup (nat_eq n) (seen es))) [] ≡ option_map_or f (cond b (Some e.1) (lookup (nat_eq n) es)) []
-      by true h = refl
-      by false h = h
+  looked_up (e ∷ es) n = grind (arith, common_steps, looked_up es n)
 
   -- what is found at a number is its patterns
   pub now_is : (es : List (ℕ × X)) (all : List (ℕ × List Glob)) (n : ℕ) (o : Option X) → seen es ≡ all → o ≡ lookup (nat_eq n) es → patterns_of all n ≡ option_map_or f o []
@@ -43,5 +41,4 @@ module _ {X : Type 0} (f : X → List Glob) where
   set_same (e ∷ es) n v w h k = by (nat_eq n e.0) h (λ j. set_same es n v w j k)
     where
       by : (b : Bool) → cond b (Some e.1) (lookup (nat_eq n) es) ≡ Some v → (lookup (nat_eq n) es ≡ Some v → seen (set_value (nat_eq n) es w) ≡ seen es) → seen (cond b ((e.0, w) ∷ es) (e ∷ set_value (nat_eq n) es w)) ≡ seen (e ∷ es)
-      by true h rest = let e_v : e.1 ≡ v = cc in ap (λ (x : List Glob). (e.0, x) ∷ seen es) (k ∙ sym (ap f e_v))
-      by false h rest = ap (λ (t : List (ℕ × List Glob)). (e.0, f e.1) ∷ t) (rest h)
+      by b h1 h2 = grind (arith, common_steps)

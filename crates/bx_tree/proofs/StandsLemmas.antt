@@ -1,8 +1,9 @@
 -- How a change at one path changes what stands where.
-use Rattle.std.proofs.Common.{◌≡◌, ℕ, eqb, Bool, true, false, not, cond, ◌==◌, ◌&&◌, ◌||◌, Option, Result, Ok, Err, OnErr, List, [], ◌∷◌, length, refl, sym, ap, subst, ◌∙◌, arith}
+use Rattle.std.proofs.Common.{◌≡◌, ℕ, eqb, Bool, true, false, not, cond, ◌==◌, ◌&&◌, ◌||◌, Option, Result, Ok, Err, OnErr, List, length, refl, ap, ◌∙◌, arith}
 use Rattle.std.specs.{List.list_any, Map.update, Option.option_map_or, Ordering.is_eq, Ordering.nat_cmp, Str.bytes_eq}
 use Rattle.std.specs.BTreeSet.{BTreeSet, contains, UpdatesBy}
 use Rattle.std.proofs.lemmas.{Bool.Decides.nat_tests, Slice.Eq.bytes_eq-Decides}
+use Rattle.std.proofs.lemmas.Grind.{common_steps}
 
 -- ---- a set of numbers
 
@@ -22,8 +23,7 @@ pub removed : (s t : BTreeSet ℕ) (number : ℕ) → UpdatesBy nat_cmp (nat_cmp
 removed s t number h n = h.0 n ∙ cond_not (is_eq (nat_cmp number n)) (contains nat_cmp s n) ∙ ap (λ b. contains nat_cmp s n && not b) (is_eq-nat_cmp number n)
 
 contains_no_keys : (ks : List ℕ) (n : ℕ) → length ks ≡ 0 → list_any (λ k. is_eq (nat_cmp n k)) ks ≡ false
-contains_no_keys [] n h = refl
-contains_no_keys (k ∷ ks) n h = absurd (omega arith)
+contains_no_keys ks n h1 = grind (arith, common_steps)
 
 pub contains_none : (s : BTreeSet ℕ) (n : ℕ) → length s.keys ≡ 0 → contains nat_cmp s n ≡ false
 contains_none s n h = contains_no_keys s.keys n h
@@ -43,11 +43,7 @@ elsewhere path before after w h other e = rw e at (h other)
 
 -- a change of one number at one path
 pub changed_at : (step : Bool → Bool → Bool) → ((b : Bool) → step b false ≡ b) → (path : List ℕ) (number : ℕ) (before after : List ℕ → Option (BTreeSet ℕ)) → ((other : List ℕ) → bytes_eq path other ≡ false → after other ≡ before other) → ((n : ℕ) → has (after path) n ≡ step (has (before path) n) (n == number)) → (other : List ℕ) (n : ℕ) → has (after other) n ≡ step (has (before other) n) (bytes_eq path other && (n == number))
-changed_at step idle path number before after others own other n = by (bytes_eq path other) refl
-  where
-    by : (b : Bool) → bytes_eq path other ≡ b → has (after other) n ≡ step (has (before other) n) (b && (n == number))
-    by true e = subst (λ q. has (after q) n ≡ step (has (before q) n) (n == number)) ((bytes_eq-Decides path other).0 e) (own n)
-    by false e = ap (λ list. has list n) (others other e) ∙ sym (idle (has (before other) n))
+changed_at step idle path number before after others own other n = grind (arith, common_steps, bytes_eq-Decides)
 
 pub or_idle : (b : Bool) → (b || false) ≡ b
 or_idle b = grind arith
@@ -57,11 +53,7 @@ not_idle b = grind arith
 
 -- a change at one path that changes no number's place
 pub unchanged_at : (path : List ℕ) (before after : List ℕ → Option (BTreeSet ℕ)) → ((other : List ℕ) → bytes_eq path other ≡ false → after other ≡ before other) → ((n : ℕ) → has (after path) n ≡ has (before path) n) → (other : List ℕ) (n : ℕ) → has (after other) n ≡ has (before other) n
-unchanged_at path before after others own other n = by (bytes_eq path other) refl
-  where
-    by : (b : Bool) → bytes_eq path other ≡ b → has (after other) n ≡ has (before other) n
-    by true e = subst (λ q. has (after q) n ≡ has (before q) n) ((bytes_eq-Decides path other).0 e) (own n)
-    by false e = ap (λ list. has list n) (others other e)
+unchanged_at path before after others own other n = grind (arith, common_steps, bytes_eq-Decides)
 
 -- what holds anyway holds at an error
 pub on_err : {T E : Type 0} {P : Type 0} (r : Result T E) → P → OnErr r P

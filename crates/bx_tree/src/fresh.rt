@@ -24,6 +24,7 @@ pub(crate) fn copy_of(alloc: Global, patterns: &[Pattern]) -> Result<Vec<Pattern
 }
 
 /// Those of the patterns that are not held yet, in order, each once.
+#[tactic(auto, using(crate::proofs::FreshLemmas::made_fresh))]
 pub(crate) fn fresh_of(
     alloc: Global,
     held: &[Pattern],

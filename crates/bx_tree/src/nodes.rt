@@ -58,6 +58,7 @@ impl Nodes {
     }
 
     /// Lets a number stand for each of these patterns, or for none of them where memory is refused.
+    #[tactic(auto, using(crate::proofs::FreshLemmas::stood))]
     pub(crate) fn add_each(
         &mut self,
         alloc: Global,
@@ -92,6 +93,7 @@ impl Nodes {
     }
 
     /// Lets a number stand for none of these patterns.
+    #[tactic(auto, using(crate::proofs::IndexLemmas::stood_no_more))]
     pub(crate) fn remove_each(&mut self, patterns: &[Pattern], number: u64)
         ensures { (other : Glob) → AreWhole other.segments → (n : ℕ)
             → stands_for self.new other n ≡ (stands_for self.old other n && not (in_force patterns.now other && (n == number))) }

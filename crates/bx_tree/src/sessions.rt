@@ -9,11 +9,11 @@ use std::marker::Model;
 
 /// The patterns of each session, in the order in which they came. No list is empty.
 #[derive(Drop)]
-pub(crate) struct Sessions {
+pub(crate) struct SessionPatterns {
     by_number: IndexMap<u64, Vec<Pattern>>,
 }
 
-impl Model for Sessions {
+impl Model for SessionPatterns {
     ghost use Rattle.std.specs.Prelude.{ℕ, List, map};
     ghost use Rattle.bx_names.specs.Globs.{Glob};
 
@@ -22,12 +22,12 @@ impl Model for Sessions {
     ghost view = { λ s. map (λ entry. (entry.0, entry.1.items)) s.by_number.entries };
 }
 
-impl Sessions {
+impl SessionPatterns {
     /// No session has a pattern.
-    pub(crate) fn new(alloc: Global) -> Sessions
+    pub(crate) fn new(alloc: Global) -> SessionPatterns
         ensures { result ≡ [] }
     {
-        Sessions {
+        SessionPatterns {
             by_number: IndexMap::new(alloc),
         }
     }

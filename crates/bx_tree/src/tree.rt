@@ -5,7 +5,7 @@ ghost use Rattle.bx_tree.specs.Patterns.{patterns_of};
 
 use crate::fresh::{copy_of, fresh_of, is_one_of};
 use crate::nodes::Nodes;
-use crate::sessions::Sessions;
+use crate::sessions::SessionPatterns;
 use bx_names::Pattern;
 use std::alloc::{AllocError, Global};
 use std::marker::Model;
@@ -20,7 +20,7 @@ use std::marker::Model;
 #[derive(Drop)]
 pub struct Tree {
     nodes: Nodes,
-    sessions: Sessions,
+    sessions: SessionPatterns,
 }
 
 impl Model for Tree {
@@ -42,7 +42,7 @@ impl Tree {
     {
         Tree {
             nodes: Nodes::new(alloc),
-            sessions: Sessions::new(alloc),
+            sessions: SessionPatterns::new(alloc),
         }
     }
 
@@ -95,6 +95,7 @@ impl Tree {
 
     /// Puts these patterns in force for a number that has none, in order and as often as they come. Where memory is
     /// refused all is as before.
+    #[tactic(auto, using(crate::proofs::IndexLemmas::copied))]
     pub fn copy(&mut self, alloc: Global, list: &[Pattern], number: u64) -> Result<(), AllocError>
         requires none { patterns_of self.old number ≡ [] }
         ensures own { OnOk result (patterns_of self.new number ≡ list.now) }
@@ -135,6 +136,7 @@ impl Tree {
     }
 
     /// Takes each of these patterns out of force for a number, and says how many of the number's patterns that were.
+    #[tactic(auto, using(crate::proofs::FreshLemmas::taken_out))]
     pub fn remove_each(&mut self, patterns: &[Pattern], number: u64) -> usize
         ensures own { patterns_of self.new number ≡ fold without_pattern (patterns_of self.old number) patterns.now }
         ensures others { (n : ℕ) → n ≢ number → patterns_of self.new n ≡ patterns_of self.old n }

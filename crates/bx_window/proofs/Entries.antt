@@ -2,25 +2,22 @@
 use Rattle.std.proofs.Common.{◌≡◌, ℕ, ◌+◌, List, [], ◌∷◌, ◌++◌, length, refl, ap, sym, ◌∙◌, arith}
 use Rattle.std.proofs.lemmas.List.{map-append, length-map}
 use mathlib.Core.List.{IsPrefix}
-use Rattle.bx_window.specs.declared.law.{Logged.Logged, Step.Step}
+use Rattle.bx_window.specs.declared.law.{Logged.Logged, LogStep.LogStep}
 use Rattle.bx_window.specs.Rules.{IsBegun, key_from, key_of, steps_in, steps_of}
 
-step_in : Logged → Step
+abbrev step_in : Logged → LogStep
 step_in e = e.step
 
 pub steps_next : (log : List Logged) (e : Logged) → IsBegun log → steps_of (log ++ e ∷ []) ≡ steps_of log ++ e.step ∷ []
-unfolding step_in
 steps_next [] e begun = absurd (omega arith)
 steps_next (d ∷ log) e begun = map-append step_in log (e ∷ [])
 
 pub steps_count : (log : List Logged) → IsBegun log → length (steps_of log) + 1 ≡ length log
-unfolding step_in
 steps_count [] begun = absurd (omega arith)
 steps_count (d ∷ log) begun = let n = length-map log step_in in omega (arith, n)
 
 -- a longer log has further steps
 pub steps_prefix : (xs ys : List Logged) → IsPrefix xs ys → IsPrefix (steps_of xs) (steps_of ys)
-unfolding step_in
 steps_prefix [] ys p = (steps_of ys, refl)
 steps_prefix (x ∷ xs) [] p = absurd (cc (p.1))
 steps_prefix (x ∷ xs) (y ∷ ys) p =

@@ -1,24 +1,25 @@
 -- What a ring holds, as its front grows.
-use Rattle.std.proofs.Common.{◌≡◌, ℕ, zero, suc, ◌+◌, ◌-◌, ◌<◌, ◌≤◌, List, [], ◌∷◌, ◌++◌, length, drop, map, slice_index_or, slice_get, Bool, true, false, nat_lt, Some, None, refl, ap, sym, ◌∙◌, subst, arith, length-append}
-use Rattle.std.proofs.lemmas.{Bool.Decides.nat_tests, List.map-append, List.length-map}
+use Rattle.std.proofs.Common.{◌≡◌, ℕ, zero, suc, ◌+◌, ◌-◌, ◌<◌, ◌≤◌, List, [], ◌∷◌, ◌++◌, length, drop, map, slice_index_or, slice_get, Some, ◌⊎◌, inl, inr, refl, ap, sym, ◌∙◌, subst, arith, length-append}
+use Rattle.std.proofs.lemmas.{Bool.cases_lt, List.drop-map, List.get_or_past, List.map-append, List.length-map, Option.get_or_from_slice_get, Option.slice_get-map, Option.slice_get_within}
+use Rattle.std.specs.Prelude.{option_map}
 use Rattle.std.proofs.Math.Seq.{take-append_seam}
 use Rattle.circular_buffer.specs.Buffer.{keep_last}
 use Rattle.bx_entry.specs.Listing.{Listed}
 use Rattle.bx_advice.specs.declared.config.Config.{Config}
 use Rattle.bx_entry.specs.declared.entry.Batch.{Batch}
-use Rattle.bx_window.specs.declared.{batch.Bundle.Bundle, law.Step.Step}
+use Rattle.bx_window.specs.declared.{batch.Bundle.Bundle, law.LogStep.LogStep}
 use Rattle.bx_window.specs.Places.{IsOf, Spans, Continues}
 use Rattle.bx_window.specs.Steps.{adding, trimming, list_of, firsts_of, begin_of, before, ends_in, ends_of, IsNewest, IsTrimmed}
 use Rattle.bx_window.proofs.{Firsts.kept_all, Places.many_elements}
 use Rattle.bx_window.proofs.Lists.{end_is, list_of-adding, firsts_of_adding, firsts_of_trimming, list_of_trimming}
 
-pub before_added : (log : List Step) (s : Step) → before (log ++ s ∷ []) ≡ log
+pub before_added : (log : List LogStep) (s : LogStep) → before (log ++ s ∷ []) ≡ log
 before_added log s =
     let short : length (log ++ s ∷ []) - 1 ≡ length log = omega (arith, length-append log (s ∷ [])) in
     rw short (take-append_seam log (s ∷ []))
 
 -- a publish of some items to a window that is not full
-pub newest : (log : List Step) (xs : List Listed) (first : ℕ) → 0 < length xs → first ≡ length (list_of log) → length (firsts_of log) < 4096 → IsNewest (log ++ adding xs ∷ []) first
+pub newest : (log : List LogStep) (xs : List Listed) (first : ℕ) → 0 < length xs → first ≡ length (list_of log) → length (firsts_of log) < 4096 → IsNewest (log ++ adding xs ∷ []) first
 newest log xs first some is room =
     let all = firsts_of_adding log xs some in
     let same = before_added log (adding xs) in
@@ -30,13 +31,17 @@ newest log xs first some is room =
     }
 
 -- a trim
-pub trimmed : (log : List Step) (n : ℕ) → IsTrimmed (log ++ trimming n ∷ []) n
+pub trimmed : (log : List LogStep) (n : ℕ) → IsTrimmed (log ++ trimming n ∷ []) n
 trimmed log n =
     let same = before_added log (trimming n) in
     record {
       same = list_of_trimming log n ∙ sym (ap list_of same);
       firsts = firsts_of_trimming log n ∙ sym (ap (λ l. drop n (firsts_of l)) same);
     }
+
+ends_many : (end : ℕ) (fs : List ℕ) → length (ends_in end fs) ≡ length fs
+ends_many end [] = refl
+ends_many end (f ∷ fs) = ap suc (ends_many end fs)
 
 head_added : (fs : List ℕ) (end last : ℕ) → slice_index_or (fs ++ end ∷ []) 0 last ≡ slice_index_or fs 0 end
 head_added [] end last = refl
@@ -52,16 +57,16 @@ ends_dropped (suc n) end [] = refl
 ends_dropped (suc n) end (f ∷ fs) = ends_dropped n end fs
 
 -- the ring has room for the newest batch
-pub room_left : (log next : List Step) (first : ℕ) → before next ≡ log → IsNewest next first → length (firsts_of log) < 4096
+pub room_left : (log next : List LogStep) (first : ℕ) → before next ≡ log → IsNewest next first → length (firsts_of log) < 4096
 room_left log next first same new =
     let old : firsts_of (before next) ≡ firsts_of log = ap firsts_of same in
     omega (arith, new.room, ap length new.firsts, length-append (firsts_of (before next)) (first ∷ []), ap length old)
 
-pub firsts_more : {A : Type 0} (f : A → ℕ) (items : List A) (x : A) (log next : List Step) → map f items ≡ firsts_of log → before next ≡ log → IsNewest next (f x) → map f (items ++ x ∷ []) ≡ firsts_of next
+pub firsts_more : {A : Type 0} (f : A → ℕ) (items : List A) (x : A) (log next : List LogStep) → map f items ≡ firsts_of log → before next ≡ log → IsNewest next (f x) → map f (items ++ x ∷ []) ≡ firsts_of next
 firsts_more f items x log next h same new =
     map-append f items (x ∷ []) ∙ (ap (λ fs. fs ++ f x ∷ []) (h ∙ sym (ap firsts_of same)) ∙ sym new.firsts)
 
-pub ends_more : {A : Type 0} (f : A → ℕ) (items : List A) (x : A) (first : ℕ) (log next : List Step) → map f items ≡ ends_of log → before next ≡ log → IsNewest next first → f x ≡ length (list_of next) → map f (items ++ x ∷ []) ≡ ends_of next
+pub ends_more : {A : Type 0} (f : A → ℕ) (items : List A) (x : A) (first : ℕ) (log next : List LogStep) → map f items ≡ ends_of log → before next ≡ log → IsNewest next first → f x ≡ length (list_of next) → map f (items ++ x ∷ []) ≡ ends_of next
 ends_more f items x first log next h same new end =
     let fs = firsts_of log in
     let begins : first ≡ length (list_of log) = new.begins ∙ ap (λ l. length (list_of l)) same in
@@ -71,89 +76,71 @@ ends_more f items x first log next h same new end =
     ap (λ l. ends_in (length (list_of next)) l) all ∙ ends_added fs (length (list_of log)) (length (list_of next)) in
     map-append f items (x ∷ []) ∙ (ap (λ es. es ++ f x ∷ []) h ∙ (ap (λ n. ends_of log ++ n ∷ []) end ∙ sym grown))
 
-pub map_drop : {A : Type 0} (f : A → ℕ) (n : ℕ) (items : List A) → map f (drop n items) ≡ drop n (map f items)
-map_drop f zero items = refl
-map_drop f (suc n) [] = refl
-map_drop f (suc n) (x ∷ items) = map_drop f n items
-
-pub firsts_less : {A : Type 0} (f : A → ℕ) (items : List A) (n : ℕ) (log next : List Step) → map f items ≡ firsts_of log → before next ≡ log → IsTrimmed next n → map f (drop n items) ≡ firsts_of next
+pub firsts_less : {A : Type 0} (f : A → ℕ) (items : List A) (n : ℕ) (log next : List LogStep) → map f items ≡ firsts_of log → before next ≡ log → IsTrimmed next n → map f (drop n items) ≡ firsts_of next
 firsts_less f items n log next h same less =
-    map_drop f n items ∙ (ap (λ fs. drop n fs) (h ∙ sym (ap firsts_of same)) ∙ sym less.firsts)
+    sym (drop-map f n items) ∙ (ap (λ fs. drop n fs) (h ∙ sym (ap firsts_of same)) ∙ sym less.firsts)
 
-pub ends_less : {A : Type 0} (f : A → ℕ) (items : List A) (n : ℕ) (log next : List Step) → map f items ≡ ends_of log → before next ≡ log → IsTrimmed next n → map f (drop n items) ≡ ends_of next
+pub ends_less : {A : Type 0} (f : A → ℕ) (items : List A) (n : ℕ) (log next : List LogStep) → map f items ≡ ends_of log → before next ≡ log → IsTrimmed next n → map f (drop n items) ≡ ends_of next
 ends_less f items n log next h same less =
     let list : list_of next ≡ list_of log = less.same ∙ ap list_of same in
     let firsts : firsts_of next ≡ drop n (firsts_of log) = less.firsts ∙ ap (λ l. drop n (firsts_of l)) same in
     let fewer : ends_of next ≡ drop n (ends_of log) =
     ap (λ l. ends_in (length l) (firsts_of next)) list ∙ (ap (λ fs. ends_in (length (list_of log)) fs) firsts ∙ ends_dropped n (length (list_of log)) (firsts_of log)) in
-    map_drop f n items ∙ (ap (λ es. drop n es) h ∙ sym fewer)
+    sym (drop-map f n items) ∙ (ap (λ es. drop n es) h ∙ sym fewer)
 
 -- a ring that has fewer than it may have keeps all
-pub kept_ring : {A : Type 0} (f : A → ℕ) (items : List A) (capacity : ℕ) (x : A) (log : List Step) → map f items ≡ firsts_of log → capacity ≡ 4096 → length (firsts_of log) < 4096 → keep_last capacity (items ++ x ∷ []) ≡ items ++ x ∷ []
+pub kept_ring : {A : Type 0} (f : A → ℕ) (items : List A) (capacity : ℕ) (x : A) (log : List LogStep) → map f items ≡ firsts_of log → capacity ≡ 4096 → length (firsts_of log) < 4096 → keep_last capacity (items ++ x ∷ []) ≡ items ++ x ∷ []
 kept_ring f items capacity x log h cap room =
     kept_all capacity x items (omega (arith, cap, room, ap length h, length-map items f))
 
 -- the batch at an index, by where it begins and ends
-pub first_at : {A : Type 0} (f : A → ℕ) (items : List A) (fs : List ℕ) (i end : ℕ) (x : A) → map f items ≡ fs → slice_get items i ≡ Some x → f x ≡ slice_index_or fs i end
-first_at f [] fs i end x h is = absurd cc
-first_at f (y ∷ items) [] i end x h is = absurd (cc h)
-first_at f (y ∷ items) (n ∷ fs) zero end x h is = cc (h, is)
-first_at f (y ∷ items) (n ∷ fs) (suc i) end x h is = first_at f items fs i end x (cc h) is
+first_at : {A : Type 0} (f : A → ℕ) (items : List A) (fs : List ℕ) (i end : ℕ) (x : A) → map f items ≡ fs → slice_get items i ≡ Some x → f x ≡ slice_index_or fs i end
+first_at f items fs i end x h is =
+    sym (get_or_from_slice_get fs i (f x) end (ap (λ l. slice_get l i) (sym h) ∙ slice_get-map f items i ∙ ap (option_map f) is))
 
-pub end_at : {A : Type 0} (f : A → ℕ) (items : List A) (fs : List ℕ) (i end : ℕ) (x : A) → map f items ≡ ends_in end fs → slice_get items i ≡ Some x → f x ≡ slice_index_or fs (i + 1) end
-end_at f [] fs i end x h is = absurd cc
-end_at f (y ∷ items) [] i end x h is = absurd (cc h)
-end_at f (y ∷ items) (n ∷ fs) zero end x h is = cc (h, is)
-end_at f (y ∷ items) (n ∷ fs) (suc i) end x h is =
-    let e : suc i + 1 ≡ suc (i + 1) = omega arith in
-    rw e (end_at f items fs i end x (cc h) is)
-
--- behind the last batch comes the end
-pub past_all : (fs : List ℕ) (end : ℕ) → slice_index_or fs (length fs) end ≡ end
-past_all [] end = refl
-past_all (f ∷ fs) end = past_all fs end
+ends_at : (fs : List ℕ) (i end d : ℕ) → i < length fs → slice_index_or (ends_in end fs) i d ≡ slice_index_or fs (i + 1) end
+ends_at [] i end d lt = absurd (omega arith)
+ends_at (f ∷ fs) zero end d lt = refl
+ends_at (f ∷ fs) (suc i) end d lt = let e : suc i + 1 ≡ suc (i + 1) = omega arith in rw e (ends_at fs i end d (omega arith))
 
 -- a batch that continues the list of a window that is not full
-pub newest_bundle : (config : Config) (log : List Step) (b : Bundle) → Continues config (list_of log) b → length (firsts_of log) < 4096 → IsNewest (log ++ adding b.elements ∷ []) b.batch.first
+pub newest_bundle : (config : Config) (log : List LogStep) (b : Bundle) → Continues config (list_of log) b → length (firsts_of log) < 4096 → IsNewest (log ++ adding b.elements ∷ []) b.batch.first
 newest_bundle config log b c room =
     let some : 0 < length b.elements = omega (arith, many_elements config (list_of log) b c, c.some) in
     newest log b.elements b.batch.first some c.first room
 
-pub ends_bundle : (config : Config) (log : List Step) (b : Bundle) → Continues config (list_of log) b → b.batch.first + length b.batch.entries ≡ length (list_of (log ++ adding b.elements ∷ []))
+pub ends_bundle : (config : Config) (log : List LogStep) (b : Bundle) → Continues config (list_of log) b → b.batch.first + length b.batch.entries ≡ length (list_of (log ++ adding b.elements ∷ []))
 ends_bundle config log b c =
     let all = ap length (list_of-adding log b.elements) in
     omega (arith, all, length-append (list_of log) b.elements, many_elements config (list_of log) b c, c.first)
 
 -- a place of the window lies between the first batch and the end behind the last one
-pub inside_all : (log : List Step) (n place : ℕ) → n ≡ length (firsts_of log) → begin_of log ≤ place → place < length (list_of log)
+pub inside_all : (log : List LogStep) (n place : ℕ) → n ≡ length (firsts_of log) → begin_of log ≤ place → place < length (list_of log)
     → (slice_index_or (firsts_of log) 0 (length (list_of log)) ≤ place) × (place < slice_index_or (firsts_of log) n (length (list_of log)))
 inside_all log n place is low high =
     let begin : begin_of log ≡ slice_index_or (firsts_of log) 0 (length (list_of log)) = ap (λ d. slice_index_or (firsts_of log) 0 d) (end_is log) in
-    let past = past_all (firsts_of log) (length (list_of log)) in
-    (subst (λ m. m ≤ place) begin low, rw (is, past) high)
+    let past = get_or_past (firsts_of log) n (length (list_of log)) (omega arith) in
+    (subst (λ m. m ≤ place) begin low, rw past high)
 
-pub below_it : {A : Type 0} (f : A → ℕ) (items : List A) (log : List Step) (i place : ℕ) (x : A) → map f items ≡ firsts_of log → slice_get items i ≡ Some x → place < f x
+pub below_it : {A : Type 0} (f : A → ℕ) (items : List A) (log : List LogStep) (i place : ℕ) (x : A) → map f items ≡ firsts_of log → slice_get items i ≡ Some x → place < f x
     → place < slice_index_or (firsts_of log) i (length (list_of log))
 below_it f items log i place x h is less =
     subst (λ m. place < m) (first_at f items (firsts_of log) i (length (list_of log)) x h is) less
 
-pub above_it : {A : Type 0} (f : A → ℕ) (items : List A) (log : List Step) (i place : ℕ) (x : A) → map f items ≡ ends_of log → slice_get items i ≡ Some x → f x ≤ place
+pub above_it : {A : Type 0} (f : A → ℕ) (items : List A) (log : List LogStep) (i place : ℕ) (x : A) → map f items ≡ ends_of log → slice_get items i ≡ Some x → f x ≤ place
     → slice_index_or (firsts_of log) (i + 1) (length (list_of log)) ≤ place
 above_it f items log i place x h is less =
-    subst (λ m. m ≤ place) (end_at f items (firsts_of log) i (length (list_of log)) x h is) less
-
-behind_it : (first end place : ℕ) → ((first ≤ place) × (place < end) → ⊥) → first ≤ place → (b : Bool) → nat_lt place end ≡ b → end ≤ place
-behind_it first end place out low true t = absurd (out (low, grind (arith, nat_tests, t)))
-behind_it first end place out low false t = grind (arith, nat_tests, t)
+    let end = length (list_of log) in
+    let inside : i < length (firsts_of log) = omega (arith, slice_get_within items i x is, sym (length-map items f), ap length h, ends_many end (firsts_of log)) in
+    subst (λ m. m ≤ place) (first_at f items (ends_of log) i end x h is ∙ ends_at (firsts_of log) i end end inside) less
 
 -- a place that is none of a batch's and lies not before it lies behind it
 pub behind : (first end place : ℕ) → ((first ≤ place) × (place < end) → ⊥) → first ≤ place → end ≤ place
-behind first end place out low = behind_it first end place out low (nat_lt place end) refl
-
-pub none_past : {A : Type 0} (xs : List A) (i : ℕ) → i < length xs → slice_get xs i ≡ None → ⊥
-none_past [] i lt is = omega arith
-none_past (x ∷ xs) zero lt is = cc is
-none_past (x ∷ xs) (suc i) lt is = none_past xs i (omega arith) is
+behind first end place out low = by_place (cases_lt place end)
+  where
+    by_place : (place < end) ⊎ (end ≤ place) → end ≤ place
+    by_place (inl less) = absurd (out (low, less))
+    by_place (inr past) = past
 
 pub is_of : (b : Batch) (first end place : ℕ) → Spans b first end → (first ≤ place) × (place < end) → IsOf b place
 is_of b first end place spans has = (omega (arith, spans.0, has.0), omega (arith, spans.0, spans.1, has.1))

@@ -6,7 +6,7 @@ ghost use Rattle.logbook.specs.Pages.{may_write};
 ghost use Rattle.bx_window.specs.Steps.{adding, trimming, stepping, list_of, begin_of, before};
 ghost use Rattle.bx_window.specs.Rules.{head_of};
 
-use crate::law::{Add, Asked, Law, Logged, Naming, Nothing, Open, Spare, Whole};
+use crate::law::{Add, Asked, Law, Logged, Naming, NoGain, Open, Spare, Whole};
 use bx_listing::Listing;
 use logbook::{Offer, Pen, Seen, Start, Word};
 use std::marker::{Model, PhantomData};
@@ -42,11 +42,11 @@ impl Opened {
             dropped: 0,
             next: &pen,
         };
-        let mut offer: Offer<Logged, u64, Law, Nothing> = seen.plain::<Nothing, Asked<'_>, Add>(
+        let mut offer: Offer<Logged, u64, Law, NoGain> = seen.plain::<NoGain, Asked<'_>, Add>(
             &asked,
         );
         let mut none = seen.no_pen();
-        let found = head.compare_exchange::<Open, Nothing>(0, 1, &mut seen, &mut offer, &mut none);
+        let found = head.compare_exchange::<Open, NoGain>(0, 1, &mut seen, &mut offer, &mut none);
         if found != 0 {
             return None;
         }
@@ -70,8 +70,8 @@ fn spare(head: &Word<Logged, u64, Law>, seen: &Seen<Logged, u64, Law>) -> Pen
 {
     let mut pen = seen.no_pen();
     let mut all = seen.again();
-    let mut offer: Offer<Logged, u64, Law, Nothing> = seen.plain::<Nothing, u64, Spare>(&0);
-    let _ = head.compare_exchange::<Spare, Nothing>(0, 0, &mut all, &mut offer, &mut pen);
+    let mut offer: Offer<Logged, u64, Law, NoGain> = seen.plain::<NoGain, u64, Spare>(&0);
+    let _ = head.compare_exchange::<Spare, NoGain>(0, 0, &mut all, &mut offer, &mut pen);
     let _word: Word<Logged, u64, Law> = Word::tracked(0, &mut pen);
     pen
 }
@@ -93,11 +93,11 @@ impl<J: Naming> Model for Book<J> {
     ghost use Rattle.std.specs.Prelude.{◌≡◌, ◌≤◌, ◌+◌, ◌^◌, List, length};
     ghost use Rattle.bx_advice.specs.Limits.{greatest_length};
     ghost use Rattle.logbook.specs.Pages.{may_write};
-    ghost use Rattle.bx_window.specs.declared.law.Step.{Step};
+    ghost use Rattle.bx_window.specs.declared.law.LogStep.{LogStep};
     ghost use Rattle.bx_window.specs.Rules.{steps_of, key_of, head_of};
     ghost use Rattle.bx_window.specs.Steps.{list_of, begin_of};
 
-    ghost Value = { List Step };
+    ghost Value = { List LogStep };
 
     ghost view = { λ b. steps_of b.seen.log };
 
@@ -126,11 +126,11 @@ impl<J: Naming> Book<J> {
     {
         let mut both = self.seen.again();
         both.learn(&other.seen);
-        let mut offer: Offer<Logged, u64, Law, Nothing> = both.plain::<Nothing, u64, Spare>(&0);
+        let mut offer: Offer<Logged, u64, Law, NoGain> = both.plain::<NoGain, u64, Spare>(&0);
         let old = self.steps + 1;
         let _ = self
             .head
-            .compare_exchange::<Whole, Nothing>(old, old, &mut both, &mut offer, &mut self.pen);
+            .compare_exchange::<Whole, NoGain>(old, old, &mut both, &mut offer, &mut self.pen);
         self.front()
     }
 
@@ -149,13 +149,13 @@ impl<J: Naming> Book<J> {
             next: &next,
         };
         let mut seen = self.seen.again();
-        let mut offer: Offer<Logged, u64, Law, Nothing> = seen.plain::<Nothing, Asked<'_>, Add>(
+        let mut offer: Offer<Logged, u64, Law, NoGain> = seen.plain::<NoGain, Asked<'_>, Add>(
             &asked,
         );
         let old = self.steps + 1;
         let _ = self
             .head
-            .compare_exchange::<Add, Nothing>(old, old + 1, &mut seen, &mut offer, &mut self.pen);
+            .compare_exchange::<Add, NoGain>(old, old + 1, &mut seen, &mut offer, &mut self.pen);
         self.pen = next;
         self.steps += 1;
         self.len = len;
@@ -199,11 +199,11 @@ pub struct Front<J: Naming> {
 impl<J: Naming> Model for Front<J> {
     ghost use Rattle.std.specs.Prelude.{◌≡◌, ◌≤◌, List, length};
     ghost use Rattle.bx_advice.specs.Limits.{greatest_length};
-    ghost use Rattle.bx_window.specs.declared.law.Step.{Step};
+    ghost use Rattle.bx_window.specs.declared.law.LogStep.{LogStep};
     ghost use Rattle.bx_window.specs.Rules.{steps_of};
     ghost use Rattle.bx_window.specs.Steps.{list_of, begin_of};
 
-    ghost Value = { List Step };
+    ghost Value = { List LogStep };
 
     ghost view = { λ f. steps_of f.seen.log };
 

@@ -5,7 +5,7 @@ use std::marker::Brand;
 
 /// What one publish does: it adds elements to the list, or drops batches at the front of the window. No value of it is
 /// made.
-pub struct Step {
+pub struct LogStep {
     /// What comes behind the list, in order.
     pub elements: Listing,
     /// How many of the window's oldest batches are dropped.
@@ -15,7 +15,7 @@ pub struct Step {
 /// A step as it stands in the log. No value of it is made.
 pub struct Logged {
     /// The first step of a log adds nothing and drops nothing; it only opens the log.
-    pub step: Step,
+    pub step: LogStep,
     /// The key of the cell that the next step brings home, so that nobody but who has that cell's pen can add that step.
     pub next: u64,
 }
@@ -43,9 +43,9 @@ impl Rule<Logged, u64> for Law {
 
 /// Callers trade nothing: who makes a move of the log gives nothing up for it and gets nothing but what the move says.
 /// No value of it is made.
-pub struct Nothing;
+pub struct NoGain;
 
-impl Gain<Logged, u64> for Nothing {
+impl Gain<Logged, u64> for NoGain {
     ghost use base.Fml.{ftrue};
 
     ghost after = { λ names about answer. ftrue };

@@ -12,8 +12,8 @@ mod writer;
 
 pub use batch::{Bundle, entry_of};
 pub use front::{Book, Front, Note, Opened};
-pub use law::{Law, Logged, Naming, Step};
-pub use published::{Change, Published, Trimmed};
+pub use law::{Law, LogStep, Logged, Naming};
+pub use published::{PublishedBatch, RingChange, Trimmed};
 pub use reader::{LogReader, Memory, Next};
 pub use ring::{Kept, Ring};
-pub use writer::{LogWriter, MAX_BATCHES, Refusal, Writer, log_pair};
+pub use writer::{LogWriter, MAX_BATCHES, PublishFault, Writer, log_pair};

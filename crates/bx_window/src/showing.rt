@@ -1,13 +1,13 @@
 //! How readers are shown a change.
 ghost use Rattle.std.specs.Prelude.{◌≡◌, [], List, None, IsTrue, IfNone, IfSome, IfOk};
 ghost use Rattle.left_right.specs.Handles.{published, pending};
-ghost use Rattle.bx_window.specs.declared.law.Step.{Step};
+ghost use Rattle.bx_window.specs.declared.law.LogStep.{LogStep};
 ghost use Rattle.bx_window.specs.Changes.{after};
 ghost use Rattle.bx_window.specs.Showing.{IsShown};
 
 use crate::front::Front;
 use crate::law::Naming;
-use crate::published::{Change, Trimmed};
+use crate::published::{RingChange, Trimmed};
 use crate::ring::Ring;
 use left_right::WriteHandle;
 use std::alloc::AllocError;
@@ -21,9 +21,9 @@ pub(crate) struct Late<O: Drop> {
 
 /// Shows readers a change. Where the operation is refused they see what they saw, and the change is late.
 pub(crate) fn show<J: Naming, R: Wait + Drop>(
-    handle: &mut WriteHandle<Ring<J>, Change<J>, R>,
-    change: Change<J>,
-) -> Option<Late<Change<J>>>
+    handle: &mut WriteHandle<Ring<J>, RingChange<J>, R>,
+    change: RingChange<J>,
+) -> Option<Late<RingChange<J>>>
     requires { pending handle.old ≡ [] }
     ensures pending { pending handle.new ≡ [] }
     ensures shown { IfNone result ((published handle.new).front ≡ after (published handle.old).front change) }
@@ -40,13 +40,13 @@ pub(crate) fn show<J: Naming, R: Wait + Drop>(
 
 /// Shows readers the change that is late, if one is. Says whether none is late then.
 pub(crate) fn catch_up<J: Naming, R: Wait + Drop>(
-    handle: &mut WriteHandle<Ring<J>, Change<J>, R>,
-    late: &mut Option<Late<Change<J>>>,
+    handle: &mut WriteHandle<Ring<J>, RingChange<J>, R>,
+    late: &mut Option<Late<RingChange<J>>>,
 ) -> bool
     requires { pending handle.old ≡ [] }
     ensures pending { pending handle.new ≡ [] }
     ensures none { IsTrue result → late.new ≡ None }
-    ensures shown { (log : List Step) → IsShown after log late.old (published handle.old).front → IsShown after log late.new (published handle.new).front }
+    ensures shown { (log : List LogStep) → IsShown after log late.old (published handle.old).front → IsShown after log late.new (published handle.new).front }
 {
     match late.take() {
         Some(Late { change }) => {
@@ -60,7 +60,7 @@ pub(crate) fn catch_up<J: Naming, R: Wait + Drop>(
 /// Makes room for the operations that stand in the log of `left_right` at once, which are two at most: the last one, until the next
 /// publish has brought it to the other ring, and the next one. So no change asks for memory when it is shown.
 pub(crate) fn make_room<J: Naming, R: Wait + Drop>(
-    handle: &mut WriteHandle<Ring<J>, Change<J>, R>,
+    handle: &mut WriteHandle<Ring<J>, RingChange<J>, R>,
     front: &Front<J>,
 ) -> Result<(), AllocError>
     requires pending { pending handle.old ≡ [] }
@@ -69,7 +69,7 @@ pub(crate) fn make_room<J: Naming, R: Wait + Drop>(
     ensures shown { IfOk result (λ _. (published handle.new).front ≡ []) }
 {
     for _ in 0..2 {
-        let nothing = Change::Trim(Trimmed::new(0, front.again()));
+        let nothing = RingChange::Trim(Trimmed::new(0, front.again()));
         if show(handle, nothing).is_some() {
             return Err(AllocError);
         }

@@ -7,15 +7,15 @@ ghost use Rattle.std.specs.List.{All};
 ghost use Rattle.bx_advice.specs.Limits.{greatest_length};
 ghost use Rattle.bx_window.specs.Places.{Continues};
 ghost use Rattle.bx_window.specs.Steps.{adding, list_of, firsts_of, below};
-ghost use Rattle.bx_window.specs.declared.law.Step.{Step};
+ghost use Rattle.bx_window.specs.declared.law.LogStep.{LogStep};
 ghost use Rattle.bx_window.specs.Changes.{after};
 ghost use Rattle.bx_window.specs.Showing.{IsShown};
 ghost use Rattle.bx_window.specs.Refusals.{IsFair};
 
 use crate::batch::Bundle;
 use crate::front::{Book, Front, Note, Opened};
-use crate::law::{Naming, Step};
-use crate::published::{Change, Published, Trimmed};
+use crate::law::{LogStep, Naming};
+use crate::published::{PublishedBatch, RingChange, Trimmed};
 use crate::reader::{LogReader, Memory};
 use crate::ring::{Ring, drop_first};
 use crate::showing::{Late, catch_up, make_room, show};
@@ -32,7 +32,7 @@ pub const MAX_BATCHES: usize = 4096;
 
 /// Why a batch was not published.
 #[derive(Clone, Copy, Debug, PartialEq, Eq)]
-pub enum Refusal {
+pub enum PublishFault {
     /// The window has `MAX_BATCHES` batches.
     Full,
     /// No memory was left, or `left_right` refused the operation.
@@ -42,22 +42,22 @@ pub enum Refusal {
 /// The writer, over any value that is published and shows steps. Contracts see it as the steps of the log: what is published shows
 /// all of them, but for the change that is late.
 #[derive(Drop)]
-pub struct Writer<J: Naming, R: Wait + Drop, T: Absorb<O, State = [Step; 0]> + Drop, O: Drop> {
+pub struct Writer<J: Naming, R: Wait + Drop, T: Absorb<O, State = [LogStep; 0]> + Drop, O: Drop> {
     handle: WriteHandle<T, O, R>,
     book: Book<J>,
     firsts: HeapCircularBuffer<u64>,
     late: Option<Late<O>>,
 }
 
-impl<J: Naming, R: Wait + Drop, T: Absorb<O, State = [Step; 0]> + Drop, O: Drop> Model
+impl<J: Naming, R: Wait + Drop, T: Absorb<O, State = [LogStep; 0]> + Drop, O: Drop> Model
     for Writer<J, R, T, O> {
     ghost use Rattle.std.specs.Prelude.{◌≡◌, [], List};
     ghost use Rattle.left_right.specs.Handles.{published, pending};
-    ghost use Rattle.bx_window.specs.declared.law.Step.{Step};
+    ghost use Rattle.bx_window.specs.declared.law.LogStep.{LogStep};
     ghost use Rattle.bx_window.specs.Steps.{firsts_of};
     ghost use Rattle.bx_window.specs.Showing.{IsShown};
 
-    ghost Value = { List Step };
+    ghost Value = { List LogStep };
 
     ghost view = { λ w. w.book };
 
@@ -65,7 +65,7 @@ impl<J: Naming, R: Wait + Drop, T: Absorb<O, State = [Step; 0]> + Drop, O: Drop>
 }
 
 /// The writer of a window: the one value that publishes to it. Contracts see it as the steps of the log.
-pub type LogWriter<J, R> = Writer<J, R, Ring<J>, Change<J>>;
+pub type LogWriter<J, R> = Writer<J, R, Ring<J>, RingChange<J>>;
 
 /// The writer and so many readers of an opened window, of an empty list. `Err` where no memory is left. (So too where another
 /// had begun the window's log, which nothing can do.)
@@ -115,7 +115,7 @@ fn empty_ring<J: Naming>(alloc: Global, front: &Front<J>) -> Result<Ring<J>, All
     })
 }
 
-impl<J: Naming, R: Wait + Drop> Writer<J, R, Ring<J>, Change<J>> {
+impl<J: Naming, R: Wait + Drop> Writer<J, R, Ring<J>, RingChange<J>> {
     /// All that was published, to tell a reader. It takes no memory, so it cannot fail.
     pub fn tell(&self) -> Note<J>
         ensures { result ≡ self.now }
@@ -137,7 +137,7 @@ impl<J: Naming, R: Wait + Drop> Writer<J, R, Ring<J>, Change<J>> {
     /// is refused, the batch comes back: `Full` where the window has `MAX_BATCHES` batches, `Memory` where no memory is left.
     /// The batch has entries, begins where the list ends, and they are those of its elements behind the list.
     #[tactic(auto, using(crate::proofs::Places::stands_newest, crate::proofs::Places::many_elements, crate::proofs::Lists::firsts_of_adding, crate::proofs::Rooms::room_full, crate::proofs::Rings::newest_bundle, crate::proofs::Rings::ends_bundle))]
-    pub fn publish(&mut self, alloc: Global, bundle: Bundle) -> Result<(), (Bundle, Refusal)>
+    pub fn publish(&mut self, alloc: Global, bundle: Bundle) -> Result<(), (Bundle, PublishFault)>
         requires continues { Continues J.config (list_of self.old) bundle }
         requires places { length (list_of self.old) + length bundle.batch.entries ≤ greatest_length }
         requires steps { length self.old < 2 ^ 62 }
@@ -145,20 +145,20 @@ impl<J: Naming, R: Wait + Drop> Writer<J, R, Ring<J>, Change<J>> {
         ensures err { IfErr result (λ e. (e.0 ≡ bundle) × (self.new ≡ self.old) × IsFair self.old e.1) }
     {
         if self.firsts.len() >= MAX_BATCHES {
-            return Err((bundle, Refusal::Full));
+            return Err((bundle, PublishFault::Full));
         }
         if !catch_up(&mut self.handle, &mut self.late) {
-            return Err((bundle, Refusal::Memory));
+            return Err((bundle, PublishFault::Memory));
         }
         let (batch, elements) = match shared(alloc, bundle) {
             Ok(parts) => parts,
-            Err(bundle) => return Err((bundle, Refusal::Memory)),
+            Err(bundle) => return Err((bundle, PublishFault::Memory)),
         };
         let first = batch.first;
         let count = batch.entries.len() as u64;
         self.book.add(&elements, count);
-        let published = Published::new(batch, self.book.front());
-        self.late = show(&mut self.handle, Change::Add(published));
+        let published = PublishedBatch::new(batch, self.book.front());
+        self.late = show(&mut self.handle, RingChange::Add(published));
         put_last(&mut self.firsts, first);
         Ok(())
     }
@@ -185,7 +185,7 @@ impl<J: Naming, R: Wait + Drop> Writer<J, R, Ring<J>, Change<J>> {
         }
         self.book.trim(count as u64, begin);
         let trimmed = Trimmed::new(count, self.book.front());
-        self.late = show(&mut self.handle, Change::Trim(trimmed));
+        self.late = show(&mut self.handle, RingChange::Trim(trimmed));
         drop_first(&mut self.firsts, count);
         Ok(())
     }

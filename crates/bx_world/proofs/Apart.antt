@@ -1,7 +1,5 @@
 -- No event stands in two answers of a session that does not acknowledge.
-use Rattle.std.proofs.Common.{◌≡◌, ⊎_elim, ℕ, zero, suc, ◌<◌, Bool, false, ◌==◌, Some, List, [], ◌∷◌, ◌++◌, take, find, sym, ap, ◌∙◌, subst, arith, ne_eqb, eqb-true}
-use Rattle.std.proofs.lemmas.Bool.{cond-true, cond-false}
-use Rattle.bx_lists.proofs.Tests.{either}
+use Rattle.std.proofs.Common.{◌≡◌, ℕ, zero, suc, ◌<◌, Bool, false, ◌==◌, Some, List, [], ◌∷◌, ◌++◌, take, find, sym, subst, arith, eqb-true}
 use Rattle.bx_advice.specs.declared.config.Config.{Config}
 use Rattle.bx_entry.specs.Words.{Listed, entries}
 use Rattle.bx_entry.specs.Sessions.{Session, Publication, Filed, session}
@@ -59,27 +57,10 @@ found_apart [] a b f g r s l e k = cc
 found_apart (h ∷ fs) a b f g r s l e k =
     let at_a : Filed → Bool = λ x. x.connect == a in
     let at_b : Filed → Bool = λ x. x.connect == b in
-    either (h.connect == a) (AllBelow f.publications g.publications)
-    (λ t.
-    let here : h.connect ≡ a = eqb-true h.connect a t in
-    let whole : Some h ≡ Some f = sym (cond-true (h.connect == a) (Some h) (find at_a fs) t) ∙ e in
-    let same : h ≡ f = cc in
-    let behind : find at_b fs ≡ Some g = sym (cond-false (h.connect == b) (Some h) (find at_b fs) (ne_eqb h.connect b (λ q. omega (arith, q, here, l)))) ∙ k in
-    subst (λ (x : Filed). AllBelow x.publications g.publications) same (below_found h.publications at_b fs g behind (rising_below h.publications (given_in fs) s)))
-    (λ t.
-    let first : find at_a fs ≡ Some f = sym (cond-false (h.connect == a) (Some h) (find at_a fs) t) ∙ e in
-    let here : f.connect ≡ a = eqb-true f.connect a (find_true at_a fs f first) in
-    either (h.connect == b) (AllBelow f.publications g.publications)
-    (λ u.
-    let own : h.connect ≡ b = eqb-true h.connect b u in
-    let whole : Some h ≡ Some g = sym (cond-true (h.connect == b) (Some h) (find at_b fs) u) ∙ k in
-    let same : h ≡ g = cc in
-    ⊎_elim (λ before. absurd (omega (arith, before, own, here, l)))
-    (λ none. subst (AllBelow f.publications) (sym none ∙ ap (λ (x : Filed). x.publications) same) (below_none f.publications))
-    (find_each (λ x. Before x.connect h) at_a fs f first r.0).1)
-    (λ u.
-    let behind : find at_b fs ≡ Some g = sym (cond-false (h.connect == b) (Some h) (find at_b fs) u) ∙ k in
-    found_apart fs a b f g r.1 (rising_rest h.publications (given_in fs) s) l first behind))
+    let later : find at_b fs ≡ Some g → AllBelow h.publications g.publications = λ q. below_found h.publications at_b fs g q (rising_below h.publications (given_in fs) s) in
+    let earlier : find at_a fs ≡ Some f → Before f.connect h × (f.connect ≡ a) = λ q. (find_each (λ x. Before x.connect h) at_a fs f q r.0, eqb-true f.connect a (find_true at_a fs f q)) in
+    let none : AllBelow f.publications [] = below_none f.publications in
+    grind (arith, later, earlier, none, found_apart fs a b f g r.1 (rising_rest h.publications (given_in fs) s) l)
 
 -- ---- the law
 

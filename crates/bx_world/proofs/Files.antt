@@ -1,23 +1,21 @@
 -- An answer that a shard has come past is filed there until it is taken, and none is taken twice.
-use Rattle.std.proofs.Common.{arith, ◌≡◌, ℕ, zero, suc, max, ⊎_elim, Bool, true, false, ◌||◌, Option, Some, None, List, [], ◌∷◌, ◌++◌, length, take, drop, map, filter, find, flat_map, fold, option_map, slice_get, slice_index, nat_lt, ◌==◌, refl, sym, ap, ◌∙◌, subst, eqb-true, eq-eqb, take-append-drop, true≢false}
-use Rattle.std.proofs.lemmas.{Bool.cond-true, Bool.cond-false, Bool.lt-ltb, List.map-append, List.Folds.find-append, List.Folds.list_any-append}
+use Rattle.std.proofs.Common.{arith, ◌≡◌, ℕ, zero, suc, max, ⊎_elim, Bool, true, false, ◌||◌, Option, Some, None, List, [], ◌∷◌, ◌++◌, length, take, drop, map, filter, find, flat_map, option_map, slice_get, slice_index, nat_lt, ◌==◌, refl, sym, ap, ◌∙◌, subst, eq-eqb, take-append-drop, true≢false}
+use Rattle.std.proofs.lemmas.{Bool.cond-true, Bool.lt-ltb, List.map-append, List.Folds.find-append, List.Folds.list_any-append}
 use Rattle.std.specs.{Option.option_or, List.list_any}
-use Rattle.bx_lists.proofs.Tests.{either}
 use Rattle.bx_advice.specs.declared.config.Config.{Config}
 use Rattle.bx_message.specs.declared.{reply.Answer.Answer, message_kind.MessageKind.MessageKind}
-use Rattle.bx_entry.specs.Words.{Listed, Post, Posted, due_of, Registry, Registered, Judged, PlaceSlot, Ready, Waiting, judge, served, slot_for, slot_with, rider_for, is_rider, left_by, extended, swept, named_by, refusal, hold_of, registry, empty_registry, entries_of, noted, state_of, Session, Filed, session, PlacedAnswer, answer_of, answer_by, answer_at}
+use Rattle.bx_entry.specs.Words.{Listed, Posted, due_of, Registry, Registered, Judged, PlaceSlot, Waiting, slot_for, slot_with, rider_for, is_rider, left_by, extended, swept, hold_of, registry, entries_of, Session, Filed, session, PlacedAnswer, answer_of, answer_by, answer_at}
 use Rattle.bx_message.specs.MessageKinds.{message_kind_of}
-use Rattle.bx_entry.specs.Listing as messages
 use Rattle.bx_entry.specs.declared.{input.Input.Input, entry.Ticket.Ticket}
-use Rattle.bx_theory.proofs.{Verdicts.by_verdict, Lists.judged_more, Lists.answer_within}
+use Rattle.bx_theory.proofs.{Verdicts.each_judge, Verdicts.each_registry, Lists.judged_more, Lists.answer_within}
 use Rattle.bx_theory.specs.Readings.{EachSession}
 use Rattle.bx_shard.specs.Words.{Setup, shard_at, sessions_in, stands_in, is_taken, given_of}
 use Rattle.bx_world.specs.Words.{WorldState, IsOutput, Runs, after, filed_under, AnswersAreFiled, AnswersCanBeTaken, NoneTakenTwice, SchedulesCompose, EachNew, taken_by, taken_places}
 use Rattle.bx_world.specs.declared.step.{Step.Step, StepOut.StepOut}
 use Rattle.bx_world.specs.declared.step.Step.TheVariants.{Admit, Apply, Take}
-use Rattle.bx_world.specs.declared.step.StepOut.TheVariants.{Admitted, Taken}
-use Rattle.bx_theory.proofs.Dues.{EachJudged, each_judged_push, each_judged_map, each_session_map, named_session}
-use Rattle.bx_shard.proofs.{Elements.numbers, Elements.served_sessions, Elements.swept_same, Waits.WaitsAt, Waits.waits_over, Untaken.found_kept, Untaken.find_untaken}
+use Rattle.bx_world.specs.declared.step.StepOut.TheVariants.{Taken}
+use Rattle.bx_theory.proofs.Dues.{EachJudged, Mapped, each_judged_push, each_judged_map, each_session_map, named_session, served_sessions, swept_sessions}
+use Rattle.bx_shard.proofs.{Elements.numbers, Elements.same_numbers, Waits.WaitsAt, Waits.waits_over, Untaken.found_kept, Untaken.find_untaken}
 
 or_true : (a b : Bool) → b ≡ true → (a || b) ≡ true
 or_true a b e = grind arith
@@ -40,8 +38,7 @@ SlotHas rs (Waiting number) = has number rs ≡ true
 SlotHas rs _ = Unit {0}
 
 slot_has : (rs ts : List Registered) (slot : PlaceSlot) → ((n : ℕ) → has n rs ≡ true → has n ts ≡ true) → SlotHas rs slot → SlotHas ts slot
-slot_has rs ts (Waiting number) h s = h number s
-slot_has rs ts _ h s = tt
+slot_has rs ts slot h s = grind (arith, h)
 
 abbrev Waiters : Registry → Type 0
 Waiters r = EachJudged (λ j. SlotHas r.sessions j.slot) r.judged
@@ -50,35 +47,28 @@ Waiters r = EachJudged (λ j. SlotHas r.sessions j.slot) r.judged
 waiters_push : (r : Registry) (ts : List Registered) (j : Judged) → ((n : ℕ) → has n r.sessions ≡ true → has n ts ≡ true) → SlotHas ts j.slot → Waiters r → EachJudged (λ i. SlotHas ts i.slot) (r.judged ++ j ∷ [])
 waiters_push r ts j h s w = each_judged_push (λ i. SlotHas ts i.slot) r.judged j (each_judged_map (λ i. SlotHas r.sessions i.slot) (λ i. SlotHas ts i.slot) r.judged (λ i g. slot_has r.sessions ts i.slot h g) w) s
 
-slot_served : (config : Config) (c : MessageKind) (p : Posted) (s : Registered) (rs : List Registered) → has s.number rs ≡ true → SlotHas rs (slot_for config c p s)
-slot_served config MessageKind.Connect p s rs h = h
-slot_served config _ p s rs h = tt
+slot_served : (config : Config) (b : Bool) (c : MessageKind) (p : Posted) (s : Registered) (rs : List Registered) → has s.number rs ≡ true →
+    SlotHas rs (slot_with (rider_for b s.number (slot_for config c p s)) (slot_for config c p s))
+slot_served config b c p s rs h = grind (arith, h)
 
--- so it has as a rider
-slot_ridden : (b : Bool) (number : ℕ) (slot : PlaceSlot) (rs : List Registered) → has number rs ≡ true → SlotHas rs slot → SlotHas rs (slot_with (rider_for b number slot) slot)
-slot_ridden true number (Ready reply) rs h s = h
-slot_ridden _ number slot rs h s = s
+-- sessions that keep their numbers are registered as they were
+has_same : (change : Registered → Registered) (rs ts : List Registered) → Mapped change rs ts → (n : ℕ) → has n rs ≡ true → has n ts ≡ true
+has_same change rs ts m n h = ap (list_any (λ k. k == n)) (same_numbers change rs ts m) ∙ h
 
-served_waiters : (config : Config) (r : Registry) (moment : ℕ) (p : Posted) (c : MessageKind) (s : Registered) (hold : ℕ) → has s.number r.sessions ≡ true → Waiters r → Waiters (noted r moment (served config (state_of r) moment p c s hold))
-served_waiters config r moment p c s hold here w =
-    let due : ℕ = due_of config moment hold in
-    let ts : List Registered = left_by c s.number (extended s.number due r.sessions) in
-    let same : (n : ℕ) → has n r.sessions ≡ true → has n (left_by c s.number (extended s.number (due_of config moment hold) r.sessions)) ≡ true =
-    λ n h. ap (list_any (λ m. m == n)) (served_sessions c s.number due r.sessions) ∙ h in
-    waiters_push r ts _ same (slot_ridden (is_rider config r.senders c p s) s.number (slot_for config c p s) ts (same s.number here) (slot_served config c p s ts (same s.number here))) w
-
-judge_waiters : (config : Config) (r : Registry) (x : Listed) → Waiters r → Waiters (judge config r x)
-judge_waiters config r (Post p) w =
-    let c : MessageKind = message_kind_of p.message.channel in
-    let moment : ℕ = max r.clock p.moment in
-    by_verdict (λ v. Waiters (noted r moment v)) config (state_of r) moment p (named_by r.sessions c p.message) (refusal config r.sessions p)
-    (λ e. waiters_push r r.sessions _ (λ n g. g) tt w) (waiters_push r _ _ (λ n g. has_push n r.sessions _ g) tt w) (waiters_push r r.sessions _ (λ n g. g) tt w)
-    (λ s e. served_waiters config r moment p c s (hold_of config p) (named_session (λ q. has q.number r.sessions ≡ true) r.sessions c p.message s e (each_has r.sessions)) w)
-judge_waiters config r (messages.Tick moment) w = let now : ℕ = max r.clock moment in waiters_push r (swept now r.sessions) _ (λ n g. ap (list_any (λ m. m == n)) (swept_same now r.sessions) ∙ g) tt w
-
-run_waiters : (config : Config) (r : Registry) (xs : List Listed) → Waiters r → Waiters (fold (judge config) r xs)
-run_waiters config r [] w = w
-run_waiters config r (x ∷ xs) w = run_waiters config (judge config r x) xs (judge_waiters config r x w)
+all_waiters : (config : Config) (list : List Listed) → Waiters (registry config list)
+all_waiters config list = each_registry config Waiters tt (λ ys x w.
+    let r : Registry = registry config ys in
+    each_judge config r Waiters (record {
+      refuses = λ p sender error. waiters_push r r.sessions _ (λ n g. g) tt w;
+      opens = λ p. waiters_push r _ _ (λ n g. has_push n r.sessions _ g) tt w;
+      none = λ p. waiters_push r r.sessions _ (λ n g. g) tt w;
+      serves = λ p s e.
+          let c : MessageKind = message_kind_of p.message.channel in
+          let ts : List Registered = left_by c s.number (extended s.number (due_of config (max r.clock p.moment) (hold_of config p)) r.sessions) in
+          let same = has_same _ r.sessions ts (served_sessions c s.number (due_of config (max r.clock p.moment) (hold_of config p)) r.sessions) in
+          waiters_push r ts _ same (slot_served config (is_rider config r.senders c p s) c p s ts (same s.number (named_session (λ q. has q.number r.sessions ≡ true) r.sessions c p.message s e (each_has r.sessions)))) w;
+      ticks = λ moment. waiters_push r (swept (max r.clock moment) r.sessions) _ (has_same _ r.sessions _ (swept_sessions (max r.clock moment) r.sessions)) tt w;
+    }) x) list
 
 judged_at : (P : Judged → Type 0) (js : List Judged) (k : ℕ) (j : Judged) → slice_get js k ≡ Some j → EachJudged P js → P j
 judged_at P [] k j e d = cc
@@ -94,6 +84,11 @@ same_session config xs m number place f w e =
     let both : Some (Waiting m) ≡ Some (Waiting number) = sym (waits_over config m place xs f e) ∙ w in
     cc
 
+-- what is found in the first part, which is the one that has it or has none, or behind it
+first_found : (o mine rest : Option Filed) (m number : ℕ) (f : Filed) → ((k : Filed) → o ≡ Some k → m ≡ number) → (m ≡ number → o ≡ mine) → mine ≡ Some f → ((m == number) ≡ false → rest ≡ Some f) →
+    {whole : Option Filed} → whole ≡ option_or o rest → whole ≡ Some f
+first_found o mine rest m number f own same is behind w = grind arith
+
 found_among : (config : Config) (xs : List Listed) (number place : ℕ) (f : Filed) (rs : List Registered) → WaitsAt (registry config xs).judged number place →
     find (λ (g : Filed). g.connect == place) (session config number (entries_of (registry config xs))).answers ≡ Some f → has number rs ≡ true →
     find (λ (g : Filed). g.connect == place) (flat_map (λ (s : Session). s.answers) (map (λ (r : Registered). session config r.number (entries_of (registry config xs))) rs)) ≡ Some f
@@ -102,12 +97,9 @@ found_among config xs number place f (r ∷ rs) w e h =
     let test : Filed → Bool = λ g. g.connect == place in
     let g : ℕ → Session = λ n. session config n (entries_of (registry config xs)) in
     let rest : List Filed = flat_map (λ (s : Session). s.answers) (map (λ (q : Registered). session config q.number (entries_of (registry config xs))) rs) in
-    let P : Option Filed → Type 0 = λ o. find test (g r.number).answers ≡ o → option_or o (find test rest) ≡ Some f in
-    let at_none : P None = λ n. either (r.number == number) (find test rest ≡ Some f)
-    (λ k. absurd (let no : None ≡ Some f = sym n ∙ ap (λ (m : ℕ). find test (g m).answers) (eqb-true r.number number k) ∙ e in cc))
-    (λ k. found_among config xs number place f rs w e (sym (ap (λ (b : Bool). b || has number rs) k) ∙ h)) in
-    let at_some : (k : Filed) → P (Some k) = λ k n. sym n ∙ ap (λ (m : ℕ). find test (g m).answers) (same_session config xs r.number number place k w n) ∙ e in
-    find-append test (g r.number).answers rest ∙ (elim (find test (g r.number).answers) as P [ None ↦ at_none | Some k ↦ at_some k ]) refl
+    let own : (k : Filed) → find test (g r.number).answers ≡ Some k → r.number ≡ number = λ k n. same_session config xs r.number number place k w n in
+    first_found (find test (g r.number).answers) (find test (g number).answers) (find test rest) r.number number f own (λ s. ap (λ (m : ℕ). find test (g m).answers) s) e
+    (λ k. found_among config xs number place f rs w e (sym (ap (λ (b : Bool). b || has number rs) k) ∙ h)) (find-append test (g r.number).answers rest)
 
 has_standing : (setup : Setup) (shard number : ℕ) (rs : List Registered) → stands_in setup shard number ≡ true → has number rs ≡ true → has number (filter (λ (s : Registered). stands_in setup shard s.number) rs) ≡ true
 has_standing setup shard number [] h e = cc
@@ -157,7 +149,7 @@ answers_are_filed setup list taken n place number a room waits e below free =
     slot_of f (Some j) h =
         let slot : j.slot ≡ Waiting number = (let both : Some j.slot ≡ Some (Waiting number) = sym (ap (option_map (λ (i : Judged). i.slot)) h) ∙ f.waits in cc) in
         subst (SlotHas (registry setup.config (take n list)).sessions) slot
-        (judged_at (λ i. SlotHas (registry setup.config (take n list)).sessions i.slot) (registry setup.config (take n list)).judged place j h (run_waiters setup.config empty_registry (take n list) tt))
+        (judged_at (λ i. SlotHas (registry setup.config (take n list)).sessions i.slot) (registry setup.config (take n list)).judged place j h (all_waiters setup.config (take n list)))
 
 -- a taking gives what is filed
 pub answers_can_be_taken : AnswersCanBeTaken
@@ -174,31 +166,21 @@ answers_can_be_taken setup w t number a out room waits shard within e below free
 
 filed_untaken : (setup : Setup) (w : WorldState) (t : Ticket) (a : PlacedAnswer) → filed_under setup w t ≡ Some a → is_taken w.taken t.place ≡ false
 filed_untaken setup w t a e =
-    let k : ℕ = slice_index w.applied t.shard in
-    let found : Option PlacedAnswer = option_map answer_of (find (λ (f : Filed). f.connect == t.place) (shard_at setup w.list w.taken t.shard (slice_index w.applied t.shard)).filed) in
-    either (nat_lt t.shard (length w.applied)) (is_taken w.taken t.place ≡ false)
-    (λ h. untaken (find (λ (f : Filed). f.connect == t.place) (shard_at setup w.list w.taken t.shard (slice_index w.applied t.shard)).filed) refl (sym (cond-true (nat_lt t.shard (length w.applied)) found None h) ∙ e))
-    (λ h. absurd (let no : None ≡ Some a = sym (cond-false (nat_lt t.shard (length w.applied)) found None h) ∙ e in cc))
-  where
-    untaken : (o : Option Filed) → find (λ (f : Filed). f.connect == t.place) (shard_at setup w.list w.taken t.shard (slice_index w.applied t.shard)).filed ≡ o → option_map answer_of o ≡ Some a → is_taken w.taken t.place ≡ false
-    untaken None h g = cc
-    untaken (Some f) h g = (found_kept w.taken t.place (flat_map (λ (s : Session). s.answers) (sessions_in setup w.list t.shard (slice_index w.applied t.shard))) f h).1
+    let kept = found_kept w.taken t.place (flat_map (λ (s : Session). s.answers) (sessions_in setup w.list t.shard (slice_index w.applied t.shard))) in
+    grind (arith, kept)
 
 given_untaken : (setup : Setup) (w : WorldState) (t : Ticket) (a : Answer) (o : Option PlacedAnswer) → filed_under setup w t ≡ o → option_map given_of o ≡ Some a → is_taken w.taken t.place ≡ false
-given_untaken setup w t a None e g = cc
-given_untaken setup w t a (Some p) e g = filed_untaken setup w t p e
+given_untaken setup w t a o e g = grind (arith, filed_untaken setup w t)
 
 take_new : (setup : Setup) (w : WorldState) (t : Ticket) (out : StepOut) (ps : List ℕ) → out ≡ Taken (option_map given_of (filed_under setup w t)) → EachNew (after w (Take t) out).taken ps → EachNew w.taken (taken_by (Take t) out ++ ps)
 take_new setup w t (Taken (Some a)) ps e d = (given_untaken setup w t a (filed_under setup w t) refl (let same : option_map given_of (filed_under setup w t) ≡ Some a = cc in same), d)
 take_new setup w t _ ps e d = d
 
 admit_taken : (w : WorldState) (input : Input) (out : StepOut) → (after w (Admit input) out).taken ≡ w.taken
-admit_taken w input (Admitted first slots) = refl
-admit_taken w input _ = refl
+admit_taken w input out = grind arith
 
 apply_taken : (w : WorldState) (shard : ℕ) (out : StepOut) → (after w (Apply shard) out).taken ≡ w.taken
-apply_taken w shard (Admitted first slots) = refl
-apply_taken w shard _ = refl
+apply_taken w shard out = grind arith
 
 step_new : (setup : Setup) (w : WorldState) (step : Step) (out : StepOut) (ps : List ℕ) → IsOutput setup w step out → EachNew (after w step out).taken ps → EachNew w.taken (taken_by step out ++ ps)
 step_new setup w (Admit input) out ps i d = subst (λ (ts : List ℕ). EachNew ts ps) (admit_taken w input out) d

@@ -1,7 +1,6 @@
 -- Each answer that a taking gave is the one that its session filed, and has no event that was given for good before it.
 use Rattle.std.proofs.Common.{◌≡◌, ℕ, zero, suc, ◌+◌, ◌<◌, ◌≤◌, ⊎_elim, ◌==◌, Bool, cond, Option, Some, None, List, [], ◌∷◌, ◌++◌, length, take, find, fold, option_map, slice_get, refl, sym, ap, ◌∙◌, subst, arith, length-take}
 use Rattle.std.proofs.lemmas.{List.Sums.fold-append, List.Folds.find-append}
-use Rattle.std.specs.Option.{option_or}
 use Rattle.bx_advice.specs.declared.config.Config.{Config}
 use Rattle.bx_message.specs.declared.reply.Answer.{Answer}
 use Rattle.bx_entry.specs.Words.{Listed, Judged, Waiting, registry, entries, Session, Filed, step, session, unopened, answer_of, events_of, filed_for, answer_by, answer_at, answer}
@@ -78,11 +77,9 @@ places_front n (x ∷ xs) ys d = (d.0, places_front (n + 1) xs ys d.1)
 -- what was found and stands at or behind a place was found among those behind it
 find_behind : (n : ℕ) (P : Filed → Type 0) (test : Filed → Bool) (fs gs : List Filed) (f : Filed) → n ≤ f.place → Each (λ g. g.place < n) fs → Each P gs → find test (fs ++ gs) ≡ Some f → P f
 find_behind n P test fs gs f l b d e =
-    let whole : option_or (find test fs) (find test gs) ≡ Some f = sym (find-append test fs gs) ∙ e in
-    let Q : Option Filed → Type 0 = λ o. find test fs ≡ o → option_or o (find test gs) ≡ Some f → P f in
-    let at_none : Q None = λ h c. find_each P test gs f c d in
-    let at_some : (k : Filed) → Q (Some k) = λ k h c. absurd (let same : k ≡ f = cc in let below : k.place < n = find_each (λ g. g.place < n) test fs k h b in let p : k.place ≡ f.place = ap (λ (g : Filed). g.place) same in omega (arith, below, p, l)) in
-    (elim (find test fs) as Q [ None ↦ at_none | Some k ↦ at_some k ]) refl whole
+    let earlier : find test fs ≡ Some f → f.place < n = λ h. find_each (λ g. g.place < n) test fs f h b in
+    let later : find test gs ≡ Some f → P f = λ h. find_each P test gs f h d in
+    grind (arith, find-append test fs gs, earlier, later)
 
 -- ---- the law
 

@@ -3,7 +3,6 @@ pub mod Files
 pub mod Replies
 pub mod Giving
 pub mod InTurn
-pub mod Outstanding
 pub mod Repeats
 pub mod Apart
 pub mod AsOne

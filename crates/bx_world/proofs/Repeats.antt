@@ -8,13 +8,13 @@ use Rattle.bx_message.specs.declared.reply.AckReply.TheVariants.{AckNumber}
 use Rattle.bx_entry.specs.Words.{Listed, Waiting, registry, entries, Session, Filed, batch, step, session, unopened, answer_of, events_of, answer}
 use Rattle.bx_entry.specs.declared.entry.Entry.{Entry}
 use Rattle.bx_theory.specs.Laws.{Each, PlacesFrom, LastAnswer, Repetition}
-use Rattle.bx_theory.proofs.{Batches.batch_repeats, Counts.all_in_step, Counts.unopened_in_step, Lists.find_each, Lists.entries_in_order, Lists.entries_within, Riders.batch_last}
+use Rattle.bx_theory.proofs.{Batches.batch_repeats, Batches.gives_batch, Counts.all_in_step, Counts.unopened_in_step, Lists.find_each, Lists.entries_in_order, Lists.entries_within, Riders.batch_last}
 use Rattle.bx_theory.proofs.Runs.{Grown, run_grown, all_places}
-use Rattle.bx_shard.proofs.{Waits.WaitsAt, Waits.answered_waits, Given.session_answer}
+use Rattle.bx_shard.proofs.{Waits.WaitsAt, Waits.answered_waits, Given.session_answer, Placed.entry_placed}
 use Rattle.bx_shard.specs.Refining.{given_of}
 use Rattle.bx_world.specs.Words.{EachTook, slot_at, Gave, AsksAgain, GivenAgain, BatchesRepeat}
 use Rattle.bx_world.specs.declared.step.{Step.Step, StepOut.StepOut}
-use Rattle.bx_world.proofs.{Giving.places_front, Giving.gave_answer, Outstanding.gives_batch, Takes.takes_are_answers, Applications.place_within}
+use Rattle.bx_world.proofs.{Giving.places_front, Giving.gave_answer, Takes.takes_are_answers, Applications.place_within}
 use Rattle.bx_world.proofs.InTurn.{Ordered, InTurn, session_turn, turn_below, find_middle}
 
 -- ---- the answer that was given last
@@ -58,11 +58,6 @@ given_is config list f steps outs a d e g =
 
 -- ---- the law
 
-entry_at : (n k : ℕ) (es : List Entry) (e : Entry) → slice_get es k ≡ Some e → PlacesFrom n es → e.place ≡ n + k
-entry_at n k [] e h d = cc
-entry_at n zero (x ∷ es) e h d = let same : x ≡ e = cc in let p : e.place ≡ x.place = ap (λ (y : Entry). y.place) (sym same) in omega (arith, p, d.0)
-entry_at n (suc k) (x ∷ es) e h d = let p : e.place ≡ (n + 1) + k = entry_at (n + 1) k es e h d.1 in omega (arith, p)
-
 -- the entries before the one at a place, it, and the others
 entry_parts : (k : ℕ) (es : List Entry) (e : Entry) → slice_get es k ≡ Some e → take k es ++ e ∷ drop (k + 1) es ≡ es
 entry_parts k [] e h = cc
@@ -88,7 +83,7 @@ given_again config list steps outs number place room d a =
     let last : LastAnswer (step config (session config number r.before) r.forming) r.same.first =
     last_within config list place number a.entry room (omega (arith, place_within config list place a.entry a.here)) (take place (entries config list)) refl r a.outstanding in
     let whole : take place (entries config list) ++ a.entry ∷ drop (place + 1) (entries config list) ≡ entries config list = entry_parts place (entries config list) a.entry a.here in
-    let here : a.entry.place ≡ place = let n : a.entry.place ≡ 0 + place = entry_at 0 place (entries config list) a.entry a.here (entries_in_order config list) in omega (arith, n) in
+    let here : a.entry.place ≡ place = entry_placed config list place a.entry a.here in
     -- the answer that formed the batch
     let front : List Entry = r.before ++ r.forming ∷ [] in
     let split : (r.before ++ r.forming ∷ []) ++ (r.between ++ a.entry ∷ drop (place + 1) (entries config list)) ≡ entries config list =

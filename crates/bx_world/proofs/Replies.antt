@@ -1,6 +1,7 @@
 -- Each reply that an admission gives at once is the one that the list gives.
 use Rattle.std.proofs.Common.{◌≡◌, ℕ, zero, suc, ◌+◌, ⊎_elim, ◌==◌, ◌||◌, Bool, false, Option, Some, None, List, [], ◌∷◌, ◌++◌, length, take, drop, map, option_map, slice_get, refl, sym, ap, ◌∙◌, subst, arith, append_assoc}
 use Rattle.std.proofs.lemmas.List.{map-append, length-map, drop_at}
+use Rattle.std.proofs.Math.Seq.{take-append_seam}
 use Rattle.bx_advice.specs.declared.config.Config.{Config}
 use Rattle.bx_message.specs.declared.message.Message.{Message}
 use Rattle.bx_message.specs.MessageKinds.{is_handshake}
@@ -114,15 +115,11 @@ judging setup xs ys more list e =
 
 -- ---- an admission
 
-take_front : (xs ys : List Listed) → take (length xs) (xs ++ ys) ≡ xs
-take_front [] ys = refl
-take_front (x ∷ xs) ys = ap (λ (zs : List Listed). x ∷ zs) (take_front xs ys)
-
 listed_there : (xs ys more list : List Listed) → list ≡ (xs ++ ys) ++ more → take (length ys) (drop (length xs) list) ≡ ys
 listed_there xs ys more list e =
     ap (λ (zs : List Listed). take (length ys) (drop (length xs) zs)) (e ∙ append_assoc xs ys more)
     ∙ ap (take (length ys)) (drop_at xs (ys ++ more) (length xs) refl)
-    ∙ take_front ys more
+    ∙ take-append_seam ys more
 
 admitted : (setup : Setup) (xs more list : List Listed) (input : ReadInput) → list ≡ (xs ++ added_by input) ++ more → refusal_of (length xs) input ≡ None → IsAdmitted setup list input (length xs) (admitted_slots setup xs (added_by input))
 admitted setup xs more list (Request moment nonce ms) e none =

@@ -1,8 +1,9 @@
 -- Some shard stands where the entries that are kept begin.
-use Rattle.std.proofs.Common.{◌≡◌, ℕ, zero, suc, ◌<◌, ◌≤◌, ◌==◌, ◌||◌, Bool, true, false, Option, Some, None, List, [], ◌∷◌, map, max, min, option_map, slice_get, slice_set, get_or, refl, sym, ap, ◌∙◌, subst, arith, eqb-true, ⊎_elim}
+use Rattle.std.proofs.Common.{◌≡◌, ℕ, zero, suc, ◌<◌, ◌≤◌, ◌==◌, Bool, true, false, Some, List, [], ◌∷◌, map, max, min, option_map, slice_get, slice_set, get_or, refl, ap, ◌∙◌, subst, arith, ⊎_elim}
 use Rattle.std.specs.Prelude.{replicate}
 use Rattle.std.specs.List.{list_any}
-use Rattle.std.proofs.lemmas.{Bool.cases_lt, Bool.eq-eqb, Bool.or_right, List.map-set, Option.slice_get-map}
+use Rattle.std.proofs.lemmas.{Bool.cases_lt, List.map-set, Option.slice_get-map}
+use Rattle.bx_lists.proofs.Lists.{mapped}
 use Rattle.bx_shard.specs.declared.shard.Shard.{Shard}
 use Rattle.bx_world.specs.Refining.{StandFrom, StandWithin, some_stands_at}
 use Rattle.bx_world.proofs.Rows.{number_there}
@@ -12,37 +13,28 @@ use Rattle.bx_world.proofs.Rows.{number_there}
 abbrev among : ℕ → List ℕ → Bool
 among p ns = list_any (λ n. n == p) ns
 
-or_split : (b c : Bool) (P : Type 0) → (b || c) ≡ true → (b ≡ true → P) → (c ≡ true → P) → P
-or_split b c P h f g = grind arith
-
-or_left : (b c : Bool) → b ≡ true → (b || c) ≡ true
-or_left b c h = grind arith
-
 there_among : (ns : List ℕ) (k p : ℕ) → slice_get ns k ≡ Some p → among p ns ≡ true
 there_among [] k p e = cc
-there_among (n ∷ ns) zero p e = let same : n ≡ p = cc in or_left (n == p) (among p ns) (eq-eqb n p same)
-there_among (n ∷ ns) (suc k) p e = or_right (n == p) (among p ns) (there_among ns k p e)
+there_among (n ∷ ns) zero p e = grind arith
+there_among (n ∷ ns) (suc k) p e = grind (arith, there_among ns k p e)
 
 -- another one is replaced
 among_set : (ns : List ℕ) (i v p : ℕ) → among p ns ≡ true → (get_or ns i 0 ≡ p → ⊥) → among p (slice_set ns i v) ≡ true
 among_set [] i v p h apart = cc
-among_set (n ∷ ns) zero v p h apart = or_right (v == p) (among p ns) (or_split (n == p) (among p ns) (among p ns ≡ true) h (λ e. absurd (apart (eqb-true n p e))) (λ e. e))
-among_set (n ∷ ns) (suc i) v p h apart =
-    or_split (n == p) (among p ns) (((n == p) || among p (slice_set ns i v)) ≡ true) h (or_left (n == p) (among p (slice_set ns i v))) (λ e. or_right (n == p) (among p (slice_set ns i v)) (among_set ns i v p e apart))
+among_set (n ∷ ns) zero v p h apart = grind arith
+among_set (n ∷ ns) (suc i) v p h apart = grind (arith, among_set ns i v p)
 
-among_from : (ns : List ℕ) (first p : ℕ) → ((k n : ℕ) → slice_get ns k ≡ Some n → first ≤ n) → among p ns ≡ true → first ≤ p
-among_from [] first p from h = absurd (let no : false ≡ true = h in cc)
-among_from (n ∷ ns) first p from h =
-    or_split (n == p) (among p ns) (first ≤ p) h (λ e. subst (λ (m : ℕ). first ≤ m) (eqb-true n p e) (from 0 n refl)) (λ e. among_from ns first p (λ k m g. from (suc k) m g) e)
-
-among_within : (ns : List ℕ) (end p : ℕ) → ((k n : ℕ) → slice_get ns k ≡ Some n → n ≤ end) → among p ns ≡ true → p ≤ end
-among_within [] end p within h = absurd (let no : false ≡ true = h in cc)
-among_within (n ∷ ns) end p within h =
-    or_split (n == p) (among p ns) (p ≤ end) h (λ e. subst (λ (m : ℕ). m ≤ end) (eqb-true n p e) (within 0 n refl)) (λ e. among_within ns end p (λ k m g. within (suc k) m g) e)
+-- what holds of each number holds of one that is among them
+among_each : (P : ℕ → Type 0) (ns : List ℕ) (p : ℕ) → ((k n : ℕ) → slice_get ns k ≡ Some n → P n) → among p ns ≡ true → P p
+among_each P [] p each h = absurd (let no : false ≡ true = h in cc)
+among_each P (n ∷ ns) p each h =
+    let here : P n = each 0 n refl in
+    let later : among p ns ≡ true → P p = among_each P ns p (λ k m g. each (suc k) m g) in
+    grind (arith, here, later)
 
 some_there : (n p : ℕ) → 1 ≤ n → among p (replicate n p) ≡ true
 some_there zero p h = absurd (omega (arith, h))
-some_there (suc n) p h = or_left (p == p) (among p (replicate n p)) (eq-eqb p p refl)
+some_there (suc n) p h = grind arith
 
 -- ---- shards
 
@@ -65,26 +57,21 @@ still_slowest {P} xs i old new first there h ahead =
     let here : get_or places i 0 ≡ old.place = number_there (λ (s : Shard P). s.place) xs i old there in
     ap (among first) (map-set (λ (s : Shard P). s.place) xs i new) ∙ among_set places i new.place first h (λ e. absurd (omega (arith, e, here, ahead)))
 
+-- what holds of each one's place holds of each of their places
+each_place : {P : Type 0} (Q : ℕ → Type 0) (xs : List (Shard P)) → ((k : ℕ) (s : Shard P) → slice_get xs k ≡ Some s → Q s.place) → (k n : ℕ) → slice_get (map (λ (s : Shard P). s.place) xs) k ≡ Some n → Q n
+each_place {P} Q xs each k n e = let m = mapped (λ (s : Shard P). s.place) xs k n e in subst Q m.is (each k m.one m.there)
+
 -- each of their places is at least where all stand
 pub places_from : {P : Type 0} (xs : List (Shard P)) (first : ℕ) → StandFrom first xs → (k n : ℕ) → slice_get (map (λ (s : Shard P). s.place) xs) k ≡ Some n → first ≤ n
-places_from {P} xs first from k n e = from_place (slice_get xs k) refl (sym (slice_get-map (λ (s : Shard P). s.place) xs k) ∙ e)
-  where
-    from_place : (o : Option (Shard P)) → slice_get xs k ≡ o → option_map (λ (s : Shard P). s.place) o ≡ Some n → first ≤ n
-    from_place None e g = absurd (cc)
-    from_place (Some s) e g = let same : s.place ≡ n = cc in subst (λ (m : ℕ). first ≤ m) same (from k s e)
+places_from xs first from = each_place (λ n. first ≤ n) xs from
 
 -- where some shard stands is not below where all do
 pub not_below : {P : Type 0} (xs : List (Shard P)) (first p : ℕ) → StandFrom first xs → some_stands_at p xs ≡ true → first ≤ p
-not_below {P} xs first p from h = among_from (map (λ (s : Shard P). s.place) xs) first p (places_from xs first from) h
+not_below {P} xs first p from h = among_each (λ n. first ≤ n) (map (λ (s : Shard P). s.place) xs) p (places_from xs first from) h
 
 -- nor above where all do
 pub not_above : {P : Type 0} (xs : List (Shard P)) (end p : ℕ) → StandWithin end xs → some_stands_at p xs ≡ true → p ≤ end
-not_above {P} xs end p within h =
-    among_within (map (λ (s : Shard P). s.place) xs) end p (λ k n e. place_within k n (slice_get xs k) refl (sym (slice_get-map (λ (s : Shard P). s.place) xs k) ∙ e)) h
-  where
-    place_within : (k n : ℕ) (o : Option (Shard P)) → slice_get xs k ≡ o → option_map (λ (s : Shard P). s.place) o ≡ Some n → n ≤ end
-    place_within k n None e g = absurd (cc)
-    place_within k n (Some s) e g = let same : s.place ≡ n = cc in subst (λ (m : ℕ). m ≤ end) same (within k s e)
+not_above {P} xs end p within h = among_each (λ n. n ≤ end) (map (λ (s : Shard P). s.place) xs) p (each_place (λ n. n ≤ end) xs within) h
 
 -- so the least of the places is where the entries begin
 pub greatest_of : {P : Type 0} (xs : List (Shard P)) (first p : ℕ) → StandFrom first xs → some_stands_at p xs ≡ true → some_stands_at (max first p) xs ≡ true

@@ -1,7 +1,5 @@
 -- Each answer that is taken from a shard is the one that the list gives.
-use Rattle.std.proofs.Common.{arith, ◌≡◌, ℕ, ◌<◌, ⊎_elim, Option, Some, None, List, [], ◌∷◌, ◌++◌, length, take, drop, find, option_map, slice_index, nat_lt, ◌==◌, refl, sym, ap, ◌∙◌, append-nil, append_assoc, take-append-drop, true≢false}
-use Rattle.std.proofs.lemmas.Bool.{cond-true, cond-false}
-use Rattle.bx_lists.proofs.Tests.{either}
+use Rattle.std.proofs.Common.{arith, Bool, cond, ◌≡◌, ℕ, ◌<◌, ⊎_elim, Option, Some, None, List, [], ◌∷◌, ◌++◌, length, take, drop, find, option_map, slice_index, nat_lt, ◌==◌, refl, sym, ap, ◌∙◌, append-nil, append_assoc, take-append-drop, true≢false}
 use Rattle.bx_message.specs.declared.reply.Answer.{Answer}
 use Rattle.bx_entry.specs.Words.{Listed, Filed, PlacedAnswer, answer_of, answer}
 use Rattle.bx_shard.specs.Words.{Setup, shard_at, given_of}
@@ -15,21 +13,18 @@ use Rattle.bx_shard.proofs.Given.{found_answer}
 
 -- ---- a filed answer is the list's
 
-found_over : (setup : Setup) (list : List Listed) (taken : List ℕ) (k n place : ℕ) (a : PlacedAnswer) (o : Option Filed) → 0 < setup.config.limits.batch →
-    find (λ (f : Filed). f.connect == place) (shard_at setup list taken k n).filed ≡ o → option_map answer_of o ≡ Some a → answer setup.config list place ≡ Some a
-found_over setup list taken k n place a None room e h = cc
-found_over setup list taken k n place a (Some f) room e h =
-    let same : answer_of f ≡ a = cc in
-    let there : answer setup.config (take n list) place ≡ Some a = found_answer setup list taken k n place f e ∙ ap Some same in
-    sym (ap (λ (ys : List Listed). answer setup.config ys place) (take-append-drop n list)) ∙ answer_more setup.config (take n list) (drop n list) place a room there
+found_over : (setup : Setup) (list : List Listed) (taken : List ℕ) (k n place : ℕ) (f : Filed) → 0 < setup.config.limits.batch →
+    find (λ (f : Filed). f.connect == place) (shard_at setup list taken k n).filed ≡ Some f → answer setup.config list place ≡ Some (answer_of f)
+found_over setup list taken k n place f room e =
+    sym (ap (λ (ys : List Listed). answer setup.config ys place) (take-append-drop n list)) ∙ answer_more setup.config (take n list) (drop n list) place (answer_of f) room (found_answer setup list taken k n place f e)
 
 filed_answer : (setup : Setup) (w : WorldState) (t : Ticket) (a : PlacedAnswer) → 0 < setup.config.limits.batch → filed_under setup w t ≡ Some a → answer setup.config w.list t.place ≡ Some a
 filed_answer setup w t a room e =
-    let filed : Option PlacedAnswer = option_map answer_of (find (λ (f : Filed). f.connect == t.place) (shard_at setup w.list w.taken t.shard (slice_index w.applied t.shard)).filed) in
-    either (nat_lt t.shard (length w.applied)) (answer setup.config w.list t.place ≡ Some a)
-    (λ h. found_over setup w.list w.taken t.shard (slice_index w.applied t.shard) t.place a (find (λ (f : Filed). f.connect == t.place) (shard_at setup w.list w.taken t.shard (slice_index w.applied t.shard)).filed) room refl
-    (sym (cond-true (nat_lt t.shard (length w.applied)) filed None h) ∙ e))
-    (λ h. let n : None ≡ Some a = sym (cond-false (nat_lt t.shard (length w.applied)) filed None h) ∙ e in cc)
+    under (nat_lt t.shard (length w.applied)) (find (λ (f : Filed). f.connect == t.place) (shard_at setup w.list w.taken t.shard (slice_index w.applied t.shard)).filed) (answer setup.config w.list t.place) a
+    (λ f h. found_over setup w.list w.taken t.shard (slice_index w.applied t.shard) t.place f room h) e
+  where
+    under : (b : Bool) (o : Option Filed) (given : Option PlacedAnswer) (a : PlacedAnswer) → ((f : Filed) → o ≡ Some f → given ≡ Some (answer_of f)) → cond b (option_map answer_of o) None ≡ Some a → given ≡ Some a
+    under b o given a found is = grind (arith, found)
 
 -- ---- schedules
 

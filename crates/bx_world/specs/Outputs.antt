@@ -1,8 +1,8 @@
 -- What the calls of the world answer, as outputs of steps.
 use Rattle.std.specs.Prelude.{Result, Ok, Err}
 use Rattle.bx_entry.specs.declared.input.Refusal.TheVariants.{Body, BadMoment, Ended}
-use Rattle.bx_entry.specs.declared.read.ReadFault.{ReadFault}
-use Rattle.bx_entry.specs.declared.read.ReadFault.TheVariants as reads
+use Rattle.bx_entry.specs.declared.read.ReadError.{ReadError}
+use Rattle.bx_entry.specs.declared.read.ReadError.TheVariants as reads
 use Rattle.bx_registry.specs.declared.plan.AdmitFault.{AdmitFault}
 use Rattle.bx_registry.specs.declared.plan.AdmitFault.TheVariants as plans
 use Rattle.bx_world.specs.declared.step.{Admitted.Admitted, AdmissionFault.AdmissionFault, Applied.Applied, StepOut.StepOut}
@@ -23,7 +23,7 @@ application applications.Level = outs.Level
 application applications.Memory = outs.OutOfMemory
 
 -- why messages were not read, as why they are not admitted
-abbrev pub of_reading : ReadFault → AdmissionFault
+abbrev pub of_reading : ReadError → AdmissionFault
 of_reading (reads.Body fault) = Refused (Body fault)
 of_reading reads.Memory = Memory
 

@@ -13,7 +13,7 @@ ghost use Rattle.bx_world.specs.declared.step.AdmissionFault.TheVariants.{Refuse
 
 use crate::backlog::Backlog;
 use crate::step::{AdmissionFault, Admitted};
-use bx_admission::{Ledger, Plan};
+use bx_admission::{Ledger, LedgerPlan};
 use bx_advice::{Config, ShardCount};
 use bx_entry::{Arrival, Entry, Placing, read_messages};
 use bx_shard::Shard;
@@ -24,12 +24,12 @@ use std::thread::Threads;
 
 /// Who is live, and the entries that some shard has not applied yet. Contracts see the list that they come of.
 #[derive(Drop)]
-pub(crate) struct Admission {
+pub(crate) struct Intake {
     ledger: Ledger,
     backlog: Backlog,
 }
 
-impl Model for Admission {
+impl Model for Intake {
     ghost use Rattle.std.specs.Prelude.{◌≡◌, ◌≤◌};
     ghost use Rattle.bx_entry.specs.Registry.{entries};
     ghost use Rattle.bx_world.specs.Admissions.{Admitting};
@@ -46,12 +46,12 @@ impl Model for Admission {
     ghost invariant = { λ a. a.backlog.contents.all ≡ entries a.ledger.config a.ledger.list };
 }
 
-impl Admission {
+impl Intake {
     /// An empty list.
-    pub(crate) fn new(alloc: Global, config: Config) -> Result<Admission, AllocError>
+    pub(crate) fn new(alloc: Global, config: Config) -> Result<Intake, AllocError>
         ensures { IfOk result (λ a. a ≡ record { config = config; shards = config.shards; list = []; first = 0 }) }
     {
-        Ok(Admission {
+        Ok(Intake {
             ledger: Ledger::new(alloc, config)?,
             backlog: Backlog::new(alloc),
         })
@@ -148,14 +148,18 @@ impl Admission {
 }
 
 // Takes what was planned at this very ledger into its list, and the entries into the backlog.
-fn take_in(ledger: &mut Ledger, backlog: &mut Backlog, plan: Plan) -> Result<Admitted, AllocError>
+fn take_in(
+    ledger: &mut Ledger,
+    backlog: &mut Backlog,
+    plan: LedgerPlan,
+) -> Result<Admitted, AllocError>
     requires { LeadsTo ledger.old plan.change plan.elements }
     ensures taken { IfOk result (λ a. (a ≡ record { first = plan.batch.first; slots = plan.slots })
         × (ledger.new ≡ record ledger.old { list = ledger.old.list ++ plan.elements; ready = ledger.new.ready })
         × (backlog.new.contents ≡ record { all = backlog.old.contents.all ++ plan.batch.entries; first = backlog.old.contents.first })) }
     ensures refused { OnErr result ((ledger.new ≡ ledger.old) × (backlog.new.contents ≡ backlog.old.contents)) }
 {
-    let Plan {
+    let LedgerPlan {
         batch,
         slots,
         elements,

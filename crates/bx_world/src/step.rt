@@ -3,7 +3,7 @@ ghost use Rattle.std.specs.Prelude.{◌≡◌};
 ghost use Rattle.bx_world.specs.Outputs.{admission, application, of_planning, of_reading};
 ghost use Rattle.bx_world.specs.declared.step.AdmissionFault.TheVariants.{Memory};
 
-use bx_entry::{Input, ReadFault, Refusal, Slot, Ticket};
+use bx_entry::{Input, ReadError, Refusal, Slot, Ticket};
 use bx_message::{Answer, Sequence};
 use bx_registry::AdmitFault;
 use std::alloc::{AllocError, AllocFailed};
@@ -94,13 +94,13 @@ impl StepOut {
     }
 }
 
-impl From<ReadFault> for AdmissionFault {
+impl From<ReadError> for AdmissionFault {
     ghost from_gives = { λ fault it. it ≡ of_reading fault };
 
-    fn from(fault: ReadFault) -> AdmissionFault {
+    fn from(fault: ReadError) -> AdmissionFault {
         match fault {
-            ReadFault::Body(fault) => AdmissionFault::Refused(Refusal::Body(fault)),
-            ReadFault::Memory => AdmissionFault::Memory,
+            ReadError::Body(fault) => AdmissionFault::Refused(Refusal::Body(fault)),
+            ReadError::Memory => AdmissionFault::Memory,
         }
     }
 }

@@ -8,7 +8,7 @@ ghost use Rattle.bx_admission.specs.Slots.{placed_by};
 ghost use Rattle.bx_world.specs.Refining.{EachRefines, IsApplication, StandFrom, StandWithin, some_stands_at};
 ghost use Rattle.bx_shard.specs.Props.{holds_props};
 
-use crate::admission::Admission;
+use crate::admission::Intake;
 use crate::step::{AdmissionFault, Admitted, Applied, Step, StepOut};
 use bx_advice::{Config, ShardCount};
 use bx_entry::{Arrival, Entry, Input, Placing, Ticket};
@@ -29,7 +29,7 @@ use std::thread::Threads;
 #[derive(Drop)]
 pub struct World<P: Placing> {
     placing: Arc<P>,
-    admission: Admission,
+    admission: Intake,
     shards: Vec<Shard<P>>,
     taken: History<u64>,
     ghost bounded: { length admission.list ≤ greatest_length },
@@ -69,7 +69,7 @@ impl<P: Placing> World<P> {
             shards.push(shard)?;
         }
         Ok(World {
-            admission: Admission::new(alloc, config)?,
+            admission: Intake::new(alloc, config)?,
             placing,
             shards,
             taken: History::new(),
@@ -292,7 +292,7 @@ impl<P: Placing> World<P> {
 }
 
 // Applies the next entry of the list to a shard, where the entries from its place on are kept. Nobody waits for its answers.
-fn apply_next<P: Placing>(alloc: Global, shard: &mut Shard<P>, admission: &Admission) -> Applied
+fn apply_next<P: Placing>(alloc: Global, shard: &mut Shard<P>, admission: &Intake) -> Applied
     requires kept { admission.now.first ≤ shard.old.place }
     requires end { length admission.now.list ≤ greatest_length }
     ensures { IsApplication P.place_of (entries admission.now.config admission.now.list) shard.old result shard.new }
@@ -309,7 +309,7 @@ fn apply_next<P: Placing>(alloc: Global, shard: &mut Shard<P>, admission: &Admis
 
 // Drops the entries that each of these shards has applied. One of them stood at this place before; where that is behind
 // the first entry that is kept, another one keeps it still.
-fn forget_applied<P: Placing>(admission: &mut Admission, shards: &[Shard<P>], place: u64)
+fn forget_applied<P: Placing>(admission: &mut Intake, shards: &[Shard<P>], place: u64)
     requires first { StandFrom admission.old.first shards.now }
     requires end { StandWithin (length admission.old.list) shards.now }
     requires some { 1 ≤ length shards.now }

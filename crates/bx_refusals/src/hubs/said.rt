@@ -3,7 +3,7 @@ use crate::hubs::Served;
 use crate::requests::{CONNECT, HANDSHAKE, SUBSCRIBE, add_line, arrival, reply, text_of};
 use crate::unlike::Unlike;
 use bx_entry::{Slot, Ticket};
-use bx_hub::{HubFault, Lagging, Pass, PostFault, Posted};
+use bx_hub::{HubFault, Lagging, Pass, PostFault, PostReceipt};
 use bx_message::Answer;
 use bx_window::Naming;
 use std::alloc::Global;
@@ -116,7 +116,7 @@ fn end_of<J: Naming>(
     alloc: Global,
     said: &mut Said,
     place: u64,
-    posted: Posted<J>,
+    posted: PostReceipt<J>,
 ) -> Result<PostEnd, Unlike> {
     if posted.first != place {
         return Err(Unlike::Wrong("posted elsewhere"));
@@ -152,10 +152,10 @@ pub fn tick<J: Naming, H: Wait + Drop, R: Wait>(
     pass: &mut Pass<J>,
     said: &mut Said,
 ) -> Result<(), Unlike> {
-    let ticked = match hub.tick(rt, alloc, pass, 0) {
-        Err(PostFault::Memory) => hub.tick(rt, alloc, pass, 0),
-        ticked => ticked,
-    };
+    let mut ticked = hub.tick(rt, alloc, pass, 0);
+    if ticked.as_ref().err().map(|why| why.fault()) == Some(PostFault::Memory) {
+        ticked = hub.tick(rt, alloc, pass, 0);
+    }
     match ticked {
         Ok(ticked) if ticked.place == 5 => {
             said.is_behind(ticked.brought.behind())?;

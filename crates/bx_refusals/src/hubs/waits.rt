@@ -4,7 +4,7 @@ use crate::hubs::said::{Said, connect, poll, post, tick};
 use crate::requests::{HANDSHAKE, PUBLISH};
 use crate::unlike::Unlike;
 use bx_entry::Ticket;
-use bx_held::{HeldConnect, HeldFault};
+use bx_held::{HeldFault, PendingAnswer};
 use bx_hub::{Pass, Watch};
 use bx_message::Answer;
 use bx_window::Naming;
@@ -59,12 +59,12 @@ fn is_there<J: Naming, H: Wait + Drop, R: Wait>(
 }
 
 // Who waits under the ticket, and has seen what the pass has.
-fn waiting<J: Naming>(pass: &Pass<J>, ticket: Ticket) -> Result<HeldConnect<J>, Unlike> {
+fn waiting<J: Naming>(pass: &Pass<J>, ticket: Ticket) -> Result<PendingAnswer<J>, Unlike> {
     let pass = Pass::of(pass.note());
     if ticket.place >= pass.seen() {
         return Err(Unlike::Wrong("a ticket beyond the list"));
     }
-    Ok(HeldConnect::new(pass, ticket))
+    Ok(PendingAnswer::new(pass, ticket))
 }
 
 // What a poll of the task gives.
@@ -73,7 +73,7 @@ fn polled<J: Naming, H: Wait + Drop, R: Wait>(
     alloc: Global,
     hub: &Served<J, H>,
     task: &MockTask,
-    held: &mut HeldConnect<J>,
+    held: &mut PendingAnswer<J>,
 ) -> Poll<Result<Answer, HeldFault>> {
     let (polled, _left) = task.enter(|cx| held.poll(rt, alloc, hub, cx));
     polled
@@ -92,7 +92,7 @@ fn look<J: Naming, H: Wait + Drop, R: Wait>(
     alloc: Global,
     hub: &Served<J, H>,
     task: &MockTask,
-    held: &mut HeldConnect<J>,
+    held: &mut PendingAnswer<J>,
 ) -> First {
     match polled(rt, alloc, hub, task, held) {
         Poll::Pending => First::Pending,
@@ -132,7 +132,7 @@ fn answer<J: Naming, H: Wait + Drop, R: Wait>(
     pass: &mut Pass<J>,
     ticket: Ticket,
     task: &MockTask,
-    held: &mut HeldConnect<J>,
+    held: &mut PendingAnswer<J>,
     said: &mut Said,
 ) -> Result<(), Unlike> {
     publish(rt, alloc, hub, task, said)?;

@@ -3,7 +3,7 @@ use crate::bench::TestHub;
 use crate::texts::{CONNECT, HANDSHAKE, SUBSCRIBE};
 use bx_cut::Bodies;
 use bx_entry::{Arrival, Ticket};
-use bx_held::{HeldConnect, HeldFault};
+use bx_held::{HeldFault, PendingAnswer};
 use bx_hub::Pass;
 use bx_message::{Answer, event_text, reply_text};
 use bx_window::Naming;
@@ -119,16 +119,16 @@ impl<J: Naming, H: Wait + Drop, R: Wait + Copy + Drop> Bench<J, H, R> {
     }
 
     /// Who waits under a ticket, and has seen what the caller has.
-    pub fn wait(&self, ticket: Ticket) -> Result<HeldConnect<J>, Fail> {
+    pub fn wait(&self, ticket: Ticket) -> Result<PendingAnswer<J>, Fail> {
         let pass = Pass::of(self.pass.note());
         if ticket.place >= pass.seen() {
             return Err(Fail::from("the ticket is beyond the list"));
         }
-        Ok(HeldConnect::new(pass, ticket))
+        Ok(PendingAnswer::new(pass, ticket))
     }
 
     /// What a poll by one of the tasks gives.
-    pub fn poll(&self, task: Task, held: &mut HeldConnect<J>) -> Poll<Result<Answer, HeldFault>> {
+    pub fn poll(&self, task: Task, held: &mut PendingAnswer<J>) -> Poll<Result<Answer, HeldFault>> {
         let (polled, _left) = self
             .task(task)
             .enter(|cx| held.poll(&self.rt, self.alloc, &*self.hub, cx));

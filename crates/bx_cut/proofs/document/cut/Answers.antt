@@ -1,10 +1,7 @@
 use Rattle.std.proofs.Common.{◌≡◌, ℕ, List, ◌++◌, Some, None, ap, ◌∙◌, rules}
-use Rattle.bx_cut.specs.Words.{listed, Object, split_object, pieces, pieces_of}
+use Rattle.bx_cut.specs.Words.{listed, Object, split_object, pieces}
 use Rattle.bx_cut.proofs.{Lists.found-none, Lists.found-last, Lists.found-more, Objects.Shortens-split_object}
 use Rattle.bx_cut.proofs.document.cut.Goals as goal
-
-pub loop-pieces-init : goal.loop-pieces-init
-loop-pieces-init c = (search rules, ap (λ (l : List Object). l ++ (listed split_object c.in-Some.rest.now).0) c.new-pieces.ensures.items ∙ ap (pieces_of c.args.text.now) c.in-Some.ensures.value)
 
 pub returns-in_default-past : goal.returns-in_default-past
 returns-in_default-past c =

@@ -1,10 +1,7 @@
 use Rattle.std.proofs.Common.{ℕ, List, Some, ap, ◌∙◌, map}
 use Rattle.bx_cut.specs.Words.{Member, member_view}
-use Rattle.bx_cut.proofs.{Reach.IsRest-of, Objects.object-none, Objects.object-open, Objects.object-some}
+use Rattle.bx_cut.proofs.{Objects.object-none, Objects.object-open, Objects.object-some}
 use Rattle.bx_cut.proofs.document.split_object.Goals as goal
-
-pub split_at-requires : goal.split_at-requires
-split_at-requires c = (IsRest-of _ _ _ c.in-Some-past.ensures.rest (IsRest-of _ _ _ c.in_ok-members.ensures.rest c.in-Some.ensures.rest)).boundary
 
 pub returns-in_default-clause-value : goal.returns-in_default-clause-value
 returns-in_default-clause-value c = object-none c.args.text.now (rw c.past_blank-text.ensures.value at c.in_default.ensures.value)

@@ -2,12 +2,8 @@ use Rattle.std.proofs.Common.{◌≡◌, ℕ, ◌+◌, ◌-◌, ◌≤◌, false
 use Rattle.std.proofs.lemmas.{List.take_all, List.length-drop, List.drop-drop, Grind.common_steps}
 use Rattle.json.specs.Lex.{in_string}
 use Rattle.json.specs.Align.{span}
-use Rattle.bx_cut.specs.Cut.{outside}
-use Rattle.bx_cut.proofs.Reach.{nest-outside, nest-end, nest-string}
+use Rattle.bx_cut.proofs.Reach.{nest-outside, nest-string}
 use Rattle.bx_cut.proofs.scan.nested_len.Goals as goal
-
-pub loop-at-init : goal.loop-at-init
-loop-at-init c = grind (arith, common_steps)
 
 pub loop-at-preserved-in-34 : goal.loop-at-preserved-in-34
 loop-at-preserved-in-34 c =
@@ -20,18 +16,3 @@ loop-at-preserved-in-34 c =
     let inside = nest-string false c.loop-at.open rest in
     let joined = drop-drop c.string_len-at.result next d in
     (grind (arith, common_steps, nest-outside d c.loop-at.at c.loop-at.open (omega arith), len, inside, joined), omega (arith, length-drop next d), omega arith)
-
-pub loop-at-preserved-in-123 : goal.loop-at-preserved-in-123
-loop-at-preserved-in-123 c = grind (arith, common_steps, nest-outside c.args.text.now c.loop-at.at c.loop-at.open (omega arith))
-
-pub returns-in-125-clause-value : goal.returns-in-125-clause-value
-returns-in-125-clause-value c = grind (arith, common_steps, nest-outside c.args.text.now c.loop-at.at c.loop-at.open (omega arith))
-
-pub loop-at-preserved-in-125-2 : goal.loop-at-preserved-in-125-2
-loop-at-preserved-in-125-2 c = grind (arith, common_steps, nest-outside c.args.text.now c.loop-at.at c.loop-at.open (omega arith))
-
-pub loop-at-preserved : goal.loop-at-preserved
-loop-at-preserved c = grind (arith, common_steps, c.in_default, nest-outside c.args.text.now c.loop-at.at c.loop-at.open (omega arith))
-
-pub returns-clause-value : goal.returns-clause-value
-returns-clause-value c = grind (arith, common_steps, nest-end c.args.text.now c.loop-at.at c.loop-at.open outside)

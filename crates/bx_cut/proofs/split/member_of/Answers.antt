@@ -1,12 +1,9 @@
-use Rattle.std.proofs.Common.{Option, None, ◌≡◌, ℕ, cond, List, [], ◌∷◌, ◌++◌, Bool, Some, option_map, sym, ap, ◌∙◌, refl, rules}
+use Rattle.std.proofs.Common.{Option, None, ◌≡◌, ℕ, cond, List, [], ◌∷◌, ◌++◌, Bool, Some, option_map, sym, ap, ◌∙◌, rules}
 use Rattle.std.specs.Borrow.{Bor}
 use Rattle.bx_cut.specs.Words.{Member, split_member, member_text, members, members_inside, last_member, member_view}
 use Rattle.bx_cut.proofs.{Lists.found-none, Lists.found-last, Lists.found-more, Lists.Shortens-split_member, Names.one_more, Insides.found_reads, Insides.found_bare}
 use Rattle.bx_cut.proofs.split.member_of.Goals as goal
 use Rattle.bx_cut.proofs.split.member_of.Goals.{then-spells, else-spells}
-
-pub loop-member-init : goal.loop-member-init
-loop-member-init c = (search rules, ([], ap members_inside c.in_ok-rest.ensures.value, refl))
 
 pub returns-in_default-past-clause-value : goal.returns-in_default-past-clause-value
 returns-in_default-past-clause-value c =

@@ -1,9 +1,9 @@
-use Rattle.std.proofs.Common.{◌≡◌, ◌+◌, ◌-◌, List, ℕ, drop, sym, ap, ◌∙◌, subst, arith}
-use Rattle.std.specs.{Char.encode_utf8, Str.IsCharBoundary}
+use Rattle.std.proofs.Common.{◌≡◌, ◌+◌, ◌-◌, List, ℕ, sym, ◌∙◌, subst, arith}
+use Rattle.std.specs.{Str.IsCharBoundary}
 use Rattle.std.proofs.lemmas.Str.{IsCharBoundary-after_ascii}
-use Rattle.json.specs.Text.{content, plain, prepend, after_backslash}
 use Rattle.bx_cut.proofs.Contents.{at-quote, at-backslash, at-fault}
 use Rattle.bx_cut.proofs.string.next_part.Goals as goal
+use Rattle.std.proofs.lemmas.Grind.{common_steps}
 
 pub returns-then-begins_with : goal.returns-then-begins_with
 returns-then-begins_with c = at-quote c.args.text.now (sym c.begins_with.ensures ∙ c.if-begins_with.true)
@@ -12,9 +12,7 @@ pub returns-in_default : goal.returns-in_default
 returns-in_default c = at-fault c.args.text.now c.requires (sym c.begins_with.ensures ∙ c.if-begins_with.false) c.in_default.ensures.value
 
 pub returns-in-None : goal.returns-in-None
-returns-in-None c =
-    let slash = at-backslash c.args.text.now c.in-Some.rest.now c.in-Some.ensures.value in
-    slash ∙ ap (content after_backslash) (sym c.as_bytes.ensures.value) ∙ c.in-None.ensures
+returns-in-None c = grind (arith, common_steps, at-backslash)
 
 pub split_at-requires : goal.split_at-requires
 split_at-requires c =
@@ -26,10 +24,4 @@ split_at-requires c =
     (subst (IsCharBoundary bytes) back (IsCharBoundary-after_ascii bytes (len - 1) c.as_bytes.ensures.utf8 (omega (arith, e.1, e.2)) e.3))
 
 pub returns-in-Some-escape : goal.returns-in-Some-escape
-returns-in-Some-escape c =
-    let e = c.in-Some-escape.ensures in
-    let rest = c.in-Some.rest.now in
-    let slash = at-backslash c.args.text.now rest c.in-Some.ensures.value in
-    let here : content after_backslash rest ≡ prepend (encode_utf8 c.in-Some-escape.c) (content plain (drop c.in-Some-escape.len rest)) = rw (c.as_bytes.ensures.value) at e.0 in
-    let next = ap (λ (s : List ℕ). prepend (encode_utf8 c.in-Some-escape.c) (content plain s)) (sym c.split_at.ensures.back) in
-    (slash ∙ here ∙ next, omega (arith, e.1, c.split_at.ensures.back_len, c.in-Some.ensures.shorter))
+returns-in-Some-escape c = grind (arith, common_steps, at-backslash)

@@ -2,46 +2,29 @@ use Rattle.std.proofs.Common.{option_and_then, None, ◌≡◌, ◌++◌, Some, 
 use Rattle.std.specs.Char.{encode_utf8}
 use Rattle.bx_cut.specs.Strings.{spelled}
 use Rattle.bx_cut.proofs.Contents.{plain-none, after-run, after-end, after-escape, after-fault}
-use Rattle.json.specs.Text.{content, plain}
+use Rattle.json.specs.Text.{content, plain, prepend}
 use Rattle.bx_cut.proofs.Insides.{text_is}
 use Rattle.bx_cut.proofs.string.text_of.Goals as goal
+use Rattle.bx_cut.proofs.string.text_of.Goals.{After-push_str}
+
+-- the plain bytes that are next stand behind the text so far
+ran : (c : After-push_str) → spelled c.args.value.now ≡ prepend (string_bytes c.loop-text.text ++ c.split_at.result.0.now) (content plain c.split_at.result.1.now)
+ran c = after-run c.loop-text.rest.now _ _ _ _ _ c.plain_len.ensures.value c.split_at.ensures.front c.split_at.ensures.back c.loop-text.invariant.1
 
 pub next_part-requires : goal.next_part-requires
-next_part-requires c =
-    let t = c.loop-text.rest.now in
-    rw (c.split_at.ensures.back, c.plain_len.ensures.value) (plain-none t)
+next_part-requires c = rw (c.split_at.ensures.back, c.plain_len.ensures.value) (plain-none c.loop-text.rest.now)
 
 pub returns-in-End-clause-value : goal.returns-in-End-clause-value
-returns-in-End-clause-value c =
-    let t = c.loop-text.rest.now in
-    let o = spelled c.args.value.now in
-    let run = c.split_at.result.0.now in
-    let after = c.split_at.result.1.now in
-    let front = string_bytes c.loop-text.text ++ run in
-    let ran = after-run t (string_bytes c.loop-text.text) run after c.plain_len.result o c.plain_len.ensures.value c.split_at.ensures.front c.split_at.ensures.back c.loop-text.invariant.1 in
-    ap Some c.in_ok-push_str.ensures.bytes ∙ sym (after-end front after o c.in-End.ensures ran)
+returns-in-End-clause-value c = ap Some c.in_ok-push_str.ensures.bytes ∙ sym (after-end _ _ _ c.in-End.ensures (ran (goal.at.returns-in-End-clause-value c).After-push_str))
 
 pub loop-text-preserved : goal.loop-text-preserved
 loop-text-preserved c =
-    let t = c.loop-text.rest.now in
-    let o = spelled c.args.value.now in
-    let run = c.split_at.result.0.now in
-    let after = c.split_at.result.1.now in
-    let front = string_bytes c.loop-text.text ++ run in
-    let ran = after-run t (string_bytes c.loop-text.text) run after c.plain_len.result o c.plain_len.ensures.value c.split_at.ensures.front c.split_at.ensures.back c.loop-text.invariant.1 in
-    let more = after-escape front after c.in-Escape.next.now c.in-Escape.c o c.in-Escape.ensures.0 ran in
+    let front = string_bytes c.loop-text.text ++ c.split_at.result.0.now in
     let bytes : string_bytes c.push.new.self ≡ front ++ encode_utf8 c.in-Escape.c = rw (← c.in_ok-push_str.ensures.bytes) c.in_ok-push-in-Escape.ensures.bytes in
-    (search rules, rw bytes more)
+    (search rules, rw bytes (after-escape _ _ _ _ _ c.in-Escape.ensures.0 (ran (goal.at.loop-text-preserved c).After-push_str)))
 
 pub returns-in-Fault-clause-value : goal.returns-in-Fault-clause-value
-returns-in-Fault-clause-value c =
-    let t = c.loop-text.rest.now in
-    let o = spelled c.args.value.now in
-    let run = c.split_at.result.0.now in
-    let after = c.split_at.result.1.now in
-    let front = string_bytes c.loop-text.text ++ run in
-    let ran = after-run t (string_bytes c.loop-text.text) run after c.plain_len.result o c.plain_len.ensures.value c.split_at.ensures.front c.split_at.ensures.back c.loop-text.invariant.1 in
-    sym (after-fault front after o c.in-Fault.ensures ran)
+returns-in-Fault-clause-value c = sym (after-fault _ _ _ c.in-Fault.ensures (ran (goal.at.returns-in-Fault-clause-value c).After-push_str))
 
 pub returns-in-End-clause-reads : goal.returns-in-End-clause-reads
 returns-in-End-clause-reads c d r bare = text_is c.args.value.now d r bare (Some (string_bytes c.push_str.new.self)) (returns-in-End-clause-value c)

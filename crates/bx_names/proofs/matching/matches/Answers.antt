@@ -1,19 +1,18 @@
-use Rattle.std.proofs.Common.{◌≡◌, refl, sym, ap, ◌∙◌, ◌++◌, rules}
+use Rattle.std.proofs.Common.{◌≡◌, sym, ap, ◌∙◌, ◌++◌, rules}
 use Rattle.bx_names.specs.Segments.{is_absolute}
 use Rattle.bx_names.proofs.FaultLemmas.{name_text}
 use Rattle.bx_names.proofs.MatchLemmas.{matches-miss, matches-exact, matches-many, matches-one, matches_at}
 use Rattle.bx_names.proofs.matching.matches.Goals as goal
 use Rattle.bx_names.proofs.matching.matches.Goals.{In-Some}
+use Rattle.std.proofs.lemmas.Grind.{common_steps}
+use Rattle.std.proofs.Common.{arith}
 
 -- the text of the name is that of the pattern's own segments, and the rest
 cut : (c : In-Some) → c.as_str.result.now ≡ c.split-tail.result.0.now ++ c.in-Some.rest.now
 cut c = c.in-Some.ensures.cases.1.1 ∙ ap (λ rest. c.split-tail.result.0.now ++ rest) (sym c.in-Some.ensures.cases.2)
 
 pub returns-in_default : goal.returns-in_default
-returns-in_default c =
-    let name = name_text c.as_str.result.now c.args.name.now c.as_str.ensures.reads_back in
-    let miss = matches-miss c.split-tail.result.0.now c.as_str.result.now c.split-tail.ensures.path name.path c.in_default.ensures.cases c.args.pattern.now.tail in
-    sym miss ∙ matches_at refl c.split-tail.ensures.own name.is
+returns-in_default c = grind (arith, common_steps, name_text, matches-miss, matches_at)
 
 pub returns-in-Exact : goal.returns-in-Exact
 returns-in-Exact c =

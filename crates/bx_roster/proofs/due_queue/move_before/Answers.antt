@@ -1,28 +1,16 @@
-use Rattle.std.proofs.Common.{◌≡◌, ◌+◌, ◌<◌, ◌++◌, ◌∷◌, [], Bool, List, vec_capacity, vec_len, heap_items, heap_len, IsPermutation, ap, cond, sym, subst, ◌∙◌, arith, ℕ, refl, append_assoc, append-nil}
-use Rattle.std.proofs.lemmas.{List.Sorted.IsPermutation-pop_more, List.Sorted.IsPermutation-refl, List.Elements.All-nil, List.Elements.All-push}
+use Rattle.std.proofs.Common.{◌≡◌, ◌+◌, ◌<◌, ◌++◌, ◌∷◌, [], Bool, List, vec_capacity, vec_len, heap_items, heap_len, IsPermutation, ap, cond, sym, subst, ◌∙◌, arith, ℕ, append_assoc, append-nil}
+use Rattle.std.proofs.lemmas.{List.Sorted.IsPermutation-pop_more}
 use Rattle.bx_roster.specs.Queues.{IsLateBy}
 use Rattle.bx_roster.specs.declared.due_queue.Due.{Due}
 use Rattle.bx_roster.proofs.due_queue.move_before.Goals as goal
+use Rattle.std.proofs.lemmas.Grind.{common_steps}
 
 -- one more entry that is late
 late-more : (moment : ℕ) (first late new : List Due) (due : Due) → new ≡ late ++ due ∷ [] → due.moment.0 < moment → IsLateBy moment first late → IsLateBy moment first new
-late-more moment first late new due is before by = (
-  by.0 ++ due ∷ [],
-  is ∙ ap (λ (ds : List Due). ds ++ due ∷ []) by.1 ∙ append_assoc first by.0 (due ∷ []),
-  All-push (λ (d : Due). d.moment.0 < moment) by.0 due by.2 before,
-)
+late-more moment first late new due is before by = grind (arith, common_steps, append_assoc)
 
 pub loop-due-init : goal.loop-due-init
-loop-due-init c =
-    let late : List Due = c.args.late.now.items in
-    let waiting : List Due = heap_items c.args.waiting.now in (
-      c.requires.heap,
-      refl,
-      omega arith,
-      c.requires.room,
-      IsPermutation-refl (late ++ waiting),
-      ([], sym (append-nil late), All-nil (λ (d : Due). d.moment.0 < c.args.moment)),
-    )
+loop-due-init c = grind (arith, common_steps, append-nil)
 
 pub loop-due-preserved : goal.loop-due-preserved
 loop-due-preserved c =

@@ -1,9 +1,11 @@
-use Rattle.std.proofs.Common.{◌≤◌, ◌∷◌, ap, refl, sym}
+use Rattle.std.proofs.Common.{◌≤◌, ◌∷◌, refl, sym}
 use Rattle.std.proofs.lemmas.{List.Elements.All-cons, List.Sorted.All-permutation}
-use Rattle.bx_roster.specs.Words.{with_live, entries}
+use Rattle.bx_roster.specs.Words.{entries}
 use Rattle.bx_roster.specs.declared.due_queue.Due.{Due}
 use Rattle.bx_roster.proofs.Dues.{filed-permuted, filed-moved, filed-gone, filed-absent, entries-filed, closed-swept, none-absent}
 use Rattle.bx_roster.proofs.table.settle.Goals as goal
+use Rattle.std.proofs.lemmas.Grind.{common_steps}
+use Rattle.std.proofs.Common.{arith}
 
 pub returns-in-Some-clause-filed : goal.returns-in-Some-clause-filed
 returns-in-Some-clause-filed c =
@@ -25,11 +27,7 @@ pub returns-in-Some-2-clause-filed : goal.returns-in-Some-2-clause-filed
 returns-in-Some-2-clause-filed c = rw c.close.ensures.closed (filed-gone c.args.due (entries c.args.queue.now) c.args.roster.now.members.live c.requires.filed)
 
 pub returns-in-Some-2-clause-swept : goal.returns-in-Some-2-clause-swept
-returns-in-Some-2-clause-swept c =
-    let ms = c.args.roster.now.members in
-    rw c.close.ensures.closed
-    (ap (with_live ms) (closed-swept c.args.due.number c.args.moment c.in-Some.moved 0 ms.opened ms.live c.if-moved-moment.false c.requires.roster.table (sym c.in-Some.ensures)))
+returns-in-Some-2-clause-swept c = grind (arith, common_steps, closed-swept)
 
 pub returns-in-None-clause-filed : goal.returns-in-None-clause-filed
-returns-in-None-clause-filed c =
-    filed-absent c.args.due (entries c.args.queue.now) c.args.roster.now.members.live (none-absent c.args.due.number c.args.roster.now.members.live (sym c.in-None.ensures)) c.requires.filed
+returns-in-None-clause-filed c = grind (arith, common_steps, filed-absent, none-absent)

@@ -1,8 +1,9 @@
-use Rattle.std.proofs.Common.{◌≡◌, ◌∷◌, ◌++◌, List, ap, subst, ◌∙◌, sym}
-use Rattle.bx_roster.specs.Queues.{AllFiled, entries}
-use Rattle.bx_roster.specs.declared.due_queue.Due.{Due}
+use Rattle.std.proofs.Common.{◌∷◌, ◌∙◌, sym}
+use Rattle.bx_roster.specs.Queues.{entries}
 use Rattle.bx_roster.proofs.Dues.{entries-taken, filed-permuted, settled}
 use Rattle.bx_roster.proofs.table.settle_late.Goals as goal
+use Rattle.std.proofs.lemmas.Grind.{common_steps}
+use Rattle.std.proofs.Common.{arith}
 
 pub settle-requires-clause-filed : goal.settle-requires-clause-filed
 settle-requires-clause-filed c =
@@ -12,12 +13,7 @@ settle-requires-clause-filed c =
     c.loop-due.invariant.1
 
 pub returns-clause-filed : goal.returns-clause-filed
-returns-clause-filed c =
-    let q = c.loop-due.queue in
-    let new = c.take_late.new.self in
-    let ended = c.in_default.ensures.late in
-    let same : entries q ≡ entries new = ap (λ (ds : List Due). ds ++ q.waiting) (ended.0 ∙ sym ended.1) ∙ ap (λ (ds : List Due). new.late ++ ds) (sym c.in_default.ensures.waiting) in
-    subst (λ (ds : List Due). AllFiled ds c.loop-due.roster.members.live) same c.loop-due.invariant.1
+returns-clause-filed c = grind (arith, common_steps)
 
 pub returns-clause-swept : goal.returns-clause-swept
 returns-clause-swept c =

@@ -1,8 +1,9 @@
-use Rattle.std.proofs.Common.{◌≡◌, ◌+◌, ◌-◌, ◌/◌, ap, sym, ◌∙◌, arith, length}
+use Rattle.std.proofs.Common.{◌≡◌, ◌+◌, ◌-◌, ◌/◌, ap, sym, ◌∙◌, arith, length, slice_get, None}
 use Rattle.std.specs.Option.{option_copied}
 use Rattle.std.proofs.lemmas.List.{length-map}
+use Rattle.circular_buffer.proofs.Places.{slice_get-some}
 use Rattle.bx_window.specs.Steps.{firsts_of}
-use Rattle.bx_window.proofs.Rings.{inside_all, below_it, above_it, behind, none_past}
+use Rattle.bx_window.proofs.Rings.{inside_all, below_it, above_it, behind}
 use Rattle.bx_window.proofs.reader.find.Goals as goal
 
 pub loop-low-init : goal.loop-low-init
@@ -19,7 +20,11 @@ loop-low-init g c =
 pub returns-in_default-clause-found : goal.returns-in_default-clause-found
 returns-in_default-clause-found g c low high =
     let middle = c.loop-low.low + (c.loop-low.high - c.loop-low.low) / 2 in
-    absurd (none_past c.args.ring.now.batches.items middle (omega (arith, c.loop-low.invariant.2, c.loop-low-test.true)) (sym c.get.ensures ∙ ap option_copied c.in_default.is))
+    let items = c.args.ring.now.batches.items in
+    let none : slice_get items middle ≡ None = sym c.get.ensures ∙ ap option_copied c.in_default.is in
+    let some = slice_get-some items middle (omega (arith, c.loop-low.invariant.2, c.loop-low-test.true)) in
+    let both = sym none ∙ some.1 in
+    cc
 
 pub loop-low-preserved-then-kept-place : goal.loop-low-preserved-then-kept-place
 loop-low-preserved-then-kept-place g c =

@@ -3,7 +3,7 @@ use Rattle.bx_entry.specs.Listing.{Listed, request}
 use Rattle.bx_registry.specs.Words.{changed, entries_in, Roll, after, found}
 use Rattle.bx_admission.specs.Ledgers.{Ledger, roll_at}
 use Rattle.bx_admission.specs.Slots.{admitted_slots, placed_by, placed_slot}
-use Rattle.bx_admission.specs.declared.plan.Plan.{Plan}
+use Rattle.bx_admission.specs.declared.plan.LedgerPlan.{LedgerPlan}
 use Rattle.bx_admission.proofs.{Planning.continues, Slotting.slots_by}
 use Rattle.bx_admission.proofs.ledger.Ledger.plan.Goals as goal
 
@@ -12,7 +12,7 @@ returns-clause-continues g c =
     let inside = c.self.inside in
     let added : List Listed = request c.args.moment c.args.nonce c.args.messages.now in
     let elements : c.post.new.self ≡ added = c.post.ensures ∙ ap (λ (l : List Listed). l ++ added) c.new-elements.ensures in
-    let made : Plan = record { batch = c.in_ok-planned.planned.batch; slots = c.in_ok-slots.slots; elements = c.post.new.self; change = c.in_ok-planned.planned.change } in
+    let made : LedgerPlan = record { batch = c.in_ok-planned.planned.batch; slots = c.in_ok-slots.slots; elements = c.post.new.self; change = c.in_ok-planned.planned.change } in
     let registry = c.plan.new.self in
     let same : registry.roll ≡ inside.registry.roll = c.in_ok-planned.ensures.same in
     continues inside.shards registry.roll inside.listing added registry.ready made (subst (λ (r : Roll). r ≡ roll_at r.config inside.listing) (sym same) c.self.invariant.2) elements

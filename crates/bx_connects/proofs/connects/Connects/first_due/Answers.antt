@@ -2,6 +2,8 @@ use Rattle.std.proofs.Common.{◌<◌, ℕ, Some, IfNone, sym, ◌∙◌, true�
 use Rattle.bx_connects.specs.Connects.{IsHeldUntil}
 use Rattle.bx_connects.proofs.HoldLemmas.{is_itself, is_such, earlier_or_later}
 use Rattle.bx_connects.proofs.connects.Connects.first_due.Goals as goal
+use Rattle.std.proofs.lemmas.Grind.{common_steps}
+use Rattle.std.proofs.Common.{arith}
 
 pub returns-in_err-session-clause-none : goal.returns-in_err-session-clause-none
 returns-in_err-session-clause-none c =
@@ -13,14 +15,4 @@ returns-in_err-session-clause-none c =
     ∙ c.in_err-session.ensures.none place session deadline early))))
 
 pub returns-clause-due : goal.returns-clause-due
-returns-clause-due c =
-    let place = c.in_ok-session.field-0-1 in
-    let deadline = c.in_ok-session.field-0-0 in
-    let session = c.in_ok-session.session in
-    record {
-      place = place;
-      deadline = deadline;
-      held = subst (λ known. IsHeldUntil known place session (Some deadline)) c.self.view_is
-          (is_such (record { held = c.self.inside.held; filed = c.self.inside.filed.entries }) place session deadline c.in_ok-session.ensures.held);
-      due = c.in_ok-session.ensures.due;
-    }
+returns-clause-due c = grind (arith, common_steps, is_such)

@@ -1,10 +1,11 @@
-use Rattle.std.proofs.Common.{rules, arith, ◌≡◌, ap, refl, ◌∙◌, length, not, nat_lt, ℕ, List, Option, Some, None, Bool, true, false, cond}
+use Rattle.std.proofs.Common.{rules, arith, ◌≡◌, ap, refl, ◌∙◌, length, not, nat_lt, ℕ, Option, Bool, false}
 use Rattle.bx_connects.specs.declared.{connects.FiledAnswer.FiledAnswer, held.HeldConnect.HeldConnect}
 use Rattle.std.proofs.lemmas.{List.Filters.length-filter_both, Map.Entries.lookup-filter-values, Map.Entries.option_filter}
 use Rattle.std.specs.Cmp.{nat_eq_equiv}
 use Rattle.indexmap.proofs.CallerLemmas.{filter-RetainsPairs}
-use Rattle.bx_connects.specs.Connects.{KnownConnects, connect_at, count_filed_below, filing_at, hold_at, is_both, kept_from, state_by, swept, unswept}
+use Rattle.bx_connects.specs.Connects.{count_filed_below, filing_at, is_both, kept_from, state_by, unswept}
 use Rattle.bx_connects.proofs.connects.Connects.sweep.Goals as goal
+use Rattle.std.proofs.lemmas.Grind.{common_steps}
 
 -- whether an answer stays
 abbrev stays : ℕ → FiledAnswer → Bool
@@ -20,22 +21,13 @@ kept_at c p =
     ap (λ es. filing_at es p) (kept c) ∙ lookup-filter-values nat_eq_equiv (stays c.args.before) p c.self.inside.filed.entries c.len-len.ensures.unique
 
 apart_still : (before : ℕ) (h : Option HeldConnect) (f : Option FiledAnswer) → is_both h f ≡ false → is_both h (option_filter (stays before) f) ≡ false
-apart_still before None f apart = refl
-apart_still before (Some h) None apart = refl
-apart_still before (Some h) (Some f) apart = absurd cc
+apart_still before h f h1 = grind (arith, common_steps)
 
 pub invariant_of-self : goal.invariant_of-self
-invariant_of-self c = (
-  λ p.
-      ap (λ o. is_both (hold_at c.self.inside.held p) o) (kept_at c p)
-      ∙ apart_still c.args.before (hold_at c.self.inside.held p) (filing_at c.self.inside.filed.entries p) (c.self.invariant.0 p),
-  omega (arith, c.self.invariant.1, c.retain.ensures.room.0),
-)
+invariant_of-self c = grind (arith, common_steps, kept_at, apart_still)
 
 pub returns-clause-swept : goal.returns-clause-swept
-returns-clause-swept c =
-    let only : List (ℕ × FiledAnswer) → KnownConnects = λ es. record { held = c.self.inside.held; filed = es } in
-    ap only (kept c) ∙ ap (swept c.args.before) c.self.view_is
+returns-clause-swept c = grind (arith, common_steps, kept)
 
 pub returns-clause-count : goal.returns-clause-count
 returns-clause-count c =
@@ -44,16 +36,7 @@ returns-clause-count c =
     omega (arith, ap length (kept c), both, count, c.len-len.ensures.len, c.len.ensures.len)
 
 state_kept : (before : ℕ) (h : Option HeldConnect) (f : Option FiledAnswer) → state_by h (option_filter (stays before) f) ≡ unswept before (state_by h f)
-state_kept before (Some h) f = refl
-state_kept before None None = refl
-state_kept before None (Some f) = by (stays before f)
-  where
-    by : (b : Bool) → state_by None (cond b (Some f) None) ≡ cond b (state_by None (Some f)) None
-    by true = refl
-    by false = refl
+state_kept before h f = grind (arith, common_steps)
 
 pub returns-clause-kept : goal.returns-clause-kept
-returns-clause-kept c = λ p.
-    ap (λ o. state_by (hold_at c.self.inside.held p) o) (kept_at c p)
-    ∙ state_kept c.args.before (hold_at c.self.inside.held p) (filing_at c.self.inside.filed.entries p)
-    ∙ ap (λ known. unswept c.args.before (connect_at known p)) c.self.view_is
+returns-clause-kept c = grind (arith, common_steps, kept_at, state_kept)

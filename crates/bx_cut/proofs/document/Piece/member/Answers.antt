@@ -1,7 +1,7 @@
 use Rattle.std.proofs.Common.{◌≡◌, ℕ, ◌+◌, cond, List, [], ◌∷◌, ◌++◌, Bool, Some, option_map, map, take, get_or, sym, ap, ◌∙◌, arith}
-use Rattle.std.proofs.lemmas.List.{map-append, take_more, take_all}
+use Rattle.std.proofs.lemmas.List.{map-append, take_more}
 use Rattle.std.specs.Borrow.{Bor}
-use Rattle.bx_cut.specs.Words.{Object, last_member, member_view}
+use Rattle.bx_cut.specs.Words.{last_member, member_view}
 use Rattle.bx_cut.specs.declared.split.Member as code
 use Rattle.bx_cut.proofs.Names.{one_more}
 use Rattle.bx_cut.proofs.document.Piece.member.Goals as goal
@@ -29,10 +29,3 @@ loop-member-preserved c =
     let taken : map member_view (take (i + 1) items) ≡ seen ++ m ∷ [] =
     ap (map member_view) (take_more items i no_member (omega arith)) ∙ map-append member_view (take i items) (get_or items i no_member ∷ []) in
     one_more c.args.name.now seen m before after c.spells.result c.spells.ensures.value c.loop-member.invariant step ∙ ap (last_member c.args.name.now) (sym taken)
-
-pub returns : goal.returns
-returns c =
-    let items = c.deref-member-items.result.now in
-    let whole = take_all c.loop-member.member-index items (omega arith) in
-    let members = ap (map member_view) (whole ∙ c.deref-member-items.ensures.value) ∙ ap (λ (o : Object). o.1) c.self.view_is in
-    c.loop-member.invariant ∙ ap (last_member c.args.name.now) members

@@ -7,7 +7,7 @@ use Rattle.bx_entry.specs.Words.{ReadInput, Request, added_by, refusal_of, Liste
 use Rattle.bx_entry.proofs.RequestLemmas.{length-listed}
 use Rattle.bx_window.specs.Steps.{list_of}
 use Rattle.bx_hub.specs.Posts.{AreSlotsAt, IsAdmittedAt}
-use Rattle.bx_hub.specs.declared.admission.Admitted.{Admitted}
+use Rattle.bx_hub.specs.declared.admission.Receipt.{Receipt}
 use Rattle.bx_hub.proofs.Posts.{IsSlotted, admitted_by, none_added, slots_by, unpublished_result}
 use Rattle.bx_hub.proofs.admission.Admission.list.Goals as goal
 
@@ -40,7 +40,7 @@ returns-clause-admitted g c =
     let kept : c.plan.new.self.list ≡ d.ledger.list = ap (λ (l : Ledger). l.list) c.plan.ensures.same in
     let allowed = planned_taken c.args.moment (length d.ledger.list + length c.args.messages.now) c.plan.result p c.in_ok-plan.was c.plan.ensures.fault in
     IfOk-weaker c.publish.result (λ a. (a ≡ record { first = p.batch.first; slots = p.slots }) × (list_of new ≡ list_of c.tell.new.pass ++ p.elements)) (λ a. IsAdmittedAt input a.first c.args.pass.now new)
-    (λ a t. subst (λ (n : ℕ). IsAdmittedAt input n c.args.pass.now new) (ap (λ (x : Admitted). x.first) (sym t.0))
+    (λ a t. subst (λ (n : ℕ). IsAdmittedAt input n c.args.pass.now new) (ap (λ (x : Receipt). x.first) (sym t.0))
     (admitted_by input c.plan.new.self p c.args.pass.now c.tell.new.pass new (kept ∙ is) c.in_ok-plan.ensures.continues c.in_ok-plan.ensures.elements
     (ap (λ (xs : List Listed). refusal_of (length xs) input) kept ∙ allowed) c.tell.ensures.seen t.1)) c.publish.ensures.taken
 
@@ -57,7 +57,7 @@ returns-clause-slots g c =
     let first : p.batch.first ≡ length d.ledger.list = c.in_ok-plan.ensures.continues.first ∙ ap (λ (xs : List Listed). length xs) kept in
     let slots = subst (λ (f : ℕ → ℕ → ℕ). IsSlotted f d.ledger p) c.requires.placing c.in_ok-plan.ensures.slots in
     IfOk-weaker c.publish.result (λ a. (a ≡ record { first = p.batch.first; slots = p.slots }) × (list_of new ≡ list_of c.tell.new.pass ++ p.elements)) (λ a. AreSlotsAt (placed_by config config.shards placing) input a.first new a.slots)
-    (λ a t. subst (λ (x : Admitted). AreSlotsAt (placed_by config config.shards placing) input x.first new x.slots) (sym t.0)
+    (λ a t. subst (λ (x : Receipt). AreSlotsAt (placed_by config config.shards placing) input x.first new x.slots) (sym t.0)
     (slots_by placing config input d.ledger p c.tell.new.pass new d.config d.counted is first slots c.in_ok-plan.ensures.elements t.1)) c.publish.ensures.taken
 
 pub returns-clause-refused : goal.returns-clause-refused

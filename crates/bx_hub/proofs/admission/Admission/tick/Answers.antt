@@ -5,7 +5,7 @@ use Rattle.bx_admission.proofs.Faults.{planned_taken}
 use Rattle.bx_entry.specs.Inputs.{ReadInput, Tick}
 use Rattle.bx_window.specs.Steps.{list_of}
 use Rattle.bx_hub.specs.Posts.{IsAdmittedAt}
-use Rattle.bx_hub.specs.declared.admission.Admitted.{Admitted}
+use Rattle.bx_hub.specs.declared.admission.Receipt.{Receipt}
 use Rattle.bx_hub.proofs.Posts.{admitted_by, unpublished_result}
 use Rattle.bx_hub.proofs.admission.Admission.tick.Goals as goal
 
@@ -18,7 +18,7 @@ returns-clause-admitted g c =
     let is : d.ledger.list ≡ list_of c.tell.new.pass = d.listed ∙ ap list_of (sym c.in_ok-tell.ensures.whole.0) in
     let allowed = planned_taken c.args.moment (length d.ledger.list + 1) c.plan_tick.result p c.in_ok-plan.was c.plan_tick.ensures.fault in
     IfOk-weaker c.publish.result (λ a. (a ≡ record { first = p.batch.first; slots = p.slots }) × (list_of new ≡ list_of c.tell.new.pass ++ p.elements)) (λ a. IsAdmittedAt input a.first c.args.pass.now new)
-    (λ a t. subst (λ (n : ℕ). IsAdmittedAt input n c.args.pass.now new) (ap (λ (x : Admitted). x.first) (sym t.0))
+    (λ a t. subst (λ (n : ℕ). IsAdmittedAt input n c.args.pass.now new) (ap (λ (x : Receipt). x.first) (sym t.0))
     (admitted_by input d.ledger p c.args.pass.now c.tell.new.pass new is c.in_ok-plan.ensures.continues c.in_ok-plan.ensures.elements allowed c.tell.ensures.seen t.1)) c.publish.ensures.taken
 
 pub returns-clause-refused : goal.returns-clause-refused

@@ -1,7 +1,7 @@
 use Rattle.std.proofs.Common.{◌≡◌, ◌≤◌, ◌∙◌, List, length, ap, arith}
 use Rattle.bx_shard.specs.Words.{state, connect_in}
 use Rattle.bx_window.specs.Steps.{list_of}
-use Rattle.bx_window.specs.declared.law.Step.{Step}
+use Rattle.bx_window.specs.declared.law.LogStep.{LogStep}
 use Rattle.bx_hub.proofs.Waking.{woken_along}
 use Rattle.bx_hub.proofs.desk.Desk.go_on.Goals as goal
 
@@ -18,7 +18,7 @@ loop-alloc-preserved g c =
     let next = c.next_batch.ensures.same in
     let one = c.apply_batch.ensures in
     let note : c.apply_batch.new.self.note ≡ c.args.self.now.note = one.same.0 ∙ next.0 ∙ inv.0 in
-    let ends : length (list_of c.apply_batch.new.self.note) ≡ length (list_of c.args.self.now.note) = ap (λ (xs : List Step). length (list_of xs)) note in (
+    let ends : length (list_of c.apply_batch.new.self.note) ≡ length (list_of c.args.self.now.note) = ap (λ (xs : List LogStep). length (list_of xs)) note in (
       note,
       omega (arith, c.apply_batch.new.self.within, ends, c.len-end.ensures.end),
       one.kept.0 ∙ ap (λ s. s.index) next.1 ∙ inv.2,

@@ -1,17 +1,14 @@
-use Rattle.std.proofs.Common.{◌≡◌, string_bytes}
+use Rattle.std.proofs.Common.{◌≡◌}
 use Rattle.std.specs.Bool.{Decides, one_answer}
-use Rattle.bx_names.specs.Words.{segments, same_segments, same_segments-decides}
+use Rattle.bx_names.specs.Words.{same_segments, same_segments-decides}
 use Rattle.bx_names.proofs.{PathLemmas.path_from_absolute, PathLemmas.texts-decide, FaultLemmas.sound_text}
 use Rattle.bx_names.proofs.name.ChannelNamePartialEq.eq.Goals as goal
 use Rattle.bx_names.proofs.name.ChannelNamePartialEq.eq.Goals.{After-eq}
+use Rattle.std.proofs.lemmas.Grind.{common_steps}
+use Rattle.std.proofs.Common.{arith}
 
 decides : (c : After-eq) → Decides c.eq.result (c.args.self.now ≡ c.args.other.now)
-decides c =
-    let s = string_bytes c.self.inside.text in
-    let t = string_bytes c.other.inside.text in
-    let s_sound = sound_text s (segments s) c.self.invariant in
-    let t_sound = sound_text t (segments t) c.other.invariant in
-    texts-decide s t c.args.self.now c.args.other.now c.eq.result c.eq.ensures (path_from_absolute s s_sound.absolute) (path_from_absolute t t_sound.absolute) c.self.view_is c.other.view_is
+decides c = grind (arith, common_steps, sound_text, texts-decide, path_from_absolute)
 
 pub returns-clause-same : goal.returns-clause-same
 returns-clause-same c = decides (goal.at.returns-clause-same c).After-eq

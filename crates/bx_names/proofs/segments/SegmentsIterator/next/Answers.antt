@@ -4,6 +4,8 @@ use Rattle.bx_names.specs.Segments.{parts}
 use Rattle.bx_names.proofs.PathLemmas.{parts_at_slash, parts_at_end}
 use Rattle.bx_names.proofs.segments.SegmentsIterator.next.Goals as goal
 use Rattle.bx_names.proofs.segments.SegmentsIterator.next.Goals.{In-Some}
+use Rattle.std.proofs.lemmas.Grind.{common_steps}
+use Rattle.std.proofs.Common.{arith}
 
 left_at_slash : (c : In-Some) → c.args.self.now ≡ c.in-Some.first.now ∷ parts c.in-Some.others.now
 left_at_slash c = sym c.self.view_is ∙ ap (λ r. option_map_or (λ rest. parts rest.now) r []) c.in_ok-rest.was ∙ parts_at_slash c.in_ok-rest.rest.now (c.in-Some.first, c.in-Some.others) c.in-Some.ensures.cases
@@ -20,6 +22,4 @@ pub returns-in-None-clause-steps : goal.returns-in-None-clause-steps
 returns-in-None-clause-steps c = sym c.self.view_is ∙ ap (λ r. option_map_or (λ rest. parts rest.now) r []) c.in_ok-rest.was ∙ parts_at_end c.in_ok-rest.rest.now c.in-None.ensures.cases
 
 pub returns-in-None-clause-goes : goal.returns-in-None-clause-goes
-returns-in-None-clause-goes c =
-    let fewer = ap length (sym c.self.view_is ∙ ap (λ r. option_map_or (λ rest. parts rest.now) r []) c.in_ok-rest.was ∙ parts_at_end c.in_ok-rest.rest.now c.in-None.ensures.cases) in
-    search rules
+returns-in-None-clause-goes c = grind (arith, common_steps, parts_at_end)

@@ -6,11 +6,12 @@ use Rattle.bx_roster.specs.Tables.{known_at}
 use Rattle.bx_registry.specs.Words.{number_in, Drafted, IsDrafted, IsSender, members_of}
 use Rattle.bx_registry.proofs.Digits.{Finds, finds}
 use Rattle.bx_registry.proofs.draft.Draft.live_with_id.Goals as goal
+use Rattle.std.proofs.lemmas.Grind.{common_steps}
+use Rattle.std.proofs.Common.{arith}
 
 -- what the number at the id's end finds of the sessions behind the edits, as they are seen
 found : (d seen : Drafted) (text : List ℕ) (number : ℕ) {count opened : ℕ} → IsDrafted d.base d.edits count opened → d ≡ seen → number ≡ number_in text → Finds (members_of seen).live text (known_at number (members_of seen).live)
-found d seen text number i same e =
-    subst (λ (x : Drafted). Finds (members_of x).live text (known_at number (members_of x).live)) same (rw e (finds 0 (members_of d).opened (members_of d).live text i.table (rw (← i.numbered) i.small) i.all))
+found d seen text number i same e = grind (arith, common_steps, finds)
 
 none-some : (o : Option (List ℕ × Bool)) (k : List ℕ × Bool) → None ≡ o → o ≡ Some k → ⊥
 none-some o k e f = cc

@@ -1,18 +1,15 @@
-use Rattle.std.proofs.Common.{ℕ, ◌<◌, List, length, fold, ap, sym, subst, ◌∙◌, arith}
+use Rattle.std.proofs.Common.{ℕ, List, fold, ap, sym, subst, ◌∙◌, arith}
 use Rattle.bx_entry.specs.Registry.{Registered}
-use Rattle.bx_roster.specs.Words.{Members, edited, CanEdit, IsNext}
+use Rattle.bx_roster.specs.Words.{Members, edited, CanEdit}
 use Rattle.bx_roster.specs.declared.edit.Edit.{Edit}
 use Rattle.bx_registry.specs.Drafts.{Drafted, IsDrafted, members_of}
 use Rattle.bx_registry.proofs.Drafting.{limit-same, pushed-open, pushed-extend, pushed-close}
 use Rattle.bx_registry.proofs.draft.Draft.push.Goals.{in-Open, in-Extend, in-Close}
 use Rattle.bx_registry.proofs.draft.Draft.push.Goals as goal
+use Rattle.std.proofs.lemmas.Grind.{common_steps}
 
 pub overflow_add-count : goal.overflow_add-count
-overflow_add-count c =
-    let next : IsNext (members_of c.args.self.now) c.in-Open.session = subst (λ (e : Edit). CanEdit (members_of c.args.self.now) e) c.in-Open.is c.requires in
-    let room : length (fold edited c.self.inside.table.now.members c.self.inside.edits).live < (fold edited c.self.inside.table.now.members c.self.inside.edits).limit =
-    subst (λ (d : Drafted). length (members_of d).live < (members_of d).limit) (sym c.self.view_is) next.room in
-    omega (arith, room, c.self.invariant.counted, c.self.invariant.limit, limit-same c.self.inside.table.now.members c.self.inside.edits)
+overflow_add-count c = grind (arith, common_steps, limit-same)
 
 pub invariant_of-self-2 : goal.invariant_of-self-2
 invariant_of-self-2 c =

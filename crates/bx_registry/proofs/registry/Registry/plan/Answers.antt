@@ -10,6 +10,7 @@ use Rattle.bx_registry.specs.Words.{Roll, IsPlannedAt, Standing}
 use Rattle.bx_entry.proofs.RequestLemmas.{length-listed}
 use Rattle.bx_registry.proofs.{Opening.few-opened, Planning.admitted, Planning.planned-at, Planning.planned-after}
 use Rattle.bx_registry.proofs.registry.Registry.plan.Goals as goal
+use Rattle.std.proofs.lemmas.Grind.{common_steps}
 
 pub returns-clause-planned : goal.returns-clause-planned
 returns-clause-planned c =
@@ -33,10 +34,4 @@ returns-clause-planned c =
     }
 
 pub returns-clause-change : goal.returns-clause-change
-returns-clause-change c =
-    let list : List Listed = request c.args.moment c.args.nonce c.args.messages.now in
-    let n = length-listed c.args.moment c.args.nonce (length c.args.messages.now == 1) false c.args.messages.now in
-    let end : ℕ = c.self.inside.length + length c.args.messages.now in
-    let long : end ≡ c.self.inside.length + length list = omega (arith, n) in
-    rw (← c.self.view_is) (planned-after c.self.inside.config c.self.inside.table.members c.self.inside.clock c.self.inside.length c.new-draft.result c.plan_all.new.draft c.into_edits-edits.result list c.in_ok-planning.planning.entries c.in_ok-planning.planning.slots c.in_ok-planning.planning.clock end
-    c.new-draft.ensures c.in_ok-planning.ensures.base c.into_edits-edits.ensures.edits c.in_ok-planning.ensures.planned long)
+returns-clause-change c = grind (arith, common_steps, length-listed, planned-after)

@@ -1,22 +1,14 @@
-use Rattle.std.proofs.Common.{rules, ◌≡◌, ◌&&◌, cond, Option, Some, slice_get, nat_eq, refl, arith}
-use Rattle.std.proofs.lemmas.Option.{slice_get_read}
+use Rattle.std.proofs.Common.{rules, ◌≡◌, ◌&&◌, cond, Option, nat_eq, refl}
 use Rattle.std.specs.Option.{option_or}
 use Rattle.bx_connects.specs.declared.connects.ConnectState.{ConnectState}
 use Rattle.bx_connects.specs.Connects.{held_by}
 use Rattle.bx_reshard.specs.Heirs.{connect_there}
-use Rattle.bx_reshard.proofs.HeirLemmas.{at_each, on_ok, same_sessions}
+use Rattle.bx_reshard.proofs.HeirLemmas.{at_each, on_ok, row_here, same_sessions}
 use Rattle.bx_reshard.proofs.heirs.Heirs.lend_connect.Goals as goal
-use Rattle.bx_reshard.proofs.heirs.Heirs.lend_connect.Goals.{In-Some}
-
--- the shard of this index stands in the row
-here : (c : In-Some) → slice_get c.args.self.now.shards.items c.args.slot ≡ Some c.in-Some.heir.now
-here c =
-    let row = c.args.self.now.shards in
-    slice_get_read row.items row.len c.args.slot c.in-Some.heir.now (omega (arith, row.ok.0)) (omega (arith, row.ok.0, c.requires.within)) c.in-Some.ensures.value
 
 pub returns-clause-connects : goal.returns-clause-connects
 returns-clause-connects c =
-    let there = here (goal.at.returns-clause-connects c).In-Some in
+    let there = row_here c.args.self.now.shards c.args.slot c.in-Some.heir.now c.requires.within c.in-Some.ensures.value in
     let held : Option ConnectState = held_by c.args.session c.args.deadline in
     on_ok c.lend_connect.result
     (λ lent k p. at_each (λ o u b. connect_there u p ≡ cond (b && nat_eq c.args.place p) (option_or (connect_there o p) held) (connect_there o p)) c.args.self.now.shards.items c.args.slot c.in-Some.heir.now c.lend_connect.new.self c.requires.within there
@@ -25,4 +17,5 @@ returns-clause-connects c =
 
 pub returns-clause-sessions : goal.returns-clause-sessions
 returns-clause-sessions c =
-    same_sessions c.args.self.now.shards.items c.args.slot c.in-Some.heir.now c.lend_connect.new.self c.requires.within (here (goal.at.returns-clause-sessions c).In-Some) c.lend_connect.ensures.others.0 (λ n. search rules) (λ n. search rules)
+    let there = row_here c.args.self.now.shards c.args.slot c.in-Some.heir.now c.requires.within c.in-Some.ensures.value in
+    same_sessions c.args.self.now.shards.items c.args.slot c.in-Some.heir.now c.lend_connect.new.self c.requires.within there c.lend_connect.ensures.others.0 (λ n. search rules) (λ n. search rules)

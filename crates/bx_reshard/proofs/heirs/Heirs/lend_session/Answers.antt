@@ -1,32 +1,24 @@
-use Rattle.std.proofs.Common.{◌≡◌, ◌&&◌, ◌||◌, not, cond, is_some, Some, None, [], slice_get, nat_eq, refl, sym, ap, ◌∙◌, arith}
-use Rattle.std.proofs.lemmas.Option.{slice_get_read}
+use Rattle.std.proofs.Common.{◌≡◌, ◌&&◌, ◌||◌, not, cond, is_some, None, [], nat_eq, refl, sym, ap, ◌∙◌}
 use Rattle.bx_connects.specs.Connects.{connect_at}
 use Rattle.bx_reshard.specs.Heirs.{patterns_there, kept_there}
-use Rattle.bx_reshard.proofs.HeirLemmas.{at_each, on_ok, same_connects}
+use Rattle.bx_reshard.proofs.HeirLemmas.{at_each, on_ok, row_here, same_connects}
 use Rattle.bx_reshard.proofs.heirs.Heirs.lend_session.Goals as goal
-use Rattle.bx_reshard.proofs.heirs.Heirs.lend_session.Goals.{In-Some}
-
--- the shard of this index stands in the row
-here : (c : In-Some) → slice_get c.args.self.now.shards.items c.args.slot ≡ Some c.in-Some.heir.now
-here c =
-    let row = c.args.self.now.shards in
-    slice_get_read row.items row.len c.args.slot c.in-Some.heir.now (omega (arith, row.ok.0)) (omega (arith, row.ok.0, c.requires.within)) c.in-Some.ensures.value
 
 pub lend-requires : goal.lend-requires
 lend-requires c =
-    let there = here (goal.at.lend-requires c).In-Some in
+    let there = row_here c.args.self.now.shards c.args.slot c.in-Some.heir.now c.requires.within c.in-Some.ensures.value in
     record { clean = λ n none. sym (ap (λ o. patterns_there o n) there) ∙ c.requires.clean c.args.slot n (ap (λ o. kept_there o n) there ∙ none) }
 
 pub returns-clause-sessions : goal.returns-clause-sessions
 returns-clause-sessions c =
-    let there = here (goal.at.returns-clause-sessions c).In-Some in
+    let there = row_here c.args.self.now.shards c.args.slot c.in-Some.heir.now c.requires.within c.in-Some.ensures.value in
     on_ok c.lend.result
     (λ lent k n. at_each (λ o u b. is_some (kept_there u n) ≡ ((b && nat_eq c.args.number n) || is_some (kept_there o n))) c.args.self.now.shards.items c.args.slot c.in-Some.heir.now c.lend.new.self c.requires.within there (lent n) (λ o. refl) k)
     c.lend.ensures.sessions
 
 pub returns-clause-patterns : goal.returns-clause-patterns
 returns-clause-patterns c =
-    let there = here (goal.at.returns-clause-patterns c).In-Some in
+    let there = row_here c.args.self.now.shards c.args.slot c.in-Some.heir.now c.requires.within c.in-Some.ensures.value in
     on_ok c.lend.result
     (λ lent k n. at_each (λ o u b. patterns_there u n ≡ cond ((b && nat_eq c.args.number n) && not (is_some (kept_there o n))) c.args.patterns.now (patterns_there o n)) c.args.self.now.shards.items c.args.slot c.in-Some.heir.now c.lend.new.self c.requires.within there
     (lent n) (λ o. refl) k)
@@ -34,7 +26,7 @@ returns-clause-patterns c =
 
 pub returns-clause-clean : goal.returns-clause-clean
 returns-clause-clean c =
-    let there = here (goal.at.returns-clause-clean c).In-Some in
+    let there = row_here c.args.self.now.shards c.args.slot c.in-Some.heir.now c.requires.within c.in-Some.ensures.value in
     on_ok c.lend.result
     (λ clean k n. at_each (λ o u b. (kept_there o n ≡ None → patterns_there o n ≡ []) → kept_there u n ≡ None → patterns_there u n ≡ []) c.args.self.now.shards.items c.args.slot c.in-Some.heir.now c.lend.new.self c.requires.within there
     (λ before. clean n) (λ o before. before) k (c.requires.clean k n))
@@ -42,4 +34,5 @@ returns-clause-clean c =
 
 pub returns-clause-connects : goal.returns-clause-connects
 returns-clause-connects c =
-    same_connects c.args.self.now.shards.items c.args.slot c.in-Some.heir.now c.lend.new.self c.requires.within (here (goal.at.returns-clause-connects c).In-Some) c.lend.ensures.others.0 (λ p. ap (λ x. connect_at x p) c.lend.ensures.others.1)
+    let there = row_here c.args.self.now.shards c.args.slot c.in-Some.heir.now c.requires.within c.in-Some.ensures.value in
+    same_connects c.args.self.now.shards.items c.args.slot c.in-Some.heir.now c.lend.new.self c.requires.within there c.lend.ensures.others.0 (λ p. ap (λ x. connect_at x p) c.lend.ensures.others.1)

@@ -1,0 +1,72 @@
+//! Why nothing was listed.
+ghost use Rattle.std.specs.Prelude.{◌≡◌, None, true, false};
+ghost use Rattle.bx_hub.specs.Faults.{of_reading};
+ghost use Rattle.bx_hub.specs.declared.fault.PostFault.TheVariants as faults;
+
+use crate::admission::Admission;
+use crate::fault::PostFault;
+use crate::least::Stood;
+use bx_entry::ReadError;
+use bx_window::Naming;
+use std::fmt;
+use std::snapshot::Snapshot;
+use std::sync::Wait;
+
+/// Why nothing was listed. None is made but by a look at admission under its lock, or where documents are read, which comes before
+/// that. For contracts alone it tells whether the hub was closed then and, where the window is full, a shard that stood below its
+/// second batch when it was looked at.
+#[derive(Drop)]
+pub struct Unlisted<J: Naming> {
+    fault: PostFault,
+    closed: Snapshot<bool>,
+    lag: Option<Stood<J>>,
+    ghost shut: { fault ≡ faults.Closed → closed.value ≡ true },
+    ghost told: { closed.value ≡ true → fault ≡ faults.Closed },
+}
+
+impl<J: Naming> Unlisted<J> {
+    ghost use Rattle.bx_hub.specs.Lags.{IsLagging};
+
+    /// This admission refused it. Where that is closed, the fault says so, and else it does not; where its window is full, this shard
+    /// stood below the second batch.
+    pub(crate) fn of<R: Wait + Drop>(
+        admission: &Admission<J, R>,
+        fault: PostFault,
+        lag: Option<Stood<J>>,
+    ) -> Unlisted<J>
+        requires shut { fault ≡ faults.Closed → admission.now.closed ≡ true }
+        requires told { admission.now.closed ≡ true → fault ≡ faults.Closed }
+        requires lags { IsLagging fault lag admission.now.writer }
+        ensures { (result.fault ≡ fault) × (result.lag ≡ lag) × (result.closed.value ≡ admission.now.closed) }
+    {
+        Unlisted {
+            fault,
+            closed: Snapshot::of(&admission.is_closed()),
+            lag,
+        }
+    }
+
+    /// The messages of a request were not read.
+    pub(super) fn unread(fault: ReadError) -> Unlisted<J>
+        ensures { (result.fault ≡ of_reading fault) × (result.lag ≡ None) × (result.closed.value ≡ false) }
+    {
+        Unlisted {
+            fault: PostFault::from(fault),
+            closed: Snapshot::of(&false),
+            lag: None,
+        }
+    }
+
+    /// Why.
+    pub fn fault(&self) -> PostFault
+        ensures { result ≡ self.now.fault }
+    {
+        self.fault
+    }
+}
+
+impl<J: Naming> fmt::Debug for Unlisted<J> {
+    fn fmt<W: fmt::Write>(&self, f: &mut fmt::Formatter<W>) -> fmt::Result {
+        fmt::Debug::fmt(&self.fault, f)
+    }
+}

@@ -1,0 +1,111 @@
+//! A future that collects a body into one buffer.
+ghost use Rattle.std.specs.Prelude.{◌≡◌, ◌++◌, ◌≤◌, [], OnOk, IfErr, vec_len};
+ghost use Rattle.bx_service.specs.Bodies.{Gives, Refuses, data_bytes};
+
+use bytes::{Buf, BufMut};
+use futures::task::{Context, Poll};
+use futures::{Future, ready};
+use http_body::{Body, Frame};
+use std::alloc::{AllocError, Global};
+use std::mem;
+
+// A poll takes so many frames before other tasks have their turn.
+const BUDGET: usize = 64;
+
+/// Why a body was not collected.
+#[derive(Clone, Copy, Debug, PartialEq, Eq)]
+pub enum CollectError {
+    /// Its data has more bytes than the limit.
+    TooLarge,
+    /// The body failed, as it does where its connection ends too early.
+    Failed,
+    /// Memory was refused.
+    Memory,
+}
+
+impl From<AllocError> for CollectError {
+    ghost use Rattle.bx_service.specs.declared.collect.CollectError.TheVariants.{Memory};
+
+    ghost from_gives = { λ _ fault. fault ≡ Memory };
+
+    fn from(_error: AllocError) -> CollectError {
+        CollectError::Memory
+    }
+}
+
+/// All the data of a body, in one buffer. What comes is copied behind what came before, so that no more than the limit is
+/// kept, in however small pieces it comes. Trailers are dropped.
+#[derive(Drop)]
+pub struct Collect<B> {
+    alloc: Global,
+    body: B,
+    limit: usize,
+    bytes: Vec<u8>,
+    ghost within: { vec_len bytes ≤ limit },
+}
+
+impl<B> Collect<B> {
+    /// It gives at most `limit` bytes.
+    pub fn new(alloc: Global, body: B, limit: usize) -> Collect<B>
+        ensures { (result.body ≡ body) × (result.limit ≡ limit) × (result.bytes.items ≡ []) }
+    {
+        Collect {
+            alloc,
+            body,
+            limit,
+            bytes: Vec::new(alloc),
+        }
+    }
+}
+
+impl<B, D> Future for Collect<B>
+where
+    B: Body<Data = D>,
+    D: Buf + Drop,
+{
+    type Output = Result<Vec<u8>, CollectError>;
+
+    ghost can_poll = { λ c. B.can_poll c.body };
+
+    ghost needs = { λ c. B.needs c.body };
+
+    ghost gives = { λ c. Gives D.unread (B.yields c.body) c.limit c.bytes.items };
+
+    fn poll(&mut self, cx: &mut Context<'_>) -> Poll<Result<Vec<u8>, CollectError>> {
+        for _ in 0..BUDGET {
+            let frame = match ready!(self.body.poll_frame(cx)) {
+                Some(Ok(frame)) => frame,
+                Some(Err(_)) => return Poll::Ready(Err(CollectError::Failed)),
+                None => {
+                    let all = mem::replace(&mut self.bytes, Vec::new(self.alloc));
+                    return Poll::Ready(Ok(all));
+                }
+            };
+            if let Err(fault) = add(&mut self.bytes, self.limit, frame) {
+                return Poll::Ready(Err(fault));
+            }
+        }
+        cx.yield_now()
+    }
+}
+
+// Puts the data of a frame behind the bytes, where the limit leaves room for it.
+fn add<D: Buf + Drop>(
+    bytes: &mut Vec<u8>,
+    limit: usize,
+    frame: Frame<D>,
+) -> Result<(), CollectError>
+    requires { vec_len bytes.old ≤ limit }
+    ensures ok { OnOk result (bytes.new.items ≡ bytes.old.items ++ data_bytes D.unread frame) }
+    ensures room { vec_len bytes.new ≤ limit }
+    ensures err { IfErr result (Refuses limit (bytes.old.items ++ data_bytes D.unread frame)) }
+{
+    let Ok(data) = frame.into_data() else {
+        return Ok(());
+    };
+    if data.remaining() > limit - bytes.len() {
+        return Err(CollectError::TooLarge);
+    }
+    bytes.put(data)?;
+    Ok(())
+}

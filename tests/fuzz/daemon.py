@@ -1,0 +1,214 @@
+"""A daemon of one's own on loopback, one connection to it, and a line of progress on a terminal."""
+import json
+import os
+import signal
+import socket
+import subprocess
+import sys
+import tempfile
+import time
+
+TOP = os.path.dirname(os.path.dirname(os.path.dirname(os.path.realpath(__file__))))
+PROGRAM = f"{TOP}/crates/bayeuxd/out/bayeuxd"
+# For how long an answer is waited for before the daemon is said to hang, in seconds.
+PATIENCE = 20.0
+# No byte of it stands twice, so that one which is read elsewhere shows.
+SEED = bytes(range(1, 33)).hex()
+HANDSHAKE = {"channel": "/meta/handshake", "version": "1.0", "supportedConnectionTypes": ["long-polling"]}
+
+
+class Wrong(Exception):
+    """The daemon answered what it must not, or not at all."""
+
+
+class Ended(Wrong):
+    """The connection ended before the answer did."""
+
+
+class Daemon:
+    """A running daemon, with the times in milliseconds and the further words that it was started with."""
+
+    def __init__(self, program, timeout, max_interval, *further, shards=4):
+        self.begin([program, "127.0.0.1:0", str(shards), str(timeout), "0", str(max_interval), SEED, "0", *further])
+
+    def begin(self, words):
+        """Starts the process, and waits until it listens."""
+        self.errors = tempfile.TemporaryFile()
+        self.process = subprocess.Popen(words, stdout=subprocess.PIPE, stderr=self.errors, start_new_session=True)
+        line = self.process.stdout.readline().decode()
+        if not line.startswith("listening "):
+            raise Wrong(f"it does not listen: {line!r} {self.told()!r}")
+        host, _, port = line.split()[1].rpartition(":")
+        self.address = (host.strip("[]"), int(port))
+
+    def told(self):
+        """Returns what it wrote to standard error."""
+        self.errors.seek(0)
+        return self.errors.read()[-2000:]
+
+    def check_alive(self):
+        """Raises where the process is gone."""
+        if self.process.poll() is not None:
+            raise Wrong(f"the daemon ended with status {self.process.returncode}: {self.told()!r}")
+
+    def kilobytes(self):
+        """Returns its memory."""
+        with open(f"/proc/{self.process.pid}/status", encoding="ascii") as text:
+            return int(next(line for line in text if line.startswith("VmRSS")).split()[1])
+
+    def descriptors(self):
+        """Returns how many files it has open."""
+        return len(os.listdir(f"/proc/{self.process.pid}/fd"))
+
+    def processor_seconds(self):
+        """Returns the processor time that it took."""
+        with open(f"/proc/{self.process.pid}/stat", encoding="ascii") as text:
+            words = text.read().rpartition(")")[2].split()
+        return (int(words[11]) + int(words[12])) / os.sysconf("SC_CLK_TCK")
+
+    def end(self):
+        """Ends the process."""
+        if self.process.poll() is None:
+            self.process.send_signal(signal.SIGTERM)
+            try:
+                self.process.wait(5)
+            except subprocess.TimeoutExpired:
+                self.process.kill()
+                self.process.wait()
+        self.process.stdout.close()
+        self.errors.close()
+
+
+class Response:
+    """A response that came whole."""
+
+    def __init__(self, head, body):
+        lines = head.split(b"\r\n")
+        self.status = int(lines[0].split()[1])
+        self.fields = dict((name.lower(), value.strip()) for name, _, value in (line.partition(b":") for line in lines[1:]))
+        self.body = body
+
+    def items(self):
+        """Returns the array that a response of JSON carries."""
+        if self.status != 200:
+            raise Wrong(f"status {self.status} in place of items: {self.body[:200]!r}")
+        return json.loads(self.body)
+
+
+class Connection:
+    """A connection to a daemon."""
+
+    def __init__(self, address, patience=PATIENCE):
+        self.socket = socket.create_connection(address, timeout=patience)
+        self.socket.setsockopt(socket.IPPROTO_TCP, socket.TCP_NODELAY, 1)
+        self.input = b""
+
+    def __enter__(self):
+        return self
+
+    def __exit__(self, *_):
+        self.socket.close()
+
+    def send(self, data):
+        """Sends all of it."""
+        try:
+            self.socket.sendall(data)
+        except socket.timeout as error:
+            raise Wrong("nothing is taken any more") from error
+        except OSError as error:
+            raise Ended(f"ended while it was sent to: {error}") from error
+
+    def fill(self):
+        """Reads what comes next; false at the end."""
+        try:
+            data = self.socket.recv(1 << 16)
+        except socket.timeout as error:
+            raise Wrong(f"no answer; so far {self.input[:200]!r}") from error
+        except ConnectionError:
+            return False
+        self.input += data
+        return bool(data)
+
+    def response(self):
+        """Returns the next response."""
+        while b"\r\n\r\n" not in self.input:
+            if not self.fill():
+                raise Ended(f"ended before a head was whole: {self.input[:200]!r}")
+        head, _, rest = self.input.partition(b"\r\n\r\n")
+        response = Response(head, b"")
+        if response.status != 405 and b"content-length" not in response.fields:
+            raise Wrong(f"no length: {head!r}")
+        size = int(response.fields.get(b"content-length", b"0"))
+        self.input = rest
+        while len(self.input) < size:
+            if not self.fill():
+                raise Ended(f"ended within a body of {size} bytes: {head!r}")
+        response.body, self.input = self.input[:size], self.input[size:]
+        return response
+
+    def rest(self):
+        """Returns all responses until the end."""
+        while self.fill():
+            pass
+        found = []
+        while self.input:
+            found.append(self.response())
+        return found
+
+    def ask(self, messages):
+        """Posts these messages, and returns the items of the answer."""
+        self.send(post(json.dumps(messages).encode()))
+        response = self.response()
+        if response.status != 200:
+            raise Wrong(f"status {response.status} for {messages}")
+        return response.items()
+
+
+def post(body, kind=b"application/json", path=b"/cometd"):
+    """Returns a POST of this body."""
+    return b"POST %s HTTP/1.1\r\nhost: h\r\ncontent-type: %s\r\ncontent-length: %d\r\n\r\n" % (path, kind, len(body)) + body
+
+
+def succeed(items, count):
+    """Raises where these are not so many successful replies."""
+    if len(items) != count or not all(item.get("successful") for item in items):
+        raise Wrong(f"not {count} successful replies: {items}")
+    return items
+
+
+def serve_right(address, channel):
+    """Raises where a client that does all right is not served as ever."""
+    with Connection(address) as connection:
+        client = succeed(connection.ask([HANDSHAKE]), 1)[0]["clientId"]
+        mine = {"clientId": client}
+        succeed(connection.ask([{"channel": "/meta/subscribe", "subscription": channel, **mine}]), 1)
+        succeed(connection.ask([{"channel": channel, "data": {"right": channel}, "id": "p", **mine}]), 1)
+        got = connection.ask([{"channel": "/meta/connect", "connectionType": "long-polling", "id": 7, **mine}])
+        if got[:-1] != [{"channel": channel, "data": {"right": channel}, "id": "p"}]:
+            raise Wrong(f"not the event that was published: {got}")
+        if succeed(got[1:], 1)[0]["id"] != 7:
+            raise Wrong(f"not the id of the connect: {got}")
+        succeed(connection.ask([{"channel": "/meta/disconnect", **mine}]), 1)
+
+
+class Progress:
+    """One line on what is done, on a terminal alone."""
+
+    def __init__(self):
+        self.start = time.monotonic()
+        self.last = 0.0
+
+    def seconds(self):
+        """Returns for how long it has run."""
+        return time.monotonic() - self.start
+
+    def show(self, text):
+        """Shows the text, at most five times a second."""
+        if sys.stderr.isatty() and self.seconds() - self.last > 0.2:
+            self.last = self.seconds()
+            print(f"\r{self.last:5.0f} s  {text}\x1b[K", end="", file=sys.stderr, flush=True)
+
+    def clear(self):
+        """Takes the line away."""
+        if sys.stderr.isatty():
+            print("\r\x1b[K", end="", file=sys.stderr, flush=True)
