@@ -3,7 +3,7 @@ use crate::hubs::Served;
 use crate::requests::{CONNECT, HANDSHAKE, SUBSCRIBE, add_line, arrival, reply, text_of};
 use crate::unlike::Unlike;
 use bx_entry::{Slot, Ticket};
-use bx_hub::{HubFault, Lagging, Pass, PostFault, PostReceipt};
+use bx_hub::{HubFault, Lagging, Pass, PostFault, PostReceipt, TickReceipt};
 use bx_message::Answer;
 use bx_window::Naming;
 use std::alloc::Global;
@@ -152,17 +152,29 @@ pub fn tick<J: Naming, H: Wait + Drop, R: Wait>(
     pass: &mut Pass<J>,
     said: &mut Said,
 ) -> Result<(), Unlike> {
-    let mut ticked = hub.tick(rt, alloc, pass, 0);
-    if ticked.as_ref().err().map(|why| why.fault()) == Some(PostFault::Memory) {
-        ticked = hub.tick(rt, alloc, pass, 0);
+    let fault = match hub.tick(rt, alloc, pass, 0) {
+        Ok(ticked) => return end_of_tick(alloc, said, ticked),
+        Err(why) => why.fault(),
+    };
+    if fault != PostFault::Memory {
+        return Err(Unlike::Wrong("no tick"));
     }
-    match ticked {
-        Ok(ticked) if ticked.place == 5 => {
-            said.is_behind(ticked.brought.behind())?;
-            said.add(alloc, ticked.place, "ticks")
-        }
-        _ => Err(Unlike::Wrong("no tick")),
+    match hub.tick(rt, alloc, pass, 0) {
+        Ok(ticked) => end_of_tick(alloc, said, ticked),
+        Err(_) => Err(Unlike::Wrong("refused once more")),
     }
+}
+
+fn end_of_tick<J: Naming>(
+    alloc: Global,
+    said: &mut Said,
+    ticked: TickReceipt<J>,
+) -> Result<(), Unlike> {
+    if ticked.place != 5 {
+        return Err(Unlike::Wrong("ticks elsewhere"));
+    }
+    said.is_behind(ticked.brought.behind())?;
+    said.add(alloc, ticked.place, "ticks")
 }
 
 /// Asks for an answer.
