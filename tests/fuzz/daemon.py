@@ -31,10 +31,10 @@ class Daemon:
     def __init__(self, program, timeout, max_interval, *further, shards=4):
         self.begin([program, "127.0.0.1:0", str(shards), str(timeout), "0", str(max_interval), SEED, "0", *further])
 
-    def begin(self, words):
+    def begin(self, words, **streams):
         """Starts the process, and waits until it listens."""
         self.errors = tempfile.TemporaryFile()
-        self.process = subprocess.Popen(words, stdout=subprocess.PIPE, stderr=self.errors, start_new_session=True)
+        self.process = subprocess.Popen(words, stdout=subprocess.PIPE, stderr=self.errors, start_new_session=True, **streams)
         line = self.process.stdout.readline().decode()
         if not line.startswith("listening "):
             raise Wrong(f"it does not listen: {line!r} {self.told()!r}")

@@ -2,14 +2,25 @@
 #![tactic(auto)]
 
 mod clock;
+mod end;
+mod figures;
+mod refusals;
 mod serve;
 mod ticker;
 
+use bx_figures::Counts;
 use bx_settings::{Seed, Settings, read_flags, read_seed, read_words};
+use end::tell_at_end;
+use figures::show_figures;
+use futures::channel::oneshot;
+use futures::channel::oneshot::{Receiver, Sender};
+use log::info;
 use serve::{ServeEnd, Serving, serve};
+use std::alloc::{AllocError, Global};
 use std::net::{SocketAddr, ToSocketAddrs};
 use std::process::ExitCode;
 use std::random::RandomSource;
+use std::sync::Arc;
 use std::{env, io, thread};
 
 /// What standard error says of bad arguments.
@@ -18,6 +29,9 @@ const USAGE: &str =
 
 /// What it says where there is nothing to listen on.
 const CANNOT_LISTEN: &str = "bayeuxd: cannot listen";
+
+/// What it says where there is nothing to listen on for those who ask for figures.
+const NO_FIGURES: &str = "bayeuxd: cannot listen for figures";
 
 /// What it says of memory that was refused.
 const OUT_OF_MEMORY: &str = "bayeuxd: out of memory";
@@ -31,22 +45,119 @@ fn main(rt: HostRuntime) -> ExitCode {
         Ok(settings) => settings,
         Err(status) => return status,
     };
-    let Ok(seed) = seed_of(&rt, settings.seed) else {
-        return failed(&rt, "bayeuxd: cannot read the seed");
+    let parts = match parts_of(&rt, &settings) {
+        Ok(parts) => parts,
+        Err(why) => return failed(&rt, why),
     };
-    let Ok(addresses) = addresses_of(&rt, settings.listen) else {
-        return failed(&rt, CANNOT_LISTEN);
-    };
-    let arguments = Serving {
-        config: settings.config,
-        seed,
-        connections: settings.connections,
-    };
-    match serve(rt, addresses.as_slice(), arguments, &mut io::writer(&rt)) {
-        ServeEnd::Done => ExitCode::SUCCESS,
-        ServeEnd::CannotListen => failed(&rt, CANNOT_LISTEN),
-        ServeEnd::Memory => failed(&rt, OUT_OF_MEMORY),
+    let Parts {
+        arguments,
+        addresses,
+        counts,
+        told,
+        end,
+    } = parts;
+    tell_settings(&rt, &settings);
+    if let Some(address) = settings.figures
+        && show_figures(rt, address, &counts).is_err()
+    {
+        return failed(&rt, NO_FIGURES);
     }
+    // Started here, since no other function may hand on the right to read to a thread.
+    let _kept = if settings.until_eof {
+        let Ok(_reading) = thread::spawn(&rt, move || tell_at_end(&rt, told)) else {
+            return failed(&rt, CANNOT_LISTEN);
+        };
+        None
+    } else {
+        Some(told)
+    };
+    let (addresses, mut writer) = (addresses.as_slice(), io::writer(&rt));
+    let ended = serve(rt, addresses, arguments, &counts, end, &mut writer);
+    status_of(&rt, ended)
+}
+
+// What the server is made of.
+struct Parts {
+    arguments: Serving,
+    addresses: Vec<SocketAddr>,
+    counts: Arc<Counts, Global>,
+    told: Sender<()>,
+    end: Receiver<()>,
+}
+
+// What the server is made of, by its settings; or what standard error says.
+fn parts_of(rt: &HostRuntime, settings: &Settings<'_>) -> Result<Parts, &'static str> {
+    let alloc = rt.alloc();
+    let Ok(seed) = seed_of(rt, settings.seed) else {
+        return Err("bayeuxd: cannot read the seed");
+    };
+    let Ok(addresses) = addresses_of(rt, settings.listen) else {
+        return Err(CANNOT_LISTEN);
+    };
+    let (Ok(counts), Ok((told, end))) = (counts_of(rt), oneshot::channel(alloc)) else {
+        return Err(OUT_OF_MEMORY);
+    };
+    Ok(Parts {
+        arguments: Serving {
+            config: settings.config,
+            seed,
+            connections: settings.connections,
+            until_eof: settings.until_eof,
+        },
+        addresses,
+        counts,
+        told,
+        end,
+    })
+}
+
+// The status of a server that ended so.
+fn status_of(rt: &HostRuntime, ended: ServeEnd) -> ExitCode {
+    match ended {
+        ServeEnd::Done => {
+            info!(rt; target: "bayeuxd", "ended");
+            ExitCode::SUCCESS
+        }
+        ServeEnd::CannotListen => failed(rt, CANNOT_LISTEN),
+        ServeEnd::Memory => failed(rt, OUT_OF_MEMORY),
+    }
+}
+
+// Counts that are 0.
+fn counts_of(rt: &HostRuntime) -> io::Result<Arc<Counts, Global>> {
+    let alloc = rt.alloc();
+    Ok(Arc::new(alloc, Counts::new(alloc)?)?)
+}
+
+// A line with all settings but the seed.
+fn tell_settings(rt: &HostRuntime, settings: &Settings<'_>) {
+    if let Ok(text) = settings_text(rt.alloc(), settings) {
+        info!(rt; target: "bayeuxd", "starting {text}");
+    }
+}
+
+// All settings but the seed.
+fn settings_text(alloc: Global, settings: &Settings<'_>) -> Result<String, AllocError> {
+    let (config, listen) = (settings.config, settings.listen);
+    let mut text = format!(in alloc; "listen={listen} shards={}", config.shards)?;
+    write!(
+        text,
+        " timeout={} interval={} max_interval={}",
+        config.timeout, config.interval, config.max_interval
+    )?;
+    write!(
+        text,
+        " limit={} ride={} anonymous={}",
+        config.limits.events, config.ride, config.anonymous
+    )?;
+    write!(
+        text,
+        " connections={} figures={} until_eof={}",
+        settings.connections,
+        settings.figures.unwrap_or("-"),
+        settings.until_eof
+    )?;
+    Ok(text)
 }
 
 // The arguments that the process was given.

@@ -3,15 +3,20 @@ ghost use Rattle.std.specs.Prelude.{◌≡◌};
 ghost use Rattle.bx_entry.specs.Placings.{by_remainder};
 
 use crate::clock::{Drawn, SinceStart};
+use crate::end::Closing;
 use crate::ticker::tick;
 use bx_advice::Config;
+use bx_counted::{CountedBackend, CountedService};
 use bx_entry::ByRemainder;
+use bx_figures::Counts;
 use bx_hub::{Hub, OpenGate};
 use bx_message::Item;
-use bx_serve::serve_connections;
+use bx_serve::serve_until;
 use bx_service::{Backend, BayeuxService, HubBackend, Unanswered};
 use bx_window::{Naming, Opened};
 use futures::Future;
+use futures::channel::oneshot::Receiver;
+use log::{Log, info};
 use rand_chacha::ChaCha20Rng;
 use rand_core::SeedableRng;
 use std::alloc::{AllocGlobal, Global};
@@ -22,7 +27,7 @@ use std::random::RandomSource;
 use std::sync::atomic::{AtomicBool, Ordering};
 use std::sync::{Arc, Mutex, Wait};
 use std::thread::Threads;
-use std::time::{Clock, Instant};
+use std::time::{Clock, Duration, Instant};
 use std::{io, thread};
 use tokio::net::TcpListener;
 use tokio::runtime::Runtime;
@@ -36,12 +41,17 @@ pub struct Serving {
     pub seed: [u8; 32],
     /// After how many connections it ends; 0: never.
     pub connections: u64,
+    /// Whether it ends at the end of standard input too.
+    pub until_eof: bool,
 }
+
+// How long connections are served from the end of standard input on, in milliseconds. (This server's choice.)
+const LEAVE: u64 = 1000;
 
 /// How a server ended.
 #[derive(Clone, Copy, Debug, PartialEq, Eq)]
 pub enum ServeEnd {
-    /// As many connections as were asked for have come and have ended.
+    /// As many connections as were asked for have come and have ended, or standard input has.
     Done,
     /// The system refused each address, the runtime, a thread or the print.
     CannotListen,
@@ -49,8 +59,16 @@ pub enum ServeEnd {
     Memory,
 }
 
-/// Serves on the first of the addresses that the system grants, and prints it once it listens.
-pub fn serve<R, W>(rt: R, addresses: &[SocketAddr], arguments: Serving, writer: &mut W) -> ServeEnd
+/// Serves on the first of the addresses that the system grants, and prints it once it listens. Once the end is told it takes no more
+/// connections, answers held connects, and cuts what is still open where it was to end so.
+pub fn serve<R, W>(
+    rt: R,
+    addresses: &[SocketAddr],
+    arguments: Serving,
+    counts: &Arc<Counts, Global>,
+    told: Receiver<()>,
+    writer: &mut W,
+) -> ServeEnd
 where
     R: Wait
         + Threads
@@ -58,6 +76,7 @@ where
         + RandomSource
         + AllocGlobal
         + Net
+        + Log
         + Sync
         + Send
         + Copy
@@ -65,7 +84,7 @@ where
         + 'static,
     W: Write,
 {
-    match begin(rt, addresses, arguments, writer) {
+    match begin(rt, addresses, arguments, counts, told, writer) {
         Ok(()) => ServeEnd::Done,
         Err(error) if error.kind() == io::ErrorKind::OutOfMemory => ServeEnd::Memory,
         Err(_) => ServeEnd::CannotListen,
@@ -77,6 +96,8 @@ fn begin<R, W>(
     rt: R,
     addresses: &[SocketAddr],
     arguments: Serving,
+    counts: &Arc<Counts, Global>,
+    told: Receiver<()>,
     writer: &mut W,
 ) -> io::Result<()>
 where
@@ -86,6 +107,7 @@ where
         + RandomSource
         + AllocGlobal
         + Net
+        + Log
         + Sync
         + Send
         + Copy
@@ -102,6 +124,8 @@ where
         arguments,
         start,
         placing,
+        counts,
+        told,
         writer,
     )
 }
@@ -114,6 +138,8 @@ fn run<J, R, W>(
     arguments: Serving,
     start: Instant,
     placing: Arc<ByRemainder, Global>,
+    counts: &Arc<Counts, Global>,
+    told: Receiver<()>,
     writer: &mut W,
 ) -> io::Result<()>
 where
@@ -124,6 +150,7 @@ where
         + RandomSource
         + AllocGlobal
         + Net
+        + Log
         + Sync
         + Send
         + Copy
@@ -146,17 +173,47 @@ where
     )?;
     let hub = Arc::new(alloc, hub)?;
     let mut runtime = Runtime::new(&rt)?;
-    let listener = bind(&rt, &runtime, addresses)?;
-    writeln!(writer, "listening {}", listener.local_addr()?)?;
-    writer.flush()?;
+    let listener = listen(&rt, &runtime, addresses, counts, writer)?;
     let is_over = Arc::new(alloc, AtomicBool::new(false))?;
     let (ticked, over) = (Arc::try_clone(&hub)?, Arc::try_clone(&is_over)?);
-    let ticker = thread::spawn(&rt, move || tick(&rt, alloc, &*ticked, &clock, &*over))?;
-    let served = serve_hub(rt, alloc, &mut runtime, listener, &hub, clock, arguments);
+    let counted = Arc::try_clone(counts)?;
+    let ticker = thread::spawn(
+        &rt,
+        move || tick(&rt, alloc, &*ticked, &clock, &*counted, &*over),
+    )?;
+    if arguments.until_eof {
+        runtime.set_shutdown_timeout(Some(Duration::from_millis(LEAVE)));
+    }
+    let end = Closing {
+        rt,
+        hub: Arc::try_clone(&hub)?,
+        counts: Arc::try_clone(counts)?,
+        told,
+    };
+    let backend = backend_of(rt, alloc, Arc::try_clone(&hub)?, clock, arguments.seed);
+    let served = serve_backend(rt, &mut runtime, listener, backend, counts, arguments, end);
+    counts.set_listens(false);
     is_over.store(true, Ordering::SeqCst);
     ticker.join(&rt);
     hub.close(&rt);
     served
+}
+
+// Listens, and says where.
+fn listen<R: Net + Log, W: Write>(
+    rt: &R,
+    runtime: &Runtime,
+    addresses: &[SocketAddr],
+    counts: &Counts,
+    writer: &mut W,
+) -> io::Result<TcpListener> {
+    let listener = bind(rt, runtime, addresses)?;
+    let address = listener.local_addr()?;
+    info!(rt; target: "bayeuxd", "listening {address}");
+    writeln!(writer, "listening {address}")?;
+    writer.flush()?;
+    counts.set_listens(true);
+    Ok(listener)
 }
 
 // Listens on the first of the addresses that the system grants; where it grants none, the error of the last.
@@ -171,42 +228,46 @@ fn bind<R: Net>(rt: &R, runtime: &Runtime, addresses: &[SocketAddr]) -> io::Resu
     Err(refused)
 }
 
-// Serves the connections of the listener over the hub.
-fn serve_hub<J, R>(
+// A backend over the hub.
+fn backend_of<J, R>(
     rt: R,
     alloc: Global,
-    runtime: &mut Runtime,
-    listener: TcpListener,
-    hub: &Arc<Hub<J, ByRemainder, OpenGate, R>, Global>,
+    hub: Arc<Hub<J, ByRemainder, OpenGate, R>, Global>,
     clock: SinceStart<R>,
-    arguments: Serving,
-) -> io::Result<()>
+    seed: [u8; 32],
+) -> HubBackend<J, ByRemainder, OpenGate, R, SinceStart<R>, Drawn<R>>
 where
-    J: Naming + Send + Sync + 'static,
-    R: Wait + Threads + Clock + RandomSource + AllocGlobal + Sync + Send + Copy + Drop + 'static,
+    J: Naming,
+    R: Wait + Clock + Copy + Drop,
 {
     let nonces = Drawn {
         rt,
-        generator: Mutex::new(ChaCha20Rng::from_seed(arguments.seed)),
+        generator: Mutex::new(ChaCha20Rng::from_seed(seed)),
     };
-    let backend = HubBackend::new(rt, alloc, Arc::try_clone(hub)?, clock, nonces);
-    serve_backend(rt, runtime, listener, backend, arguments.connections)
+    HubBackend::new(rt, alloc, hub, clock, nonces)
 }
 
-// The same over any backend. What that is made of is not named where the tasks of connections are, which the prover could not
-// compare in reasonable time.
-fn serve_backend<S, I, R>(
+// Serves the connections of the listener over a backend. What that is made of is not named where the tasks of connections are, which the
+// prover could not compare in reasonable time.
+fn serve_backend<S, I, R, A>(
     rt: R,
     runtime: &mut Runtime,
     listener: TcpListener,
     backend: S,
-    connections: u64,
+    counts: &Arc<Counts, Global>,
+    arguments: Serving,
+    end: A,
 ) -> io::Result<()>
 where
     S: Backend<Items = I> + Send + Sync + Drop,
     I: Future<Output = Result<Vec<Item>, Unanswered>> + Send + Drop,
     R: Wait + Threads + Clock + RandomSource + AllocGlobal + Sync + Send + Copy + Drop,
+    A: Future<Output = ()>,
+    requires { A.can_poll end }
 {
-    let service = BayeuxService::new(rt.alloc(), backend)?;
-    serve_connections(rt, runtime, listener, service, connections)
+    let counted = CountedBackend::new(backend, Arc::try_clone(counts)?);
+    let service = BayeuxService::new(rt.alloc(), counted)?;
+    let service = CountedService::new(service, Arc::try_clone(counts)?);
+    let count = arguments.connections;
+    serve_until(rt, runtime, listener, service, count, end)
 }

@@ -1,8 +1,11 @@
 //! The thread of ticks.
+use crate::refusals::Refusals;
 use bx_entry::Placing;
-use bx_hub::{Gate, Hub};
+use bx_figures::{Counts, Figure};
+use bx_hub::{Gate, Hub, Lagging};
 use bx_service::Clock;
 use bx_window::Naming;
+use log::Log;
 use std::alloc::Global;
 use std::collections::VecDeque;
 use std::sync::Wait;
@@ -17,12 +20,17 @@ const TICK: u64 = 100;
 // choice.)
 const KEPT: usize = 600;
 
-/// Posts a tick every 100 ms until it is told to stop.
+// After how many ticks it is said again why requests are refused: a second. (This server's choice.)
+const TELLING: u64 = 10;
+
+/// Posts a tick every 100 ms until it is told to stop. It counts what came of each, and says once a second why requests are refused, where
+/// some were.
 pub fn tick<J, P, G, H, R, C>(
     rt: &R,
     alloc: Global,
     hub: &Hub<J, P, G, H>,
     clock: &C,
+    counts: &Counts,
     is_over: &AtomicBool,
 )
 where
@@ -30,24 +38,52 @@ where
     P: Placing,
     G: Gate + Drop,
     H: Wait + Drop,
-    R: Wait + time::Clock,
+    R: Wait + time::Clock + Log,
     C: Clock,
 {
     let mut pass = hub.pass();
     let mut places = VecDeque::new(alloc);
+    let mut refusals = Refusals::new();
+    let mut turn: u64 = 0;
     for _ in rt.forever() {
         if is_over.load(Ordering::SeqCst) {
+            refusals.tell(rt, counts);
             break;
         }
         thread::sleep(rt, Duration::from_millis(TICK));
+        turn = turn.wrapping_add(1);
+        if turn % TELLING == 0 {
+            refusals.tell(rt, counts);
+        }
         let Ok(ticked) = hub.tick(rt, alloc, &mut pass, clock.now()) else {
+            counts.add(Figure::RefusedTicks, 1);
             continue;
         };
+        count_tick(counts, pass.seen(), ticked.brought.behind());
         let _ = places.push_back(ticked.place);
         if places.len() > KEPT
             && let Some(before) = places.pop_front()
         {
-            hub.sweep(rt, before);
+            let swept = hub.sweep(rt, before);
+            counts.add(Figure::Swept, swept as u64);
         }
     }
+}
+
+// Counts a tick that was taken into the list, which then has so many entries, with the shards that stayed behind it.
+fn count_tick(counts: &Counts, entries: u64, behind: Lagging) {
+    let Lagging {
+        memory,
+        overrun,
+        paused,
+        closed,
+        misplaced,
+    } = behind;
+    let mut shards: u64 = 0;
+    for some in [memory, overrun, paused, closed, misplaced] {
+        shards = shards.saturating_add(some as u64);
+    }
+    counts.add(Figure::Ticks, 1);
+    counts.set(Figure::Entries, entries);
+    counts.set(Figure::ShardsBehind, shards);
 }

@@ -1,7 +1,18 @@
 -- In which shard a session stands, by its number and the number of shards.
 use Rattle.std.specs.Prelude.{ℕ, ◌%◌, ◌<◌, ◌≤◌, List, [], ◌∷◌, length, slice_index}
+use Rattle.bx_advice.specs.declared.config.Config.{Config}
 use Rattle.std.proofs.Common.{arith}
 use Rattle.std.proofs.Math.Nat.{mod-lt}
+
+-- the configuration, how many shards there are, and in which of them each session stands, by its number and the number of shards
+pub record Setup : Type 0 where
+  pub config : Config
+  pub shards : ℕ
+  pub placing : ℕ → ℕ → ℕ
+
+-- this configuration with so many shards and a placing of sessions
+abbrev pub placed_by : Config → ℕ → (ℕ → ℕ → ℕ) → Setup
+placed_by config shards placing = record { config = config; shards = shards; placing = placing }
 
 -- sessions in turn
 abbrev pub by_remainder : ℕ → ℕ → ℕ

@@ -3,12 +3,14 @@
 
 mod entry;
 mod input;
+mod listing;
 mod placing;
 mod read;
 mod senders;
 
 pub use entry::{Batch, Entry, EntryKind, Rider, Slot, Ticket};
 pub use input::{Arrival, BodyError, Input, Refusal};
+pub use listing::{Element, Listing};
 pub use placing::{AllFirst, ByRemainder, ByTable, Placing};
 pub use read::{ReadError, read_messages};
 pub use senders::Senders;

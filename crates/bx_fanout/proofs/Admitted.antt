@@ -6,7 +6,7 @@ use Rattle.bx_entry.specs.Words.{ReadInput, Request, added_by, refusal_of, Liste
 use Rattle.bx_entry.specs.Runs as runs
 use Rattle.bx_entry.specs.declared.{entry.Slot.Slot, input.Input.Input, input.Refusal.Refusal}
 use Rattle.bx_message.specs.declared.reply.Answer.{Answer}
-use Rattle.bx_shard.specs.Shards.{Setup}
+use Rattle.bx_entry.specs.Placings.{Setup}
 use Rattle.bx_world.specs.Words.{EachSlot, asked_by, IsOutput, WorldState, after, output_admit}
 use Rattle.bx_world.specs.declared.step.Step.TheVariants.{Admit}
 use Rattle.bx_world.specs.declared.step.StepOut.TheVariants.{Admitted, NotAdmitted, OutOfMemory}

@@ -1,6 +1,6 @@
 -- The steps of a round keep what stands of its state.
 use Rattle.std.proofs.Common.{◌≡◌, ℕ, ◌+◌, List, [], ◌∷◌, ◌++◌, length, refl, sym, ap, subst, ◌∙◌, drop, take, append-nil, arith, map, ◌-◌, false}
-use Rattle.bx_shard.specs.Shards.{Setup}
+use Rattle.bx_entry.specs.Placings.{Setup}
 use Rattle.bx_entry.specs.Runs as runs
 use Rattle.bx_entry.specs.Words.{ReadInput, Listed}
 use Rattle.bx_fanout.specs.Words.{Row, NoneTakenFrom, AllUntaken, IsTakenIn, IsGiving, IsStaged, is_collecting, own, seen_out}

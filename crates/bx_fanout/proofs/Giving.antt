@@ -6,11 +6,11 @@ use Rattle.std.specs.Prelude.{◌==◌, is_none, is_some}
 use Rattle.std.specs.{List.AllByRecursion, List.dedup, List.Sorted.IsPermutation, List.Sorted.IsSorted, List.Sorted.IsStrictlySortedBy, BTreeMap.is_at, Ordering.nat_cmp}
 use Rattle.std.specs.Map.{keys_of, lookup, remove_entry}
 use Rattle.std.specs.declared.cmp.Ordering.TheVariants.{Less}
-use Rattle.bx_lists.proofs.Tests.{less-from-cmp}
-use Rattle.bx_lists.proofs.Ascending.{dedup-has, AllAbove, Ascends, same-ascends, ascends-sorted}
+use Rattle.bx_history.proofs.Tests.{less-from-cmp}
+use Rattle.bx_history.proofs.Ascending.{dedup-has, AllAbove, Ascends, same-ascends, ascends-sorted}
 use Rattle.bx_message.specs.declared.reply.Answer.{Answer}
 use Rattle.bx_fanout.specs.declared.{held_inputs.HeldInput.HeldInput, out.Out.Out}
-use Rattle.bx_lists.specs.Members.{has}
+use Rattle.bx_history.specs.Members.{has}
 use Rattle.bx_fanout.specs.HeldInputs.{Gives, Row, answered_places, is_answered, items_of, out_by, outs_of, waits}
 use Rattle.bx_fanout.proofs.HeldInputs.{at-is}
 

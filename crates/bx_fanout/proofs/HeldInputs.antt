@@ -6,10 +6,10 @@ use Rattle.std.specs.Map.{keys_of, lookup, set_value}
 use Rattle.std.specs.declared.cmp.Ordering.TheVariants.{Less, Greater}
 use Rattle.std.proofs.Math.Bool.{and-false, and-true, or-false}
 use Rattle.std.proofs.lemmas.{Bool.Decides.nat_tests, List.Elements.filter-append, List.Folds.list_any-append, List.Sums.count_by-le-length, List.Sums.sum_by-append}
-use Rattle.bx_lists.proofs.Tests.{less-from-cmp}
+use Rattle.bx_history.proofs.Tests.{less-from-cmp}
 use Rattle.bx_message.specs.declared.reply.Answer.{Answer}
 use Rattle.bx_fanout.specs.declared.held_inputs.HeldInput.{HeldInput}
-use Rattle.bx_lists.specs.Members.{has}
+use Rattle.bx_history.specs.Members.{has}
 use Rattle.bx_fanout.specs.HeldInputs.{AllBelow, Row, answered_at, answered_places, is_answered, waits, waits_there, with_answer}
 
 -- ---- tests on numbers

@@ -4,7 +4,7 @@ use Rattle.std.proofs.lemmas.List.{append_cancel_left, map-append}
 use Rattle.bx_advice.specs.declared.config.Config.{Config}
 use Rattle.bx_entry.specs.Words.{ReadInput, Registry, held, outs}
 use Rattle.bx_entry.specs.Runs as runs
-use Rattle.bx_shard.specs.Shards.{Setup}
+use Rattle.bx_entry.specs.Placings.{Setup}
 use Rattle.bx_world.specs.Worlds.{WorldState}
 use Rattle.bx_fanout.specs.Words.{Row, numbers, waits, AreHeldBefore, IsCollecting, IsGiving, IsStaged, bare, is_collecting, own, seen_out}
 use Rattle.bx_theory.specs.Opens.{Numbered, is_whole, newest, open_after, registry_after, waiting_at}

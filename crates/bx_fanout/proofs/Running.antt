@@ -4,7 +4,7 @@ use Rattle.std.proofs.lemmas.List.{map-append}
 use Rattle.bx_entry.specs.Words.{ReadInput, read_input, outs}
 use Rattle.bx_entry.specs.Runs as runs
 use Rattle.bx_entry.specs.declared.{Placing.Ghosts, input.Input.Input}
-use Rattle.bx_shard.specs.Shards.{Setup}
+use Rattle.bx_entry.specs.Placings.{Setup}
 use Rattle.bx_world.specs.Words.{setup_of, world_of, WorldState}
 use Rattle.bx_fanout.specs.Words.{Row, outs_of, AddsOuts, IsSettled, Stands, IsGiving, IsStaged, seen_out}
 use Rattle.bx_theory.specs.Opens.{is_whole, out_of, registry_after, waiting_at}

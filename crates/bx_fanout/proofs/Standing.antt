@@ -4,7 +4,7 @@ use Rattle.std.proofs.lemmas.Option.{same_Some}
 use Rattle.bx_entry.specs.Words.{ReadInput, Listed, read_input}
 use Rattle.bx_entry.specs.Runs as runs
 use Rattle.bx_entry.specs.declared.Placing.{Ghosts}
-use Rattle.bx_shard.specs.Shards.{Setup}
+use Rattle.bx_entry.specs.Placings.{Setup}
 use Rattle.bx_world.specs.Words.{setup_of, world_of, WorldState}
 use Rattle.bx_world.specs.declared.world.World.{World}
 use Rattle.bx_fanout.specs.Words.{Row, IsDone, Stands, IsGiving, own, seen_out}

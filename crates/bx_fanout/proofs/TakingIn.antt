@@ -8,7 +8,8 @@ use Rattle.bx_entry.specs.Runs as runs
 use Rattle.bx_entry.specs.declared.input.Refusal.{Refusal}
 use Rattle.bx_theory.proofs.{Lists.judged_length, Lists.judged_more, Sole.open_are_sole}
 use Rattle.bx_message.specs.declared.reply.Answer.{Answer}
-use Rattle.bx_shard.specs.Shards.{Setup, is_taken}
+use Rattle.bx_entry.specs.Placings.{Setup}
+use Rattle.bx_shard.specs.Shards.{is_taken}
 use Rattle.bx_world.specs.Words.{EachSlot, slot_at, WorldState}
 use Rattle.bx_fanout.specs.HeldInputs.{AllBelow, Gives, Row, is_answered, out_of, outs_of, waits}
 use Rattle.bx_fanout.specs.Words.{CanDrain, Waits, AllUntaken, GivesOut, IsCollecting, IsTakenIn, IsGiving, bare, is_collecting, own, seen_out}

@@ -3,7 +3,8 @@ use Rattle.std.specs.Prelude.{ℕ, ◌≡◌, ◌<◌, false, slice_index, List,
 use Rattle.std.specs.List.{AllByRecursion}
 use Rattle.bx_advice.specs.declared.config.Config.{Config}
 use Rattle.bx_entry.specs.Words.{Listed, Waiting}
-use Rattle.bx_shard.specs.Shards.{Setup, is_taken, shard_at}
+use Rattle.bx_entry.specs.Placings.{Setup}
+use Rattle.bx_shard.specs.Shards.{is_taken, shard_at}
 use Rattle.bx_world.specs.Words.{slot_at, WorldState}
 use Rattle.bx_fanout.specs.HeldInputs.{Row}
 use Rattle.bx_fanout.specs.CurrentInputs.{IsLevel, NoneTakenFrom, given_at}

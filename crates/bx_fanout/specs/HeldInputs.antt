@@ -1,7 +1,7 @@
 -- The held connects, and the answers that came for them.
 use Rattle.std.specs.Prelude.{ℕ, ◌+◌, ◌==◌, ◌&&◌, ◌<◌, ◌≤◌, ◌≡◌, Bool, List, [], ◌∷◌, ◌++◌, filter, map, length, count_by, is_none, is_some, option_map, if◌then◌else◌, Option, Some, None, Ok}
 use Rattle.std.specs.{List.AllByRecursion, List.Sorted.IsStrictlySortedBy, Map.keys_of, Ordering.nat_cmp}
-use Rattle.bx_lists.specs.Members.{has}
+use Rattle.bx_history.specs.Members.{has}
 use Rattle.bx_fanout.specs.declared.{held_inputs.HeldInput.HeldInput, out.Out.Out}
 use Rattle.bx_message.specs.declared.reply.{Answer.Answer, Item.Item}
 use Rattle.bx_message.specs.declared.reply.Item.TheVariants.{EventItem, ReplyItem}

@@ -11,7 +11,7 @@ use Rattle.bx_entry.specs.Runs as runs
 use Rattle.bx_entry.specs.declared.{Placing.Ghosts, entry.Slot.Slot, entry.Ticket.Ticket}
 use Rattle.bx_entry.specs.declared.entry.Slot.TheVariants as answers
 use Rattle.bx_message.specs.declared.reply.Answer.{Answer}
-use Rattle.bx_shard.specs.Shards.{Setup}
+use Rattle.bx_entry.specs.Placings.{Setup}
 use Rattle.bx_world.specs.Words.{EachSlot, IsSlot, IsTicket, slot_at, WorldState}
 use Rattle.bx_fanout.specs.HeldInputs.{Row}
 use Rattle.bx_fanout.specs.CurrentInputs.{AreAnswers}

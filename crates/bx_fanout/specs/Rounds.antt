@@ -5,7 +5,7 @@ use Rattle.bx_entry.specs.Runs as runs
 use Rattle.bx_entry.specs.declared.{Placing.Ghosts, input.Input.Input}
 use Rattle.bx_fanout.specs.Runs as state
 use Rattle.bx_fanout.specs.declared.{out.Out.Out, out.RoundFault.RoundFault, round.Round.Round}
-use Rattle.bx_shard.specs.Shards.{Setup}
+use Rattle.bx_entry.specs.Placings.{Setup}
 
 module _ {P : Type 0} {g : Ghosts P} where
   -- the configuration with the placing

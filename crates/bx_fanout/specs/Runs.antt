@@ -9,7 +9,7 @@ use Rattle.bx_fanout.specs.Stages.{seen_out}
 use Rattle.bx_fanout.specs.Stages as stages
 use Rattle.bx_fanout.specs.declared.{out.Out.Out, out.RoundFault.RoundFault, round_state.RoundState.RoundState}
 use Rattle.bx_fanout.specs.declared.out.RoundFault.TheVariants.{Memory}
-use Rattle.bx_shard.specs.Shards.{Setup}
+use Rattle.bx_entry.specs.Placings.{Setup}
 use Rattle.bx_world.specs.Seen.{ShardsRefine, setup_of, world_of}
 
 -- these are the numbers of the inputs that were not whole before the last one, and its own

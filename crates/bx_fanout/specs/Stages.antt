@@ -3,7 +3,8 @@ use Rattle.std.specs.Prelude.{ℕ, ◌+◌, ◌≡◌, Bool, true, false, List, 
 use Rattle.std.specs.List.{AllByRecursion}
 use Rattle.bx_entry.specs.Words.{ReadInput, outs, places_of, taken_in}
 use Rattle.bx_entry.specs.Runs as runs
-use Rattle.bx_shard.specs.Shards.{Setup, is_taken}
+use Rattle.bx_entry.specs.Placings.{Setup}
+use Rattle.bx_shard.specs.Shards.{is_taken}
 use Rattle.bx_world.specs.Worlds.{WorldState}
 use Rattle.bx_fanout.specs.HeldInputs.{Row, outs_of, waits}
 use Rattle.bx_fanout.specs.CurrentInputs.{IsCollected, NoneTakenFrom, out_of}

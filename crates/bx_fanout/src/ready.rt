@@ -1,7 +1,7 @@
 //! The replies that an input has at once.
 ghost use Rattle.std.specs.Prelude.{◌≡◌, [], IsTrue, IfOk};
 ghost use Rattle.bx_fanout.specs.CurrentInputs.{Collects, IsCollected, NextReady};
-ghost use Rattle.bx_shard.specs.Shards.{Setup};
+ghost use Rattle.bx_entry.specs.Placings.{Setup};
 ghost use Rattle.bx_world.specs.Worlds.{WorldState};
 
 use crate::current_input::CurrentInput;

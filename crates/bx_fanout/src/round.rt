@@ -30,7 +30,7 @@ impl<P: Placing> Round<P> {
     ghost use Rattle.bx_entry.specs.Runs as runs;
     ghost use Rattle.bx_fanout.specs.Rounds.{IsLevel, IsRun, added_by, inputs_of, is_collecting, setup_in, workers_in};
     ghost use Rattle.bx_fanout.specs.Runs.{AreHeldBefore};
-    ghost use Rattle.bx_admission.specs.Slots.{placed_by};
+    ghost use Rattle.bx_entry.specs.Placings.{placed_by};
 
     /// A round with so many workers that has taken in no input. An error means that memory was refused.
     pub fn new(

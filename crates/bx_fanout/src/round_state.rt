@@ -8,7 +8,7 @@ ghost use Rattle.std.specs.Option.{is_some};
 ghost use Rattle.bx_entry.specs.Registry.{entries};
 ghost use Rattle.bx_entry.specs.declared.entry.Entry.{Entry};
 ghost use Rattle.bx_shard.specs.States.{connecting};
-ghost use Rattle.bx_admission.specs.Slots.{placed_by};
+ghost use Rattle.bx_entry.specs.Placings.{placed_by};
 ghost use Rattle.bx_world.specs.Seen.{setup_of, world_of};
 
 use crate::bring_in::bring_in;

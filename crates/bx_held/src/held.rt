@@ -4,7 +4,7 @@ ghost use mathlib.Core.List.{IsPrefix};
 ghost use Rattle.futures.specs.Poll.{IfReady, OnPending};
 ghost use Rattle.futures.specs.Task.{Covers, Keeps};
 ghost use Rattle.futures.specs.declared.task.Poll.TheVariants as polls;
-ghost use Rattle.bx_admission.specs.Slots.{placed_by};
+ghost use Rattle.bx_entry.specs.Placings.{placed_by};
 ghost use Rattle.bx_window.specs.Steps.{list_of};
 ghost use Rattle.bx_held.specs.Outputs.{HasNone, IsGiven, MayGive};
 ghost use Rattle.bx_held.specs.Waiting.{IsWaitedFor};

@@ -1,12 +1,16 @@
 -- What a request or a tick adds to the front of a pass, and why it is refused.
 use Rattle.std.proofs.Common.{◌≡◌, ℕ, ◌+◌, ◌<◌, ◌≤◌, None, List, [], ◌∷◌, ◌++◌, length, take, drop, refl, sym, ap, ◌∙◌, subst, arith, inl, inr, length-append}
-use Rattle.std.specs.Prelude.{Result, Ok, Err, IfErr, IsErrAnd, OnErr}
-use Rattle.std.proofs.lemmas.List.{drop_at}
+use Rattle.std.specs.Prelude.{Result, Ok, Err, IfOk, IfErr, IfSome, IsErrAnd, IsOkUnless, OnOk, OnErr}
+use Rattle.std.proofs.lemmas.{Grind.common_steps, List.drop_at}
 use mathlib.Core.List.{IsPrefix}
-use Rattle.bx_admission.specs.Ledgers.{Continues, Ledger}
-use Rattle.bx_admission.specs.Slots.{admitted_slots, placed_by}
-use Rattle.bx_admission.specs.declared.plan.LedgerPlan.{LedgerPlan}
-use Rattle.bx_admission.proofs.Faults.{IsFault}
+use Rattle.bx_registry.specs.Standings.{Continues, Standing}
+use Rattle.bx_entry.specs.Placings.{placed_by}
+use Rattle.bx_registry.specs.Slots.{admitted_slots}
+use Rattle.bx_registry.specs.declared.plan.Plan.{Plan}
+use Rattle.bx_registry.specs.Plans.{IsFault, fault_of}
+use Rattle.bx_registry.proofs.Faults.{fault_told, planned_taken}
+use Rattle.bx_registry.proofs.Slotting.{tick_slots}
+use Rattle.bx_entry.specs.Listing as messages
 use Rattle.bx_advice.specs.Limits.{greatest_length}
 use Rattle.bx_advice.specs.declared.config.Config.{Config}
 use Rattle.bx_entry.specs.Words.{ReadInput, added_by, refusal_of, refused_beyond, Listed, entries}
@@ -14,7 +18,7 @@ use Rattle.bx_entry.specs.declared.entry.Entry.{Entry}
 use Rattle.bx_theory.proofs.Lists.{entries_length}
 use Rattle.bx_registry.specs.declared.plan.AdmitFault.{AdmitFault}
 use Rattle.bx_registry.specs.declared.plan.AdmitFault.TheVariants as faults
-use Rattle.bx_shard.specs.Shards.{Setup}
+use Rattle.bx_entry.specs.Placings.{Setup}
 use Rattle.bx_window.specs.Places as places
 use Rattle.bx_window.specs.Steps.{list_of}
 use Rattle.bx_window.specs.declared.law.LogStep.{LogStep}
@@ -27,22 +31,22 @@ use Rattle.bx_hub.proofs.Lists.{list_length}
 
 -- ---- what is published
 
-entries_many : (l : Ledger) (p : LedgerPlan) → Continues l p → length p.batch.entries ≡ length p.elements
+pub entries_many : (l : Standing) (p : Plan) → Continues l p → length p.batch.entries ≡ length p.elements
 entries_many l p c =
     let all = entries_length l.config (l.list ++ p.elements) in
     let old = entries_length l.config l.list in
     omega (arith, all, old, ap (λ (es : List Entry). length es) c.entries, length-append (entries l.config l.list) p.batch.entries, length-append l.list p.elements)
 
 -- a plan continues the list of the window
-pub continues : (config : Config) (list : List Listed) (l : Ledger) (p : LedgerPlan) → l.config ≡ config → l.list ≡ list → Continues l p → 0 < length p.elements →
+pub continues : (config : Config) (list : List Listed) (l : Standing) (p : Plan) → l.config ≡ config → l.list ≡ list → Continues l p → 0 < length p.batch.entries →
     places.Continues config list (record { batch = p.batch; elements = p.elements })
 continues config list l p same is c some =
     subst (λ (k : Config). places.Continues k list (record { batch = p.batch; elements = p.elements })) same
     (subst (λ (xs : List Listed). places.Continues l.config xs (record { batch = p.batch; elements = p.elements })) is
-    (record { first = c.first; some = omega (arith, some, entries_many l p c); entries = c.entries }))
+    (record { first = c.first; some = some; entries = c.entries }))
 
 -- the list with the batch has its end
-pub places_end : (list : List Listed) (l : Ledger) (p : LedgerPlan) → l.list ≡ list → Continues l p → length list + length p.batch.entries ≤ greatest_length
+pub places_end : (list : List Listed) (l : Standing) (p : Plan) → l.list ≡ list → Continues l p → length list + length p.batch.entries ≤ greatest_length
 places_end list l p is c = omega (arith, ap (λ (xs : List Listed). length xs) is, c.change.bounded, length-append l.list p.elements, entries_many l p c)
 
 -- ---- where it stands
@@ -51,16 +55,12 @@ pub none_added : (xs : List Listed) → length xs ≡ 0 → xs ≡ []
 none_added [] e = refl
 none_added (x ∷ xs) e = absurd (omega (arith, e))
 
--- the slots are those that a placing gives behind the ledger's list
-abbrev pub IsSlotted : (ℕ → ℕ → ℕ) → Ledger → LedgerPlan → Type 0
-IsSlotted placing l p = p.slots ≡ admitted_slots (placed_by l.config l.shards placing) l.list p.elements
-
 take_front : {A : Type 0} (xs ys : List A) → take (length xs) (xs ++ ys) ≡ xs
 take_front [] ys = refl
 take_front (x ∷ xs) ys = ap (λ l. x ∷ l) (take_front xs ys)
 
 -- the front that is then seen ends with what the input adds
-pub admitted_by : (input : ReadInput) (l : Ledger) (p : LedgerPlan) (old whole new : List LogStep) → l.list ≡ list_of whole → Continues l p → p.elements ≡ added_by input → refusal_of (length l.list) input ≡ None →
+pub admitted_by : (input : ReadInput) (l : Standing) (p : Plan) (old whole new : List LogStep) → l.list ≡ list_of whole → Continues l p → p.elements ≡ added_by input → refusal_of (length l.list) input ≡ None →
     IsPrefix old whole → list_of new ≡ list_of whole ++ p.elements → IsAdmittedAt input p.batch.first old new
 admitted_by input l p old whole new is c added allowed pre grown =
     let first : p.batch.first ≡ length (list_of whole) = c.first ∙ ap (λ (xs : List Listed). length xs) is in
@@ -73,26 +73,49 @@ admitted_by input l p old whole new is c added allowed pre grown =
     }
 
 -- the slots are what the places of the front give
-pub slots_by : (placing : ℕ → ℕ → ℕ) (config : Config) (input : ReadInput) (l : Ledger) (p : LedgerPlan) (whole new : List LogStep) → l.config ≡ config → l.shards ≡ config.shards → l.list ≡ list_of whole → p.batch.first ≡ length l.list →
-    p.slots ≡ admitted_slots (placed_by l.config l.shards placing) l.list p.elements → p.elements ≡ added_by input → list_of new ≡ list_of whole ++ p.elements → AreSlotsAt (placed_by config config.shards placing) input p.batch.first new p.slots
-slots_by placing config input l p whole new same many is here slots added grown =
-    let setup : Setup = placed_by config config.shards placing in
-    let one : placed_by l.config l.shards placing ≡ setup = cc (same, many) in
-    let first : p.batch.first ≡ length (list_of whole) = here ∙ ap (λ (xs : List Listed). length xs) is in
-    let front : take p.batch.first (list_of new) ≡ l.list =
-    ap (λ (xs : List Listed). take p.batch.first xs) grown ∙ ap (λ (n : ℕ). take n (list_of whole ++ p.elements)) first ∙ take_front (list_of whole) p.elements ∙ sym is in
-    slots ∙ ap (λ (s : Setup). admitted_slots s l.list p.elements) one ∙ ap (admitted_slots setup l.list) added ∙ ap (λ (xs : List Listed). admitted_slots setup xs (added_by input)) (sym front)
+pub slots_by : (setup : Setup) (input : ReadInput) (p : Plan) (whole new : List LogStep) → p.batch.first ≡ length (list_of whole) → p.slots ≡ admitted_slots setup (list_of whole) p.elements → p.elements ≡ added_by input →
+    list_of new ≡ list_of whole ++ p.elements → AreSlotsAt setup input p.batch.first new p.slots
+slots_by setup input p whole new first slots added grown =
+    let front : take p.batch.first (list_of new) ≡ list_of whole =
+    ap (λ (xs : List Listed). take p.batch.first xs) grown ∙ ap (λ (n : ℕ). take n (list_of whole ++ p.elements)) first ∙ take_front (list_of whole) p.elements in
+    slots ∙ ap (admitted_slots setup (list_of whole)) added ∙ ap (λ (xs : List Listed). admitted_slots setup xs (added_by input)) (sym front)
 
 -- it stands there for whoever had seen less before
 pub admitted_before : (input : ReadInput) (first : ℕ) (old mid new : List LogStep) → IsPrefix old mid → IsAdmittedAt input first mid new → IsAdmittedAt input first old new
 admitted_before input first old mid new p a = record { allowed = a.allowed; fresh = omega (arith, list_length old mid p, a.fresh); there = a.there; end = a.end }
 
+-- ---- what it comes to
+
+pub slots_planned : (config : Config) (placing place_of : ℕ → ℕ → ℕ) (s : Standing) (list : List Listed) (r : Result Plan AdmitFault) → s.config ≡ config → s.shards ≡ config.shards → place_of ≡ placing → s.list ≡ list →
+    IfOk r (λ p. p.slots ≡ admitted_slots (placed_by s.config s.shards place_of) s.list p.elements) → IfOk r (λ p. p.slots ≡ admitted_slots (placed_by config config.shards placing) list p.elements)
+slots_planned config placing place_of s list (Err f) same many is at slots = tt
+slots_planned config placing place_of s list (Ok p) same many is at slots =
+    let one : placed_by s.config s.shards place_of ≡ placed_by config config.shards placing = cc (same, many, is) in
+    slots ∙ ap (λ (x : Setup). admitted_slots x s.list p.elements) one ∙ ap (λ (xs : List Listed). admitted_slots (placed_by config config.shards placing) xs p.elements) at
+
+-- a tick is not answered
+pub tick_planned : (setup : Setup) (list : List Listed) (moment : ℕ) (r : Result Plan AdmitFault) → IfOk r (λ p. p.elements ≡ messages.Tick moment ∷ []) → IfOk r (λ p. p.slots ≡ []) →
+    IfOk r (λ p. p.slots ≡ admitted_slots setup list p.elements)
+tick_planned setup list moment (Err f) elements slots = tt
+tick_planned setup list moment (Ok p) elements slots = slots ∙ sym (tick_slots setup list moment) ∙ ap (admitted_slots setup list) (sym elements)
+
+-- what is planned is not refused
+pub allowed_planned : (moment end : ℕ) (r : Result Plan AdmitFault) → IfSome (fault_of moment end) (λ f. r ≡ Err f) → OnOk r (refused_beyond moment end ≡ None)
+allowed_planned moment end (Ok p) some = planned_taken moment end (Ok p) p refl some
+allowed_planned moment end (Err f) some = tt
+
+-- what is not planned is refused so, or memory was
+pub fault_planned : (moment end : ℕ) (r : Result Plan AdmitFault) → IfSome (fault_of moment end) (λ f. r ≡ Err f) → (fault_of moment end ≡ None → IsOkUnless r faults.Memory) →
+    IfErr r (λ f. IsFault (refused_beyond moment end) f)
+fault_planned moment end (Ok p) some memory = tt
+fault_planned moment end (Err f) some memory = fault_told moment end (Err f) f refl some memory
+
 -- ---- why it is refused
 
-pub refused_by : (input : ReadInput) (moment end : ℕ) (f : AdmitFault) (front : List LogStep) → refusal_of (length (list_of front)) input ≡ refused_beyond moment end → IsFault (refused_beyond moment end) f → IsRefused input (of_planning f) front
-refused_by input moment end faults.BadMoment front same is = same ∙ is
-refused_by input moment end faults.Ended front same is = inl (same ∙ is)
-refused_by input moment end faults.Memory front same is = tt
+pub refused_by : (input : ReadInput) (f : AdmitFault) (front : List LogStep) → IsFault (refusal_of (length (list_of front)) input) f → IsRefused input (of_planning f) front
+refused_by input faults.BadMoment front is = is
+refused_by input faults.Ended front is = inl is
+refused_by input faults.Memory front is = tt
 
 -- what is not planned is not refused by the window
 pub whole_planned : (f : AdmitFault) (front log : List LogStep) → IsWhole (of_planning f) front log
@@ -138,3 +161,5 @@ pub was_full : {T : Type 0} (input : ReadInput) (first : ℕ) (front : List LogS
 was_full {T} input first front r is refused =
     let full : IsFullFor input first front = subst (λ (x : Result T PostFault). IfErr x (λ e. IsRefused input e front)) is refused in
     record { before = front; first = first; begins = prefix_self front; full = full }
+
+pub ruleset planning = (allowed_planned, fault_planned, common_steps)

@@ -3,6 +3,7 @@ pub mod Faults
 pub mod Held
 pub mod Lagging
 pub mod Lags
+pub mod Listables
 pub mod Lying
 pub mod Posts
 pub mod Watches

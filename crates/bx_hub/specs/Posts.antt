@@ -1,11 +1,11 @@
 -- What a post or a tick is answered, and why it is refused.
 use Rattle.std.specs.Prelude.{ℕ, ◌≡◌, ◌≢◌, ◌+◌, ◌<◌, ◌≤◌, ◌⊎◌, ◌^◌, List, length, take, drop, Some, None}
 use mathlib.Core.List.{IsPrefix}
-use Rattle.bx_admission.specs.Slots.{admitted_slots}
+use Rattle.bx_registry.specs.Slots.{admitted_slots}
 use Rattle.bx_entry.specs.Inputs.{ReadInput, Unread, added_by, refusal_of}
 use Rattle.bx_entry.specs.declared.entry.Slot.{Slot}
 use Rattle.bx_entry.specs.declared.input.Refusal.TheVariants as refusals
-use Rattle.bx_shard.specs.Shards.{Setup}
+use Rattle.bx_entry.specs.Placings.{Setup}
 use Rattle.bx_window.specs.declared.law.LogStep.{LogStep}
 use Rattle.bx_window.specs.Steps.{list_of, firsts_of, begin_of, below}
 use Rattle.bx_hub.specs.declared.fault.PostFault.{PostFault}

@@ -1,21 +1,24 @@
 //! What lies under the admission lock.
-ghost use Rattle.std.specs.Prelude.{◌≡◌, ◌<◌, ◌≤◌, ◌++◌, ◌⊎◌, drop, length, [], true, false, IfOk, IfErr, OnOk, OnErr};
+ghost use Rattle.std.specs.Prelude.{◌≡◌, ◌<◌, ◌≤◌, ◌++◌, ◌⊎◌, drop, length, [], None, true, false, IfOk, IfErr, OnOk, OnErr};
 ghost use Rattle.std.specs.List.{All};
 ghost use mathlib.Core.List.{IsPrefix};
-ghost use Rattle.bx_admission.specs.Ledgers.{Continues};
-ghost use Rattle.bx_entry.specs.Inputs.{Request, Tick, added_by};
+ghost use Rattle.bx_registry.specs.Plans.{IsFault};
+ghost use Rattle.bx_registry.specs.Slots.{admitted_slots};
+ghost use Rattle.bx_registry.specs.Standings.{Continues};
+ghost use Rattle.bx_entry.specs.Inputs.{added_by, refusal_of};
 ghost use Rattle.bx_window.specs.Steps.{below, firsts_of, list_of};
-ghost use Rattle.bx_admission.specs.Slots.{placed_by};
+ghost use Rattle.bx_entry.specs.Placings.{placed_by};
 ghost use Rattle.bx_hub.specs.declared.fault.PostFault.TheVariants as faults;
+ghost use Rattle.bx_hub.specs.Listables.{input_of};
 ghost use Rattle.bx_hub.specs.Posts.{AreSlotsAt, IsAdmittedAt, IsRefused, IsTrimmedTo, IsUnpublished, IsWhole};
 
 use crate::fault::PostFault;
 use crate::least::{Least, Stood};
-use crate::reading::Reading;
-use bx_admission::{Ledger, LedgerPlan};
+use crate::listable::Listable;
 use bx_advice::Config;
 use bx_entry::{Placing, Slot};
-use bx_message::{Message, Sequence};
+use bx_message::Sequence;
+use bx_registry::{AdmitFault, Plan, Registry};
 use bx_window::{Bundle, LogWriter, Naming, Note, PublishFault};
 use std::alloc::{AllocError, Global};
 use std::sync::Wait;
@@ -33,12 +36,12 @@ pub(crate) struct Receipt {
 /// Who is live, beside the writer of the list.
 #[derive(Drop)]
 pub(crate) struct Admission<J: Naming, R: Wait + Drop> {
-    ledger: Ledger,
+    registry: Registry,
     closed: bool,
     writer: LogWriter<J, R>,
-    ghost config: { ledger.config ≡ J.config },
-    ghost counted: { ledger.shards ≡ J.config.shards },
-    ghost listed: { ledger.list ≡ list_of writer },
+    ghost config: { registry.config ≡ J.config },
+    ghost counted: { registry.shards ≡ J.config.shards },
+    ghost listed: { registry.list ≡ list_of writer },
 }
 
 impl<J: Naming, R: Wait + Drop> Admission<J, R> {
@@ -53,65 +56,55 @@ impl<J: Naming, R: Wait + Drop> Admission<J, R> {
         ensures { IfOk result (λ a. (a.writer ≡ []) × (a.closed ≡ false)) }
     {
         Ok(Admission {
-            ledger: Ledger::new(alloc, config)?,
+            registry: Registry::new(alloc, config)?,
             closed: false,
             writer,
         })
     }
 
-    /// Takes the messages of a request into the list, which uses the request up; where it is refused, it comes back. A request without
+    /// Takes the messages of a request, or a tick, into the list, which uses it up; where it is refused, it comes back. A request without
     /// messages adds nothing.
-    pub(crate) fn post<P: Placing>(
+    pub(crate) fn admit<P: Placing>(
         &mut self,
         alloc: Global,
         placing: &P,
         pass: &mut Note<J>,
-        reading: Reading,
-    ) -> Result<Receipt, (Reading, PostFault)>
+        wanted: Listable,
+    ) -> Result<Receipt, (Listable, PostFault)>
         requires placing { P.place_of placing.now ≡ J.placing }
         ensures seen { IsPrefix pass.old pass.new }
-        ensures admitted { IfOk result (λ a. IsAdmittedAt (Request reading.arrival.moment reading.arrival.nonce reading.messages.items) a.first pass.old pass.new) }
-        ensures slots { IfOk result (λ a. AreSlotsAt (placed_by J.config J.config.shards J.placing) (Request reading.arrival.moment reading.arrival.nonce reading.messages.items) a.first pass.new a.slots) }
-        ensures back { IfErr result (λ r. r.0 ≡ reading) }
-        ensures refused { IfErr result (λ r. IsRefused (Request reading.arrival.moment reading.arrival.nonce reading.messages.items) r.1 pass.new) }
-        ensures grown { IfOk result (λ a. (a.first ≡ length (list_of self.old.writer)) × (list_of self.new.writer ≡ list_of self.old.writer ++ added_by (Request reading.arrival.moment reading.arrival.nonce reading.messages.items)) × (pass.new ≡ self.new.writer)) }
+        ensures admitted { IfOk result (λ a. IsAdmittedAt (input_of wanted) a.first pass.old pass.new) }
+        ensures slots { IfOk result (λ a. AreSlotsAt (placed_by J.config J.config.shards J.placing) (input_of wanted) a.first pass.new a.slots) }
+        ensures back { IfErr result (λ r. r.0 ≡ wanted) }
+        ensures refused { IfErr result (λ r. IsRefused (input_of wanted) r.1 pass.new) }
+        ensures grown { IfOk result (λ a. (a.first ≡ length (list_of self.old.writer)) × (list_of self.new.writer ≡ list_of self.old.writer ++ added_by (input_of wanted)) × (pass.new ≡ self.new.writer)) }
         ensures same { OnErr result (self.new.writer ≡ self.old.writer) }
         ensures whole { IfErr result (λ r. IsWhole r.1 pass.new self.new.writer) }
         ensures closed { IfErr result (λ r. (r.1 ≡ faults.Closed → self.old.closed ≡ true) × (self.old.closed ≡ true → r.1 ≡ faults.Closed)) }
         ensures open { OnOk result (self.old.closed ≡ false) }
         ensures kept { self.new.closed ≡ self.old.closed }
     {
-        let listed = self.list(
-            alloc,
-            placing,
-            pass,
-            reading.moment(),
-            reading.nonce(),
-            reading.messages(),
-        );
-        match listed {
-            Ok(admitted) => Ok(admitted),
-            Err(fault) => Err((reading, fault)),
+        match self.list(alloc, placing, pass, &wanted) {
+            Ok(receipt) => Ok(receipt),
+            Err(fault) => Err((wanted, fault)),
         }
     }
 
-    // Takes messages into the list. No messages add nothing.
+    // Takes it into the list. No messages add nothing.
     #[tactic(auto, using(crate::proofs::Posts::whole_planned))]
     fn list<P: Placing>(
         &mut self,
         alloc: Global,
         placing: &P,
         pass: &mut Note<J>,
-        moment: u64,
-        nonce: u128,
-        messages: &[Message],
+        wanted: &Listable,
     ) -> Result<Receipt, PostFault>
         requires placing { P.place_of placing.now ≡ J.placing }
         ensures seen { IsPrefix pass.old pass.new }
-        ensures admitted { IfOk result (λ a. IsAdmittedAt (Request moment nonce messages.now) a.first pass.old pass.new) }
-        ensures slots { IfOk result (λ a. AreSlotsAt (placed_by J.config J.config.shards J.placing) (Request moment nonce messages.now) a.first pass.new a.slots) }
-        ensures refused { IfErr result (λ f. IsRefused (Request moment nonce messages.now) f pass.new) }
-        ensures grown { IfOk result (λ a. (a.first ≡ length (list_of self.old.writer)) × (list_of self.new.writer ≡ list_of self.old.writer ++ added_by (Request moment nonce messages.now)) × (pass.new ≡ self.new.writer)) }
+        ensures admitted { IfOk result (λ a. IsAdmittedAt (input_of wanted.now) a.first pass.old pass.new) }
+        ensures slots { IfOk result (λ a. AreSlotsAt (placed_by J.config J.config.shards J.placing) (input_of wanted.now) a.first pass.new a.slots) }
+        ensures refused { IfErr result (λ f. IsRefused (input_of wanted.now) f pass.new) }
+        ensures grown { IfOk result (λ a. (a.first ≡ length (list_of self.old.writer)) × (list_of self.new.writer ≡ list_of self.old.writer ++ added_by (input_of wanted.now)) × (pass.new ≡ self.new.writer)) }
         ensures same { OnErr result (self.new.writer ≡ self.old.writer) }
         ensures whole { IfErr result (λ f. IsWhole f pass.new self.new.writer) }
         ensures closed { IfErr result (λ f. (f ≡ faults.Closed → self.old.closed ≡ true) × (self.old.closed ≡ true → f ≡ faults.Closed)) }
@@ -119,8 +112,8 @@ impl<J: Naming, R: Wait + Drop> Admission<J, R> {
         ensures kept { self.new.closed ≡ self.old.closed }
     {
         self.tell(pass)?;
-        let plan = self.ledger.plan(alloc, placing, moment, nonce, messages)?;
-        let count = messages.len();
+        let plan = self.plan(alloc, placing, wanted)?;
+        let count = plan.batch.entries.len();
         if count == 0 {
             return Ok(Receipt {
                 first: plan.batch.first,
@@ -130,32 +123,37 @@ impl<J: Naming, R: Wait + Drop> Admission<J, R> {
         self.publish(alloc, pass, plan)
     }
 
-    /// Takes a tick into the list.
-    #[tactic(auto, using(crate::proofs::Posts::whole_planned))]
-    pub(crate) fn tick(
+    // What it comes to behind the list.
+    #[tactic(auto, using(crate::proofs::Posts::planning))]
+    fn plan<P: Placing>(
         &mut self,
         alloc: Global,
-        pass: &mut Note<J>,
-        moment: u64,
-    ) -> Result<Receipt, PostFault>
-        ensures seen { IsPrefix pass.old pass.new }
-        ensures admitted { IfOk result (λ a. IsAdmittedAt (Tick moment) a.first pass.old pass.new) }
-        ensures refused { IfErr result (λ f. IsRefused (Tick moment) f pass.new) }
-        ensures grown { IfOk result (λ a. (a.first ≡ length (list_of self.old.writer)) × (list_of self.new.writer ≡ list_of self.old.writer ++ added_by (Tick moment)) × (pass.new ≡ self.new.writer)) }
-        ensures same { OnErr result (self.new.writer ≡ self.old.writer) }
-        ensures whole { IfErr result (λ f. IsWhole f pass.new self.new.writer) }
-        ensures closed { IfErr result (λ f. (f ≡ faults.Closed → self.old.closed ≡ true) × (self.old.closed ≡ true → f ≡ faults.Closed)) }
-        ensures open { OnOk result (self.old.closed ≡ false) }
-        ensures kept { self.new.closed ≡ self.old.closed }
+        placing: &P,
+        wanted: &Listable,
+    ) -> Result<Plan, AdmitFault>
+        requires placing { P.place_of placing.now ≡ J.placing }
+        ensures same { (self.new.writer ≡ self.old.writer) × (self.new.closed ≡ self.old.closed) }
+        ensures continues { IfOk result (λ p. Continues self.new.registry p) }
+        ensures elements { IfOk result (λ p. p.elements ≡ added_by (input_of wanted.now)) }
+        ensures slots { IfOk result (λ p. p.slots ≡ admitted_slots (placed_by J.config J.config.shards J.placing) (list_of self.new.writer) p.elements) }
+        ensures allowed { OnOk result (refusal_of (length (list_of self.new.writer)) (input_of wanted.now) ≡ None) }
+        ensures fault { IfErr result (λ f. IsFault (refusal_of (length (list_of self.new.writer)) (input_of wanted.now)) f) }
     {
-        self.tell(pass)?;
-        let plan = self.ledger.plan_tick(alloc, moment)?;
-        self.publish(alloc, pass, plan)
+        match wanted {
+            Listable::Request(reading) => self.registry.plan(
+                alloc,
+                placing,
+                reading.moment(),
+                reading.nonce(),
+                reading.messages(),
+            ),
+            Listable::Tick(moment) => self.registry.plan_tick(alloc, *moment),
+        }
     }
 
     // The pass has then seen the whole list, where the hub is open.
     fn tell(&mut self, pass: &mut Note<J>) -> Result<(), PostFault>
-        ensures same { (self.new.ledger ≡ self.old.ledger) × (self.new.writer ≡ self.old.writer) × (self.new.closed ≡ self.old.closed) }
+        ensures same { (self.new.registry ≡ self.old.registry) × (self.new.writer ≡ self.old.writer) × (self.new.closed ≡ self.old.closed) }
         ensures seen { IsPrefix pass.old pass.new }
         ensures whole { OnOk result ((pass.new ≡ self.new.writer) × (self.old.closed ≡ false)) }
         ensures refused { IfErr result (λ f. (f ≡ faults.Closed) × (self.old.closed ≡ true)) }
@@ -172,10 +170,10 @@ impl<J: Naming, R: Wait + Drop> Admission<J, R> {
         &mut self,
         alloc: Global,
         pass: &mut Note<J>,
-        plan: LedgerPlan,
+        plan: Plan,
     ) -> Result<Receipt, PostFault>
-        requires continues { Continues self.old.ledger plan }
-        requires some { 0 < length plan.elements }
+        requires continues { Continues self.old.registry plan }
+        requires some { 0 < length plan.batch.entries }
         requires whole { pass.old ≡ self.old.writer }
         ensures seen { IsPrefix pass.old pass.new }
         ensures taken { IfOk result (λ a. (a ≡ record { first = plan.batch.first; slots = plan.slots })
@@ -189,7 +187,7 @@ impl<J: Naming, R: Wait + Drop> Admission<J, R> {
         if pass.steps() >= MOST_STEPS {
             return Err(PostFault::Ended);
         }
-        let LedgerPlan {
+        let Plan {
             batch,
             slots,
             elements,
@@ -199,7 +197,7 @@ impl<J: Naming, R: Wait + Drop> Admission<J, R> {
         let added = elements.again();
         match self.writer.publish(alloc, Bundle { batch, elements }) {
             Ok(()) => {
-                self.ledger.commit(change, &added);
+                self.registry.commit(change, &added);
                 *pass = self.writer.tell();
                 Ok(Receipt { first, slots })
             }

@@ -10,7 +10,7 @@ ghost use Rattle.bx_shard.specs.Seen.{state};
 ghost use Rattle.bx_shard.specs.States.{Swept, WasShut, Watched, connect_in};
 ghost use Rattle.bx_window.specs.Places.{IsOf, StandsIn};
 ghost use Rattle.bx_window.specs.Steps.{list_of};
-ghost use Rattle.bx_admission.specs.Slots.{placed_by};
+ghost use Rattle.bx_entry.specs.Placings.{placed_by};
 ghost use Rattle.bx_hub.specs.Faults.{IsStopped, IsStoppedIn, paused, resumed};
 ghost use Rattle.bx_hub.specs.declared.activity.Activity.TheVariants.{Active, Paused, Closed};
 ghost use Rattle.bx_hub.specs.declared.fault.HubFault.TheVariants as faults;

@@ -2,7 +2,7 @@
 ghost use Rattle.std.specs.Prelude.{◌≡◌, ◌≢◌, ◌⊎◌, ◌≤◌, ◌<◌, ◌++◌, [], length, Ok, None, Some, IsErr, OnOk, IfOk, IfErr, IfSome, IfNone, nat_lt};
 ghost use Rattle.std.specs.Arc.{arc_value};
 ghost use mathlib.Core.List.{IsPrefix};
-ghost use Rattle.bx_admission.specs.Slots.{placed_by};
+ghost use Rattle.bx_entry.specs.Placings.{placed_by};
 ghost use Rattle.bx_entry.specs.Requests.{read_input};
 ghost use Rattle.bx_entry.specs.declared.input.Input.TheVariants as inputs;
 ghost use Rattle.bx_window.specs.Steps.{list_of};
@@ -13,6 +13,7 @@ use crate::brought::{AllBrought, Brought};
 use crate::desk::{Desk, Watch, Woken};
 use crate::fault::{HubFault, PostFault, PostReceipt, TickReceipt};
 use crate::least::{Least, Stood};
+use crate::listable::Listable;
 use crate::pass::Pass;
 use crate::reading::{Reading, Refused, Unlisted};
 use crate::stopped::Stopped;
@@ -44,11 +45,10 @@ pub struct Hub<J: Naming, P: Placing, G: Gate + Drop, R: Wait + Drop> {
 }
 
 impl<J: Naming, P: Placing, G: Gate + Drop, R: Wait + Drop> Hub<J, P, G, R> {
-    ghost use Rattle.bx_entry.specs.Inputs.{Request};
-    ghost use Rattle.bx_entry.specs.Inputs as read;
     ghost use Rattle.bx_hub.specs.Bringing.{IsOfAll};
     ghost use Rattle.bx_hub.specs.Held.{IsLevelWithout, answer_over};
     ghost use Rattle.bx_hub.specs.Lags.{IsLagging};
+    ghost use Rattle.bx_hub.specs.Listables.{input_of};
     ghost use Rattle.bx_hub.specs.Posts.{AreSlotsAt, IsAdmittedAt, IsRefused, IsTrimmedTo, IsWithoutRoom};
     ghost use Rattle.bx_hub.specs.Waking.{put_of};
     ghost use Rattle.bx_hub.specs.Watches.{IsLeftOrBack};
@@ -120,7 +120,16 @@ impl<J: Naming, P: Placing, G: Gate + Drop, R: Wait + Drop> Hub<J, P, G, R> {
         ensures behind { IfOk result (λ p. IsOfAll J.config.shards pass.new p.brought) }
     {
         let reading = Reading::of(alloc, arrival)?;
-        let Receipt { first, slots } = self.admit(rt, alloc, &mut pass.front, reading)?;
+        let wanted = Listable::Request(reading);
+        let Receipt { first, slots } = match self.admit(rt, alloc, &mut pass.front, wanted) {
+            Ok(receipt) => receipt,
+            Err((wanted, why)) => {
+                let Some(arrival) = wanted.into_arrival() else {
+                    unreachable!()
+                };
+                return Err(Refused::of(why, arrival));
+            }
+        };
         let brought = self.bring_all(rt, alloc, &pass.front);
         Ok(PostReceipt {
             first,
@@ -144,7 +153,11 @@ impl<J: Naming, P: Placing, G: Gate + Drop, R: Wait + Drop> Hub<J, P, G, R> {
         ensures lags { IfErr result (λ u. IsLagging u.fault u.lag pass.new) }
         ensures behind { IfOk result (λ t. IsOfAll J.config.shards pass.new t.brought) }
     {
-        let Receipt { first, .. } = self.admit_tick(rt, alloc, &mut pass.front, moment)?;
+        let wanted = Listable::Tick(moment);
+        let Receipt { first, .. } = match self.admit(rt, alloc, &mut pass.front, wanted) {
+            Ok(receipt) => receipt,
+            Err((_, why)) => return Err(why),
+        };
         let brought = self.bring_all(rt, alloc, &pass.front);
         self.let_go(rt, alloc);
         Ok(TickReceipt {
@@ -153,72 +166,34 @@ impl<J: Naming, P: Placing, G: Gate + Drop, R: Wait + Drop> Hub<J, P, G, R> {
         })
     }
 
-    // Takes the messages into the list; where the window is full, once more with the room that the shards leave.
+    // Takes it into the list; where the window is full, once more with the room that the shards leave. Where it is refused, it comes back.
     fn admit<W: Wait>(
         &self,
         rt: &W,
         alloc: Global,
         pass: &mut Note<J>,
-        reading: Reading,
-    ) -> Result<Receipt, Refused<J>>
+        wanted: Listable,
+    ) -> Result<Receipt, (Listable, Unlisted<J>)>
         ensures seen { IsPrefix pass.old pass.new }
-        ensures admitted { IfOk result (λ a. IsAdmittedAt (Request reading.arrival.moment reading.arrival.nonce reading.messages.items) a.first pass.old pass.new) }
-        ensures slots { IfOk result (λ a. AreSlotsAt (placed_by J.config J.config.shards J.placing) (Request reading.arrival.moment reading.arrival.nonce reading.messages.items) a.first pass.new a.slots) }
-        ensures back { IfErr result (λ r. r.arrival ≡ reading.arrival) }
-        ensures refused { IfErr result (λ r. IsRefused (Request reading.arrival.moment reading.arrival.nonce reading.messages.items) r.why.fault pass.new) }
-        ensures lags { IfErr result (λ r. IsLagging r.why.fault r.why.lag pass.new) }
+        ensures admitted { IfOk result (λ a. IsAdmittedAt (input_of wanted) a.first pass.old pass.new) }
+        ensures slots { IfOk result (λ a. AreSlotsAt (placed_by J.config J.config.shards J.placing) (input_of wanted) a.first pass.new a.slots) }
+        ensures back { IfErr result (λ r. r.0 ≡ wanted) }
+        ensures refused { IfErr result (λ r. IsRefused (input_of wanted) r.1.fault pass.new) }
+        ensures lags { IfErr result (λ r. IsLagging r.1.fault r.1.lag pass.new) }
     {
         let mut admission = self.admission.lock(rt);
-        let reading = match admission.post(alloc, &*self.placing, pass, reading) {
-            Ok(admitted) => return Ok(admitted),
-            Err((reading, PostFault::Behind { .. })) => reading,
-            Err((reading, fault)) => {
-                let why = Unlisted::of(&*admission, fault, None);
-                return Err(Refused::of(why, reading.into_arrival()));
-            }
+        let wanted = match admission.admit(alloc, &*self.placing, pass, wanted) {
+            Ok(receipt) => return Ok(receipt),
+            Err((wanted, PostFault::Behind { .. })) => wanted,
+            Err((wanted, fault)) => return Err((wanted, Unlisted::of(&*admission, fault, None))),
         };
         let lowest = match self.make_room(rt, alloc, &mut admission, pass) {
             Ok(lowest) => lowest,
-            Err(fault) => {
-                let why = Unlisted::of(&*admission, fault, None);
-                return Err(Refused::of(why, reading.into_arrival()));
-            }
+            Err(fault) => return Err((wanted, Unlisted::of(&*admission, fault, None))),
         };
-        match admission.post(alloc, &*self.placing, pass, reading) {
-            Ok(admitted) => Ok(admitted),
-            Err((reading, fault)) => {
-                let why = Unlisted::of(&*admission, fault, Some(lowest));
-                Err(Refused::of(why, reading.into_arrival()))
-            }
-        }
-    }
-
-    // Takes the tick into the list; where the window is full, once more with the room that the shards leave.
-    fn admit_tick<W: Wait>(
-        &self,
-        rt: &W,
-        alloc: Global,
-        pass: &mut Note<J>,
-        moment: u64,
-    ) -> Result<Receipt, Unlisted<J>>
-        ensures seen { IsPrefix pass.old pass.new }
-        ensures admitted { IfOk result (λ a. IsAdmittedAt (read.Tick moment) a.first pass.old pass.new) }
-        ensures refused { IfErr result (λ u. IsRefused (read.Tick moment) u.fault pass.new) }
-        ensures lags { IfErr result (λ u. IsLagging u.fault u.lag pass.new) }
-    {
-        let mut admission = self.admission.lock(rt);
-        match admission.tick(alloc, pass, moment) {
-            Ok(admitted) => return Ok(admitted),
-            Err(PostFault::Behind { .. }) => {}
-            Err(fault) => return Err(Unlisted::of(&*admission, fault, None)),
-        }
-        let lowest = match self.make_room(rt, alloc, &mut admission, pass) {
-            Ok(lowest) => lowest,
-            Err(fault) => return Err(Unlisted::of(&*admission, fault, None)),
-        };
-        match admission.tick(alloc, pass, moment) {
-            Ok(admitted) => Ok(admitted),
-            Err(fault) => Err(Unlisted::of(&*admission, fault, Some(lowest))),
+        match admission.admit(alloc, &*self.placing, pass, wanted) {
+            Ok(receipt) => Ok(receipt),
+            Err((wanted, fault)) => Err((wanted, Unlisted::of(&*admission, fault, Some(lowest)))),
         }
     }
 

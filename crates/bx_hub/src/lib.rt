@@ -9,6 +9,7 @@ mod desk;
 mod fault;
 mod hub;
 mod least;
+mod listable;
 mod pass;
 mod reading;
 mod stopped;

@@ -2,7 +2,7 @@
 use Rattle.std.proofs.Common.{◌≡◌, ℕ, ◌+◌, ◌<◌, ◌&&◌, ◌||◌, Bool, true, false, cond, IsTrue, List, [], ◌∷◌, length, drop, refl, ap, ◌∙◌, arith}
 use Rattle.std.specs.List.{list_any, count_by, onto_first}
 use Rattle.std.proofs.lemmas.{List.Recursion.is_count_by, List.Splits.length-slice_split, List.at_drop_all, Grind.common_steps}
-use Rattle.bx_lists.proofs.Tests.{or_assoc}
+use Rattle.bx_history.proofs.Tests.{or_assoc}
 use Rattle.bx_names.specs.Words.{is_slash, parts, segments, is_absolute, is_empty, is_path, is_bad_byte, is_star, has_bad_byte, has_star}
 use Rattle.bx_names.proofs.PathLemmas.{parts_some, path_from_absolute, slash-is}
 

@@ -21,7 +21,8 @@ use Rattle.bx_entry.specs.declared.entry.EntryKind.TheVariants as entries
 use Rattle.bx_roster.specs.Words.{Members, live_in, with_live, known_at, AllLive, edited, CanEdit}
 use Rattle.bx_roster.specs.declared.edit.Edit.TheVariants.{Open}
 use Rattle.bx_roster.proofs.{Sessions.AllLive-push, Tables.live_in-all}
-use Rattle.bx_registry.specs.declared.plan.Planned.TheVariants.{Ready}
+use Rattle.bx_entry.specs.Placings.{Setup}
+use Rattle.bx_entry.specs.declared.entry.Slot.TheVariants.{Ready}
 use Rattle.bx_registry.proofs.Digits.{drop-client_id}
 
 pub all_four : {T E : Type 0} (r : Result T E) (P Q R S X : T → Type 0) → ((x : T) → P x → Q x → R x → S x → X x) → IfOk r P → IfOk r Q → IfOk r R → IfOk r S → IfOk r X
@@ -44,12 +45,12 @@ found-client o r e = grind (arith, common_steps)
 same-members : (ms : Members) → AllLive ms.live → ms ≡ record ms { live = live_in ms.live }
 same-members ms all = ap (λ (live : List Registered). record ms { live = live }) (sym (live_in-all ms.live all))
 
-pub refused-verdict : (config : Config) (ms : Members) (senders : Senders) (moment place : ℕ) (p : Posted) (message_kind : MessageKind) (error : Error) (o : Option Sender) (j : Judgement) →
-    message_kind ≡ message_kind_of p.message.channel → AllLive ms.live → refusal config ms.live p ≡ Some error → IsFound o (named_by ms.live message_kind p.message) →
+pub refused-verdict : (setup : Setup) (ms : Members) (senders : Senders) (moment place : ℕ) (p : Posted) (message_kind : MessageKind) (error : Error) (o : Option Sender) (j : Judgement) →
+    message_kind ≡ message_kind_of p.message.channel → AllLive ms.live → refusal setup.config ms.live p ≡ Some error → IsFound o (named_by ms.live message_kind p.message) →
     j.edit ≡ None → (j.kind ≡ entries.Refused) × (j.rides ≡ None) → j.senders ≡ senders_behind p Mixed →
-    j.slot ≡ Ready (reply_to config message_kind p.message (option_map (λ (s : Sender). s.client.now) o) (Failed error) replies.NoAck) →
-    IsVerdict ms place (verdict config (state_of ms senders) moment p) j
-refused-verdict config ms senders moment place p message_kind error o j k all is found e f behind g =
+    j.slot ≡ Ready (reply_to setup.config message_kind p.message (option_map (λ (s : Sender). s.client.now) o) (Failed error) replies.NoAck) →
+    IsVerdict setup ms place (verdict setup.config (state_of ms senders) moment p) j
+refused-verdict setup ms senders moment place p message_kind error o j k all is found e f behind g =
     grind (arith, common_steps, same-members, found-client)
 
 -- ---- a handshake
@@ -61,33 +62,33 @@ room config live p h = grind (arith, common_steps)
 pub handshake-kind : (m : Message) → is_handshake m ≡ true → message_kind_of m.channel ≡ Handshake
 handshake-kind m h = cond-true (is_handshake m) Handshake _ h
 
-pub opened-verdict : (config : Config) (ms : Members) (senders : Senders) (moment place n : ℕ) (p : Posted) (message_kind : MessageKind) (j : Judgement) →
-    message_kind ≡ message_kind_of p.message.channel → AllLive ms.live → ms.limit ≡ config.limits.sessions → n ≡ ms.opened + 1 → n < 2 ^ 64 → is_handshake p.message ≡ true →
-    refusal config ms.live p ≡ None → named_by ms.live message_kind p.message ≡ None →
-    j.edit ≡ Some (Open (newcomer config moment p n)) → (j.kind ≡ entries.Opened n (is_ack p.message.ack)) × (j.rides ≡ None) → j.senders ≡ senders_behind p Mixed →
-    j.slot ≡ Ready (reply_to config Handshake p.message (Some (client_id p.nonce n)) advice.Opened (if is_ack p.message.ack then replies.AckTrue else replies.NoAck)) →
-    IsVerdict ms place (verdict config (state_of ms senders) moment p) j
-opened-verdict config ms senders moment place n p message_kind j k all limit number small opens is who e f behind g =
-    let full = room config ms.live p (rw (handshake-kind p.message opens) at is) in
-    let free : length ms.live < ms.limit = omega (arith, leb-false config.limits.sessions (count_live ms.live) full, limit, ap length (live_in-all ms.live all)) in
-    let one : IsVerdict ms place (unnamed config (state_of ms senders) moment p true) j = record {
-      members = rw (e, number) (same-members (record ms { opened = ms.opened + 1; live = ms.live ++ newcomer config moment p (ms.opened + 1) ∷ [] }) (AllLive-push ms.live _ all refl));
+pub opened-verdict : (setup : Setup) (ms : Members) (senders : Senders) (moment place n : ℕ) (p : Posted) (message_kind : MessageKind) (j : Judgement) →
+    message_kind ≡ message_kind_of p.message.channel → AllLive ms.live → ms.limit ≡ setup.config.limits.sessions → n ≡ ms.opened + 1 → n < 2 ^ 64 → is_handshake p.message ≡ true →
+    refusal setup.config ms.live p ≡ None → named_by ms.live message_kind p.message ≡ None →
+    j.edit ≡ Some (Open (newcomer setup.config moment p n)) → (j.kind ≡ entries.Opened n (is_ack p.message.ack)) × (j.rides ≡ None) → j.senders ≡ senders_behind p Mixed →
+    j.slot ≡ Ready (reply_to setup.config Handshake p.message (Some (client_id p.nonce n)) advice.Opened (if is_ack p.message.ack then replies.AckTrue else replies.NoAck)) →
+    IsVerdict setup ms place (verdict setup.config (state_of ms senders) moment p) j
+opened-verdict setup ms senders moment place n p message_kind j k all limit number small opens is who e f behind g =
+    let full = room setup.config ms.live p (rw (handshake-kind p.message opens) at is) in
+    let free : length ms.live < ms.limit = omega (arith, leb-false setup.config.limits.sessions (count_live ms.live) full, limit, ap length (live_in-all ms.live all)) in
+    let one : IsVerdict setup ms place (unnamed setup.config (state_of ms senders) moment p true) j = record {
+      members = rw (e, number) (same-members (record ms { opened = ms.opened + 1; live = ms.live ++ newcomer setup.config moment p (ms.opened + 1) ∷ [] }) (AllLive-push ms.live _ all refl));
       can = rw (e, number) (record { room = free; number = refl; small = rw (← number) small; named = drop-client_id p.nonce (ms.opened + 1); live = refl }, tt);
       behind = behind;
       what = rw (f.0, number) refl;
       rider = f.1;
       answer = rw (g, number) refl;
     } in
-    rw (is, ← k, who) (subst (λ (b : Bool). IsVerdict ms place (unnamed config (state_of ms senders) moment p b) j) (sym opens) one)
+    rw (is, ← k, who) (subst (λ (b : Bool). IsVerdict setup ms place (unnamed setup.config (state_of ms senders) moment p b) j) (sym opens) one)
 
 -- ---- a message of no session
 
-pub sessionless-verdict : (config : Config) (ms : Members) (senders : Senders) (moment place : ℕ) (p : Posted) (message_kind : MessageKind) (j : Judgement) →
-    message_kind ≡ message_kind_of p.message.channel → AllLive ms.live → is_handshake p.message ≡ false → refusal config ms.live p ≡ None → named_by ms.live message_kind p.message ≡ None →
+pub sessionless-verdict : (setup : Setup) (ms : Members) (senders : Senders) (moment place : ℕ) (p : Posted) (message_kind : MessageKind) (j : Judgement) →
+    message_kind ≡ message_kind_of p.message.channel → AllLive ms.live → is_handshake p.message ≡ false → refusal setup.config ms.live p ≡ None → named_by ms.live message_kind p.message ≡ None →
     j.edit ≡ None → (j.kind ≡ sessionless_kind message_kind p.message) × (j.rides ≡ None) → j.senders ≡ senders_behind p Mixed →
-    j.slot ≡ Ready (reply_to config message_kind p.message None advice.Done replies.NoAck) →
-    IsVerdict ms place (verdict config (state_of ms senders) moment p) j
-sessionless-verdict config ms senders moment place p message_kind j k all other is who e f behind g = grind (arith, common_steps, same-members)
+    j.slot ≡ Ready (reply_to setup.config message_kind p.message None advice.Done replies.NoAck) →
+    IsVerdict setup ms place (verdict setup.config (state_of ms senders) moment p) j
+sessionless-verdict setup ms senders moment place p message_kind j k all other is who e f behind g = grind (arith, common_steps, same-members)
 
 -- ---- the session that is named
 
@@ -123,22 +124,22 @@ ridden-for : (config : Config) (senders : Senders) (message_kind : MessageKind) 
     rider_by config senders message_kind p (named s) ≡ rider_by config senders message_kind p r
 ridden-for config senders message_kind p s r e f a = grind (arith, common_steps, slot-for)
 
-served-by : (config : Config) (ms : Members) (senders : Senders) (moment place due : ℕ) (p : Posted) (message_kind : MessageKind) (s : Sender) (o : Option Registered) (j : Judgement) →
-    message_kind ≡ message_kind_of p.message.channel → o ≡ named_by ms.live message_kind p.message → IsSender o s.number s.client.now s.ack → due ≡ due_of config moment (hold_of config p) →
-    j.edit ≡ Some (edit_for message_kind s.number due) → j.kind ≡ kind_for message_kind p (named s) (hold_of config p) → j.senders ≡ senders_behind p (joined senders s.number) →
-    IsRidden place (rider_by config senders message_kind p (named s)) (slot_for config message_kind p (named s)) j.rides j.slot →
-    IsVerdict ms place (judged_by config (state_of ms senders) moment p o None) j
-served-by config ms senders moment place due p message_kind s o j h1 h2 h3 h4 h5 h6 h7 h8 =
+served-by : (setup : Setup) (ms : Members) (senders : Senders) (moment place due : ℕ) (p : Posted) (message_kind : MessageKind) (s : Sender) (o : Option Registered) (j : Judgement) →
+    message_kind ≡ message_kind_of p.message.channel → o ≡ named_by ms.live message_kind p.message → IsSender o s.number s.client.now s.ack → due ≡ due_of setup.config moment (hold_of setup.config p) →
+    j.edit ≡ Some (edit_for message_kind s.number due) → j.kind ≡ kind_for message_kind p (named s) (hold_of setup.config p) → j.senders ≡ senders_behind p (joined senders s.number) →
+    IsRidden setup place (rider_by setup.config senders message_kind p (named s)) (slot_for setup.config message_kind p (named s)) j.rides j.slot →
+    IsVerdict setup ms place (judged_by setup.config (state_of ms senders) moment p o None) j
+served-by setup ms senders moment place due p message_kind s o j h1 h2 h3 h4 h5 h6 h7 h8 =
     grind (arith, common_steps, named-at, ridden-for, slot-for, edited-for, can-for, kind-for)
 
-pub served-verdict : (config : Config) (ms : Members) (senders : Senders) (moment place : ℕ) (p : Posted) (message_kind : MessageKind) (s : Sender) (j : Judgement) →
-    message_kind ≡ message_kind_of p.message.channel → refusal config ms.live p ≡ None → IsSender (named_by ms.live message_kind p.message) s.number s.client.now s.ack →
-    j.edit ≡ Some (edit_for message_kind s.number (due_of config moment (hold_of config p))) → j.kind ≡ kind_for message_kind p (named s) (hold_of config p) →
+pub served-verdict : (setup : Setup) (ms : Members) (senders : Senders) (moment place : ℕ) (p : Posted) (message_kind : MessageKind) (s : Sender) (j : Judgement) →
+    message_kind ≡ message_kind_of p.message.channel → refusal setup.config ms.live p ≡ None → IsSender (named_by ms.live message_kind p.message) s.number s.client.now s.ack →
+    j.edit ≡ Some (edit_for message_kind s.number (due_of setup.config moment (hold_of setup.config p))) → j.kind ≡ kind_for message_kind p (named s) (hold_of setup.config p) →
     j.senders ≡ senders_behind p (joined senders s.number) →
-    IsRidden place (rider_by config senders message_kind p (named s)) (slot_for config message_kind p (named s)) j.rides j.slot →
-    IsVerdict ms place (verdict config (state_of ms senders) moment p) j
-served-verdict config ms senders moment place p message_kind s j k is who e f behind g =
-    rw (is, ← k) (served-by config ms senders moment place _ p message_kind s (named_by ms.live message_kind p.message) j k refl who refl e f behind g)
+    IsRidden setup place (rider_by setup.config senders message_kind p (named s)) (slot_for setup.config message_kind p (named s)) j.rides j.slot →
+    IsVerdict setup ms place (verdict setup.config (state_of ms senders) moment p) j
+served-verdict setup ms senders moment place p message_kind s j k is who e f behind g =
+    rw (is, ← k) (served-by setup ms senders moment place _ p message_kind s (named_by ms.live message_kind p.message) j k refl who refl e f behind g)
 
 -- ---- patterns
 

@@ -6,3 +6,6 @@ pub mod Drafting
 pub mod Judging
 pub mod Planning
 pub mod Opening
+pub mod Faults
+pub mod Longer
+pub mod Slotting

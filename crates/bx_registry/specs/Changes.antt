@@ -23,15 +23,10 @@ pub record IsPlannedAt (roll : Roll) (c : Amendment) : Type 0 where
   pub clock : c.clock ≤ greatest_moment
   pub length : c.length ≤ greatest_length
 
--- what contracts see of a registry: its roll, and whether there is a vacant record for the next session
-pub record Standing : Type 0 where
-  pub roll : Roll
-  pub ready : Bool
-
--- the change was planned at this registry, which has a record for the session that it opens, if it opens one
-pub record CanCommit (s : Standing) (c : Amendment) : Type 0 where
-  pub planned : IsPlannedAt s.roll c
-  pub room : opens c.edits ≤ room_of s.ready
+-- the change was planned at this roll, and there is a record for the session that it opens, if it opens one
+pub record CanCommit (roll : Roll) (ready : Bool) (c : Amendment) : Type 0 where
+  pub planned : IsPlannedAt roll c
+  pub room : opens c.edits ≤ room_of ready
 
 -- a registry keeps its limits
 pub record IsWithin (config : Config) (ms : Members) (clock length : ℕ) : Type 0 where

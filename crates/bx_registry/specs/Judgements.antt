@@ -1,18 +1,19 @@
 -- What the judging of a message hands on.
-use Rattle.std.specs.Prelude.{ℕ, ◌≡◌, ⊤, Bool, true, false, List, fold, is_some, option_to_list, Option, Some}
+use Rattle.std.specs.Prelude.{ℕ, ◌≡◌, ⊤, Bool, true, false, List, [], ◌∷◌, fold, is_some, option_to_list, Option}
 use Rattle.std.specs.List.{list_any}
 use Rattle.bx_names.specs.Faults.{name_fault, pattern_fault}
 use Rattle.bx_advice.specs.declared.config.Config.{Config}
 use Rattle.bx_message.specs.declared.{message.Message.Message, message.TextMember.TextMember, message_kind.MessageKind.MessageKind}
 use Rattle.bx_message.specs.declared.message_kind.MessageKind.TheVariants as message_kinds
-use Rattle.bx_entry.specs.declared.entry.Rider.{Rider}
+use Rattle.bx_entry.specs.declared.entry.{Rider.Rider, Slot.Slot}
+use Rattle.bx_entry.specs.Placings.{Setup}
 use Rattle.bx_entry.specs.Registry.{PlaceSlot, Verdict, needs_session, slot_with}
 use Rattle.bx_roster.specs.Words.{Members, edited, CanEditEach}
 use Rattle.bx_roster.specs.declared.edit.Edit.{Edit}
 use Rattle.bx_roster.specs.declared.edit.Edit.TheVariants.{Extend, Close}
 use Rattle.bx_registry.specs.Rolls.{members_after}
-use Rattle.bx_registry.specs.Plans.{planned_at}
-use Rattle.bx_registry.specs.declared.{plan.Planned.Planned, judge.Judgement.Judgement}
+use Rattle.bx_registry.specs.Slots.{given_by}
+use Rattle.bx_registry.specs.declared.judge.Judgement.{Judgement}
 
 -- an accepted message of a session moves its due moment on; a disconnect closes the session
 abbrev pub edit_for : MessageKind → ℕ → ℕ → Edit
@@ -25,18 +26,18 @@ is_needed config message_kinds.Publish client = needs_session config client
 is_needed config _ client = true
 
 -- the edit, if there is one, the senders, the kind of the entry, its rider and the slot are those of the outcome at this place
-pub record IsVerdict (ms : Members) (place : ℕ) (o : Verdict) (j : Judgement) : Type 0 where
+pub record IsVerdict (setup : Setup) (ms : Members) (place : ℕ) (o : Verdict) (j : Judgement) : Type 0 where
   pub members : fold edited ms (option_to_list j.edit) ≡ members_after ms o
   pub can : CanEditEach ms (option_to_list j.edit)
   pub behind : j.senders ≡ o.state.senders
   pub what : j.kind ≡ o.kind
   pub rider : j.rides ≡ o.rides
-  pub answer : planned_at place o.slot ≡ Some j.slot
+  pub answer : given_by setup place o.slot ≡ j.slot ∷ []
 
 -- a message that would be answered so is this rider, if it is one, and this is its slot at this place
-pub record IsRidden (place : ℕ) (rider : Option Rider) (answer : PlaceSlot) (rides : Option Rider) (slot : Planned) : Type 0 where
+pub record IsRidden (setup : Setup) (place : ℕ) (rider : Option Rider) (answer : PlaceSlot) (rides : Option Rider) (slot : Slot) : Type 0 where
   pub same : rides ≡ rider
-  pub answered : planned_at place (slot_with rider answer) ≡ Some slot
+  pub answered : given_by setup place (slot_with rider answer) ≡ slot ∷ []
 
 -- whether some text does not read as a pattern
 abbrev pub has_fault : List (List ℕ) → Bool

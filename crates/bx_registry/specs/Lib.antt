@@ -4,7 +4,10 @@ pub mod Ids
 pub mod Changes
 pub mod Drafts
 pub mod Postings
+pub mod Setups
+pub mod Slots
 pub mod Plans
 pub mod Judgements
 pub mod Planners
+pub mod Standings
 pub mod Words

@@ -1,21 +1,22 @@
 -- The messages of a request, one after another.
-use Rattle.std.specs.Prelude.{ℕ, ◌≡◌, ◌+◌, ◌≤◌, List, length, Some}
+use Rattle.std.specs.Prelude.{ℕ, ◌≡◌, ◌+◌, ◌≤◌, List, [], ◌∷◌, length}
 use Rattle.bx_advice.specs.declared.config.Config.{Config}
 use Rattle.bx_advice.specs.Limits.{greatest_moment}
 use Rattle.bx_entry.specs.Words.{Listed, Verdict}
-use Rattle.bx_entry.specs.declared.{entry.Entry.Entry, senders.Senders.Senders}
+use Rattle.bx_entry.specs.Placings.{Setup}
+use Rattle.bx_entry.specs.declared.{entry.Entry.Entry, entry.Slot.Slot, senders.Senders.Senders}
 use Rattle.bx_entry.specs.declared.senders.Senders.TheVariants.{NoneYet}
 use Rattle.bx_roster.specs.Live.{Members}
 use Rattle.bx_registry.specs.Rolls.{Roll, after, found, members_after}
-use Rattle.bx_registry.specs.Plans.{planned_at, entries_in, slots_in}
-use Rattle.bx_registry.specs.declared.plan.Planned.{Planned}
+use Rattle.bx_registry.specs.Plans.{entries_in, slots_in}
+use Rattle.bx_registry.specs.Slots.{given_by}
 
 -- the sessions, the senders, the entry and the answer are those that the verdict on these sessions says at this place
-pub record IsFoundAt (place moment : ℕ) (before : Members) (o : Verdict) (ms : Members) (senders : Senders) (entry : Entry) (slot : Planned) : Type 0 where
+pub record IsFoundAt (setup : Setup) (place moment : ℕ) (before : Members) (o : Verdict) (ms : Members) (senders : Senders) (entry : Entry) (slot : Slot) : Type 0 where
   pub members : ms ≡ members_after before o
   pub behind : senders ≡ o.state.senders
   pub noted : entry ≡ record { place = place; moment = moment; kind = o.kind; rides = o.rides }
-  pub answer : planned_at place o.slot ≡ Some slot
+  pub answer : given_by setup place o.slot ≡ slot ∷ []
 
 -- the roll with these sessions and senders
 abbrev pub roll_with : Config → Members → Senders → ℕ → ℕ → Roll
@@ -26,9 +27,9 @@ abbrev pub roll_between : Config → Members → ℕ → ℕ → Roll
 roll_between config ms clock length = roll_with config ms NoneYet clock length
 
 -- the list makes this of the roll between requests, and finds these
-pub record IsPlannedBy (config : Config) (before behind : Members) (clock first : ℕ) (list : List Listed) (entries : List Entry) (slots : List Planned) (now : ℕ) : Type 0 where
-  pub roll : after (roll_between config before clock first) list ≡ roll_between config behind now (first + length list)
-  pub listed : entries ≡ entries_in (found (roll_between config before clock first) list)
-  pub answers : slots ≡ slots_in (found (roll_between config before clock first) list)
+pub record IsPlannedBy (setup : Setup) (before behind : Members) (clock first : ℕ) (list : List Listed) (entries : List Entry) (slots : List Slot) (now : ℕ) : Type 0 where
+  pub roll : after (roll_between setup.config before clock first) list ≡ roll_between setup.config behind now (first + length list)
+  pub listed : entries ≡ entries_in (found (roll_between setup.config before clock first) list)
+  pub answers : slots ≡ slots_in setup (found (roll_between setup.config before clock first) list)
   pub opened : behind.opened ≤ first + length list
   pub moment : now ≤ greatest_moment

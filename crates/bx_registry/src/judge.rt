@@ -1,5 +1,5 @@
 //! What a message comes to.
-ghost use Rattle.std.specs.Prelude.{◌≡◌, ◌+◌, ◌<◌, ◌≤◌, ◌^◌, ℕ, Some, None, List, false, length, min, unwrap_or, map, filter, not, if◌then◌else◌, is_some, IfOk, Option, option_map};
+ghost use Rattle.std.specs.Prelude.{◌≡◌, ◌+◌, ◌<◌, ◌≤◌, ◌^◌, ◌∷◌, [], ℕ, Some, None, List, false, length, min, unwrap_or, map, filter, not, if◌then◌else◌, is_some, IfOk, Option, option_map};
 ghost use Rattle.std.specs.Option.{option_copied};
 ghost use Rattle.bx_names.specs.Faults.{name_fault, pattern_fault};
 ghost use Rattle.bx_names.specs.Globs.{Glob, glob_of};
@@ -11,23 +11,25 @@ ghost use Rattle.bx_message.specs.declared.reply.AckReply.TheVariants as replies
 ghost use Rattle.bx_message.specs.declared.message_kind.MessageKind.TheVariants as message_kinds;
 ghost use Rattle.bx_message.specs.Replies.{reply_to};
 ghost use Rattle.bx_entry.specs.declared.entry.EntryKind.TheVariants as entries;
+ghost use Rattle.bx_entry.specs.declared.entry.Slot.TheVariants as slots;
 ghost use Rattle.bx_entry.specs.Registry.{acked_by, client_id, due_of, event_of, newcomer, PlaceSlot, hold_of, is_ack, is_rider, joined, kind_for, may_ride, patterns_of, rider_by, rider_for, senders_behind, sessionless_kind, slot_for, verdict};
 ghost use Rattle.bx_entry.specs.declared.senders.Senders.TheVariants.{Mixed};
 ghost use Rattle.bx_roster.specs.declared.edit.Edit.TheVariants as edits;
 ghost use Rattle.bx_registry.specs.Postings.{posted_of};
+ghost use Rattle.bx_registry.specs.Setups.{setup_of};
 ghost use Rattle.bx_registry.specs.Rolls.{state_of};
 ghost use Rattle.bx_entry.specs.Listing as messages;
 ghost use Rattle.bx_registry.specs.Drafts.{members_of, named};
-ghost use Rattle.bx_registry.specs.Plans.{planned_at};
+ghost use Rattle.bx_registry.specs.Slots.{given_by};
 ghost use Rattle.bx_registry.specs.Judgements.{AreReadable, IsRidden, IsVerdict, edit_for, has_fault};
 
 use crate::draft::{Draft, Sender};
 use crate::id::client_id;
-use crate::plan::Planned;
 use crate::posted::{Posted, is_handshake};
 use crate::refusal::refusal;
+use crate::setup::Setup;
 use bx_advice::{Config, Error, Outcome};
-use bx_entry::{EntryKind, Rider, Senders};
+use bx_entry::{EntryKind, Placing, Rider, Senders, Slot};
 use bx_message::{
     AckMember, AckReply, Event, Message, MessageKind, RawJson, Reply, Sequence, SharedEvent, Text,
     share_json,
@@ -43,15 +45,15 @@ pub(crate) struct Judgement {
     pub(crate) edit: Option<Edit>,
     pub(crate) kind: EntryKind,
     pub(crate) rides: Option<Rider>,
-    pub(crate) slot: Planned,
+    pub(crate) slot: Slot,
     pub(crate) senders: Senders,
 }
 
 /// Judges a message by the sessions behind those before it, which are those senders': what it comes to at this place
 /// and moment.
-pub(crate) fn judge(
+pub(crate) fn judge<P: Placing>(
     alloc: Global,
-    config: &Config,
+    setup: &Setup<'_, P>,
     draft: &Draft<'_>,
     senders: Senders,
     moment: u64,
@@ -59,11 +61,12 @@ pub(crate) fn judge(
     posted: Posted<'_>,
 ) -> Result<Judgement, AllocError>
     requires moment { moment ≤ greatest_moment }
-    requires limit { (members_of draft.now).limit ≡ config.now.limits.sessions }
+    requires limit { (members_of draft.now).limit ≡ setup.now.config.now.limits.sessions }
     requires number { (members_of draft.now).opened + 1 < 2 ^ 64 }
-    ensures { IfOk result (λ j. IsVerdict (members_of draft.now) place
-        (verdict config.now (state_of (members_of draft.now) senders) moment (posted_of posted.entry)) j) }
+    ensures { IfOk result (λ j. IsVerdict (setup_of P.place_of setup.now) (members_of draft.now) place
+        (verdict setup.now.config.now (state_of (members_of draft.now) senders) moment (posted_of posted.entry)) j) }
 {
+    let config = setup.config;
     let sender = draft.named_by(posted.message_kind, posted.message);
     let (live, opened) = draft.counts();
     match refusal(config, live, sender.is_some(), posted) {
@@ -77,7 +80,7 @@ pub(crate) fn judge(
                 posted,
             ),
             None => note(alloc, config, posted),
-            Some(sender) => serve(alloc, config, senders, moment, place, posted, sender),
+            Some(sender) => serve(alloc, setup, senders, moment, place, posted, sender),
         },
     }
 }
@@ -92,7 +95,7 @@ fn refuse(
     ensures edit { IfOk result (λ j. j.edit ≡ None) }
     ensures kind { IfOk result (λ j. (j.kind ≡ entries.Refused) × (j.rides ≡ None)) }
     ensures senders { IfOk result (λ j. j.senders ≡ senders_behind (posted_of posted.entry) Mixed) }
-    ensures slot { IfOk result (λ j. j.slot ≡ Planned.Ready (reply_to config.now posted.entry.message_kind
+    ensures slot { IfOk result (λ j. j.slot ≡ slots.Ready (reply_to config.now posted.entry.message_kind
         posted.entry.message.now (option_map (λ s. s.client.now) sender.now) (Failed error) replies.NoAck)) }
 {
     let client = match sender {
@@ -111,7 +114,7 @@ fn refuse(
         edit: None,
         kind: EntryKind::Refused,
         rides: None,
-        slot: Planned::Ready(reply),
+        slot: Slot::Ready(reply),
         senders: senders_behind(posted, Senders::Mixed),
     })
 }
@@ -123,7 +126,7 @@ fn note(alloc: Global, config: &Config, posted: Posted<'_>) -> Result<Judgement,
     ensures kind { IfOk result (λ j.
         (j.kind ≡ sessionless_kind posted.entry.message_kind posted.entry.message.now) × (j.rides ≡ None)) }
     ensures senders { IfOk result (λ j. j.senders ≡ senders_behind (posted_of posted.entry) Mixed) }
-    ensures slot { IfOk result (λ j. j.slot ≡ Planned.Ready (reply_to config.now posted.entry.message_kind
+    ensures slot { IfOk result (λ j. j.slot ≡ slots.Ready (reply_to config.now posted.entry.message_kind
         posted.entry.message.now None advice.Done replies.NoAck)) }
 {
     let edit = None;
@@ -140,7 +143,7 @@ fn note(alloc: Global, config: &Config, posted: Posted<'_>) -> Result<Judgement,
         edit,
         kind,
         rides: None,
-        slot: Planned::Ready(reply),
+        slot: Slot::Ready(reply),
         senders: senders_behind(posted, Senders::Mixed),
     })
 }
@@ -162,9 +165,9 @@ fn sessionless_kind(
 
 // An accepted message of a live session. A connect or a rider waits for its answer, every other message has its success
 // at once.
-fn serve(
+fn serve<P: Placing>(
     alloc: Global,
-    config: &Config,
+    setup: &Setup<'_, P>,
     senders: Senders,
     moment: u64,
     place: u64,
@@ -174,22 +177,23 @@ fn serve(
     requires readable { AreReadable posted.message_kind posted.message.now }
     requires moment { moment ≤ greatest_moment }
     ensures edit { IfOk result (λ j. j.edit ≡ Some (edit_for posted.entry.message_kind sender.now.number
-        (due_of config.now moment (hold_of config.now (posted_of posted.entry))))) }
+        (due_of setup.now.config.now moment (hold_of setup.now.config.now (posted_of posted.entry))))) }
     ensures kind { IfOk result (λ j. j.kind
-        ≡ kind_for posted.entry.message_kind (posted_of posted.entry) (named sender.now) (hold_of config.now (posted_of posted.entry))) }
+        ≡ kind_for posted.entry.message_kind (posted_of posted.entry) (named sender.now) (hold_of setup.now.config.now (posted_of posted.entry))) }
     ensures senders { IfOk result (λ j.
         j.senders ≡ senders_behind (posted_of posted.entry) (joined senders sender.now.number)) }
-    ensures slot { IfOk result (λ j. IsRidden place
-        (rider_by config.now senders posted.entry.message_kind (posted_of posted.entry) (named sender.now))
-        (slot_for config.now posted.entry.message_kind (posted_of posted.entry) (named sender.now)) j.rides j.slot) }
+    ensures slot { IfOk result (λ j. IsRidden (setup_of P.place_of setup.now) place
+        (rider_by setup.now.config.now senders posted.entry.message_kind (posted_of posted.entry) (named sender.now))
+        (slot_for setup.now.config.now posted.entry.message_kind (posted_of posted.entry) (named sender.now)) j.rides j.slot) }
 {
+    let config = setup.config;
     let message_kind = posted.message_kind;
     let hold = hold_of(config, posted);
     let due = due_after(config, moment, hold);
     let kind = kind_for(alloc, message_kind, posted.message, sender, hold)?;
-    let slot = slot_for(config, message_kind, place, posted.message, sender)?;
+    let slot = slot_for(setup, message_kind, place, posted.message, sender)?;
     let is_rider = is_rider(config, senders, posted, sender);
-    let (rides, slot) = ridden(is_rider, place, sender.number, slot);
+    let (rides, slot) = ridden(setup, is_rider, place, sender.number, slot);
     Ok(Judgement {
         edit: Some(edit_for(message_kind, sender.number, due)),
         kind,
@@ -234,14 +238,20 @@ fn may_ride(message_kind: MessageKind) -> bool
 }
 
 // A rider takes its reply along, and is answered by its session.
-fn ridden(is_rider: bool, place: u64, session: u64, slot: Planned) -> (Option<Rider>, Planned)
-    ensures { (answer : PlaceSlot) → planned_at place answer ≡ Some slot
-        → IsRidden place (rider_for is_rider session answer) answer result.0 result.1 }
+fn ridden<P: Placing>(
+    setup: &Setup<'_, P>,
+    is_rider: bool,
+    place: u64,
+    session: u64,
+    slot: Slot,
+) -> (Option<Rider>, Slot)
+    ensures { (answer : PlaceSlot) → given_by (setup_of P.place_of setup.now) place answer ≡ slot ∷ []
+        → IsRidden (setup_of P.place_of setup.now) place (rider_for is_rider session answer) answer result.0 result.1 }
 {
     match slot {
-        Planned::Ready(reply) if is_rider => (
+        Slot::Ready(reply) if is_rider => (
             Some(Rider { session, reply }),
-            Planned::Waiting { place, session },
+            Slot::Waiting(setup.ticket(place, session)),
         ),
         slot => (None, slot),
     }
@@ -284,32 +294,29 @@ fn kind_for(
 }
 
 // How an accepted message of a live session is answered where it is no rider.
-fn slot_for(
-    config: &Config,
+fn slot_for<P: Placing>(
+    setup: &Setup<'_, P>,
     message_kind: MessageKind,
     place: u64,
     message: &Message,
     sender: &Sender<'_>,
-) -> Result<Planned, AllocError>
+) -> Result<Slot, AllocError>
     ensures { IfOk result (λ slot. (p : messages.Posted) → p.message ≡ message.now
-        → planned_at place (slot_for config.now message_kind p (named sender.now)) ≡ Some slot) }
+        → given_by (setup_of P.place_of setup.now) place (slot_for setup.now.config.now message_kind p (named sender.now)) ≡ slot ∷ []) }
 {
     match message_kind {
-        MessageKind::Connect => Ok(Planned::Waiting {
-            place,
-            session: sender.number,
-        }),
+        MessageKind::Connect => Ok(Slot::Waiting(setup.ticket(place, sender.number))),
         _ => {
             let client = Some(sender.client);
             let reply = Reply::to_message(
-                config,
+                setup.config,
                 message_kind,
                 message,
                 client,
                 Outcome::Done,
                 AckReply::NoAck,
             )?;
-            Ok(Planned::Ready(reply))
+            Ok(Slot::Ready(reply))
         }
     }
 }
@@ -338,7 +345,7 @@ fn open(
     ensures kind { IfOk result (λ j.
         (j.kind ≡ entries.Opened number (is_ack posted.entry.message.now.ack)) × (j.rides ≡ None)) }
     ensures senders { IfOk result (λ j. j.senders ≡ senders_behind (posted_of posted.entry) Mixed) }
-    ensures slot { IfOk result (λ j. j.slot ≡ Planned.Ready (reply_to config.now message_kinds.Handshake
+    ensures slot { IfOk result (λ j. j.slot ≡ slots.Ready (reply_to config.now message_kinds.Handshake
         posted.entry.message.now (Some (client_id posted.entry.nonce number)) advice.Opened
         (if is_ack posted.entry.message.now.ack then replies.AckTrue else replies.NoAck))) }
 {
@@ -359,7 +366,7 @@ fn open(
             ack,
         },
         rides: None,
-        slot: Planned::Ready(reply),
+        slot: Slot::Ready(reply),
         senders: senders_behind(posted, Senders::Mixed),
     })
 }

@@ -1,4 +1,4 @@
-//! Who is live: the only place where a message is judged.
+//! Who is live: the only place where a message is judged, and what a request or a tick adds to the list.
 #![tactic(auto)]
 
 mod change;
@@ -11,8 +11,9 @@ mod planner;
 mod posted;
 mod refusal;
 mod registry;
+mod setup;
 
 pub use change::Change;
 pub use laws::{runs_agree, steps_agree};
-pub use plan::{AdmitFault, Plan, Planned, TickPlan};
+pub use plan::{AdmitFault, Plan};
 pub use registry::Registry;

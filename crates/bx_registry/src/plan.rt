@@ -3,40 +3,24 @@ ghost use Rattle.bx_registry.specs.declared.plan.AdmitFault.TheVariants.{Memory}
 ghost use Rattle.std.specs.Prelude.{◌≡◌};
 
 use crate::change::Change;
-use bx_entry::{Batch, Entry};
-use bx_message::{Reply, Sequence};
+use bx_entry::{Batch, Listing, Slot};
+use bx_message::Sequence;
 use std::alloc::{AllocError, AllocFailed};
 
-/// How a message is answered.
-#[derive(Drop)]
-pub enum Planned {
-    /// At once, by this reply.
-    Ready(Reply),
-    /// A connect or a rider, whose answer comes later: its place in the list, and the number of its session.
-    Waiting { place: u64, session: u64 },
-}
-
-/// What a request comes to.
+/// What a request or a tick adds to the list.
 #[derive(Drop)]
 pub struct Plan {
-    /// The entries of its messages.
+    /// The entries of its messages, or the tick's with the numbers of the sessions that it closes.
     pub batch: Batch,
-    /// For each message in order how it is answered.
-    pub slots: Sequence<Planned>,
+    /// For each message in order how it is answered; none for a tick.
+    pub slots: Sequence<Slot>,
+    /// The messages or the tick, for contracts alone.
+    pub elements: Listing,
     /// What is to be committed.
     pub change: Change,
 }
 
-/// What a tick comes to.
-#[derive(Drop)]
-pub struct TickPlan {
-    /// The tick's entry, with the numbers of the sessions that it closes.
-    pub entry: Entry,
-    /// What is to be committed.
-    pub change: Change,
-}
-
-/// Why nothing is planned. The roll is as before then.
+/// Why nothing is planned. The list is as before then.
 #[derive(Clone, Copy, Debug, PartialEq, Eq)]
 pub enum AdmitFault {
     /// The moment is above the greatest that is taken.

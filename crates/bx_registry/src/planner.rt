@@ -5,18 +5,18 @@ ghost use Rattle.bx_message.specs.MessageKinds.{is_handshake};
 ghost use Rattle.bx_entry.specs.Listing.{request};
 ghost use Rattle.bx_entry.specs.declared.entry.Entry.{Entry};
 ghost use Rattle.bx_entry.specs.Registry.{verdict};
+ghost use Rattle.bx_registry.specs.Setups.{setup_of};
 ghost use Rattle.bx_registry.specs.Rolls.{Roll, after, found, state_of};
 ghost use Rattle.bx_registry.specs.Drafts.{members_of};
 ghost use Rattle.bx_registry.specs.Postings.{posted_of};
-ghost use Rattle.bx_registry.specs.Plans.{entries_in, planned_at, slots_in};
+ghost use Rattle.bx_registry.specs.Plans.{entries_in, slots_in};
 ghost use Rattle.bx_registry.specs.Planners.{IsFoundAt, IsPlannedBy};
 
 use crate::draft::Draft;
 use crate::judge::{Judgement, judge};
-use crate::plan::Planned;
 use crate::posted::{Posted, is_handshake};
-use bx_advice::Config;
-use bx_entry::{Entry, Senders};
+use crate::setup::Setup;
+use bx_entry::{Entry, Placing, Senders, Slot};
 use bx_message::{Message, MessageKind, Sequence};
 use std::alloc::{AllocError, AllocFailed, Global};
 
@@ -24,7 +24,7 @@ use std::alloc::{AllocError, AllocFailed, Global};
 #[derive(Drop)]
 pub(crate) struct Planning {
     pub(crate) entries: Sequence<Entry>,
-    pub(crate) slots: Sequence<Planned>,
+    pub(crate) slots: Sequence<Slot>,
     /// The greatest moment behind them.
     pub(crate) clock: u64,
 }
@@ -41,9 +41,9 @@ pub(crate) struct Start {
 }
 
 /// Judges the messages of a request in order.
-pub(crate) fn plan_all(
+pub(crate) fn plan_all<P: Placing>(
     alloc: Global,
-    config: &Config,
+    setup: &Setup<'_, P>,
     draft: &mut Draft<'_>,
     start: Start,
     messages: &[Message],
@@ -51,10 +51,10 @@ pub(crate) fn plan_all(
     requires clock { start.clock ≤ greatest_moment }
     requires moment { start.moment ≤ greatest_moment }
     requires room { start.place + length messages.now ≤ greatest_length }
-    requires limit { (members_of draft.old).limit ≡ config.now.limits.sessions }
+    requires limit { (members_of draft.old).limit ≡ setup.now.config.now.limits.sessions }
     requires opened { (members_of draft.old).opened ≤ start.place }
     ensures base { draft.new.base ≡ draft.old.base }
-    ensures planned { IfOk result (λ p. IsPlannedBy config.now (members_of draft.old) (members_of draft.new)
+    ensures planned { IfOk result (λ p. IsPlannedBy (setup_of P.place_of setup.now) (members_of draft.old) (members_of draft.new)
         start.clock start.place (request start.moment start.nonce messages.now) p.entries p.slots p.clock) }
 {
     let mut now = start.clock;
@@ -69,7 +69,7 @@ pub(crate) fn plan_all(
         left -= 1;
         now = now.max(start.moment);
         let posted = posted_at(start, message, sole, left == 0, seen);
-        let (entry, slot, behind) = plan_next(alloc, config, draft, senders, now, place, posted)?;
+        let (entry, slot, behind) = plan_next(alloc, setup, draft, senders, now, place, posted)?;
         entries.push(entry)?;
         slots.push(slot)?;
         senders = behind;
@@ -107,21 +107,21 @@ fn posted_at(start: Start, message: &Message, sole: bool, last: bool, seen: bool
 }
 
 // Judges the message at this place, behind messages that are those senders', and takes down what it changes.
-fn plan_next(
+fn plan_next<P: Placing>(
     alloc: Global,
-    config: &Config,
+    setup: &Setup<'_, P>,
     draft: &mut Draft<'_>,
     senders: Senders,
     clock: u64,
     place: u64,
     posted: Posted<'_>,
-) -> Result<(Entry, Planned, Senders), AllocError>
+) -> Result<(Entry, Slot, Senders), AllocError>
     requires clock { clock ≤ greatest_moment }
-    requires limit { (members_of draft.old).limit ≡ config.now.limits.sessions }
+    requires limit { (members_of draft.old).limit ≡ setup.now.config.now.limits.sessions }
     requires opened { (members_of draft.old).opened ≤ greatest_length }
     ensures base { draft.new.base ≡ draft.old.base }
-    ensures found { IfOk result (λ r. IsFoundAt place clock (members_of draft.old)
-        (verdict config.now (state_of (members_of draft.old) senders) clock (posted_of posted.entry)) (members_of draft.new) r.2 r.0 r.1) }
+    ensures found { IfOk result (λ r. IsFoundAt (setup_of P.place_of setup.now) place clock (members_of draft.old)
+        (verdict setup.now.config.now (state_of (members_of draft.old) senders) clock (posted_of posted.entry)) (members_of draft.new) r.2 r.0 r.1) }
 {
     let Judgement {
         edit,
@@ -129,7 +129,7 @@ fn plan_next(
         rides,
         slot,
         senders,
-    } = judge(alloc, config, draft, senders, clock, place, posted)?;
+    } = judge(alloc, setup, draft, senders, clock, place, posted)?;
     if let Some(edit) = edit {
         draft.push(edit)?;
     }

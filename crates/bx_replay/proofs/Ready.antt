@@ -3,7 +3,7 @@ use Rattle.std.proofs.Common.{◌≡◌, ℕ, zero, suc, ◌+◌, ◌<◌, Bool,
 use Rattle.std.specs.Prelude.{◌==◌, IsSome, is_some}
 use Rattle.std.specs.{BTreeMap.is_at, Ordering.nat_cmp}
 use Rattle.std.proofs.lemmas.{Bool.Decides.nat_tests, List.map-append, List.append_cancel_left, Option.slice_get_within}
-use Rattle.bx_lists.proofs.Tests.{eqb_sym}
+use Rattle.bx_history.proofs.Tests.{eqb_sym}
 use Rattle.bx_replay.specs.Kept.{AllKept, AreKept, IsKept, Keeps, inputs_given, without}
 use Rattle.bx_replay.specs.declared.kept.PendingLine.{PendingLine}
 use Rattle.bx_advice.specs.declared.config.Config.{Config}

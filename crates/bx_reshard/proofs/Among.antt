@@ -1,7 +1,7 @@
 -- What the shards have that were redistributed, and what became of it in those that took over from them.
 use Rattle.std.proofs.Common.{arith, ◌≡◌, ℕ, nat_eq, ◌&&◌, Bool, true, false, cond, is_some, Option, Some, None, List, [], ◌∷◌, refl, sym, ap, ◌∙◌}
 use Rattle.std.specs.Option.{option_or}
-use Rattle.bx_lists.proofs.Tests.{either}
+use Rattle.bx_history.proofs.Tests.{either}
 use Rattle.bx_entry.specs.Keeping.{Kept}
 use Rattle.bx_connects.specs.declared.{connects.ConnectState.ConnectState, connects.FiledAnswer.FiledAnswer, held.HeldConnect.HeldConnect}
 use Rattle.bx_connects.specs.declared.connects.ConnectState.TheVariants.{Held, Filed}

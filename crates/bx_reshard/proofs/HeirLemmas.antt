@@ -1,7 +1,7 @@
 -- What becomes of many shards where one of them changes.
 use Rattle.std.proofs.Common.{◌≡◌, ◌≢◌, ℕ, ◌<◌, ◌≤◌, Bool, true, false, cond, Option, Some, option_map, Result, Ok, Err, OnOk, Vec, Global, List, length, get_or, slice_get, slice_set, nat_eq, nat_lt, refl, sym, ap, ◌∙◌, arith, eq-eqb, ltb-true, ltb-false}
 use Rattle.std.proofs.lemmas.{List.length-set, List.get_or-set_same, List.get_or-set_other, Option.slice_get-get_or, Option.slice_get_read, Option.slice_get_past}
-use Rattle.bx_lists.proofs.Tests.{either}
+use Rattle.bx_history.proofs.Tests.{either}
 use Rattle.bx_connects.specs.Connects.{connect_at}
 use Rattle.bx_shard.specs.declared.sessions.Sessions.{Sessions}
 use Rattle.bx_shard.specs.Sessions.{kept_in, patterns_in}

@@ -3,7 +3,7 @@ use Rattle.std.proofs.Common.{ℕ, suc, List, [], ◌∷◌, ◌++◌, Bool, len
 use Rattle.std.proofs.lemmas.List.Elements.{All-cons}
 use Rattle.std.specs.List.{All}
 use Rattle.std.specs.declared.sync.Arc.{Arc}
-use Rattle.bx_lists.proofs.Lists.{each_push}
+use Rattle.bx_history.proofs.Elements.{each_push}
 use Rattle.bx_shard.specs.declared.shard.Shard.{Shard}
 use Rattle.bx_reshard.specs.Making.{AreHandlesOf, AreMadeWith, IsMade}
 

@@ -2,7 +2,7 @@
 use Rattle.std.proofs.Common.{◌≡◌, ◌&&◌, ◌||◌, not, ℕ, zero, suc, ◌<◌, nat_eq, length, slice_get, arith, Bool, true, false, cond, is_some, Option, Some, None, option_map, List, [], ◌∷◌, ◌++◌, refl, sym, ap, ◌∙◌, eqb-true}
 use Rattle.std.proofs.lemmas.List.Elements.{All-nil, All-push}
 use Rattle.std.specs.{List.All, Map.lookup, Option.option_or}
-use Rattle.bx_lists.proofs.{Lists.or_none, Tests.eqb_sym}
+use Rattle.bx_history.proofs.{Elements.or_none, Tests.eqb_sym}
 use Rattle.bx_names.specs.Globs.{Glob}
 use Rattle.bx_advice.specs.declared.config.Config.{Config}
 use Rattle.bx_entry.specs.Keeping.{Kept}

@@ -2,7 +2,7 @@
 use Rattle.std.proofs.Common.{◌≡◌, ◌≢◌, ℕ, zero, suc, ◌<◌, true, false, cond, is_some, Option, Some, None, List, [], ◌∷◌, length, take, drop, map, filter, flat_map, option_map, slice_get, ◌==◌, refl, sym, ap, ◌∙◌, subst, arith, eqb-true, eq-eqb}
 use Rattle.std.proofs.lemmas.{Bool.cond_both, Bool.cond-true, List.take-append-drop, List.Folds.find-append}
 use Rattle.std.specs.Option.{option_or}
-use Rattle.bx_lists.proofs.{Lists.or_none, Tests.either}
+use Rattle.bx_history.proofs.{Elements.or_none, Tests.either}
 use Rattle.bx_advice.specs.declared.config.Config.{Config}
 use Rattle.bx_entry.specs.declared.entry.Entry.{Entry}
 use Rattle.bx_entry.specs.Words.{Listed, answer_of, Kept, kept, Judged, PlaceSlot, Registered, Waiting, Ready, NoSlot, entries_of, registry, Filed, Session, session, unopened}

@@ -4,8 +4,8 @@ use Rattle.std.specs.Prelude.{◌&&◌, ◌==◌}
 use Rattle.std.specs.{List.dedup, List.list_any, List.Sorted.IsPermutation, List.Sorted.IsSorted, Ordering.nat_cmp}
 use Rattle.std.proofs.lemmas.{Grind.common_steps, List.Sorted.list_any-IsPermutation, Map.Keys.IsStrictlyIncreasing-dedup, Map.Keys.sorted_from_strictly_increasing}
 use Rattle.std.proofs.Math.Bool.{and-false}
-use Rattle.bx_lists.specs.Members.{has}
-use Rattle.bx_lists.proofs.Ascending.{dedup-has, AllAbove, Ascends, above-lower, same-ascends, ascends-sorted, filter-has}
+use Rattle.bx_history.specs.Members.{has}
+use Rattle.bx_history.proofs.Ascending.{dedup-has, AllAbove, Ascends, above-lower, same-ascends, ascends-sorted, filter-has}
 use Rattle.bx_entry.specs.Registry.{Registered, overdue}
 use Rattle.bx_roster.specs.Words.{IsTable, IsAbsent, AllLive, due_at, AllFiled, IsFrom, files, is_past, past_numbers}
 use Rattle.bx_roster.specs.declared.due_queue.Due.{Due}

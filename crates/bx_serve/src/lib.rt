@@ -10,9 +10,9 @@ mod peer;
 mod spawn_each;
 
 pub use connections::Connections;
-pub use listen::serve_connections;
+pub use listen::{serve_connections, serve_until};
 pub use maker::{Maker, Quiet, Server};
 pub use patience::Patience;
 pub use patient::{Patient, PatientFault, Patiently};
 pub use peer::Peer;
-pub use spawn_each::{SpawnEach, run_each};
+pub use spawn_each::{SpawnEach, run_each, run_until};

@@ -1,8 +1,9 @@
 //! Serves the connections of a listener.
 use crate::connections::Connections;
 use crate::maker::{Coming, Server};
-use crate::spawn_each::run_each;
+use crate::spawn_each::{run_each, run_until};
 use bytes::Bytes;
+use futures::Future;
 use http::{Request, Response};
 use http_body_util::Full;
 use hyper::rt::TokioTimer;
@@ -43,10 +44,51 @@ where
     E: Into<anyhow::Error> + Drop + Send,
     requires { (each : S) → S.can_call each }
 {
+    let connections = connections_of(&rt, runtime, listener, service, count)?;
+    run_each(&rt, runtime, connections)
+}
+
+/// The same until `end` is ready: from then on no connection is taken, and those that are open are served for as long as the runtime's
+/// shutdown may take.
+pub fn serve_until<R, S, E, A, T>(
+    rt: R,
+    runtime: &mut Runtime,
+    listener: TcpListener,
+    service: S,
+    count: u64,
+    end: A,
+) -> io::Result<()>
+where
+    R: Wait + Threads + Clock + RandomSource + AllocGlobal + Sync + Send + Copy + Drop,
+    S: Service<Request<Coming<R>>, Response = Response<Full<Bytes>>, Error = E> + Clone + Send,
+    S::Future: Send,
+    E: Into<anyhow::Error> + Drop + Send,
+    A: Future<Output = T>,
+    T: Drop,
+    requires service { (each : S) → S.can_call each }
+    requires end { A.can_poll end }
+{
+    let connections = connections_of(&rt, runtime, listener, service, count)?;
+    run_until(&rt, runtime, connections, end)
+}
+
+// The connections of the listener, at most so many.
+fn connections_of<R, S, E>(
+    rt: &R,
+    runtime: &Runtime,
+    listener: TcpListener,
+    service: S,
+    count: u64,
+) -> io::Result<Connections<R, Server<R, S>>>
+where
+    R: Clock + RandomSource + AllocGlobal + Copy + Drop,
+    S: Service<Request<Coming<R>>, Response = Response<Full<Bytes>>, Error = E> + Clone + Drop,
+    E: Into<anyhow::Error> + Drop,
+{
     let timers = runtime.handle().time().clone()?;
-    let pause = timers.interval(&rt, Duration::from_millis(PAUSE))?;
-    let keys = RandomState::new(&rt)?;
-    let timer = TokioTimer::new(rt, timers);
+    let pause = timers.interval(rt, Duration::from_millis(PAUSE))?;
+    let keys = RandomState::new(rt)?;
+    let timer = TokioTimer::new(*rt, timers);
     let http = http1::Builder::new(rt.alloc(), keys).timer(timer.clone()?);
     let maker = Server {
         http,
@@ -54,6 +96,5 @@ where
         timer,
         limit: Duration::from_millis(PATIENCE),
     };
-    let connections = Connections::new(rt, listener.incoming(), maker, count, pause);
-    run_each(&rt, runtime, connections)
+    Ok(Connections::new(*rt, listener.incoming(), maker, count, pause))
 }

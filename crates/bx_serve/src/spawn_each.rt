@@ -4,7 +4,7 @@ ghost use Rattle.futures.specs.Runs.{AllItems};
 
 use futures::executor::TaskSet;
 use futures::task::{Context, Poll};
-use futures::{Future, Stream, ready};
+use futures::{Future, Stream, StreamExt, ready};
 use std::alloc::AllocGlobal;
 use std::io;
 use std::random::RandomSource;
@@ -29,6 +29,22 @@ where
 {
     let tasks = runtime.task_set(rt)?;
     runtime.block_on_with(rt, &tasks, SpawnEach::new(&tasks, futures))
+}
+
+/// The same until `end` is ready: from then on no future of the stream is asked for, and each task that was spawned is waited for as
+/// long as the runtime's shutdown may take.
+pub fn run_until<R, S, F, A, T>(rt: &R, runtime: &mut Runtime, futures: S, end: A) -> io::Result<()>
+where
+    R: Wait + Threads + Clock + RandomSource + AllocGlobal + Sync,
+    S: Stream<Item = F>,
+    F: Future<Output = ()> + Send,
+    A: Future<Output = T>,
+    T: Drop,
+    requires stream { S.can_poll futures }
+    requires end { A.can_poll end }
+    requires items { AllItems (S.yields futures) F.can_poll }
+{
+    run_each(rt, runtime, futures.take_until(end))
 }
 
 /// Spawns each future of a stream, and is ready once the stream has ended, or the set is shut down. A future for which there is no

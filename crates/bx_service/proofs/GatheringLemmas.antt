@@ -7,7 +7,7 @@ use Rattle.bx_held.specs.Outputs.{MayGive}
 use Rattle.bx_held.specs.declared.fault.HeldFault.{HeldFault}
 use Rattle.bx_message.specs.declared.reply.{Answer.Answer, Item.Item, Reply.Reply}
 use Rattle.bx_message.specs.declared.reply.Item.TheVariants.{ReplyItem}
-use Rattle.bx_shard.specs.Shards.{Setup}
+use Rattle.bx_entry.specs.Placings.{Setup}
 use Rattle.bx_window.specs.declared.law.LogStep.{LogStep}
 use Rattle.bx_service.specs.Gatherings.{AreAll, Awaited, awaited_as, items_of}
 

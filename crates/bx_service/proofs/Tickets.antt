@@ -1,12 +1,12 @@
 -- The connects that a request waits for stand in the list that was seen when it was admitted.
 use Rattle.std.proofs.Common.{◌≡◌, ℕ, ◌+◌, ◌-◌, ◌<◌, ◌≤◌, List, [], ◌∷◌, ◌++◌, length, take, drop, refl, sym, ap, ◌∙◌, subst, arith, length-append}
 use Rattle.std.proofs.lemmas.List.{length-drop, length-map, length-take-le}
-use Rattle.bx_admission.specs.Slots.{given_by, given_from, slots_of}
+use Rattle.bx_registry.specs.Slots.{given_by, given_from, slots_of}
 use Rattle.bx_entry.specs.Words.{ReadInput, added_by, Listed, Judged, PlaceSlot, Ready, Waiting, NoSlot, registry}
 use Rattle.bx_entry.specs.declared.entry.Slot.{Slot}
 use Rattle.bx_hub.specs.Posts.{AreSlotsAt, IsAdmittedAt}
 use Rattle.bx_theory.proofs.Lists.{judged_length}
-use Rattle.bx_shard.specs.Shards.{Setup}
+use Rattle.bx_entry.specs.Placings.{Setup}
 use Rattle.bx_window.specs.Steps.{list_of}
 use Rattle.bx_window.specs.declared.law.LogStep.{LogStep}
 use Rattle.bx_service.specs.Gatherings.{AreBelow}

@@ -10,7 +10,7 @@ use Rattle.bx_hub.specs.Posts.{AreSlotsAt, IsAdmittedAt, IsRefused}
 use Rattle.bx_hub.specs.declared.fault.PostFault.{PostFault}
 use Rattle.bx_message.specs.declared.{reply.Answer.Answer, reply.Item.Item, status.Status.Status}
 use Rattle.bx_message.specs.declared.reply.Item.TheVariants.{EventItem, ReplyItem}
-use Rattle.bx_shard.specs.Shards.{Setup}
+use Rattle.bx_entry.specs.Placings.{Setup}
 use Rattle.bx_window.specs.declared.law.LogStep.{LogStep}
 use Rattle.bx_service.specs.Statuses.{post_status}
 
@@ -85,10 +85,9 @@ module _ (tells draws : ℕ → Type 0) where
     pub slots_at : AreSlotsAt setup (request_of moment nonce documents) first seen slots
 
   -- At such a moment and with such a nonce, the hub refuses the request for a reason of this status.
-  pub record IsRefusedWith (documents : List (List ℕ)) (status : Status) : Type 0 where
+  pub record IsRefusedWith (documents : List (List ℕ)) (fault : PostFault) (status : Status) : Type 0 where
     pub moment : ℕ
     pub nonce : ℕ
-    pub fault : PostFault
     pub front : List LogStep
     pub told : tells moment
     pub drawn : draws nonce

@@ -1,11 +1,12 @@
 //! What a service stands on.
 ghost use Rattle.std.specs.Prelude.{⊤, ◌≡◌, ◌⊎◌, ℕ, [], None, Result, IfOk, IfErr};
 ghost use Rattle.std.specs.Vec.Iter.{into_iter_items};
-ghost use Rattle.bx_admission.specs.Slots.{placed_by};
+ghost use Rattle.bx_entry.specs.Placings.{placed_by};
 ghost use Rattle.bx_cut.specs.Bodies.{texts_of};
 ghost use Rattle.bx_service.specs.Gatherings.{AreSlotsFor, IsRefusedWith};
 ghost use Rattle.bx_message.specs.declared.status.Status.TheVariants.{Unavailable};
 ghost use Rattle.bx_cut.specs.declared.bodies.Bodies.{Bodies};
+ghost use Rattle.bx_hub.specs.declared.fault.PostFault.TheVariants as faults;
 ghost use Rattle.bx_service.specs.declared.backend.Declined.{Declined};
 
 use crate::gathering::Gathering;
@@ -13,7 +14,7 @@ use crate::status::post_status;
 use bx_cut::Bodies;
 use bx_entry::{Arrival, Placing};
 use bx_held::HeldFault;
-use bx_hub::{Gate, Hub};
+use bx_hub::{Gate, Hub, PostFault};
 use bx_message::{Item, Status};
 use bx_window::Naming;
 use futures::Future;
@@ -61,6 +62,8 @@ impl From<HeldFault> for Unanswered {
 pub struct Declined {
     /// The status.
     pub status: Status,
+    /// Why: for what the hub refuses their request, or the want of memory.
+    pub fault: PostFault,
     /// The documents, as they were handed in.
     pub bodies: Bodies,
 }
@@ -127,13 +130,14 @@ where
         IfOk outcome (λ g. (g.items.items ≡ []) × (g.held ≡ None)
         × AreSlotsFor (C.tells backend.clock) (N.draws backend.nonces) (placed_by J.config J.config.shards J.placing) (texts_of bodies) g.pass (into_iter_items g.slots))
         × IfErr outcome (λ d. (d.bodies ≡ bodies)
-        × ((d.status ≡ Unavailable) ⊎ IsRefusedWith (C.tells backend.clock) (N.draws backend.nonces) (texts_of bodies) d.status)) };
+        × (((d.status ≡ Unavailable) × (d.fault ≡ faults.Memory)) ⊎ IsRefusedWith (C.tells backend.clock) (N.draws backend.nonces) (texts_of bodies) d.fault d.status)) };
 
     // What may fail for other reasons than the hub's comes before the post, so what is refused is not listed.
     fn admit(&self, bodies: Bodies) -> Result<Gathering<J, P, G, R>, Declined> {
         let Ok(hub) = Arc::try_clone(&self.hub) else {
             return Err(Declined {
                 status: Status::Unavailable,
+                fault: PostFault::Memory,
                 bodies,
             });
         };
@@ -147,6 +151,7 @@ where
             Ok(posted) => Ok(Gathering::new(self.rt, self.alloc, hub, pass, posted.slots)),
             Err(refused) => Err(Declined {
                 status: post_status(refused.fault()),
+                fault: refused.fault(),
                 bodies: refused.into_arrival().bodies,
             }),
         }

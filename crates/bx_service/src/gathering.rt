@@ -3,7 +3,7 @@ ghost use Rattle.std.specs.Prelude.{◌≡◌, ◌++◌, ◌∷◌, ◌<◌, Lis
 ghost use Rattle.std.specs.Vec.Iter.{into_iter_items};
 ghost use Rattle.futures.specs.Poll.{IfReady, OnPending};
 ghost use Rattle.futures.specs.Task.{Covers, Keeps};
-ghost use Rattle.bx_admission.specs.Slots.{placed_by};
+ghost use Rattle.bx_entry.specs.Placings.{placed_by};
 ghost use Rattle.bx_held.specs.Outputs.{MayGive};
 ghost use Rattle.bx_held.specs.declared.fault.HeldFault.{HeldFault};
 ghost use Rattle.bx_message.specs.declared.reply.Answer.{Answer};

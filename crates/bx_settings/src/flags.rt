@@ -47,6 +47,8 @@ pub fn read_flags<'a>(
             None => Seed::Drawn,
         },
         connections,
+        figures: matches.get_str("figures"),
+        until_eof: matches.get_flag("until-eof"),
     })
 }
 
@@ -137,7 +139,8 @@ fn command<'a>(alloc: Global) -> Result<Command<'a>, AllocError> {
         .about("Serves Bayeux over HTTP")
         .version(VERSION)
         .no_binary_name(true);
-    with_events(alloc, with_times(alloc, with_server(alloc, command)?)?)
+    let command = with_times(alloc, with_server(alloc, command)?)?;
+    with_running(alloc, with_events(alloc, command)?)
 }
 
 // With the flags of the server as a whole.
@@ -160,12 +163,6 @@ fn with_server<'a>(alloc: Global, command: Command<'a>) -> Result<Command<'a>, A
             "seed-file",
             "FILE",
             "Where the 64 hexadecimal digits of the seed of client ids stand [default: the system draws it]",
-        ))?
-        .arg(value(
-            alloc,
-            "connections",
-            "N",
-            "After how many connections it ends, 0 for never [default: 0]",
         ))
 }
 
@@ -201,21 +198,45 @@ fn with_events<'a>(alloc: Global, command: Command<'a>) -> Result<Command<'a>, A
             "N",
             "How many events may wait for a session, 1 to 65536 [default: 1024]",
         ))?
-        .arg(
-            Arg::new(alloc, "ride")
-                .long("ride")
-                .action(ArgAction::SetTrue)
-                .help("A session's waiting events ride on the reply to its own request"),
-        )?
-        .arg(
-            Arg::new(alloc, "anonymous")
-                .long("anonymous")
-                .action(ArgAction::SetTrue)
-                .help("Publishes without a client id are accepted"),
-        )
+        .arg(switch(
+            alloc,
+            "ride",
+            "A session's waiting events ride on the reply to its own request",
+        ))?
+        .arg(switch(
+            alloc,
+            "anonymous",
+            "Publishes without a client id are accepted",
+        ))
+}
+
+// With those of whoever runs it.
+fn with_running<'a>(alloc: Global, command: Command<'a>) -> Result<Command<'a>, AllocError> {
+    command
+        .arg(value(
+            alloc,
+            "connections",
+            "N",
+            "After how many connections it ends, 0 for never [default: 0]",
+        ))?
+        .arg(value(
+            alloc,
+            "figures",
+            "ADDRESS",
+            "Where GET /metrics and GET /healthz are answered [default: nowhere]",
+        ))?
+        .arg(switch(alloc, "until-eof", "It ends at the end of standard input"))
 }
 
 // A flag with a value.
 fn value<'a>(alloc: Global, name: &'a str, kind: &'a str, help: &'a str) -> Arg<'a> {
     Arg::new(alloc, name).long(name).value_name(kind).help(help)
+}
+
+// A flag without one.
+fn switch<'a>(alloc: Global, name: &'a str, help: &'a str) -> Arg<'a> {
+    Arg::new(alloc, name)
+        .long(name)
+        .action(ArgAction::SetTrue)
+        .help(help)
 }

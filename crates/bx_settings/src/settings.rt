@@ -22,4 +22,8 @@ pub struct Settings<'a> {
     pub seed: Seed<'a>,
     /// After how many connections it ends; 0: never.
     pub connections: u64,
+    /// Where it listens for those who ask for its figures, as `listen`; none: nowhere.
+    pub figures: Option<&'a str>,
+    /// Whether it ends at the end of standard input.
+    pub until_eof: bool,
 }

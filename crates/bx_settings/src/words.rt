@@ -40,6 +40,8 @@ pub fn read_words(words: &[String]) -> Option<Settings<'_>>
         config: with_more(config, more)?,
         seed: Seed::Said(read_digits(seed.as_bytes())?),
         connections: number_of(connections.as_bytes())?,
+        figures: None,
+        until_eof: false,
     })
 }
 

@@ -1,12 +1,13 @@
 -- What a shard has filed after one more entry.
 use Rattle.std.proofs.Common.{◌≡◌, ℕ, ◌+◌, Bool, false, Option, Some, None, List, [], ◌∷◌, ◌++◌, length, take, filter, ◌==◌, refl, sym, ap, ◌∙◌, arith, append-nil, flat_map, length-append}
 use Rattle.std.proofs.lemmas.{Bool.cond_both, Bool.cond-true, Bool.cond-false, List.Elements.filter-append, Grind.flat_map-append, List.Folds.find-append, List.Folds.flat_map-map}
-use Rattle.bx_lists.proofs.Tests.{either}
+use Rattle.bx_history.proofs.Tests.{either}
 use Rattle.bx_advice.specs.declared.config.Config.{Config}
 use Rattle.bx_entry.specs.Words.{Listed, Registry, registry, entries_of, Waiting, Session, is_live, step_by, step, unopened, session, Filed, Kept, kept, kept_answers}
 use Rattle.bx_entry.specs.declared.entry.{Entry.Entry, EntryKind.EntryKind}
 use Rattle.bx_entry.specs.declared.entry.EntryKind.TheVariants.{Opened}
-use Rattle.bx_shard.specs.Shards.{Setup, stands_in, is_taken, shard_at, sessions_in}
+use Rattle.bx_entry.specs.Placings.{Setup}
+use Rattle.bx_shard.specs.Shards.{stands_in, is_taken, shard_at, sessions_in}
 use Rattle.bx_theory.proofs.{Kept.kept_steps, Closings.idle_next}
 use Rattle.std.specs.Option.{option_or}
 use Rattle.bx_shard.specs.Steps.{answers_by, ShardsFile}

@@ -2,7 +2,7 @@
 use Rattle.std.proofs.Common.{zero, suc, slice_index, IfSome, Contains, IsTrue, ◌↔◌, ◌≤◌, length, arith, ◌<◌, ◌+◌, ◌≡◌, ◌≢◌, ℕ, nat_eq, Bool, true, false, cond, ◌||◌, Option, Some, None, option_map, List, [], ◌∷◌, map, refl, sym, ap, ◌∙◌, true≢false, subst}
 use Rattle.std.specs.{List.All, List.list_any, List.Sorted.IsStrictlyIncreasing}
 use Rattle.std.proofs.lemmas.{Bool.and_right, List.Elements.All-head, List.Elements.All-tail, Bool.eqb-true, Bool.eq-eqb, Bool.ne_eqb}
-use Rattle.bx_lists.proofs.Tests.{either}
+use Rattle.bx_history.proofs.Tests.{either}
 use Rattle.bx_names.specs.Words.{is_broadcast, Glob}
 use Rattle.std.proofs.Math.Bool.{or-true}
 use Rattle.bx_message.specs.declared.{reply.Answer.Answer, event.Event.Event}

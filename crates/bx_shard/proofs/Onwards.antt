@@ -3,7 +3,7 @@ use Rattle.std.proofs.Common.{◌≡◌, ◌≢◌, ⊎_elim, get_or, ℕ, ◌+�
 use Rattle.std.proofs.lemmas.Bool.{both_ways}
 use Rattle.std.proofs.lemmas.{Grind.common_steps, List.length_push, List.map-append, List.Elements.All-map, List.Elements.filter-append, List.Folds.find-append}
 use Rattle.std.specs.{List.All, List.Contains, Option.option_and_then, Option.option_or}
-use Rattle.bx_lists.proofs.{Lists.or_none, Tests.either}
+use Rattle.bx_history.proofs.{Elements.or_none, Tests.either}
 use Rattle.bx_advice.specs.declared.config.Config.{Config}
 use Rattle.bx_entry.specs.declared.entry.{Entry.Entry, EntryKind.EntryKind, Rider.Rider}
 use Rattle.bx_entry.specs.Words.{answer_of, Listed, Kept, kept, kept_answers, kept_step, resumed, entries, registry, Filed, Live, Session, is_live, step, unopened}

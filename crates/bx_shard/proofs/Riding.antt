@@ -3,7 +3,7 @@ use Rattle.std.proofs.Common.{Contains, arith, ◌≡◌, ◌≢◌, ◌≤◌, 
 use Rattle.std.specs.Option.{option_and_then}
 use Rattle.std.proofs.lemmas.{Bool.and_parts, Bool.cond_both, Bool.eqb-true, Bool.eq-eqb, Bool.ne_eqb, Grind.common_steps}
 use Rattle.std.proofs.lemmas.{List.length_push, List.map-append, List.Elements.Contains-append_cases, List.Elements.Contains-append_left, List.Elements.Contains-append_right}
-use Rattle.bx_lists.proofs.Tests.{either}
+use Rattle.bx_history.proofs.Tests.{either}
 use Rattle.bx_names.specs.Globs.{Glob}
 use Rattle.bx_advice.specs.declared.config.Config.{Config}
 use Rattle.bx_message.specs.declared.event.Event.{Event}

@@ -2,7 +2,7 @@
 use Rattle.std.proofs.Common.{◌≢◌, ◌≡◌, ℕ, ◌<◌, Bool, true, false, ◌||◌, is_some, Option, Some, None, List, [], ◌∷◌, ◌++◌, length, take, drop, filter, flat_map, option_map, slice_get, nat_eq, nat_lt, ◌==◌, not, refl, sym, ap, ◌∙◌, subst, arith, eqb-true, ltb-true, ltb-false}
 use Rattle.std.proofs.lemmas.{Bool.both_ways, Bool.cond-true, Bool.cond-false, Bool.or_right, List.take-append-drop, List.Folds.list_any-append}
 use Rattle.std.specs.Option.{IsSome}
-use Rattle.bx_lists.proofs.Tests.{either}
+use Rattle.bx_history.proofs.Tests.{either}
 use Rattle.bx_advice.specs.declared.config.Config.{Config}
 use Rattle.bx_entry.specs.Words.{Listed, answer_of, Judged, PlaceSlot, Waiting, registry, Filed, Session}
 use Rattle.bx_theory.proofs.Lists.{judged_more}

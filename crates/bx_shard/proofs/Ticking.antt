@@ -1,7 +1,7 @@
 -- A tick ends hold after hold, until none is due; every session is then as one tick leaves it.
 use Rattle.std.proofs.Common.{⊎_elim, Contains, ◌≡◌, ◌≢◌, ◌⊎◌, inl, inr, ℕ, nat_eq, ◌+◌, ◌<◌, ◌≤◌, ◌^◌, true, false, cond, Option, Some, option_map, [], ◌∷◌, refl, sym, ap, ◌∙◌, arith}
 use Rattle.std.proofs.lemmas.{Bool.eqb-true, Bool.eq-eqb, Bool.ne_eqb, Grind.common_steps}
-use Rattle.bx_lists.proofs.Tests.{either}
+use Rattle.bx_history.proofs.Tests.{either}
 use Rattle.bx_advice.specs.declared.config.Config.{Config}
 use Rattle.bx_advice.specs.declared.advice.Outcome.TheVariants.{Connected}
 use Rattle.bx_entry.specs.Words.{Kept, after, resumed, Pending, Session, ends_by, expired, unheld}

@@ -4,7 +4,8 @@ use Rattle.std.specs.{List.All, Option.option_or}
 use Rattle.std.proofs.lemmas.{List.Elements.All-head, List.Elements.All-tail, List.Elements.filter_passes, List.Folds.find-append, List.Folds.flat_map-map}
 use Rattle.bx_entry.specs.Words.{Listed, Registered, entries_of, registry, Filed, Session, session}
 use Rattle.bx_shard.proofs.Cases.{by_option}
-use Rattle.bx_shard.specs.Shards.{Setup, is_taken, sessions_in, shard_at, stands_in}
+use Rattle.bx_entry.specs.Placings.{Setup}
+use Rattle.bx_shard.specs.Shards.{is_taken, sessions_in, shard_at, stands_in}
 
 abbrev pub find_of : ℕ → List Filed → Option Filed
 find_of p fs = find (λ (f : Filed). f.connect == p) fs

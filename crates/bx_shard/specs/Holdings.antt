@@ -4,7 +4,8 @@ use Rattle.std.specs.{List.All, List.Sorted.IsStrictlyIncreasing}
 use Rattle.bx_entry.specs.Words.{Listed, entries, Live, Kept}
 use Rattle.bx_entry.specs.declared.entry.Entry.{Entry}
 use Rattle.bx_entry.specs.declared.entry.EntryKind.TheVariants.{Opened}
-use Rattle.bx_shard.specs.Shards.{Setup, shard_at}
+use Rattle.bx_entry.specs.Placings.{Setup}
+use Rattle.bx_shard.specs.Shards.{shard_at}
 
 -- the session is live, and no more batches were formed than entries stand before this place
 pub record IsReached (place : ℕ) (k : Kept) : Type 0 where

@@ -8,7 +8,8 @@ use Rattle.bx_message.specs.declared.reply.Answer.{Answer}
 use Rattle.bx_connects.specs.declared.connects.ConnectState.{ConnectState}
 use Rattle.bx_connects.specs.declared.connects.ConnectState.TheVariants as states
 use Rattle.bx_connects.specs.Connects.{filed_answer, is_filed_below, session_at, taken_from}
-use Rattle.bx_shard.specs.Shards.{Setup, is_taken, shard_at, stands_in}
+use Rattle.bx_entry.specs.Placings.{Setup}
+use Rattle.bx_shard.specs.Shards.{is_taken, shard_at, stands_in}
 use Rattle.bx_shard.specs.States.{Applied, IsAsBefore, IsSound, State, Swept, Watched, WasShut, connect_in, session_in}
 
 -- an answer with the place of the entry that gave it

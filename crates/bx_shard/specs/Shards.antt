@@ -1,16 +1,8 @@
 -- Sessions in shards: which shard a session stands in, and what each shard holds after so many entries of the list.
 use Rattle.std.specs.Prelude.{ℕ, ◌==◌, not, Bool, List, take, filter, map, flat_map}
 use Rattle.std.specs.List.{list_any}
-use Rattle.bx_advice.specs.declared.config.Config.{Config}
+use Rattle.bx_entry.specs.Placings.{Setup}
 use Rattle.bx_entry.specs.Words.{Listed, Registered, registry, entries_of, Session, Filed, session, is_live, Kept, kept}
-
--- ---- placing
-
--- the configuration, how many shards there are, and in which of them each session stands, by its number and the number of shards
-pub record Setup : Type 0 where
-  pub config : Config
-  pub shards : ℕ
-  pub placing : ℕ → ℕ → ℕ
 
 -- whether the session stands in the shard
 abbrev pub stands_in : Setup → ℕ → ℕ → Bool

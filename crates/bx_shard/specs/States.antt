@@ -14,7 +14,8 @@ use Rattle.bx_shard.specs.declared.sessions.Sessions.{Sessions}
 use Rattle.futures.specs.declared.task.waker.Waker.{Waker}
 use Rattle.bx_shard.specs.Effects.{answers_by, holding}
 use Rattle.bx_shard.specs.Sessions.{AreTied, kept_in}
-use Rattle.bx_shard.specs.Shards.{Setup, stands_in}
+use Rattle.bx_entry.specs.Placings.{Setup}
+use Rattle.bx_shard.specs.Shards.{stands_in}
 
 -- The configuration with the placing, which shard it is, how many entries it has applied, whether it was shut, and its sessions.
 pub record State : Type 0 where

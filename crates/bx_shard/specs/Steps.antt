@@ -5,7 +5,8 @@ use Rattle.bx_advice.specs.declared.config.Config.{Config}
 use Rattle.bx_entry.specs.Words.{Listed, entries, Filed, is_live, unopened, Kept, kept, kept_step, kept_answers}
 use Rattle.bx_entry.specs.declared.entry.{Entry.Entry, EntryKind.EntryKind}
 use Rattle.bx_entry.specs.declared.entry.EntryKind.TheVariants.{Opened}
-use Rattle.bx_shard.specs.Shards.{Setup, is_taken, stands_in, shard_at}
+use Rattle.bx_entry.specs.Placings.{Setup}
+use Rattle.bx_shard.specs.Shards.{is_taken, stands_in, shard_at}
 
 -- ---- the sessions
 

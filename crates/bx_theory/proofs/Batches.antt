@@ -1,7 +1,7 @@
 -- A batch is given again until it is acknowledged.
 use Rattle.std.proofs.Common.{◌≡◌, ℕ, ◌+◌, ◌<◌, ◌≤◌, ◌⊎◌, inl, inr, ⊎_elim, true, false, cond, Option, Some, None, List, [], ◌∷◌, ◌++◌, length, fold, ◌==◌, refl, sym, ap, ◌∙◌, subst, arith, append_assoc, eq-eqb, eq-zero-or-pos}
 use Rattle.std.proofs.lemmas.{Bool.cond_both, Bool.cond-true, Bool.cases_lt, Grind.common_steps, List.Sums.fold-append}
-use Rattle.bx_lists.proofs.Tests.{either}
+use Rattle.bx_history.proofs.Tests.{either}
 use Rattle.bx_advice.specs.declared.{config.Config.Config, advice.Outcome.Outcome}
 use Rattle.bx_advice.specs.declared.advice.Outcome.TheVariants.{Connected, Failed}
 use Rattle.bx_advice.specs.declared.error.Error.TheVariants.{SupersededConnect}

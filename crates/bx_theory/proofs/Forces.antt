@@ -2,7 +2,7 @@
 use Rattle.std.proofs.Common.{◌≡◌, ℕ, Bool, true, false, not, ◌&&◌, ◌||◌, Option, Some, None, List, [], ◌∷◌, fold, filter_map, refl, sym, ap, ◌∙◌, arith}
 use Rattle.std.proofs.lemmas.{Bool.cond-true, Bool.cond-false, Bool.false_from_ne_true, Bool.both_ways, Grind.common_steps}
 use Rattle.std.specs.List.{cons_option}
-use Rattle.bx_lists.proofs.Tests.{either}
+use Rattle.bx_history.proofs.Tests.{either}
 use Rattle.bx_advice.specs.declared.config.Config.{Config}
 use Rattle.bx_names.specs.Words.{Glob, same_glob, in_force, with_pattern, without_pattern, same_glob-decides}
 use Rattle.bx_entry.specs.declared.entry.{Entry.Entry, EntryKind.EntryKind, Rider.Rider}

@@ -2,7 +2,7 @@
 use Rattle.std.proofs.Common.{◌≡◌, ℕ, ◌+◌, ◌<◌, Bool, true, false, cond, not, ◌&&◌, ◌||◌, List, [], ◌∷◌, ◌++◌, fold, refl, sym, ap, ◌∙◌, subst, append-nil, append_assoc, filter_map, arith}
 use Rattle.std.proofs.lemmas.{Bool.cond_both, Bool.cond-true, Bool.and_parts, List.Sums.fold-append, Grind.common_steps}
 use Rattle.std.proofs.ByRecursion.{All-append, All-push, All-weaker}
-use Rattle.bx_lists.proofs.Tests.{either}
+use Rattle.bx_history.proofs.Tests.{either}
 use Rattle.bx_names.specs.Words.{Glob, same_glob, matches, any_matches, same_glob-decides, segments, is_broadcast, in_force}
 use Rattle.bx_advice.specs.declared.config.Config.{Config}
 use Rattle.bx_message.specs.declared.event.Event.{Event}

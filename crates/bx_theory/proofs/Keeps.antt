@@ -2,7 +2,7 @@
 use Rattle.std.proofs.Common.{◌≡◌, ℕ, ◌≤◌, Bool, true, false, ◌||◌, Option, List, [], ◌∷◌, ◌++◌, length, fold, refl, ap, ◌∙◌, arith, append_assoc}
 use Rattle.std.proofs.lemmas.Grind.{common_steps}
 use Rattle.std.proofs.Math.Seq.{drop-append_seam}
-use Rattle.bx_lists.proofs.Tests.{or_assoc}
+use Rattle.bx_history.proofs.Tests.{or_assoc}
 use Rattle.bx_advice.specs.declared.{config.Config.Config, advice.Outcome.Outcome}
 use Rattle.bx_advice.specs.declared.advice.Outcome.TheVariants.{Failed}
 use Rattle.bx_advice.specs.declared.error.Error.TheVariants.{SupersededConnect}

@@ -2,7 +2,7 @@
 use Rattle.std.proofs.Common.{◌≡◌, ℕ, ◌+◌, ◌<◌, max, Bool, true, false, cond, not, ◌&&◌, Option, Some, None, List, [], ◌∷◌, ◌++◌, length, map, fold, ◌==◌, refl, sym, ap, ◌∙◌, subst, arith, true≢false, ⊎_elim, append-nil, append_assoc, eqb-true, eq-eqb}
 use Rattle.std.proofs.lemmas.{Bool.cond-true, Bool.and_parts, Bool.not-true, Grind.common_steps, List.Sums.fold-append}
 use Rattle.bx_advice.specs.declared.{error.Error.Error, config.Config.Config}
-use Rattle.bx_lists.proofs.Tests.{either}
+use Rattle.bx_history.proofs.Tests.{either}
 use Rattle.std.specs.List.{AllByRecursion}
 use Rattle.bx_message.specs.MessageKinds.{message_kind_of}
 use Rattle.bx_entry.specs.Words.{Listed, Post, Posted, Session, Unopened, begun, step_by, step, unopened, session, rider_of, Filed, due_of, found_at, hold_of, is_ack, is_one, is_rider, joined, judged_by, named_by, refusal, State, may_ride, opened, refused, registry, rider_for, served, sessionless, slot_for, state_of, tick_verdict, Judged, NoSlot, PlaceSlot, Ready, Registered, Registry, Verdict, Waiting, entries_of}

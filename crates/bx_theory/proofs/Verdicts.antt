@@ -4,7 +4,7 @@ use Rattle.std.proofs.lemmas.{List.length_push, List.map-append, List.Sums.fold-
 use Rattle.std.proofs.Math.Seq.{take-append_seam}
 use Rattle.std.specs.Prelude.{Bool, Option, None}
 use Rattle.std.specs.List.{AllByRecursion}
-use Rattle.bx_lists.proofs.Lists.{mapped}
+use Rattle.bx_history.proofs.Elements.{mapped}
 use Rattle.bx_advice.specs.declared.{config.Config.Config, error.Error.Error}
 use Rattle.bx_message.specs.declared.message_kind.MessageKind.{MessageKind}
 use Rattle.bx_message.specs.MessageKinds.{message_kind_of, is_handshake}

@@ -3,8 +3,7 @@ ghost use Rattle.std.specs.Prelude.{◌≡◌, ◌+◌, ◌<◌, ◌≤◌, ◌^
 ghost use Rattle.bx_window.specs.Steps.{list_of};
 ghost use Rattle.bx_ticks.specs.Ticks.{ticks, tick_entries};
 
-use bx_entry::{Batch, Entry, EntryKind};
-use bx_listing::Listing;
+use bx_entry::{Batch, Entry, EntryKind, Listing};
 use bx_message::Sequence;
 use bx_window::{Bundle, Front, LogWriter, Naming, Note, PublishFault};
 use std::alloc::{AllocError, Global};

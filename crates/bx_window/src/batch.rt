@@ -2,8 +2,7 @@
 ghost use Rattle.std.specs.Prelude.{◌≡◌, ◌-◌, Some, slice_get};
 ghost use Rattle.bx_window.specs.Places.{IsOf};
 
-use bx_entry::{Batch, Entry};
-use bx_listing::Listing;
+use bx_entry::{Batch, Entry, Listing};
 
 /// A batch, and the messages and ticks that it comes of.
 #[derive(Drop)]

@@ -7,7 +7,7 @@ ghost use Rattle.bx_window.specs.Steps.{adding, trimming, stepping, list_of, beg
 ghost use Rattle.bx_window.specs.Rules.{head_of};
 
 use crate::law::{Add, Asked, Law, Logged, Naming, NoGain, Open, Spare, Whole};
-use bx_listing::Listing;
+use bx_entry::Listing;
 use logbook::{Offer, Pen, Seen, Start, Word};
 use std::marker::{Model, PhantomData};
 

@@ -1,5 +1,5 @@
 //! The log of the window's steps, which exists in proofs alone, and its rule.
-use bx_listing::Listing;
+use bx_entry::Listing;
 use logbook::{Gain, Pen, Plain, Play, Rule};
 use std::marker::Brand;
 

@@ -1,14 +1,15 @@
 -- What an admission answers, by what was planned.
 use Rattle.std.proofs.Common.{◌≡◌, ℕ, ◌+◌, Bool, true, false, Option, Some, None, List, ◌++◌, length, refl, sym, ap, ◌∙◌, subst}
 use Rattle.std.specs.Prelude.{Result, Ok, Err, IsErrAnd, IfSome, IsOkUnless, nat_lt, if◌then◌else◌}
-use Rattle.bx_admission.proofs.Faults.{IsFault, fault_told, planned_taken}
-use Rattle.bx_admission.specs.Slots.{admitted_slots, placed_by}
-use Rattle.bx_admission.specs.declared.plan.LedgerPlan.{LedgerPlan}
+use Rattle.bx_registry.proofs.Faults.{fault_told, planned_taken}
+use Rattle.bx_entry.specs.Placings.{placed_by}
+use Rattle.bx_registry.specs.Slots.{admitted_slots}
+use Rattle.bx_registry.specs.declared.plan.Plan.{Plan}
 use Rattle.bx_advice.specs.Limits.{greatest_moment, greatest_length}
 use Rattle.bx_entry.specs.declared.input.Refusal.{Refusal}
 use Rattle.bx_entry.specs.declared.input.Refusal.TheVariants as refusals
 use Rattle.bx_entry.specs.Words.{ReadInput, added_by, refusal_of, refused_beyond, Listed}
-use Rattle.bx_registry.specs.Plans.{fault_of}
+use Rattle.bx_registry.specs.Plans.{IsFault, fault_of}
 use Rattle.bx_registry.specs.declared.plan.AdmitFault.{AdmitFault}
 use Rattle.bx_registry.specs.declared.plan.AdmitFault.TheVariants as faults
 use Rattle.bx_world.specs.Words.{Admitting, IsAdmission, of_planning}
@@ -70,7 +71,7 @@ given_fault placing old new input fault (Err f) e same i =
     subst (λ (n : Admitting). IsAdmission placing old input (Err f) n) (sym same) (subst (λ (g : AdmissionFault). IsAdmission placing old input (Err g) old) (sym e) i)
 
 -- an input that was planned is taken
-pub taken : {T : Type 0} (placing : ℕ → ℕ → ℕ) (old new : Admitting) (input : ReadInput) (moment n : ℕ) (r : Result T AdmitFault) (made : T) (p : LedgerPlan) (a : Admitted) →
+pub taken : {T : Type 0} (placing : ℕ → ℕ → ℕ) (old new : Admitting) (input : ReadInput) (moment n : ℕ) (r : Result T AdmitFault) (made : T) (p : Plan) (a : Admitted) →
     refusal_of (length old.list) input ≡ refused_beyond moment (length old.list + n) → r ≡ Ok made → IfSome (fault_of moment (length old.list + n)) (λ f. r ≡ Err f) →
     p.batch.first ≡ length old.list → p.slots ≡ admitted_slots (placed_by old.config old.shards placing) old.list p.elements → p.elements ≡ added_by input →
     a ≡ record { first = p.batch.first; slots = p.slots } → new ≡ record old { list = old.list ++ p.elements } → IsAdmission placing old input (Ok a) new

@@ -11,7 +11,7 @@ use Rattle.bx_shard.specs.declared.shard.Shard.{Shard}
 use Rattle.bx_shard.proofs.{Holding.refines_still, Placed.entry_placed, Onwards.refines_onwards}
 use Rattle.bx_world.specs.Words.{Admitting, setup_of, world_of, StandFrom, EachRefines, HasApplied, HasStayed, RefinesFrom, IsApplication, application, WorldState, IsOutput, after, is_level, may_take_memory, next_entry}
 use Rattle.bx_world.specs.declared.world.World.{World}
-use Rattle.bx_admission.specs.Slots.{placed_by}
+use Rattle.bx_entry.specs.Placings.{placed_by}
 use Rattle.bx_world.specs.declared.step.Applied as applications
 use Rattle.bx_world.specs.declared.step.Applied.TheVariants.{Done, Level, Memory}
 use Rattle.bx_world.specs.declared.step.Step.TheVariants.{Apply}

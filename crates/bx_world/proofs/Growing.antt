@@ -7,11 +7,11 @@ use Rattle.bx_entry.specs.Requests.{read_input}
 use Rattle.bx_entry.specs.declared.input.Input.{Input}
 use Rattle.bx_entry.specs.declared.input.Refusal.TheVariants.{BadMoment, Ended}
 use Rattle.bx_entry.proofs.RequestLemmas.{length-listed}
-use Rattle.bx_shard.specs.Shards.{Setup}
+use Rattle.bx_entry.specs.Placings.{Setup}
 use Rattle.bx_shard.specs.declared.shard.Shard.{Shard}
 use Rattle.bx_shard.proofs.Holding.{refines_longer}
 use Rattle.bx_world.specs.Words.{Admitting, IsAdmission, EachRefines, admission, WorldState, IsOutput, after, output_admit}
-use Rattle.bx_admission.specs.Slots.{placed_by}
+use Rattle.bx_entry.specs.Placings.{placed_by}
 use Rattle.bx_world.specs.declared.step.{Admitted.Admitted, AdmissionFault.AdmissionFault}
 use Rattle.bx_world.specs.declared.step.AdmissionFault.TheVariants.{Refused, Memory}
 use Rattle.bx_world.specs.declared.step.Step.TheVariants.{Admit}

@@ -4,7 +4,7 @@ use Rattle.std.specs.Prelude.{replicate}
 use Rattle.std.proofs.Common.{Vec, Global}
 use Rattle.std.proofs.Props.{props}
 use Rattle.std.proofs.lemmas.{Option.slice_get-map, List.length-map}
-use Rattle.bx_lists.proofs.Lists.{mapped}
+use Rattle.bx_history.proofs.Elements.{mapped}
 use Rattle.bx_advice.specs.Limits.{greatest_length}
 use Rattle.bx_entry.specs.Listing.{Listed}
 use Rattle.bx_entry.specs.declared.Placing.{Ghosts}

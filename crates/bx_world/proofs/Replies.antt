@@ -9,9 +9,9 @@ use Rattle.bx_entry.specs.Words.{Listed, Post, Posted, listed_from, read_input, 
 use Rattle.bx_entry.specs.Listing as messages
 use Rattle.bx_entry.specs.Inputs.{ReadInput, Request, Unread, Tick, added_by}
 use Rattle.bx_entry.specs.declared.{entry.Slot.Slot, input.Input.Input, input.Refusal.Refusal}
-use Rattle.bx_shard.specs.Shards.{Setup}
+use Rattle.bx_entry.specs.Placings.{Setup}
 use Rattle.bx_world.specs.Words.{WorldState, IsOutput, Runs, after, output_admit, EachSlot, IsAdmitted, RepliedBy, Replied, EachReplied, RepliesAreAnswers}
-use Rattle.bx_admission.specs.Slots.{given_by, given_from, admitted_slots}
+use Rattle.bx_registry.specs.Slots.{given_by, given_from, admitted_slots}
 use Rattle.bx_world.specs.declared.step.{Step.Step, StepOut.StepOut}
 use Rattle.bx_world.specs.declared.step.Step.TheVariants.{Admit}
 use Rattle.bx_world.specs.declared.step.StepOut.TheVariants.{Admitted}

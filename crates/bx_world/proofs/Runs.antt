@@ -1,7 +1,7 @@
 -- A schedule, one step longer.
 use Rattle.std.proofs.Common.{◌≡◌, List, [], ◌∷◌, ◌++◌, refl, sym, ap, arith, ◌∙◌, subst, append-nil, append_assoc}
 use Rattle.bx_entry.specs.declared.Placing.{Ghosts}
-use Rattle.bx_shard.specs.Shards.{Setup}
+use Rattle.bx_entry.specs.Placings.{Setup}
 use Rattle.bx_world.specs.Words.{Ran, Steps, setup_of, world_of, WorldState, IsOutput, Runs, after}
 use Rattle.bx_world.specs.declared.{step.Step.Step, step.StepOut.StepOut, world.World.World}
 use Rattle.bx_world.proofs.AsOne.{headline}

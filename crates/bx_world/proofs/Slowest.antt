@@ -3,7 +3,7 @@ use Rattle.std.proofs.Common.{◌≡◌, ℕ, zero, suc, ◌<◌, ◌≤◌, ◌
 use Rattle.std.specs.Prelude.{replicate}
 use Rattle.std.specs.List.{list_any}
 use Rattle.std.proofs.lemmas.{Bool.cases_lt, List.map-set, Option.slice_get-map}
-use Rattle.bx_lists.proofs.Lists.{mapped}
+use Rattle.bx_history.proofs.Elements.{mapped}
 use Rattle.bx_shard.specs.declared.shard.Shard.{Shard}
 use Rattle.bx_world.specs.Refining.{StandFrom, StandWithin, some_stands_at}
 use Rattle.bx_world.proofs.Rows.{number_there}

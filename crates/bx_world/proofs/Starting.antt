@@ -2,14 +2,14 @@
 use Rattle.std.proofs.Common.{◌≡◌, ℕ, zero, suc, Some, None, List, [], ◌∷◌, ◌++◌, length, map, slice_get, refl, sym, ap, ◌∙◌, subst, arith}
 use Rattle.std.specs.Prelude.{replicate}
 use Rattle.std.specs.Arc.{arc_value}
-use Rattle.bx_lists.proofs.Lists.{each_push}
+use Rattle.bx_history.proofs.Elements.{each_push}
 use Rattle.bx_advice.specs.declared.config.Config.{Config}
 use Rattle.bx_entry.specs.Listing.{Listed}
 use Rattle.bx_shard.specs.Words.{Refines, setup_in, state, IsSound, connect_in, session_in}
 use Rattle.bx_shard.specs.declared.shard.Shard.{Shard}
 use Rattle.bx_shard.proofs.Holding.{refines_at_first}
 use Rattle.bx_world.specs.Words.{Admitting, EachRefines, WorldState, new_world}
-use Rattle.bx_admission.specs.Slots.{placed_by}
+use Rattle.bx_entry.specs.Placings.{placed_by}
 
 -- a shard of this index that has applied nothing
 pub record IsFirst {P : Type 0} (place_of : P → ℕ → ℕ → ℕ) (config : Config) (placing : P) (k : ℕ) (s : Shard P) : Type 0 where

@@ -3,7 +3,7 @@ use Rattle.std.proofs.Common.{◌≡◌, ℕ, suc, ◌+◌, ◌-◌, ◌<◌, �
 use Rattle.std.specs.Prelude.{count_by}
 use Rattle.std.proofs.lemmas.{Bool.le-ltb, List.get_or-drop, List.take-append-le, List.take_all, List.Sums.sum_by-cons}
 use Rattle.std.proofs.lemmas.Option.{get_or_from_slice_get, slice_get-get_or, slice_get_read, slice_get_within}
-use Rattle.bx_lists.proofs.Lists.{mapped}
+use Rattle.bx_history.proofs.Elements.{mapped}
 use Rattle.bx_advice.specs.Limits.{greatest_length}
 use Rattle.bx_entry.specs.Registry.{entries}
 use Rattle.bx_entry.specs.declared.entry.Entry.{Entry}

@@ -3,7 +3,8 @@ use Rattle.std.specs.Prelude.{ℕ, ◌≡◌, length, List, drop, ◌++◌, Resu
 use Rattle.bx_advice.specs.declared.config.Config.{Config}
 use Rattle.bx_entry.specs.Words.{ReadInput, added_by, refusal_of, Listed, entries}
 use Rattle.bx_entry.specs.declared.entry.Entry.{Entry}
-use Rattle.bx_admission.specs.Slots.{admitted_slots, placed_by}
+use Rattle.bx_entry.specs.Placings.{placed_by}
+use Rattle.bx_registry.specs.Slots.{admitted_slots}
 use Rattle.bx_world.specs.declared.step.{Admitted.Admitted, AdmissionFault.AdmissionFault}
 use Rattle.bx_world.specs.declared.step.AdmissionFault.TheVariants.{Refused, Memory}
 

@@ -9,7 +9,7 @@ use Rattle.bx_entry.specs.declared.{entry.Entry.Entry, entry.Slot.Slot, entry.Ti
 use Rattle.bx_entry.specs.declared.entry.EntryKind.TheVariants.{Connect}
 use Rattle.bx_entry.specs.declared.entry.Slot.TheVariants as answers
 use Rattle.bx_theory.specs.Laws.{Repeats, LastAnswer, AllBelow}
-use Rattle.bx_shard.specs.Shards.{Setup}
+use Rattle.bx_entry.specs.Placings.{Setup}
 use Rattle.bx_world.specs.Worlds.{WorldState, Runs}
 use Rattle.bx_world.specs.Schedules.{admitted_in, EachTook, EachNew, taken_places}
 use Rattle.bx_world.specs.declared.step.{Step.Step, StepOut.StepOut}

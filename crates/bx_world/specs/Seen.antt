@@ -4,7 +4,7 @@ use Rattle.std.specs.Arc.{arc_value}
 use Rattle.bx_entry.specs.declared.Placing.{Ghosts}
 use Rattle.bx_shard.specs.Words.{Refines, state, Setup}
 use Rattle.bx_shard.specs.declared.shard.Shard.{Shard}
-use Rattle.bx_admission.specs.Slots.{placed_by}
+use Rattle.bx_entry.specs.Placings.{placed_by}
 use Rattle.bx_world.specs.Headline.{AsOneThread}
 use Rattle.bx_world.specs.Worlds.{WorldState, IsOutput, Runs, after}
 use Rattle.bx_world.specs.declared.{step.Step.Step, step.StepOut.StepOut, world.World.World}

@@ -2,7 +2,7 @@
 use Rattle.std.specs.Prelude.{if◌then◌else◌, ℕ, find, ◌+◌, ◌==◌, ◌||◌, ◌&&◌, ◌≡◌, ◌⊎◌, not, Bool, true, false, List, [], ◌∷◌, ◌++◌, length, replicate, nat_lt, slice_get, slice_index, slice_set, Option, Some, None, option_map}
 use Rattle.bx_entry.specs.Words.{Listed, ReadInput, added_by, refusal_of, read_input, entries, Filed, PlacedAnswer, answer_of}
 use Rattle.bx_entry.specs.declared.{entry.Entry.Entry, entry.Ticket.Ticket, input.Refusal.Refusal}
-use Rattle.bx_admission.specs.Slots.{admitted_slots}
+use Rattle.bx_registry.specs.Slots.{admitted_slots}
 use Rattle.bx_shard.specs.Words.{given_of, Setup, shard_at, takes_no_memory}
 use Rattle.bx_world.specs.declared.step.{Step.Step, StepOut.StepOut}
 use Rattle.bx_world.specs.declared.step.Step.TheVariants.{Admit, Apply, Take}

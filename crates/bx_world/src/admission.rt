@@ -1,9 +1,9 @@
 //! The admission side of the world: who is live, and the list.
 ghost use Rattle.std.specs.Prelude.{ℕ, ◌≡◌, ◌≤◌, [], length, slice_get, option_map, max, IfOk, IfSome, OnErr, Err, ◌++◌};
-ghost use Rattle.bx_admission.specs.Ledgers.{LeadsTo, count_live};
+ghost use Rattle.bx_registry.specs.Standings.{LeadsTo};
 ghost use Rattle.bx_advice.specs.Limits.{greatest_length};
 ghost use Rattle.bx_entry.specs.Inputs.{refusal_of};
-ghost use Rattle.bx_entry.specs.Registry.{entries, registry};
+ghost use Rattle.bx_entry.specs.Registry.{count_live, entries, registry};
 ghost use Rattle.bx_entry.specs.Requests.{read_input};
 ghost use Rattle.bx_entry.specs.declared.input.Input.TheVariants.{Post, Tick};
 ghost use Rattle.bx_workers.specs.Upward.{BroughtUp, count_behind};
@@ -13,9 +13,9 @@ ghost use Rattle.bx_world.specs.declared.step.AdmissionFault.TheVariants.{Refuse
 
 use crate::backlog::Backlog;
 use crate::step::{AdmissionFault, Admitted};
-use bx_admission::{Ledger, LedgerPlan};
 use bx_advice::{Config, ShardCount};
 use bx_entry::{Arrival, Entry, Placing, read_messages};
+use bx_registry::{Plan, Registry};
 use bx_shard::Shard;
 use bx_workers::{Gate, WorkerCount};
 use std::alloc::{AllocError, Global};
@@ -25,7 +25,7 @@ use std::thread::Threads;
 /// Who is live, and the entries that some shard has not applied yet. Contracts see the list that they come of.
 #[derive(Drop)]
 pub(crate) struct Intake {
-    ledger: Ledger,
+    registry: Registry,
     backlog: Backlog,
 }
 
@@ -37,13 +37,13 @@ impl Model for Intake {
     ghost Value = { Admitting };
 
     ghost view = { λ a. record {
-      config = a.ledger.config;
-      shards = a.ledger.shards;
-      list = a.ledger.list;
+      config = a.registry.config;
+      shards = a.registry.shards;
+      list = a.registry.list;
       first = a.backlog.contents.first;
     } };
 
-    ghost invariant = { λ a. a.backlog.contents.all ≡ entries a.ledger.config a.ledger.list };
+    ghost invariant = { λ a. a.backlog.contents.all ≡ entries a.registry.config a.registry.list };
 }
 
 impl Intake {
@@ -52,7 +52,7 @@ impl Intake {
         ensures { IfOk result (λ a. a ≡ record { config = config; shards = config.shards; list = []; first = 0 }) }
     {
         Ok(Intake {
-            ledger: Ledger::new(alloc, config)?,
+            registry: Registry::new(alloc, config)?,
             backlog: Backlog::new(alloc),
         })
     }
@@ -68,9 +68,9 @@ impl Intake {
     {
         let messages = read_messages(alloc, &arrival.bodies)?;
         let plan = self
-            .ledger
+            .registry
             .plan(alloc, placing, arrival.moment, arrival.nonce, &messages)?;
-        Ok(take_in(&mut self.ledger, &mut self.backlog, plan)?)
+        Ok(take_in(&mut self.registry, &mut self.backlog, plan)?)
     }
 
     /// Takes a tick into the list.
@@ -78,22 +78,22 @@ impl Intake {
         ensures admission { (placing : ℕ → ℕ → ℕ) → IsAdmission placing self.old (read_input (Tick moment)) result self.new }
         ensures refused { IfSome (refusal_of (length self.old.list) (read_input (Tick moment))) (λ refusal. result ≡ Err (Refused refusal)) }
     {
-        let plan = self.ledger.plan_tick(alloc, moment)?;
-        Ok(take_in(&mut self.ledger, &mut self.backlog, plan)?)
+        let plan = self.registry.plan_tick(alloc, moment)?;
+        Ok(take_in(&mut self.registry, &mut self.backlog, plan)?)
     }
 
     /// How long the list is.
     pub(crate) fn entries(&self) -> u64
         ensures { result ≡ length self.now.list }
     {
-        self.ledger.entries()
+        self.registry.entries()
     }
 
     /// How many sessions are live.
     pub(crate) fn sessions(&self) -> usize
-        ensures { result ≡ count_live (registry self.now.config self.now.list) }
+        ensures { result ≡ count_live (registry self.now.config self.now.list).sessions }
     {
-        self.ledger.sessions()
+        self.registry.sessions()
     }
 
     /// The entry at a place from which on entries are kept; none at the end of the list.
@@ -124,7 +124,7 @@ impl Intake {
         ensures shards { self.new ≡ record self.old { shards = shards } }
         ensures in_range { (1 ≤ self.new.shards) × (self.new.shards ≤ 64) }
     {
-        self.ledger.reshard(shards);
+        self.registry.reshard(shards);
     }
 
     /// Has so many workers bring the shards up to the end of the list. Says how many stayed behind.
@@ -147,26 +147,26 @@ impl Intake {
     }
 }
 
-// Takes what was planned at this very ledger into its list, and the entries into the backlog.
+// Takes what was planned at this very registry into its list, and the entries into the backlog.
 fn take_in(
-    ledger: &mut Ledger,
+    registry: &mut Registry,
     backlog: &mut Backlog,
-    plan: LedgerPlan,
+    plan: Plan,
 ) -> Result<Admitted, AllocError>
-    requires { LeadsTo ledger.old plan.change plan.elements }
+    requires { LeadsTo registry.old plan.change plan.elements }
     ensures taken { IfOk result (λ a. (a ≡ record { first = plan.batch.first; slots = plan.slots })
-        × (ledger.new ≡ record ledger.old { list = ledger.old.list ++ plan.elements; ready = ledger.new.ready })
+        × (registry.new ≡ record registry.old { list = registry.old.list ++ plan.elements; ready = registry.new.ready })
         × (backlog.new.contents ≡ record { all = backlog.old.contents.all ++ plan.batch.entries; first = backlog.old.contents.first })) }
-    ensures refused { OnErr result ((ledger.new ≡ ledger.old) × (backlog.new.contents ≡ backlog.old.contents)) }
+    ensures refused { OnErr result ((registry.new ≡ registry.old) × (backlog.new.contents ≡ backlog.old.contents)) }
 {
-    let LedgerPlan {
+    let Plan {
         batch,
         slots,
         elements,
         change,
     } = plan;
     backlog.reserve(batch.entries.len())?;
-    ledger.commit(change, &elements);
+    registry.commit(change, &elements);
     backlog.append(batch.entries);
     Ok(Admitted {
         first: batch.first,

@@ -2,9 +2,8 @@
 ghost use Rattle.std.specs.Prelude.{◌≡◌, ◌<◌, ◌≤◌, length, true};
 ghost use Rattle.std.specs.Arc.{arc_value};
 ghost use Rattle.bx_advice.specs.Limits.{greatest_length};
-ghost use Rattle.bx_entry.specs.Registry.{entries, registry};
-ghost use Rattle.bx_admission.specs.Ledgers.{count_live};
-ghost use Rattle.bx_admission.specs.Slots.{placed_by};
+ghost use Rattle.bx_entry.specs.Registry.{count_live, entries, registry};
+ghost use Rattle.bx_entry.specs.Placings.{placed_by};
 ghost use Rattle.bx_world.specs.Refining.{EachRefines, IsApplication, StandFrom, StandWithin, some_stands_at};
 ghost use Rattle.bx_shard.specs.Props.{holds_props};
 
@@ -189,7 +188,7 @@ impl<P: Placing> World<P> {
 
     /// How many sessions are live.
     pub fn sessions(&self) -> usize
-        ensures { result ≡ count_live (registry (setup_of self.now).config (world_of self.now).list) }
+        ensures { result ≡ count_live (registry (setup_of self.now).config (world_of self.now).list).sessions }
     {
         self.admission.sessions()
     }

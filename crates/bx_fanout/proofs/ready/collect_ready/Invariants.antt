@@ -1,6 +1,6 @@
 use Rattle.std.proofs.Common.{length}
 use Rattle.bx_fanout.specs.CurrentInputs.{Collects, IsCollected}
-use Rattle.bx_shard.specs.Shards.{Setup}
+use Rattle.bx_entry.specs.Placings.{Setup}
 use Rattle.bx_world.specs.Worlds.{WorldState}
 use Rattle.bx_fanout.proofs.ready.collect_ready.Given as goal
 

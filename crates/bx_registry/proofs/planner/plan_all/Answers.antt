@@ -4,20 +4,20 @@ use Rattle.std.proofs.lemmas.List.{drop_all, drop_more}
 use Rattle.bx_message.specs.declared.message.Message.{Message}
 use Rattle.bx_message.specs.MessageKinds.{is_handshake, message_kind_of}
 use Rattle.bx_entry.specs.Words.{Posted, verdict}
-use Rattle.bx_registry.specs.Words.{posted_of, state_of, IsFoundAt, members_of}
+use Rattle.bx_registry.specs.Words.{posted_of, setup_of, state_of, IsFoundAt, members_of}
 use Rattle.bx_entry.proofs.RequestLemmas.{length-listed}
 use Rattle.bx_registry.proofs.Planning.{after-request, all_planned, one_next}
 use Rattle.bx_registry.proofs.planner.plan_all.Goals as goal
 use Rattle.std.proofs.lemmas.Grind.{common_steps}
 
 pub plan_next-requires-clause-opened : goal.plan_next-requires-clause-opened
-plan_next-requires-clause-opened c = grind (arith, common_steps, length-listed)
+plan_next-requires-clause-opened g c = grind (arith, common_steps, length-listed)
 
 pub overflow_add-place : goal.overflow_add-place
-overflow_add-place c = grind (arith, common_steps, length-listed)
+overflow_add-place g c = grind (arith, common_steps, length-listed)
 
 pub loop-message-preserved : goal.loop-message-preserved
-loop-message-preserved c =
+loop-message-preserved g c =
     let ms : List Message = c.args.messages.now in
     let i : ℕ = c.loop-message.message-index in
     let x : Message = c.message-item.result in
@@ -39,8 +39,8 @@ loop-message-preserved c =
     c.posted_at-posted.ensures) in
     let so = rw rest at c.loop-message.invariant.1 in
     let d = c.loop-message.draft in
-    let here : ℕ → Posted → Type 0 = λ k q. IsFoundAt c.loop-message.place k (members_of d)
-    (verdict c.args.config.now (state_of (members_of d) c.loop-message.senders) k q) (members_of c.plan_next.new.draft) c.in_ok-entry.behind
+    let here : ℕ → Posted → Type 0 = λ k q. IsFoundAt (setup_of g.P.Placing.place_of c.args.setup.now) c.loop-message.place k (members_of d)
+    (verdict c.args.setup.now.config.now (state_of (members_of d) c.loop-message.senders) k q) (members_of c.plan_next.new.draft) c.in_ok-entry.behind
     c.in_ok-entry.entry c.in_ok-entry.slot in
     let found = subst (λ (k : ℕ). here k p) c.max-now.ensures (subst (here c.max-now.result) posted c.in_ok-entry.ensures.found) in (
       left,
@@ -50,4 +50,4 @@ loop-message-preserved c =
     )
 
 pub returns-clause-planned : goal.returns-clause-planned
-returns-clause-planned c = grind (arith, common_steps, drop_all, all_planned, after-request)
+returns-clause-planned g c = grind (arith, common_steps, drop_all, all_planned, after-request)

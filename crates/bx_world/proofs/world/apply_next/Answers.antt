@@ -1,5 +1,5 @@
 use Rattle.std.proofs.Common.{◌≡◌, ℕ, ◌<◌, true, false, Some, slice_get, sym, ap, subst, ◌∙◌}
-use Rattle.bx_lists.proofs.Tests.{either}
+use Rattle.bx_history.proofs.Tests.{either}
 use Rattle.bx_advice.specs.Limits.{greatest_length}
 use Rattle.bx_entry.specs.Registry.{entries}
 use Rattle.bx_shard.proofs.Placed.{entry_placed}

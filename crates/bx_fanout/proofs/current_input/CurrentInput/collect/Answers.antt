@@ -1,7 +1,7 @@
 use Rattle.std.proofs.Common.{◌≡◌, ◌<◌, ◌+◌, ◌++◌, ◌∷◌, [], ◌∙◌, arith, ap, length, List, refl, subst, sym}
 use Rattle.std.proofs.lemmas.{Grind.common_steps, List.length_push}
 use Rattle.bx_message.specs.declared.reply.Answer.{Answer}
-use Rattle.bx_shard.specs.Shards.{Setup}
+use Rattle.bx_entry.specs.Placings.{Setup}
 use Rattle.bx_world.specs.Seen.{setup_of, world_of}
 use Rattle.bx_fanout.specs.CurrentInputs.{IsCollected, next_place}
 use Rattle.bx_fanout.proofs.Collecting.{collected-more, keeps-more, level-next}

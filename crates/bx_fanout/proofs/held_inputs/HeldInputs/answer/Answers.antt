@@ -1,5 +1,5 @@
 use Rattle.std.proofs.Common.{ap, sym, ◌∙◌, arith, subst, List, vec_capacity, count_by, ◌+◌, ◌≤◌}
-use Rattle.bx_lists.specs.Members.{has}
+use Rattle.bx_history.specs.Members.{has}
 use Rattle.bx_fanout.specs.HeldInputs.{IsMarked, Row, answered_places, waits, answered_at}
 use Rattle.bx_fanout.proofs.HeldInputs.{fewer-wait, marked-answered, unchanged}
 use Rattle.bx_fanout.proofs.held_inputs.HeldInputs.answer.Goals as goal

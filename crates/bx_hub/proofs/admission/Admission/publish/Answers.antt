@@ -1,5 +1,5 @@
 use Rattle.std.proofs.Common.{◌≡◌, ◌++◌, ◌∷◌, [], ◌∙◌, List, sym, ap, subst}
-use Rattle.bx_admission.specs.Ledgers.{LeadsTo, Ledger}
+use Rattle.bx_registry.specs.Standings.{LeadsTo, Standing}
 use Rattle.bx_entry.specs.Listing.{Listed}
 use Rattle.bx_window.specs.Steps.{adding, list_of}
 use Rattle.bx_window.proofs.Lists.{list_of-adding}
@@ -9,12 +9,12 @@ use Rattle.bx_hub.proofs.admission.Admission.publish.Goals as goal
 pub publish-requires-clause-continues : goal.publish-requires-clause-continues
 publish-requires-clause-continues g c =
     let d = c.args.self.now in
-    continues g.J.Naming.config (list_of d.writer) d.ledger c.args.plan d.config d.listed c.requires.continues c.requires.some
+    continues g.J.Naming.config (list_of d.writer) d.registry c.args.plan d.config d.listed c.requires.continues c.requires.some
 
 pub publish-requires-clause-places : goal.publish-requires-clause-places
 publish-requires-clause-places g c =
     let d = c.args.self.now in
-    places_end (list_of d.writer) d.ledger c.args.plan d.listed c.requires.continues
+    places_end (list_of d.writer) d.registry c.args.plan d.listed c.requires.continues
 
 pub invariant_of-self : goal.invariant_of-self
 invariant_of-self g c =
@@ -23,7 +23,7 @@ invariant_of-self g c =
     let made = c.commit.ensures in
     let grown = ap list_of c.in-Ok.ensures.ok ∙ list_of-adding d.writer p.elements in
     record {
-      config = ap (λ (l : Ledger). l.config) made ∙ d.config;
-      counted = ap (λ (l : Ledger). l.shards) made ∙ d.counted;
-      listed = ap (λ (l : Ledger). l.list) made ∙ ap (λ (xs : List Listed). d.ledger.list ++ xs) c.again-added.ensures ∙ ap (λ (xs : List Listed). xs ++ p.elements) d.listed ∙ sym grown;
+      config = ap (λ (l : Standing). l.config) made ∙ d.config;
+      counted = ap (λ (l : Standing). l.shards) made ∙ d.counted;
+      listed = ap (λ (l : Standing). l.list) made ∙ ap (λ (xs : List Listed). d.registry.list ++ xs) c.again-added.ensures ∙ ap (λ (xs : List Listed). xs ++ p.elements) d.listed ∙ sym grown;
     }

@@ -1,4 +1,4 @@
-use Rattle.bx_admission.specs.Slots.{placed_by}
+use Rattle.bx_entry.specs.Placings.{placed_by}
 use Rattle.bx_shard.specs.Seen.{state}
 use Rattle.bx_hub.proofs.Held.{stands_of, stands_shut, prefix_taken}
 use Rattle.bx_hub.proofs.desk.Desk.close.Goals as goal

@@ -1,7 +1,7 @@
 use Rattle.std.proofs.Common.{subst, sym, ⊎_elim}
 use mathlib.Core.List.{IsPrefix}
 use Rattle.bx_window.proofs.Fronts.{prefix_trans}
-use Rattle.bx_admission.specs.Slots.{placed_by}
+use Rattle.bx_entry.specs.Placings.{placed_by}
 use Rattle.bx_shard.specs.Seen.{state}
 use Rattle.bx_hub.proofs.Held.{stands_of, stands_grown, prefix_taken}
 use Rattle.bx_hub.proofs.desk.Desk.learn.Goals as goal

@@ -1,5 +1,5 @@
 use Rattle.std.proofs.Common.{Bool, nat_eq, ap}
-use Rattle.bx_admission.specs.Slots.{placed_by}
+use Rattle.bx_entry.specs.Placings.{placed_by}
 use Rattle.bx_shard.specs.Seen.{state}
 use Rattle.bx_hub.proofs.Held.{stands_of, stands_watched, prefix_taken}
 use Rattle.bx_hub.proofs.desk.Desk.leave.Goals as goal

@@ -1,5 +1,5 @@
 use Rattle.std.proofs.Common.{◌∙◌, sym}
-use Rattle.bx_admission.specs.Slots.{placed_by}
+use Rattle.bx_entry.specs.Placings.{placed_by}
 use Rattle.bx_shard.specs.Seen.{state}
 use Rattle.bx_hub.proofs.Held.{held, stands_of, level_without}
 use Rattle.bx_hub.proofs.desk.Desk.look.Goals as goal

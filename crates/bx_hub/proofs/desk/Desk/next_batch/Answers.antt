@@ -1,5 +1,5 @@
 use Rattle.std.proofs.Common.{subst, arith}
-use Rattle.bx_admission.specs.Slots.{placed_by}
+use Rattle.bx_entry.specs.Placings.{placed_by}
 use Rattle.bx_shard.specs.Seen.{state}
 use Rattle.bx_window.specs.Answers.{IsRight}
 use Rattle.bx_hub.proofs.Held.{not_level, prefix_taken, stands_of, stands_seen}

@@ -1,5 +1,5 @@
 use Rattle.std.proofs.Common.{◌≡◌, ◌<◌, ◌+◌, ◌-◌, ◌∙◌, ℕ, length, slice_get, Some, sym, ap, subst, arith}
-use Rattle.bx_admission.specs.Slots.{placed_by}
+use Rattle.bx_entry.specs.Placings.{placed_by}
 use Rattle.bx_shard.specs.Seen.{state}
 use Rattle.bx_window.specs.Places.{IsOf}
 use Rattle.bx_window.specs.Steps.{list_of}

@@ -1,5 +1,5 @@
 use Rattle.std.proofs.Common.{◌++◌, ◌∙◌, ℕ, List, sym, ap, subst}
-use Rattle.bx_admission.specs.Slots.{placed_by}
+use Rattle.bx_entry.specs.Placings.{placed_by}
 use Rattle.bx_shard.specs.Seen.{state}
 use Rattle.bx_hub.specs.Held.{Stands}
 use Rattle.bx_hub.proofs.Held.{held, stands_of, stands_swept, prefix_taken}

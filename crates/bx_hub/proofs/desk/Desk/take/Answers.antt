@@ -1,5 +1,5 @@
 use Rattle.std.proofs.Common.{[], ℕ, List, Bool, nat_eq, sym, ap, subst, arith}
-use Rattle.bx_admission.specs.Slots.{placed_by}
+use Rattle.bx_entry.specs.Placings.{placed_by}
 use Rattle.bx_shard.specs.Words.{state, connect_in}
 use Rattle.bx_connects.specs.Connects.{filed_answer}
 use Rattle.bx_hub.specs.Held.{Stands}

@@ -1,4 +1,4 @@
-use Rattle.bx_admission.specs.Slots.{placed_by}
+use Rattle.bx_entry.specs.Placings.{placed_by}
 use Rattle.bx_cut.specs.Bodies.{texts_of}
 use Rattle.bx_service.specs.Gatherings.{request_of}
 use Rattle.bx_service.proofs.Tickets.{slots_below}

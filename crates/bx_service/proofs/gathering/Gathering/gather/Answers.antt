@@ -1,6 +1,6 @@
 use Rattle.std.proofs.Common.{rules, List, None, ◌∷◌, sym, subst}
 use Rattle.std.specs.Vec.Iter.{into_iter_items}
-use Rattle.bx_admission.specs.Slots.{placed_by}
+use Rattle.bx_entry.specs.Placings.{placed_by}
 use Rattle.bx_entry.specs.declared.entry.Slot.{Slot}
 use Rattle.bx_service.specs.Gatherings.{AreAll}
 use Rattle.bx_service.proofs.gathering.Gathering.gather.Goals as goal

@@ -1,7 +1,7 @@
 use Rattle.std.specs.Prelude.{◌≡◌, None, List, option_map}
 use Rattle.std.specs.Vec.Iter.{into_iter_items, into_iter_len}
 use Rattle.futures.specs.Task.{Keeps}
-use Rattle.bx_admission.specs.Slots.{placed_by}
+use Rattle.bx_entry.specs.Placings.{placed_by}
 use Rattle.bx_message.specs.declared.reply.Item.{Item}
 use Rattle.bx_service.specs.Gatherings.{AreAll, awaited_as}
 use Rattle.bx_service.proofs.gathering.Gathering.gather.Given as goal

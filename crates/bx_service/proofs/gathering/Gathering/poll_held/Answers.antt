@@ -1,6 +1,6 @@
 use Rattle.std.proofs.Common.{List, None, Result, subst}
 use Rattle.std.specs.Vec.Iter.{into_iter_items}
-use Rattle.bx_admission.specs.Slots.{placed_by}
+use Rattle.bx_entry.specs.Placings.{placed_by}
 use Rattle.bx_held.specs.Outputs.{MayGive}
 use Rattle.bx_held.specs.declared.fault.HeldFault.{HeldFault}
 use Rattle.bx_message.specs.declared.reply.{Answer.Answer, Item.Item}

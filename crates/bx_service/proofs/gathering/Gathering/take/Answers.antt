@@ -1,7 +1,7 @@
 use Rattle.std.proofs.Common.{List, None, Some, false, ap, subst}
 use Rattle.std.specs.Prelude.{option_map}
 use Rattle.std.specs.Vec.Iter.{into_iter_items}
-use Rattle.bx_admission.specs.Slots.{placed_by}
+use Rattle.bx_entry.specs.Placings.{placed_by}
 use Rattle.bx_message.specs.declared.reply.Item.{Item}
 use Rattle.bx_service.specs.Gatherings.{AreAll, awaited_as}
 use Rattle.bx_service.proofs.GatheringLemmas.{all_replied, all_same, all_waiting, on_ok}

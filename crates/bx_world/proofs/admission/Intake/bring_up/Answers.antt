@@ -9,14 +9,14 @@ use Rattle.bx_world.proofs.admission.Intake.bring_up.Goals as goal
 pub bring_up-requires-clause-consecutive : goal.bring_up-requires-clause-consecutive
 bring_up-requires-clause-consecutive g c κs lived =
     let inside = c.self.inside in
-    let viewed : Admitting = record { config = inside.ledger.config; shards = inside.ledger.shards; list = inside.ledger.list; first = inside.backlog.contents.first } in
+    let viewed : Admitting = record { config = inside.registry.config; shards = inside.registry.shards; list = inside.registry.list; first = inside.backlog.contents.first } in
     let same : kept_in inside.backlog.contents ≡ entries_kept viewed = ap (drop inside.backlog.contents.first) c.self.invariant in
     subst AreConsecutive (sym same) (kept_consecutive viewed)
 
 pub bring_up-requires-clause-end : goal.bring_up-requires-clause-end
 bring_up-requires-clause-end g c κs lived =
     let inside = c.self.inside in
-    let viewed : Admitting = record { config = inside.ledger.config; shards = inside.ledger.shards; list = inside.ledger.list; first = inside.backlog.contents.first } in
+    let viewed : Admitting = record { config = inside.registry.config; shards = inside.registry.shards; list = inside.registry.list; first = inside.backlog.contents.first } in
     let same : kept_in inside.backlog.contents ≡ entries_kept viewed = ap (drop inside.backlog.contents.first) c.self.invariant in
     subst (λ (es : List Entry). end_of es ≤ greatest_length) (sym same)
     (kept_bounded viewed (subst (λ (a : Admitting). length a.list ≤ greatest_length) (sym c.self.view_is) c.requires.end))
@@ -24,7 +24,7 @@ bring_up-requires-clause-end g c κs lived =
 pub bring_up-requires-clause-within : goal.bring_up-requires-clause-within
 bring_up-requires-clause-within g c κs lived =
     let inside = c.self.inside in
-    let viewed : Admitting = record { config = inside.ledger.config; shards = inside.ledger.shards; list = inside.ledger.list; first = inside.backlog.contents.first } in
+    let viewed : Admitting = record { config = inside.registry.config; shards = inside.registry.shards; list = inside.registry.list; first = inside.backlog.contents.first } in
     let same : kept_in inside.backlog.contents ≡ entries_kept viewed = ap (drop inside.backlog.contents.first) c.self.invariant in
     subst (λ (es : List Entry). AreWithin es c.args.shards.now) (sym same)
     (kept_within viewed c.args.shards.now

@@ -6,5 +6,5 @@ use Rattle.bx_world.proofs.admission.Intake.forget.Goals as goal
 pub forget-requires : goal.forget-requires
 forget-requires c =
     let inside = c.self.inside in
-    let long = ap length c.self.invariant ∙ entries_length inside.ledger.config inside.ledger.list in
+    let long = ap length c.self.invariant ∙ entries_length inside.registry.config inside.registry.list in
     omega (arith, c.requires, long, ap (λ (a : Admitting). length a.list) c.self.view_is)

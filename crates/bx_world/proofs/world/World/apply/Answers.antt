@@ -4,7 +4,7 @@ use Rattle.std.proofs.lemmas.{List.length-set, Option.slice_get_read}
 use Rattle.bx_advice.specs.Limits.{greatest_length}
 use Rattle.bx_shard.specs.declared.shard.Shard.{Shard}
 use Rattle.bx_world.specs.Words.{Admitting, EachRefines, some_stands_at, setup_of}
-use Rattle.bx_admission.specs.Slots.{placed_by}
+use Rattle.bx_entry.specs.Placings.{placed_by}
 use Rattle.bx_world.proofs.{Applications.application_steps, Applications.each_applied, Applications.each_from, Slowest.still_slowest}
 use Rattle.bx_world.proofs.world.World.apply.Goals as goal
 use Rattle.bx_world.proofs.world.World.apply.Goals.{After-apply_next-applied}

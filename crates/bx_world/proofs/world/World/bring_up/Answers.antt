@@ -6,7 +6,7 @@ use Rattle.bx_entry.specs.Registry.{entries}
 use Rattle.bx_shard.specs.declared.shard.Shard.{Shard}
 use Rattle.bx_workers.specs.Upward.{BroughtUp}
 use Rattle.bx_world.specs.Words.{Admitting, entries_kept, EachRefines, StandFrom, StandWithin, some_stands_at}
-use Rattle.bx_admission.specs.Slots.{placed_by}
+use Rattle.bx_entry.specs.Placings.{placed_by}
 use Rattle.bx_world.proofs.Applications.{each_from}
 use Rattle.bx_world.proofs.Upwards.{count_upward, each_upward, places_onward, places_stopped, places_within, written_back}
 use Rattle.bx_world.proofs.world.World.bring_up.Goals as goal

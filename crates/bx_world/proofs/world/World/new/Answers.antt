@@ -4,7 +4,7 @@ use Rattle.std.proofs.lemmas.List.{length_push}
 use Rattle.bx_advice.specs.Limits.{greatest_length}
 use Rattle.bx_shard.specs.declared.shard.Shard.{Shard}
 use Rattle.bx_world.specs.Words.{Admitting, EachRefines, some_stands_at}
-use Rattle.bx_admission.specs.Slots.{placed_by}
+use Rattle.bx_entry.specs.Placings.{placed_by}
 use Rattle.bx_world.proofs.Slowest.{all_stand}
 use Rattle.bx_world.proofs.Starting.{AreFirst, IsFirst, first_hold, first_places, one_more_first, world_first}
 use Rattle.bx_world.proofs.world.World.new.Goals as goal

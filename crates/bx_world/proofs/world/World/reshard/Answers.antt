@@ -6,7 +6,7 @@ use Rattle.bx_shard.specs.Seen.{state}
 use Rattle.bx_shard.specs.declared.shard.Shard.{Shard}
 use Rattle.bx_reshard.proofs.RedistributionLaws.{holders_are_apart}
 use Rattle.bx_world.specs.Words.{Admitting, EachRefines, some_stands_at}
-use Rattle.bx_admission.specs.Slots.{placed_by}
+use Rattle.bx_entry.specs.Placings.{placed_by}
 use Rattle.bx_world.proofs.Redistribution.{AreAtEnd, redistributed_at_end, same_world, states_hold}
 use Rattle.bx_world.proofs.world.World.reshard.Goals as goal
 use Rattle.bx_world.proofs.world.World.reshard.Goals.{In-Ok-redistribute, Start}

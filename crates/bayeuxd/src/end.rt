@@ -1,0 +1,60 @@
+//! The end of the server at the end of standard input.
+use bx_entry::Placing;
+use bx_figures::Counts;
+use bx_hub::{Gate, Hub};
+use bx_window::Naming;
+use futures::channel::oneshot::Sender;
+use futures::task::{Context, Poll};
+use futures::{Future, ready};
+use std::alloc::Global;
+use std::io::Read;
+use std::sync::{Arc, Wait};
+
+/// Reads standard input to its end, and says so.
+pub fn tell_at_end<R: Input>(rt: &R, told: Sender<()>) {
+    let mut bytes = [0; 512];
+    let mut input = rt.reader();
+    for _ in 0..u64::MAX {
+        match input.read(&mut bytes) {
+            Ok(0) | Err(_) => break,
+            Ok(_) => {}
+        }
+    }
+    let _ = told.send(());
+}
+
+/// Ready once the end was told and the hub was closed, which answers held connects.
+#[derive(Drop)]
+pub struct Closing<J: Naming, P: Placing, G: Gate + Drop, R: Wait + Drop, A> {
+    /// The leave to wait for the hub's locks.
+    pub rt: R,
+    /// What is closed.
+    pub hub: Arc<Hub<J, P, G, R>, Global>,
+    /// Where it is said that the server listens no more.
+    pub counts: Arc<Counts, Global>,
+    /// Tells the end.
+    pub told: A,
+}
+
+impl<J, P, G, R, A, T> Future for Closing<J, P, G, R, A>
+where
+    J: Naming,
+    P: Placing + Drop,
+    G: Gate + Drop,
+    R: Wait + Drop,
+    A: Future<Output = T>,
+    T: Drop,
+{
+    type Output = ();
+
+    ghost can_poll = { λ c. A.can_poll c.told };
+
+    ghost needs = { λ c. A.needs c.told };
+
+    fn poll(&mut self, cx: &mut Context<'_>) -> Poll<()> {
+        let _ = ready!(self.told.poll(cx));
+        self.counts.set_listens(false);
+        self.hub.close(&self.rt);
+        Poll::Ready(())
+    }
+}

@@ -1,0 +1,108 @@
+//! The listener of figures.
+ghost use Rattle.std.specs.Prelude.{◌≤◌, length, IfOk};
+
+use bx_figures::{Asked, Counts, Figure, response_text};
+use log::{Log, info};
+use std::alloc::{AllocGlobal, Global};
+use std::io::{Read, Write};
+use std::net::{Net, TcpListener, TcpStream};
+use std::sync::Arc;
+use std::thread::Threads;
+use std::time::{Clock, Duration, Instant};
+use std::{io, thread};
+
+// How long a read or a write may bring nothing, in milliseconds. (This server's choice.)
+const PATIENCE: u64 = 2000;
+
+// How long nothing is accepted after a failure, as while the process has no descriptor left, in milliseconds. (This server's choice.)
+const PAUSE: u64 = 20;
+
+// How many bytes of a request's head are read, and in how many reads at most. (This server's choice.)
+const HEAD: usize = 4096;
+
+const READS: usize = 16;
+
+/// Answers for figures at this address, by a thread that goes on until the program ends. `Err` where the system refuses the address or the
+/// thread, or there is no memory.
+pub fn show_figures<R>(rt: R, address: &str, counts: &Arc<Counts, Global>) -> io::Result<()>
+where
+    R: Net<Listener = TcpListener, Stream = TcpStream>
+        + Threads
+        + Clock
+        + Log
+        + AllocGlobal
+        + Send
+        + Copy
+        + Drop
+        + 'static,
+{
+    let listener = TcpListener::bind(&rt, address)?;
+    let at = listener.local_addr()?;
+    let start = Instant::now(&rt)?;
+    let counts = Arc::try_clone(counts)?;
+    let _answering = thread::spawn(
+        &rt,
+        move || answer_all(&rt, rt.alloc(), &listener, &*counts, start),
+    )?;
+    info!(rt; target: "bayeuxd", "figures at {at}");
+    Ok(())
+}
+
+// Answers one connection after another, each one request. A client that breaks off, or brings nothing for two seconds, has no answer.
+fn answer_all<R: Clock>(
+    rt: &R,
+    alloc: Global,
+    listener: &TcpListener,
+    counts: &Counts,
+    start: Instant,
+) {
+    for stream in listener.incoming() {
+        let Ok(stream) = stream else {
+            thread::sleep(rt, Duration::from_millis(PAUSE));
+            continue;
+        };
+        if let Ok(passed) = start.elapsed(rt) {
+            counts.set(Figure::Uptime, passed.as_secs());
+        }
+        let _ = answer(stream, alloc, counts);
+    }
+}
+
+// Answers one connection.
+fn answer(mut stream: TcpStream, alloc: Global, counts: &Counts) -> io::Result<()> {
+    stream.set_read_timeout(Some(Duration::from_millis(PATIENCE)))?;
+    stream.set_write_timeout(Some(Duration::from_millis(PATIENCE)))?;
+    let mut head = [0; HEAD];
+    let length = read_head(&mut stream, &mut head)?;
+    let figures = counts.read(alloc)?;
+    let text = response_text(
+        alloc,
+        Asked::of(&head[..length]),
+        counts.listens(),
+        &figures,
+    )?;
+    stream.write_all(text.as_slice())
+}
+
+// How many bytes of a head have come: to its empty line, to the end of what comes, or as many as are read.
+fn read_head<S: Read>(stream: &mut S, head: &mut [u8]) -> io::Result<usize>
+    ensures { IfOk result (λ n. n ≤ length head.new) }
+{
+    let mut length = 0;
+    for _ in 0..READS {
+        let Some(room) = head.get_mut(length..) else {
+            break;
+        };
+        let read = stream.read(room)?;
+        length += read;
+        if read == 0 || is_whole(&head[..length]) {
+            break;
+        }
+    }
+    Ok(length)
+}
+
+// Whether a head has its empty line.
+fn is_whole(head: &[u8]) -> bool {
+    head.windows(4).any(|it| it == b"\r\n\r\n".as_slice())
+}

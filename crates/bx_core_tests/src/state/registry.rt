@@ -1,0 +1,233 @@
+//! Plans by what they say of entries and answers.
+ghost use Rattle.bx_registry.specs.Standings.{LeadsTo};
+
+use crate::same::same;
+use bx_advice::{Config, Error, Limits, Outcome};
+use bx_entry::{ByRemainder, Entry, EntryKind, Slot};
+use bx_message::{AckMember, Message, Sequence, Text, TextMember, reply_text};
+use bx_registry::{AdmitFault, Plan, Registry};
+use std::alloc::{AllocError, Global};
+use std::process::Abort;
+use std::test::Fail;
+
+/// A message to a channel with this client id, and nothing else.
+pub fn message(alloc: Global, channel: &str, client: TextMember) -> Result<Message, AllocError> {
+    Ok(Message {
+        channel: Text::new(alloc, channel)?,
+        id: None,
+        client,
+        version: TextMember::Absent,
+        supported: Sequence::new(alloc),
+        connection: TextMember::Absent,
+        subscription: None,
+        texts: Sequence::new(alloc),
+        listed: false,
+        payload: None,
+        ack: AckMember::NoAck,
+        timeout: None,
+    })
+}
+
+/// A handshake.
+pub fn hello(alloc: Global) -> Result<Message, AllocError> {
+    let mut hello = message(alloc, "/meta/handshake", TextMember::Absent)?;
+    hello.version = TextMember::Text(Text::new(alloc, "1.0")?);
+    hello.supported.push(Text::new(alloc, "long-polling")?)?;
+    Ok(hello)
+}
+
+// What is answered to the first handshake of a server.
+const OPENED: &[u8] =
+    br#"{"advice":{"interval":0,"reconnect":"retry","timeout":30000},"channel":"/meta/handshake","clientId":"000000000000000000000000000000000000000000000001","successful":true,"supportedConnectionTypes":["long-polling","callback-polling"],"version":"1.0"}"#;
+
+/// A server that takes so many sessions, of which the shard of each tells the number.
+pub fn config(sessions: usize) -> Config {
+    Config {
+        shards: 64,
+        timeout: 30_000,
+        interval: 0,
+        max_interval: 10_000,
+        limits: Limits {
+            events: 4,
+            patterns: 4,
+            batch: 4,
+            sessions,
+            texts: 2,
+        },
+        ride: false,
+        anonymous: false,
+    }
+}
+
+// How the first message is answered; a connect that waits has no case.
+fn case_of(plan: &Plan) -> Option<Outcome> {
+    match plan.slots.as_slice().first() {
+        Some(Slot::Ready(reply)) => Some(reply.outcome),
+        _ => None,
+    }
+}
+
+// The reply to the first message, as a client gets it; nothing where it waits.
+fn first_reply(alloc: Global, plan: &Plan) -> Result<Vec<u8>, AllocError> {
+    match plan.slots.as_slice().first() {
+        Some(Slot::Ready(reply)) => reply_text(alloc, reply),
+        _ => Ok(Vec::new(alloc)),
+    }
+}
+
+/// Commits what was planned at this registry.
+pub fn commit(registry: &mut Registry, plan: Plan)
+    requires { LeadsTo registry.old plan.change plan.elements }
+{
+    let Plan {
+        elements,
+        change,
+        ..
+    } = plan;
+    registry.commit(change, &elements);
+}
+
+// Plans and commits a handshake, and says how it is answered.
+fn open(
+    alloc: Global,
+    registry: &mut Registry,
+    moment: u64,
+) -> Result<Option<Outcome>, AdmitFault> {
+    let messages = [hello(alloc)?];
+    let plan = registry.plan(alloc, &ByRemainder, moment, 0, messages.as_slice())?;
+    let outcome = case_of(&plan);
+    commit(registry, plan);
+    Ok(outcome)
+}
+
+// Plans and commits a tick, and answers the numbers of the sessions that it closes.
+fn tick(alloc: Global, registry: &mut Registry, moment: u64) -> Result<Sequence<u64>, AdmitFault> {
+    let Plan {
+        batch,
+        elements,
+        change,
+        ..
+    } = registry.plan_tick(alloc, moment)?;
+    registry.commit(change, &elements);
+    let mut entries = batch.entries.into_vec();
+    let Some(Entry { kind, .. }) = entries.pop() else {
+        return Ok(Sequence::new(alloc));
+    };
+    match kind {
+        EntryKind::Tick(numbers) => Ok(numbers),
+        _ => Ok(Sequence::new(alloc)),
+    }
+}
+
+// The plan of a first handshake.
+fn check_plan(rt: &impl Abort, alloc: Global, plan: &Plan) -> Result<(), Fail> {
+    same(rt, plan.batch.first, 0, "place");
+    same(rt, plan.batch.entries.len(), 1, "entries");
+    same(rt, case_of(plan), Some(Outcome::Opened), "outcome");
+    let reply = first_reply(alloc, plan)?;
+    same(rt, reply.as_slice(), OPENED, "reply");
+    Ok(())
+}
+
+fn plan_of_first(alloc: Global, registry: &mut Registry) -> Result<Plan, AdmitFault> {
+    let messages = [hello(alloc)?];
+    registry.plan(alloc, &ByRemainder, 0, 0, messages.as_slice())
+}
+
+// A plan that is not committed.
+fn check_unchanged(rt: &impl Abort, alloc: Global, registry: &mut Registry) -> Result<(), Fail> {
+    check_plan(rt, alloc, &plan_of_first(alloc, registry)?)?;
+    same(rt, registry.entries(), 0, "entries");
+    same(rt, registry.live(1), false, "session 1");
+    Ok(())
+}
+
+// A tick at this moment closes the sessions with these numbers.
+fn check_tick(
+    rt: &impl Abort,
+    alloc: Global,
+    registry: &mut Registry,
+    moment: u64,
+    wanted: &[u64],
+) -> Result<(), Fail> {
+    let closed = tick(alloc, registry, moment)?;
+    same(rt, closed.as_slice(), wanted, moment);
+    Ok(())
+}
+
+fn check_closed(rt: &impl Abort, alloc: Global, registry: &mut Registry) -> Result<(), Fail> {
+    let opened = open(alloc, registry, 0)?;
+    same(rt, opened, Some(Outcome::Opened), "outcome");
+    same(rt, registry.live(1), true, "session 1");
+    same(rt, registry.live(2), false, "session 2");
+    check_tick(rt, alloc, registry, 10_000, &[])?;
+    same(rt, registry.live(1), true, "session 1");
+    check_tick(rt, alloc, registry, 10_001, &[1])?;
+    same(rt, registry.live(1), false, "session 1");
+    same(rt, registry.entries(), 3, "entries");
+    Ok(())
+}
+
+// Why a request without messages is refused at this moment, if it is.
+fn fault_at(alloc: Global, registry: &mut Registry, moment: u64) -> Option<AdmitFault> {
+    registry.plan(alloc, &ByRemainder, moment, 0, &[]).err()
+}
+
+// Where the entry of a tick at this moment would stand.
+fn place_of_tick(alloc: Global, registry: &mut Registry, moment: u64) -> Result<u64, AdmitFault> {
+    match &registry.plan_tick(alloc, moment) {
+        Ok(plan) => Ok(plan.batch.first),
+        Err(fault) => Err(*fault),
+    }
+}
+
+fn check_moments(rt: &impl Abort, alloc: Global, registry: &mut Registry) -> Result<(), Fail> {
+    let late = 4_611_686_018_427_387_905;
+    let refused = Some(AdmitFault::BadMoment);
+    same(rt, fault_at(alloc, registry, late), refused, "a request");
+    let place = place_of_tick(alloc, registry, late);
+    same(rt, place, Err(AdmitFault::BadMoment), "a tick");
+    let place = place_of_tick(alloc, registry, late - 1);
+    same(rt, place, Ok(0), "the last tick");
+    same(rt, registry.entries(), 0, "entries");
+    Ok(())
+}
+
+fn check_room(rt: &impl Abort, alloc: Global, registry: &mut Registry) -> Result<(), Fail> {
+    for _ in 0..65_536 {
+        open(alloc, registry, 0)?;
+    }
+    same(rt, registry.live(65_536), true, "the last session");
+    let wanted = Some(Outcome::Failed(Error::TooManySessions));
+    same(rt, open(alloc, registry, 0)?, wanted, "one more");
+    let closed = tick(alloc, registry, 10_001)?.len();
+    same(rt, closed, 65_536, "closed");
+    open(alloc, registry, 10_001)?;
+    same(rt, registry.live(65_537), true, "the next session");
+    Ok(())
+}
+
+#[test]
+fn a_plan_changes_nothing(rt: HostRuntime) -> Result<(), Fail> {
+    let alloc = rt.alloc();
+    check_unchanged(&rt, alloc, &mut Registry::new(alloc, config(2))?)
+}
+
+#[test]
+fn a_session_is_opened_and_closed(rt: HostRuntime) -> Result<(), Fail> {
+    let alloc = rt.alloc();
+    check_closed(&rt, alloc, &mut Registry::new(alloc, config(2))?)
+}
+
+#[test]
+fn moments_have_an_end(rt: HostRuntime) -> Result<(), Fail> {
+    let alloc = rt.alloc();
+    check_moments(&rt, alloc, &mut Registry::new(alloc, config(1))?)
+}
+
+#[test]
+fn there_is_room_for_the_standard_limit(rt: HostRuntime) -> Result<(), Fail> {
+    let alloc = rt.alloc();
+    let standard = Config::new(1, 30_000, 0, 10_000).ok_or("no configuration")?;
+    check_room(&rt, alloc, &mut Registry::new(alloc, standard)?)
+}

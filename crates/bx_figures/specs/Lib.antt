@@ -1,0 +1,3 @@
+pub mod Figures
+pub mod Pages
+pub mod Responses

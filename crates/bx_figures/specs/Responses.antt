@@ -1,0 +1,33 @@
+-- What the listener of figures answers.
+use Rattle.std.specs.Prelude.{ℕ, List, [], ◌++◌, Bool, true, false, codes, decimal, length, nat_eq, if◌then◌else◌}
+use Rattle.std.specs.{List.starts_with}
+use Rattle.bx_figures.specs.declared.response.Asked.{Asked}
+use Rattle.bx_figures.specs.declared.response.Asked.TheVariants.{Metrics, Health, Other, NoGet}
+use Rattle.bx_figures.specs.Pages.{page_text}
+
+-- what a request with this head asks for, by how it begins
+abbrev pub asked_of : List ℕ → Asked
+asked_of head =
+    if starts_with nat_eq head (codes "GET /metrics ") then Metrics
+    else (if starts_with nat_eq head (codes "GET /healthz ") then Health
+    else (if starts_with nat_eq head (codes "GET ") then Other else NoGet))
+
+-- a number with what stands before it and behind it
+abbrev pub with_number : List ℕ → ℕ → List ℕ → List ℕ
+with_number before number behind = before ++ decimal number ++ behind
+
+-- the fields that each response has, for a body of so many bytes, and their end
+abbrev pub fields_text : ℕ → List ℕ
+fields_text size = with_number (codes "\r\ncontent-length: ") size (codes "\r\nconnection: close\r\n\r\n")
+
+-- a response: its status, perhaps with a field, and its body
+abbrev pub message_text : List ℕ → List ℕ → List ℕ
+message_text status body = codes "HTTP/1.1 " ++ status ++ fields_text (length body) ++ body
+
+-- the response to what is asked, where the server listens or does not, and with these values
+abbrev pub response_text : Asked → Bool → List ℕ → List ℕ
+response_text Metrics listens values = message_text (codes "200 OK\r\ncontent-type: text/plain; version=0.0.4; charset=utf-8") (page_text values)
+response_text Health true values = message_text (codes "200 OK") (codes "listening\n")
+response_text Health false values = message_text (codes "503 Service Unavailable") (codes "not listening\n")
+response_text Other listens values = message_text (codes "404 Not Found") []
+response_text NoGet listens values = message_text (codes "405 Method Not Allowed\r\nallow: GET") []

@@ -1,0 +1,17 @@
+//! The figures of the server: what is counted, and the page and the responses that show them.
+#![tactic(auto)]
+
+mod counts;
+mod figure;
+mod label;
+mod page;
+mod response;
+mod standing;
+#[cfg(test)]
+mod tests;
+
+pub use counts::{Counts, Figures};
+pub use figure::{Figure, Reason};
+pub use page::page_text;
+pub use response::{Asked, response_text};
+pub use standing::Standing;

@@ -1,0 +1,103 @@
+//! What the listener of figures answers.
+ghost use Rattle.std.specs.Prelude.{◌≡◌, ◌++◌, IfOk, OnOk};
+ghost use Rattle.bx_figures.specs.Responses.{asked_of, fields_text, message_text, response_text, with_number};
+
+use crate::counts::Figures;
+use crate::page::page_text;
+use itoa::Buffer;
+use std::alloc::{AllocError, Global};
+
+/// What a request asks the listener for.
+#[derive(Clone, Copy, Debug, PartialEq, Eq)]
+pub enum Asked {
+    /// The page of figures: `GET /metrics`.
+    Metrics,
+    /// Whether the server listens: `GET /healthz`.
+    Health,
+    /// Something else by a GET, which is not there.
+    Other,
+    /// Something by another method than GET, or by none.
+    NoGet,
+}
+
+impl Asked {
+    /// What the request with this head asks for. Only its first line is looked at.
+    pub fn of(head: &[u8]) -> Asked
+        ensures { result ≡ asked_of head.now }
+    {
+        if head.starts_with(b"GET /metrics ") {
+            Asked::Metrics
+        } else if head.starts_with(b"GET /healthz ") {
+            Asked::Health
+        } else if head.starts_with(b"GET ") {
+            Asked::Other
+        } else {
+            Asked::NoGet
+        }
+    }
+}
+
+/// The response to what is asked, where the server listens or does not, and these are the figures: the page with status 200; 200, or
+/// 503 where the server does not listen; 404; and 405. The connection ends behind it. An error means that memory was refused.
+pub fn response_text(
+    alloc: Global,
+    asked: Asked,
+    listens: bool,
+    figures: &Figures,
+) -> Result<Vec<u8>, AllocError>
+    ensures { IfOk result (λ text. text.items ≡ response_text asked listens figures.now.values.items) }
+{
+    match asked {
+        Asked::Metrics => {
+            let page = page_text(alloc, figures)?;
+            message(
+                alloc,
+                "200 OK\r\ncontent-type: text/plain; version=0.0.4; charset=utf-8",
+                page.as_slice(),
+            )
+        }
+        Asked::Health if listens => message(alloc, "200 OK", b"listening\n"),
+        Asked::Health => message(alloc, "503 Service Unavailable", b"not listening\n"),
+        Asked::Other => message(alloc, "404 Not Found", b""),
+        Asked::NoGet => message(alloc, "405 Method Not Allowed\r\nallow: GET", b""),
+    }
+}
+
+// A response: its status, perhaps with a field, and its body.
+fn message(alloc: Global, status: &str, body: &[u8]) -> Result<Vec<u8>, AllocError>
+    ensures { IfOk result (λ text. text.items ≡ message_text status.now body.now) }
+{
+    let mut text = Vec::new(alloc);
+    text.extend_from_slice(b"HTTP/1.1 ")?;
+    text.extend_from_slice(status.as_bytes())?;
+    push_fields(&mut text, body.len())?;
+    text.extend_from_slice(body)?;
+    Ok(text)
+}
+
+// Puts the fields that each response has behind its status.
+fn push_fields(text: &mut Vec<u8>, length: usize) -> Result<(), AllocError>
+    ensures { OnOk result (text.new.items ≡ text.old.items ++ fields_text length) }
+{
+    push_number(
+        text,
+        "\r\ncontent-length: ",
+        length,
+        "\r\nconnection: close\r\n\r\n",
+    )
+}
+
+// Puts a number behind the text, with what stands before it and behind it.
+fn push_number(
+    text: &mut Vec<u8>,
+    before: &str,
+    number: usize,
+    behind: &str,
+) -> Result<(), AllocError>
+    ensures { OnOk result (text.new.items ≡ text.old.items ++ with_number before.now number behind.now) }
+{
+    let mut buffer = Buffer::new();
+    text.extend_from_slice(before.as_bytes())?;
+    text.extend_from_slice(buffer.format(number).as_bytes())?;
+    text.extend_from_slice(behind.as_bytes())
+}

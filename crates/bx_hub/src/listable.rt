@@ -1,0 +1,26 @@
+//! What can be listed.
+ghost use Rattle.std.specs.Prelude.{◌≡◌};
+ghost use Rattle.bx_hub.specs.Listables.{arrival_of};
+
+use crate::reading::Reading;
+use bx_entry::Arrival;
+
+/// A request whose documents were read, or a tick. To list it uses it up, so whoever still has it has not listed it.
+#[derive(Drop)]
+pub(crate) enum Listable {
+    Request(Reading),
+    /// At this moment, in milliseconds.
+    Tick(u64),
+}
+
+impl Listable {
+    /// The request as it came in; a tick has none.
+    pub(crate) fn into_arrival(self) -> Option<Arrival>
+        ensures { result ≡ arrival_of self }
+    {
+        match self {
+            Listable::Request(reading) => Some(reading.into_arrival()),
+            Listable::Tick(_) => None,
+        }
+    }
+}
