@@ -4,6 +4,7 @@
 const WORDS_OF_STATES = {
   connecting: 'connecting …',
   interrupted: 'connection lost, trying again …',
+  unreached: 'no server, trying again …',
   stopped: 'not connected',
 };
 
@@ -18,15 +19,49 @@ function serverAddress() {
   return WORDS.get('server') || own;
 }
 
-/** A client whose state the page shows, and whose session ends with the page. */
+/** Whether this is an address over HTTP, by itself or from this page's own server. */
+function isAddress(address) {
+  const own = location.protocol === 'file:' ? undefined : location.href;
+  return URL.canParse(address, own) && /^https?:$/.test(new URL(address, own).protocol);
+}
+
+/** What is wrong where no connection came about, and what to do. */
+function troubleWith(address, why) {
+  if (!isAddress(address)) {
+    return `“${address}” is no address of a server. Write one as ?server=http://127.0.0.1:8087/cometd behind this page’s address.`;
+  }
+  const [, status] = why.match(/^HTTP status (\d+)$/) || [];
+  if (status >= 500) return `${address} answers with status ${status}: nothing runs behind it. Start bayeuxd there, or wait.`;
+  if (status) return `${address} answers with status ${status}, so no Bayeux server is there. Look at the path, as /cometd.`;
+  return `No Bayeux server answers this page at ${address}. Start bayeuxd there, or name another server by ?server=ADDRESS.`;
+}
+
+function showTrouble(text) {
+  element('trouble').textContent = text;
+  element('trouble').hidden = text === '';
+}
+
+/** A client whose state the page shows, and whose session ends with the page. With a wrong address it does not start. */
 function newClient() {
-  const client = new BayeuxClient(serverAddress());
+  const address = serverAddress();
+  const client = new BayeuxClient(isAddress(address) ? address : '/cometd');
+  let wasConnected = false;
   client.onstate = (state, why) => {
     const isUp = state === 'connected';
+    wasConnected ||= isUp;
     element('state').className = state;
     element('state').textContent = isUp ? `connected by ${client.connectionType}` : WORDS_OF_STATES[state];
     element('state').title = why;
+    if (isUp) showTrouble('');
+    else if (state === 'interrupted' && !wasConnected) {
+      element('state').textContent = WORDS_OF_STATES.unreached;
+      showTrouble(troubleWith(address, why));
+    }
   };
+  if (!isAddress(address)) {
+    client.start = () => {};
+    showTrouble(troubleWith(address, ''));
+  }
   window.addEventListener('pagehide', () => client.stop());
   return client;
 }

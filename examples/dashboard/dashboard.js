@@ -2,9 +2,10 @@
 // A dashboard: a card with a live chart for each channel below /dashboard/ on which numbers are published.
 
 const PATTERN = '/dashboard/*';
-// The chart shows so many seconds (`?seconds=NUMBER`), in this box of the picture.
+// The chart shows n seconds (`?seconds=NUMBER`), in this box of a picture as wide as the card; its margin stands right of it.
 const SECONDS = Number(WORDS.get('seconds')) || 60;
-const BOX = { left: 36, right: 592, top: 10, bottom: 144 };
+const BOX = { left: 44, margin: 8, top: 10, bottom: 144, height: 166 };
+const LEAST_WIDTH = 200;
 const LINES = 4;
 
 const cards = new Map();
@@ -14,7 +15,9 @@ class Card {
   constructor(channel) {
     this.points = [];
     this.root = element('card').content.firstElementChild.cloneNode(true);
-    this.part('h2').textContent = channel.split('/').pop().replaceAll('-', ' ');
+    const name = channel.split('/').pop().replaceAll('-', ' ');
+    this.part('h2').textContent = name;
+    this.part('svg').setAttribute('aria-label', `${name} over the last ${SECONDS} seconds`);
     this.part('.start').textContent = `${SECONDS} s ago`;
   }
 
@@ -34,7 +37,8 @@ class Card {
     while (this.points.length > 1 && this.points[1].time <= start) this.points.shift();
     const values = this.points.map((point) => point.value);
     const scale = scaleOf(values);
-    const across = (time) => BOX.left + (BOX.right - BOX.left) * Math.max(0, (time - start) / (1000 * SECONDS));
+    const right = this.fit();
+    const across = (time) => BOX.left + (right - BOX.left) * Math.max(0, (time - start) / (1000 * SECONDS));
     const up = (value) => BOX.bottom - (BOX.bottom - BOX.top) * ((value - scale.low) / (scale.high - scale.low));
     const spots = this.points.map(({ time, value }) => `${across(time).toFixed(1)},${up(value).toFixed(1)}`);
     const newest = this.points[this.points.length - 1];
@@ -45,19 +49,27 @@ class Card {
     this.part('.newest').setAttribute('cx', across(newest.time));
     this.part('.newest').setAttribute('cy', up(newest.value));
     this.part('.newest').setAttribute('visibility', 'visible');
-    this.drawGrid(scale, up);
+    this.drawGrid(scale, up, right);
     this.part('.least').textContent = inWords(Math.min(...values));
     this.part('.greatest').textContent = inWords(Math.max(...values));
     this.part('.mean').textContent = inWords(values.reduce((sum, value) => sum + value, 0) / values.length);
   }
 
-  drawGrid(scale, up) {
+  // Makes the picture as wide as its card, so that its letters keep their size, and returns its right edge.
+  fit() {
+    const width = Math.max(LEAST_WIDTH, this.part('svg').clientWidth);
+    this.part('svg').setAttribute('viewBox', `0 0 ${width} ${BOX.height}`);
+    this.part('.end').setAttribute('x', width - BOX.margin);
+    return width - BOX.margin;
+  }
+
+  drawGrid(scale, up, right) {
     const parts = [];
     for (let line = 0; line <= LINES; line++) {
       const value = scale.low + ((scale.high - scale.low) * line) / LINES;
       const height = up(value);
-      parts.push(shape('line', { x1: BOX.left, x2: BOX.right, y1: height, y2: height }));
-      parts.push(shape('text', { x: BOX.left - 8, y: height + 4, 'text-anchor': 'end', class: 'label' }, inWords(value)));
+      parts.push(shape('line', { x1: BOX.left, x2: right, y1: height, y2: height }));
+      parts.push(shape('text', { x: BOX.left - 8, y: height + 4, 'text-anchor': 'end', class: 'label' }, inBrief(value)));
     }
     this.part('.grid').replaceChildren(...parts);
   }
@@ -83,6 +95,11 @@ function scaleOf(values) {
 
 function inWords(value) {
   return value.toLocaleString('en', { maximumFractionDigits: Math.abs(value) < 10 ? 2 : 1 });
+}
+
+// As on the axis, where there is little room: 12.5K.
+function inBrief(value) {
+  return value.toLocaleString('en', { notation: 'compact', maximumSignificantDigits: 3 });
 }
 
 const client = newClient();
