@@ -33,8 +33,16 @@ class Daemon:
 
     def begin(self, words, **streams):
         """Starts the process, and waits until it listens."""
+        self.start(words, **streams)
+        self.wait()
+
+    def start(self, words, **streams):
+        """Starts the process."""
         self.errors = tempfile.TemporaryFile()
         self.process = subprocess.Popen(words, stdout=subprocess.PIPE, stderr=self.errors, start_new_session=True, **streams)
+
+    def wait(self):
+        """Waits until it listens."""
         line = self.process.stdout.readline().decode()
         if not line.startswith("listening "):
             raise Wrong(f"it does not listen: {line!r} {self.told()!r}")
