@@ -5,6 +5,7 @@ const WORDS_OF_STATES = {
   connecting: 'connecting …',
   interrupted: 'connection lost, trying again …',
   unreached: 'no server, trying again …',
+  refused: 'refused, trying again …',
   stopped: 'not connected',
 };
 
@@ -25,6 +26,9 @@ function isAddress(address) {
   return URL.canParse(address, own) && /^https?:$/.test(new URL(address, own).protocol);
 }
 
+/** Whether this is the error of a reply, as `503::Too many sessions`. */
+const isError = (why) => /^\d{3}::/.test(why);
+
 /** What is wrong where no connection came about, and what to do. */
 function troubleWith(address, why) {
   if (!isAddress(address)) {
@@ -33,6 +37,7 @@ function troubleWith(address, why) {
   const [, status] = why.match(/^HTTP status (\d+)$/) || [];
   if (status >= 500) return `${address} answers with status ${status}: nothing runs behind it. Start bayeuxd there, or wait.`;
   if (status) return `${address} answers with status ${status}, so no Bayeux server is there. Look at the path, as /cometd.`;
+  if (isError(why)) return `The server at ${address} opens no session: ${why}. The page tries again.`;
   return `No Bayeux server answers this page at ${address}. Start bayeuxd there, or name another server by ?server=ADDRESS.`;
 }
 
@@ -54,7 +59,7 @@ function newClient() {
     element('state').title = why;
     if (isUp) showTrouble('');
     else if (state === 'interrupted' && !wasConnected) {
-      element('state').textContent = WORDS_OF_STATES.unreached;
+      element('state').textContent = isError(why) ? WORDS_OF_STATES.refused : WORDS_OF_STATES.unreached;
       showTrouble(troubleWith(address, why));
     }
   };

@@ -94,7 +94,10 @@ fn parts_of(rt: &HostRuntime, settings: &Settings<'_>) -> Result<Parts, &'static
     let Ok(addresses) = addresses_of(rt, settings.listen) else {
         return Err(CANNOT_LISTEN);
     };
-    let (Ok(counts), Ok((told, end))) = (counts_of(rt), oneshot::channel(alloc)) else {
+    let (Ok(counts), Ok((told, end))) = (
+        counts_of(rt, settings.config.shards),
+        oneshot::channel(alloc),
+    ) else {
         return Err(OUT_OF_MEMORY);
     };
     Ok(Parts {
@@ -123,10 +126,10 @@ fn status_of(rt: &HostRuntime, ended: ServeEnd) -> ExitCode {
     }
 }
 
-// Counts that are 0.
-fn counts_of(rt: &HostRuntime) -> io::Result<Arc<Counts, Global>> {
+// Counts that are 0, for so many shards.
+fn counts_of(rt: &HostRuntime, shards: usize) -> io::Result<Arc<Counts, Global>> {
     let alloc = rt.alloc();
-    Ok(Arc::new(alloc, Counts::new(alloc)?)?)
+    Ok(Arc::new(alloc, Counts::new(alloc, shards)?)?)
 }
 
 // A line with all settings but the seed.
@@ -147,8 +150,8 @@ fn settings_text(alloc: Global, settings: &Settings<'_>) -> Result<String, Alloc
     )?;
     write!(
         text,
-        " limit={} ride={} anonymous={}",
-        config.limits.events, config.ride, config.anonymous
+        " limit={} sessions={} ride={} anonymous={}",
+        config.limits.events, config.limits.sessions, config.ride, config.anonymous
     )?;
     write!(
         text,

@@ -2,7 +2,7 @@
 use crate::refusals::Refusals;
 use bx_entry::Placing;
 use bx_figures::{Counts, Figure};
-use bx_hub::{Gate, Hub, Lagging};
+use bx_hub::{Gate, Hub, Lagging, Pass, ShardSurvey, Survey};
 use bx_service::Clock;
 use bx_window::Naming;
 use log::Log;
@@ -59,7 +59,8 @@ where
             counts.add(Figure::RefusedTicks, 1);
             continue;
         };
-        count_tick(counts, pass.seen(), ticked.brought.behind());
+        count_tick(counts, ticked.brought.behind());
+        survey(rt, hub, &mut pass, counts);
         let _ = places.push_back(ticked.place);
         if places.len() > KEPT
             && let Some(before) = places.pop_front()
@@ -70,8 +71,8 @@ where
     }
 }
 
-// Counts a tick that was taken into the list, which then has so many entries, with the shards that stayed behind it.
-fn count_tick(counts: &Counts, entries: u64, behind: Lagging) {
+// Counts a tick that was taken into the list, with the shards that stayed behind it.
+fn count_tick(counts: &Counts, behind: Lagging) {
     let Lagging {
         memory,
         overrun,
@@ -84,6 +85,35 @@ fn count_tick(counts: &Counts, entries: u64, behind: Lagging) {
         shards = shards.saturating_add(some as u64);
     }
     counts.add(Figure::Ticks, 1);
-    counts.set(Figure::Entries, entries);
     counts.set(Figure::ShardsBehind, shards);
+}
+
+// Writes down how the hub stands, and each of its shards.
+fn survey<J: Naming, P: Placing, G: Gate + Drop, H: Wait + Drop, R: Wait>(
+    rt: &R,
+    hub: &Hub<J, P, G, H>,
+    pass: &mut Pass<J>,
+    counts: &Counts,
+) {
+    let Survey {
+        entries,
+        live,
+        opened,
+        batches,
+    } = hub.survey(rt, pass);
+    counts.set(Figure::Entries, entries);
+    counts.set(Figure::Sessions, live as u64);
+    counts.set(Figure::Opened, opened);
+    counts.set(Figure::Batches, batches as u64);
+    let (mut connects, mut answers): (u64, u64) = (0, 0);
+    for shard in 0..counts.shards() {
+        let Some(ShardSurvey { place, held, filed }) = hub.survey_shard(rt, shard) else {
+            break;
+        };
+        counts.set_lag(shard, entries.saturating_sub(place));
+        connects = connects.saturating_add(held as u64);
+        answers = answers.saturating_add(filed as u64);
+    }
+    counts.set(Figure::Connects, connects);
+    counts.set(Figure::Filed, answers);
 }

@@ -4,7 +4,7 @@ use Rattle.bx_advice.specs.declared.error.Error.TheVariants as errors
 use Rattle.bx_message.specs.declared.message_kind.MessageKind.TheVariants as kinds
 use Rattle.bx_message.specs.declared.status.Status.TheVariants as statuses
 use Rattle.bx_figures.specs.declared.figure.{Figure.Figure, Reason.Reason}
-use Rattle.bx_figures.specs.declared.figure.Figure.TheVariants.{Uptime, Connections, Accepted, Requests, Held, Admitted, Events, Unanswered, Missing, Entries, Ticks, RefusedTicks, ShardsBehind, Swept, Responses, Refused, Replies, Errors}
+use Rattle.bx_figures.specs.declared.figure.Figure.TheVariants.{Uptime, Connections, Accepted, Requests, Held, Admitted, Events, Unanswered, Missing, Entries, Ticks, RefusedTicks, ShardsBehind, Swept, Sessions, Opened, Batches, Connects, Filed, Responses, Refused, Replies, Errors}
 use Rattle.bx_figures.specs.declared.figure.Reason.TheVariants as reasons
 
 -- the name of a reason, as a label has it
@@ -34,6 +34,11 @@ name_of Ticks = codes "bayeux_ticks_total"
 name_of RefusedTicks = codes "bayeux_ticks_refused_total"
 name_of ShardsBehind = codes "bayeux_shards_behind"
 name_of Swept = codes "bayeux_answers_swept_total"
+name_of Sessions = codes "bayeux_sessions"
+name_of Opened = codes "bayeux_sessions_opened_total"
+name_of Batches = codes "bayeux_window_batches"
+name_of Connects = codes "bayeux_connects_held"
+name_of Filed = codes "bayeux_answers_filed"
 name_of (Responses status) = codes "bayeux_responses_total"
 name_of (Refused reason) = codes "bayeux_requests_refused_total"
 name_of (Replies kind) = codes "bayeux_replies_total"
@@ -55,6 +60,11 @@ help_of Ticks = codes "Ticks that were taken into the list."
 help_of RefusedTicks = codes "Ticks that were refused."
 help_of ShardsBehind = codes "Shards that stayed behind the last tick."
 help_of Swept = codes "Answers that nobody took and that were dropped."
+help_of Sessions = codes "Sessions that are live."
+help_of Opened = codes "Sessions that were opened."
+help_of Batches = codes "Batches in the window."
+help_of Connects = codes "Connects that are held."
+help_of Filed = codes "Answers that wait to be taken."
 help_of (Responses status) = codes "Responses by status."
 help_of (Refused reason) = codes "Requests that were not taken into the list, by reason."
 help_of (Replies kind) = codes "Replies of success by kind of message."
@@ -76,6 +86,11 @@ type_of Ticks = codes "counter"
 type_of RefusedTicks = codes "counter"
 type_of ShardsBehind = codes "gauge"
 type_of Swept = codes "counter"
+type_of Sessions = codes "gauge"
+type_of Opened = codes "counter"
+type_of Batches = codes "gauge"
+type_of Connects = codes "gauge"
+type_of Filed = codes "gauge"
 type_of (Responses status) = codes "counter"
 type_of (Refused reason) = codes "counter"
 type_of (Replies kind) = codes "counter"
@@ -97,6 +112,11 @@ is_first Ticks = true
 is_first RefusedTicks = true
 is_first ShardsBehind = true
 is_first Swept = true
+is_first Sessions = true
+is_first Opened = true
+is_first Batches = true
+is_first Connects = true
+is_first Filed = true
 is_first (Responses statuses.Ok) = true
 is_first (Responses statuses.BadRequest) = false
 is_first (Responses statuses.NotFound) = false
@@ -134,3 +154,10 @@ is_first (Errors errors.MissingSubscription) = false
 is_first (Errors errors.MissingData) = false
 is_first (Errors errors.SupersededConnect) = false
 is_first (Errors errors.QueueOverflow) = false
+
+-- how far a shard is behind: the name of its rows, and what the page says of it
+abbrev pub lag_name : List ℕ
+lag_name = codes "bayeux_shard_lag_entries"
+
+abbrev pub lag_help : List ℕ
+lag_help = codes "Entries of the list that a shard has not applied."

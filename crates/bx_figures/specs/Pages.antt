@@ -1,5 +1,5 @@
 -- The page of figures, in Prometheus' text format 0.0.4.
-use Rattle.std.specs.Prelude.{ℕ, List, [], ◌∷◌, ◌++◌, codes, decimal, if◌then◌else◌}
+use Rattle.std.specs.Prelude.{ℕ, suc, List, [], ◌∷◌, ◌++◌, codes, decimal, if◌then◌else◌}
 use Rattle.bx_advice.specs.Errors.{error_text}
 use Rattle.bx_message.specs.Statuses.{code_of}
 use Rattle.bx_message.specs.declared.message_kind.MessageKind.{MessageKind}
@@ -7,7 +7,7 @@ use Rattle.bx_message.specs.declared.message_kind.MessageKind.TheVariants as kin
 use Rattle.bx_figures.specs.declared.figure.Figure.{Figure}
 use Rattle.bx_figures.specs.declared.figure.Figure.TheVariants.{Responses, Refused, Replies, Errors}
 use Rattle.bx_figures.specs.declared.figure.TheConstants.{FIGURES}
-use Rattle.bx_figures.specs.Figures.{help_of, is_first, name_of, reason_name, type_of}
+use Rattle.bx_figures.specs.Figures.{help_of, is_first, lag_help, lag_name, name_of, reason_name, type_of}
 
 -- the name of a kind of message, as a label has it
 abbrev pub kind_name : MessageKind → List ℕ
@@ -39,9 +39,13 @@ comment_text word name rest = word ++ name ++ codes " " ++ rest ++ codes "\n"
 abbrev pub head_text : Figure → List ℕ
 head_text figure = comment_text (codes "# HELP ") (name_of figure) (help_of figure) ++ comment_text (codes "# TYPE ") (name_of figure) (type_of figure)
 
+-- how a line with this value ends
+abbrev pub value_text : ℕ → List ℕ
+value_text value = codes " " ++ decimal value ++ codes "\n"
+
 -- the line of a figure's value
 abbrev pub sample_text : Figure → ℕ → List ℕ
-sample_text figure value = name_of figure ++ label_text figure ++ codes " " ++ decimal value ++ codes "\n"
+sample_text figure value = name_of figure ++ label_text figure ++ value_text value
 
 -- the lines of a figure
 abbrev pub row_text : Figure → ℕ → List ℕ
@@ -53,6 +57,23 @@ rows_text [] values = []
 rows_text (figure ∷ figures) [] = row_text figure 0 ++ rows_text figures []
 rows_text (figure ∷ figures) (value ∷ values) = row_text figure value ++ rows_text figures values
 
--- the page of these values
-abbrev pub page_text : List ℕ → List ℕ
-page_text values = rows_text FIGURES values
+-- the line of how far a shard is behind
+abbrev pub lag_text : ℕ → ℕ → List ℕ
+lag_text shard lag = lag_name ++ one_label (codes "{shard=\"") (decimal shard) ++ value_text lag
+
+-- the lines of the shards from one on
+abbrev pub lags_from : ℕ → List ℕ → List ℕ
+lags_from shard [] = []
+lags_from shard (lag ∷ lags) = lag_text shard lag ++ lags_from (suc shard) lags
+
+-- what is said of these lines
+abbrev pub lag_head : List ℕ
+lag_head = comment_text (codes "# HELP ") lag_name lag_help ++ comment_text (codes "# TYPE ") lag_name (codes "gauge")
+
+-- the lines of all shards
+abbrev pub lags_text : List ℕ → List ℕ
+lags_text lags = lag_head ++ lags_from 0 lags
+
+-- the page of these values, and of how far each shard is behind
+abbrev pub page_text : List ℕ → List ℕ → List ℕ
+page_text values lags = rows_text FIGURES values ++ lags_text lags

@@ -24,10 +24,10 @@ fields_text size = with_number (codes "\r\ncontent-length: ") size (codes "\r\nc
 abbrev pub message_text : List ℕ → List ℕ → List ℕ
 message_text status body = codes "HTTP/1.1 " ++ status ++ fields_text (length body) ++ body
 
--- the response to what is asked, where the server listens or does not, and with these values
-abbrev pub response_text : Asked → Bool → List ℕ → List ℕ
-response_text Metrics listens values = message_text (codes "200 OK\r\ncontent-type: text/plain; version=0.0.4; charset=utf-8") (page_text values)
-response_text Health true values = message_text (codes "200 OK") (codes "listening\n")
-response_text Health false values = message_text (codes "503 Service Unavailable") (codes "not listening\n")
-response_text Other listens values = message_text (codes "404 Not Found") []
-response_text NoGet listens values = message_text (codes "405 Method Not Allowed\r\nallow: GET") []
+-- the response to what is asked, where the server listens or does not, and with these values and how far each shard is behind
+abbrev pub response_text : Asked → Bool → List ℕ → List ℕ → List ℕ
+response_text Metrics listens values lags = message_text (codes "200 OK\r\ncontent-type: text/plain; version=0.0.4; charset=utf-8") (page_text values lags)
+response_text Health true values lags = message_text (codes "200 OK") (codes "listening\n")
+response_text Health false values lags = message_text (codes "503 Service Unavailable") (codes "not listening\n")
+response_text Other listens values lags = message_text (codes "404 Not Found") []
+response_text NoGet listens values lags = message_text (codes "405 Method Not Allowed\r\nallow: GET") []

@@ -5,22 +5,20 @@ use crate::figure::{FIGURES, Figure};
 use std::alloc::{AllocError, Global};
 use std::sync::atomic::{AtomicBool, AtomicU64, Ordering};
 
-/// A count for each figure, to which any thread adds without a lock, and whether the server listens.
+/// A count for each figure, to which any thread adds without a lock, how far each shard is behind, and whether the server listens.
 #[derive(Drop)]
 pub struct Counts {
     counts: Vec<AtomicU64>,
+    lags: Vec<AtomicU64>,
     listens: AtomicBool,
 }
 
 impl Counts {
-    /// All are 0, and nothing listens. An error means that memory was refused.
-    pub fn new(alloc: Global) -> Result<Counts, AllocError> {
-        let mut counts = Vec::with_capacity(alloc, FIGURES.len())?;
-        for _ in FIGURES {
-            counts.push(AtomicU64::new(0))?;
-        }
+    /// All are 0 for so many shards, and nothing listens. An error means that memory was refused.
+    pub fn new(alloc: Global, shards: usize) -> Result<Counts, AllocError> {
         Ok(Counts {
-            counts,
+            counts: zeros(alloc, FIGURES.len())?,
+            lags: zeros(alloc, shards)?,
             listens: AtomicBool::new(false),
         })
     }
@@ -46,6 +44,18 @@ impl Counts {
         }
     }
 
+    /// How many shards there are.
+    pub fn shards(&self) -> usize {
+        self.lags.len()
+    }
+
+    /// A shard is so many entries of the list behind from here on.
+    pub fn set_lag(&self, shard: usize, entries: u64) {
+        if let Some(lag) = self.lags.get(shard) {
+            lag.store(entries, Ordering::SeqCst);
+        }
+    }
+
     /// How many it is.
     pub fn get(&self, figure: Figure) -> u64 {
         match self.counts.get(figure.place()) {
@@ -66,26 +76,51 @@ impl Counts {
 
     /// The counts as they are read, one after the other; others may add meanwhile. An error means that memory was refused.
     pub fn read(&self, alloc: Global) -> Result<Figures, AllocError> {
-        let mut values = Vec::with_capacity(alloc, FIGURES.len())?;
-        for count in &self.counts {
-            values.push(count.load(Ordering::SeqCst))?;
-        }
-        Ok(Figures { values })
+        Ok(Figures {
+            values: loaded(alloc, &self.counts)?,
+            lags: loaded(alloc, &self.lags)?,
+        })
     }
 }
 
-/// A value of each figure.
+// So many counts of 0.
+fn zeros(alloc: Global, count: usize) -> Result<Vec<AtomicU64>, AllocError> {
+    let mut zeros = Vec::with_capacity(alloc, count)?;
+    for _ in 0..count {
+        zeros.push(AtomicU64::new(0))?;
+    }
+    Ok(zeros)
+}
+
+// The counts as they are read.
+fn loaded(alloc: Global, counts: &Vec<AtomicU64>) -> Result<Vec<u64>, AllocError> {
+    let mut values = Vec::with_capacity(alloc, counts.len())?;
+    for count in counts {
+        values.push(count.load(Ordering::SeqCst))?;
+    }
+    Ok(values)
+}
+
+/// A value of each figure, and how many entries of the list each shard is behind.
 #[derive(Drop)]
 pub struct Figures {
     values: Vec<u64>,
+    lags: Vec<u64>,
 }
 
 impl Figures {
-    /// These values, in the order of the page's rows; those that lack are 0.
-    pub fn of(values: Vec<u64>) -> Figures
-        ensures { result.values ≡ values }
+    /// These values, in the order of the page's rows, of which those that lack are 0; and those of the shards.
+    pub fn of(values: Vec<u64>, lags: Vec<u64>) -> Figures
+        ensures { (result.values ≡ values) × (result.lags ≡ lags) }
     {
-        Figures { values }
+        Figures { values, lags }
+    }
+
+    /// How far each shard is behind, in their order.
+    pub(crate) fn lags(&self) -> &[u64]
+        ensures { result.now ≡ self.now.lags.items }
+    {
+        self.lags.as_slice()
     }
 
     /// The value at this place; 0 where there is none.

@@ -77,6 +77,16 @@ pub enum Figure {
     ShardsBehind,
     /// Answers that nobody took, and that were dropped.
     Swept,
+    /// Sessions that are live, as the last tick found it.
+    Sessions,
+    /// Sessions that were opened, as the last tick found it.
+    Opened,
+    /// Batches in the window, as the last tick found it.
+    Batches,
+    /// Connects that shards hold, as the last tick found it.
+    Connects,
+    /// Answers that are filed and that nobody has taken, as the last tick found it.
+    Filed,
     /// Responses of this status.
     Responses(Status),
     /// Requests that were not taken into the list, for this reason.
@@ -88,7 +98,7 @@ pub enum Figure {
 }
 
 /// All figures, as the page has them: those that differ in a label alone stand side by side.
-pub(crate) const FIGURES: [Figure; 51] = [
+pub(crate) const FIGURES: [Figure; 56] = [
     Figure::Uptime,
     Figure::Connections,
     Figure::Accepted,
@@ -103,6 +113,11 @@ pub(crate) const FIGURES: [Figure; 51] = [
     Figure::RefusedTicks,
     Figure::ShardsBehind,
     Figure::Swept,
+    Figure::Sessions,
+    Figure::Opened,
+    Figure::Batches,
+    Figure::Connects,
+    Figure::Filed,
     Figure::Responses(Status::Ok),
     Figure::Responses(Status::BadRequest),
     Figure::Responses(Status::NotFound),
@@ -162,6 +177,11 @@ impl Figure {
             Figure::RefusedTicks => 11,
             Figure::ShardsBehind => 12,
             Figure::Swept => 13,
+            Figure::Sessions => 14,
+            Figure::Opened => 15,
+            Figure::Batches => 16,
+            Figure::Connects => 17,
+            Figure::Filed => 18,
             Figure::Responses(status) => response_place(status),
             Figure::Refused(reason) => refused_place(reason),
             Figure::Replies(kind) => reply_place(kind),
@@ -188,6 +208,11 @@ impl Figure {
             Figure::RefusedTicks => "bayeux_ticks_refused_total",
             Figure::ShardsBehind => "bayeux_shards_behind",
             Figure::Swept => "bayeux_answers_swept_total",
+            Figure::Sessions => "bayeux_sessions",
+            Figure::Opened => "bayeux_sessions_opened_total",
+            Figure::Batches => "bayeux_window_batches",
+            Figure::Connects => "bayeux_connects_held",
+            Figure::Filed => "bayeux_answers_filed",
             Figure::Responses(_) => "bayeux_responses_total",
             Figure::Refused(_) => "bayeux_requests_refused_total",
             Figure::Replies(_) => "bayeux_replies_total",
@@ -214,6 +239,11 @@ impl Figure {
             Figure::RefusedTicks => "Ticks that were refused.",
             Figure::ShardsBehind => "Shards that stayed behind the last tick.",
             Figure::Swept => "Answers that nobody took and that were dropped.",
+            Figure::Sessions => "Sessions that are live.",
+            Figure::Opened => "Sessions that were opened.",
+            Figure::Batches => "Batches in the window.",
+            Figure::Connects => "Connects that are held.",
+            Figure::Filed => "Answers that wait to be taken.",
             Figure::Responses(_) => "Responses by status.",
             Figure::Refused(_) => "Requests that were not taken into the list, by reason.",
             Figure::Replies(_) => "Replies of success by kind of message.",
@@ -231,7 +261,11 @@ impl Figure {
             | Figure::Requests
             | Figure::Held
             | Figure::Entries
-            | Figure::ShardsBehind => "gauge",
+            | Figure::ShardsBehind
+            | Figure::Sessions
+            | Figure::Batches
+            | Figure::Connects
+            | Figure::Filed => "gauge",
             _ => "counter",
         }
     }
@@ -257,12 +291,12 @@ fn response_place(status: Status) -> usize
     ensures { slice_get FIGURES result ≡ Some (Responses status) }
 {
     match status {
-        Status::Ok => 14,
-        Status::BadRequest => 15,
-        Status::NotFound => 16,
-        Status::MethodNotAllowed => 17,
-        Status::TooLarge => 18,
-        Status::Unavailable => 19,
+        Status::Ok => 19,
+        Status::BadRequest => 20,
+        Status::NotFound => 21,
+        Status::MethodNotAllowed => 22,
+        Status::TooLarge => 23,
+        Status::Unavailable => 24,
     }
 }
 
@@ -271,14 +305,14 @@ fn refused_place(reason: Reason) -> usize
     ensures { slice_get FIGURES result ≡ Some (Refused reason) }
 {
     match reason {
-        Reason::Body => 20,
-        Reason::BadMoment => 21,
-        Reason::Ended => 22,
-        Reason::Closed => 23,
-        Reason::Behind => 24,
-        Reason::Overrun => 25,
-        Reason::Misplaced => 26,
-        Reason::Memory => 27,
+        Reason::Body => 25,
+        Reason::BadMoment => 26,
+        Reason::Ended => 27,
+        Reason::Closed => 28,
+        Reason::Behind => 29,
+        Reason::Overrun => 30,
+        Reason::Misplaced => 31,
+        Reason::Memory => 32,
     }
 }
 
@@ -287,13 +321,13 @@ fn reply_place(kind: MessageKind) -> usize
     ensures { slice_get FIGURES result ≡ Some (Replies kind) }
 {
     match kind {
-        MessageKind::Handshake => 28,
-        MessageKind::Connect => 29,
-        MessageKind::Subscribe => 30,
-        MessageKind::Unsubscribe => 31,
-        MessageKind::Disconnect => 32,
-        MessageKind::Publish => 33,
-        MessageKind::UnknownMeta => 34,
+        MessageKind::Handshake => 33,
+        MessageKind::Connect => 34,
+        MessageKind::Subscribe => 35,
+        MessageKind::Unsubscribe => 36,
+        MessageKind::Disconnect => 37,
+        MessageKind::Publish => 38,
+        MessageKind::UnknownMeta => 39,
     }
 }
 
@@ -302,21 +336,21 @@ fn error_place(error: Error) -> usize
     ensures { slice_get FIGURES result ≡ Some (Errors error) }
 {
     match error {
-        Error::UnknownMetaChannel => 35,
-        Error::SecondHandshake => 36,
-        Error::UnsupportedVersion => 37,
-        Error::NoSupportedConnectionType => 38,
-        Error::TooManySessions => 39,
-        Error::NoClientId => 40,
-        Error::UnknownClient => 41,
-        Error::UnknownConnectionType => 42,
-        Error::InvalidChannel => 43,
-        Error::InvalidPattern => 44,
-        Error::TooManyPatterns => 45,
-        Error::SubscriptionDenied => 46,
-        Error::MissingSubscription => 47,
-        Error::MissingData => 48,
-        Error::SupersededConnect => 49,
-        Error::QueueOverflow => 50,
+        Error::UnknownMetaChannel => 40,
+        Error::SecondHandshake => 41,
+        Error::UnsupportedVersion => 42,
+        Error::NoSupportedConnectionType => 43,
+        Error::TooManySessions => 44,
+        Error::NoClientId => 45,
+        Error::UnknownClient => 46,
+        Error::UnknownConnectionType => 47,
+        Error::InvalidChannel => 48,
+        Error::InvalidPattern => 49,
+        Error::TooManyPatterns => 50,
+        Error::SubscriptionDenied => 51,
+        Error::MissingSubscription => 52,
+        Error::MissingData => 53,
+        Error::SupersededConnect => 54,
+        Error::QueueOverflow => 55,
     }
 }

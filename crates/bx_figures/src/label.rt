@@ -23,8 +23,8 @@ pub(crate) fn push_label(page: &mut Vec<u8>, figure: Figure) -> Result<(), Alloc
     }
 }
 
-// Puts a label behind the page: what begins it, its value, and its end.
-fn push_one(page: &mut Vec<u8>, begin: &str, value: &str) -> Result<(), AllocError>
+/// Puts a label behind the page: what begins it, its value, and its end.
+pub(crate) fn push_one(page: &mut Vec<u8>, begin: &str, value: &str) -> Result<(), AllocError>
     ensures { OnOk result (page.new.items ≡ page.old.items ++ one_label begin.now value.now) }
 {
     page.extend_from_slice(begin.as_bytes())?;

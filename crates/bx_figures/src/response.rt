@@ -45,7 +45,7 @@ pub fn response_text(
     listens: bool,
     figures: &Figures,
 ) -> Result<Vec<u8>, AllocError>
-    ensures { IfOk result (λ text. text.items ≡ response_text asked listens figures.now.values.items) }
+    ensures { IfOk result (λ text. text.items ≡ response_text asked listens figures.now.values.items figures.now.lags.items) }
 {
     match asked {
         Asked::Metrics => {

@@ -10,7 +10,7 @@ const ROWS: [&str; 5] = [
     "bayeux_connections 18446744073709551615\n",
     "bayeux_connections_total 0\n",
     "\n# HELP bayeux_responses_total Responses by status.\n# TYPE bayeux_responses_total counter\nbayeux_responses_total{status=\"200\"} 0\nbayeux_responses_total{status=\"400\"} 0\n",
-    "\nbayeux_errors_total{error=\"413::Queue overflow\"} 0\n",
+    "\nbayeux_errors_total{error=\"413::Queue overflow\"} 0\n# HELP bayeux_shard_lag_entries Entries of the list that a shard has not applied.\n# TYPE bayeux_shard_lag_entries gauge\nbayeux_shard_lag_entries{shard=\"0\"} 0\nbayeux_shard_lag_entries{shard=\"1\"} 12\n",
 ];
 
 #[test]
@@ -19,7 +19,10 @@ fn pages_have_the_rows(rt: HostRuntime) -> Result<(), Fail> {
     let mut values = Vec::new(alloc);
     values.push(7)?;
     values.push(u64::MAX)?;
-    let page = page_text(alloc, &Figures::of(values))?;
+    let mut lags = Vec::new(alloc);
+    lags.push(0)?;
+    lags.push(12)?;
+    let page = page_text(alloc, &Figures::of(values, lags))?;
     let text = str::from_utf8(page.as_slice())?;
     for row in ROWS {
         assert!(rt; text.contains(row), "{row}");
@@ -32,7 +35,7 @@ fn pages_have_the_rows(rt: HostRuntime) -> Result<(), Fail> {
 #[test]
 fn counts_are_of_their_figure(rt: HostRuntime) -> Result<(), Fail> {
     let alloc = rt.alloc();
-    let counts = Arc::new(alloc, Counts::new(alloc)?)?;
+    let counts = Arc::new(alloc, Counts::new(alloc, 3)?)?;
     counts.add(Figure::Events, 3);
     counts.add(Figure::Events, 2);
     counts.add(Figure::Responses(Status::Unavailable), 1);
@@ -40,6 +43,9 @@ fn counts_are_of_their_figure(rt: HostRuntime) -> Result<(), Fail> {
     counts.add(Figure::Replies(MessageKind::UnknownMeta), 5);
     counts.add(Figure::Errors(Error::QueueOverflow), 6);
     counts.set(Figure::Entries, 9);
+    counts.set(Figure::Filed, 7);
+    counts.set_lag(2, 8);
+    counts.set_lag(3, 10);
     assert_eq!(rt; counts.get(Figure::Events), 5);
     assert_eq!(rt; counts.get(Figure::Admitted), 0);
     {
@@ -52,6 +58,9 @@ fn counts_are_of_their_figure(rt: HostRuntime) -> Result<(), Fail> {
     let text = str::from_utf8(page.as_slice())?;
     assert!(rt; text.contains("\nbayeux_events_total 5\n"));
     assert!(rt; text.contains("\nbayeux_list_entries 9\n"));
+    assert!(rt; text.contains("\nbayeux_answers_filed 7\n"));
+    assert!(rt; text.contains("{shard=\"1\"} 0\nbayeux_shard_lag_entries{shard=\"2\"} 8\n"));
+    assert!(rt; !text.contains("{shard=\"3\"}"));
     assert!(rt; text.contains("{status=\"503\"} 1\n"));
     assert!(rt; text.contains("{reason=\"memory\"} 4\n"));
     assert!(rt; text.contains("{kind=\"unknown_meta\"} 5\n"));

@@ -6,5 +6,6 @@ pub mod Lags
 pub mod Listables
 pub mod Lying
 pub mod Posts
+pub mod Surveys
 pub mod Watches
 pub mod Waking

@@ -10,11 +10,13 @@ ghost use Rattle.bx_window.specs.Steps.{below, firsts_of, list_of};
 ghost use Rattle.bx_entry.specs.Placings.{placed_by};
 ghost use Rattle.bx_hub.specs.declared.fault.PostFault.TheVariants as faults;
 ghost use Rattle.bx_hub.specs.Listables.{input_of};
+ghost use Rattle.bx_hub.specs.Surveys.{survey_of};
 ghost use Rattle.bx_hub.specs.Posts.{AreSlotsAt, IsAdmittedAt, IsRefused, IsTrimmedTo, IsUnpublished, IsWhole};
 
 use crate::fault::PostFault;
 use crate::least::{Least, Stood};
 use crate::listable::Listable;
+use crate::survey::Survey;
 use bx_advice::Config;
 use bx_entry::{Placing, Slot};
 use bx_message::Sequence;
@@ -230,6 +232,22 @@ impl<J: Naming, R: Wait + Drop> Admission<J, R> {
         match self.writer.trim(alloc, lowest.place()) {
             Ok(()) => Ok(lowest),
             Err(_) => Err(AllocError),
+        }
+    }
+
+    /// How the list and the registry stand. The pass has then seen the whole list.
+    pub(crate) fn survey(&mut self, pass: &mut Note<J>) -> Survey
+        ensures same { (self.new.registry ≡ self.old.registry) × (self.new.writer ≡ self.old.writer) × (self.new.closed ≡ self.old.closed) }
+        ensures seen { IsPrefix pass.old pass.new }
+        ensures whole { pass.new ≡ self.old.writer }
+        ensures counted { result ≡ survey_of J.config pass.new }
+    {
+        *pass = self.writer.tell_beyond(pass);
+        Survey {
+            entries: self.registry.entries(),
+            live: self.registry.sessions(),
+            opened: self.registry.opened(),
+            batches: self.writer.batches(),
         }
     }
 

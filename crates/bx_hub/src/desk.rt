@@ -2,6 +2,7 @@
 ghost use Rattle.std.specs.Prelude.{◌≡◌, ◌+◌, ◌<◌, ◌≤◌, ◌⊎◌, ◌++◌, ◌∷◌, [], length, take, nat_eq, ℕ, if◌then◌else◌, is_some, true, Ok, Some, None, OnOk, IfOk, IfErr, IfSome, IfNone};
 ghost use Rattle.std.specs.Arc.{arc_value};
 ghost use mathlib.Core.List.{IsPrefix};
+ghost use Rattle.std.specs.Map.{keys_of};
 ghost use Rattle.bx_connects.specs.Connects.{count_filed_below, filed_answer, watched};
 ghost use Rattle.bx_connects.specs.Waking.{AreWoken, waker_of};
 ghost use Rattle.bx_shard.specs.Refining.{Refines};
@@ -23,6 +24,7 @@ use crate::brought::Brought;
 use crate::fault::{HubFault, PostFault};
 use crate::least::Stood;
 use crate::stopped::Stopped;
+use crate::survey::ShardSurvey;
 use bx_advice::Config;
 use bx_entry::{Batch, Placing, Ticket};
 use bx_history::{History, Lists};
@@ -421,6 +423,20 @@ impl<J: Naming, P: Placing> Desk<J, P> {
         let places = History::of::<(u64, &Shard<P>), SweptPlaces>(&(before, &self.shard));
         self.taken.join(&places);
         self.shard.sweep(before)
+    }
+
+    /// How the shard stands.
+    pub(crate) fn survey(&self) -> ShardSurvey
+        ensures place { result.place ≡ self.now.shard.place }
+        ensures held { result.held ≡ length (keys_of self.now.shard.sessions.connects.held) }
+        ensures filed { result.filed ≡ length (keys_of self.now.shard.sessions.connects.filed) }
+    {
+        let connects = self.shard.sessions().connects();
+        ShardSurvey {
+            place: self.place(),
+            held: connects.held_places().len(),
+            filed: connects.filed_places().len(),
+        }
     }
 
     /// The shard goes no further until it is resumed.

@@ -1,5 +1,5 @@
 //! The calls of the hub: which locks each takes, and in which order.
-ghost use Rattle.std.specs.Prelude.{◌≡◌, ◌≢◌, ◌⊎◌, ◌≤◌, ◌<◌, ◌++◌, [], length, Ok, None, Some, IsErr, OnOk, IfOk, IfErr, IfSome, IfNone, nat_lt};
+ghost use Rattle.std.specs.Prelude.{◌≡◌, ◌≢◌, ◌⊎◌, ◌≤◌, ◌<◌, ◌++◌, [], length, Ok, None, Some, IsErr, OnOk, IfOk, IfErr, IfSome, IfNone, is_some, nat_lt};
 ghost use Rattle.std.specs.Arc.{arc_value};
 ghost use mathlib.Core.List.{IsPrefix};
 ghost use Rattle.bx_entry.specs.Placings.{placed_by};
@@ -17,6 +17,7 @@ use crate::listable::Listable;
 use crate::pass::Pass;
 use crate::reading::{Reading, Refused, Unlisted};
 use crate::stopped::Stopped;
+use crate::survey::{ShardSurvey, Survey};
 use bx_advice::Config;
 use bx_entry::{Arrival, Placing, Ticket};
 use bx_message::Answer;
@@ -50,6 +51,7 @@ impl<J: Naming, P: Placing, G: Gate + Drop, R: Wait + Drop> Hub<J, P, G, R> {
     ghost use Rattle.bx_hub.specs.Lags.{IsLagging};
     ghost use Rattle.bx_hub.specs.Listables.{input_of};
     ghost use Rattle.bx_hub.specs.Posts.{AreSlotsAt, IsAdmittedAt, IsRefused, IsTrimmedTo, IsWithoutRoom};
+    ghost use Rattle.bx_hub.specs.Surveys.{survey_of};
     ghost use Rattle.bx_hub.specs.Waking.{put_of};
     ghost use Rattle.bx_hub.specs.Watches.{IsLeftOrBack};
     ghost use Rattle.bx_hub.specs.declared.desk.watch.Watch.TheVariants as watches;
@@ -398,6 +400,22 @@ impl<J: Naming, P: Placing, G: Gate + Drop, R: Wait + Drop> Hub<J, P, G, R> {
             Some(desk) => desk.lock(rt).watch(ticket, waker),
             None => Watch::Unknown(waker),
         }
+    }
+
+    /// How the list and who is live stand. The pass has then seen the whole list.
+    pub fn survey<W: Wait>(&self, rt: &W, pass: &mut Pass<J>) -> Survey
+        ensures seen { IsPrefix pass.old pass.new }
+        ensures counted { result ≡ survey_of J.config pass.new }
+    {
+        self.admission.lock(rt).survey(&mut pass.front)
+    }
+
+    /// How a shard stands; none where no shard has this index.
+    pub fn survey_shard<W: Wait>(&self, rt: &W, shard: usize) -> Option<ShardSurvey>
+        ensures { is_some result ≡ nat_lt shard J.config.shards }
+    {
+        let desk = self.desks.get(shard)?;
+        Some(desk.lock(rt).survey())
     }
 
     /// Drops the answers that were filed by entries below this place and that nobody took, and says how many they were.

@@ -13,6 +13,7 @@ mod listable;
 mod pass;
 mod reading;
 mod stopped;
+mod survey;
 
 pub use brought::AllBrought;
 pub use bx_workers::{Gate, OpenGate};
@@ -22,3 +23,4 @@ pub use hub::Hub;
 pub use pass::Pass;
 pub use reading::{Refused, Unlisted};
 pub use stopped::Stopped;
+pub use survey::{ShardSurvey, Survey};

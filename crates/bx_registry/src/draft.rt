@@ -1,6 +1,6 @@
 //! A request that is being judged, message by message.
 ghost use Rattle.std.specs.Prelude.{◌≡◌, ◌+◌, ◌<◌, ◌≤◌, ◌++◌, ◌∷◌, [], ℕ, length, option_map, IfOk, OnOk, OnErr, MatchOption};
-ghost use Rattle.bx_entry.specs.Registry.{count_live, live_with_id, named_by, sender_of};
+ghost use Rattle.bx_entry.specs.Registry.{count_live, live_with_id, named_by};
 ghost use Rattle.bx_roster.specs.Tables.{AllLive, IsTable, known_at};
 ghost use Rattle.bx_roster.specs.Edits.{CanEdit, CanEditEach};
 ghost use Rattle.bx_registry.specs.Drafts.{Drafted, IsSender, known_after, members_of};
@@ -72,19 +72,9 @@ impl<'a> Draft<'a> {
         ensures { MatchOption result (named_by (members_of self.now).live message_kind message.now ≡ None)
             (λ s. IsSender (named_by (members_of self.now).live message_kind message.now) s.number s.client.now s.ack) }
     {
-        match message_kind {
-            MessageKind::Handshake | MessageKind::UnknownMeta => None,
-            _ => self.sender_of(&message.client),
-        }
-    }
-
-    // The live session with this client id.
-    fn sender_of<'m>(&self, client: &'m TextMember) -> Option<Sender<'m>>
-        ensures { MatchOption result (sender_of (members_of self.now).live client.now ≡ None)
-            (λ s. IsSender (sender_of (members_of self.now).live client.now) s.number s.client.now s.ack) }
-    {
-        match client {
-            TextMember::Text(client) => self.live_with_id(client),
+        match (message_kind, &message.client) {
+            (MessageKind::Handshake | MessageKind::UnknownMeta, _) => None,
+            (_, TextMember::Text(client)) => self.live_with_id(client),
             _ => None,
         }
     }

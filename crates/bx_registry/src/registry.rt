@@ -84,6 +84,13 @@ impl Registry {
         self.table.counts().0
     }
 
+    /// How many sessions were opened.
+    pub fn opened(&self) -> u64
+        ensures { result ≡ (roll_at self.now.config self.now.list).members.opened }
+    {
+        self.table.counts().1
+    }
+
     /// Whether the session with this number is live.
     pub fn live(&self, number: u64) -> bool
         ensures { result ≡ list_any (λ (r : Registered). r.number == number) (roll_at self.now.config self.now.list).members.live }

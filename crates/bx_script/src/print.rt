@@ -10,8 +10,8 @@ ghost use Rattle.bx_script.specs.Printing.{Writes, is_tick, numbered};
 use crate::error::ScriptFault;
 use crate::output::Output;
 use bx_entry::Refusal;
-use bx_message::{Item, Sequence, Status};
-use bx_transport::{callback_of, response_of};
+use bx_message::{Item, Sequence, Status, body_text};
+use bx_transport::callback_of;
 use itoa::Buffer;
 use std::alloc::{AllocError, Global};
 use std::io::Write;
@@ -95,7 +95,7 @@ fn body_of(alloc: Global, callback: &Option<String>, items: &[Item]) -> Result<V
 {
     match callback {
         Some(name) => callback_of(alloc, name.as_str(), items),
-        None => response_of(alloc, items),
+        None => body_text(alloc, items),
     }
 }
 

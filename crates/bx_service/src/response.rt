@@ -4,8 +4,8 @@ ghost use Rattle.std.specs.Prelude.{◌≡◌, IfOk, option_map};
 ghost use Rattle.bx_service.specs.Responses.{IsAnswer, IsRefusal};
 
 use crate::status::code_of;
-use bx_message::{Item, Status};
-use bx_transport::{callback_of, response_of};
+use bx_message::{Item, Status, body_text};
+use bx_transport::callback_of;
 use bytes::Bytes;
 use http::Response;
 use http::header::{ALLOW, CONTENT_TYPE, HeaderValue};
@@ -42,7 +42,7 @@ pub(crate) fn answer(
         ),
         None => (
             HeaderValue::from_static("application/json;charset=UTF-8"),
-            response_of(alloc, items)?,
+            body_text(alloc, items)?,
         ),
     };
     let Ok(body) = Bytes::from_vec(body) else {

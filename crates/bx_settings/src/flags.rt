@@ -1,7 +1,7 @@
 //! The flags.
 use crate::settings::{Seed, Settings};
 use crate::time::milliseconds;
-use bx_advice::{Config, MAX_SHARDS, Options};
+use bx_advice::{Config, MAX_SHARDS, Options, STANDARD_LIMITS};
 use bx_message::number_of;
 use clap::error::ErrorKind;
 use clap::{Arg, ArgAction, ArgMatches, Command, Error};
@@ -15,6 +15,7 @@ const SHARDS: &str = "a number from 1 to 64";
 
 const TIME: &str = "a number of milliseconds up to 4294967295, or of seconds as 30s";
 
+// Of events and of sessions.
 const LIMIT: &str = "a number from 1 to 65536";
 
 const CONNECTIONS: &str = "a number";
@@ -69,9 +70,12 @@ fn read_config(
         ride: matches.get_flag("ride"),
         anonymous: matches.get_flag("anonymous"),
     };
-    match with_limit(config.with(options), matches) {
+    let Some(config) = with_limit(config.with(options), matches) else {
+        return Err(wrong(alloc, command, matches, "limit", "N", LIMIT)?);
+    };
+    match with_sessions(config, matches) {
         Some(config) => Ok(config),
-        None => Err(wrong(alloc, command, matches, "limit", "N", LIMIT)?),
+        None => Err(wrong(alloc, command, matches, "sessions", "N", LIMIT)?),
     }
 }
 
@@ -96,6 +100,20 @@ fn with_limit(config: Config, matches: &ArgMatches<'_>) -> Option<Config> {
         Some(text) => config.with_limit(u32::try_from(number_of(text.as_bytes())?).ok()?),
         None => Some(config),
     }
+}
+
+// The configuration with as many live sessions as are said, if that is.
+fn with_sessions(config: Config, matches: &ArgMatches<'_>) -> Option<Config> {
+    let Some(text) = matches.get_str("sessions") else {
+        return Some(config);
+    };
+    let sessions = usize::try_from(number_of(text.as_bytes())?).ok()?;
+    if sessions < 1 || sessions > STANDARD_LIMITS.sessions {
+        return None;
+    }
+    let mut config = config;
+    config.limits.sessions = sessions;
+    Some(config)
 }
 
 // The milliseconds that the flag of this name says, or else its standard text.
@@ -197,6 +215,12 @@ fn with_events<'a>(alloc: Global, command: Command<'a>) -> Result<Command<'a>, A
             "limit",
             "N",
             "How many events may wait for a session, 1 to 65536 [default: 1024]",
+        ))?
+        .arg(value(
+            alloc,
+            "sessions",
+            "N",
+            "How many sessions may be live, 1 to 65536 [default: 65536]",
         ))?
         .arg(switch(
             alloc,

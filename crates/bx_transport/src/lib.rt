@@ -1,5 +1,4 @@
-//! What a POST's body and a GET's query hand on, and how a response is written: as JSON, or as the call of
-//! a script's function.
+//! What a POST's body and a GET's query hand on, and how a response is written as the call of a script's function.
 #![tactic(auto)]
 
 mod callback;
@@ -12,4 +11,4 @@ mod response;
 pub use error::TransportError;
 pub use laws::scripts_read_the_same;
 pub use request::{read_get, read_post};
-pub use response::{callback_of, response_of};
+pub use response::callback_of;

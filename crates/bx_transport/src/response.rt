@@ -1,6 +1,6 @@
-//! How a response is written.
+//! How the response to a GET is written; that to a POST is the text of its items.
 ghost use Rattle.std.specs.Prelude.{◌≡◌, ◌<◌, ◌++◌, length, IfOk, OnOk, MatchOption, option_map, ⊤, ◌≤◌};
-ghost use Rattle.bx_message.specs.Texts.{body_text, callback_text, script_safe};
+ghost use Rattle.bx_message.specs.Texts.{callback_text, script_safe};
 ghost use Rattle.bx_transport.specs.Scripts.{escape_at};
 
 use bx_message::{Item, body_text};
@@ -10,14 +10,6 @@ use std::alloc::{AllocError, Global};
 const LINE_SEPARATOR: &[u8] = b"\xe2\x80\xa8";
 
 const PARAGRAPH_SEPARATOR: &[u8] = b"\xe2\x80\xa9";
-
-/// The body of the response to a POST: the array of these items in order. An error means that memory
-/// was refused. (Bayeux 1.0, long-polling.)
-pub fn response_of(alloc: Global, items: &[Item]) -> Result<Vec<u8>, AllocError>
-    ensures { IfOk result (λ out. out.items ≡ body_text items.now) }
-{
-    body_text(alloc, items)
-}
 
 /// The body of the response to a GET: the call of the function `name` with the array of these items,
 /// in which U+2028 and U+2029 are written as escapes, since scripts take them for the end of a line.

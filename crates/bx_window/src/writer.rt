@@ -132,6 +132,13 @@ impl<J: Naming, R: Wait + Drop> Writer<J, R, Ring<J>, RingChange<J>> {
         self.book.beyond(front)
     }
 
+    /// How many batches the window has.
+    pub fn batches(&self) -> usize
+        ensures { result ≡ length (firsts_of self.now) }
+    {
+        self.firsts.len()
+    }
+
     /// Publishes a batch, which readers then find at its places. It waits for the readers that are inside the ring. Where it
     /// is refused, the batch comes back: `Full` where the window has `MAX_BATCHES` batches, `Memory` where no memory is left.
     /// The batch has entries, begins where the list ends, and they are those of its elements behind the list.

@@ -2,9 +2,9 @@
 use crate::same::same;
 use bx_advice::{BODY_LIMIT, Config, Outcome};
 use bx_cut::Bodies;
-use bx_message::{AckReply, Event, Item, RawJson, Reply, SharedEvent, Text};
+use bx_message::{AckReply, Event, Item, RawJson, Reply, SharedEvent, Text, body_text};
 use bx_names::ChannelName;
-use bx_transport::{TransportError, callback_of, read_get, read_post, response_of};
+use bx_transport::{TransportError, callback_of, read_get, read_post};
 use std::alloc::{AllocError, Global};
 use std::process::Abort;
 use std::test::Fail;
@@ -243,7 +243,7 @@ fn check_response(
     items: &[Item],
     wanted: &str,
 ) -> Result<(), Fail> {
-    let text = response_of(alloc, items)?;
+    let text = body_text(alloc, items)?;
     same(rt, text.as_slice(), wanted.as_bytes(), wanted);
     Ok(())
 }

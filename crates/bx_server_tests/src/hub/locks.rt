@@ -1,17 +1,17 @@
-//! A tick that waits for admission holds no shard's lock.
+//! Who waits for admission holds no shard's lock, and the gate is passed before entries and behind them.
 ghost use Rattle.std.specs.Prelude.{◌≡◌};
 ghost use Rattle.bx_entry.specs.Placings.{by_remainder, by_remainder-below};
 
-use crate::hub::calls::{CONNECT, HANDSHAKE, post};
+use crate::hub::calls::{CONNECT, HANDSHAKE, PING, post};
 use crate::same::same;
 use bx_advice::Config;
-use bx_entry::{ByRemainder, Placing};
+use bx_entry::{ByRemainder, Placing, Ticket};
 use bx_hub::{Gate, Hub};
 use bx_window::{Naming, Opened};
 use std::alloc::{AllocError, Global};
 use std::marker::Brand;
 use std::process::Abort;
-use std::sync::atomic::{AtomicBool, Ordering};
+use std::sync::atomic::{AtomicBool, AtomicU64, Ordering};
 use std::sync::{Arc, Wait};
 use std::test::*;
 use std::thread;
@@ -21,33 +21,48 @@ use std::time::{Clock, Duration};
 // How often whoever is held looks whether it may go on, a millisecond apart.
 const LOOKS: u32 = 10_000;
 
-// How often the locks of all shards are taken while the post has admission's, a millisecond apart: so long has the tick to come to
-// where it waits for admission.
+// How often the locks of all shards are taken while the post has admission's, a millisecond apart: so long has the other call to come to
+// where it would wait for admission.
 const SWEEPS: u32 = 200;
 
-// What the three threads tell each other: that the tick is to be held in shard 1, and the post where it places a session; that they
-// stand there; that the post may go on; and that somebody waited in vain.
+// The call that is held in shard 1.
+#[derive(Clone, Copy, Debug)]
+enum Call {
+    Tick,
+    Post,
+    Question,
+}
+
+// What the three threads tell each other: that the call is to be held in shard 1, and the post where it places a session; that they
+// stand there; that the post may go on; and that somebody waited in vain. And how often a session's shard was asked for, all in all
+// and when the gate was passed last before entries, and behind how many of them it was asked for in between.
 #[derive(Drop)]
 struct Flags<C: Clock + Drop> {
     clock: C,
-    holds_tick: AtomicBool,
+    holds_call: AtomicBool,
     holds_post: AtomicBool,
-    tick_stands: AtomicBool,
+    call_stands: AtomicBool,
     post_stands: AtomicBool,
     is_free: AtomicBool,
     gave_up: AtomicBool,
+    asked: AtomicU64,
+    before: AtomicU64,
+    between: AtomicU64,
 }
 
 impl<C: Clock + Drop> Flags<C> {
     fn new(clock: C) -> Flags<C> {
         Flags {
             clock,
-            holds_tick: AtomicBool::new(false),
+            holds_call: AtomicBool::new(false),
             holds_post: AtomicBool::new(false),
-            tick_stands: AtomicBool::new(false),
+            call_stands: AtomicBool::new(false),
             post_stands: AtomicBool::new(false),
             is_free: AtomicBool::new(false),
             gave_up: AtomicBool::new(false),
+            asked: AtomicU64::new(0),
+            before: AtomicU64::new(0),
+            between: AtomicU64::new(0),
         }
     }
 
@@ -76,14 +91,20 @@ impl<C: Clock + Drop> Holding<C> {
     }
 }
 
-// Holds the tick behind the entries of shard 1, until the post has admission's lock. All that the tick does from then on is to look
-// where the shards stand, and to let the window go of what they have passed.
+// Holds the call behind the entries of shard 1, until the post has admission's lock. All that a tick does from then on is to look
+// where the shards stand, and to let the window go of what they have passed; another call has nothing left to do.
 impl<C: Clock + Drop> Gate for Holding<C> {
-    fn before(&self, _shard: usize) {}
+    fn before(&self, _shard: usize) {
+        let asked = self.flags.asked.load(Ordering::SeqCst);
+        self.flags.before.store(asked, Ordering::SeqCst);
+    }
 
     fn after(&self, shard: usize) {
-        if shard == 1 && self.flags.holds_tick.swap(false, Ordering::SeqCst) {
-            self.flags.tick_stands.store(true, Ordering::SeqCst);
+        if self.flags.asked.load(Ordering::SeqCst) > self.flags.before.load(Ordering::SeqCst) {
+            self.flags.between.fetch_add(1, Ordering::SeqCst);
+        }
+        if shard == 1 && self.flags.holds_call.swap(false, Ordering::SeqCst) {
+            self.flags.call_stands.store(true, Ordering::SeqCst);
             self.flags.wait_for(&self.flags.post_stands);
         }
     }
@@ -96,6 +117,7 @@ impl<C: Clock + Drop> Placing for Holding<C> {
     ghost is_below = { λ _ number shards some _. by_remainder-below number shards some };
 
     fn place(&self, number: u64, shards: usize) -> usize {
+        self.flags.asked.fetch_add(1, Ordering::SeqCst);
         if self.flags.holds_post.swap(false, Ordering::SeqCst) {
             self.flags.post_stands.store(true, Ordering::SeqCst);
             self.flags.wait_for(&self.flags.is_free);
@@ -104,14 +126,23 @@ impl<C: Clock + Drop> Placing for Holding<C> {
     }
 }
 
-fn ticks<J: Naming, P: Placing, G: Gate + Drop, H: Wait + Drop, C: Clock + Drop, R: Wait>(
+fn calls<J: Naming, P: Placing, G: Gate + Drop, H: Wait + Drop, C: Clock + Drop, R: Wait>(
     rt: &R,
     alloc: Global,
     hub: &Hub<J, P, G, H>,
     flags: &Flags<C>,
+    call: Call,
 ) -> bool {
-    flags.holds_tick.store(true, Ordering::SeqCst);
-    hub.tick(rt, alloc, &mut hub.pass(), 0).is_ok()
+    flags.holds_call.store(true, Ordering::SeqCst);
+    let mut pass = hub.pass();
+    match call {
+        Call::Tick => hub.tick(rt, alloc, &mut pass, 0).is_ok(),
+        Call::Post => post(rt, alloc, hub, &mut pass, PING).is_ok(),
+        Call::Question => {
+            let ticket = Ticket { place: 0, shard: 1 };
+            hub.poll_answer(rt, alloc, &mut pass, ticket).is_ok()
+        }
+    }
 }
 
 // A connect, which is held while it has admission's lock.
@@ -121,12 +152,12 @@ fn posts<J: Naming, P: Placing, G: Gate + Drop, H: Wait + Drop, C: Clock + Drop,
     hub: &Hub<J, P, G, H>,
     flags: &Flags<C>,
 ) -> bool {
-    flags.wait_for(&flags.tick_stands);
+    flags.wait_for(&flags.call_stands);
     flags.holds_post.store(true, Ordering::SeqCst);
     post(rt, alloc, hub, &mut hub.pass(), CONNECT).is_ok()
 }
 
-// Takes the locks of all shards while the post has admission's and the tick waits for that.
+// Takes the locks of all shards while the post has admission's and the other call has been let go on.
 fn sweeps<J: Naming, P: Placing, G: Gate + Drop, H: Wait + Drop, C: Clock + Drop, R: Wait>(
     rt: &R,
     hub: &Hub<J, P, G, H>,
@@ -157,7 +188,7 @@ fn posts_and_sweeps<
     )
 }
 
-// Where the tick waited for admission with a shard's lock, the sweeps would stand still, and the post would wait for them in vain.
+// Where the call waited for admission with a shard's lock, the sweeps would stand still, and the post would wait for them in vain.
 fn beside<
     J: Naming + Send + Sync,
     P: Placing + Send + Sync,
@@ -165,13 +196,13 @@ fn beside<
     H: Wait + Drop + Send,
     C: Clock + Drop + Sync,
     R: Threads + Wait + Abort + Sync,
->(rt: &R, alloc: Global, hub: &Hub<J, P, G, H>, flags: &Flags<C>) {
-    let (ticked, (posted, swept)) = join(
+>(rt: &R, alloc: Global, hub: &Hub<J, P, G, H>, flags: &Flags<C>, call: Call) {
+    let (called, (posted, swept)) = join(
         rt,
-        || ticks(rt, alloc, hub, flags),
+        || calls(rt, alloc, hub, flags, call),
         || posts_and_sweeps(rt, alloc, hub, flags),
     );
-    same(rt, (ticked, posted, swept), (true, true, 0), "each call");
+    same(rt, (called, posted, swept), (true, true, 0), "each call");
     let stood = flags.post_stands.load(Ordering::SeqCst);
     same(rt, stood, true, "the post stood under admission's lock");
     let in_vain = flags.gave_up.load(Ordering::SeqCst);
@@ -185,9 +216,12 @@ fn stands<
     H: Wait + Drop + Send,
     C: Clock + Drop + Sync,
     R: Threads + Wait + Abort + Sync,
->(rt: &R, alloc: Global, hub: &Hub<J, P, G, H>, flags: &Flags<C>) -> Result<(), Fail> {
+>(rt: &R, alloc: Global, hub: &Hub<J, P, G, H>, flags: &Flags<C>, call: Call) -> Result<(), Fail> {
     post(rt, alloc, hub, &mut hub.pass(), HANDSHAKE)?;
-    beside(rt, alloc, hub, flags);
+    // Each shard asks whether the new session is its own, once it applies that.
+    let between = flags.between.load(Ordering::SeqCst);
+    same(rt, between, 2, "between the gates");
+    beside(rt, alloc, hub, flags, call);
     Ok(())
 }
 
@@ -203,28 +237,33 @@ fn ordered<
     placing: Arc<Holding<C>, Global>,
     gate: Holding<C>,
     flags: &Flags<C>,
+    call: Call,
 ) -> Result<(), Fail>
     requires book { opened.seen.book ≡ J.book }
     requires config { config ≡ J.config }
     requires placing { by_remainder ≡ J.placing }
 {
     let hub = Hub::<J, Holding<C>, Holding<C>, &R>::new(alloc, rt, opened, config, placing, gate)?;
-    stands(rt, alloc, &hub, flags)
+    stands(rt, alloc, &hub, flags, call)
 }
 
 fn holds<C: Clock + Drop + Send + Sync, R: Threads + Wait + Abort + Sync>(
     rt: &R,
     alloc: Global,
     flags: &Arc<Flags<C>, Global>,
+    call: Call,
 ) -> Result<(), Fail> {
     let config = Config::new(2, 30_000, 0, 10_000).ok_or("no configuration")?;
     let placing = Arc::new(alloc, Holding::of(flags)?)?;
     let gate = Holding::of(flags)?;
-    ordered::<Brand, _, _>(rt, alloc, Opened::new(), config, placing, gate, flags)
+    ordered::<Brand, _, _>(rt, alloc, Opened::new(), config, placing, gate, flags, call)
 }
 
 #[test]
-fn a_tick_waits_without_a_shard(rt: HostRuntime) -> Result<(), Fail> {
-    let flags = Arc::new(rt.alloc(), Flags::new(&rt))?;
-    holds(&rt, rt.alloc(), &flags)
+fn calls_wait_without_a_shard(rt: HostRuntime) -> Result<(), Fail> {
+    for call in [Call::Tick, Call::Post, Call::Question] {
+        let flags = Arc::new(rt.alloc(), Flags::new(&rt))?;
+        holds(&rt, rt.alloc(), &flags, call)?;
+    }
+    Ok(())
 }

@@ -10,7 +10,7 @@ use crate::hub::calls::{
 use crate::same::same;
 use bx_advice::{Config, Options};
 use bx_entry::{Arrival, ByTable, Placing};
-use bx_hub::{Gate, Hub, HubFault, Lagging, OpenGate, Pass, PostFault};
+use bx_hub::{Gate, Hub, HubFault, Lagging, OpenGate, Pass, PostFault, ShardSurvey, Survey};
 use bx_window::{Naming, Opened};
 use std::alloc::Global;
 use std::marker::Brand;
@@ -68,6 +68,11 @@ fn pings<J: Naming, P: Placing, G: Gate + Drop, H: Wait + Drop, R: Wait>(
     most
 }
 
+// A shard that has applied so many entries, holds so many connects, and has filed so many answers that nobody took.
+fn stood(place: u64, held: usize, filed: usize) -> Option<ShardSurvey> {
+    Some(ShardSurvey { place, held, filed })
+}
+
 // A paused shard that has all of the list is not behind. While it is paused the window fills up, and from then on each post is behind, until the shard goes on. A post that is
 // refused comes back and can be made again. No shard has an index past the last one.
 fn fills<J: Naming, P: Placing, G: Gate + Drop, H: Wait + Drop, R: Wait + Abort>(
@@ -78,6 +83,7 @@ fn fills<J: Naming, P: Placing, G: Gate + Drop, H: Wait + Drop, R: Wait + Abort>
     home: usize,
 ) -> Result<(), Fail> {
     same(rt, hub.pause(rt, 2), false, "pause 2");
+    same(rt, hub.survey_shard(rt, 2), None, "shard 2");
     same(rt, hub.pause(rt, home), true, "pause");
     same(
         rt,
@@ -160,6 +166,14 @@ fn waits<J: Naming, P: Placing, G: Gate + Drop, H: Wait + Drop, R: Wait + Abort>
     publish_apart(rt, alloc, hub, pass)?;
     let fault = fault_of(rt, alloc, hub, pass, ticket);
     same(rt, fault, Some(HubFault::Paused), "paused");
+    let list = Survey {
+        entries: 5,
+        live: 2,
+        opened: 2,
+        batches: 5,
+    };
+    same(rt, hub.survey(rt, pass), list, "the list");
+    same(rt, hub.survey_shard(rt, home), stood(3, 1, 0), "it waits");
     same(rt, hub.resume(rt, home), true, "resume");
     same(rt, hub.sweep(rt, 5), 0, "sweep 5");
     let found = find(rt, alloc, hub, pass, ticket, ANSWER)?;
@@ -178,8 +192,10 @@ fn gives<J: Naming, P: Placing, G: Gate + Drop, H: Wait + Drop, R: Wait + Abort>
     let ticket = hold(rt, alloc, hub, pass)?;
     publish(rt, alloc, hub, pass)?;
     same(rt, hub.pause(rt, home), true, "pause");
+    same(rt, hub.survey_shard(rt, home), stood(5, 0, 1), "filed");
     let found = find(rt, alloc, hub, pass, ticket, ANSWER)?;
     same(rt, found, Found::Wanted, "found");
+    same(rt, hub.survey_shard(rt, home), stood(5, 0, 0), "taken");
     let fault = fault_of(rt, alloc, hub, pass, ticket);
     same(rt, fault, Some(HubFault::Paused), "paused");
     hub.close(rt);

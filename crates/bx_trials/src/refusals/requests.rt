@@ -3,8 +3,7 @@ use crate::refusals::unlike::Unlike;
 use bx_advice::Config;
 use bx_cut::Bodies;
 use bx_entry::Arrival;
-use bx_message::{Answer, Item, Reply, reply_text};
-use bx_transport::response_of;
+use bx_message::{Answer, Item, Reply, body_text, reply_text};
 use std::alloc::Global;
 
 /// A handshake.
@@ -67,7 +66,7 @@ pub fn text_of(alloc: Global, answer: Answer) -> Result<String, Unlike> {
 
 /// The text of a response with these items.
 pub fn response(alloc: Global, items: &[Item]) -> Result<String, Unlike> {
-    string(response_of(alloc, items)?)
+    string(body_text(alloc, items)?)
 }
 
 /// The text of a reply.

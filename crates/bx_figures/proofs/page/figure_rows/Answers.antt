@@ -2,7 +2,7 @@ use Rattle.std.proofs.Common.{◌++◌, sym, ap, ◌∙◌, append_assoc}
 use Rattle.bx_figures.specs.declared.figure.Figure.TheVariants.{Uptime}
 use Rattle.bx_figures.specs.declared.figure.TheConstants.{FIGURES}
 use Rattle.bx_figures.proofs.Rows.{rows-next}
-use Rattle.bx_figures.proofs.page.page_text.Goals as goal
+use Rattle.bx_figures.proofs.page.figure_rows.Goals as goal
 
 pub loop-place-preserved : goal.loop-place-preserved
 loop-place-preserved c =

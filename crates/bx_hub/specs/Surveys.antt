@@ -1,0 +1,17 @@
+-- What an operator sees of a hub, by the steps of its list.
+use Rattle.std.specs.Prelude.{List, length}
+use Rattle.bx_advice.specs.declared.config.Config.{Config}
+use Rattle.bx_entry.specs.Registry.{count_live, registry}
+use Rattle.bx_registry.specs.Standings.{roll_at}
+use Rattle.bx_window.specs.Steps.{firsts_of, list_of}
+use Rattle.bx_window.specs.declared.law.LogStep.{LogStep}
+use Rattle.bx_hub.specs.declared.survey.Survey.{Survey}
+
+-- what stands in a list, who is live over it, and what its window has
+abbrev pub survey_of : Config → List LogStep → Survey
+survey_of config steps = record {
+  entries = length (list_of steps);
+  live = count_live (registry config (list_of steps)).sessions;
+  opened = (roll_at config (list_of steps)).members.opened;
+  batches = length (firsts_of steps);
+}
