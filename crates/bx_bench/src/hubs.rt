@@ -1,0 +1,217 @@
+//! Requests in a hub, by one thread or several.
+ghost use Rattle.std.specs.Prelude.{◌≡◌};
+ghost use Rattle.bx_entry.specs.Placings.{by_remainder};
+
+use crate::bodies::{arrival, connect, handshake, publish, subscription};
+use crate::load::Load;
+use anyhow::{Result, anyhow};
+use bx_advice::Config;
+use bx_entry::{ByRemainder, Slot};
+use bx_hub::{Hub, OpenGate, Pass};
+use bx_window::{Naming, Opened};
+use std::alloc::Global;
+use std::marker::Brand;
+use std::sync::{Arc, Wait};
+use std::thread::{Threads, join};
+
+// How many sessions there are while the clock ticks.
+const IDLE: u64 = 65_536;
+
+type Served<J, R> = Hub<J, ByRemainder, OpenGate, R>;
+
+/// So many threads, 1, 2 or 4, with a load each, in so many shards. Says how many events were given.
+pub fn posts<R: Threads + Wait + Sync>(
+    rt: &R,
+    alloc: Global,
+    threads: u64,
+    shards: usize,
+    load: Load,
+) -> Result<usize> {
+    let config = Config::new(shards, 30_000, 0, 10_000).ok_or(anyhow!("no configuration"))?;
+    let placing = Arc::new(alloc, ByRemainder)?;
+    let events = serves::<Brand, R>(rt, alloc, Opened::new(), config, placing, threads, load)?;
+    Ok(events as usize)
+}
+
+fn serves<J: Naming + Send + Sync, R: Threads + Wait + Sync>(
+    rt: &R,
+    alloc: Global,
+    opened: Opened,
+    config: Config,
+    placing: Arc<ByRemainder, Global>,
+    threads: u64,
+    load: Load,
+) -> Result<u64>
+    requires book { opened.seen.book ≡ J.book }
+    requires config { config ≡ J.config }
+    requires placing { by_remainder ≡ J.placing }
+{
+    let hub = Served::<J, &R>::new(alloc, rt, opened, config, placing, OpenGate)?;
+    for thread in 0..threads {
+        opens(rt, alloc, &hub, thread, load).ok_or(anyhow!("not opened"))?;
+    }
+    let events = match threads {
+        4 => four(rt, alloc, &hub, load),
+        2 => two(rt, alloc, &hub, 0, load),
+        _ => works(rt, alloc, &hub, 0, load),
+    };
+    events.ok_or(anyhow!("not served"))
+}
+
+// Opens a thread's sessions: one that sends, and those that receive.
+fn opens<J: Naming, H: Wait + Drop, R: Wait>(
+    rt: &R,
+    alloc: Global,
+    hub: &Served<J, H>,
+    thread: u64,
+    load: Load,
+) -> Option<u64> {
+    let mut pass = hub.pass();
+    let first = load.first_of(thread);
+    for number in first..=first.saturating_add(load.sessions) {
+        post(rt, alloc, hub, &mut pass, handshake(alloc).ok()?)?;
+        if number > first {
+            post(
+                rt,
+                alloc,
+                hub,
+                &mut pass,
+                subscription(alloc, number, thread).ok()?,
+            )?;
+        }
+    }
+    Some(0)
+}
+
+// A thread's load.
+fn works<J: Naming, H: Wait + Drop, R: Wait>(
+    rt: &R,
+    alloc: Global,
+    hub: &Served<J, H>,
+    thread: u64,
+    load: Load,
+) -> Option<u64> {
+    let mut pass = hub.pass();
+    let mut events = 0u64;
+    for _ in 0..load.rounds {
+        events = events.saturating_add(round(rt, alloc, hub, &mut pass, thread, load)?);
+    }
+    Some(events)
+}
+
+// Publishes, and then a connect of each session that receives.
+fn round<J: Naming, H: Wait + Drop, R: Wait>(
+    rt: &R,
+    alloc: Global,
+    hub: &Served<J, H>,
+    pass: &mut Pass<J>,
+    thread: u64,
+    load: Load,
+) -> Option<u64> {
+    let first = load.first_of(thread);
+    for _ in 0..load.publishes {
+        post(rt, alloc, hub, pass, publish(alloc, first, thread).ok()?)?;
+    }
+    let mut events = 0u64;
+    for number in first.saturating_add(1)..=first.saturating_add(load.sessions) {
+        let given = post(rt, alloc, hub, pass, connect(alloc, number).ok()?)?;
+        events = events.saturating_add(given);
+    }
+    Some(events)
+}
+
+// Posts a body and takes the answers. Says how many events these have.
+fn post<J: Naming, H: Wait + Drop, R: Wait>(
+    rt: &R,
+    alloc: Global,
+    hub: &Served<J, H>,
+    pass: &mut Pass<J>,
+    body: String,
+) -> Option<u64> {
+    let posted = hub.post(rt, alloc, pass, arrival(body)).ok()?;
+    let mut events = 0u64;
+    for slot in posted.slots.into_vec() {
+        if let Slot::Waiting(ticket) = slot {
+            let answer = hub.poll_answer(rt, alloc, pass, ticket).ok()??;
+            events = events.saturating_add(answer.events.len() as u64);
+        }
+    }
+    Some(events)
+}
+
+// Two threads with a load each, from this one on.
+fn two<J: Naming + Send + Sync, H: Wait + Drop + Send, R: Threads + Wait + Sync>(
+    rt: &R,
+    alloc: Global,
+    hub: &Served<J, H>,
+    thread: u64,
+    load: Load,
+) -> Option<u64> {
+    let next = thread.saturating_add(1);
+    let (a, b) = join(
+        rt,
+        || works(rt, alloc, hub, thread, load),
+        || works(rt, alloc, hub, next, load),
+    );
+    a?.checked_add(b?)
+}
+
+// Four threads with a load each.
+fn four<J: Naming + Send + Sync, H: Wait + Drop + Send, R: Threads + Wait + Sync>(
+    rt: &R,
+    alloc: Global,
+    hub: &Served<J, H>,
+    load: Load,
+) -> Option<u64> {
+    let (a, b) = join(
+        rt,
+        || two(rt, alloc, hub, 0, load),
+        || two(rt, alloc, hub, 2, load),
+    );
+    a?.checked_add(b?)
+}
+
+/// 65,536 sessions in 64 shards, and so many ticks that close none. Says how many shards stayed behind.
+pub fn ticks<R: Threads + Wait + Sync>(rt: &R, alloc: Global, count: u64) -> Result<usize> {
+    let config = Config::new(64, 30_000, 0, 10_000).ok_or(anyhow!("no configuration"))?;
+    let placing = Arc::new(alloc, ByRemainder)?;
+    let behind = idles::<Brand, R>(rt, alloc, Opened::new(), config, placing, count)?;
+    Ok(behind as usize)
+}
+
+fn idles<J: Naming + Send + Sync, R: Threads + Wait + Sync>(
+    rt: &R,
+    alloc: Global,
+    opened: Opened,
+    config: Config,
+    placing: Arc<ByRemainder, Global>,
+    count: u64,
+) -> Result<u64>
+    requires book { opened.seen.book ≡ J.book }
+    requires config { config ≡ J.config }
+    requires placing { by_remainder ≡ J.placing }
+{
+    let hub = Served::<J, &R>::new(alloc, rt, opened, config, placing, OpenGate)?;
+    let idle = Load {
+        rounds: 0,
+        publishes: 0,
+        sessions: IDLE - 1,
+    };
+    opens(rt, alloc, &hub, 0, idle).ok_or(anyhow!("not opened"))?;
+    ticked(rt, alloc, &hub, count).ok_or(anyhow!("no tick"))
+}
+
+fn ticked<J: Naming, H: Wait + Drop, R: Wait>(
+    rt: &R,
+    alloc: Global,
+    hub: &Served<J, H>,
+    count: u64,
+) -> Option<u64> {
+    let mut pass = hub.pass();
+    let mut behind = 0u64;
+    for _ in 0..count {
+        let ticked = hub.tick(rt, alloc, &mut pass, 0).ok()?;
+        behind = behind.saturating_add(ticked.brought.behind().memory as u64);
+    }
+    Some(behind)
+}

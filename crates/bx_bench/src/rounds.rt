@@ -1,0 +1,178 @@
+//! Rounds of workers, from JSON to outs. Each answers a number that rests on all of its work. A round is left as it is at
+//! the end: a server goes on, and one thread would take what waits apart.
+use crate::bodies::{HANDSHAKE, arrival, connect};
+use anyhow::{Result, anyhow};
+use bx_advice::Config;
+use bx_entry::{ByRemainder, Input};
+use bx_fanout::{Out, Round};
+use bx_workers::{OpenGate, WorkerCount};
+use std::alloc::Global;
+use std::mem;
+use std::sync::Arc;
+use std::thread::Threads;
+
+const SHARDS: usize = 8;
+
+const SESSIONS: u64 = 10_000;
+
+// Each session subscribes to one room by two patterns, so that a publish reaches a thousand sessions.
+const ROOMS: u64 = 10;
+
+const TURNS: u64 = 10;
+
+// How often a room is published to in a turn.
+const PUBLISHES: u64 = 50;
+
+// After so many turns 1,000 events wait for each session that does not connect.
+const TURNS_OF_WAITING: u64 = 20;
+
+// More than any workload has.
+const MOST_INPUTS: usize = 1_000_000_000;
+
+// A handshake of the session of this number, and its subscription.
+fn open(alloc: Global, number: u64) -> Result<String> {
+    let hello = HANDSHAKE;
+    let room = number % ROOMS;
+    Ok(format!(in alloc;
+        "[{hello},{{\"channel\":\"/meta/subscribe\",\"clientId\":\"{number:048x}\",\"subscription\":[\"/room/{room}/*\",\"/room/{room}/**\"]}}]"
+    )?)
+}
+
+fn publish(alloc: Global, room: u64) -> Result<String> {
+    let sender = 1u64;
+    Ok(format!(in alloc;
+        "[{{\"channel\":\"/room/{room}/news\",\"clientId\":\"{sender:048x}\",\"data\":{{\"symbol\":\"GOOG\",\"price\":1234.5}}}}]"
+    )?)
+}
+
+// The requests that open the sessions.
+fn openings(alloc: Global) -> Result<Vec<Input>> {
+    let mut inputs = Vec::new(alloc);
+    for number in 1..=SESSIONS {
+        inputs.push(Input::Post(arrival(open(alloc, number)?)))?;
+    }
+    Ok(inputs)
+}
+
+// Publishes to all rooms in turn.
+fn publishes(alloc: Global) -> Result<Vec<Input>> {
+    let mut inputs = Vec::new(alloc);
+    for _ in 0..PUBLISHES {
+        for room in 0..ROOMS {
+            inputs.push(Input::Post(arrival(publish(alloc, room)?)))?;
+        }
+    }
+    Ok(inputs)
+}
+
+// A connect of each session.
+fn connects(alloc: Global) -> Result<Vec<Input>> {
+    let mut inputs = Vec::new(alloc);
+    for number in 1..=SESSIONS {
+        inputs.push(Input::Post(arrival(connect(alloc, number)?)))?;
+    }
+    Ok(inputs)
+}
+
+// Deals with these inputs, and says how many items their outs have.
+fn serve<R: Threads + Sync>(
+    rt: &R,
+    alloc: Global,
+    round: &mut Round<ByRemainder>,
+    inputs: &[Input],
+) -> Result<usize> {
+    if round.intake() > MOST_INPUTS || inputs.len() > MOST_INPUTS {
+        return Err(anyhow!("too many inputs"));
+    }
+    let mut outs = Vec::new(alloc);
+    let ran = round.run(rt, alloc, &OpenGate, inputs, &mut outs);
+    ran.map_err(|_| anyhow!("no memory"))?;
+    let mut items = 0usize;
+    for out in &outs {
+        if let Ok(response) = &out.result {
+            items = items.wrapping_add(response.len());
+        }
+    }
+    Ok(items)
+}
+
+fn new_round(alloc: Global, workers: usize) -> Result<Round<ByRemainder>> {
+    let config = Config::new(SHARDS, 30_000, 0, 10_000).ok_or(anyhow!("no configuration"))?;
+    let placing = Arc::new(alloc, ByRemainder)?;
+    let workers = WorkerCount::new(workers).ok_or(anyhow!("no such number of workers"))?;
+    Ok(Round::new(alloc, config, placing, workers)?)
+}
+
+/// 10,000 sessions are opened, each subscribed to one of ten rooms by two patterns.
+pub fn opened<R: Threads + Sync>(rt: &R, alloc: Global, workers: usize) -> Result<usize> {
+    let mut round = new_round(alloc, workers)?;
+    let items = open_all(rt, alloc, &mut round);
+    mem::forget(round);
+    items
+}
+
+fn open_all<R: Threads + Sync>(
+    rt: &R,
+    alloc: Global,
+    round: &mut Round<ByRemainder>,
+) -> Result<usize> {
+    serve(rt, alloc, round, &openings(alloc)?)
+}
+
+/// The same, and then 5,000 publishes that reach a thousand sessions each, a request each, in ten turns, after each of
+/// which every session connects and is given what waits.
+pub fn run<R: Threads + Sync>(rt: &R, alloc: Global, workers: usize) -> Result<usize> {
+    let mut round = new_round(alloc, workers)?;
+    let items = run_in(rt, alloc, &mut round);
+    mem::forget(round);
+    items
+}
+
+fn run_in<R: Threads + Sync>(
+    rt: &R,
+    alloc: Global,
+    round: &mut Round<ByRemainder>,
+) -> Result<usize> {
+    let items = open_all(rt, alloc, round)?;
+    let publishes = publishes(alloc)?;
+    let connects = connects(alloc)?;
+    let more = serve_in_turns(rt, alloc, round, &publishes, &connects)?;
+    Ok(items.wrapping_add(more))
+}
+
+// The publishes and then the connects, in so many turns.
+fn serve_in_turns<R: Threads + Sync>(
+    rt: &R,
+    alloc: Global,
+    round: &mut Round<ByRemainder>,
+    publishes: &[Input],
+    connects: &[Input],
+) -> Result<usize> {
+    let mut items = 0usize;
+    for _ in 0..TURNS {
+        items = items.wrapping_add(serve(rt, alloc, round, publishes)?);
+        items = items.wrapping_add(serve(rt, alloc, round, connects)?);
+    }
+    Ok(items)
+}
+
+/// The same opening, and then 10,000 publishes that reach a thousand sessions each, a request each. Their events wait.
+pub fn waiting<R: Threads + Sync>(rt: &R, alloc: Global, workers: usize) -> Result<usize> {
+    let mut round = new_round(alloc, workers)?;
+    let items = wait_in(rt, alloc, &mut round);
+    mem::forget(round);
+    items
+}
+
+fn wait_in<R: Threads + Sync>(
+    rt: &R,
+    alloc: Global,
+    round: &mut Round<ByRemainder>,
+) -> Result<usize> {
+    let mut items = open_all(rt, alloc, round)?;
+    let publishes = publishes(alloc)?;
+    for _ in 0..TURNS_OF_WAITING {
+        items = items.wrapping_add(serve(rt, alloc, round, &publishes)?);
+    }
+    Ok(items)
+}

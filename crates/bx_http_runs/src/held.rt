@@ -1,0 +1,54 @@
+//! A request right behind a connect that is held.
+use crate::host::{Host, add_written, post};
+use crate::wire::Wire;
+use anyhow::Result;
+use bytes::Bytes;
+use http::{Request, Response};
+use http_body_util::Full;
+use hyper::body::Incoming;
+use hyper::service::Service;
+use std::alloc::{AllocError, Global};
+
+// What the second session sends, and what it publishes to itself.
+const OPENING: [&str; 2] = [
+    r#"[{"channel":"/meta/handshake","version":"1.0","supportedConnectionTypes":["long-polling"]}]"#,
+    r#"[{"channel":"/meta/subscribe","clientId":"000000000000000000000000000000000000000000000002","subscription":"/a/*"}]"#,
+];
+
+const CONNECT: &str =
+    r#"[{"channel":"/meta/connect","clientId":"000000000000000000000000000000000000000000000002","connectionType":"long-polling"}]"#;
+
+const PUBLISH: &str =
+    r#"[{"channel":"/a/b","clientId":"000000000000000000000000000000000000000000000002","data":7}]"#;
+
+// The connect, and a request without messages behind it.
+fn both(alloc: Global) -> Result<String, AllocError> {
+    let mut both = post(alloc, CONNECT)?;
+    both.push_str(post(alloc, "[]")?.as_str())?;
+    Ok(both)
+}
+
+impl<S, E> Host<'_, S>
+where
+    S: Service<Request<Incoming<Wire>>, Response = Response<Full<Bytes>>, Error = E> + Clone,
+    E: Into<anyhow::Error> + Drop,
+{
+    /// A session opens, subscribes and connects, and right behind the connect asks for nothing; over another connection it publishes
+    /// what it has subscribed to. Adds all that is written, in this order: the publish is answered first, since the connect waits
+    /// for it.
+    pub fn add_held(&self, text: &mut String) -> Result<()>
+        requires { (each : S) → S.can_call each }
+    {
+        text.push_str("\na session opens and subscribes\n")?;
+        for body in &OPENING {
+            self.post(body, text)?;
+        }
+        text.push_str("\nwhile its connect is held, it publishes\n")?;
+        let both = both(self.alloc)?;
+        let wire = Wire::new(self.alloc, both.as_bytes(), b"")?;
+        let written = self.serve_around(wire, PUBLISH, text)?;
+        text.push_str("\nthe connect, and the request behind it\n")?;
+        add_written(text, self.alloc, written.as_slice())?;
+        Ok(())
+    }
+}

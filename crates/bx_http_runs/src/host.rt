@@ -1,0 +1,145 @@
+//! A service, and the connections that it is given. One function owns each connection.
+ghost use Rattle.std.specs.Prelude.{◌≡◌, false};
+
+use crate::wire::Wire;
+use anyhow::{Result, anyhow};
+use bytes::Bytes;
+use futures::Future;
+use futures::task::Poll;
+use futures::test::MockTask;
+use http::{Request, Response};
+use http_body_util::Full;
+use hyper::body::Incoming;
+use hyper::server::conn::http1;
+use hyper::service::Service;
+use std::alloc::{AllocError, Global};
+
+// How often a task is polled that is woken each time.
+const POLLS: u32 = 100;
+
+/// A service, how its connections are served, and the task that serves each to its end. Another task serves one that waits.
+#[derive(Drop)]
+pub struct Host<'a, S> {
+    /// Where memory is taken.
+    pub alloc: Global,
+    /// The service of which each connection has a copy.
+    pub service: &'a S,
+    /// How a connection is served.
+    pub http: &'a http1::Builder,
+    /// The task that serves a connection to its end.
+    pub task: &'a MockTask,
+    /// The task that serves a connection that waits.
+    pub waiting: &'a MockTask,
+}
+
+impl<S, E> Host<'_, S>
+where
+    S: Service<Request<Incoming<Wire>>, Response = Response<Full<Bytes>>, Error = E> + Clone,
+    E: Into<anyhow::Error> + Drop,
+{
+    /// Serves a connection until its end, which may be an error, and gives what was written to it.
+    pub fn serve(&self, wire: Wire) -> Result<Vec<u8>>
+        requires { (each : S) → S.can_call each }
+    {
+        let service = self.service.clone()?;
+        let mut connection = self.http.serve_connection(wire, service);
+        let is_over = ends(self.task, &mut connection);
+        let written = connection.into_parts().io.into_written();
+        if is_over {
+            Ok(written)
+        } else {
+            Err(anyhow!("it waits"))
+        }
+    }
+
+    /// Serves a connection that waits, POSTs this body over another one then, and goes on until the first one is over. Gives what
+    /// was written to it, and adds what was written to the other one.
+    pub fn serve_around(&self, wire: Wire, body: &str, text: &mut String) -> Result<Vec<u8>>
+        requires { (each : S) → S.can_call each }
+    {
+        let service = self.service.clone()?;
+        let mut connection = self.http.serve_connection(wire, service);
+        let done = self.post_while(&mut connection, body, text);
+        let written = connection.into_parts().io.into_written();
+        match done {
+            Ok(()) => Ok(written),
+            Err(error) => Err(error),
+        }
+    }
+
+    fn post_while<F>(&self, held: &mut F, body: &str, text: &mut String) -> Result<()>
+    where
+        F: Future,
+        F::Output: Drop,
+        requires service { (each : S) → S.can_call each }
+        requires held { F.can_poll held.old }
+    {
+        if ends(self.waiting, held) {
+            return Err(anyhow!("it does not wait"));
+        }
+        self.post(body, text)?;
+        if ends(self.waiting, held) {
+            Ok(())
+        } else {
+            Err(anyhow!("it waits"))
+        }
+    }
+
+    /// Serves a POST of this body over a connection of its own, and adds what was written to it.
+    pub fn post(&self, body: &str, text: &mut String) -> Result<()>
+        requires { (each : S) → S.can_call each }
+    {
+        let bytes = post(self.alloc, body)?;
+        let wire = Wire::new(self.alloc, bytes.as_bytes(), b"")?;
+        add_written(text, self.alloc, self.serve(wire)?.as_slice())?;
+        Ok(())
+    }
+}
+
+// Polls a future as often as it wakes itself, and says whether it has its output then.
+fn ends<F>(task: &MockTask, future: &mut F) -> bool
+where
+    F: Future,
+    F::Output: Drop,
+    requires { F.can_poll future.old }
+    ensures { result ≡ false → F.can_poll future.new }
+{
+    for _ in 0..POLLS {
+        match task.poll(future) {
+            Poll::Ready(_) => return true,
+            Poll::Pending => {
+                if !task.is_woken() {
+                    return false;
+                }
+            }
+        }
+    }
+    false
+}
+
+/// A POST of this body, of JSON.
+pub fn post(alloc: Global, body: &str) -> Result<String, AllocError> {
+    let length = body.len();
+    format!(in alloc;
+        "POST /cometd HTTP/1.1\r\nhost: localhost\r\ncontent-type: application/json\r\ncontent-length: {length}\r\n\r\n{body}"
+    )
+}
+
+/// Adds what was written to a connection, each line ended by a line feed alone.
+pub fn add_written(text: &mut String, alloc: Global, written: &[u8]) -> Result<(), AllocError> {
+    let written = String::from_utf8_lossy(alloc, written)?;
+    add_lines(text, written.as_str())
+}
+
+fn add_lines(text: &mut String, lines: &str) -> Result<(), AllocError> {
+    for line in lines.lines() {
+        add_line(text, line)?;
+    }
+    Ok(())
+}
+
+fn add_line(text: &mut String, line: &str) -> Result<(), AllocError> {
+    text.push_str(line)?;
+    text.push_str("\n")?;
+    Ok(())
+}

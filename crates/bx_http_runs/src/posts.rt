@@ -1,0 +1,112 @@
+//! A POST of which not all bytes come: the list of the hub stays as it is.
+use crate::host::{Host, post};
+use crate::wire::Wire;
+use anyhow::{Result, anyhow};
+use bx_cut::Bodies;
+use bx_entry::{Arrival, ByRemainder};
+use bx_hub::{Hub, OpenGate};
+use bx_window::Naming;
+use bytes::Bytes;
+use http::{Request, Response};
+use http_body_util::Full;
+use hyper::body::Incoming;
+use hyper::service::Service;
+use std::alloc::{AllocError, Global};
+use std::sync::Wait;
+
+const HANDSHAKE: &str =
+    r#"[{"channel":"/meta/handshake","version":"1.0","supportedConnectionTypes":["long-polling"]}]"#;
+
+/// A hub as the runs have it.
+pub type Served<J, R> = Hub<J, ByRemainder, OpenGate, R>;
+
+// A request without messages.
+fn nothing(alloc: Global) -> Result<Arrival, AllocError> {
+    Ok(Arrival {
+        moment: 0,
+        nonce: 0,
+        bodies: Bodies::Whole(b"[]".to_vec(alloc)?),
+    })
+}
+
+// How long the list of the hub is.
+fn entries<J: Naming, H: Wait + Drop, R: Wait>(
+    rt: &R,
+    alloc: Global,
+    hub: &Served<J, H>,
+) -> Result<u64> {
+    let nothing = nothing(alloc)?;
+    match &hub.post(rt, alloc, &mut hub.pass(), nothing) {
+        Ok(posted) => Ok(posted.first),
+        Err(_) => Err(anyhow!("not posted")),
+    }
+}
+
+// What stands behind the head of a response.
+fn body_of(alloc: Global, written: &[u8]) -> Result<String> {
+    match String::from_utf8_lossy(alloc, written)?
+        .as_str()
+        .split_once("\r\n\r\n")
+    {
+        Some((_, body)) => Ok(String::from_str(alloc, body)?),
+        None => Err(anyhow!("no response")),
+    }
+}
+
+impl<S, E> Host<'_, S>
+where
+    S: Service<Request<Incoming<Wire>>, Response = Response<Full<Bytes>>, Error = E> + Clone,
+    E: Into<anyhow::Error> + Drop,
+{
+    /// A handshake, of which a connection has no byte, one byte, and so on, and at last all. Says behind how many connections that
+    /// broke off the list is empty still, what the whole post is given, and how many entries the list then has.
+    pub fn posts<J, H, R>(&self, rt: &R, hub: &Served<J, H>) -> Result<String>
+    where
+        J: Naming,
+        H: Wait + Drop,
+        R: Wait,
+        requires { (each : S) → S.can_call each }
+    {
+        let alloc = self.alloc;
+        let post = post(alloc, HANDSHAKE)?;
+        let empty = self.empty_behind(rt, hub, post.as_bytes())?;
+        let body = self.body_for(post.as_bytes())?;
+        let entries = entries(rt, alloc, hub)?;
+        Ok(format!(in alloc; "empty behind {empty}\n{body}\n{entries} entries\n")?)
+    }
+
+    // Behind how many connections that broke off the list is empty.
+    fn empty_behind<J, H, R>(&self, rt: &R, hub: &Served<J, H>, bytes: &[u8]) -> Result<usize>
+    where
+        J: Naming,
+        H: Wait + Drop,
+        R: Wait,
+        requires { (each : S) → S.can_call each }
+    {
+        let mut empty = 0usize;
+        for count in 0..bytes.len() {
+            self.break_off(&bytes[..count])?;
+            if entries(rt, self.alloc, hub)? == 0 {
+                empty = empty.saturating_add(1);
+            }
+        }
+        Ok(empty)
+    }
+
+    // A connection on which these bytes come.
+    fn break_off(&self, bytes: &[u8]) -> Result<(), AllocError>
+        requires { (each : S) → S.can_call each }
+    {
+        let wire = Wire::new(self.alloc, bytes, b"")?;
+        let _ = self.serve(wire);
+        Ok(())
+    }
+
+    // The body of the response to these bytes.
+    fn body_for(&self, bytes: &[u8]) -> Result<String>
+        requires { (each : S) → S.can_call each }
+    {
+        let wire = Wire::new(self.alloc, bytes, b"")?;
+        body_of(self.alloc, self.serve(wire)?.as_slice())
+    }
+}

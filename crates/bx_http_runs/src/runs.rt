@@ -1,0 +1,137 @@
+//! A hub of two shards that is served over connections in memory.
+ghost use Rattle.std.specs.Prelude.{◌≡◌};
+ghost use Rattle.bx_entry.specs.Placings.{by_remainder};
+
+use crate::host::Host;
+use crate::posts::Served;
+use crate::wire::Wire;
+use anyhow::{Result, anyhow};
+use bx_advice::Config;
+use bx_entry::ByRemainder;
+use bx_hub::OpenGate;
+use bx_service::{BayeuxService, Clock, HubBackend, Nonces};
+use bx_window::{Naming, Opened};
+use bytes::Bytes;
+use futures::test::MockTask;
+use http::{Request, Response};
+use http_body_util::Full;
+use hyper::body::Incoming;
+use hyper::server::conn::http1;
+use hyper::service::Service;
+use std::alloc::{AllocGlobal, Global};
+use std::hash::RandomState;
+use std::marker::Brand;
+use std::random::RandomSource;
+use std::sync::{Arc, Wait};
+
+// A clock that stands still at 0.
+#[derive(Clone, Copy)]
+struct Still;
+
+impl Clock for Still {
+    fn now(&self) -> u64 {
+        0
+    }
+}
+
+// Draws no other number than 0.
+#[derive(Clone, Copy)]
+struct Zeros;
+
+impl Nonces for Zeros {
+    fn next(&self) -> u128 {
+        0
+    }
+}
+
+/// What all runs print.
+pub fn run<R>(rt: R) -> Result<String>
+where
+    R: Wait + RandomSource + AllocGlobal + Copy + Drop,
+{
+    let alloc = rt.alloc();
+    let config = Config::new(2, 30_000, 0, 10_000).ok_or(anyhow!("no configuration"))?;
+    let http = http1::Builder::new(alloc, RandomState::new(&rt)?);
+    let placing = Arc::new(alloc, ByRemainder)?;
+    serves::<Brand, R>(rt, alloc, Opened::new(), config, placing, &http)
+}
+
+fn serves<J, R>(
+    rt: R,
+    alloc: Global,
+    opened: Opened,
+    config: Config,
+    placing: Arc<ByRemainder, Global>,
+    http: &http1::Builder,
+) -> Result<String>
+where
+    J: Naming,
+    R: Wait + RandomSource + AllocGlobal + Copy + Drop,
+    requires book { opened.seen.book ≡ J.book }
+    requires config { config ≡ J.config }
+    requires placing { by_remainder ≡ J.placing }
+{
+    let hub = Served::<J, R>::new(alloc, rt, opened, config, placing, OpenGate)?;
+    serve_hub(rt, alloc, &Arc::new(alloc, hub)?, http)
+}
+
+fn serve_hub<J, R>(
+    rt: R,
+    alloc: Global,
+    hub: &Arc<Served<J, R>, Global>,
+    http: &http1::Builder,
+) -> Result<String>
+where
+    J: Naming,
+    R: Wait + RandomSource + AllocGlobal + Copy + Drop,
+{
+    let backend = HubBackend::new(rt, alloc, Arc::try_clone(hub)?, Still, Zeros);
+    let service = BayeuxService::new(alloc, backend)?;
+    serve_all(&rt, alloc, hub, &service, http)
+}
+
+// All runs, with two tasks.
+fn serve_all<J, S, E, H, R>(
+    rt: &R,
+    alloc: Global,
+    hub: &Served<J, H>,
+    service: &S,
+    http: &http1::Builder,
+) -> Result<String>
+where
+    J: Naming,
+    S: Service<Request<Incoming<Wire>>, Response = Response<Full<Bytes>>, Error = E> + Clone,
+    E: Into<anyhow::Error> + Drop,
+    H: Wait + Drop,
+    R: Wait + RandomSource + AllocGlobal,
+    requires { (each : S) → S.can_call each }
+{
+    let task = MockTask::new(rt)?;
+    let waiting = MockTask::new(rt)?;
+    let host = Host {
+        alloc,
+        service,
+        http,
+        task: &task,
+        waiting: &waiting,
+    };
+    add_all(rt, &host, hub)
+}
+
+fn add_all<J, S, E, H, R>(rt: &R, host: &Host<'_, S>, hub: &Served<J, H>) -> Result<String>
+where
+    J: Naming,
+    S: Service<Request<Incoming<Wire>>, Response = Response<Full<Bytes>>, Error = E> + Clone,
+    E: Into<anyhow::Error> + Drop,
+    H: Wait + Drop,
+    R: Wait,
+    requires { (each : S) → S.can_call each }
+{
+    let mut text = host.posts(rt, hub)?;
+    host.add_forms(&mut text)?;
+    host.add_held(&mut text)?;
+    hub.close(rt);
+    text.push_str("\na request without messages to a closed hub\n")?;
+    host.post("[]", &mut text)?;
+    Ok(text)
+}

@@ -1,0 +1,83 @@
+//! Hubs of two shards and of one.
+ghost use Rattle.std.specs.Prelude.{◌≡◌};
+ghost use Rattle.bx_entry.specs.Placings.{by_remainder};
+
+mod learns;
+mod said;
+mod waits;
+
+use crate::requests::{add_line, config};
+use crate::unlike::Unlike;
+use bx_advice::Config;
+use bx_entry::ByRemainder;
+use bx_hub::{Hub, OpenGate};
+use bx_window::{Naming, Opened};
+use said::Said;
+use std::alloc::{AllocGlobal, Global};
+use std::marker::Brand;
+use std::random::RandomSource;
+use std::sync::{Arc, Wait};
+
+/// A hub as the runs have it.
+pub type Served<J, R> = Hub<J, ByRemainder, OpenGate, R>;
+
+/// Two sessions, of which one subscribes and connects and the other publishes, with a pass each, and then a tick: over two shards,
+/// where the one learns what the other has seen, and over one, where a task waits for the answer. Says where each request and the
+/// tick stand, how each message is answered, and how the connect is.
+pub fn run<R>(rt: &R, alloc: Global) -> Result<String, Unlike>
+where
+    R: Wait + RandomSource + AllocGlobal,
+{
+    let mut text = run_over(rt, alloc, 2)?;
+    add_line(&mut text, run_over(rt, alloc, 1)?.as_str())?;
+    Ok(text)
+}
+
+fn run_over<R>(rt: &R, alloc: Global, shards: usize) -> Result<String, Unlike>
+where
+    R: Wait + RandomSource + AllocGlobal,
+{
+    let config = config(shards)?;
+    let placing = Arc::new(alloc, ByRemainder)?;
+    serves::<Brand, R>(rt, alloc, Opened::new(), config, placing)
+}
+
+fn serves<J, R>(
+    rt: &R,
+    alloc: Global,
+    opened: Opened,
+    config: Config,
+    placing: Arc<ByRemainder, Global>,
+) -> Result<String, Unlike>
+where
+    J: Naming,
+    R: Wait + RandomSource + AllocGlobal,
+    requires book { opened.seen.book ≡ J.book }
+    requires config { config ≡ J.config }
+    requires placing { by_remainder ≡ J.placing }
+{
+    let shards = config.shards;
+    let hub = Served::<J, &R>::new(alloc, rt, opened, config, placing, OpenGate)?;
+    let hub = Arc::new(alloc, hub)?;
+    let mut said = Said::new(alloc);
+    exchange(rt, alloc, &hub, shards, &mut said)?;
+    Ok(said.into_text())
+}
+
+fn exchange<'a, J, R>(
+    rt: &'a R,
+    alloc: Global,
+    hub: &Arc<Served<J, &'a R>, Global>,
+    shards: usize,
+    said: &mut Said,
+) -> Result<(), Unlike>
+where
+    J: Naming,
+    R: Wait + RandomSource + AllocGlobal,
+{
+    if shards == 1 {
+        waits::run(rt, alloc, hub, said)
+    } else {
+        learns::run(rt, alloc, hub, said)
+    }
+}

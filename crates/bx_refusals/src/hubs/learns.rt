@@ -1,0 +1,54 @@
+//! Two callers, of whom one learns what the other has seen.
+use crate::hubs::Served;
+use crate::hubs::said::{Said, connect, poll, post, tick};
+use crate::requests::{HANDSHAKE, PUBLISH};
+use crate::unlike::Unlike;
+use bx_hub::Pass;
+use bx_message::Answer;
+use bx_window::Naming;
+use std::alloc::Global;
+use std::sync::Wait;
+
+/// The one connects and the other publishes.
+pub fn run<J: Naming, H: Wait + Drop, R: Wait>(
+    rt: &R,
+    alloc: Global,
+    hub: &Served<J, H>,
+    said: &mut Said,
+) -> Result<(), Unlike> {
+    let mut reader = hub.pass();
+    let answer = answer(rt, alloc, hub, &mut reader, said)?;
+    said.add_answer(alloc, answer)
+}
+
+// The one session connects with this pass, and the other publishes with its own: how the connect is answered.
+fn answer<J: Naming, H: Wait + Drop, R: Wait>(
+    rt: &R,
+    alloc: Global,
+    hub: &Served<J, H>,
+    reader: &mut Pass<J>,
+    said: &mut Said,
+) -> Result<Answer, Unlike> {
+    let (ticket, _) = connect(rt, alloc, hub, reader, said)?;
+    if poll(rt, alloc, hub, reader, ticket)?.is_some() {
+        return Err(Unlike::Wrong("an answer too soon"));
+    }
+    let mut writer = hub.pass();
+    publish(rt, alloc, hub, &mut writer, said)?;
+    reader.learn(&writer.note());
+    poll(rt, alloc, hub, reader, ticket)?.ok_or(Unlike::Wrong("no answer"))
+}
+
+// Publishes, and has a tick come behind that.
+fn publish<J: Naming, H: Wait + Drop, R: Wait>(
+    rt: &R,
+    alloc: Global,
+    hub: &Served<J, H>,
+    pass: &mut Pass<J>,
+    said: &mut Said,
+) -> Result<(), Unlike> {
+    for (place, body) in [(3, HANDSHAKE), (4, PUBLISH)] {
+        post(rt, alloc, hub, pass, said, place, body)?;
+    }
+    tick(rt, alloc, hub, pass, said)
+}

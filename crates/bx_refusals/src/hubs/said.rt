@@ -1,0 +1,199 @@
+//! What is said of the calls of a hub. Each that is refused memory is made once more.
+use crate::hubs::Served;
+use crate::requests::{CONNECT, HANDSHAKE, SUBSCRIBE, add_line, arrival, reply, text_of};
+use crate::unlike::Unlike;
+use bx_entry::{Slot, Ticket};
+use bx_hub::{HubFault, Lagging, Pass, PostFault, PostReceipt, TickReceipt};
+use bx_message::Answer;
+use bx_window::Naming;
+use std::alloc::Global;
+use std::sync::Wait;
+
+/// A line for each message and tick, and how many shards were behind one of them, since they were refused memory.
+#[derive(Drop)]
+pub struct Said {
+    text: String,
+    behind: usize,
+}
+
+impl Said {
+    /// Nothing is said yet.
+    pub fn new(alloc: Global) -> Said {
+        Said {
+            text: String::new(alloc),
+            behind: 0,
+        }
+    }
+
+    /// The lines.
+    pub fn into_text(self) -> String {
+        let Said { text, .. } = self;
+        text
+    }
+
+    /// Adds the line of an answer.
+    pub fn add_answer(&mut self, alloc: Global, answer: Answer) -> Result<(), Unlike> {
+        add_line(&mut self.text, text_of(alloc, answer)?.as_str())
+    }
+
+    // Adds a line of what stands at a place.
+    fn add(&mut self, alloc: Global, place: u64, what: &str) -> Result<(), Unlike> {
+        let line = format!(in alloc; "{place} {what}")?;
+        add_line(&mut self.text, line.as_str())
+    }
+
+    // Whether a shard is behind a call. One call for memory is refused in all, so there is at most one in all; and nothing else stops
+    // a shard.
+    fn is_behind(&mut self, behind: Lagging) -> Result<bool, Unlike> {
+        let memory = behind.memory;
+        let by_memory = Lagging {
+            memory,
+            ..Lagging::none()
+        };
+        self.behind = self.behind.saturating_add(memory);
+        if behind != by_memory || self.behind > 1 {
+            return Err(Unlike::Wrong("more stays behind than is refused"));
+        }
+        Ok(memory == 1)
+    }
+
+    // Adds a line for each message, the first of which stands at this place: its reply, or that it waits. Gives the ticket of the
+    // last one that waits.
+    fn add_slots(
+        &mut self,
+        alloc: Global,
+        first: u64,
+        slots: &[Slot],
+    ) -> Result<Option<Ticket>, Unlike> {
+        let (mut place, mut waiting) = (first, None);
+        for slot in slots {
+            match slot {
+                Slot::Ready(told) => self.add(alloc, place, reply(alloc, told)?.as_str())?,
+                Slot::Waiting(ticket) => {
+                    self.add(alloc, place, "waits")?;
+                    waiting = Some(*ticket);
+                }
+            }
+            place = place.saturating_add(1);
+        }
+        Ok(waiting)
+    }
+}
+
+/// What became of a post.
+#[derive(Clone, Copy, Debug)]
+pub struct PostEnd {
+    /// The ticket of its connect, if it has one.
+    pub ticket: Option<Ticket>,
+    /// Whether a shard stayed behind.
+    pub is_behind: bool,
+}
+
+/// Posts a body. Its first message is to stand at this place.
+pub fn post<J: Naming, H: Wait + Drop, R: Wait>(
+    rt: &R,
+    alloc: Global,
+    hub: &Served<J, H>,
+    pass: &mut Pass<J>,
+    said: &mut Said,
+    place: u64,
+    body: &str,
+) -> Result<PostEnd, Unlike> {
+    let refused = match hub.post(rt, alloc, pass, arrival(alloc, body)?) {
+        Ok(posted) => return end_of(alloc, said, place, posted),
+        Err(refused) => refused,
+    };
+    if refused.fault() != PostFault::Memory {
+        return Err(Unlike::Wrong("not posted"));
+    }
+    match hub.post(rt, alloc, pass, refused.into_arrival()) {
+        Ok(posted) => end_of(alloc, said, place, posted),
+        Err(_) => Err(Unlike::Wrong("refused once more")),
+    }
+}
+
+fn end_of<J: Naming>(
+    alloc: Global,
+    said: &mut Said,
+    place: u64,
+    posted: PostReceipt<J>,
+) -> Result<PostEnd, Unlike> {
+    if posted.first != place {
+        return Err(Unlike::Wrong("posted elsewhere"));
+    }
+    let is_behind = said.is_behind(posted.brought.behind())?;
+    let ticket = said.add_slots(alloc, posted.first, posted.slots.as_slice())?;
+    Ok(PostEnd { ticket, is_behind })
+}
+
+/// The first session opens, subscribes and connects.
+pub fn connect<J: Naming, H: Wait + Drop, R: Wait>(
+    rt: &R,
+    alloc: Global,
+    hub: &Served<J, H>,
+    pass: &mut Pass<J>,
+    said: &mut Said,
+) -> Result<(Ticket, bool), Unlike> {
+    for (place, body) in [(0, HANDSHAKE), (1, SUBSCRIBE)] {
+        post(rt, alloc, hub, pass, said, place, body)?;
+    }
+    let connect = post(rt, alloc, hub, pass, said, 2, CONNECT)?;
+    match connect.ticket {
+        Some(ticket) => Ok((ticket, connect.is_behind)),
+        None => Err(Unlike::Wrong("no connect")),
+    }
+}
+
+/// A tick of moment 0, at the sixth place.
+pub fn tick<J: Naming, H: Wait + Drop, R: Wait>(
+    rt: &R,
+    alloc: Global,
+    hub: &Served<J, H>,
+    pass: &mut Pass<J>,
+    said: &mut Said,
+) -> Result<(), Unlike> {
+    let fault = match hub.tick(rt, alloc, pass, 0) {
+        Ok(ticked) => return end_of_tick(alloc, said, ticked),
+        Err(why) => why.fault(),
+    };
+    if fault != PostFault::Memory {
+        return Err(Unlike::Wrong("no tick"));
+    }
+    match hub.tick(rt, alloc, pass, 0) {
+        Ok(ticked) => end_of_tick(alloc, said, ticked),
+        Err(_) => Err(Unlike::Wrong("refused once more")),
+    }
+}
+
+fn end_of_tick<J: Naming>(
+    alloc: Global,
+    said: &mut Said,
+    ticked: TickReceipt<J>,
+) -> Result<(), Unlike> {
+    if ticked.place != 5 {
+        return Err(Unlike::Wrong("ticks elsewhere"));
+    }
+    said.is_behind(ticked.brought.behind())?;
+    said.add(alloc, ticked.place, "ticks")
+}
+
+/// Asks for an answer.
+pub fn poll<J: Naming, H: Wait + Drop, R: Wait>(
+    rt: &R,
+    alloc: Global,
+    hub: &Served<J, H>,
+    pass: &mut Pass<J>,
+    ticket: Ticket,
+) -> Result<Option<Answer>, Unlike> {
+    let stopped = match hub.poll_answer(rt, alloc, pass, ticket) {
+        Ok(answer) => return Ok(answer),
+        Err(stopped) => stopped,
+    };
+    if stopped.fault() != HubFault::Memory {
+        return Err(Unlike::Wrong("no telling"));
+    }
+    match hub.poll_answer(rt, alloc, pass, ticket) {
+        Ok(answer) => Ok(answer),
+        Err(_) => Err(Unlike::Wrong("refused once more")),
+    }
+}

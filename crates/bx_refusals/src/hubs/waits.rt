@@ -1,0 +1,177 @@
+//! A task that waits for a connect in the only shard. So it shows whether the shard that a call says is behind is behind.
+use crate::hubs::Served;
+use crate::hubs::said::{Said, connect, poll, post, tick};
+use crate::requests::{HANDSHAKE, PUBLISH};
+use crate::unlike::Unlike;
+use bx_entry::Ticket;
+use bx_held::{HeldFault, PendingAnswer};
+use bx_hub::{Pass, Watch};
+use bx_message::Answer;
+use bx_window::Naming;
+use futures::task::{Poll, Source, Waker};
+use futures::test::MockTask;
+use std::alloc::{AllocGlobal, Global};
+use std::random::RandomSource;
+use std::sync::{Arc, Wait};
+
+/// A session connects, and a task waits for the answer to that, until another session publishes.
+pub fn run<'a, J, R>(
+    rt: &'a R,
+    alloc: Global,
+    hub: &Arc<Served<J, &'a R>, Global>,
+    said: &mut Said,
+) -> Result<(), Unlike>
+where
+    J: Naming,
+    R: Wait + RandomSource + AllocGlobal,
+{
+    let task = MockTask::new(rt).map_err(|_| Unlike::Memory)?;
+    let mut pass = hub.pass();
+    let (ticket, is_behind) = connect(rt, alloc, hub, &mut pass, said)?;
+    if is_there(rt, hub, ticket, &task)? == is_behind {
+        return Err(Unlike::Wrong("behind and not behind"));
+    }
+    wait(rt, alloc, hub, &mut pass, ticket, &task, said)
+}
+
+// A waker of this task.
+fn waker(task: &MockTask) -> Result<Waker, Unlike> {
+    let mut slot = None;
+    let source = Source::new();
+    task.enter(|cx| {
+        let _: Poll<()> = cx.register(&source, &mut slot);
+    });
+    slot.ok_or(Unlike::Memory)
+}
+
+// Whether the shard holds the connect by now.
+fn is_there<J: Naming, H: Wait + Drop, R: Wait>(
+    rt: &R,
+    hub: &Served<J, H>,
+    ticket: Ticket,
+    task: &MockTask,
+) -> Result<bool, Unlike> {
+    match hub.watch(rt, ticket, waker(task)?) {
+        Watch::Stored(_, _) => Ok(true),
+        Watch::Unknown(_) => Ok(false),
+        Watch::Ready(_) | Watch::Shut(_) => Err(Unlike::Wrong("no connect is held")),
+    }
+}
+
+// Who waits under the ticket, and has seen what the pass has.
+fn waiting<J: Naming>(pass: &Pass<J>, ticket: Ticket) -> Result<PendingAnswer<J>, Unlike> {
+    let pass = Pass::of(pass.note());
+    if ticket.place >= pass.seen() {
+        return Err(Unlike::Wrong("a ticket beyond the list"));
+    }
+    Ok(PendingAnswer::new(pass, ticket))
+}
+
+// What a poll of the task gives.
+fn polled<J: Naming, H: Wait + Drop, R: Wait>(
+    rt: &R,
+    alloc: Global,
+    hub: &Served<J, H>,
+    task: &MockTask,
+    held: &mut PendingAnswer<J>,
+) -> Poll<Result<Answer, HeldFault>> {
+    let (polled, _left) = task.enter(|cx| held.poll(rt, alloc, hub, cx));
+    polled
+}
+
+// What a poll gives that is to give nothing.
+#[derive(Clone, Copy, Debug, PartialEq, Eq)]
+enum First {
+    Pending,
+    Refused,
+    Other,
+}
+
+fn look<J: Naming, H: Wait + Drop, R: Wait>(
+    rt: &R,
+    alloc: Global,
+    hub: &Served<J, H>,
+    task: &MockTask,
+    held: &mut PendingAnswer<J>,
+) -> First {
+    match polled(rt, alloc, hub, task, held) {
+        Poll::Pending => First::Pending,
+        Poll::Ready(Err(HeldFault::Memory)) => First::Refused,
+        Poll::Ready(_) => First::Other,
+    }
+}
+
+// Whether the connect is behind its shard or not, it is held once memory is there: a task waits for it. Where memory is refused to its
+// poll, another one does.
+fn wait<J: Naming, H: Wait + Drop, R: Wait>(
+    rt: &R,
+    alloc: Global,
+    hub: &Served<J, H>,
+    pass: &mut Pass<J>,
+    ticket: Ticket,
+    task: &MockTask,
+    said: &mut Said,
+) -> Result<(), Unlike> {
+    let mut held = waiting(pass, ticket)?;
+    let mut first = look(rt, alloc, hub, task, &mut held);
+    if first == First::Refused {
+        held = waiting(pass, ticket)?;
+        first = look(rt, alloc, hub, task, &mut held);
+    }
+    if first != First::Pending || task.is_woken() {
+        return Err(Unlike::Wrong("an answer too soon"));
+    }
+    answer(rt, alloc, hub, pass, ticket, task, &mut held, said)
+}
+
+// The other session publishes, and the connect is answered.
+fn answer<J: Naming, H: Wait + Drop, R: Wait>(
+    rt: &R,
+    alloc: Global,
+    hub: &Served<J, H>,
+    pass: &mut Pass<J>,
+    ticket: Ticket,
+    task: &MockTask,
+    held: &mut PendingAnswer<J>,
+    said: &mut Said,
+) -> Result<(), Unlike> {
+    publish(rt, alloc, hub, task, said)?;
+    let answer = match polled(rt, alloc, hub, task, held) {
+        Poll::Ready(Ok(answer)) => answer,
+        Poll::Ready(Err(HeldFault::Memory)) => asked(rt, alloc, hub, pass, ticket)?,
+        Poll::Ready(Err(_)) | Poll::Pending => return Err(Unlike::Wrong("no answer")),
+    };
+    said.add_answer(alloc, answer)
+}
+
+fn asked<J: Naming, H: Wait + Drop, R: Wait>(
+    rt: &R,
+    alloc: Global,
+    hub: &Served<J, H>,
+    pass: &mut Pass<J>,
+    ticket: Ticket,
+) -> Result<Answer, Unlike> {
+    poll(rt, alloc, hub, pass, ticket)?.ok_or(Unlike::Wrong("no answer"))
+}
+
+// The task is woken by the publish, or by the tick behind it where the shard is behind the publish.
+fn publish<J: Naming, H: Wait + Drop, R: Wait>(
+    rt: &R,
+    alloc: Global,
+    hub: &Served<J, H>,
+    task: &MockTask,
+    said: &mut Said,
+) -> Result<(), Unlike> {
+    let mut pass = hub.pass();
+    post(rt, alloc, hub, &mut pass, said, 3, HANDSHAKE)?;
+    let published = post(rt, alloc, hub, &mut pass, said, 4, PUBLISH)?;
+    if task.is_woken() == published.is_behind {
+        return Err(Unlike::Wrong("behind and not behind"));
+    }
+    tick(rt, alloc, hub, &mut pass, said)?;
+    if task.is_woken() {
+        Ok(())
+    } else {
+        Err(Unlike::Wrong("not woken"))
+    }
+}

@@ -1,0 +1,67 @@
+//! Worked runs in which a call that is refused memory is made once more. Whichever one growth of a run is refused, the run prints
+//! the same, or memory was refused to what prepares its calls, and its status is 1. An argument names the part that runs; without
+//! one all do, in turn.
+#![tactic(auto)]
+
+mod hubs;
+mod plans;
+mod requests;
+mod rounds;
+mod services;
+mod shards;
+mod unlike;
+mod windows;
+mod worlds;
+
+use anyhow::{Result, anyhow};
+use std::alloc::AllocGlobal;
+use std::env;
+use std::random::RandomSource;
+use std::sync::Wait;
+use std::thread::Threads;
+use unlike::Unlike;
+
+const PARTS: [&str; 7] = [
+    "plans", "shard", "rounds", "world", "hub", "window", "service",
+];
+
+fn main(rt: HostRuntime) -> Result<()> {
+    match env::args(&rt)?.nth(1) {
+        Some(part) => print(rt, run(rt, part.as_str())),
+        None => {
+            for part in PARTS {
+                print(rt, run(rt, part))?;
+            }
+            Ok(())
+        }
+    }
+}
+
+// Prints what a part says.
+fn print(rt: HostRuntime, said: Option<Result<String, Unlike>>) -> Result<()> {
+    match said {
+        Some(Ok(text)) => rt.println(text.as_str())?,
+        Some(Err(Unlike::Wrong(what))) => rt.println(what)?,
+        Some(Err(Unlike::Memory)) => return Err(anyhow!("out of memory")),
+        None => return Err(anyhow!("no part has this name")),
+    }
+    Ok(())
+}
+
+// What the part of this name says, if there is one.
+fn run<R>(rt: R, part: &str) -> Option<Result<String, Unlike>>
+where
+    R: Threads + Wait + RandomSource + AllocGlobal + Copy + Drop + Sync,
+{
+    let alloc = rt.alloc();
+    match part {
+        "plans" => Some(plans::run(alloc)),
+        "shard" => Some(shards::run(alloc)),
+        "rounds" => Some(rounds::run(&rt, alloc)),
+        "world" => Some(worlds::run(&rt, alloc)),
+        "hub" => Some(hubs::run(&rt, alloc)),
+        "window" => Some(windows::run(&rt, alloc)),
+        "service" => Some(services::run(rt)),
+        _ => None,
+    }
+}

@@ -1,0 +1,150 @@
+//! A registry at which requests and ticks are planned.
+ghost use Rattle.std.specs.Prelude.{IfOk};
+ghost use Rattle.bx_registry.specs.Standings.{LeadsTo};
+
+use crate::requests::{HANDSHAKE, add_line, arrival, config, reply};
+use crate::unlike::Unlike;
+use bx_entry::{AllFirst, Entry, EntryKind, Slot, read_messages};
+use bx_message::Message;
+use bx_registry::{AdmitFault, Plan, Registry};
+use std::alloc::Global;
+
+// The second session subscribes.
+const SUBSCRIBE: &str =
+    r#"[{"channel":"/meta/subscribe","clientId":"000000000000000000000000000000000000000000000002","subscription":"/a/*"}]"#;
+
+// The first session publishes.
+const PUBLISH: &str =
+    r#"[{"channel":"/a/b","clientId":"000000000000000000000000000000000000000000000001","data":1}]"#;
+
+// What is admitted.
+#[derive(Clone, Copy, Debug)]
+enum Deed {
+    Request(u64, &'static str),
+    Tick(u64),
+}
+
+// Two sessions are opened, of which the second one is heard of later, so that the second tick closes the first one alone.
+const DEEDS: [Deed; 6] = [
+    Deed::Request(0, HANDSHAKE),
+    Deed::Request(5, HANDSHAKE),
+    Deed::Request(5, SUBSCRIBE),
+    Deed::Tick(10_000),
+    Deed::Tick(10_001),
+    Deed::Request(10_001, PUBLISH),
+];
+
+// What a registry tells of itself.
+#[derive(Clone, Copy, Debug, PartialEq, Eq)]
+struct Counts {
+    entries: u64,
+    sessions: usize,
+    is_first_live: bool,
+    is_second_live: bool,
+}
+
+fn counts_of(registry: &Registry) -> Counts {
+    Counts {
+        entries: registry.entries(),
+        sessions: registry.sessions(),
+        is_first_live: registry.live(1),
+        is_second_live: registry.live(2),
+    }
+}
+
+/// Two handshakes, a subscription, a tick that closes nothing, one that closes the first session, and a publish of that one. Says
+/// how each message is answered, and which sessions each tick closes.
+pub fn run(alloc: Global) -> Result<String, Unlike> {
+    let mut registry = Registry::new(alloc, config(1)?)?;
+    let mut text = String::new(alloc);
+    for deed in DEEDS {
+        let line = match deed {
+            Deed::Request(moment, body) => request(alloc, &mut registry, moment, body)?,
+            Deed::Tick(moment) => tick(alloc, &mut registry, moment)?,
+        };
+        add_line(&mut text, line.as_str())?;
+    }
+    Ok(text)
+}
+
+// Admits a request of one message, and gives the text of its reply.
+fn request(
+    alloc: Global,
+    registry: &mut Registry,
+    moment: u64,
+    body: &str,
+) -> Result<String, Unlike> {
+    let arrival = arrival(alloc, body)?;
+    let messages = read_messages(alloc, &arrival.bodies).map_err(|_| Unlike::Memory)?;
+    let Plan {
+        slots,
+        elements,
+        change,
+        ..
+    } = planned(alloc, registry, moment, &messages)?;
+    registry.commit(change, &elements);
+    match slots.as_slice().first() {
+        Some(Slot::Ready(ready)) => reply(alloc, ready),
+        _ => Err(Unlike::Wrong("not answered at once")),
+    }
+}
+
+// Plans a request, once more where memory was refused: the registry is then as before.
+fn planned(
+    alloc: Global,
+    registry: &mut Registry,
+    moment: u64,
+    messages: &[Message],
+) -> Result<Plan, Unlike>
+    ensures { IfOk result (λ plan. LeadsTo registry.new plan.change plan.elements) }
+{
+    let before = counts_of(registry);
+    let plan = match registry.plan(alloc, &AllFirst, moment, 0, messages) {
+        Err(AdmitFault::Memory) if counts_of(registry) == before => {
+            registry.plan(alloc, &AllFirst, moment, 0, messages)
+        }
+        plan => plan,
+    };
+    plan.map_err(|_| Unlike::Wrong("not planned"))
+}
+
+// Admits a tick, and says which sessions it closes.
+fn tick(alloc: Global, registry: &mut Registry, moment: u64) -> Result<String, Unlike> {
+    let Plan {
+        batch,
+        elements,
+        change,
+        ..
+    } = planned_tick(alloc, registry, moment)?;
+    registry.commit(change, &elements);
+    let mut text = format!(in alloc; "closed:")?;
+    if let Some(
+        Entry {
+            kind: EntryKind::Tick(numbers),
+            ..
+        },
+    ) = batch.entries.as_slice().first()
+    {
+        for number in numbers.as_slice() {
+            text.push_str(format!(in alloc; " {number}")?.as_str())?;
+        }
+    }
+    Ok(text)
+}
+
+// Plans a tick, once more where memory was refused: the registry is then as before.
+fn planned_tick(alloc: Global, registry: &mut Registry, moment: u64) -> Result<Plan, Unlike>
+    ensures { IfOk result (λ plan. LeadsTo registry.new plan.change plan.elements) }
+{
+    let before = counts_of(registry);
+    match registry.plan_tick(alloc, moment) {
+        Ok(plan) => Ok(plan),
+        Err(AdmitFault::Memory) if counts_of(registry) == before => {
+            match registry.plan_tick(alloc, moment) {
+                Ok(plan) => Ok(plan),
+                Err(_) => Err(Unlike::Wrong("no tick is planned")),
+            }
+        }
+        Err(_) => Err(Unlike::Wrong("a refused tick changes the registry")),
+    }
+}

@@ -1,0 +1,89 @@
+//! Requests as JSON, and the texts of what answers them.
+use crate::unlike::Unlike;
+use bx_advice::Config;
+use bx_cut::Bodies;
+use bx_entry::Arrival;
+use bx_message::{Answer, Item, Reply, body_text, reply_text};
+use std::alloc::Global;
+
+/// A handshake.
+pub const HANDSHAKE: &str =
+    r#"[{"channel":"/meta/handshake","version":"1.0","supportedConnectionTypes":["long-polling"]}]"#;
+
+/// A handshake of a session that acknowledges.
+pub const ACK_HANDSHAKE: &str =
+    r#"[{"channel":"/meta/handshake","version":"1.0","supportedConnectionTypes":["long-polling"],"ext":{"ack":true}}]"#;
+
+/// The first session subscribes to all channels of one segment below `/a`.
+pub const SUBSCRIBE: &str =
+    r#"[{"channel":"/meta/subscribe","clientId":"000000000000000000000000000000000000000000000001","subscription":"/a/*"}]"#;
+
+/// The first session's connect, which is held.
+pub const CONNECT: &str =
+    r#"[{"channel":"/meta/connect","clientId":"000000000000000000000000000000000000000000000001","connectionType":"long-polling"}]"#;
+
+/// A connect of the first session that acknowledges no batch, and is held where there is none.
+pub const HOLD_NONE: &str =
+    r#"[{"channel":"/meta/connect","clientId":"000000000000000000000000000000000000000000000001","connectionType":"long-polling","ext":{"ack":0}}]"#;
+
+/// The second session publishes 7.
+pub const PUBLISH: &str =
+    r#"[{"channel":"/a/b","clientId":"000000000000000000000000000000000000000000000002","data":7}]"#;
+
+/// A server of so many shards, 1 to 64, that takes four sessions.
+pub fn config(shards: usize) -> Result<Config, Unlike> {
+    let mut config = Config::new(shards, 30_000, 0, 10_000).ok_or(Unlike::Wrong(
+        "no configuration",
+    ))?;
+    config.limits.sessions = 4;
+    Ok(config)
+}
+
+/// A request of this body, at moment 0.
+pub fn arrival(alloc: Global, body: &str) -> Result<Arrival, Unlike> {
+    arrival_at(alloc, 0, body)
+}
+
+/// A request of this body, at a moment in milliseconds.
+pub fn arrival_at(alloc: Global, moment: u64, body: &str) -> Result<Arrival, Unlike> {
+    Ok(Arrival {
+        moment,
+        nonce: 0,
+        bodies: Bodies::Whole(body.as_bytes().to_vec(alloc)?),
+    })
+}
+
+/// The text of an answer: its events, and then its reply.
+pub fn text_of(alloc: Global, answer: Answer) -> Result<String, Unlike> {
+    let Answer { events, reply } = answer;
+    let mut items = Vec::new(alloc);
+    for event in events.into_vec() {
+        items.push(Item::EventItem(event))?;
+    }
+    items.push(Item::ReplyItem(reply))?;
+    response(alloc, items.as_slice())
+}
+
+/// The text of a response with these items.
+pub fn response(alloc: Global, items: &[Item]) -> Result<String, Unlike> {
+    string(body_text(alloc, items)?)
+}
+
+/// The text of a reply.
+pub fn reply(alloc: Global, reply: &Reply) -> Result<String, Unlike> {
+    string(reply_text(alloc, reply)?)
+}
+
+/// The bytes as a text.
+pub fn string(text: Vec<u8>) -> Result<String, Unlike> {
+    String::from_utf8(text).map_err(|_| Unlike::Wrong("not a text"))
+}
+
+/// Adds a line to a text.
+pub fn add_line(text: &mut String, line: &str) -> Result<(), Unlike> {
+    if !text.is_empty() {
+        text.push_str("\n")?;
+    }
+    text.push_str(line)?;
+    Ok(())
+}

@@ -1,0 +1,346 @@
+//! A round of two shards and one worker.
+
+use crate::requests::{
+    ACK_HANDSHAKE, CONNECT, HANDSHAKE, HOLD_NONE, PUBLISH, SUBSCRIBE, add_line, arrival_at, config,
+    response,
+};
+use crate::unlike::Unlike;
+use bx_advice::{Options, ShardCount};
+use bx_entry::{ByRemainder, Input};
+use bx_fanout::{Out, Round, RoundFault};
+use bx_workers::{OpenGate, WorkerCount};
+use std::alloc::Global;
+use std::sync::Arc;
+use std::thread::Threads;
+
+// More inputs than any round has.
+const MOST_INPUTS: usize = 1_000;
+
+// Requests, each with its moment.
+type Requests = &'static [(u64, &'static str)];
+
+// Requests, among how many shards the sessions are redistributed behind them, if they are, and the requests behind that; and whether
+// waiting events ride.
+#[derive(Clone, Copy, Debug)]
+struct Worked {
+    first: Requests,
+    shards: Option<usize>,
+    then: Requests,
+    ride: bool,
+}
+
+// The first session subscribes, and publishes an event that it gets itself.
+const SUBSCRIBE_AND_PUBLISH: &str =
+    r#"[{"channel":"/meta/subscribe","clientId":"000000000000000000000000000000000000000000000001","subscription":"/a/*"},{"channel":"/a/x","clientId":"000000000000000000000000000000000000000000000001","data":1}]"#;
+
+// It publishes two more.
+const PUBLISH_TWO: &str =
+    r#"[{"channel":"/a/y","clientId":"000000000000000000000000000000000000000000000001","data":2},{"channel":"/a/z","clientId":"000000000000000000000000000000000000000000000001","data":3}]"#;
+
+const UNSUBSCRIBE: &str =
+    r#"[{"channel":"/meta/unsubscribe","clientId":"000000000000000000000000000000000000000000000001","subscription":"/a/*"}]"#;
+
+// Its connects that are answered at once, by the batch that they acknowledge.
+
+const ACKNOWLEDGE_NONE: &str =
+    r#"[{"channel":"/meta/connect","clientId":"000000000000000000000000000000000000000000000001","connectionType":"long-polling","ext":{"ack":0},"advice":{"timeout":0}}]"#;
+
+const ACKNOWLEDGE_FIRST: &str =
+    r#"[{"channel":"/meta/connect","clientId":"000000000000000000000000000000000000000000000001","connectionType":"long-polling","ext":{"ack":1},"advice":{"timeout":0}}]"#;
+
+const ACKNOWLEDGE_SECOND: &str =
+    r#"[{"channel":"/meta/connect","clientId":"000000000000000000000000000000000000000000000001","connectionType":"long-polling","ext":{"ack":2},"advice":{"timeout":0}}]"#;
+
+// A connect that acknowledges the first batch, and is held where there is no other.
+const HOLD_FIRST: &str =
+    r#"[{"channel":"/meta/connect","clientId":"000000000000000000000000000000000000000000000001","connectionType":"long-polling","ext":{"ack":1}}]"#;
+
+const SUBSCRIBE_BELOW: &str =
+    r#"[{"channel":"/meta/subscribe","clientId":"000000000000000000000000000000000000000000000001","subscription":"/a/**"}]"#;
+
+// The second session publishes to two segments below.
+const PUBLISH_BELOW: &str =
+    r#"[{"channel":"/a/b/c","clientId":"000000000000000000000000000000000000000000000002","data":[1, 2]}]"#;
+
+// A publish answers a connect that is held.
+const ANSWERED: Worked = Worked {
+    first: &[
+        (0, HANDSHAKE),
+        (0, HANDSHAKE),
+        (0, SUBSCRIBE),
+        (10, CONNECT),
+        (20, PUBLISH),
+    ],
+    shards: None,
+    then: &[],
+    ride: false,
+};
+
+// Batches are given again until they are acknowledged.
+const BATCHES: Worked = Worked {
+    first: &[
+        (0, ACK_HANDSHAKE),
+        (0, SUBSCRIBE_AND_PUBLISH),
+        (1, ACKNOWLEDGE_NONE),
+        (2, PUBLISH_TWO),
+        (3, ACKNOWLEDGE_NONE),
+        (4, UNSUBSCRIBE),
+        (5, ACKNOWLEDGE_NONE),
+        (6, ACKNOWLEDGE_FIRST),
+        (7, ACKNOWLEDGE_SECOND),
+    ],
+    shards: None,
+    then: &[],
+    ride: false,
+};
+
+// The first batch answers a connect that is held, and is given again; what acknowledges it is held.
+const HELD_BATCHES: Worked = Worked {
+    first: &[
+        (0, ACK_HANDSHAKE),
+        (0, HANDSHAKE),
+        (0, SUBSCRIBE_BELOW),
+        (1, HOLD_NONE),
+        (2, PUBLISH_BELOW),
+        (3, HOLD_NONE),
+        (4, HOLD_FIRST),
+    ],
+    shards: None,
+    then: &[],
+    ride: false,
+};
+
+// While a connect is held the sessions are redistributed.
+const DEALT_WHILE_HELD: Worked = Worked {
+    first: &[
+        (0, HANDSHAKE),
+        (0, HANDSHAKE),
+        (0, SUBSCRIBE),
+        (10, CONNECT),
+    ],
+    shards: Some(5),
+    then: &[(20, PUBLISH)],
+    ride: false,
+};
+
+// While a batch is outstanding they are.
+const DEALT_WITH_A_BATCH: Worked = Worked {
+    first: &[
+        (0, ACK_HANDSHAKE),
+        (0, SUBSCRIBE_AND_PUBLISH),
+        (1, ACKNOWLEDGE_NONE),
+    ],
+    shards: Some(1),
+    then: &[(2, ACKNOWLEDGE_NONE)],
+    ride: false,
+};
+
+// Events ride: behind a subscription and a publish, while a connect is held, and where none waits.
+const RIDDEN: Worked = Worked {
+    first: &[
+        (0, HANDSHAKE),
+        (1, SUBSCRIBE_AND_PUBLISH),
+        (2, PUBLISH_TWO),
+        (3, CONNECT),
+        (4, PUBLISH_TWO),
+        (5, UNSUBSCRIBE),
+    ],
+    shards: None,
+    then: &[],
+    ride: true,
+};
+
+const WORKED: [Worked; 6] = [
+    ANSWERED,
+    BATCHES,
+    HELD_BATCHES,
+    DEALT_WHILE_HELD,
+    DEALT_WITH_A_BATCH,
+    RIDDEN,
+];
+
+/// Worked runs, in two of which the sessions are redistributed, and in one events ride. Says what each round gives, by the numbers of the requests from 1
+/// on, and which connects are held at its end.
+pub fn run<R: Threads + Sync>(rt: &R, alloc: Global) -> Result<String, Unlike> {
+    let mut text = String::new(alloc);
+    for worked in WORKED {
+        let mut outs = Vec::new(alloc);
+        let line = worked_text(rt, alloc, worked, &mut outs)?;
+        add_line(&mut text, line.as_str())?;
+    }
+    Ok(text)
+}
+
+fn worked_text<R: Threads + Sync>(
+    rt: &R,
+    alloc: Global,
+    worked: Worked,
+    outs: &mut Vec<Out>,
+) -> Result<String, Unlike> {
+    let placings = (placing(alloc)?, placing(alloc)?);
+    let mut round = first(rt, alloc, worked, placings, outs)?;
+    ended(rt, alloc, &mut round, worked.then, outs)
+}
+
+// A round that has taken in the first requests, and whose sessions are then redistributed, if they are.
+fn first<R: Threads + Sync>(
+    rt: &R,
+    alloc: Global,
+    worked: Worked,
+    (once, again): (Arc<ByRemainder>, Arc<ByRemainder>),
+    outs: &mut Vec<Out>,
+) -> Result<Round<ByRemainder>, Unlike> {
+    let round = begun(rt, alloc, worked, outs)?;
+    match worked.shards {
+        None => Ok(round),
+        Some(shards) => match ShardCount::new(shards) {
+            Some(shards) => redistributed(rt, alloc, round, shards, once, again),
+            None => Err(Unlike::Wrong("too many shards")),
+        },
+    }
+}
+
+// A round of two shards that has taken in the first requests.
+fn begun<R: Threads + Sync>(
+    rt: &R,
+    alloc: Global,
+    worked: Worked,
+    outs: &mut Vec<Out>,
+) -> Result<Round<ByRemainder>, Unlike> {
+    let config = config(2)?.with(Options {
+        ride: worked.ride,
+        anonymous: false,
+    });
+    let mut round = Round::new(alloc, config, placing(alloc)?, WorkerCount::one())?;
+    deal(rt, alloc, &mut round, worked.first, outs)?;
+    Ok(round)
+}
+
+fn placing(alloc: Global) -> Result<Arc<ByRemainder>, Unlike> {
+    Ok(Arc::new(alloc, ByRemainder)?)
+}
+
+// The round with its sessions among so many shards. Where memory was refused, the sessions of the round that came back are redistributed.
+fn redistributed<R: Threads + Sync>(
+    rt: &R,
+    alloc: Global,
+    round: Round<ByRemainder>,
+    shards: ShardCount,
+    once: Arc<ByRemainder>,
+    again: Arc<ByRemainder>,
+) -> Result<Round<ByRemainder>, Unlike> {
+    match round.reshard(rt, alloc, shards, once) {
+        Ok(round) => Ok(round),
+        Err((round, _)) => redistributed_again(rt, alloc, round, shards, again),
+    }
+}
+
+fn redistributed_again<R: Threads + Sync>(
+    rt: &R,
+    alloc: Global,
+    round: Round<ByRemainder>,
+    shards: ShardCount,
+    placing: Arc<ByRemainder>,
+) -> Result<Round<ByRemainder>, Unlike> {
+    match round.reshard(rt, alloc, shards, placing) {
+        Ok(round) => Ok(round),
+        Err(_) => Err(Unlike::Wrong("not redistributed")),
+    }
+}
+
+// Deals with the last requests, and says what the round gave and which connects it holds.
+fn ended<R: Threads + Sync>(
+    rt: &R,
+    alloc: Global,
+    round: &mut Round<ByRemainder>,
+    requests: Requests,
+    outs: &mut Vec<Out>,
+) -> Result<String, Unlike> {
+    deal(rt, alloc, round, requests, outs)?;
+    let mut text = written(alloc, outs)?;
+    for number in round.held(alloc)? {
+        let line = format!(in alloc; "{} held", number.saturating_add(1))?;
+        add_line(&mut text, line.as_str())?;
+    }
+    Ok(text)
+}
+
+// Deals with requests. Where memory was refused, it deals with the rest of them: what was given by then stays.
+fn deal<R: Threads + Sync>(
+    rt: &R,
+    alloc: Global,
+    round: &mut Round<ByRemainder>,
+    requests: Requests,
+    outs: &mut Vec<Out>,
+) -> Result<(), Unlike> {
+    let inputs = inputs(alloc, requests)?;
+    match refused_behind(rt, alloc, round, &inputs, outs)? {
+        Some(admitted) => go_on(rt, alloc, round, &inputs, admitted, outs),
+        None => Ok(()),
+    }
+}
+
+fn inputs(alloc: Global, requests: Requests) -> Result<Vec<Input>, Unlike> {
+    let mut inputs = Vec::new(alloc);
+    for (moment, body) in requests {
+        let arrival = arrival_at(alloc, *moment, body)?;
+        inputs.push(Input::Post(arrival))?;
+    }
+    Ok(inputs)
+}
+
+// Deals with the inputs behind so many of them.
+fn go_on<R: Threads + Sync>(
+    rt: &R,
+    alloc: Global,
+    round: &mut Round<ByRemainder>,
+    inputs: &[Input],
+    admitted: usize,
+    outs: &mut Vec<Out>,
+) -> Result<(), Unlike> {
+    let front = written(alloc, outs)?;
+    let Some(rest) = inputs.get(admitted..) else {
+        return Err(Unlike::Wrong("more was taken in than there is"));
+    };
+    if refused_behind(rt, alloc, round, rest, outs)?.is_some() {
+        return Err(Unlike::Wrong("refused once more"));
+    }
+    if written(alloc, outs)?.as_str().starts_with(front.as_str()) {
+        Ok(())
+    } else {
+        Err(Unlike::Wrong("what was given did not stay"))
+    }
+}
+
+// Runs these inputs. Where memory was refused, it says how many of them were taken in.
+fn refused_behind<R: Threads + Sync>(
+    rt: &R,
+    alloc: Global,
+    round: &mut Round<ByRemainder>,
+    inputs: &[Input],
+    outs: &mut Vec<Out>,
+) -> Result<Option<usize>, Unlike> {
+    let before = round.intake();
+    if before > MOST_INPUTS || inputs.len() > MOST_INPUTS {
+        return Err(Unlike::Wrong("too many inputs"));
+    }
+    match round.run(rt, alloc, &OpenGate, inputs, outs) {
+        Ok(()) => Ok(None),
+        Err(RoundFault::Memory { admitted }) if round.intake() == before.saturating_add(admitted) =>
+            { Ok(Some(admitted)) }
+        Err(_) => Err(Unlike::Wrong("another number was taken in")),
+    }
+}
+
+fn written(alloc: Global, outs: &[Out]) -> Result<String, Unlike> {
+    let mut text = String::new(alloc);
+    for out in outs {
+        let Ok(items) = &out.result else {
+            return Err(Unlike::Wrong("an input is refused"));
+        };
+        let body = response(alloc, items.as_slice())?;
+        let line = format!(in alloc; "{} 200 {body}", out.input.saturating_add(1))?;
+        add_line(&mut text, line.as_str())?;
+    }
+    Ok(text)
+}

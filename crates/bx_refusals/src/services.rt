@@ -1,0 +1,85 @@
+//! A service over a hub of two shards.
+ghost use Rattle.std.specs.Prelude.{◌≡◌};
+ghost use Rattle.bx_entry.specs.Placings.{by_remainder};
+
+mod asked;
+mod client;
+mod exchanges;
+mod list;
+
+use crate::hubs::Served;
+use crate::requests::config;
+use crate::unlike::Unlike;
+use bx_advice::Config;
+use bx_entry::ByRemainder;
+use bx_hub::OpenGate;
+use bx_service::{BayeuxService, Clock, HubBackend, Nonces};
+use bx_window::{Naming, Opened};
+use client::Client;
+use exchanges::made;
+use futures::test::MockTask;
+use list::{HubList, List};
+use std::alloc::{AllocGlobal, Global};
+use std::marker::Brand;
+use std::random::RandomSource;
+use std::sync::{Arc, Wait};
+
+// A clock that stands still at 0.
+#[derive(Clone, Copy)]
+struct Still;
+
+impl Clock for Still {
+    fn now(&self) -> u64 {
+        0
+    }
+}
+
+// Draws no other number than 0.
+#[derive(Clone, Copy)]
+struct Zeros;
+
+impl Nonces for Zeros {
+    fn next(&self) -> u128 {
+        0
+    }
+}
+
+/// Makes all exchanges with a service of its own, and says how they are answered.
+pub fn run<R>(rt: R) -> Result<String, Unlike>
+where
+    R: Wait + RandomSource + AllocGlobal + Copy + Drop,
+{
+    let alloc = rt.alloc();
+    let config = config(2)?;
+    let placing = Arc::new(alloc, ByRemainder)?;
+    let task = MockTask::new(&rt).map_err(|_| Unlike::Memory)?;
+    serves::<Brand, R>(rt, alloc, Opened::new(), config, placing, task)
+}
+
+fn serves<J, R>(
+    rt: R,
+    alloc: Global,
+    opened: Opened,
+    config: Config,
+    placing: Arc<ByRemainder, Global>,
+    task: MockTask,
+) -> Result<String, Unlike>
+where
+    J: Naming,
+    R: Wait + Copy + Drop,
+    requires book { opened.seen.book ≡ J.book }
+    requires config { config ≡ J.config }
+    requires placing { by_remainder ≡ J.placing }
+{
+    let hub = Served::<J, R>::new(alloc, rt, opened, config, placing, OpenGate)?;
+    let hub = Arc::new(alloc, hub)?;
+    let backend = HubBackend::new(rt, alloc, Arc::try_clone(&hub)?, Still, Zeros);
+    let service = BayeuxService::new(alloc, backend)?;
+    let mut client = Client {
+        alloc,
+        service,
+        list: List::new(HubList { rt, hub }),
+        task,
+    };
+    made(&mut client)
+}

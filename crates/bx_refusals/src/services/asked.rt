@@ -1,0 +1,56 @@
+//! Requests by HTTP. In their texts `ID` stands for the id of the session that sends them.
+use crate::unlike::Unlike;
+use bytes::Bytes;
+use http::Request;
+use http::header::CONTENT_TYPE;
+use http_body_util::Full;
+use std::alloc::{AllocError, Global};
+
+/// A body that is no document.
+pub const BROKEN: &str = "[";
+
+/// A subscription to all channels of one segment below `/a`.
+pub const SUBSCRIBE: &str =
+    r#"[{"channel":"/meta/subscribe","clientId":"ID","subscription":"/a/*"}]"#;
+
+/// A connect that acknowledges no batch, and is held where there is none.
+pub const CONNECT: &str =
+    r#"[{"channel":"/meta/connect","clientId":"ID","connectionType":"long-polling","ext":{"ack":0}}]"#;
+
+/// A publish of 7.
+pub const PUBLISH: &str = r#"[{"channel":"/a/b","clientId":"ID","data":7}]"#;
+
+/// The query of a connect that is answered at once, by a callback.
+pub const QUERY_CONNECT: &str =
+    r#"/cometd?jsonp=cb.x&message=[{%22channel%22:%22/meta/connect%22,%22clientId%22:%22ID%22,%22connectionType%22:%22callback-polling%22,%22advice%22:{%22timeout%22:0}}]"#;
+
+/// A request that can be made more than once.
+#[derive(Clone, Copy, Debug)]
+pub enum Asked<'a> {
+    /// A POST of this body.
+    Post(&'a str),
+    /// A GET of this path and query.
+    Get(&'a str),
+}
+
+/// The request.
+pub fn request(alloc: Global, asked: Asked<'_>) -> Result<Request<Full<Bytes>>, Unlike> {
+    let made = match asked {
+        Asked::Post(text) => {
+            let body = Full::new(Bytes::copy_from_slice(alloc, text.as_bytes())?);
+            Request::post(alloc, "/cometd")
+                .header(CONTENT_TYPE, "application/json")
+                .body(body)
+        }
+        Asked::Get(target) => Request::get(alloc, target).body(Full::new(Bytes::from_static(b""))),
+    };
+    made.map_err(|_| Unlike::Memory)
+}
+
+/// The text with the first place of a word replaced, if it has the word.
+pub fn replaced(alloc: Global, text: &str, word: &str, by: &str) -> Result<String, AllocError> {
+    match text.split_once(word) {
+        Some((front, back)) => format!(in alloc; "{front}{by}{back}"),
+        None => String::from_str(alloc, text),
+    }
+}

@@ -1,0 +1,109 @@
+//! A client that makes each exchange once more where memory was refused to it.
+ghost use Rattle.std.specs.Prelude.{IfOk};
+ghost use Rattle.futures.specs.Poll.{OnPending};
+
+use crate::requests::string;
+use crate::services::asked::{Asked, request};
+use crate::services::list::{Adds, Count, List};
+use crate::unlike::Unlike;
+use bx_message::Item;
+use bx_service::{Backend, BayeuxService, Collect, ServiceFault, Unanswered};
+use bytes::Bytes;
+use futures::Future;
+use futures::task::Poll;
+use futures::test::MockTask;
+use http::Response;
+use http_body_util::Full;
+use hyper::service::Service;
+use std::alloc::Global;
+
+/// What an exchange gives.
+pub type Given = Result<Response<Full<Bytes>>, ServiceFault>;
+
+/// A service with the list of its hub, and the task that polls its exchanges.
+#[derive(Drop)]
+pub struct Client<S: Drop, C: Drop> {
+    /// Where memory is taken.
+    pub alloc: Global,
+    /// The service that it asks.
+    pub service: BayeuxService<S>,
+    /// The list of the hub behind the service.
+    pub list: List<C>,
+    /// The task that polls its exchanges.
+    pub task: MockTask,
+}
+
+impl<S: Drop, C: Count + Drop> Client<S, C> {
+    /// Makes an exchange that does not wait, once more where memory was refused to it.
+    pub fn ask<I>(&mut self, asked: Asked<'_>, adds: Adds) -> Result<String, Unlike>
+    where
+        S: Backend<Items = I> + Drop,
+        I: Future<Output = Result<Vec<Item>, Unanswered>> + Drop,
+    {
+        let mut line = self.ask_once(asked)?;
+        if line.is_none() {
+            self.list.check(self.alloc, adds)?;
+            line = self.ask_once(asked)?;
+        }
+        self.list.add(adds);
+        line.ok_or(Unlike::Wrong("refused once more"))
+    }
+
+    // Makes an exchange that does not wait. Says its response, or nothing where memory was refused to it.
+    fn ask_once<I>(&self, asked: Asked<'_>) -> Result<Option<String>, Unlike>
+    where
+        S: Backend<Items = I> + Drop,
+        I: Future<Output = Result<Vec<Item>, Unanswered>> + Drop,
+    {
+        let mut exchange = self.service.call(request(self.alloc, asked)?);
+        ended(self.poll(&mut exchange))
+    }
+
+    /// Polls an exchange once. Says its response, if it does not wait, or nothing where memory was refused to it.
+    pub fn poll<E: Future<Output = Given>>(
+        &self,
+        exchange: &mut E,
+    ) -> Result<Poll<Option<String>>, Unlike>
+        requires { E.can_poll exchange.old }
+        ensures { IfOk result (λ polled. OnPending polled (E.can_poll exchange.new)) }
+    {
+        match self.task.poll(exchange) {
+            Poll::Pending => Ok(Poll::Pending),
+            Poll::Ready(given) => Ok(Poll::Ready(line_of(self.alloc, &self.task, given)?)),
+        }
+    }
+}
+
+/// What an exchange that was polled gave, where it does not wait.
+pub fn ended(polled: Result<Poll<Option<String>>, Unlike>) -> Result<Option<String>, Unlike> {
+    match polled? {
+        Poll::Ready(line) => Ok(line),
+        Poll::Pending => Err(Unlike::Wrong("an exchange waits")),
+    }
+}
+
+// The status and the body of a response, or nothing where memory was refused to the exchange.
+fn line_of(alloc: Global, task: &MockTask, given: Given) -> Result<Option<String>, Unlike> {
+    let Ok(response) = given else {
+        return Ok(None);
+    };
+    let status = response.status().as_u16();
+    if status == 503 {
+        return Ok(None);
+    }
+    let mut body = Collect::new(alloc, response.into_body(), usize::MAX);
+    match task.poll(&mut body) {
+        Poll::Ready(Ok(body)) => Ok(Some(line(alloc, status, body)?)),
+        Poll::Ready(Err(_)) => Err(Unlike::Memory),
+        Poll::Pending => Err(Unlike::Wrong("a body waits")),
+    }
+}
+
+// A status, and the body if there is one.
+fn line(alloc: Global, status: u16, body: Vec<u8>) -> Result<String, Unlike> {
+    let body = string(body)?;
+    if body.is_empty() {
+        return Ok(format!(in alloc; "{status}")?);
+    }
+    Ok(format!(in alloc; "{status} {body}")?)
+}

@@ -1,0 +1,254 @@
+//! The only shard of a server, to which entries are applied one by one.
+use crate::requests::{add_line, config, reply, text_of};
+use crate::unlike::Unlike;
+use bx_entry::{ByRemainder, Entry, EntryKind, Ticket};
+use bx_message::{Answer, Event, RawJson, Sequence, SharedEvent, Text};
+use bx_names::{ChannelName, Pattern};
+use bx_shard::{Shard, Wakers};
+use std::alloc::Global;
+use std::sync::Arc;
+
+// More entries than any run has.
+const MOST_ENTRIES: u64 = 10_000;
+
+// How many events may wait for a session.
+const MOST_EVENTS: usize = 1_024;
+
+// What an entry of the list says. Sessions are told by their numbers.
+#[derive(Clone, Copy, Debug)]
+enum Deed {
+    Open(u64),
+    // A session that acknowledges is opened.
+    OpenAck(u64),
+    Subscribe(u64, &'static str),
+    Unsubscribe(u64, &'static str),
+    // A connect that is held.
+    Connect(u64),
+    // A connect that is answered at once.
+    ConnectAtOnce(u64),
+    // A connect that acknowledges this batch and is answered at once.
+    Acknowledge(u64, u64),
+    // A channel and the data.
+    Publish(&'static str, &'static str),
+}
+
+// A publish answers a connect that is held.
+const ANSWERED: [Deed; 5] = [
+    Deed::Open(1),
+    Deed::Open(2),
+    Deed::Subscribe(1, "/a/*"),
+    Deed::Connect(1),
+    Deed::Publish("/a/b", "7"),
+];
+
+// Batches are given again until they are acknowledged, also while events come and once no pattern is in force.
+const BATCHES: [Deed; 11] = [
+    Deed::OpenAck(1),
+    Deed::Subscribe(1, "/a/*"),
+    Deed::Publish("/a/x", "1"),
+    Deed::Acknowledge(1, 0),
+    Deed::Publish("/a/y", "2"),
+    Deed::Publish("/a/z", "3"),
+    Deed::Acknowledge(1, 0),
+    Deed::Unsubscribe(1, "/a/*"),
+    Deed::Acknowledge(1, 0),
+    Deed::Acknowledge(1, 1),
+    Deed::Acknowledge(1, 2),
+];
+
+// A session that hears a channel.
+const HEARS: [Deed; 2] = [Deed::Open(1), Deed::Subscribe(1, "/a/b")];
+
+const EVENT: Deed = Deed::Publish("/a/b", "1");
+
+// One event too many, behind which the session overflows.
+const OVERFLOW: [Deed; 3] = [EVENT, Deed::ConnectAtOnce(1), EVENT];
+
+// Where no event is too many, all are given.
+const GIVEN: [Deed; 4] = [Deed::ConnectAtOnce(1); 4];
+
+// What is applied to a new shard: entries, as many publishes as events may wait, if they are, and further entries.
+#[derive(Clone, Copy, Debug)]
+struct Worked {
+    first: &'static [Deed],
+    is_filled: bool,
+    then: &'static [Deed],
+}
+
+const WORKED: [Worked; 4] = [
+    Worked {
+        first: &ANSWERED,
+        is_filled: false,
+        then: &[],
+    },
+    Worked {
+        first: &BATCHES,
+        is_filled: false,
+        then: &[],
+    },
+    Worked {
+        first: &HEARS,
+        is_filled: true,
+        then: &OVERFLOW,
+    },
+    Worked {
+        first: &HEARS,
+        is_filled: true,
+        then: &GIVEN,
+    },
+];
+
+/// A connect that is held and answered, batches that are acknowledged, and queues that are full, of which one overflows. Says
+/// how each connect is answered.
+pub fn run(alloc: Global) -> Result<String, Unlike> {
+    let mut text = String::new(alloc);
+    for worked in WORKED {
+        apply_to_new(alloc, worked, &mut text)?;
+    }
+    Ok(text)
+}
+
+fn apply_to_new(alloc: Global, worked: Worked, text: &mut String) -> Result<(), Unlike> {
+    let mut shard = shard(alloc)?;
+    apply_worked(alloc, &mut shard, worked, text)
+}
+
+fn apply_worked(
+    alloc: Global,
+    shard: &mut Shard<ByRemainder>,
+    worked: Worked,
+    text: &mut String,
+) -> Result<(), Unlike> {
+    apply_all(alloc, shard, worked.first, text)?;
+    if worked.is_filled {
+        fill(alloc, shard)?;
+    }
+    apply_all(alloc, shard, worked.then, text)
+}
+
+fn shard(alloc: Global) -> Result<Shard<ByRemainder>, Unlike> {
+    let placing = Arc::new(alloc, ByRemainder)?;
+    Ok(Shard::new(alloc, 0, config(1)?, placing))
+}
+
+// Applies entries that say this, and adds a line for each connect that is answered by then.
+fn apply_all(
+    alloc: Global,
+    shard: &mut Shard<ByRemainder>,
+    deeds: &[Deed],
+    text: &mut String,
+) -> Result<(), Unlike> {
+    let mut connect = 0;
+    for deed in deeds {
+        let kind = kind(alloc, *deed)?;
+        if let EntryKind::Connect { .. } = kind {
+            connect = shard.place();
+        }
+        apply(alloc, shard, kind)?;
+        let ticket = Ticket {
+            place: connect,
+            shard: 0,
+        };
+        if let Some(answer) = shard.take(ticket) {
+            add_line(text, told(alloc, answer)?.as_str())?;
+        }
+    }
+    Ok(())
+}
+
+// As many publishes as events may wait. What they say is shared by their entries.
+fn fill(alloc: Global, shard: &mut Shard<ByRemainder>) -> Result<(), Unlike> {
+    let event = event(alloc, "/a/b", "1")?;
+    for _ in 0..MOST_EVENTS {
+        apply(alloc, shard, EntryKind::Publish(event.clone()?))?;
+    }
+    Ok(())
+}
+
+// Applies an entry of this kind, once more where memory was refused: the shard then stands where it did.
+fn apply(alloc: Global, shard: &mut Shard<ByRemainder>, kind: EntryKind) -> Result<(), Unlike> {
+    let place = shard.place();
+    if place > MOST_ENTRIES {
+        return Err(Unlike::Wrong("too many entries"));
+    }
+    let entry = Entry {
+        place,
+        moment: 0,
+        kind,
+        rides: None,
+    };
+    let mut wakers = Wakers::new(alloc);
+    if shard.apply(alloc, &entry, &mut wakers).is_ok() {
+        return Ok(());
+    }
+    if shard.place() != place {
+        return Err(Unlike::Wrong("a refused entry moves its shard"));
+    }
+    shard
+        .apply(alloc, &entry, &mut wakers)
+        .map_err(|_| Unlike::Wrong("not applied"))
+}
+
+// The text of an answer; of one with many events how many they are, and the text of its reply.
+fn told(alloc: Global, answer: Answer) -> Result<String, Unlike> {
+    let count = answer.events.len();
+    if count < 4 {
+        return text_of(alloc, answer);
+    }
+    let reply = reply(alloc, &answer.reply)?;
+    Ok(format!(in alloc; "{count} events, {reply}")?)
+}
+
+fn kind(alloc: Global, deed: Deed) -> Result<EntryKind, Unlike> {
+    match deed {
+        Deed::Open(session) => Ok(EntryKind::Opened {
+            session,
+            ack: false,
+        }),
+        Deed::OpenAck(session) => Ok(EntryKind::Opened { session, ack: true }),
+        Deed::Subscribe(session, pattern) => Ok(EntryKind::Subscribe {
+            session,
+            patterns: patterns(alloc, pattern)?,
+        }),
+        Deed::Unsubscribe(session, pattern) => Ok(EntryKind::Unsubscribe {
+            session,
+            patterns: patterns(alloc, pattern)?,
+        }),
+        Deed::Connect(session) => connect(alloc, session, None, 30_000),
+        Deed::ConnectAtOnce(session) => connect(alloc, session, None, 0),
+        Deed::Acknowledge(session, batch) => connect(alloc, session, Some(batch), 0),
+        Deed::Publish(channel, data) => Ok(EntryKind::Publish(event(alloc, channel, data)?)),
+    }
+}
+
+fn patterns(alloc: Global, text: &str) -> Result<Sequence<Pattern>, Unlike> {
+    let mut patterns = Sequence::new(alloc);
+    patterns.push(Pattern::read(alloc, text).map_err(|_| Unlike::Memory)?)?;
+    Ok(patterns)
+}
+
+// The client id is 32 zeros and the session's number in 16 hexadecimal digits.
+fn connect(
+    alloc: Global,
+    session: u64,
+    acked: Option<u64>,
+    hold: u64,
+) -> Result<EntryKind, Unlike> {
+    Ok(EntryKind::Connect {
+        session,
+        client: Text::from_string(format!(in alloc; "{session:048x}")?)?,
+        id: None,
+        acked,
+        hold,
+    })
+}
+
+fn event(alloc: Global, channel: &str, data: &str) -> Result<SharedEvent, Unlike> {
+    let event = Event {
+        channel: Text::new(alloc, channel)?,
+        payload: RawJson::new(alloc, data)?,
+        id: None,
+    };
+    let name = ChannelName::read(alloc, channel).map_err(|_| Unlike::Memory)?;
+    Ok(SharedEvent::new(alloc, event, name)?)
+}

@@ -1,0 +1,137 @@
+//! A window of ticks.
+ghost use Rattle.std.specs.Prelude.{◌≡◌};
+
+mod shows;
+
+use crate::requests::add_line;
+use crate::unlike::Unlike;
+use bx_ticks::Ticker;
+use bx_window::{LogReader, Naming, Opened, PublishFault, log_pair};
+use shows::shown;
+use std::alloc::Global;
+use std::marker::Brand;
+use std::sync::Wait;
+
+// What is done to a window.
+#[derive(Clone, Copy, Debug)]
+enum Deed {
+    // A batch of so many ticks is published.
+    Publish(u64),
+    // The batches that lie wholly below a place are dropped.
+    Trim(u64),
+}
+
+// The first trim drops nothing, the second one a batch of two, and the third one all that are left.
+const DEEDS: [Deed; 7] = [
+    Deed::Publish(3),
+    Deed::Publish(2),
+    Deed::Trim(2),
+    Deed::Trim(3),
+    Deed::Publish(1),
+    Deed::Trim(100),
+    Deed::Publish(2),
+];
+
+/// Batches are published and trimmed. Says after each of that what a reader finds at each place, and at last what another one finds
+/// that looks for the first time.
+pub fn run<R: Wait>(rt: &R, alloc: Global) -> Result<String, Unlike> {
+    worked::<Brand, R>(rt, alloc, Opened::new())
+}
+
+fn worked<J: Naming, R: Wait>(rt: &R, alloc: Global, opened: Opened) -> Result<String, Unlike>
+    requires { opened.seen.book ≡ J.book }
+{
+    let (writer, mut readers) = log_pair::<J, &R>(alloc, rt, opened, 2)?;
+    let mut writer = Ticker::new(writer);
+    match (readers.pop(), readers.pop()) {
+        (Some(mut other), Some(mut reader)) => told(alloc, &mut writer, &mut reader, &mut other),
+        _ => Err(Unlike::Wrong("no reader")),
+    }
+}
+
+fn told<J: Naming, R: Wait + Drop>(
+    alloc: Global,
+    writer: &mut Ticker<J, R>,
+    reader: &mut LogReader<J>,
+    other: &mut LogReader<J>,
+) -> Result<String, Unlike> {
+    let mut text = String::new(alloc);
+    work(alloc, writer, reader, &mut text)?;
+    let line = shown(alloc, other, writer.end)?;
+    add_line(&mut text, line.as_str())?;
+    Ok(text)
+}
+
+// Does all that is done, and adds a line for what is shown then.
+fn work<J: Naming, R: Wait + Drop>(
+    alloc: Global,
+    writer: &mut Ticker<J, R>,
+    reader: &mut LogReader<J>,
+    text: &mut String,
+) -> Result<(), Unlike> {
+    for deed in DEEDS {
+        let before = shown(alloc, reader, writer.end)?;
+        match deed {
+            Deed::Publish(count) => publish(alloc, writer, reader, count, before.as_str())?,
+            Deed::Trim(place) => trim(alloc, writer, reader, place, before.as_str())?,
+        }
+        let after = shown(alloc, reader, writer.end)?;
+        add_line(text, after.as_str())?;
+    }
+    Ok(())
+}
+
+// Publishes a batch of so many ticks. Where memory was refused, the batch that came back is published, and until then all is shown
+// as it was.
+fn publish<J: Naming, R: Wait + Drop>(
+    alloc: Global,
+    writer: &mut Ticker<J, R>,
+    reader: &mut LogReader<J>,
+    count: u64,
+    before: &str,
+) -> Result<(), Unlike> {
+    let bundle = writer.bundle(alloc, count)?;
+    let Err((back, why)) = writer.publish_bundle(alloc, bundle, count) else {
+        return Ok(());
+    };
+    if why != PublishFault::Memory {
+        return Err(Unlike::Wrong("the window is full"));
+    }
+    check_same(alloc, writer, reader, before)?;
+    match writer.publish_bundle(alloc, back, count) {
+        Ok(()) => Ok(()),
+        Err(_) => Err(Unlike::Wrong("not published")),
+    }
+}
+
+// Trims the window; where memory was refused once more, and until then all is shown as it was.
+fn trim<J: Naming, R: Wait + Drop>(
+    alloc: Global,
+    writer: &mut Ticker<J, R>,
+    reader: &mut LogReader<J>,
+    place: u64,
+    before: &str,
+) -> Result<(), Unlike> {
+    if writer.trim(alloc, place) {
+        return Ok(());
+    }
+    check_same(alloc, writer, reader, before)?;
+    if writer.trim(alloc, place) {
+        return Ok(());
+    }
+    Err(Unlike::Wrong("not trimmed"))
+}
+
+// What a reader is shown is what it was shown before, and the writer has no more steps than that.
+fn check_same<J: Naming, R: Wait + Drop>(
+    alloc: Global,
+    writer: &Ticker<J, R>,
+    reader: &mut LogReader<J>,
+    before: &str,
+) -> Result<(), Unlike> {
+    let after = shown(alloc, reader, writer.end)?;
+    if after.as_str() == before && writer.tell().steps() == reader.note().steps() {
+        return Ok(());
+    }
+    Err(Unlike::Wrong("a refused call changes the window"))
+}

@@ -1,0 +1,48 @@
+//! What a window shows to a reader.
+use crate::unlike::Unlike;
+use bx_window::{LogReader, Naming, Next};
+use std::alloc::Global;
+
+/// What a reader finds at each place up to the end of a list, and what it then has seen: how many steps, and where the window begins
+/// and ends. A batch is told by its first place and the place behind its last one.
+pub fn shown<J: Naming>(
+    alloc: Global,
+    reader: &mut LogReader<J>,
+    end: u64,
+) -> Result<String, Unlike> {
+    let mut places = String::new(alloc);
+    for place in 0..=end {
+        let found = found_at(alloc, reader, place)?;
+        places.push_str(found.as_str())?;
+    }
+    let front = reader.note();
+    let (steps, begin, len) = (front.steps(), front.begin(), front.len());
+    Ok(format!(in alloc; "steps {steps}, from {begin} to {len}:{places}")?)
+}
+
+// What stands at a place.
+fn found_at<J: Naming>(
+    alloc: Global,
+    reader: &mut LogReader<J>,
+    place: u64,
+) -> Result<String, Unlike> {
+    match next(reader, place)? {
+        Next::Batch(batch) => {
+            let first = batch.first;
+            let past = first.saturating_add(batch.entries.len() as u64);
+            Ok(format!(in alloc; " [{first}, {past})")?)
+        }
+        Next::Level => Ok(String::from_str(alloc, " end")?),
+        Next::Overrun => Ok(String::from_str(alloc, " gone")?),
+    }
+}
+
+// Looks at a place, once more where memory was refused: the reader has then seen no more than before.
+fn next<J: Naming>(reader: &mut LogReader<J>, place: u64) -> Result<Next, Unlike> {
+    let before = reader.note().steps();
+    let next = match reader.next(place) {
+        Err(_) if reader.note().steps() == before => reader.next(place),
+        next => next,
+    };
+    next.map_err(|_| Unlike::Wrong("nothing is found"))
+}

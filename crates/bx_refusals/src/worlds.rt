@@ -1,0 +1,87 @@
+//! Two shards that one worker brings up.
+use crate::requests::{CONNECT, HANDSHAKE, PUBLISH, SUBSCRIBE, arrival, config, text_of};
+use crate::unlike::Unlike;
+use bx_entry::{ByRemainder, Slot, Ticket};
+use bx_message::Answer;
+use bx_workers::{OpenGate, WorkerCount};
+use bx_world::{AdmissionFault, Admitted, Applied, World};
+use std::alloc::Global;
+use std::sync::Arc;
+use std::thread::Threads;
+
+const SHARDS: usize = 2;
+
+/// Two sessions, of which one subscribes and connects and the other publishes: once all is admitted, one worker brings the
+/// shards up. Says how the connect is answered.
+pub fn run<R: Threads + Sync>(rt: &R, alloc: Global) -> Result<String, Unlike> {
+    let placing = Arc::new(alloc, ByRemainder)?;
+    let mut world = World::new(alloc, config(SHARDS)?, placing)?;
+    let answer = answer(rt, alloc, &mut world)?;
+    text_of(alloc, answer)
+}
+
+fn answer<R: Threads + Sync>(
+    rt: &R,
+    alloc: Global,
+    world: &mut World<ByRemainder>,
+) -> Result<Answer, Unlike> {
+    let mut connect = None;
+    for body in [HANDSHAKE, HANDSHAKE, SUBSCRIBE, CONNECT, PUBLISH] {
+        let admitted = admit(alloc, world, body)?;
+        connect = connect.or(ticket_of(admitted));
+    }
+    bring_up(rt, alloc, world)?;
+    let ticket = connect.ok_or(Unlike::Wrong("no connect"))?;
+    world.take(ticket).ok_or(Unlike::Wrong("no answer"))
+}
+
+fn ticket_of(admitted: Admitted) -> Option<Ticket> {
+    for slot in admitted.slots.into_vec() {
+        if let Slot::Waiting(ticket) = slot {
+            return Some(ticket);
+        }
+    }
+    None
+}
+
+// Admits a request, once more where memory was refused.
+fn admit(alloc: Global, world: &mut World<ByRemainder>, body: &str) -> Result<Admitted, Unlike> {
+    let arrival = arrival(alloc, body)?;
+    let admitted = match world.admit(alloc, &arrival) {
+        Err(AdmissionFault::Memory) => world.admit(alloc, &arrival),
+        admitted => admitted,
+    };
+    admitted.map_err(|_| Unlike::Wrong("not admitted"))
+}
+
+// Brings the shards up, once more where one was refused memory. It says that one is behind then, and none once memory is there, and so it
+// is: the others have come to the end.
+fn bring_up<R: Threads + Sync>(
+    rt: &R,
+    alloc: Global,
+    world: &mut World<ByRemainder>,
+) -> Result<(), Unlike> {
+    let behind = world.bring_up(rt, alloc, &OpenGate, WorkerCount::one());
+    if behind.saturating_add(level(alloc, world)) != SHARDS {
+        return Err(Unlike::Wrong("not so many shards are behind"));
+    }
+    if behind == 0 {
+        return Ok(());
+    }
+    let left = world.bring_up(rt, alloc, &OpenGate, WorkerCount::one());
+    if behind == 1 && left == 0 && level(alloc, world) == SHARDS {
+        return Ok(());
+    }
+    Err(Unlike::Wrong("shards stay behind"))
+}
+
+// How many shards have come to the end. The others go on by an entry.
+fn level(alloc: Global, world: &mut World<ByRemainder>) -> usize {
+    let mut level = 0usize;
+    for shard in 0..SHARDS {
+        if world.apply(alloc, shard) == Applied::Level {
+            level = level.saturating_add(1);
+        }
+    }
+    level
+}

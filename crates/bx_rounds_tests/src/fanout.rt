@@ -1,0 +1,592 @@
+//! Five inputs at once and one by one, with one worker and with several, by each placing, and with another number of shards; and events
+//! that ride, with one worker and with several.
+ghost use Rattle.std.specs.Prelude.{◌≤◌};
+
+use crate::requests::request;
+use bx_advice::{Config, Options, ShardCount};
+use bx_entry::{ByTable, Input};
+use bx_fanout::{Out, Round};
+use bx_message::body_text;
+use bx_workers::{Gate, OpenGate, WorkerCount};
+use std::alloc::{AllocError, Global};
+use std::hint;
+use std::process::Abort;
+use std::sync::Arc;
+use std::sync::atomic::{AtomicBool, AtomicU16, Ordering};
+use std::test::Fail;
+use std::thread::{Threads, yield_now};
+
+// How many sessions are opened before the inputs, a request each. They hear nothing; but with fewer live sessions one worker
+// does for so few entries.
+const CROWD: usize = 1_024;
+
+// More than any test has.
+const MOST_INPUTS: usize = 10_000;
+
+const HANDSHAKE: &str =
+    r#"{"channel":"/meta/handshake","version":"1.0","supportedConnectionTypes":["long-polling"]}"#;
+
+// Two handshakes, a subscription and a connect of the first of these sessions, and an event from the second one that
+// answers the connect. Each with its moment.
+const INPUTS: [(u64, &str); 5] = [
+    (
+        0,
+        r#"{"channel":"/meta/handshake","version":"1.0","supportedConnectionTypes":["long-polling"]}"#,
+    ),
+    (
+        0,
+        r#"{"channel":"/meta/handshake","version":"1.0","supportedConnectionTypes":["long-polling"]}"#,
+    ),
+    (
+        0,
+        r#"{"channel":"/meta/subscribe","clientId":"000000000000000000000000000000000000000000000401","subscription":"/a/*"}"#,
+    ),
+    (
+        10,
+        r#"{"channel":"/meta/connect","clientId":"000000000000000000000000000000000000000000000401","connectionType":"long-polling"}"#,
+    ),
+    (
+        20,
+        r#"{"channel":"/a/b","clientId":"000000000000000000000000000000000000000000000402","data":7}"#,
+    ),
+];
+
+// The number of each out and its response, in the order in which they are added.
+const OUTS: [(usize, &str); 5] = [
+    (
+        1_024,
+        r#"[{"advice":{"interval":0,"reconnect":"retry","timeout":30000},"channel":"/meta/handshake","clientId":"000000000000000000000000000000000000000000000401","successful":true,"supportedConnectionTypes":["long-polling","callback-polling"],"version":"1.0"}]"#,
+    ),
+    (
+        1_025,
+        r#"[{"advice":{"interval":0,"reconnect":"retry","timeout":30000},"channel":"/meta/handshake","clientId":"000000000000000000000000000000000000000000000402","successful":true,"supportedConnectionTypes":["long-polling","callback-polling"],"version":"1.0"}]"#,
+    ),
+    (
+        1_026,
+        r#"[{"channel":"/meta/subscribe","clientId":"000000000000000000000000000000000000000000000401","subscription":"/a/*","successful":true}]"#,
+    ),
+    (
+        1_027,
+        r#"[{"channel":"/a/b","data":7},{"advice":{"interval":0,"reconnect":"retry","timeout":30000},"channel":"/meta/connect","clientId":"000000000000000000000000000000000000000000000401","successful":true}]"#,
+    ),
+    (1_028, r#"[{"channel":"/a/b","successful":true}]"#),
+];
+
+// Where events ride, behind these: another event from the second session waits for the first one, whose own publish has both before
+// its reply.
+const RIDING: [(u64, &str); 2] = [
+    (
+        30,
+        r#"{"channel":"/a/b","clientId":"000000000000000000000000000000000000000000000402","data":8}"#,
+    ),
+    (
+        30,
+        r#"{"channel":"/a/c","clientId":"000000000000000000000000000000000000000000000401","data":9}"#,
+    ),
+];
+
+const RIDDEN: [(usize, &str); 2] = [
+    (1_029, r#"[{"channel":"/a/b","successful":true}]"#),
+    (
+        1_030,
+        r#"[{"channel":"/a/b","data":8},{"channel":"/a/c","data":9},{"channel":"/a/c","successful":true}]"#,
+    ),
+];
+
+// A connect that is held.
+const ALONE: [(u64, &str); 1] = [(
+    40,
+    r#"{"channel":"/meta/connect","clientId":"000000000000000000000000000000000000000000000401","connectionType":"long-polling"}"#,
+)];
+
+// A run: its inputs, what it gives, how many inputs were taken in by then, and which of these, counted from 0, are held.
+type HoldRun = (
+    &'static [(u64, &'static str)],
+    &'static [(usize, &'static str)],
+    usize,
+    &'static [usize],
+);
+
+const CONNECT_FIRST: &str =
+    r#"{"channel":"/meta/connect","clientId":"000000000000000000000000000000000000000000000001","connectionType":"long-polling"}"#;
+
+const OPENED_FIRST: &str =
+    r#"[{"advice":{"interval":0,"reconnect":"retry","timeout":30000},"channel":"/meta/handshake","clientId":"000000000000000000000000000000000000000000000001","successful":true,"supportedConnectionTypes":["long-polling","callback-polling"],"version":"1.0"}]"#;
+
+const SUPERSEDED_FIRST: &str =
+    r#"[{"channel":"/meta/connect","clientId":"000000000000000000000000000000000000000000000001","error":"408::Superseded connect","successful":false}]"#;
+
+// A session whose connect is held until it connects once more.
+const TOGETHER: [HoldRun; 1] = [(
+    &[(0, HANDSHAKE), (1, CONNECT_FIRST), (2, CONNECT_FIRST)],
+    &[(0, OPENED_FIRST), (1, SUPERSEDED_FIRST)],
+    3,
+    &[2],
+)];
+
+// The same by a run for each input.
+const APART: [HoldRun; 3] = [
+    (&[(0, HANDSHAKE)], &[(0, OPENED_FIRST)], 1, &[]),
+    (&[(1, CONNECT_FIRST)], &[], 2, &[1]),
+    (&[(2, CONNECT_FIRST)], &[(1, SUPERSEDED_FIRST)], 3, &[2]),
+];
+
+// In which shards sessions stand, over and over: in turn, all in the first shard, and some together.
+const TABLES: [&[u8]; 3] = [&[0, 1, 2], &[], &[1, 2, 2]];
+
+// How often a worker that is held looks whether it may go on.
+const LOOKS: u32 = 10_000_000;
+
+// So many of the inputs.
+fn inputs(alloc: Global, count: usize) -> Result<Vec<Input>, Fail> {
+    requests(alloc, INPUTS.get(..count).ok_or("too few inputs")?)
+}
+
+// A request of each of these moments and bodies.
+fn requests(alloc: Global, table: &[(u64, &str)]) -> Result<Vec<Input>, Fail> {
+    let mut inputs = Vec::new(alloc);
+    for (moment, body) in table {
+        inputs.push(request(alloc, *moment, body)?)?;
+    }
+    Ok(inputs)
+}
+
+// The requests of the crowd.
+fn crowd(alloc: Global) -> Result<Vec<Input>, AllocError> {
+    let mut inputs = Vec::new(alloc);
+    for _ in 0..CROWD {
+        inputs.push(request(alloc, 0, HANDSHAKE)?)?;
+    }
+    Ok(inputs)
+}
+
+// A round of so many shards and workers, in which sessions stand by this table.
+fn round(
+    alloc: Global,
+    (shards, workers): (usize, usize),
+    table: &[u8],
+) -> Result<Round<ByTable>, Fail> {
+    let config = Config::new(shards, 30_000, 0, 10_000).ok_or("no configuration")?;
+    round_of(alloc, config, workers, table)
+}
+
+// A round of four shards in which events ride.
+fn riding_round(alloc: Global, workers: usize) -> Result<Round<ByTable>, Fail> {
+    let config = Config::new(4, 30_000, 0, 10_000).ok_or("no configuration")?;
+    let options = Options {
+        ride: true,
+        anonymous: false,
+    };
+    round_of(alloc, config.with(options), workers, &[3, 1, 0, 2])
+}
+
+fn round_of(
+    alloc: Global,
+    config: Config,
+    workers: usize,
+    table: &[u8],
+) -> Result<Round<ByTable>, Fail> {
+    let placing = Arc::new(alloc, ByTable::new(alloc, table)?)?;
+    let workers = WorkerCount::new(workers).ok_or("no such number of workers")?;
+    Ok(Round::new(alloc, config, placing, workers)?)
+}
+
+// Deals with these inputs, as one run.
+fn run<R: Threads + Sync, G: Gate + Sync>(
+    rt: &R,
+    alloc: Global,
+    gate: &G,
+    round: &mut Round<ByTable>,
+    inputs: &[Input],
+    outs: &mut Vec<Out>,
+) -> Result<(), Fail> {
+    if round.intake() > MOST_INPUTS || inputs.len() > MOST_INPUTS {
+        return Err(Fail::from("too many inputs"));
+    }
+    round
+        .run(rt, alloc, gate, inputs, outs)
+        .map_err(|_| "no memory")?;
+    Ok(())
+}
+
+// Opens the sessions of the crowd.
+fn open_crowd<R: Threads + Sync>(
+    rt: &R,
+    alloc: Global,
+    round: &mut Round<ByTable>,
+) -> Result<(), Fail> {
+    let mut outs = Vec::new(alloc);
+    run(rt, alloc, &OpenGate, round, &crowd(alloc)?, &mut outs)
+}
+
+// Behind the crowd, a round of so many shards and workers gives the right outs of the inputs, so many of them in a run.
+fn check_round<R: Abort + Threads + Sync, G: Gate + Sync>(
+    rt: &R,
+    alloc: Global,
+    gate: &G,
+    sizes: (usize, usize),
+    table: &[u8],
+    at_once: usize,
+) -> Result<(), Fail>
+    requires { 1 ≤ at_once }
+{
+    let mut round = round(alloc, sizes, table)?;
+    check_given(rt, alloc, gate, &mut round, at_once)
+}
+
+fn check_given<R: Abort + Threads + Sync, G: Gate + Sync>(
+    rt: &R,
+    alloc: Global,
+    gate: &G,
+    round: &mut Round<ByTable>,
+    at_once: usize,
+) -> Result<(), Fail>
+    requires { 1 ≤ at_once }
+{
+    open_crowd(rt, alloc, round)?;
+    let inputs = inputs(alloc, INPUTS.len())?;
+    let mut outs = Vec::new(alloc);
+    for part in inputs.chunks(at_once) {
+        run(rt, alloc, gate, round, part, &mut outs)?;
+    }
+    check(rt, alloc, &outs, &OUTS)
+}
+
+fn check<R: Abort>(
+    rt: &R,
+    alloc: Global,
+    outs: &[Out],
+    right: &[(usize, &str)],
+) -> Result<(), Fail> {
+    assert_eq!(rt; outs.len(), right.len());
+    for (out, (number, body)) in outs.iter().zip(right) {
+        assert_eq!(rt; out.input, *number);
+        assert_eq!(rt;
+            written(alloc, out)?.as_slice(),
+            body.as_bytes(),
+            "input {number}"
+        );
+    }
+    Ok(())
+}
+
+// The body of an out's response.
+fn written(alloc: Global, out: &Out) -> Result<Vec<u8>, Fail> {
+    match &out.result {
+        Ok(items) => Ok(body_text(alloc, items.as_slice())?),
+        Err(_) => Err(Fail::from("an input was refused")),
+    }
+}
+
+#[test]
+fn one_run_gives_what_several_give(rt: HostRuntime) -> Result<(), Fail> {
+    let alloc = rt.alloc();
+    for table in TABLES {
+        for (workers, at_once) in [(1, 5), (1, 1), (16, 5), (16, 1)] {
+            check_round(&rt, alloc, &OpenGate, (2, workers), table, at_once)?;
+        }
+    }
+    Ok(())
+}
+
+// The same inputs, behind them riders that a team brings up, and a connect, which one worker does.
+fn check_riding<R: Abort + Threads + Sync>(
+    rt: &R,
+    alloc: Global,
+    round: &mut Round<ByTable>,
+    team: u16,
+) -> Result<(), Fail> {
+    open_crowd(rt, alloc, round)?;
+    check_outs(rt, alloc, &OpenGate, round, &INPUTS, &OUTS)?;
+    check_team(rt, alloc, round, team, &RIDING, &RIDDEN)?;
+    check_team(rt, alloc, round, 0b1, &ALONE, &[])
+}
+
+// A team brings the shards up behind these inputs, and gives these outs.
+fn check_team<R: Abort + Threads + Sync>(
+    rt: &R,
+    alloc: Global,
+    round: &mut Round<ByTable>,
+    team: u16,
+    asked: &[(u64, &str)],
+    right: &[(usize, &str)],
+) -> Result<(), Fail> {
+    let meeting = meeting_of(team);
+    check_outs(rt, alloc, &meeting, round, asked, right)?;
+    check_met(rt, &meeting);
+    Ok(())
+}
+
+// One run of these inputs gives these outs.
+fn check_outs<R: Abort + Threads + Sync, G: Gate + Sync>(
+    rt: &R,
+    alloc: Global,
+    gate: &G,
+    round: &mut Round<ByTable>,
+    asked: &[(u64, &str)],
+    right: &[(usize, &str)],
+) -> Result<(), Fail> {
+    let mut outs = Vec::new(alloc);
+    let inputs = requests(alloc, asked)?;
+    run(rt, alloc, gate, round, &inputs, &mut outs)?;
+    check(rt, alloc, &outs, right)
+}
+
+fn check_riding_by<R: Abort + Threads + Sync>(
+    rt: &R,
+    alloc: Global,
+    workers: usize,
+    team: u16,
+) -> Result<(), Fail> {
+    let mut round = riding_round(alloc, workers)?;
+    check_riding(rt, alloc, &mut round, team)
+}
+
+#[test]
+fn events_ride_by_one_worker_and_by_four(rt: HostRuntime) -> Result<(), Fail> {
+    for (workers, team) in [(1, 0b1), (4, 0b1111)] {
+        check_riding_by(&rt, rt.alloc(), workers, team)?;
+    }
+    Ok(())
+}
+
+// So many inputs were taken in, and these are held.
+fn check_held<R: Abort>(
+    rt: &R,
+    alloc: Global,
+    round: &Round<ByTable>,
+    intake: usize,
+    held: &[usize],
+) -> Result<(), Fail> {
+    assert_eq!(rt; round.intake(), intake);
+    assert_eq!(rt; round.held(alloc)?.as_slice(), held, "behind {intake}");
+    Ok(())
+}
+
+// Each of these runs gives what it is to give, and leaves held what it is to leave.
+fn check_holds<R: Abort + Threads + Sync>(
+    rt: &R,
+    alloc: Global,
+    round: &mut Round<ByTable>,
+    runs: &[HoldRun],
+) -> Result<(), Fail> {
+    check_held(rt, alloc, round, 0, &[])?;
+    for (asked, right, intake, held) in runs {
+        check_outs(rt, alloc, &OpenGate, round, *asked, *right)?;
+        check_held(rt, alloc, round, *intake, *held)?;
+    }
+    Ok(())
+}
+
+fn check_holds_by<R: Abort + Threads + Sync>(
+    rt: &R,
+    alloc: Global,
+    workers: usize,
+    runs: &[HoldRun],
+) -> Result<(), Fail> {
+    let mut round = round(alloc, (2, workers), &[0, 1])?;
+    check_holds(rt, alloc, &mut round, runs)
+}
+
+#[test]
+fn a_held_connect_is_told_beside_what_is_given(rt: HostRuntime) -> Result<(), Fail> {
+    for workers in [1, 2] {
+        check_holds_by(&rt, rt.alloc(), workers, &TOGETHER)?;
+        check_holds_by(&rt, rt.alloc(), workers, &APART)?;
+    }
+    Ok(())
+}
+
+// Holds one worker before its work until another has done its own.
+#[derive(Drop)]
+struct Holding {
+    held: usize,
+    is_free: AtomicBool,
+    gave_up: AtomicBool,
+}
+
+fn gate_for(held: usize) -> Holding {
+    Holding {
+        held,
+        is_free: AtomicBool::new(false),
+        gave_up: AtomicBool::new(false),
+    }
+}
+
+impl Gate for Holding {
+    fn before(&self, worker: usize) {
+        if worker != self.held {
+            return;
+        }
+        for _ in 0..LOOKS {
+            if self.is_free.load(Ordering::SeqCst) {
+                return;
+            }
+            hint::spin_loop();
+        }
+        self.gave_up.store(true, Ordering::SeqCst);
+    }
+
+    fn after(&self, worker: usize) {
+        if worker != self.held {
+            self.is_free.store(true, Ordering::SeqCst);
+        }
+    }
+}
+
+// No clause says that a run's workers are threads: where one thread does the work of both, one after another, worker 0
+// gives up here.
+#[test]
+fn workers_run_beside_one_another(rt: HostRuntime) -> Result<(), Fail> {
+    let alloc = rt.alloc();
+    for held in [0, 1] {
+        let gate = gate_for(held);
+        check_round(&rt, alloc, &gate, (2, 2), &[0, 1, 2], 5)?;
+        assert!(rt;
+            gate.is_free.load(Ordering::SeqCst),
+            "worker {held} was alone"
+        );
+        assert!(rt; !gate.gave_up.load(Ordering::SeqCst), "worker {held}");
+    }
+    Ok(())
+}
+
+// Among four shards, deals with the crowd and all inputs but the last one, so that a connect is held, and then goes on with 64.
+fn redistributed<R: Threads + Sync, G: Gate + Sync>(
+    rt: &R,
+    alloc: Global,
+    gate: &G,
+    outs: &mut Vec<Out>,
+) -> Result<Round<ByTable>, Fail> {
+    let placing = Arc::new(alloc, ByTable::new(alloc, &[3, 62, 17, 40, 9])?)?;
+    let round = with_a_held_connect(rt, alloc, gate, outs)?;
+    let shards = ShardCount::new(64).ok_or("no such number of shards")?;
+    match round.reshard(rt, alloc, shards, placing) {
+        Ok(round) => Ok(round),
+        Err(_) => Err(Fail::from("no memory")),
+    }
+}
+
+fn with_a_held_connect<R: Threads + Sync, G: Gate + Sync>(
+    rt: &R,
+    alloc: Global,
+    gate: &G,
+    outs: &mut Vec<Out>,
+) -> Result<Round<ByTable>, Fail> {
+    let mut round = round(alloc, (4, 16), &[0, 1, 2, 3])?;
+    hold(rt, alloc, gate, &mut round, outs)?;
+    Ok(round)
+}
+
+fn hold<R: Threads + Sync, G: Gate + Sync>(
+    rt: &R,
+    alloc: Global,
+    gate: &G,
+    round: &mut Round<ByTable>,
+    outs: &mut Vec<Out>,
+) -> Result<(), Fail> {
+    open_crowd(rt, alloc, round)?;
+    let inputs = inputs(alloc, INPUTS.len())?;
+    let held = inputs.get(..4).ok_or("too few inputs")?;
+    run(rt, alloc, gate, round, held, outs)
+}
+
+// Deals with the last input. Until then the connect is held.
+fn answer_held<R: Abort + Threads + Sync, G: Gate + Sync>(
+    rt: &R,
+    alloc: Global,
+    gate: &G,
+    round: &mut Round<ByTable>,
+    outs: &mut Vec<Out>,
+) -> Result<(), Fail> {
+    let inputs = inputs(alloc, INPUTS.len())?;
+    let event = inputs.get(4..).ok_or("too few inputs")?;
+    check_held(rt, alloc, round, 1_028, &[1_027])?;
+    run(rt, alloc, gate, round, event, outs)?;
+    check_held(rt, alloc, round, 1_029, &[])
+}
+
+// The held connect goes with its session: behind the move the last input gives the right outs.
+fn check_redistributed<R: Abort + Threads + Sync, G: Gate + Sync>(
+    rt: &R,
+    alloc: Global,
+    before: &G,
+    behind: &G,
+) -> Result<(), Fail> {
+    let mut outs = Vec::new(alloc);
+    let mut round = redistributed(rt, alloc, before, &mut outs)?;
+    answer_held(rt, alloc, behind, &mut round, &mut outs)?;
+    check(rt, alloc, &outs, &OUTS)
+}
+
+// At which workers wait until all of a team are there.
+#[derive(Drop)]
+struct Meeting {
+    // A bit for each worker of the team.
+    team: u16,
+    came: AtomicU16,
+    went: AtomicU16,
+    gave_up: AtomicBool,
+}
+
+fn meeting_of(team: u16) -> Meeting {
+    Meeting {
+        team,
+        came: AtomicU16::new(0),
+        went: AtomicU16::new(0),
+        gave_up: AtomicBool::new(false),
+    }
+}
+
+fn bit(worker: usize) -> u16 {
+    if worker < 16 { 1 << worker } else { 0 }
+}
+
+impl Gate for Meeting {
+    fn before(&self, worker: usize) {
+        self.came.fetch_or(bit(worker), Ordering::SeqCst);
+        for _ in 0..LOOKS {
+            let are_there = self.came.load(Ordering::SeqCst) == self.team;
+            if are_there || self.gave_up.load(Ordering::SeqCst) {
+                return;
+            }
+            yield_now();
+        }
+        self.gave_up.store(true, Ordering::SeqCst);
+    }
+
+    fn after(&self, worker: usize) {
+        self.went.fetch_or(bit(worker), Ordering::SeqCst);
+    }
+}
+
+// The team was there, all at once, and each of it was done.
+fn check_met<R: Abort>(rt: &R, meeting: &Meeting) {
+    let (team, went) = (meeting.team, meeting.went.load(Ordering::SeqCst));
+    assert!(rt; !meeting.gave_up.load(Ordering::SeqCst), "team {team:b}");
+    assert_eq!(rt; went, team, "team {team:b}");
+}
+
+// No clause says how many threads there are: where they are fewer than the workers, whoever came gives up here.
+#[test]
+fn as_many_threads_run_as_workers(rt: HostRuntime) -> Result<(), Fail> {
+    let alloc = rt.alloc();
+    let table = [3, 62, 17, 40, 9];
+    for (shards, workers, team) in [(64, 16, 0xffff), (4, 4, 0b1111)] {
+        let meeting = meeting_of(team);
+        check_round(&rt, alloc, &meeting, (shards, workers), &table, 5)?;
+        check_met(&rt, &meeting);
+    }
+    Ok(())
+}
+
+// Of sixteen workers four find a shard; among more shards, into which a held connect goes with its session, all do.
+#[test]
+fn more_shards_have_more_workers(rt: HostRuntime) -> Result<(), Fail> {
+    let alloc = rt.alloc();
+    let (four, all) = (meeting_of(0b1111), meeting_of(0xffff));
+    check_redistributed(&rt, alloc, &four, &all)?;
+    check_met(&rt, &four);
+    check_met(&rt, &all);
+    Ok(())
+}

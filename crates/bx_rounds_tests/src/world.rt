@@ -1,0 +1,372 @@
+//! Schedules of a world, and what each of their steps gives.
+use crate::requests::request;
+use bx_advice::Config;
+use bx_entry::{AllFirst, ByRemainder, ByTable, Input, Placing, Refusal, Slot, Ticket};
+use bx_message::{Answer, event_text, reply_text};
+use bx_world::{AdmissionFault, Applied, Step, StepOut, World};
+use std::alloc::{AllocError, Global};
+use std::process::Abort;
+use std::sync::Arc;
+use std::test::Fail;
+
+// A step.
+#[derive(Clone, Copy, Debug)]
+enum Deed {
+    // A request, with its moment and its body.
+    Post(u64, &'static str),
+    Tick(u64),
+    Apply(usize),
+    // The place and the shard of a ticket.
+    Take(u64, usize),
+}
+
+// A step, and its output in words.
+type Line = (Deed, &'static str);
+
+// Two handshakes, and a subscription of the first of these sessions.
+const OPENING: [Line; 3] = [
+    (
+        Deed::Post(
+            0,
+            r#"[{"channel":"/meta/handshake","version":"1.0","supportedConnectionTypes":["long-polling"]}]"#,
+        ),
+        r#"from 0: {"advice":{"interval":0,"reconnect":"retry","timeout":30000},"channel":"/meta/handshake","clientId":"000000000000000000000000000000000000000000000001","successful":true,"supportedConnectionTypes":["long-polling","callback-polling"],"version":"1.0"}"#,
+    ),
+    (
+        Deed::Post(
+            0,
+            r#"[{"channel":"/meta/handshake","version":"1.0","supportedConnectionTypes":["long-polling"]}]"#,
+        ),
+        r#"from 1: {"advice":{"interval":0,"reconnect":"retry","timeout":30000},"channel":"/meta/handshake","clientId":"000000000000000000000000000000000000000000000002","successful":true,"supportedConnectionTypes":["long-polling","callback-polling"],"version":"1.0"}"#,
+    ),
+    (
+        Deed::Post(
+            0,
+            r#"[{"channel":"/meta/subscribe","clientId":"000000000000000000000000000000000000000000000001","subscription":"/a/*"}]"#,
+        ),
+        r#"from 2: {"channel":"/meta/subscribe","clientId":"000000000000000000000000000000000000000000000001","subscription":"/a/*","successful":true}"#,
+    ),
+];
+
+// Behind these a connect of the first session, which waits in the shard of this index.
+const CONNECT: [Line; 2] = [
+    (
+        Deed::Post(
+            10,
+            r#"[{"channel":"/meta/connect","clientId":"000000000000000000000000000000000000000000000001","connectionType":"long-polling"}]"#,
+        ),
+        "from 3: place 3 of shard 0",
+    ),
+    (
+        Deed::Post(
+            10,
+            r#"[{"channel":"/meta/connect","clientId":"000000000000000000000000000000000000000000000001","connectionType":"long-polling"}]"#,
+        ),
+        "from 3: place 3 of shard 1",
+    ),
+];
+
+// And an event from the second session, which answers the connect.
+const EVENT: Line = (
+    Deed::Post(
+        20,
+        r#"[{"channel":"/a/b","clientId":"000000000000000000000000000000000000000000000002","data":7}]"#,
+    ),
+    r#"from 4: {"channel":"/a/b","successful":true}"#,
+);
+
+// What answers the connect.
+const ANSWER: &str =
+    r#"{"channel":"/a/b","data":7}{"advice":{"interval":0,"reconnect":"retry","timeout":30000},"channel":"/meta/connect","clientId":"000000000000000000000000000000000000000000000001","successful":true}"#;
+
+// Behind these five admissions: the connect's session stands in shard 1, so its answer is filed once that shard has applied all
+// five entries, whatever shard 0 has applied.
+const APPLICATIONS: [Line; 15] = [
+    (Deed::Take(3, 1), "none"),
+    (Deed::Apply(1), "applied"),
+    (Deed::Apply(1), "applied"),
+    (Deed::Apply(1), "applied"),
+    (Deed::Apply(1), "applied"),
+    (Deed::Apply(1), "applied"),
+    (Deed::Take(3, 1), ANSWER),
+    (Deed::Apply(0), "applied"),
+    (Deed::Apply(0), "applied"),
+    (Deed::Apply(0), "applied"),
+    (Deed::Apply(0), "applied"),
+    (Deed::Apply(0), "applied"),
+    (Deed::Apply(1), "level"),
+    (Deed::Apply(9), "level"),
+    (Deed::Take(3, 1), "none"),
+];
+
+// A connect that is held until a tick at its deadline, which no tick before it answers.
+const HELD: [Line; 16] = [
+    (Deed::Apply(1), "level"),
+    (Deed::Tick(4_611_686_018_427_387_905), "refused: BadMoment"),
+    (Deed::Post(0, "["), "refused: Body(NotJson)"),
+    (Deed::Post(0, "[]"), "from 0:"),
+    (Deed::Apply(1), "level"),
+    (
+        Deed::Post(
+            0,
+            r#"[{"channel":"/meta/handshake","version":"1.0","supportedConnectionTypes":["long-polling"]}]"#,
+        ),
+        r#"from 0: {"advice":{"interval":0,"reconnect":"retry","timeout":30000},"channel":"/meta/handshake","clientId":"000000000000000000000000000000000000000000000001","successful":true,"supportedConnectionTypes":["long-polling","callback-polling"],"version":"1.0"}"#,
+    ),
+    (
+        Deed::Post(
+            0,
+            r#"[{"channel":"/meta/connect","clientId":"000000000000000000000000000000000000000000000001","connectionType":"long-polling"}]"#,
+        ),
+        "from 1: place 1 of shard 1",
+    ),
+    (Deed::Tick(29_999), "from 2:"),
+    (Deed::Apply(1), "applied"),
+    (Deed::Apply(1), "applied"),
+    (Deed::Apply(1), "applied"),
+    (Deed::Take(1, 1), "none"),
+    (Deed::Tick(30_000), "from 3:"),
+    (Deed::Apply(1), "applied"),
+    (
+        Deed::Take(1, 1),
+        r#"{"advice":{"interval":0,"reconnect":"retry","timeout":30000},"channel":"/meta/connect","clientId":"000000000000000000000000000000000000000000000001","successful":true}"#,
+    ),
+    (Deed::Apply(1), "level"),
+];
+
+fn step(alloc: Global, deed: Deed) -> Result<Step, AllocError> {
+    Ok(match deed {
+        Deed::Post(moment, body) => Step::Admit(request(alloc, moment, body)?),
+        Deed::Tick(moment) => Step::Admit(Input::Tick(moment)),
+        Deed::Apply(shard) => Step::Apply(shard),
+        Deed::Take(place, shard) => Step::Take(Ticket { place, shard }),
+    })
+}
+
+fn steps(alloc: Global, lines: &[Line]) -> Result<Vec<Step>, AllocError> {
+    let mut steps = Vec::new(alloc);
+    for (deed, _) in lines {
+        steps.push(step(alloc, *deed)?)?;
+    }
+    Ok(steps)
+}
+
+// An output in words.
+fn push_out(alloc: Global, out: &StepOut, text: &mut Vec<u8>) -> Result<(), AllocError> {
+    match out {
+        StepOut::Admitted { first, slots } => push_slots(alloc, *first, slots.as_slice(), text),
+        StepOut::NotAdmitted(refusal) => push_refusal(alloc, *refusal, text),
+        StepOut::Applied => text.extend_from_slice(b"applied"),
+        StepOut::Level => text.extend_from_slice(b"level"),
+        StepOut::Taken(None) => text.extend_from_slice(b"none"),
+        StepOut::Taken(Some(answer)) => push_answer(alloc, answer, text),
+        StepOut::OutOfMemory => text.extend_from_slice(b"out of memory"),
+    }
+}
+
+fn push_slots(
+    alloc: Global,
+    first: u64,
+    slots: &[Slot],
+    text: &mut Vec<u8>,
+) -> Result<(), AllocError> {
+    text.extend_from_slice(format!(in alloc; "from {first}:")?.as_bytes())?;
+    for slot in slots {
+        text.extend_from_slice(b" ")?;
+        match slot {
+            Slot::Ready(reply) => text.extend_from_slice(&reply_text(alloc, reply)?)?,
+            Slot::Waiting(ticket) => push_ticket(alloc, *ticket, text)?,
+        }
+    }
+    Ok(())
+}
+
+fn push_ticket(alloc: Global, ticket: Ticket, text: &mut Vec<u8>) -> Result<(), AllocError> {
+    let Ticket { place, shard } = ticket;
+    text.extend_from_slice(format!(in alloc; "place {place} of shard {shard}")?.as_bytes())
+}
+
+fn push_refusal(alloc: Global, refusal: Refusal, text: &mut Vec<u8>) -> Result<(), AllocError> {
+    text.extend_from_slice(format!(in alloc; "refused: {refusal:?}")?.as_bytes())
+}
+
+fn push_answer(alloc: Global, answer: &Answer, text: &mut Vec<u8>) -> Result<(), AllocError> {
+    for event in answer.events.as_slice() {
+        text.extend_from_slice(&event_text(alloc, event.event())?)?;
+    }
+    text.extend_from_slice(&reply_text(alloc, &answer.reply)?)
+}
+
+fn check_out<R: Abort>(rt: &R, alloc: Global, out: &StepOut, line: &Line) -> Result<(), Fail> {
+    let (deed, expected) = line;
+    let mut text = Vec::new(alloc);
+    push_out(alloc, out, &mut text)?;
+    assert_eq!(rt; text.as_slice(), expected.as_bytes(), "{deed:?}");
+    Ok(())
+}
+
+// A world of two shards.
+fn world<P: Placing + Drop>(alloc: Global, placing: &Arc<P>) -> Result<World<P>, Fail> {
+    let config = Config::new(2, 30_000, 0, 10_000).ok_or("no configuration")?;
+    Ok(World::new(alloc, config, placing.clone()?)?)
+}
+
+// One run of the whole schedule gives these outputs.
+fn check_run<R: Abort, P: Placing>(
+    rt: &R,
+    alloc: Global,
+    world: &mut World<P>,
+    lines: &[Line],
+) -> Result<(), Fail> {
+    let mut outs = Vec::new(alloc);
+    let ended = world.run_schedule(alloc, &steps(alloc, lines)?, &mut outs);
+    assert_eq!(rt; ended, Ok(()));
+    assert_eq!(rt; outs.len(), lines.len());
+    for (out, line) in outs.iter().zip(lines) {
+        check_out(rt, alloc, out, line)?;
+    }
+    Ok(())
+}
+
+// The steps give these outputs one by one.
+fn check_steps<R: Abort, P: Placing>(
+    rt: &R,
+    alloc: Global,
+    world: &mut World<P>,
+    lines: &[Line],
+) -> Result<(), Fail> {
+    for line in lines {
+        let out = world.step(alloc, &step(alloc, line.0)?);
+        check_out(rt, alloc, &out, line)?;
+    }
+    Ok(())
+}
+
+fn check<R: Abort, P: Placing + Drop>(
+    rt: &R,
+    alloc: Global,
+    placing: &Arc<P>,
+    lines: &[Line],
+) -> Result<(), Fail> {
+    for at_once in [true, false] {
+        check_in(rt, alloc, placing, lines, at_once)?;
+    }
+    Ok(())
+}
+
+// The same in a world of its own, by one run of the whole schedule or step by step.
+fn check_in<R: Abort, P: Placing + Drop>(
+    rt: &R,
+    alloc: Global,
+    placing: &Arc<P>,
+    lines: &[Line],
+    at_once: bool,
+) -> Result<(), Fail> {
+    let mut world = world(alloc, placing)?;
+    if at_once {
+        check_run(rt, alloc, &mut world, lines)
+    } else {
+        check_steps(rt, alloc, &mut world, lines)
+    }
+}
+
+// The five admissions, where the connect's session stands in this shard, and other lines behind them.
+fn schedule(alloc: Global, shard: usize, behind: &[Line]) -> Result<Vec<Line>, Fail> {
+    let mut lines = Vec::from_slice(alloc, &OPENING)?;
+    lines.push(*CONNECT.get(shard).ok_or("no shard")?)?;
+    lines.push(EVENT)?;
+    lines.extend_from_slice(behind)?;
+    Ok(lines)
+}
+
+#[test]
+fn each_step_gives_its_output(rt: HostRuntime) -> Result<(), Fail> {
+    let alloc = rt.alloc();
+    let placing = Arc::new(alloc, ByRemainder)?;
+    check(&rt, alloc, &placing, &schedule(alloc, 1, &APPLICATIONS)?)?;
+    check(&rt, alloc, &placing, &HELD)
+}
+
+// Ten applications, five of each shard; bit k of the order says which shard makes application k. Behind each of them
+// somebody asks for the connect's answer, which is given as this shard, the one of its session, has made its fifth.
+fn applications(alloc: Global, order: u32, shard: usize) -> Result<Vec<Line>, AllocError> {
+    let mut lines = Vec::new(alloc);
+    let mut left = 5_u32;
+    for turn in 0..10_u32 {
+        let next = if order >> turn & 1 == 1 { 1 } else { 0 };
+        lines.push((Deed::Apply(next), "applied"))?;
+        if next == shard {
+            left = left.saturating_sub(1);
+        }
+        let is_answered = next == shard && left == 0;
+        let given = if is_answered { ANSWER } else { "none" };
+        lines.push((Deed::Take(3, shard), given))?;
+    }
+    Ok(lines)
+}
+
+// The connect's session stands in this shard.
+fn check_orders<R: Abort, P: Placing + Drop>(
+    rt: &R,
+    alloc: Global,
+    placing: P,
+    shard: usize,
+) -> Result<(), Fail> {
+    let placing = Arc::new(alloc, placing)?;
+    for order in 0..1_024_u32 {
+        if order.count_ones() == 5 {
+            let lines = applications(alloc, order, shard)?;
+            check(rt, alloc, &placing, &schedule(alloc, shard, &lines)?)?;
+        }
+    }
+    Ok(())
+}
+
+#[test]
+fn no_order_of_the_shards_matters(rt: HostRuntime) -> Result<(), Fail> {
+    let alloc = rt.alloc();
+    check_orders(&rt, alloc, ByRemainder, 1)?;
+    check_orders(&rt, alloc, AllFirst, 0)?;
+    for table in [[1, 0, 0], [0, 0, 1]] {
+        check_orders(&rt, alloc, ByTable::new(alloc, &table)?, 0)?;
+    }
+    Ok(())
+}
+
+// Where a tick stands in the list, or why it is refused.
+fn ticked<P: Placing>(
+    alloc: Global,
+    world: &mut World<P>,
+    moment: u64,
+) -> Result<u64, AdmissionFault> {
+    match world.admit_tick(alloc, moment) {
+        Ok(admitted) => Ok(admitted.first),
+        Err(fault) => Err(fault),
+    }
+}
+
+// A tick past the greatest moment is refused and changes nothing; one at that moment is the first entry of the list.
+fn check_calls<R: Abort, P: Placing>(
+    rt: &R,
+    alloc: Global,
+    world: &mut World<P>,
+) -> Result<(), Fail> {
+    let refused = AdmissionFault::Refused(Refusal::BadMoment);
+    assert_eq!(rt;
+        ticked(alloc, world, 4_611_686_018_427_387_905),
+        Err(refused)
+    );
+    assert_eq!(rt; world.apply(alloc, 0), Applied::Level);
+    assert_eq!(rt; ticked(alloc, world, 4_611_686_018_427_387_904), Ok(0));
+    for (shard, applied) in [(0, Applied::Done), (0, Applied::Level), (9, Applied::Level)] {
+        assert_eq!(rt; world.apply(alloc, shard), applied, "shard {shard}");
+    }
+    Ok(())
+}
+
+#[test]
+fn a_tick_is_taken_up_to_the_greatest_moment(rt: HostRuntime) -> Result<(), Fail> {
+    let alloc = rt.alloc();
+    let placing = Arc::new(alloc, ByRemainder)?;
+    check_calls(&rt, alloc, &mut world(alloc, &placing)?)
+}

@@ -1,0 +1,137 @@
+//! A hub with two tasks, of which one or the other waits for a connect.
+use crate::bench::TestHub;
+use crate::texts::{CONNECT, HANDSHAKE, SUBSCRIBE};
+use bx_cut::Bodies;
+use bx_entry::{Arrival, Ticket};
+use bx_held::{HeldFault, PendingAnswer};
+use bx_hub::Pass;
+use bx_message::{Answer, event_text, reply_text};
+use bx_window::Naming;
+use futures::task::Poll;
+use futures::test::MockTask;
+use std::alloc::{AllocError, Global};
+use std::process::Abort;
+use std::sync::{Arc, Wait};
+use std::test::*;
+
+/// Where the answer to the connect of the first session is filed, which the bench opens.
+pub const TICKET: Ticket = Ticket { place: 2, shard: 1 };
+
+/// One of the two tasks.
+#[derive(Clone, Copy, Debug)]
+pub enum Task {
+    First,
+    Second,
+}
+
+/// What a poll must give.
+#[derive(Clone, Copy, Debug)]
+pub enum Want {
+    Pending,
+    /// An answer of these events and this reply, as an array.
+    Answer(&'static str),
+    Fault(HeldFault),
+}
+
+// An answer's events and its reply as an array.
+fn array_of(alloc: Global, answer: &Answer) -> Result<Vec<u8>, AllocError> {
+    let mut text = b"[".to_vec(alloc)?;
+    for event in answer.events.as_slice() {
+        text.extend_from_slice(&event_text(alloc, event.event())?)?;
+        text.push(b',')?;
+    }
+    text.extend_from_slice(&reply_text(alloc, &answer.reply)?)?;
+    text.push(b']')?;
+    Ok(text)
+}
+
+/// A poll gave what it must give.
+pub fn check_poll<A: Abort>(
+    rt: &A,
+    alloc: Global,
+    poll: &Poll<Result<Answer, HeldFault>>,
+    want: Want,
+) -> Result<(), Fail> {
+    match (poll, want) {
+        (Poll::Pending, Want::Pending) => Ok(()),
+        (Poll::Ready(Ok(answer)), Want::Answer(text)) => {
+            assert!(rt;
+                array_of(alloc, answer)?.as_slice() == text.as_bytes(),
+                "another answer than {text}"
+            );
+            Ok(())
+        }
+        (Poll::Ready(Err(fault)), Want::Fault(other)) => {
+            assert_eq!(rt; *fault, other);
+            Ok(())
+        }
+        _ => Err(Fail::from("a poll gave something else")),
+    }
+}
+
+/// A hub, what its caller has seen, and two tasks that were not woken.
+#[derive(Drop)]
+pub struct Bench<J: Naming, H: Wait + Drop, R: Wait + Copy + Drop> {
+    pub rt: R,
+    pub alloc: Global,
+    pub hub: Arc<TestHub<J, H>, Global>,
+    pub pass: Pass<J>,
+    pub first: MockTask,
+    pub second: MockTask,
+}
+
+impl<J: Naming, H: Wait + Drop, R: Wait + Copy + Drop> Bench<J, H, R> {
+    /// One of its tasks.
+    pub fn task(&self, task: Task) -> &MockTask {
+        match task {
+            Task::First => &self.first,
+            Task::Second => &self.second,
+        }
+    }
+
+    /// Posts a body at moment 0.
+    pub fn post(&mut self, body: &str) -> Result<(), Fail> {
+        let arrival = Arrival {
+            moment: 0,
+            nonce: 0,
+            bodies: Bodies::Whole(body.as_bytes().to_vec(self.alloc)?),
+        };
+        self.hub
+            .post(&self.rt, self.alloc, &mut self.pass, arrival)
+            .map_err(|_| "refused")?;
+        Ok(())
+    }
+
+    /// Opens the first session, subscribes it, and posts its connect, which is held.
+    pub fn hold(&mut self) -> Result<(), Fail> {
+        for body in [HANDSHAKE, SUBSCRIBE, CONNECT] {
+            self.post(body)?;
+        }
+        Ok(())
+    }
+
+    /// Lets the clock tick.
+    pub fn tick(&mut self, moment: u64) -> Result<(), Fail> {
+        self.hub
+            .tick(&self.rt, self.alloc, &mut self.pass, moment)
+            .map_err(|_| "refused")?;
+        Ok(())
+    }
+
+    /// Who waits under a ticket, and has seen what the caller has.
+    pub fn wait(&self, ticket: Ticket) -> Result<PendingAnswer<J>, Fail> {
+        let pass = Pass::of(self.pass.note());
+        if ticket.place >= pass.seen() {
+            return Err(Fail::from("the ticket is beyond the list"));
+        }
+        Ok(PendingAnswer::new(pass, ticket))
+    }
+
+    /// What a poll by one of the tasks gives.
+    pub fn poll(&self, task: Task, held: &mut PendingAnswer<J>) -> Poll<Result<Answer, HeldFault>> {
+        let (polled, _left) = self
+            .task(task)
+            .enter(|cx| held.poll(&self.rt, self.alloc, &*self.hub, cx));
+        polled
+    }
+}

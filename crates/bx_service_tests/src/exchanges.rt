@@ -1,0 +1,260 @@
+//! Requests whose bodies and responses one thread polls, each run by a table of steps over a hub of its own.
+ghost use Rattle.std.specs.Prelude.{◌≡◌};
+ghost use Rattle.bx_entry.specs.Placings.{by_remainder};
+
+use crate::bench::{Bench, Still, Zeros};
+use crate::requests::{Ask, Content, Given, POST, Want, check_given, check_pending};
+use crate::runs::{Held, RUNS, Step};
+use bx_advice::{Config, Options};
+use bx_entry::ByRemainder;
+use bx_hub::{Hub, OpenGate};
+use bx_message::Item;
+use bx_service::{Backend, BayeuxService, HubBackend, Unanswered};
+use bx_window::{Naming, Opened};
+use futures::Future;
+use futures::test::MockTask;
+use hyper::service::Service;
+use std::alloc::Global;
+use std::marker::Brand;
+use std::process::Abort;
+use std::sync::{Arc, Wait};
+use std::test::*;
+
+// A request is given this at its first poll.
+fn asks<S, I, R>(
+    rt: &R,
+    alloc: Global,
+    service: &BayeuxService<S>,
+    task: &MockTask,
+    ask: &Ask,
+    want: Want,
+) -> Result<(), Fail>
+where
+    S: Backend<Items = I> + Drop,
+    I: Future<Output = Result<Vec<Item>, Unanswered>> + Drop,
+    R: Abort,
+{
+    let mut exchange = service.call(ask.request(alloc)?);
+    check_given(rt, alloc, &mut exchange, task, want)
+}
+
+// A request waits at its first poll, and is given up.
+fn waits<S, I, R>(
+    rt: &R,
+    alloc: Global,
+    service: &BayeuxService<S>,
+    task: &MockTask,
+    text: &'static str,
+) -> Result<(), Fail>
+where
+    S: Backend<Items = I> + Drop,
+    I: Future<Output = Result<Vec<Item>, Unanswered>> + Drop,
+    R: Abort,
+{
+    let mut exchange = service.call(Ask::post(Content::Whole(text)).request(alloc)?);
+    check_pending(rt, &mut exchange, task, false);
+    Ok(())
+}
+
+// Bodies of which more and more is there, each broken off, are refused.
+fn breaks<S, I, R>(
+    rt: &R,
+    alloc: Global,
+    service: &BayeuxService<S>,
+    task: &MockTask,
+    text: &'static str,
+) -> Result<(), Fail>
+where
+    S: Backend<Items = I> + Drop,
+    I: Future<Output = Result<Vec<Item>, Unanswered>> + Drop,
+    R: Abort,
+{
+    for len in 0..=text.len() {
+        let ask = Ask::post(Content::Broken(text, len));
+        asks(rt, alloc, service, task, &ask, Want::Status(400))?;
+    }
+    Ok(())
+}
+
+// The request of a step, and what it must be given.
+fn asked(step: &Step) -> Option<(Ask, Want)> {
+    match step {
+        Step::Post(text, want) => Some((Ask::post(Content::Whole(*text)), Want::Json(*want))),
+        Step::Body(kind, text, want) => Some((
+            Ask {
+                kind: *kind,
+                ..Ask::post(Content::Whole(*text))
+            },
+            *want,
+        )),
+        Step::Target(method, target, want) => Some((
+            Ask {
+                method: *method,
+                target: *target,
+                ..POST
+            },
+            *want,
+        )),
+        Step::Ask(ask, want) => Some((*ask, *want)),
+        _ => None,
+    }
+}
+
+fn take<J, S, I, H, R>(rt: &R, bench: &mut Bench<J, S, H>, step: &Step) -> Result<(), Fail>
+where
+    J: Naming,
+    S: Backend<Items = I> + Drop,
+    I: Future<Output = Result<Vec<Item>, Unanswered>> + Drop,
+    H: Wait + Drop,
+    R: Abort + Wait,
+{
+    let (alloc, service, task) = (bench.alloc, &bench.service, &bench.second);
+    if let Some((ask, want)) = asked(step) {
+        return asks(rt, alloc, service, task, &ask, want);
+    }
+    match step {
+        Step::TooLate(text, want) => {
+            let ask = Ask::post(Content::Whole(*text));
+            asks(rt, alloc, &bench.too_late, task, &ask, *want)?;
+        }
+        Step::Wait(text) => waits(rt, alloc, service, task, *text)?,
+        Step::Break(text) => breaks(rt, alloc, service, task, *text)?,
+        Step::Tick(moment) => bench.tick(rt, *moment)?,
+        Step::Close => bench.hub.close(rt),
+        Step::Pause => assert!(rt; bench.hub.pause(rt, 1)),
+        Step::Sweep(count) => assert_eq!(rt; bench.hub.sweep(rt, 5), *count),
+        _ => (),
+    }
+    Ok(())
+}
+
+fn take_all<J, S, I, H, R>(rt: &R, bench: &mut Bench<J, S, H>, steps: &[Step]) -> Result<(), Fail>
+where
+    J: Naming,
+    S: Backend<Items = I> + Drop,
+    I: Future<Output = Result<Vec<Item>, Unanswered>> + Drop,
+    H: Wait + Drop,
+    R: Abort + Wait,
+{
+    for step in steps {
+        take(rt, bench, step)?;
+    }
+    Ok(())
+}
+
+// An exchange waits while these steps are taken, wakes its task or not, and then gives what it must.
+fn watch<F, J, S, I, H, R>(
+    rt: &R,
+    bench: &mut Bench<J, S, H>,
+    exchange: &mut F,
+    held: &Held,
+) -> Result<(), Fail>
+where
+    F: Future<Output = Given>,
+    J: Naming,
+    S: Backend<Items = I> + Drop,
+    I: Future<Output = Result<Vec<Item>, Unanswered>> + Drop,
+    H: Wait + Drop,
+    R: Abort + Wait,
+    requires { F.can_poll exchange.old }
+{
+    check_pending(rt, exchange, &bench.first, held.is_late);
+    take_all(rt, bench, held.before)?;
+    if !held.before.is_empty() {
+        check_pending(rt, exchange, &bench.first, false);
+    }
+    take_all(rt, bench, held.then)?;
+    if let Some((is_woken, want)) = held.gives {
+        assert_eq!(rt; bench.first.is_woken(), is_woken);
+        check_given(rt, bench.alloc, exchange, &bench.first, want)?;
+    }
+    Ok(())
+}
+
+fn hold<J, S, I, H, R>(rt: &R, bench: &mut Bench<J, S, H>, held: &Held) -> Result<(), Fail>
+where
+    J: Naming,
+    S: Backend<Items = I> + Drop,
+    I: Future<Output = Result<Vec<Item>, Unanswered>> + Drop,
+    H: Wait + Drop,
+    R: Abort + Wait,
+{
+    let request = Ask::post(held.content).request(bench.alloc)?;
+    let mut exchange = bench.service.call(request);
+    watch(rt, bench, &mut exchange, held)
+}
+
+// The run of this number.
+fn run<J, S, I, H, R>(rt: &R, bench: &mut Bench<J, S, H>, number: usize) -> Result<(), Fail>
+where
+    J: Naming,
+    S: Backend<Items = I> + Drop,
+    I: Future<Output = Result<Vec<Item>, Unanswered>> + Drop,
+    H: Wait + Drop,
+    R: Abort + Wait,
+{
+    let run = RUNS.get(number).ok_or("no such run")?;
+    take_all(rt, bench, run.first)?;
+    if let Some(held) = &run.held {
+        hold(rt, bench, held)?;
+    }
+    take_all(rt, bench, run.last)
+}
+
+fn run_in_hub<J: Naming, R: Wait + Abort>(
+    rt: &R,
+    alloc: Global,
+    opened: Opened,
+    config: Config,
+    placing: Arc<ByRemainder, Global>,
+    tasks: (MockTask, MockTask),
+    number: usize,
+) -> Result<(), Fail>
+    requires book { opened.seen.book ≡ J.book }
+    requires config { config ≡ J.config }
+    requires placing { by_remainder ≡ J.placing }
+{
+    let hub = Hub::<J, ByRemainder, OpenGate, &R>::new(
+        alloc, rt, opened, config, placing, OpenGate,
+    )?;
+    let pass = hub.pass();
+    let hub = Arc::new(alloc, hub)?;
+    let backend = HubBackend::new(rt, alloc, Arc::try_clone(&hub)?, Still(0), Zeros);
+    let too_late = HubBackend::new(
+        rt,
+        alloc,
+        Arc::try_clone(&hub)?,
+        Still((1 << 62) + 1),
+        Zeros,
+    );
+    let (first, second) = tasks;
+    let mut bench = Bench {
+        alloc,
+        hub,
+        pass,
+        service: BayeuxService::new(alloc, backend)?,
+        too_late: BayeuxService::new(alloc, too_late)?,
+        first,
+        second,
+    };
+    run(rt, &mut bench, number)
+}
+
+#[test]
+fn exchanges(rt: HostRuntime) -> Result<(), Fail> {
+    let alloc = rt.alloc();
+    let config = Config::new(2, 30_000, 0, 10_000).ok_or("no configuration")?;
+    for number in 0..RUNS.len() {
+        let config = config.with(Options {
+            ride: RUNS[number].ride,
+            anonymous: false,
+        });
+        let placing = Arc::new(alloc, ByRemainder)?;
+        let tasks = (MockTask::new(&rt)?, MockTask::new(&rt)?);
+        // A task is woken from the first on, until it is polled.
+        tasks.0.enter(|_cx| ());
+        tasks.1.enter(|_cx| ());
+        run_in_hub::<Brand, _>(&rt, alloc, Opened::new(), config, placing, tasks, number)?;
+    }
+    Ok(())
+}

@@ -1,0 +1,185 @@
+//! Requests as tables have them, and what each must be given.
+use crate::pieces::Pieces;
+use bx_service::{Collect, ServiceFault};
+use bytes::Bytes;
+use futures::Future;
+use futures::task::Poll;
+use futures::test::MockTask;
+use http::header::{ALLOW, CONTENT_LENGTH, CONTENT_TYPE};
+use http::{Request, Response};
+use http_body_util::Full;
+use std::alloc::Global;
+use std::process::Abort;
+use std::test::*;
+
+pub const JSON: &str = "application/json;charset=UTF-8";
+
+pub const SCRIPT: &str = "application/javascript;charset=UTF-8";
+
+pub const FORM: &str = "application/x-www-form-urlencoded";
+
+/// What an exchange gives.
+pub type Given = Result<Response<Full<Bytes>>, ServiceFault>;
+
+/// What a request has behind its fields.
+#[derive(Clone, Copy, Debug)]
+pub enum Content {
+    /// This text.
+    Whole(&'static str),
+    /// This text, of which nothing is there at the first poll.
+    Late(&'static str),
+    /// So many bytes of this text, behind which the body is broken off.
+    Broken(&'static str, usize),
+    /// This text and spaces behind it, so many bytes in all.
+    Padded(&'static str, usize),
+}
+
+/// A request.
+#[derive(Clone, Copy, Debug)]
+pub struct Ask {
+    pub method: &'static str,
+    pub target: &'static str,
+    pub kind: &'static str,
+    /// How many bytes its fields say that the body has.
+    pub said: Option<u64>,
+    pub content: Content,
+}
+
+/// A POST to `/cometd` of JSON, to be filled.
+pub const POST: Ask = Ask {
+    method: "POST",
+    target: "/cometd",
+    kind: JSON,
+    said: None,
+    content: Content::Whole(""),
+};
+
+impl Ask {
+    /// A POST to `/cometd` of this JSON.
+    pub fn post(content: Content) -> Ask {
+        Ask { content, ..POST }
+    }
+
+    fn body(&self, alloc: Global) -> Result<Pieces, Fail> {
+        match self.content {
+            Content::Whole(text) => Ok(Pieces::whole(alloc, text.as_bytes())?),
+            Content::Late(text) => Ok(Pieces::late(alloc, text.as_bytes())?),
+            Content::Broken(text, len) => {
+                let front = text.as_bytes().get(..len).ok_or("no such front")?;
+                Ok(Pieces::broken(alloc, front)?)
+            }
+            Content::Padded(text, len) => {
+                let mut bytes = text.as_bytes().to_vec(alloc)?;
+                bytes.resize(len, b' ')?;
+                Ok(Pieces::whole(alloc, bytes.as_slice())?)
+            }
+        }
+    }
+
+    /// The request.
+    pub fn request(&self, alloc: Global) -> Result<Request<Pieces>, Fail> {
+        let body = self.body(alloc)?;
+        let mut builder = Request::builder(alloc)
+            .method(self.method)
+            .uri(self.target)
+            .header(CONTENT_TYPE, self.kind);
+        if let Some(said) = self.said {
+            builder = builder.header(CONTENT_LENGTH, said);
+        }
+        Ok(builder.body(body).map_err(|_| "no request")?)
+    }
+}
+
+/// What a request must be given.
+#[derive(Clone, Copy, Debug)]
+pub enum Want {
+    /// 200 and this JSON.
+    Json(&'static str),
+    /// 200 and this script.
+    Script(&'static str),
+    /// This other status, and nothing.
+    Status(u16),
+}
+
+impl Want {
+    fn status(self) -> u16 {
+        match self {
+            Want::Json(_) | Want::Script(_) => 200,
+            Want::Status(status) => status,
+        }
+    }
+
+    fn text(self) -> &'static str {
+        match self {
+            Want::Json(text) | Want::Script(text) => text,
+            Want::Status(_) => "",
+        }
+    }
+
+    fn kind(self) -> Option<&'static str> {
+        match self {
+            Want::Json(_) => Some(JSON),
+            Want::Script(_) => Some(SCRIPT),
+            Want::Status(_) => None,
+        }
+    }
+
+    fn allow(self) -> Option<&'static str> {
+        match self {
+            Want::Status(405) => Some("GET, POST"),
+            _ => None,
+        }
+    }
+}
+
+/// It waits, and a poll wakes the task that polls only where more of its request's body may be there.
+pub fn check_pending<F: Future<Output = Given>, R: Abort>(
+    rt: &R,
+    exchange: &mut F,
+    task: &MockTask,
+    is_woken: bool,
+)
+    requires { F.can_poll exchange.old }
+    ensures { F.can_poll exchange.new }
+{
+    match task.poll(exchange) {
+        Poll::Pending => assert_eq!(rt; task.is_woken(), is_woken),
+        Poll::Ready(_) => panic!(rt; "it does not wait"),
+    }
+}
+
+/// It gives this at the next poll.
+pub fn check_given<F: Future<Output = Given>, R: Abort>(
+    rt: &R,
+    alloc: Global,
+    exchange: &mut F,
+    task: &MockTask,
+    want: Want,
+) -> Result<(), Fail>
+    requires { F.can_poll exchange.old }
+{
+    let Poll::Ready(given) = task.poll(exchange) else {
+        return Err(Fail::from("it waits"));
+    };
+    let response = given.map_err(|_| "no memory")?;
+    assert_eq!(rt; response.status().as_u16(), want.status());
+    check_fields(rt, &response, want);
+    let mut body = Collect::new(alloc, response.into_body(), usize::MAX);
+    let Poll::Ready(Ok(text)) = task.poll(&mut body) else {
+        return Err(Fail::from("no body"));
+    };
+    assert_eq!(rt;
+        String::from_utf8_lossy(alloc, text.as_slice())?.as_str(),
+        want.text()
+    );
+    Ok(())
+}
+
+// It says what its body is, and which methods are allowed, exactly where that is asked.
+fn check_fields<R: Abort>(rt: &R, response: &Response<Full<Bytes>>, want: Want) {
+    for (name, value) in [(CONTENT_TYPE, want.kind()), (ALLOW, want.allow())] {
+        let field = response.headers().get(name);
+        let found = field.map(|field| field.as_bytes());
+        assert_eq!(rt; found, value.map(|text| text.as_bytes()));
+    }
+}

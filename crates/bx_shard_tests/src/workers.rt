@@ -1,0 +1,271 @@
+//! Shards that workers bring up to the end of four entries.
+ghost use Rattle.std.specs.Prelude.{◌≡◌, length, IfOk};
+ghost use Rattle.bx_entry.specs.Placings.{all_first};
+ghost use Rattle.bx_shard_tests.specs.Numbered.{AreFresh, AreNumbered};
+
+use crate::tests::{Deed, kind};
+use bx_advice::Config;
+use bx_entry::{ByRemainder, Entry, EntryKind, Placing, Ticket};
+use bx_shard::Shard;
+use bx_workers::{Gate, OpenGate, WorkerCount, bring_up};
+use std::alloc::{AllocError, Global};
+use std::hint;
+use std::sync::Arc;
+use std::sync::atomic::{AtomicBool, AtomicU64, Ordering};
+use std::test::Fail;
+use std::thread::Threads;
+
+// The place of the connect in the list.
+const CONNECT: u64 = 2;
+
+// How often a worker that is held looks whether it may go on.
+const LOOKS: u32 = 10_000_000;
+
+// Adds an entry of this kind as the next.
+fn add(entries: &mut Vec<Entry>, kind: EntryKind) -> Result<(), AllocError>
+    requires { AreNumbered entries.old.items }
+    ensures { AreNumbered entries.new.items }
+{
+    let entry = Entry {
+        place: entries.len() as u64,
+        moment: 0,
+        kind,
+        rides: None,
+    };
+    entries.push(entry)?;
+    Ok(())
+}
+
+// A handshake of session 1, its subscription and connect, and a publish that answers the connect.
+fn entries(alloc: Global) -> Result<Vec<Entry>, Fail>
+    ensures { IfOk result (λ es. AreNumbered es.items) }
+{
+    let mut entries = Vec::new(alloc);
+    add(&mut entries, kind(alloc, Deed::Open(1))?)?;
+    add(&mut entries, kind(alloc, Deed::Subscribe(1, "/a/*"))?)?;
+    add(&mut entries, kind(alloc, Deed::Connect(1))?)?;
+    add(&mut entries, kind(alloc, Deed::Publish("/a/b"))?)?;
+    Ok(entries)
+}
+
+// So many shards that have applied nothing.
+fn shards<P: Placing + Drop>(
+    alloc: Global,
+    placing: &Arc<P>,
+    count: usize,
+) -> Result<Vec<Shard<P>>, Fail>
+    ensures { IfOk result (λ shards. AreFresh shards.items) }
+{
+    let config = Config::new(count, 30_000, 0, 10_000).ok_or("no configuration")?;
+    let mut shards = Vec::new(alloc);
+    for index in 0..count {
+        shards.push(Shard::new(alloc, index, config, placing.clone()?))?;
+    }
+    Ok(shards)
+}
+
+// So many shards with this placing that had applied nothing, as these workers left them, and how many stayed behind.
+fn brought_up_by<R: Threads + Sync, G: Gate + Sync, P: Placing + Drop + Send + Sync>(
+    rt: &R,
+    alloc: Global,
+    placing: &Arc<P>,
+    gate: &G,
+    workers: usize,
+    count: usize,
+) -> Result<(Vec<Shard<P>>, usize), Fail> {
+    let workers = WorkerCount::new(workers).ok_or("no such number of workers")?;
+    let entries = entries(alloc)?;
+    let mut shards = shards(alloc, placing, count)?;
+    let behind = bring_up(rt, alloc, gate, workers, &mut shards, &entries);
+    Ok((shards, behind))
+}
+
+// The same with sessions in turn.
+fn brought_up<R: Threads + Sync, G: Gate + Sync>(
+    rt: &R,
+    alloc: Global,
+    gate: &G,
+    workers: usize,
+    count: usize,
+) -> Result<(Vec<Shard<ByRemainder>>, usize), Fail> {
+    let placing = Arc::new(alloc, ByRemainder)?;
+    brought_up_by(rt, alloc, &placing, gate, workers, count)
+}
+
+#[test]
+fn all_are_brought_up(rt: HostRuntime) -> Result<(), Fail> {
+    let alloc = rt.alloc();
+    for (workers, count) in [(1, 1), (2, 2), (3, 5), (16, 64)] {
+        let (mut shards, behind) = brought_up(&rt, alloc, &OpenGate, workers, count)?;
+        assert_eq!(rt; behind, 0, "{workers} workers, {count} shards");
+        for shard in &shards {
+            assert_eq!(rt; shard.place(), 4, "{workers} workers, {count} shards");
+        }
+        let shard = 1 % count;
+        let own = shards.get_mut(shard).ok_or("no shard")?;
+        let place = CONNECT;
+        assert!(rt;
+            own.take(Ticket { place, shard }).is_some(),
+            "{workers} workers, {count} shards"
+        );
+    }
+    Ok(())
+}
+
+// Holds one worker before its work until another has done its own.
+#[derive(Drop)]
+struct Holding {
+    held: usize,
+    is_free: AtomicBool,
+    gave_up: AtomicBool,
+}
+
+impl Gate for Holding {
+    fn before(&self, worker: usize) {
+        if worker != self.held {
+            return;
+        }
+        for _ in 0..LOOKS {
+            if self.is_free.load(Ordering::SeqCst) {
+                return;
+            }
+            hint::spin_loop();
+        }
+        self.gave_up.store(true, Ordering::SeqCst);
+    }
+
+    fn after(&self, worker: usize) {
+        if worker != self.held {
+            self.is_free.store(true, Ordering::SeqCst);
+        }
+    }
+}
+
+// No clause says that workers are threads: where all the work is done by the thread that calls `bring_up`, one after
+// another, worker 0 gives up here or worker 1 does.
+#[test]
+fn workers_run_beside_one_another(rt: HostRuntime) -> Result<(), Fail> {
+    let alloc = rt.alloc();
+    for held in [0, 1] {
+        let gate = Holding {
+            held,
+            is_free: AtomicBool::new(false),
+            gave_up: AtomicBool::new(false),
+        };
+        let (_shards, behind) = brought_up(&rt, alloc, &gate, 2, 2)?;
+        assert_eq!(rt; behind, 0);
+        assert!(rt; !gate.gave_up.load(Ordering::SeqCst), "worker {held}");
+    }
+    Ok(())
+}
+
+// Counts the calls of a gate, and adds up 10 to the power of each worker, so that each worker has a digit.
+#[derive(Drop)]
+struct Counting {
+    before: AtomicU64,
+    after: AtomicU64,
+}
+
+fn digit(worker: usize) -> u64 {
+    match worker {
+        0 => 1,
+        1 => 10,
+        2 => 100,
+        _ => 1_000,
+    }
+}
+
+impl Gate for Counting {
+    fn before(&self, worker: usize) {
+        self.before.fetch_add(digit(worker), Ordering::SeqCst);
+    }
+
+    fn after(&self, worker: usize) {
+        self.after.fetch_add(digit(worker), Ordering::SeqCst);
+    }
+}
+
+// No clause says which workers there are: those that have a part of the shards, which are as many in each part but the
+// last. Each passes the gate once.
+#[test]
+fn each_worker_passes_the_gate_once(rt: HostRuntime) -> Result<(), Fail> {
+    let alloc = rt.alloc();
+    for (workers, count, passed) in [(1, 5, 1), (2, 5, 11), (3, 5, 111), (2, 1, 1), (4, 6, 111)] {
+        let gate = Counting {
+            before: AtomicU64::new(0),
+            after: AtomicU64::new(0),
+        };
+        let (_shards, behind) = brought_up(&rt, alloc, &gate, workers, count)?;
+        assert_eq!(rt; behind, 0);
+        assert_eq!(rt;
+            gate.before.load(Ordering::SeqCst),
+            passed,
+            "{workers} workers"
+        );
+        assert_eq!(rt;
+            gate.after.load(Ordering::SeqCst),
+            passed,
+            "{workers} workers"
+        );
+    }
+    Ok(())
+}
+
+// Places each session in the first shard, and counts how often it is asked: once for each handshake that a shard applies.
+#[derive(Drop)]
+struct Asked {
+    times: AtomicU64,
+}
+
+impl Placing for Asked {
+    ghost place_of = { λ _ number shards. all_first number shards };
+
+    ghost is_below = { λ _ _ _ some _. some };
+
+    fn place(&self, _number: u64, _shards: usize) -> usize {
+        self.times.fetch_add(1, Ordering::SeqCst);
+        0
+    }
+}
+
+// Notes how often the placing was asked before the work, and behind it.
+#[derive(Drop)]
+struct Looking {
+    placing: Arc<Asked>,
+    before: AtomicU64,
+    after: AtomicU64,
+}
+
+impl Gate for Looking {
+    fn before(&self, _worker: usize) {
+        let times = self.placing.times.load(Ordering::SeqCst);
+        self.before.store(times, Ordering::SeqCst);
+    }
+
+    fn after(&self, _worker: usize) {
+        let times = self.placing.times.load(Ordering::SeqCst);
+        self.after.store(times, Ordering::SeqCst);
+    }
+}
+
+// How often the placing was asked when a worker passed the gate before its work, and behind it.
+fn asked_at_the_gate<R: Threads + Sync>(rt: &R, alloc: Global) -> Result<(u64, u64), Fail> {
+    let times = AtomicU64::new(0);
+    let placing = Arc::new(alloc, Asked { times })?;
+    let gate = Looking {
+        placing: placing.clone()?,
+        before: AtomicU64::new(0),
+        after: AtomicU64::new(0),
+    };
+    brought_up_by(rt, alloc, &placing, &gate, 1, 1)?;
+    Ok((
+        gate.before.load(Ordering::SeqCst),
+        gate.after.load(Ordering::SeqCst),
+    ))
+}
+
+#[test]
+fn the_gate_is_passed_before_the_work_and_behind_it(rt: HostRuntime) -> Result<(), Fail> {
+    assert_eq!(rt; asked_at_the_gate(&rt, rt.alloc())?, (0, 1));
+    Ok(())
+}

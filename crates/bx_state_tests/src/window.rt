@@ -1,0 +1,197 @@
+//! A window by what a connect sees of it.
+ghost use Rattle.std.specs.Prelude.{◌≡◌};
+
+use crate::same::same;
+use crate::session::{event, push_numbers};
+use bx_advice::MAX_EVENTS;
+use bx_batches::Window;
+use std::alloc::Global;
+use std::process::Abort;
+use std::test::Fail;
+
+// How many events there may be.
+const LIMIT: usize = 1_024;
+
+// No test forms more batches.
+const MANY: u64 = 1_000_000;
+
+#[derive(Clone, Copy, Debug)]
+enum Move {
+    // Events with consecutive numbers as their data: the first number, and how many.
+    Push(u64, u64),
+    // No further one is taken.
+    Full,
+    // So many at the most are the next batch, where none is outstanding.
+    Give(usize),
+    Acknowledge(u64),
+    Clear,
+}
+
+// How many events there are, the number of the last batch, how many are outstanding, and the first and the last of them.
+fn text_of(alloc: Global, window: &Window) -> Result<String, Fail> {
+    let given = window.given();
+    let mut numbers = Vec::new(alloc);
+    for event in given.events {
+        let number = event.event().payload.as_str().parse().ok();
+        numbers.push(number.ok_or("no number")?)?;
+    }
+    let count = window.len();
+    let mut text = format!(in alloc; "{count}, batch {} of ", given.number)?;
+    push_numbers(alloc, &numbers, &mut text)?;
+    Ok(text)
+}
+
+fn push(alloc: Global, window: &mut Window, place: u64, number: u64) -> Result<(), Fail> {
+    let event = event(alloc, number)?;
+    window.reserve(1)?;
+    window.push_reserved(place, event);
+    Ok(())
+}
+
+fn push_all(alloc: Global, window: &mut Window, first: u64, count: u64) -> Result<(), Fail> {
+    for i in 0..count {
+        push(alloc, window, i, first.saturating_add(i))?;
+    }
+    Ok(())
+}
+
+fn apply(rt: &impl Abort, alloc: Global, window: &mut Window, step: Move) -> Result<(), Fail> {
+    match step {
+        Move::Push(first, count) => push_all(alloc, window, first, count)?,
+        Move::Full => same(rt, window.is_full(LIMIT), true, step),
+        Move::Give(most) => {
+            if window.given().number < MANY {
+                window.give(most);
+            }
+        }
+        Move::Acknowledge(number) => window.acknowledge(number),
+        Move::Clear => window.clear(),
+    }
+    Ok(())
+}
+
+// Makes these moves, and compares the window behind each.
+fn run(
+    rt: &impl Abort,
+    alloc: Global,
+    window: &mut Window,
+    moves: &[(Move, &str)],
+) -> Result<(), Fail> {
+    for (step, wanted) in moves {
+        apply(rt, alloc, window, *step)?;
+        same(rt, text_of(alloc, window)?.as_str(), *wanted, *step);
+    }
+    Ok(())
+}
+
+const BATCHES: [(Move, &str); 10] = [
+    (Move::Give(256), "0, batch 0 of 0: none;"),
+    (Move::Push(7, 1), "1, batch 0 of 0: none;"),
+    (Move::Give(256), "1, batch 1 of 1: 7;"),
+    (Move::Push(8, 1), "2, batch 1 of 1: 7;"),
+    (Move::Give(256), "2, batch 1 of 1: 7;"),
+    (Move::Acknowledge(0), "2, batch 1 of 1: 7;"),
+    (Move::Acknowledge(1), "1, batch 1 of 0: none;"),
+    (Move::Give(256), "1, batch 2 of 1: 8;"),
+    (Move::Acknowledge(7), "0, batch 2 of 0: none;"),
+    (Move::Give(256), "0, batch 2 of 0: none;"),
+];
+
+#[test]
+fn a_batch_is_given_until_it_is_acknowledged(rt: HostRuntime) -> Result<(), Fail> {
+    let alloc = rt.alloc();
+    run(&rt, alloc, &mut Window::new(alloc), &BATCHES)
+}
+
+const FULL: [(Move, &str); 4] = [
+    (Move::Push(0, 1_024), "1024, batch 0 of 0: none;"),
+    (Move::Full, "1024, batch 0 of 0: none;"),
+    (Move::Give(256), "1024, batch 1 of 256: 0..255;"),
+    (Move::Acknowledge(1), "768, batch 1 of 0: none;"),
+];
+
+#[test]
+fn a_full_window_takes_no_more(rt: HostRuntime) -> Result<(), Fail> {
+    let alloc = rt.alloc();
+    run(&rt, alloc, &mut Window::new(alloc), &FULL)
+}
+
+// As many events as a configuration may allow, and one more.
+fn check_most(rt: &impl Abort, alloc: Global, window: &mut Window) -> Result<(), Fail> {
+    let most = MAX_EVENTS as usize;
+    for place in 0..u64::from(MAX_EVENTS) {
+        same(rt, window.is_full(most), false, "room");
+        push(alloc, window, place, place)?;
+    }
+    same(rt, window.is_full(most), true, "full");
+    same(rt, window.len(), most, "length");
+    Ok(())
+}
+
+#[test]
+fn a_window_takes_as_many_events_as_its_limit(rt: HostRuntime) -> Result<(), Fail> {
+    let alloc = rt.alloc();
+    check_most(&rt, alloc, &mut Window::new(alloc))
+}
+
+const CLEARED: [(Move, &str); 6] = [
+    (Move::Push(1, 3), "3, batch 0 of 0: none;"),
+    (Move::Give(256), "3, batch 1 of 3: 1..3;"),
+    (Move::Clear, "0, batch 1 of 0: none;"),
+    (Move::Give(256), "0, batch 1 of 0: none;"),
+    (Move::Push(4, 1), "1, batch 1 of 0: none;"),
+    (Move::Give(256), "1, batch 2 of 1: 4;"),
+];
+
+#[test]
+fn a_cleared_window_keeps_its_number(rt: HostRuntime) -> Result<(), Fail> {
+    let alloc = rt.alloc();
+    run(&rt, alloc, &mut Window::new(alloc), &CLEARED)
+}
+
+fn check_forget(rt: &impl Abort, alloc: Global, window: &mut Window) -> Result<(), Fail>
+    requires { window.old.contents.out ≡ 0 }
+{
+    window.reserve(2)?;
+    window.push_reserved(0, event(alloc, 1)?);
+    window.push_reserved(1, event(alloc, 2)?);
+    same(rt, window.events().count(), 2, "events");
+    window.forget(1);
+    same(rt, window.len(), 1, "length");
+    Ok(())
+}
+
+#[test]
+fn events_without_batches_are_forgotten(rt: HostRuntime) -> Result<(), Fail> {
+    let alloc = rt.alloc();
+    check_forget(&rt, alloc, &mut Window::new(alloc))
+}
+
+// What a connect would be given that acknowledges this number: how many events for good, and how many of at the most so many.
+fn check_ahead(rt: &impl Abort, window: &Window, number: u64, done: usize, portions: [usize; 2]) {
+    same(rt, window.acknowledged(number), done, number);
+    let done = window.acknowledged(number);
+    for (most, portion) in [(9, portions[0]), (1, portions[1])] {
+        same(rt, window.portion(done, most), portion, number);
+    }
+}
+
+// Of five events three are the next batch. They are given again until their number comes, and the other two afterwards.
+fn look_ahead(rt: &impl Abort, alloc: Global, window: &mut Window) -> Result<(), Fail> {
+    check_ahead(rt, window, 0, 0, [0, 0]);
+    apply(rt, alloc, window, Move::Push(1, 5))?;
+    check_ahead(rt, window, 0, 0, [5, 1]);
+    apply(rt, alloc, window, Move::Give(3))?;
+    check_ahead(rt, window, 0, 0, [3, 3]);
+    for number in [1, 2, u64::MAX] {
+        check_ahead(rt, window, number, 3, [2, 1]);
+    }
+    same(rt, window.len(), 5, "length");
+    Ok(())
+}
+
+#[test]
+fn a_look_ahead_says_what_a_connect_is_given(rt: HostRuntime) -> Result<(), Fail> {
+    let alloc = rt.alloc();
+    look_ahead(&rt, alloc, &mut Window::new(alloc))
+}

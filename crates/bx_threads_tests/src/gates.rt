@@ -1,0 +1,206 @@
+//! Each shard has a lock of its own.
+ghost use Rattle.std.specs.Prelude.{◌≡◌};
+ghost use Rattle.bx_entry.specs.Placings.{by_remainder};
+
+use crate::same::same;
+use bx_advice::Config;
+use bx_calls::{ANSWER, Found, HANDSHAKE, PUBLISH, Refused, find, hold, post};
+use bx_entry::{ByRemainder, Placing, Ticket};
+use bx_hub::{Gate, Hub, Pass, PostFault};
+use bx_window::{Naming, Opened};
+use std::alloc::Global;
+use std::hint;
+use std::marker::Brand;
+use std::process::Abort;
+use std::sync::atomic::{AtomicBool, Ordering};
+use std::sync::{Arc, Wait};
+use std::test::*;
+use std::thread::{Threads, join};
+
+// How often a post that is held looks whether it may go on.
+const LOOKS: u32 = 10_000_000;
+
+// What the gate and the test tell each other: that shard 0 is to be held, that somebody stands there, that he may go on, and
+// that he waited in vain.
+#[derive(Drop)]
+struct Flags {
+    is_held: AtomicBool,
+    stands: AtomicBool,
+    is_free: AtomicBool,
+    gave_up: AtomicBool,
+}
+
+// What a caller is told while another one stands in shard 0: whether a tick is refused for its moment alone, how much of the
+// list the caller has seen by that, and what it is given for the connect in shard 1.
+#[derive(Clone, Copy, Debug, PartialEq, Eq)]
+struct Told {
+    is_bad_moment: bool,
+    seen: u64,
+    found: Found,
+}
+
+// Holds whoever brings shard 0 up until it is free, where that is asked for.
+#[derive(Drop)]
+struct Holding {
+    flags: Arc<Flags, Global>,
+}
+
+impl Gate for Holding {
+    fn before(&self, shard: usize) {
+        if shard != 0 || !self.flags.is_held.load(Ordering::SeqCst) {
+            return;
+        }
+        self.flags.stands.store(true, Ordering::SeqCst);
+        for _ in 0..LOOKS {
+            if self.flags.is_free.load(Ordering::SeqCst) {
+                return;
+            }
+            hint::spin_loop();
+        }
+        self.flags.gave_up.store(true, Ordering::SeqCst);
+    }
+
+    fn after(&self, _shard: usize) {}
+}
+
+// Waits until the other caller stands in shard 0. The admission is free then, and what the other one publishes is there; so is
+// shard 1, which this call brings up. Then it frees shard 0.
+fn takes<J: Naming, P: Placing, H: Wait + Drop, R: Wait>(
+    rt: &R,
+    alloc: Global,
+    hub: &Hub<J, P, Holding, H>,
+    mut pass: Pass<J>,
+    ticket: Ticket,
+    flags: &Flags,
+) -> Told {
+    for _ in 0..LOOKS {
+        if flags.stands.load(Ordering::SeqCst) {
+            break;
+        }
+        hint::spin_loop();
+    }
+    let late = (1 << 62) + 1;
+    let refused = hub.tick(rt, alloc, &mut pass, late).err();
+    let is_bad_moment = refused.map(|it| it.fault()) == Some(PostFault::BadMoment);
+    let seen = pass.seen();
+    let found = find(rt, alloc, hub, &mut pass, ticket, ANSWER).unwrap_or(Found::Other);
+    flags.is_free.store(true, Ordering::SeqCst);
+    Told {
+        is_bad_moment,
+        seen,
+        found,
+    }
+}
+
+// A publish, which is held in shard 0 while it has that shard's lock.
+fn posts<J: Naming, P: Placing, H: Wait + Drop, R: Wait>(
+    rt: &R,
+    alloc: Global,
+    hub: &Hub<J, P, Holding, H>,
+    mut pass: Pass<J>,
+) -> bool {
+    post(rt, alloc, hub, &mut pass, PUBLISH).is_ok()
+}
+
+// With one lock round all shards, or round admission and shard 0, the publish waits in vain.
+fn beside<
+    J: Naming + Send + Sync,
+    P: Placing + Send + Sync,
+    H: Wait + Drop + Send,
+    R: Threads + Wait + Abort + Sync,
+>(
+    rt: &R,
+    alloc: Global,
+    hub: &Hub<J, P, Holding, H>,
+    pass: Pass<J>,
+    ticket: Ticket,
+    flags: &Flags,
+) -> Result<(), Fail> {
+    flags.is_held.store(true, Ordering::SeqCst);
+    let other = hub.pass();
+    let (posted, told) = join(
+        rt,
+        || posts(rt, alloc, hub, pass),
+        || takes(rt, alloc, hub, other, ticket, flags),
+    );
+    same(rt, posted, true, "posted");
+    same(
+        rt,
+        flags.stands.load(Ordering::SeqCst),
+        true,
+        "somebody stands there",
+    );
+    let want = Told {
+        is_bad_moment: true,
+        seen: 5,
+        found: Found::Wanted,
+    };
+    same(rt, told, want, "told");
+    same(
+        rt,
+        flags.gave_up.load(Ordering::SeqCst),
+        false,
+        "waited in vain",
+    );
+    Ok(())
+}
+
+// Opens two sessions, and gives the ticket of the first one's connect, which is held.
+fn opens<J: Naming, P: Placing, G: Gate + Drop, H: Wait + Drop, R: Wait>(
+    rt: &R,
+    alloc: Global,
+    hub: &Hub<J, P, G, H>,
+    pass: &mut Pass<J>,
+) -> Result<Ticket, Refused> {
+    let ticket = hold(rt, alloc, hub, pass)?;
+    post(rt, alloc, hub, pass, HANDSHAKE)?;
+    Ok(ticket)
+}
+
+fn stands<
+    J: Naming + Send + Sync,
+    P: Placing + Send + Sync,
+    H: Wait + Drop + Send,
+    R: Threads + Wait + Abort + Sync,
+>(rt: &R, alloc: Global, hub: &Hub<J, P, Holding, H>, flags: &Flags) -> Result<(), Fail> {
+    let mut pass = hub.pass();
+    let ticket = opens(rt, alloc, hub, &mut pass)?;
+    beside(rt, alloc, hub, pass, ticket, flags)
+}
+
+fn held<J: Naming + Send + Sync, R: Threads + Wait + Abort + Sync>(
+    rt: &R,
+    alloc: Global,
+    opened: Opened,
+    config: Config,
+    placing: Arc<ByRemainder, Global>,
+    gate: Holding,
+    flags: &Flags,
+) -> Result<(), Fail>
+    requires book { opened.seen.book ≡ J.book }
+    requires config { config ≡ J.config }
+    requires placing { by_remainder ≡ J.placing }
+{
+    let hub = Hub::<J, ByRemainder, Holding, &R>::new(alloc, rt, opened, config, placing, gate)?;
+    stands(rt, alloc, &hub, flags)
+}
+
+#[test]
+fn shards_have_locks_of_their_own(rt: HostRuntime) -> Result<(), Fail> {
+    let alloc = rt.alloc();
+    let config = Config::new(2, 30_000, 0, 10_000).ok_or("no configuration")?;
+    let placing = Arc::new(alloc, ByRemainder)?;
+    let flags = Arc::new(
+        alloc,
+        Flags {
+            is_held: AtomicBool::new(false),
+            stands: AtomicBool::new(false),
+            is_free: AtomicBool::new(false),
+            gave_up: AtomicBool::new(false),
+        },
+    )?;
+    let gate = Holding {
+        flags: Arc::try_clone(&flags)?,
+    };
+    held::<Brand, _>(&rt, alloc, Opened::new(), config, placing, gate, &flags)
+}

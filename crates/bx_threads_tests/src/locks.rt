@@ -1,0 +1,269 @@
+//! Who waits for admission holds no shard's lock, and the gate is passed before entries and behind them.
+ghost use Rattle.std.specs.Prelude.{◌≡◌};
+ghost use Rattle.bx_entry.specs.Placings.{by_remainder, by_remainder-below};
+
+use crate::same::same;
+use bx_advice::Config;
+use bx_calls::{CONNECT, HANDSHAKE, PING, post};
+use bx_entry::{ByRemainder, Placing, Ticket};
+use bx_hub::{Gate, Hub};
+use bx_window::{Naming, Opened};
+use std::alloc::{AllocError, Global};
+use std::marker::Brand;
+use std::process::Abort;
+use std::sync::atomic::{AtomicBool, AtomicU64, Ordering};
+use std::sync::{Arc, Wait};
+use std::test::*;
+use std::thread;
+use std::thread::{Threads, join};
+use std::time::{Clock, Duration};
+
+// How often whoever is held looks whether it may go on, a millisecond apart.
+const LOOKS: u32 = 10_000;
+
+// How often the locks of all shards are taken while the post has admission's, a millisecond apart: so long has the other call to come to
+// where it would wait for admission.
+const SWEEPS: u32 = 200;
+
+// The call that is held in shard 1.
+#[derive(Clone, Copy, Debug)]
+enum Call {
+    Tick,
+    Post,
+    Question,
+}
+
+// What the three threads tell each other: that the call is to be held in shard 1, and the post where it places a session; that they
+// stand there; that the post may go on; and that somebody waited in vain. And how often a session's shard was asked for, all in all
+// and when the gate was passed last before entries, and behind how many of them it was asked for in between.
+#[derive(Drop)]
+struct Flags<C: Clock + Drop> {
+    clock: C,
+    holds_call: AtomicBool,
+    holds_post: AtomicBool,
+    call_stands: AtomicBool,
+    post_stands: AtomicBool,
+    is_free: AtomicBool,
+    gave_up: AtomicBool,
+    asked: AtomicU64,
+    before: AtomicU64,
+    between: AtomicU64,
+}
+
+impl<C: Clock + Drop> Flags<C> {
+    fn new(clock: C) -> Flags<C> {
+        Flags {
+            clock,
+            holds_call: AtomicBool::new(false),
+            holds_post: AtomicBool::new(false),
+            call_stands: AtomicBool::new(false),
+            post_stands: AtomicBool::new(false),
+            is_free: AtomicBool::new(false),
+            gave_up: AtomicBool::new(false),
+            asked: AtomicU64::new(0),
+            before: AtomicU64::new(0),
+            between: AtomicU64::new(0),
+        }
+    }
+
+    fn wait_for(&self, flag: &AtomicBool) {
+        for _ in 0..LOOKS {
+            if flag.load(Ordering::SeqCst) {
+                return;
+            }
+            thread::sleep(&self.clock, Duration::from_millis(1));
+        }
+        self.gave_up.store(true, Ordering::SeqCst);
+    }
+}
+
+// Holds two threads, each where it is to stand.
+#[derive(Drop)]
+struct Holding<C: Clock + Drop> {
+    flags: Arc<Flags<C>, Global>,
+}
+
+impl<C: Clock + Drop> Holding<C> {
+    fn of(flags: &Arc<Flags<C>, Global>) -> Result<Holding<C>, AllocError> {
+        Ok(Holding {
+            flags: Arc::try_clone(flags)?,
+        })
+    }
+}
+
+// Holds the call behind the entries of shard 1, until the post has admission's lock. All that a tick does from then on is to look
+// where the shards stand, and to let the window go of what they have passed; another call has nothing left to do.
+impl<C: Clock + Drop> Gate for Holding<C> {
+    fn before(&self, _shard: usize) {
+        let asked = self.flags.asked.load(Ordering::SeqCst);
+        self.flags.before.store(asked, Ordering::SeqCst);
+    }
+
+    fn after(&self, shard: usize) {
+        if self.flags.asked.load(Ordering::SeqCst) > self.flags.before.load(Ordering::SeqCst) {
+            self.flags.between.fetch_add(1, Ordering::SeqCst);
+        }
+        if shard == 1 && self.flags.holds_call.swap(false, Ordering::SeqCst) {
+            self.flags.call_stands.store(true, Ordering::SeqCst);
+            self.flags.wait_for(&self.flags.post_stands);
+        }
+    }
+}
+
+// Holds the post where its connect is placed, which is under admission's lock.
+impl<C: Clock + Drop> Placing for Holding<C> {
+    ghost place_of = { λ _ number shards. by_remainder number shards };
+
+    ghost is_below = { λ _ number shards some _. by_remainder-below number shards some };
+
+    fn place(&self, number: u64, shards: usize) -> usize {
+        self.flags.asked.fetch_add(1, Ordering::SeqCst);
+        if self.flags.holds_post.swap(false, Ordering::SeqCst) {
+            self.flags.post_stands.store(true, Ordering::SeqCst);
+            self.flags.wait_for(&self.flags.is_free);
+        }
+        ByRemainder.place(number, shards)
+    }
+}
+
+fn calls<J: Naming, P: Placing, G: Gate + Drop, H: Wait + Drop, C: Clock + Drop, R: Wait>(
+    rt: &R,
+    alloc: Global,
+    hub: &Hub<J, P, G, H>,
+    flags: &Flags<C>,
+    call: Call,
+) -> bool {
+    flags.holds_call.store(true, Ordering::SeqCst);
+    let mut pass = hub.pass();
+    match call {
+        Call::Tick => hub.tick(rt, alloc, &mut pass, 0).is_ok(),
+        Call::Post => post(rt, alloc, hub, &mut pass, PING).is_ok(),
+        Call::Question => {
+            let ticket = Ticket { place: 0, shard: 1 };
+            hub.poll_answer(rt, alloc, &mut pass, ticket).is_ok()
+        }
+    }
+}
+
+// A connect, which is held while it has admission's lock.
+fn posts<J: Naming, P: Placing, G: Gate + Drop, H: Wait + Drop, C: Clock + Drop, R: Wait>(
+    rt: &R,
+    alloc: Global,
+    hub: &Hub<J, P, G, H>,
+    flags: &Flags<C>,
+) -> bool {
+    flags.wait_for(&flags.call_stands);
+    flags.holds_post.store(true, Ordering::SeqCst);
+    post(rt, alloc, hub, &mut hub.pass(), CONNECT).is_ok()
+}
+
+// Takes the locks of all shards while the post has admission's and the other call has been let go on.
+fn sweeps<J: Naming, P: Placing, G: Gate + Drop, H: Wait + Drop, C: Clock + Drop, R: Wait>(
+    rt: &R,
+    hub: &Hub<J, P, G, H>,
+    flags: &Flags<C>,
+) -> usize {
+    flags.wait_for(&flags.post_stands);
+    let mut swept: usize = 0;
+    for _ in 0..SWEEPS {
+        swept = swept.saturating_add(hub.sweep(rt, 0));
+        thread::sleep(&flags.clock, Duration::from_millis(1));
+    }
+    flags.is_free.store(true, Ordering::SeqCst);
+    swept
+}
+
+fn posts_and_sweeps<
+    J: Naming + Send + Sync,
+    P: Placing + Send + Sync,
+    G: Gate + Drop + Send + Sync,
+    H: Wait + Drop + Send,
+    C: Clock + Drop + Sync,
+    R: Threads + Wait + Sync,
+>(rt: &R, alloc: Global, hub: &Hub<J, P, G, H>, flags: &Flags<C>) -> (bool, usize) {
+    join(
+        rt,
+        || posts(rt, alloc, hub, flags),
+        || sweeps(rt, hub, flags),
+    )
+}
+
+// Where the call waited for admission with a shard's lock, the sweeps would stand still, and the post would wait for them in vain.
+fn beside<
+    J: Naming + Send + Sync,
+    P: Placing + Send + Sync,
+    G: Gate + Drop + Send + Sync,
+    H: Wait + Drop + Send,
+    C: Clock + Drop + Sync,
+    R: Threads + Wait + Abort + Sync,
+>(rt: &R, alloc: Global, hub: &Hub<J, P, G, H>, flags: &Flags<C>, call: Call) {
+    let (called, (posted, swept)) = join(
+        rt,
+        || calls(rt, alloc, hub, flags, call),
+        || posts_and_sweeps(rt, alloc, hub, flags),
+    );
+    same(rt, (called, posted, swept), (true, true, 0), "each call");
+    let stood = flags.post_stands.load(Ordering::SeqCst);
+    same(rt, stood, true, "the post stood under admission's lock");
+    let in_vain = flags.gave_up.load(Ordering::SeqCst);
+    same(rt, in_vain, false, "waited in vain");
+}
+
+fn stands<
+    J: Naming + Send + Sync,
+    P: Placing + Send + Sync,
+    G: Gate + Drop + Send + Sync,
+    H: Wait + Drop + Send,
+    C: Clock + Drop + Sync,
+    R: Threads + Wait + Abort + Sync,
+>(rt: &R, alloc: Global, hub: &Hub<J, P, G, H>, flags: &Flags<C>, call: Call) -> Result<(), Fail> {
+    post(rt, alloc, hub, &mut hub.pass(), HANDSHAKE)?;
+    // Each shard asks whether the new session is its own, once it applies that.
+    let between = flags.between.load(Ordering::SeqCst);
+    same(rt, between, 2, "between the gates");
+    beside(rt, alloc, hub, flags, call);
+    Ok(())
+}
+
+fn ordered<
+    J: Naming + Send + Sync,
+    C: Clock + Drop + Send + Sync,
+    R: Threads + Wait + Abort + Sync,
+>(
+    rt: &R,
+    alloc: Global,
+    opened: Opened,
+    config: Config,
+    placing: Arc<Holding<C>, Global>,
+    gate: Holding<C>,
+    flags: &Flags<C>,
+    call: Call,
+) -> Result<(), Fail>
+    requires book { opened.seen.book ≡ J.book }
+    requires config { config ≡ J.config }
+    requires placing { by_remainder ≡ J.placing }
+{
+    let hub = Hub::<J, Holding<C>, Holding<C>, &R>::new(alloc, rt, opened, config, placing, gate)?;
+    stands(rt, alloc, &hub, flags, call)
+}
+
+fn holds<C: Clock + Drop + Send + Sync, R: Threads + Wait + Abort + Sync>(
+    rt: &R,
+    alloc: Global,
+    flags: &Arc<Flags<C>, Global>,
+    call: Call,
+) -> Result<(), Fail> {
+    let config = Config::new(2, 30_000, 0, 10_000).ok_or("no configuration")?;
+    let placing = Arc::new(alloc, Holding::of(flags)?)?;
+    let gate = Holding::of(flags)?;
+    ordered::<Brand, _, _>(rt, alloc, Opened::new(), config, placing, gate, flags, call)
+}
+
+#[test]
+fn calls_wait_without_a_shard(rt: HostRuntime) -> Result<(), Fail> {
+    for call in [Call::Tick, Call::Post, Call::Question] {
+        let flags = Arc::new(rt.alloc(), Flags::new(&rt))?;
+        holds(&rt, rt.alloc(), &flags, call)?;
+    }
+    Ok(())
+}

@@ -1,0 +1,133 @@
+//! Two threads with a pass each.
+ghost use Rattle.std.specs.Prelude.{◌≡◌};
+ghost use Rattle.bx_entry.specs.Placings.{by_remainder};
+
+use crate::same::same;
+use bx_advice::Config;
+use bx_calls::{ANSWER, Found, find, hold, publish};
+use bx_entry::{ByRemainder, Placing, Ticket};
+use bx_hub::{Gate, Hub, OpenGate, Pass};
+use bx_window::{Naming, Opened};
+use std::alloc::Global;
+use std::marker::Brand;
+use std::process::Abort;
+use std::sync::{Arc, Wait};
+use std::test::*;
+use std::thread::{Threads, join};
+
+// More ticks than the window has batches.
+const TICKS: usize = 5_000;
+
+// Lets the clock tick, and then publishes too: neither drops what the other thread's event answers.
+fn ticks<J: Naming, P: Placing, G: Gate + Drop, H: Wait + Drop, R: Wait>(
+    rt: &R,
+    alloc: Global,
+    hub: &Hub<J, P, G, H>,
+    mut pass: Pass<J>,
+) -> Option<Pass<J>> {
+    for _ in 0..TICKS {
+        hub.tick(rt, alloc, &mut pass, 0).ok()?;
+    }
+    publish(rt, alloc, hub, &mut pass).ok()?;
+    Some(pass)
+}
+
+// Publishes an event, and tells what was seen then.
+fn tells<J: Naming, P: Placing, G: Gate + Drop, H: Wait + Drop, R: Wait>(
+    rt: &R,
+    alloc: Global,
+    hub: &Hub<J, P, G, H>,
+    mut pass: Pass<J>,
+) -> Option<Pass<J>> {
+    publish(rt, alloc, hub, &mut pass).ok()?;
+    Some(pass)
+}
+
+// One thread publishes while the clock ticks in the other, which then learns what the first has seen: the held connect is
+// answered once, with that event.
+fn meet<
+    J: Naming + Send + Sync,
+    P: Placing + Send + Sync,
+    G: Gate + Drop + Send + Sync,
+    H: Wait + Drop + Send,
+    R: Threads + Wait + Abort + Sync,
+>(rt: &R, alloc: Global, hub: &Hub<J, P, G, H>, pass: Pass<J>, ticket: Ticket) -> Result<(), Fail> {
+    let other = hub.pass();
+    let (a, b) = join(
+        rt,
+        || ticks(rt, alloc, hub, pass),
+        || tells(rt, alloc, hub, other),
+    );
+    match (a, b) {
+        (Some(mut pass), Some(other)) => {
+            pass.learn(&other.note());
+            answered(rt, alloc, hub, &mut pass, ticket)
+        }
+        _ => Err(Fail::from("refused")),
+    }
+}
+
+// The connect is answered once, with the event that was published and its own reply.
+fn answered<J: Naming, P: Placing, G: Gate + Drop, H: Wait + Drop, R: Wait + Abort>(
+    rt: &R,
+    alloc: Global,
+    hub: &Hub<J, P, G, H>,
+    pass: &mut Pass<J>,
+    ticket: Ticket,
+) -> Result<(), Fail> {
+    let first = find(rt, alloc, hub, pass, ticket, ANSWER)?;
+    same(rt, first, Found::Wanted, "the first poll");
+    let second = find(rt, alloc, hub, pass, ticket, ANSWER)?;
+    same(rt, second, Found::Nothing, "the second poll");
+    Ok(())
+}
+
+// The ticket of a connect that is held, and has no answer.
+fn waits<J: Naming, P: Placing, G: Gate + Drop, H: Wait + Drop, R: Wait + Abort>(
+    rt: &R,
+    alloc: Global,
+    hub: &Hub<J, P, G, H>,
+    pass: &mut Pass<J>,
+) -> Result<Ticket, Fail> {
+    let ticket = hold(rt, alloc, hub, pass)?;
+    let found = find(rt, alloc, hub, pass, ticket, ANSWER)?;
+    same(rt, found, Found::Nothing, "found");
+    Ok(ticket)
+}
+
+fn meet_once<
+    J: Naming + Send + Sync,
+    P: Placing + Send + Sync,
+    G: Gate + Drop + Send + Sync,
+    H: Wait + Drop + Send,
+    R: Threads + Wait + Abort + Sync,
+>(rt: &R, alloc: Global, hub: &Hub<J, P, G, H>) -> Result<(), Fail> {
+    let mut pass = hub.pass();
+    let ticket = waits(rt, alloc, hub, &mut pass)?;
+    meet(rt, alloc, hub, pass, ticket)
+}
+
+fn two<J: Naming + Send + Sync, R: Threads + Wait + Abort + Sync>(
+    rt: &R,
+    alloc: Global,
+    opened: Opened,
+    config: Config,
+    placing: Arc<ByRemainder, Global>,
+) -> Result<(), Fail>
+    requires book { opened.seen.book ≡ J.book }
+    requires config { config ≡ J.config }
+    requires placing { by_remainder ≡ J.placing }
+{
+    let hub = Hub::<J, ByRemainder, OpenGate, &R>::new(
+        alloc, rt, opened, config, placing, OpenGate,
+    )?;
+    meet_once(rt, alloc, &hub)
+}
+
+#[test]
+fn two_threads(rt: HostRuntime) -> Result<(), Fail> {
+    let alloc = rt.alloc();
+    let config = Config::new(2, 30_000, 0, 10_000).ok_or("no configuration")?;
+    let placing = Arc::new(alloc, ByRemainder)?;
+    two::<Brand, _>(&rt, alloc, Opened::new(), config, placing)
+}
