@@ -63,15 +63,18 @@ def ends():
 
 
 def long_lines():
-    """Yields bodies of as many bytes as may be, and more, and a long line of another form."""
+    """Yields bodies and forms of as many bytes as may be, and more, and long lines of another form."""
     for front, count, printed in (
         ("0 P []", BODY - 2, "200 []"),
         ("0 P []", BODY - 1, "413"),
         ("0 P ", BODY + 1, "413"),
         ("0 P []", BODY * 3, "413"),
+        ("0 F message=[]", BODY - 10, "200 []"),
+        ("0 F message=[]", BODY - 9, "413"),
     ):
         yield f"{front} and {count} spaces", f"{front}{' ' * count}\n0 P []\n", f"1 {printed}\n2 200 []\n"
     yield "a long line of another form is bad", f"{'0' * (BODY * 3)}\n0 P []\n", "1 bad\n2 200 []\n"
+    yield "a long nonce is bad", f"0 N {'0' * (BODY * 3)}\n0 P []\n", "1 bad\n2 200 []\n"
 
 
 def thousands_of_lines():

@@ -2,7 +2,7 @@
 use Rattle.std.specs.Prelude.{refl}
 use Rattle.std.specs.Fmt.{digits}
 use Rattle.json.specs.Print.{escape_byte}
-use Rattle.bx_laws.specs.Worked.{EventsRide, RideBehindHold, NothingRides, NothingRidesBehindRefused, NothingRidesBehindSessionless, NothingRidesBehindHandshake, NothingRidesBehindTwo, SessionlessPublish, SessionlessRefused, NamesRead, PatternsRead, StarsMatch, DoubleStarsMatch, AllMatch, PlainMatch, RefusedHandshake, HeldThenGiven, HandshakeWithId, NothingPosted, NoNumber, BatchesRepeat, GreatNumber, MatchedTwice, HoldRunsOut, SessionExpires, GoneWithinARequest, NotSole, Superseded, SupersededHeld, MomentsRise, TwoHandshakes, HoldEndsWithSession, EventIsBatch, EventIsBatchHeld, FullQueue, QueueWithRoom, FullWithBatch, HeldThroughOverflow, LengthsRead, EachRefusal, ServicePublish, HoldExtends, OverflowAt1025, FourFullBatches, HandshakeText, RefusedText, BatchText, CallbackExample, EmptyCallback, Unreadable, SenderBytes, UnknownType, ManyPatterns, DeliveryText, GoneText, SupersededText, OverflowText, SecondText, EndedText, RefusalsText, RefusedMovesClock, EmptyKeepsClock, RefusedKeepsDue, HoldBeforeEnd, EndedWithNumber, SupersededWithoutNumber, MixedArrays, FullServer, OverflowOutlivesPatterns, ServicePatternsAside, ScriptLines, LineForms, ScriptPrinted}
+use Rattle.bx_laws.specs.Worked.{EventsRide, RideBehindHold, NothingRides, NothingRidesBehindRefused, NothingRidesBehindSessionless, NothingRidesBehindHandshake, NothingRidesBehindTwo, SessionlessPublish, SessionlessRefused, NamesRead, PatternsRead, StarsMatch, DoubleStarsMatch, AllMatch, PlainMatch, RefusedHandshake, HeldThenGiven, HandshakeWithId, NothingPosted, NoNumber, BatchesRepeat, GreatNumber, MatchedTwice, HoldRunsOut, SessionExpires, GoneWithinARequest, NotSole, Superseded, SupersededHeld, MomentsRise, TwoHandshakes, HoldEndsWithSession, EventIsBatch, EventIsBatchHeld, FullQueue, QueueWithRoom, FullWithBatch, HeldThroughOverflow, LengthsRead, EachRefusal, ServicePublish, HoldExtends, OverflowAt1025, FourFullBatches, HandshakeText, RefusedText, BatchText, CallbackExample, EmptyCallback, Unreadable, SenderBytes, UnknownType, ManyPatterns, DeliveryText, GoneText, SupersededText, OverflowText, SecondText, EndedText, RefusalsText, RefusedMovesClock, EmptyKeepsClock, RefusedKeepsDue, HoldBeforeEnd, EndedWithNumber, SupersededWithoutNumber, MixedArrays, FullServer, OverflowOutlivesPatterns, ServicePatternsAside, ScriptLines, LineForms, NonceForms, NoncesWait, ScriptPrinted, NoncePrinted}
 
 pub names_read : NamesRead
 names_read = refl
@@ -211,9 +211,19 @@ script_lines = refl
 pub line_forms : LineForms
 line_forms = refl
 
+pub nonce_forms : NonceForms
+nonce_forms = refl
+
+pub nonces_wait : NoncesWait
+nonces_wait = refl
+
 pub script_printed : ScriptPrinted
 unfolding digits escape_byte
 script_printed = refl
+
+pub nonce_printed : NoncePrinted
+unfolding digits escape_byte
+nonce_printed = refl
 
 pub events_ride : EventsRide
 events_ride = refl

@@ -8,7 +8,7 @@ use Rattle.bx_message.specs.declared.{message_kind.MessageKind.MessageKind, repl
 use Rattle.bx_advice.specs.declared.error.Error.TheVariants.{UnknownMetaChannel, UnsupportedVersion, SecondHandshake, NoClientId, UnknownClient, InvalidChannel, SubscriptionDenied, MissingSubscription, MissingData, SupersededConnect, QueueOverflow}
 use Rattle.bx_advice.specs.declared.advice.Outcome.TheVariants.{Opened, Disconnected, Done, Failed}
 use Rattle.bx_message.specs.declared.reply.Item.TheVariants.{EventItem, ReplyItem}
-use Rattle.bx_entry.specs.Inputs.{Tick}
+use Rattle.bx_entry.specs.Inputs.{Request, Tick}
 use Rattle.bx_entry.specs.declared.input.Refusal.TheVariants.{BadMoment}
 use Rattle.bx_entry.specs.Words.{outs, held, Unread, outs, held}
 use Rattle.bx_entry.specs.declared.input.Refusal.TheVariants.{Body}
@@ -18,7 +18,7 @@ use Rattle.bx_message.specs.Texts.{callback_text}
 use Rattle.bx_laws.specs.Samples.{ack_connect, blank, id_of, versioned, handshake, ack_handshake, connect, connect_now, ack_connect_now, in_quotes, subscribe, unsubscribe, disconnect, publish, post, standard, reply, handshaken, ack_handshaken, connected_as, connected, ack_connected, subscribed, unsubscribed, disconnected, published, unknown_client, event, out, subscribe_all, subscribed_all, match_all, two_connects, held_with_ack, small, failed, four_batches, full_batch, texts, refused_messages, mixed, mixed_failed, crowded, anonymous, open_to_all, ridden_publishes, ridden_hold, ridden_behind, waits_behind, riding}
 use Rattle.bx_advice.specs.declared.error.Error.TheVariants.{TooManySessions}
 use Rattle.std.specs.Prelude.{◌++◌, map}
-use Rattle.bx_script.specs.Replay.{lines_of, line_of, Bad, Rejected, Accepted, Resharded, inputs_from, printed}
+use Rattle.bx_script.specs.Replay.{lines_of, line_of, Bad, Rejected, Accepted, Resharded, Announced, inputs_from, printed, with_nonces}
 
 -- ---- which texts read as names and patterns, and what patterns match
 
@@ -541,9 +541,28 @@ LineForms =
     map line_of (codes "007 T" ∷ codes "7 T " ∷ codes "x" ∷ codes "0 P" ∷ codes "18446744073709551616 T" ∷ codes "0 S 64" ∷ codes "0 S 65" ∷ [] ∷ [])
     ≡ Accepted None (Tick 7) ∷ Bad ∷ Bad ∷ Bad ∷ Bad ∷ Resharded 64 ∷ Bad ∷ Bad ∷ []
 
+-- nonces, and lines that are not quite nonces
+abbrev pub NonceForms : Type 0
+NonceForms =
+    map line_of (codes "7 N 000000000000000000000000000000fF" ∷ codes "7 N 00000000000000000000000000000ff" ∷ codes "7 N 0000000000000000000000000000000ff" ∷ codes "7 N +00000000000000000000000000000ff" ∷ codes "7 N 000000000000000000000000000000fg" ∷ codes "7 N" ∷ codes "N 000000000000000000000000000000ff" ∷ [])
+    ≡ Announced 255 ∷ Bad ∷ Bad ∷ Bad ∷ Bad ∷ Bad ∷ Bad ∷ []
+
+-- a nonce waits for the next request, which takes it
+abbrev pub NoncesWait : Type 0
+NoncesWait =
+    with_nonces 0 (Accepted None (post 0 []) ∷ Announced 5 ∷ Announced 6 ∷ Accepted None (Tick 0) ∷ Bad ∷ Rejected 400 ∷ Resharded 2 ∷ Accepted None (post 7 []) ∷ Accepted None (post 8 []) ∷ Announced 9 ∷ Accepted None (Unread NotJson) ∷ Accepted None (post 10 []) ∷ [])
+    ≡ Accepted None (post 0 []) ∷ Announced 5 ∷ Announced 6 ∷ Accepted None (Tick 0) ∷ Bad ∷ Rejected 400 ∷ Resharded 2 ∷ Accepted None (Request 7 6 []) ∷ Accepted None (post 8 []) ∷ Announced 9 ∷ Accepted None (Unread NotJson) ∷ Accepted None (post 10 []) ∷ []
+
 -- what lines print: an answer comes with the line that gives it, and the lines that are held come last
 abbrev pub ScriptPrinted : Type 0
 ScriptPrinted =
     (let ls = Accepted None (post 0 (handshake ∷ [])) ∷ Bad ∷ Accepted None (post 0 (connect 1 ∷ [])) ∷ Rejected 413 ∷ Accepted None (Tick 30000) ∷ Accepted None (post 30000 (connect 1 ∷ [])) ∷ [] in
     printed standard (inputs_from 1 ls) ls)
     ≡ (codes "1 200 [{\"advice\":{\"interval\":0,\"reconnect\":\"retry\",\"timeout\":30000},\"channel\":\"/meta/handshake\",\"clientId\":\"000000000000000000000000000000000000000000000001\",\"successful\":true,\"supportedConnectionTypes\":[\"long-polling\",\"callback-polling\"],\"version\":\"1.0\"}]" ++ 10 ∷ []) ++ (codes "2 bad" ++ 10 ∷ []) ++ (codes "4 413" ++ 10 ∷ []) ++ (codes "3 200 [{\"advice\":{\"interval\":0,\"reconnect\":\"retry\",\"timeout\":30000},\"channel\":\"/meta/connect\",\"clientId\":\"000000000000000000000000000000000000000000000001\",\"successful\":true}]" ++ 10 ∷ []) ++ (codes "6 held" ++ 10 ∷ [])
+
+-- a session's client id begins with the nonce of its handshake
+abbrev pub NoncePrinted : Type 0
+NoncePrinted =
+    (let ls = with_nonces 0 (Announced 255 ∷ Accepted None (post 0 (handshake ∷ [])) ∷ []) in
+    printed standard (inputs_from 1 ls) ls)
+    ≡ codes "2 200 [{\"advice\":{\"interval\":0,\"reconnect\":\"retry\",\"timeout\":30000},\"channel\":\"/meta/handshake\",\"clientId\":\"000000000000000000000000000000ff0000000000000001\",\"successful\":true,\"supportedConnectionTypes\":[\"long-polling\",\"callback-polling\"],\"version\":\"1.0\"}]" ++ 10 ∷ []

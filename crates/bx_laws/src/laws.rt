@@ -3,7 +3,7 @@ ghost use Rattle.bx_theory.specs.Laws.{DoneNeverFalls, CountsAgree, EntriesInOrd
 ghost use Rattle.bx_theory.specs.Readings.{LiveReading, InForceReading, HeldReading, EndingReading, OverflowReading, QueueBounded, DueReading, ClockReading, SameLive, AcceptedWhileLive, PublishesOfNone, ClosedIsOver};
 ghost use Rattle.bx_theory.specs.Riding.{RiderReading, NothingRidesBeside, OthersNeverRide, RiderGiven};
 ghost use Rattle.bx_theory.specs.Events.{EventsWerePublished, PublishesAreEvents, EventsRise, GivenWasPublished};
-ghost use Rattle.bx_theory.specs.Lines.{HeldComeLast, InputsGoOn, LinesGoOn};
+ghost use Rattle.bx_theory.specs.Lines.{HeldComeLast, InputsGoOn, LinesGoOn, NoncesGoOn, NoncesStay};
 ghost use Rattle.bx_theory.specs.Outs.{OutsGrow};
 ghost use Rattle.bx_theory.specs.Opens.{OpenIsHeld, OpensGoOn, OutsAdd};
 ghost use Rattle.bx_theory.specs.Sole.{OpenAreSole, OpensAscend};
@@ -239,4 +239,14 @@ pub fn lines_go_on()
 /// The lines that are held stand behind all that a script's lines print.
 pub fn held_come_last()
     ensures { HeldComeLast }
+{}
+
+/// The request of one more line of a script has the nonce that waits behind the lines before it, which keep theirs.
+pub fn nonces_go_on()
+    ensures { NoncesGoOn }
+{}
+
+/// Where no line of a script says a nonce, its lines are as they are read.
+pub fn nonces_stay()
+    ensures { NoncesStay }
 {}

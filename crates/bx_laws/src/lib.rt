@@ -11,8 +11,8 @@ pub use laws::{
     events_read_back, events_rise, events_were_published, given_once, given_was_published,
     held_come_last, held_reading, in_force_reading, inputs_go_on, kept_in_bounds, kept_runs,
     kept_steps, lines_go_on, live_reading, never_given_again, no_event_twice, no_riders_unasked,
-    nothing_rides_beside, open_are_sole, open_is_held, opens_ascend, opens_go_on,
-    others_never_ride, outs_add, outs_grow, overflow_reading, publishes_are_events,
+    nonces_go_on, nonces_stay, nothing_rides_beside, open_are_sole, open_is_held, opens_ascend,
+    opens_go_on, others_never_ride, outs_add, outs_grow, overflow_reading, publishes_are_events,
     publishes_of_none, queue_bounded, replies_read_back, rider_given, rider_reading,
     riders_are_plain, same_live,
 };

@@ -4,14 +4,14 @@ use Rattle.std.proofs.lemmas.{Grind.flat_map-append, List.map-append}
 use Rattle.std.specs.Prelude.{IfErr, IfSome, IsErr, OnErr, option_map, string_bytes}
 use Rattle.std.proofs.Common.{Global, String}
 use Rattle.std.specs.Io.KnownBytes.{Appends}
-use Rattle.bx_script.specs.Words.{IsWriteFault, Line, Bad, Rejected, Accepted, Resharded, Numbered, inputs_from, held_text, line_of, lines_of, out_by, replay_text, result_text, said_by, AppendsFront, Writes, numbered}
+use Rattle.bx_script.specs.Words.{IsWriteFault, Line, Bad, Rejected, Accepted, Resharded, Numbered, inputs_from, held_text, line_of, lines_of, nonce_at, out_by, replay_text, result_text, AppendsFront, Writes, numbered, with_nonces}
 use Rattle.bx_script.specs.declared.{error.ScriptFault.ScriptFault, lines.Lines.Lines, output.Output.Output}
 use Rattle.bx_script.specs.declared.error.ScriptFault.TheVariants.{Memory, Read, Write}
 use Rattle.bx_replay.specs.Faults.{IsReplayFault}
 use Rattle.bx_replay.specs.Kept.{AreKept, IsKept, held_texts}
-use Rattle.bx_replay.specs.Serving.{Served, HandsFront, Prints, PrintsFront, Reads, seen_lines}
+use Rattle.bx_replay.specs.Serving.{Served, HandsFront, Prints, PrintsFront, Reads, read_lines, seen_behind, seen_lines}
 use Rattle.bx_replay.specs.declared.kept.PendingLine.{PendingLine}
-use Rattle.bx_replay.proofs.{Keeping.TicksAs, Keeping.out_same, Steps.many_of, Steps.seen_more, Steps.texts_handed}
+use Rattle.bx_replay.proofs.{Keeping.TicksAs, Keeping.out_same, Steps.many_of, Steps.read_behind, Steps.seen_more, Steps.texts_handed}
 use Rattle.bx_advice.specs.declared.config.Config.{Config}
 use Rattle.bx_entry.specs.Words.{ReadInput, read_input, Out, held, outs, whole_at, wholes}
 use Rattle.bx_entry.specs.declared.{Placing.Ghosts, input.Input.Input}
@@ -20,7 +20,7 @@ use Rattle.bx_fanout.specs.Stages.{seen_out}
 use Rattle.bx_fanout.specs.declared.out.Out as fanout
 use Rattle.bx_fanout.specs.declared.round.Round.{Round}
 use Rattle.bx_theory.specs.Lines.{AddsOuts, inputs_in, line_prints, outs_text, printed_so_far}
-use Rattle.bx_theory.proofs.Lines.{lines_go_on, outs_last}
+use Rattle.bx_theory.proofs.{Lines.lines_go_on, Lines.outs_last, Nonces.nonces_on}
 use Rattle.bx_script.specs.declared.line.Line as script
 use Rattle.bx_script.proofs.Fronts.{fault_writes, front_first, front_none, front_second}
 
@@ -64,13 +64,13 @@ held_front ns all is i js a b c text e same h f =
 
 -- ---- one more line
 
-pub front_line : (config : Config) (ls : List script.Line) (l k : script.Line) (more : List Out) (text : List ℕ) (before after : Option (List ℕ)) → 0 < config.limits.batch → l ≡ k → AddsOuts config (inputs_in (seen_lines ls)) (said_by k) more →
-    text ≡ line_prints (length (seen_lines ls) + 1) (inputs_from 1 (seen_lines ls ++ said_by k ∷ [])) (said_by k) more → AppendsFront before after text → PrintsFront config ls (ls ++ l ∷ []) before after
+pub front_line : (config : Config) (ls : List script.Line) (l k : script.Line) (more : List Out) (text : List ℕ) (before after : Option (List ℕ)) → 0 < config.limits.batch → l ≡ k → AddsOuts config (inputs_in (seen_lines ls)) (seen_behind ls k) more →
+    text ≡ line_prints (length (seen_lines ls) + 1) (inputs_from 1 (seen_lines ls ++ seen_behind ls k ∷ [])) (seen_behind ls k) more → AppendsFront before after text → PrintsFront config ls (ls ++ l ∷ []) before after
 front_line config ls l k more text before after room is adds e front = record {
   text = text;
   front = front;
   is = ap (λ (x : script.Line). printed_so_far config (seen_lines (ls ++ x ∷ []))) is
-      ∙ ap (printed_so_far config) (seen_more ls k) ∙ lines_go_on config (seen_lines ls) (said_by k) more room adds ∙ ap (λ (t : List ℕ). printed_so_far config (seen_lines ls) ++ t) (sym e);
+      ∙ ap (printed_so_far config) (seen_more ls k) ∙ lines_go_on config (seen_lines ls) (seen_behind ls k) more room adds ∙ ap (λ (t : List ℕ). printed_so_far config (seen_lines ls) ++ t) (sym e);
 }
 
 module _ {P : Type 0} {g : Ghosts P} where
@@ -82,14 +82,19 @@ module _ {P : Type 0} {g : Ghosts P} where
     prints = λ ns many kept. front_none before (outs_text (ns ++ one ∷ []) (whole_at (length (inputs_of old)) (wholes (setup_in old).config (inputs_of old ++ one.input ∷ []))));
   }
 
+  -- the same of an input that is read alike
+  pub front_as : (old : Round P g) (number : ℕ) (name : Option (List ℕ)) (given read : ReadInput) (before after : Option (List ℕ)) (kept : ℕ → Option PendingLine) → given ≡ read →
+      HandsFront old (numbered number name given) before after kept → HandsFront old (numbered number name read) before after kept
+  front_as old number name given read before after kept e h = subst (λ (x : ReadInput). HandsFront old (numbered number name x) before after kept) e h
+
   pub handed_front : (old : Round P g) (ls : List script.Line) (l : script.Line) (callback : Option (String Global)) (input : Input) (before after : Option (List ℕ)) (kept : ℕ → Option PendingLine) (number : ℕ) → 0 < (setup_in old).config.limits.batch →
       Served (setup_in old).config (seen_lines ls) (inputs_of old) (added_by old) kept number →
-      HandsFront old (numbered (number + 1) (option_map string_bytes callback) (read_input input)) before after kept → l ≡ script.Line.Accepted callback input →
+      HandsFront old (numbered (number + 1) (option_map string_bytes callback) (read_behind ls input)) before after kept → l ≡ script.Line.Accepted callback input →
       PrintsFront (setup_in old).config ls (ls ++ l ∷ []) before after
   handed_front old ls l callback input before after kept number room d h is =
       let config : Config = (setup_in old).config in
       let name : Option (List ℕ) = option_map string_bytes callback in
-      let read : ReadInput = read_input input in
+      let read : ReadInput = read_behind ls input in
       front_line config ls l (script.Line.Accepted callback input) h.more (outs_text (inputs_from 1 (seen_lines ls) ++ numbered (number + 1) name read ∷ []) h.more) before after room is
       (subst (λ (is : List ReadInput). outs config (is ++ read ∷ []) ≡ outs config is ++ h.more) d.inputs_are h.adds)
       (texts_handed config (seen_lines ls) name read (inputs_of old) (added_by old) h.more kept number d)
@@ -129,12 +134,13 @@ goes_on config ls (l ∷ more) room =
 
 whole_known : (config : Config) (xs ys : List ℕ) (ms : List script.Line) (a c : Option (List ℕ)) → 0 < config.limits.batch → Reads (Some xs) (Some ys) ms → PrintsFront config [] ms a c → AppendsFront a c (replay_text config xs)
 whole_known config xs ys ms a c room r p =
-    let all : List Line = map line_of (lines_of xs) in
-    let others : List Line = map line_of (lines_of ys) in
+    let all : List Line = with_nonces 0 (map line_of (lines_of xs)) in
+    let others : List Line = with_nonces (nonce_at (read_lines ms)) (map line_of (lines_of ys)) in
+    let whole : all ≡ seen_lines ms ++ others = ap (with_nonces 0) r ∙ nonces_on 0 (read_lines ms) (map line_of (lines_of ys)) in
     let on : GoesOn config (seen_lines ms) others = goes_on config (seen_lines ms) others room in
     let ends : List ℕ = held_texts (inputs_from 1 all) (held config (inputs_in all)) in
     let parts : replay_text config xs ≡ p.text ++ (on.text ++ ends) =
-    ap (λ (t : List ℕ). t ++ ends) (ap (printed_so_far config) r ∙ on.is ∙ ap (λ (t : List ℕ). t ++ on.text) p.is) ∙ append_assoc p.text on.text ends in
+    ap (λ (t : List ℕ). t ++ ends) (ap (printed_so_far config) whole ∙ on.is ∙ ap (λ (t : List ℕ). t ++ on.text) p.is) ∙ append_assoc p.text on.text ends in
     subst (AppendsFront a c) (sym parts) (front_first a c p.text (on.text ++ ends) p.front)
 
 -- where a script is read on, what its first lines print is a front of the right output

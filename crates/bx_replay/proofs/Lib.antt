@@ -1,4 +1,5 @@
 pub mod Keeping
+pub mod Nonces
 pub mod Steps
 pub mod Ready
 pub mod Fronts

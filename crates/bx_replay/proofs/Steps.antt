@@ -5,19 +5,19 @@ use Rattle.std.specs.Prelude.{IfSome, option_map, string_bytes}
 use Rattle.std.specs.Io.KnownBytes.{Appends}
 use Rattle.std.proofs.Common.{Global, String}
 use Rattle.bx_replay.specs.Kept.{AllKept, AreKept, Keeps}
-use Rattle.bx_replay.specs.Serving.{Served, Hands, IsAll, Prints, Reads, held_lines, seen_lines}
+use Rattle.bx_replay.specs.Serving.{Served, Hands, IsAll, Prints, Reads, held_lines, read_lines, seen_behind, seen_lines}
 use Rattle.bx_replay.specs.declared.kept.PendingLine.{PendingLine}
 use Rattle.bx_replay.proofs.{Keeping.appends_more, Keeping.appends_none, Ready.none_last}
 use Rattle.bx_advice.specs.declared.config.Config.{Config}
 use Rattle.bx_entry.specs.Words.{ReadInput, read_input, Out, held, outs}
-use Rattle.bx_script.specs.Words.{Line, Bad, Rejected, Accepted, Resharded, Numbered, inputs_from, line_of, lines_of, printed, replay_text, IsNext, NextLine, said_by, Writes, numbered, rest_of}
+use Rattle.bx_script.specs.Words.{Line, Bad, Rejected, Accepted, Resharded, Announced, Numbered, inputs_from, line_of, lines_of, printed, replay_text, IsNext, NextLine, said_by, Writes, nonce_at, numbered, rest_of, with_nonce, with_nonces}
 use Rattle.bx_entry.specs.declared.{Placing.Ghosts, input.Input.Input}
 use Rattle.bx_fanout.specs.Rounds.{IsRun, added_by, inputs_of, setup_in}
 use Rattle.bx_fanout.specs.Stages.{seen_out}
 use Rattle.bx_fanout.specs.declared.out.Out as fanout
 use Rattle.bx_fanout.specs.declared.{out.RoundFault.RoundFault, round.Round.Round}
 use Rattle.bx_theory.specs.Lines.{AddsOuts, inputs_in, line_prints, outs_text, printed_so_far}
-use Rattle.bx_theory.proofs.Lines.{inputs_go_on, lines_go_on}
+use Rattle.bx_theory.proofs.{Lines.inputs_go_on, Lines.lines_go_on, Nonces.nonces_go_on}
 use Rattle.bx_script.proofs.Fronts.{writes_second}
 use Rattle.bx_script.specs.declared.line.Line as script
 
@@ -40,19 +40,22 @@ served_bare config ls l inputs added kept number e d =
       number_is = omega (arith, d.number_is, length-append ls (l ∷ []));
     }
 
-pub seen_more : (ls : List script.Line) (l : script.Line) → seen_lines (ls ++ l ∷ []) ≡ seen_lines ls ++ said_by l ∷ []
-seen_more ls l = map-append said_by ls (l ∷ [])
+read_more : (ls : List script.Line) (l : script.Line) → read_lines (ls ++ l ∷ []) ≡ read_lines ls ++ said_by l ∷ []
+read_more ls l = map-append said_by ls (l ∷ [])
+
+pub seen_more : (ls : List script.Line) (l : script.Line) → seen_lines (ls ++ l ∷ []) ≡ seen_lines ls ++ seen_behind ls l ∷ []
+seen_more ls l = ap (with_nonces 0) (read_more ls l) ∙ nonces_go_on (read_lines ls) (said_by l)
 
 pub served_seen : (config : Config) (ls : List script.Line) (l : script.Line) (inputs : List ReadInput) (added : List Out) (kept : ℕ → Option PendingLine) (number : ℕ) →
-    Served config (seen_lines ls ++ said_by l ∷ []) inputs added kept number → Served config (seen_lines (ls ++ l ∷ [])) inputs added kept number
+    Served config (seen_lines ls ++ seen_behind ls l ∷ []) inputs added kept number → Served config (seen_lines (ls ++ l ∷ [])) inputs added kept number
 served_seen config ls l inputs added kept number d = subst (λ (us : List Line). Served config us inputs added kept number) (sym (seen_more ls l)) d
 
-pub prints_line : (config : Config) (ls : List script.Line) (l : script.Line) (more : List Out) (text : List ℕ) (before after : Option (List ℕ)) → 0 < config.limits.batch → AddsOuts config (inputs_in (seen_lines ls)) (said_by l) more →
-    text ≡ line_prints (length (seen_lines ls) + 1) (inputs_from 1 (seen_lines ls ++ said_by l ∷ [])) (said_by l) more → Appends before after text → Prints config ls (ls ++ l ∷ []) before after
+pub prints_line : (config : Config) (ls : List script.Line) (l : script.Line) (more : List Out) (text : List ℕ) (before after : Option (List ℕ)) → 0 < config.limits.batch → AddsOuts config (inputs_in (seen_lines ls)) (seen_behind ls l) more →
+    text ≡ line_prints (length (seen_lines ls) + 1) (inputs_from 1 (seen_lines ls ++ seen_behind ls l ∷ [])) (seen_behind ls l) more → Appends before after text → Prints config ls (ls ++ l ∷ []) before after
 prints_line config ls l more text before after room adds e appends = record {
   text = text;
   appends = appends;
-  is = ap (printed_so_far config) (seen_more ls l) ∙ lines_go_on config (seen_lines ls) (said_by l) more room adds ∙ ap (λ (t : List ℕ). printed_so_far config (seen_lines ls) ++ t) (sym e);
+  is = ap (printed_so_far config) (seen_more ls l) ∙ lines_go_on config (seen_lines ls) (seen_behind ls l) more room adds ∙ ap (λ (t : List ℕ). printed_so_far config (seen_lines ls) ++ t) (sym e);
 }
 
 -- ---- inputs
@@ -93,6 +96,7 @@ few_from number (Bad ∷ ls) = omega (arith, few_from (number + 1) ls)
 few_from number (Rejected status ∷ ls) = omega (arith, few_from (number + 1) ls)
 few_from number (Accepted callback input ∷ ls) = omega (arith, few_from (number + 1) ls)
 few_from number (Resharded shards ∷ ls) = omega (arith, few_from (number + 1) ls)
+few_from number (Announced nonce ∷ ls) = omega (arith, few_from (number + 1) ls)
 
 pub many_of : (config : Config) (ls : List Line) (inputs : List ReadInput) (added : List Out) (kept : ℕ → Option PendingLine) (number : ℕ) → Served config ls inputs added kept number → length (inputs_from 1 ls) ≡ length inputs
 many_of config ls inputs added kept number d = sym (ap length d.inputs_are ∙ length-map (inputs_from 1 ls) (λ (n : Numbered). n.input))
@@ -103,14 +107,14 @@ few_served config ls inputs added kept number d = omega (arith, few_from 1 ls, m
 -- ---- a line of a server
 
 pub served_line : (config : Config) (ls ms : List script.Line) (l k : script.Line) (inputs : List ReadInput) (added : List Out) (kept : ℕ → Option PendingLine) (number : ℕ) →
-    ms ≡ ls ++ l ∷ [] → l ≡ k → ((n : ℕ) → inputs_from n (said_by k ∷ []) ≡ []) → Served config (seen_lines ls) inputs added kept number → Served config (seen_lines ms) inputs added kept (number + 1)
+    ms ≡ ls ++ l ∷ [] → l ≡ k → ((n : ℕ) → inputs_from n (seen_behind ls k ∷ []) ≡ []) → Served config (seen_lines ls) inputs added kept number → Served config (seen_lines ms) inputs added kept (number + 1)
 served_line config ls ms l k inputs added kept number e is none d =
     let same : ms ≡ ls ++ k ∷ [] = e ∙ ap (λ (x : script.Line). ls ++ x ∷ []) is in
     subst (λ (us : List script.Line). Served config (seen_lines us) inputs added kept (number + 1)) (sym same)
-    (served_seen config ls k inputs added kept (number + 1) (served_bare config (seen_lines ls) (said_by k) inputs added kept number (none (length (seen_lines ls) + 1)) d))
+    (served_seen config ls k inputs added kept (number + 1) (served_bare config (seen_lines ls) (seen_behind ls k) inputs added kept number (none (length (seen_lines ls) + 1)) d))
 
 pub prints_bare : (config : Config) (ls ms : List script.Line) (l k : script.Line) (more : List Out) (text : List ℕ) (before after : Option (List ℕ)) → 0 < config.limits.batch → ms ≡ ls ++ l ∷ [] → l ≡ k →
-    AddsOuts config (inputs_in (seen_lines ls)) (said_by k) more → text ≡ line_prints (length (seen_lines ls) + 1) (inputs_from 1 (seen_lines ls ++ said_by k ∷ [])) (said_by k) more → Appends before after text → Prints config ls ms before after
+    AddsOuts config (inputs_in (seen_lines ls)) (seen_behind ls k) more → text ≡ line_prints (length (seen_lines ls) + 1) (inputs_from 1 (seen_lines ls ++ seen_behind ls k ∷ [])) (seen_behind ls k) more → Appends before after text → Prints config ls ms before after
 prints_bare config ls ms l k more text before after room e is adds t appends =
     let same : ms ≡ ls ++ k ∷ [] = e ∙ ap (λ (x : script.Line). ls ++ x ∷ []) is in
     subst (λ (us : List script.Line). Prints config ls us before after) (sym same) (prints_line config ls k more text before after room adds t appends)
@@ -124,6 +128,10 @@ served_same config other ls inputs those added these kept number e f h d = recor
   all_are = subst (λ (c : Config). AllKept kept (held c (inputs_in ls))) (sym e) d.all_are;
   number_is = d.number_is;
 }
+
+-- what an input is read as behind these lines, with the nonce that waits there
+abbrev pub read_behind : List script.Line → Input → ReadInput
+read_behind ls input = with_nonce (nonce_at (read_lines ls)) (read_input input)
 
 module _ {P : Type 0} {g : Ghosts P} where
   -- what a run that ended well says
@@ -148,9 +156,14 @@ module _ {P : Type 0} {g : Ghosts P} where
   }
   ran old inputs before after new (Err fault) u e run = cc
 
+  -- the same of an input that is read alike
+  pub hands_as : (old new : Round P g) (number : ℕ) (name : Option (List ℕ)) (given read : ReadInput) (before after : Option (List ℕ)) (kept keeps : ℕ → Option PendingLine) → given ≡ read →
+      Hands old (numbered number name given) new before after kept keeps → Hands old (numbered number name read) new before after kept keeps
+  hands_as old new number name given read before after kept keeps e h = subst (λ (x : ReadInput). Hands old (numbered number name x) new before after kept keeps) e h
+
   pub handed_served : (old new : Round P g) (ls ms : List script.Line) (l : script.Line) (callback : Option (String Global)) (input : Input) (before after : Option (List ℕ)) (kept keeps : ℕ → Option PendingLine) (number : ℕ) →
       Served (setup_in old).config (seen_lines ls) (inputs_of old) (added_by old) kept number →
-      Hands old (numbered (number + 1) (option_map string_bytes callback) (read_input input)) new before after kept keeps → ms ≡ ls ++ l ∷ [] → l ≡ script.Line.Accepted callback input →
+      Hands old (numbered (number + 1) (option_map string_bytes callback) (read_behind ls input)) new before after kept keeps → ms ≡ ls ++ l ∷ [] → l ≡ script.Line.Accepted callback input →
       Served (setup_in new).config (seen_lines ms) (inputs_of new) (added_by new) keeps (number + 1)
   handed_served old new ls ms l callback input before after kept keeps number d h e is =
       let config : Config = (setup_in new).config in
@@ -159,17 +172,17 @@ module _ {P : Type 0} {g : Ghosts P} where
       let was : Served config (seen_lines ls) (inputs_of old) (added_by old) kept number = served_same (setup_in old).config config (seen_lines ls) (inputs_of old) (inputs_of old) (added_by old) (added_by old) kept number h.setup refl refl d in
       subst (λ (us : List script.Line). Served config (seen_lines us) (inputs_of new) (added_by new) keeps (number + 1)) (sym same)
       (served_seen config ls k (inputs_of new) (added_by new) keeps (number + 1)
-      (served_handed config (seen_lines ls) (option_map string_bytes callback) (read_input input) (inputs_of old) (inputs_of new) (added_by old) (added_by new) kept keeps number was h.inputs h.all
+      (served_handed config (seen_lines ls) (option_map string_bytes callback) (read_behind ls input) (inputs_of old) (inputs_of new) (added_by old) (added_by new) kept keeps number was h.inputs h.all
       (h.prints (inputs_from 1 (seen_lines ls)) (many_of config (seen_lines ls) (inputs_of old) (added_by old) kept number was) d.kept_are).kept h.held_are))
 
   pub handed_prints : (old new : Round P g) (ls ms : List script.Line) (l : script.Line) (callback : Option (String Global)) (input : Input) (before after : Option (List ℕ)) (kept keeps : ℕ → Option PendingLine) (number : ℕ) → 0 < (setup_in new).config.limits.batch →
       Served (setup_in old).config (seen_lines ls) (inputs_of old) (added_by old) kept number →
-      Hands old (numbered (number + 1) (option_map string_bytes callback) (read_input input)) new before after kept keeps → ms ≡ ls ++ l ∷ [] → l ≡ script.Line.Accepted callback input →
+      Hands old (numbered (number + 1) (option_map string_bytes callback) (read_behind ls input)) new before after kept keeps → ms ≡ ls ++ l ∷ [] → l ≡ script.Line.Accepted callback input →
       Prints (setup_in new).config ls ms before after
   handed_prints old new ls ms l callback input before after kept keeps number room d h e is =
       let config : Config = (setup_in new).config in
       let name : Option (List ℕ) = option_map string_bytes callback in
-      let read : ReadInput = read_input input in
+      let read : ReadInput = read_behind ls input in
       let was : Served config (seen_lines ls) (inputs_of old) (added_by old) kept number = served_same (setup_in old).config config (seen_lines ls) (inputs_of old) (inputs_of old) (added_by old) (added_by old) kept number h.setup refl refl d in
       prints_bare config ls ms l (script.Line.Accepted callback input) h.more (outs_text (inputs_from 1 (seen_lines ls) ++ numbered (number + 1) name read ∷ []) h.more) before after room e is
       (adds_handed config (seen_lines ls) read (inputs_of old) (inputs_of new) (added_by old) (added_by new) h.more kept number was h.inputs h.all h.added)
@@ -192,19 +205,19 @@ prints_more config other ls ms a b c e p q = record {
 
 pub reads_none : (a : Option (List ℕ)) (ls : List script.Line) → ls ≡ [] → Reads a a ls
 reads_none None ls e = tt
-reads_none (Some xs) ls e = ap (λ (us : List script.Line). seen_lines us ++ map line_of (lines_of xs)) (sym e)
+reads_none (Some xs) ls e = ap (λ (us : List script.Line). read_lines us ++ map line_of (lines_of xs)) (sym e)
 
-reads_line : (xs ys zs : List ℕ) (ls ms : List script.Line) (line : script.Line) → ms ≡ ls ++ line ∷ [] → map line_of (lines_of xs) ≡ seen_lines ls ++ map line_of (lines_of ys) → NextLine line ys (Some zs) →
-    map line_of (lines_of xs) ≡ seen_lines ms ++ map line_of (lines_of zs)
+reads_line : (xs ys zs : List ℕ) (ls ms : List script.Line) (line : script.Line) → ms ≡ ls ++ line ∷ [] → map line_of (lines_of xs) ≡ read_lines ls ++ map line_of (lines_of ys) → NextLine line ys (Some zs) →
+    map line_of (lines_of xs) ≡ read_lines ms ++ map line_of (lines_of zs)
 reads_line xs ys zs ls ms line e r n =
     let left : zs ≡ rest_of ys = let some : Some zs ≡ Some (rest_of ys) = n.left in cc in
     let others : List Line = map line_of (lines_of (rest_of ys)) in
     r
-    ∙ ap (λ (us : List (List ℕ)). seen_lines ls ++ map line_of us) n.behind
-    ∙ ap (λ (k : Line). seen_lines ls ++ k ∷ others) (sym n.said)
-    ∙ sym (append_assoc (seen_lines ls) (said_by line ∷ []) others)
-    ∙ ap (λ (us : List Line). us ++ others) (sym (ap seen_lines e ∙ seen_more ls line))
-    ∙ ap (λ (bs : List ℕ). seen_lines ms ++ map line_of (lines_of bs)) (sym left)
+    ∙ ap (λ (us : List (List ℕ)). read_lines ls ++ map line_of us) n.behind
+    ∙ ap (λ (k : Line). read_lines ls ++ k ∷ others) (sym n.said)
+    ∙ sym (append_assoc (read_lines ls) (said_by line ∷ []) others)
+    ∙ ap (λ (us : List Line). us ++ others) (sym (ap read_lines e ∙ read_more ls line))
+    ∙ ap (λ (bs : List ℕ). read_lines ms ++ map line_of (lines_of bs)) (sym left)
 
 reads_by : (xs ys : List ℕ) (c : Option (List ℕ)) (ls ms : List script.Line) (line : script.Line) → ms ≡ ls ++ line ∷ [] → Reads (Some xs) (Some ys) ls → NextLine line ys c → Reads (Some xs) c ms
 reads_by xs ys None ls ms line e r n = let some : None ≡ Some (rest_of ys) = n.left in cc
@@ -216,7 +229,7 @@ reads_more (Some xs) None c ls ms next line is e r n = absurd r
 reads_more (Some xs) (Some ys) c ls ms next line is e r n = reads_by xs ys c ls ms line e r (subst (λ (o : Option script.Line). IsNext o ys c) is n)
 
 reads_last : (xs ys : List ℕ) (c : Option (List ℕ)) (ls : List script.Line) → Reads (Some xs) (Some ys) ls → IsNext None ys c → IsAll (Some xs) ls
-reads_last xs ys c ls r n = sym (r ∙ ap (λ (bs : List ℕ). seen_lines ls ++ map line_of (lines_of bs)) n.0 ∙ append-nil (seen_lines ls))
+reads_last xs ys c ls r n = sym (r ∙ ap (λ (bs : List ℕ). read_lines ls ++ map line_of (lines_of bs)) n.0 ∙ append-nil (read_lines ls))
 
 pub reads_end : (a b c : Option (List ℕ)) (ls : List script.Line) (next : Option script.Line) → next ≡ None → Reads a b ls → IfSome b (λ bytes. IsNext next bytes c) → IsAll a ls
 reads_end None b c ls next is r n = tt
@@ -224,14 +237,14 @@ reads_end (Some xs) None c ls next is r n = absurd r
 reads_end (Some xs) (Some ys) c ls next is r n = reads_last xs ys c ls r (subst (λ (o : Option script.Line). IsNext o ys c) is n)
 
 pub number_more : (n m : ℕ) (ls ms : List script.Line) (l : script.Line) → ms ≡ ls ++ l ∷ [] → n ≡ length (seen_lines ls) → m ≡ length (seen_lines ms) → m ≡ n + 1
-number_more n m ls ms l e f h = omega (arith, f, h, ap (λ (us : List script.Line). length (seen_lines us)) e, ap length (seen_more ls l), length-append (seen_lines ls) (said_by l ∷ []))
+number_more n m ls ms l e f h = omega (arith, f, h, ap (λ (us : List script.Line). length (seen_lines us)) e, ap length (seen_more ls l), length-append (seen_lines ls) (seen_behind ls l ∷ []))
 
-printed_all : {A E : Type 0} (config : Config) (bytes : List ℕ) (ls : List script.Line) (a b d : Option (List ℕ)) (r : Result A E) → seen_lines ls ≡ map line_of (lines_of bytes) → Prints config [] ls a b →
+printed_all : {A E : Type 0} (config : Config) (bytes : List ℕ) (ls : List script.Line) (a b d : Option (List ℕ)) (r : Result A E) → read_lines ls ≡ map line_of (lines_of bytes) → Prints config [] ls a b →
     Writes b d r (held_lines config ls) → Writes a d r (replay_text config bytes)
 printed_all config bytes ls a b d r e p h =
     let text : p.text ≡ printed_so_far config (seen_lines ls) = sym p.is in
     subst (Writes a d r)
-    (ap (λ (t : List ℕ). t ++ held_lines config ls) text ∙ ap (λ (us : List Line). printed config (inputs_from 1 us) us) e)
+    (ap (λ (t : List ℕ). t ++ held_lines config ls) text ∙ ap (λ (us : List Line). printed config (inputs_from 1 (with_nonces 0 us)) (with_nonces 0 us)) e)
     (writes_second a b d r p.text (held_lines config ls) p.appends h)
 
 pub replayed : {A E : Type 0} (config other : Config) (bytes : Option (List ℕ)) (ls : List script.Line) (a b d : Option (List ℕ)) (r : Result A E) → other ≡ config → IsAll bytes ls → Prints other [] ls a b → Writes b d r (held_lines other ls) →

@@ -5,7 +5,7 @@ use Rattle.bx_replay.specs.Kept.{AllKept, AreKept, PrintsOuts, held_texts}
 use Rattle.bx_replay.specs.declared.{kept.PendingLine.PendingLine, server.ReplayServer.ReplayServer}
 use Rattle.bx_advice.specs.declared.config.Config.{Config}
 use Rattle.bx_entry.specs.Words.{ReadInput, Out, held, outs}
-use Rattle.bx_script.specs.Words.{Line, Numbered, inputs_from, line_of, lines_of, said_by, AppendsFront}
+use Rattle.bx_script.specs.Words.{Line, Numbered, inputs_from, line_of, line_with, lines_of, nonce_at, said_by, with_nonces, AppendsFront}
 use Rattle.bx_entry.specs.declared.Placing.{Ghosts}
 use Rattle.bx_fanout.specs.Rounds.{added_by, inputs_of, setup_in}
 use Rattle.bx_fanout.specs.declared.round.Round.{Round}
@@ -14,8 +14,16 @@ use Rattle.bx_script.specs.declared.line.Line as script
 use Rattle.bx_script.specs.declared.line.Line.TheVariants.{Bad, Rejected, Accepted, Resharded}
 
 -- the lines that were taken in, as the definitions have them
+abbrev pub read_lines : List script.Line → List Line
+read_lines ls = map said_by ls
+
+-- these lines, whose requests have their nonces
 abbrev pub seen_lines : List script.Line → List Line
-seen_lines ls = map said_by ls
+seen_lines ls = with_nonces 0 (read_lines ls)
+
+-- and one more line behind them
+abbrev pub seen_behind : List script.Line → script.Line → Line
+seen_behind ls l = line_with (nonce_at (read_lines ls)) (said_by l)
 
 -- among how many shards the sessions stand after a line
 abbrev pub shards_after : script.Line → ℕ → ℕ
@@ -38,12 +46,12 @@ pub record PrintsFront (config : Config) (old new : List script.Line) (before af
 abbrev pub Reads : Option (List ℕ) → Option (List ℕ) → List script.Line → Type 0
 Reads None new ls = ⊤
 Reads (Some xs) None ls = ⊥
-Reads (Some xs) (Some ys) ls = map line_of (lines_of xs) ≡ seen_lines ls ++ map line_of (lines_of ys)
+Reads (Some xs) (Some ys) ls = map line_of (lines_of xs) ≡ read_lines ls ++ map line_of (lines_of ys)
 
 -- these lines are all
 abbrev pub IsAll : Option (List ℕ) → List script.Line → Type 0
 IsAll None ls = ⊤
-IsAll (Some script) ls = seen_lines ls ≡ map line_of (lines_of script)
+IsAll (Some script) ls = read_lines ls ≡ map line_of (lines_of script)
 
 -- what is printed at the end for the lines that are held
 abbrev pub held_lines : Config → List script.Line → List ℕ
@@ -75,6 +83,7 @@ module _ {P : Type 0} {g : Ghosts P} where
     pub adds : outs (setup_in old).config (inputs_of old ++ one.input ∷ []) ≡ outs (setup_in old).config (inputs_of old) ++ more
     pub prints : (numbered : List Numbered) → length numbered ≡ length (inputs_of old) → AreKept numbered kept → AppendsFront before after (outs_text (numbered ++ one ∷ []) more)
 
-  -- A server has taken in its lines: the outs of their inputs are printed, and it keeps the others.
-  abbrev pub Serves : ReplayServer P g → Type 0
-  Serves s = Served (setup_in s.round).config (seen_lines s.lines) (inputs_of s.round) (added_by s.round) (get nat_cmp s.kept) s.number
+  -- A server has taken in its lines: the outs of their inputs are printed, and it keeps the others, and the nonce that waits for the next request.
+  pub record Serves (s : ReplayServer P g) : Type 0 where
+    pub served : Served (setup_in s.round).config (seen_lines s.lines) (inputs_of s.round) (added_by s.round) (get nat_cmp s.kept) s.number
+    pub nonce_is : s.nonce ≡ nonce_at (read_lines s.lines)

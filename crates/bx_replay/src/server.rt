@@ -9,10 +9,11 @@ ghost use Rattle.bx_entry.specs.Runs.{held, outs};
 ghost use Rattle.bx_fanout.specs.Rounds.{added_by, inputs_of, setup_in};
 ghost use Rattle.bx_script.specs.Output.{IsWriteFault, written};
 ghost use Rattle.bx_script.specs.Printing.{is_tick, numbered};
+ghost use Rattle.bx_script.specs.Replay.{nonce_left, with_nonce};
 
 use crate::kept::{PendingLine, print_outs};
 use bx_advice::{Config, ShardCount};
-use bx_entry::{Input, Placing};
+use bx_entry::{Arrival, Input, Placing};
 use bx_fanout::{Round, RoundFault};
 use bx_history::History;
 use bx_script::{Line, Output, ScriptFault, write_bad, write_status};
@@ -32,6 +33,8 @@ pub struct ReplayServer<P: Placing> {
     pub kept: BTreeMap<usize, PendingLine>,
     /// How many lines were taken in.
     pub number: u64,
+    /// The nonce of the next request.
+    pub nonce: u128,
     /// These lines.
     pub lines: History<Line>,
 }
@@ -53,6 +56,7 @@ pub fn new_server<P: Placing + Drop>(
         round,
         kept: BTreeMap::new(alloc),
         number: 0,
+        nonce: 0,
         lines: History::new(),
     })
 }
@@ -89,6 +93,8 @@ pub fn answer<T: Threads + Sync, P: Placing + Drop + Send + Sync, W: Write>(
             Ok(server)
         }
         Line::Accepted { callback, input } => {
+            let (input, left) = take_nonce(server.nonce, input);
+            server.nonce = left;
             let (round, kept) = (&mut server.round, &mut server.kept);
             hand(rt, alloc, round, kept, number, callback, input, writer)?;
             Ok(server)
@@ -97,6 +103,7 @@ pub fn answer<T: Threads + Sync, P: Placing + Drop + Send + Sync, W: Write>(
             let ReplayServer {
                 round,
                 kept,
+                nonce,
                 lines,
                 ..
             } = server;
@@ -105,9 +112,32 @@ pub fn answer<T: Threads + Sync, P: Placing + Drop + Send + Sync, W: Write>(
                 round,
                 kept,
                 number,
+                nonce,
                 lines,
             })
         }
+        Line::Announced { nonce } => {
+            server.nonce = nonce;
+            Ok(server)
+        }
+    }
+}
+
+// The input, which has the nonce that waits where it is a request, and the nonce that waits behind it.
+fn take_nonce(nonce: u128, input: Input) -> (Input, u128)
+    ensures input { read_input result.0 ≡ with_nonce nonce (read_input input) }
+    ensures left { result.1 ≡ nonce_left nonce (read_input input) }
+{
+    match input {
+        Input::Post(Arrival { moment, bodies, .. }) => {
+            let arrival = Arrival {
+                moment,
+                nonce,
+                bodies,
+            };
+            (Input::Post(arrival), 0)
+        }
+        Input::Tick(moment) => (Input::Tick(moment), nonce),
     }
 }
 

@@ -18,6 +18,7 @@ fn told(alloc: Global, line: &Line) -> Result<String, AllocError> {
         Line::Bad => String::from_str(alloc, "bad"),
         Line::Rejected { status } => format!(in alloc; "turned {}", status.code()),
         Line::Resharded { shards } => format!(in alloc; "shards {}", shards.get()),
+        Line::Announced { nonce } => format!(in alloc; "nonce {nonce}"),
         Line::Accepted { callback, input } => {
             let name = match callback {
                 Some(name) => name.as_str(),
@@ -66,10 +67,10 @@ fn all_told<R: BufRead>(alloc: Global, reader: &mut R) -> Result<String, ScriptF
 }
 
 const SCRIPT: &[u8] =
-    b"0 P []\r\n0 T\r\n\0\n0 P \0\n\n000000000000000000000000000007 T\n100000000000000000000000000007 T\n T\n00 T\n1 G jsonp=cb&message=%5B%5D\n0 G \n0 S 0\n0 S 64\n0 S 65\n0 S 00000000000000000000000000001\n0 T";
+    b"0 P []\r\n0 T\r\n\0\n0 P \0\n\n000000000000000000000000000007 T\n100000000000000000000000000007 T\n T\n00 T\n1 G jsonp=cb&message=%5B%5D\n0 G \n0 S 0\n0 S 64\n0 S 65\n0 S 00000000000000000000000000001\n0 T\n2 F message=%5B%5D&jsonp=cb&message=+\n0 F \n0 F jsonp=cb\n0 F\n3 N 000000000000000000000000000000fF\n0 N 00000000000000000000000000000ff\n0 N 0000000000000000000000000000000ff\n0 N +00000000000000000000000000000ff\n0 N 000000000000000000000000000000fg\n0 N ffffffffffffffffffffffffffffffff";
 
 const TOLD: &str =
-    "post 0 - |[]\r|;bad;bad;post 0 - |\0|;bad;tick 7;bad;bad;tick 0;post 1 cb |[]|;turned 400;bad;shards 64;bad;shards 1;tick 0;";
+    "post 0 - |[]\r|;bad;bad;post 0 - |\0|;bad;tick 7;bad;bad;tick 0;post 1 cb |[]|;turned 400;bad;shards 64;bad;shards 1;tick 0;post 2 - |[]| | |;turned 400;turned 400;bad;nonce 255;bad;bad;bad;bad;nonce 340282366920938463463374607431768211455;";
 
 // Gives one byte a read, and a fault in place of the read of a number.
 #[derive(Drop)]
@@ -183,6 +184,21 @@ fn long_lines_say_what_they_say(rt: HostRuntime) -> Result<(), Fail> {
         ("0 P ", " ", BODY_LIMIT + 1, "", "turned 413;tick 5;"),
         ("", "0", BODY_LIMIT + 40, "3 T", "tick 3;tick 5;"),
         ("0 S ", "0", BODY_LIMIT, "1", "bad;tick 5;"),
+        (
+            "0 F message=",
+            " ",
+            BODY_LIMIT - 8,
+            "",
+            "post 0 - |1048568|;tick 5;",
+        ),
+        (
+            "0 F message=",
+            " ",
+            BODY_LIMIT - 7,
+            "",
+            "turned 413;tick 5;",
+        ),
+        ("0 N ", "0", BODY_LIMIT, "1", "bad;tick 5;"),
     ] {
         let script = long_script(alloc, head, byte, count, end)?;
         check_told(&rt, alloc, &mut script.as_bytes(), Ok(expected));

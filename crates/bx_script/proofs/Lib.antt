@@ -1,4 +1,5 @@
 pub mod Keeping
+pub mod Nonces
 pub mod Cuts
 pub mod Parts
 pub mod Says

@@ -1,12 +1,10 @@
 -- What is kept of a line says what the line says.
 use Rattle.std.proofs.Common.{◌≡◌, ℕ, zero, suc, ◌+◌, ◌-◌, ◌*◌, ◌^◌, ◌<◌, ◌≤◌, ◌&&◌, ◌⊎◌, inl, inr, Bool, true, false, eqb, ltb, cond, List, [], ◌∷◌, ◌++◌, length, take, refl, sym, ap, subst, ◌∙◌, arith, Option, Some, None, take_all, eqb-true, fold, lit≤, le_trans, length-take-le}
 use Rattle.std.proofs.lemmas.{Grind.common_steps, List.take-append-le, Bool.lt-ltb, Bool.ltb-true, Bool.ltb-false, Bool.le-ltb, Bool.Decides.nat_tests}
-use Rattle.std.specs.{Str.Parse.digits_value, Str.Parse.digits_value_after, Char.digit_value, Str.bytes_eq, List.before_first, List.after_first, List.starts_with}
-use Rattle.std.specs.Prelude.{codes, nat_eq}
-use Rattle.bx_entry.specs.Inputs.{Tick}
+use Rattle.std.specs.{Str.Parse.digits_value, Str.Parse.digits_value_after, Char.digit_value, List.before_first, List.after_first}
 use Rattle.bx_advice.specs.declared.config.TheConstants.{BODY_LIMIT}
 use Rattle.bx_message.specs.Fields.{number_of, is_digits}
-use Rattle.bx_script.specs.Words.{is_space, Refused, body_taken, query_taken, Line, Bad, Accepted, command, line_by, line_of, resharded_by, handed_by, without_zeros, kept_with, keep_byte}
+use Rattle.bx_script.specs.Words.{is_space, Bad, command, line_by, line_of, without_zeros, kept_with, keep_byte}
 use Rattle.bx_script.specs.declared.kept.TheConstants.{KEPT_LIMIT}
 use Rattle.bx_script.proofs.Keeping.{keeps_room, keeps_behind_zero, strips, IsStripped}
 use Rattle.bx_script.proofs.Cuts.{Lacks, lacks_taken, after_all, before_it, after_it, before_past, after_past, Parted, parted}
@@ -67,12 +65,16 @@ many_digits _ h long = absurd (omega arith)
 
 -- ---- a long line
 
+-- many digits are no nonce
+too_many : (digits : List ℕ) → BODY_LIMIT < length digits → eqb (length digits) 32 ≡ false
+too_many digits many = grind (arith, common_steps, nat_tests)
+
 -- it says the same without its end
 cut_command : (moment n : ℕ) (rest : List ℕ) → BODY_LIMIT + 2 < n → n < length rest → command moment (take n rest) ≡ command moment rest
 cut_command moment (suc (suc (suc n))) (a ∷ b ∷ c ∷ rest) long within =
     let short : BODY_LIMIT < length (c ∷ take n rest) = omega (arith, length-take-le n rest (omega arith)) in
     let whole : BODY_LIMIT < length (c ∷ rest) = omega arith in
-    rw (lt-ltb BODY_LIMIT (length (c ∷ take n rest)) short, lt-ltb BODY_LIMIT (length (c ∷ rest)) whole)
+    rw (lt-ltb BODY_LIMIT (length (c ∷ take n rest)) short, lt-ltb BODY_LIMIT (length (c ∷ rest)) whole, too_many (c ∷ take n rest) short, too_many (c ∷ rest) whole)
 cut_command moment _ _ long within = absurd (omega arith)
 
 no_command : (o : Option ℕ) → line_by o [] ≡ Bad

@@ -1,6 +1,6 @@
 -- What a replay prints for a script, from the script's bytes to what is printed.
-use Rattle.std.specs.Prelude.{ℕ, ◌+◌, ◌==◌, ◌&&◌, Bool, List, [], ◌∷◌, ◌++◌, length, map, flat_map, drop, nat_lt, nat_eq, nat_le, codes, decimal, if◌then◌else◌, Option, Some, None, slice_get, Result, Ok, Err}
-use Rattle.std.specs.{List.starts_with, List.slice_split, List.before_first, List.after_first, Str.bytes_eq}
+use Rattle.std.specs.Prelude.{ℕ, ◌+◌, ◌==◌, ◌&&◌, Bool, List, [], ◌∷◌, ◌++◌, length, map, flat_map, fold, drop, nat_lt, nat_eq, nat_le, codes, decimal, if◌then◌else◌, Option, Some, None, slice_get, Result, Ok, Err}
+use Rattle.std.specs.{Char.is_ascii_hexdigit, List.starts_with, List.slice_split, List.before_first, List.after_first, List.list_all, Str.bytes_eq, Str.Parse.digits_value}
 use Rattle.bx_advice.specs.declared.config.Config.{Config}
 use Rattle.bx_advice.specs.declared.config.TheConstants.{BODY_LIMIT}
 use Rattle.bx_message.specs.declared.reply.Item.{Item}
@@ -52,6 +52,10 @@ body_by (Err error) = not_taken error
 abbrev pub body_taken : List ℕ → Taken
 body_taken body = body_by (post_taken None body)
 
+-- how a form is taken: as the body of a POST with the media type of a form
+abbrev pub form_taken : List ℕ → Taken
+form_taken form = body_by (post_taken (Some (codes "application/x-www-form-urlencoded")) form)
+
 -- the documents of a query with the name of its callback
 abbrev pub query_by : Result (List ℕ × List (List ℕ)) TransportError → Taken
 query_by (Ok query) = Documents (Some query.0) query.1
@@ -61,14 +65,15 @@ query_by (Err error) = not_taken error
 abbrev pub query_taken : List ℕ → Taken
 query_taken query = query_by (get_taken query)
 
--- a line of another form, one that its transport refuses, an input with the name of its callback, or a change of the number of shards, which is no input
+-- a line of another form, one that its transport refuses, an input with the name of its callback, or what is no input: a change of the number of shards, or the nonce of a request that comes
 pub data Line : Type 0 where
   Bad : Line
   Rejected : (status : ℕ) → Line
   Accepted : (callback : Option (List ℕ)) → (input : ReadInput) → Line
   Resharded : (shards : ℕ) → Line
+  Announced : (nonce : ℕ) → Line
 
--- the documents of a request, with nonce 0
+-- the documents of a request, with the nonce 0 until lines give it theirs
 abbrev pub handed_by : ℕ → Taken → Line
 handed_by moment (Refused status) = Rejected status
 handed_by moment (Documents callback documents) = Accepted callback (read_by moment 0 (request_messages documents))
@@ -82,13 +87,28 @@ reshards (Some shards) = if nat_lt 0 shards && nat_le shards 64 then Resharded s
 abbrev pub resharded_by : List ℕ → Line
 resharded_by digits = if nat_lt BODY_LIMIT (length digits) then Bad else reshards (number_of digits)
 
+-- the number that 32 hexadecimal digits of either case say, and nothing else says one
+abbrev pub nonce_of : List ℕ → Option ℕ
+nonce_of digits = if length digits == 32 && list_all is_ascii_hexdigit digits then Some (digits_value 16 digits) else None
+
+-- a nonce
+abbrev pub announces : Option ℕ → Line
+announces None = Bad
+announces (Some nonce) = Announced nonce
+
+-- its digits
+abbrev pub announced_by : List ℕ → Line
+announced_by digits = announces (nonce_of digits)
+
 -- what follows a line's moment
 abbrev pub command : ℕ → List ℕ → Line
 command moment rest =
     if bytes_eq rest (codes "T") then Accepted None (Tick moment)
     else (if starts_with nat_eq rest (codes "P ") then handed_by moment (body_taken (drop 2 rest))
+    else (if starts_with nat_eq rest (codes "F ") then handed_by moment (form_taken (drop 2 rest))
     else (if starts_with nat_eq rest (codes "G ") then handed_by moment (query_taken (drop 2 rest))
-    else (if starts_with nat_eq rest (codes "S ") then resharded_by (drop 2 rest) else Bad)))
+    else (if starts_with nat_eq rest (codes "S ") then resharded_by (drop 2 rest)
+    else (if starts_with nat_eq rest (codes "N ") then announced_by (drop 2 rest) else Bad)))))
 
 -- digits that fit 64 bits come first
 abbrev pub line_by : Option ℕ → List ℕ → Line
@@ -98,6 +118,40 @@ line_by (Some moment) rest = command moment rest
 -- a moment, a space and a command
 abbrev pub line_of : List ℕ → Line
 line_of text = line_by (number_of (before_first is_space text)) (after_first is_space text)
+
+-- ---- nonces
+
+-- an input, whose messages have this nonce where it is a request
+abbrev pub with_nonce : ℕ → ReadInput → ReadInput
+with_nonce nonce (Request moment other messages) = Request moment nonce messages
+with_nonce nonce (Unread fault) = Unread fault
+with_nonce nonce (Tick moment) = Tick moment
+
+-- a line, whose request has this nonce
+abbrev pub line_with : ℕ → Line → Line
+line_with nonce (Accepted callback input) = Accepted callback (with_nonce nonce input)
+line_with nonce line = line
+
+-- the nonce that waits behind an input: a request takes it, even where its documents can't be read, and 0 is left; a tick leaves it
+abbrev pub nonce_left : ℕ → ReadInput → ℕ
+nonce_left nonce (Request moment other messages) = 0
+nonce_left nonce (Unread fault) = 0
+nonce_left nonce (Tick moment) = nonce
+
+-- and behind a line: what is announced replaces it, and what is no input leaves it
+abbrev pub nonce_behind : ℕ → Line → ℕ
+nonce_behind nonce (Announced other) = other
+nonce_behind nonce (Accepted callback input) = nonce_left nonce input
+nonce_behind nonce line = nonce
+
+-- and behind a script's first lines, where it is 0 before any
+abbrev pub nonce_at : List Line → ℕ
+nonce_at ls = fold nonce_behind 0 ls
+
+-- lines, whose requests each have the nonce that waits for it; `nonce` waits for the first
+abbrev pub with_nonces : ℕ → List Line → List Line
+with_nonces nonce [] = []
+with_nonces nonce (line ∷ ls) = line_with nonce line ∷ with_nonces (nonce_behind nonce line) ls
 
 -- ---- inputs
 
@@ -145,6 +199,7 @@ printed_from ws numbered number index (Bad ∷ ls) = line_text number (codes "ba
 printed_from ws numbered number index (Rejected status ∷ ls) = line_text number (decimal status) ++ printed_from ws numbered (number + 1) index ls
 printed_from ws numbered number index (Accepted callback input ∷ ls) = outs_at ws numbered index ++ printed_from ws numbered (number + 1) (index + 1) ls
 printed_from ws numbered number index (Resharded shards ∷ ls) = printed_from ws numbered (number + 1) index ls
+printed_from ws numbered number index (Announced nonce ∷ ls) = printed_from ws numbered (number + 1) index ls
 
 -- an input that isn't whole at the end
 abbrev pub held_text : Option Numbered → List ℕ
@@ -159,4 +214,4 @@ printed config numbered ls =
 -- what the lines print in order, and then the lines that are held
 abbrev pub replay_text : Config → List ℕ → List ℕ
 replay_text config script =
-    let ls = map line_of (lines_of script) in printed config (inputs_from 1 ls) ls
+    let ls = with_nonces 0 (map line_of (lines_of script)) in printed config (inputs_from 1 ls) ls

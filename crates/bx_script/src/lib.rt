@@ -5,6 +5,7 @@ mod error;
 mod kept;
 mod line;
 mod lines;
+mod nonce;
 mod output;
 mod part;
 mod print;

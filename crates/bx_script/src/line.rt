@@ -4,15 +4,20 @@ ghost use Rattle.std.specs.List.{after_first, before_first};
 ghost use Rattle.bx_cut.specs.Bodies.{texts_of};
 ghost use Rattle.bx_message.specs.Statuses.{code_of};
 ghost use Rattle.bx_transport.specs.Statuses.{transport_status};
-ghost use Rattle.bx_script.specs.Replay.{Documents, Rejected, body_taken, command, handed_by, is_space, line_of, query_taken, resharded_by, reshards};
+ghost use Rattle.bx_transport.specs.Transports.{post_taken};
+ghost use Rattle.bx_script.specs.Replay.{Documents, Rejected, announced_by, body_by, command, handed_by, is_space, line_of, query_taken, resharded_by, reshards};
 ghost use Rattle.bx_script.specs.Lines.{said_by};
 
+use crate::nonce::nonce_of;
 use bx_advice::{BODY_LIMIT, ShardCount};
 use bx_cut::Bodies;
 use bx_entry::{Arrival, Input};
 use bx_message::{Status, number_of};
 use bx_transport::{TransportError, read_get, read_post};
 use std::alloc::{AllocError, Global};
+
+// (HTML, the media type of a form.)
+const FORM_TYPE: &[u8] = b"application/x-www-form-urlencoded";
 
 /// What a line of a script says.
 #[derive(Drop)]
@@ -28,7 +33,7 @@ pub enum Line {
     Accepted {
         /// The name of the callback, of a GET alone.
         callback: Option<String>,
-        /// The request or the tick.
+        /// The request, whose nonce is 0, or the tick.
         input: Input,
     },
     /// From here on there are so many shards.
@@ -36,12 +41,18 @@ pub enum Line {
         /// How many they are, 1 to 64.
         shards: ShardCount,
     },
+    /// The next request has a nonce.
+    Announced {
+        /// This one.
+        nonce: u128,
+    },
 }
 
 impl Line {
     /// Reads a line: digits, which are a moment in milliseconds, a space, and behind them `T` alone, `P`
-    /// with a space and a body, `G` with a space and a query, or `S` with a space and a number of
-    /// shards. A body is copied once. An error means that memory was refused.
+    /// with a space and a body, `F` with a space and a form, `G` with a space and a query, `S` with a space
+    /// and a number of shards, or `N` with a space and 32 hexadecimal digits, which are a nonce. A body is
+    /// copied once. An error means that memory was refused.
     pub fn read(alloc: Global, text: &[u8]) -> Result<Line, AllocError>
         ensures said { IfOk result (λ line. said_by line ≡ line_of text.now) }
     {
@@ -82,22 +93,34 @@ fn read_command(alloc: Global, moment: u64, rest: &[u8]) -> Result<Line, AllocEr
         });
     }
     if let Some(body) = rest.strip_prefix(b"P ") {
-        return read_body(alloc, moment, body);
+        return read_body(alloc, moment, None, body);
+    }
+    if let Some(form) = rest.strip_prefix(b"F ") {
+        return read_body(alloc, moment, Some(FORM_TYPE), form);
     }
     if let Some(query) = rest.strip_prefix(b"G ") {
         return read_query(alloc, moment, query);
     }
-    match rest.strip_prefix(b"S ") {
-        Some(digits) => Ok(read_shards(digits)),
+    if let Some(digits) = rest.strip_prefix(b"S ") {
+        return Ok(read_shards(digits));
+    }
+    match rest.strip_prefix(b"N ") {
+        Some(digits) => Ok(read_nonce(digits)),
         None => Ok(Line::Bad),
     }
 }
 
-// A POST with this body, of no content type.
-fn read_body(alloc: Global, moment: u64, body: &[u8]) -> Result<Line, AllocError>
-    ensures { IfOk result (λ line. said_by line ≡ handed_by moment (body_taken body.now)) }
+// A POST with this body, of this content type or none.
+fn read_body(
+    alloc: Global,
+    moment: u64,
+    content_type: Option<&[u8]>,
+    body: &[u8],
+) -> Result<Line, AllocError>
+    ensures { IfOk result (λ line.
+        said_by line ≡ handed_by moment (body_by (post_taken (option_map (λ t. t.now) content_type.entry) body.now))) }
 {
-    match read_post(alloc, None, Vec::from_slice(alloc, body)?) {
+    match read_post(alloc, content_type, Vec::from_slice(alloc, body)?) {
         Ok(bodies) => Ok(request(moment, None, bodies)),
         Err(error) => turned(error),
     }
@@ -157,6 +180,16 @@ fn shards_of(number: u64) -> Line
 {
     match ShardCount::new(number as usize) {
         Some(shards) => Line::Resharded { shards },
+        None => Line::Bad,
+    }
+}
+
+// The nonce that these digits say.
+fn read_nonce(digits: &[u8]) -> Line
+    ensures { said_by result ≡ announced_by digits.now }
+{
+    match nonce_of(digits) {
+        Some(nonce) => Line::Announced { nonce },
         None => Line::Bad,
     }
 }

@@ -19,6 +19,7 @@ pub mod Senders
 pub mod Sessionless
 pub mod Closings
 pub mod Lines
+pub mod Nonces
 pub mod Below
 pub mod Opens
 pub mod AtOnce

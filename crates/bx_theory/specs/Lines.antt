@@ -1,8 +1,9 @@
 -- What a replay has printed where it has taken in the first lines of a script, what one more line prints, and what comes at the end.
-use Rattle.std.specs.Prelude.{ℕ, ◌+◌, ◌<◌, ◌≡◌, List, [], ◌∷◌, ◌++◌, length, map, flat_map, slice_get, codes, decimal, ⊤}
+use Rattle.std.specs.Prelude.{ℕ, ◌+◌, ◌<◌, ◌≡◌, Bool, true, false, List, [], ◌∷◌, ◌++◌, length, map, flat_map, slice_get, codes, decimal, ⊤}
+use Rattle.std.specs.List.{list_all}
 use Rattle.bx_advice.specs.declared.config.Config.{Config}
 use Rattle.bx_entry.specs.Words.{ReadInput, Out, wholes, outs, held}
-use Rattle.bx_script.specs.Replay.{Line, Bad, Rejected, Accepted, Resharded, Numbered, inputs_from, line_text, out_by, printed_from, printed, held_text}
+use Rattle.bx_script.specs.Replay.{Line, Bad, Rejected, Accepted, Resharded, Announced, Numbered, inputs_from, line_of, line_text, line_with, nonce_at, out_by, printed_from, printed, held_text, with_nonces}
 
 -- the inputs among a script's first lines
 abbrev pub inputs_in : List Line → List ReadInput
@@ -27,6 +28,7 @@ line_prints number numbered Bad more = line_text number (codes "bad")
 line_prints number numbered (Rejected status) more = line_text number (decimal status)
 line_prints number numbered (Accepted callback input) more = outs_text numbered more
 line_prints number numbered (Resharded shards) more = []
+line_prints number numbered (Announced nonce) more = []
 
 -- One more line's input stands behind those before it;
 abbrev pub InputsGoOn : Type 0
@@ -41,3 +43,16 @@ LinesGoOn = (config : Config) (ls : List Line) (l : Line) (more : List Out) → 
 abbrev pub HeldComeLast : Type 0
 HeldComeLast = (config : Config) (ls : List Line) →
     printed config (inputs_from 1 ls) ls ≡ printed_so_far config ls ++ flat_map (λ index. held_text (slice_get (inputs_from 1 ls) index)) (held config (inputs_in ls))
+
+-- whether a line is none that says a nonce
+abbrev pub says_no_nonce : Line → Bool
+says_no_nonce (Announced nonce) = false
+says_no_nonce _ = true
+
+-- One more line's request has the nonce that waits behind the lines before it, which keep theirs;
+abbrev pub NoncesGoOn : Type 0
+NoncesGoOn = (ls : List Line) (l : Line) → with_nonces 0 (ls ++ l ∷ []) ≡ with_nonces 0 ls ++ line_with (nonce_at ls) l ∷ []
+
+-- and where no line says a nonce, all lines are as they are read.
+abbrev pub NoncesStay : Type 0
+NoncesStay = (texts : List (List ℕ)) → list_all says_no_nonce (map line_of texts) ≡ true → with_nonces 0 (map line_of texts) ≡ map line_of texts

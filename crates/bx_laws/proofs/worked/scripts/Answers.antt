@@ -1,5 +1,5 @@
 -- Each run is computed.
-use Rattle.bx_laws.proofs.Computed.{script_lines, line_forms, script_printed}
+use Rattle.bx_laws.proofs.Computed.{script_lines, line_forms, nonce_forms, nonces_wait, script_printed, nonce_printed}
 use Rattle.bx_laws.proofs.worked.scripts.Goals as goal
 
 pub returns-clause-script_lines : goal.returns-clause-script_lines
@@ -8,5 +8,14 @@ returns-clause-script_lines c = script_lines
 pub returns-clause-line_forms : goal.returns-clause-line_forms
 returns-clause-line_forms c = line_forms
 
+pub returns-clause-nonce_forms : goal.returns-clause-nonce_forms
+returns-clause-nonce_forms c = nonce_forms
+
+pub returns-clause-nonces_wait : goal.returns-clause-nonces_wait
+returns-clause-nonces_wait c = nonces_wait
+
 pub returns-clause-script_printed : goal.returns-clause-script_printed
 returns-clause-script_printed c = script_printed
+
+pub returns-clause-nonce_printed : goal.returns-clause-nonce_printed
+returns-clause-nonce_printed c = nonce_printed

@@ -14,7 +14,7 @@ loop-server-init g c =
     record {
       serves = c.requires.serves;
       config = refl;
-      number = omega (arith, c.requires.serves.number_is ∙ ap (λ (ls : List Line). length (seen_lines ls)) c.requires.none, c.args.lines.now.reads.few);
+      number = omega (arith, c.requires.serves.served.number_is ∙ ap (λ (ls : List Line). length (seen_lines ls)) c.requires.none, c.args.lines.now.reads.few);
       reads = reads_none (unread g.R.Read.remaining c.args.lines.now) s.lines c.requires.none;
       prints = prints_none (setup_in s.round).config s.lines (written g.W.Write.contents c.args.writer.now) c.requires.none;
     }
@@ -47,7 +47,7 @@ loop-server-preserved g c =
     record {
       serves = e.serves;
       config = e.config ∙ i.config;
-      number = omega (arith, i.number, number_more old.number new.number old.lines new.lines c.in-Some.line e.lines i.serves.number_is e.serves.number_is, c.in_ok-line.ensures.reads);
+      number = omega (arith, i.number, number_more old.number new.number old.lines new.lines c.in-Some.line e.lines i.serves.served.number_is e.serves.served.number_is, c.in_ok-line.ensures.reads);
       reads = reads_more (unread g.R.Read.remaining c.args.lines.now) (unread g.R.Read.remaining c.loop-server.lines) (unread g.R.Read.remaining c.next_line.new.self) old.lines new.lines c.in_ok-line.field-0 c.in-Some.line c.in-Some.is e.lines i.reads c.in_ok-line.ensures.next;
       prints = prints_more (setup_in old.round).config (setup_in new.round).config old.lines new.lines (written g.W.Write.contents c.args.writer.now) (written g.W.Write.contents c.loop-server.writer) (written g.W.Write.contents c.answer.new.writer) e.config i.prints e.prints;
     }

@@ -14,8 +14,8 @@ pub print_held-requires : goal.print_held-requires
 print_held-requires g c =
     let s = c.args.server.now in
     record {
-      kept = held_served (setup_in s.round).config (seen_lines s.lines) (inputs_of s.round) (added_by s.round) (get nat_cmp s.kept) s.number c.deref.result.now c.requires.serves
-          (c.deref.ensures.value ∙ c.in_ok-numbers.ensures.settled (added_served (setup_in s.round).config (seen_lines s.lines) (inputs_of s.round) (added_by s.round) (get nat_cmp s.kept) s.number c.requires.serves));
+      kept = held_served (setup_in s.round).config (seen_lines s.lines) (inputs_of s.round) (added_by s.round) (get nat_cmp s.kept) s.number c.deref.result.now c.requires.serves.served
+          (c.deref.ensures.value ∙ c.in_ok-numbers.ensures.settled (added_served (setup_in s.round).config (seen_lines s.lines) (inputs_of s.round) (added_by s.round) (get nat_cmp s.kept) s.number c.requires.serves.served));
     }
 
 pub returns-in_err-numbers-clause-text : goal.returns-in_err-numbers-clause-text
@@ -28,7 +28,7 @@ returns-in_err-numbers-clause-text g c =
 pub returns-in_err-print_held-clause-text : goal.returns-in_err-print_held-clause-text
 returns-in_err-print_held-clause-text g c =
     let s = c.args.server.now in
-    let d = c.requires.serves in
+    let d = c.requires.serves.served in
     let numbered = inputs_from 1 (seen_lines s.lines) in
     let numbers : c.deref.result.now ≡ held (setup_in s.round).config (inputs_in (seen_lines s.lines)) =
     c.deref.ensures.value ∙ c.in_ok-numbers.ensures.settled (added_served (setup_in s.round).config (seen_lines s.lines) (inputs_of s.round) (added_by s.round) (get nat_cmp s.kept) s.number d) ∙ ap (held (setup_in s.round).config) d.inputs_are in
@@ -38,7 +38,7 @@ returns-in_err-print_held-clause-text g c =
 pub returns-clause-text : goal.returns-clause-text
 returns-clause-text g c =
     let s = c.args.server.now in
-    let d = c.requires.serves in
+    let d = c.requires.serves.served in
     let numbered = inputs_from 1 (seen_lines s.lines) in
     let numbers : c.deref.result.now ≡ held (setup_in s.round).config (inputs_in (seen_lines s.lines)) =
     c.deref.ensures.value ∙ c.in_ok-numbers.ensures.settled (added_served (setup_in s.round).config (seen_lines s.lines) (inputs_of s.round) (added_by s.round) (get nat_cmp s.kept) s.number d) ∙ ap (held (setup_in s.round).config) d.inputs_are in
