@@ -12,7 +12,7 @@ use std::{env, io};
 
 /// What standard error says of bad arguments.
 const USAGE: &str =
-    "usage: bayeux_replay shards workers timeout interval max_interval [options [limit]]";
+    "usage: bayeux_replay shards workers timeout interval max_interval [options [limit [bytes [sessions]]]]";
 
 fn main(rt: HostRuntime) -> ExitCode {
     let arguments = match arguments(&rt) {

@@ -23,15 +23,18 @@ use std::random::RandomSource;
 use std::sync::Arc;
 use std::{env, io, thread};
 
-/// What standard error says of bad arguments.
-const USAGE: &str =
-    "usage: bayeuxd address shards timeout interval max_interval seed connections [options [limit]]";
+/// What standard error says where the words are no arguments.
+const USAGE: &str = "usage: bayeuxd [--listen ADDRESS] [FLAG ..], of which bayeuxd --help tells all
+       bayeuxd address shards timeout interval max_interval seed connections [options [limit]]";
 
-/// What it says where there is nothing to listen on.
+/// What it says where there is nothing to listen on, before it names the address.
 const CANNOT_LISTEN: &str = "bayeuxd: cannot listen";
 
-/// What it says where there is nothing to listen on for those who ask for figures.
+/// What it says where there is nothing to listen on for those who ask for figures, before it names the address.
 const NO_FIGURES: &str = "bayeuxd: cannot listen for figures";
+
+/// What it says where the system refuses the thread that waits for the end of standard input.
+const NO_READER: &str = "bayeuxd: cannot read standard input";
 
 /// What it says of memory that was refused.
 const OUT_OF_MEMORY: &str = "bayeuxd: out of memory";
@@ -47,7 +50,7 @@ fn main(rt: HostRuntime) -> ExitCode {
     };
     let parts = match parts_of(&rt, &settings) {
         Ok(parts) => parts,
-        Err(why) => return failed(&rt, why),
+        Err(status) => return status,
     };
     let Parts {
         arguments,
@@ -58,14 +61,14 @@ fn main(rt: HostRuntime) -> ExitCode {
     } = parts;
     tell_settings(&rt, &settings);
     if let Some(address) = settings.figures
-        && show_figures(rt, address, &counts).is_err()
+        && let Err(error) = show_figures(rt, address, &counts)
     {
-        return failed(&rt, NO_FIGURES);
+        return refused_at(&rt, NO_FIGURES, address, &error);
     }
     // Started here, since no other function may hand on the right to read to a thread.
     let _kept = if settings.until_eof {
         let Ok(_reading) = thread::spawn(&rt, move || tell_at_end(&rt, told)) else {
-            return failed(&rt, CANNOT_LISTEN);
+            return failed(&rt, NO_READER);
         };
         None
     } else {
@@ -73,7 +76,7 @@ fn main(rt: HostRuntime) -> ExitCode {
     };
     let (addresses, mut writer) = (addresses.as_slice(), io::writer(&rt));
     let ended = serve(rt, addresses, arguments, &counts, end, &mut writer);
-    status_of(&rt, ended)
+    status_of(&rt, settings.listen, ended)
 }
 
 // What the server is made of.
@@ -85,20 +88,21 @@ struct Parts {
     end: Receiver<()>,
 }
 
-// What the server is made of, by its settings; or what standard error says.
-fn parts_of(rt: &HostRuntime, settings: &Settings<'_>) -> Result<Parts, &'static str> {
+// What the server is made of, by its settings; or the status, once it was said what is wrong.
+fn parts_of(rt: &HostRuntime, settings: &Settings<'_>) -> Result<Parts, ExitCode> {
     let alloc = rt.alloc();
     let Ok(seed) = seed_of(rt, settings.seed) else {
-        return Err("bayeuxd: cannot read the seed");
+        return Err(failed(rt, "bayeuxd: cannot read the seed"));
     };
-    let Ok(addresses) = addresses_of(rt, settings.listen) else {
-        return Err(CANNOT_LISTEN);
+    let addresses = match addresses_of(rt, settings.listen) {
+        Ok(addresses) => addresses,
+        Err(error) => return Err(refused_at(rt, CANNOT_LISTEN, settings.listen, &error)),
     };
     let (Ok(counts), Ok((told, end))) = (
         counts_of(rt, settings.config.shards),
         oneshot::channel(alloc),
     ) else {
-        return Err(OUT_OF_MEMORY);
+        return Err(failed(rt, OUT_OF_MEMORY));
     };
     Ok(Parts {
         arguments: Serving {
@@ -115,13 +119,13 @@ fn parts_of(rt: &HostRuntime, settings: &Settings<'_>) -> Result<Parts, &'static
 }
 
 // The status of a server that ended so.
-fn status_of(rt: &HostRuntime, ended: ServeEnd) -> ExitCode {
+fn status_of(rt: &HostRuntime, listen: &str, ended: ServeEnd) -> ExitCode {
     match ended {
         ServeEnd::Done => {
             info!(rt; target: "bayeuxd", "ended");
             ExitCode::SUCCESS
         }
-        ServeEnd::CannotListen => failed(rt, CANNOT_LISTEN),
+        ServeEnd::CannotListen(error) => refused_at(rt, CANNOT_LISTEN, listen, &error),
         ServeEnd::Memory => failed(rt, OUT_OF_MEMORY),
     }
 }
@@ -150,9 +154,10 @@ fn settings_text(alloc: Global, settings: &Settings<'_>) -> Result<String, Alloc
     )?;
     write!(
         text,
-        " limit={} sessions={} ride={} anonymous={}",
-        config.limits.events, config.limits.sessions, config.ride, config.anonymous
+        " limit={} bytes={} sessions={}",
+        config.limits.events, config.limits.bytes, config.limits.sessions
     )?;
+    write!(text, " ride={} anonymous={}", config.ride, config.anonymous)?;
     write!(
         text,
         " connections={} figures={} until_eof={}",
@@ -198,7 +203,7 @@ fn settings_of<'a>(
 fn are_flags(words: &[String]) -> bool {
     words
         .first()
-        .is_some_and(|it| it.as_bytes().starts_with(b"--"))
+        .is_some_and(|it| it.as_bytes().starts_with(b"-"))
 }
 
 // The seed of the generator of nonces.
@@ -221,6 +226,14 @@ fn addresses_of(rt: &HostRuntime, listen: &str) -> io::Result<Vec<SocketAddr>> {
         addresses.push(address)?;
     }
     Ok(addresses)
+}
+
+// The status where the system refused something at an address, once it was said what, where and why.
+fn refused_at(rt: &HostRuntime, what: &str, address: &str, error: &io::Error) -> ExitCode {
+    match format!(in rt.alloc(); "{what} at {address}: {error}") {
+        Ok(why) => failed(rt, why.as_str()),
+        Err(_) => failed(rt, what),
+    }
 }
 
 fn failed(rt: &HostRuntime, why: &str) -> ExitCode {

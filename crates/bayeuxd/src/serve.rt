@@ -49,12 +49,12 @@ pub struct Serving {
 const LEAVE: u64 = 1000;
 
 /// How a server ended.
-#[derive(Clone, Copy, Debug, PartialEq, Eq)]
+#[derive(Debug, Drop)]
 pub enum ServeEnd {
     /// As many connections as were asked for have come and have ended, or standard input has.
     Done,
-    /// The system refused each address, the runtime, a thread or the print.
-    CannotListen,
+    /// The system refused each address, the runtime, a thread or the print, for this reason.
+    CannotListen(io::Error),
     /// Memory was refused.
     Memory,
 }
@@ -87,7 +87,7 @@ where
     match begin(rt, addresses, arguments, counts, told, writer) {
         Ok(()) => ServeEnd::Done,
         Err(error) if error.kind() == io::ErrorKind::OutOfMemory => ServeEnd::Memory,
-        Err(_) => ServeEnd::CannotListen,
+        Err(error) => ServeEnd::CannotListen(error),
     }
 }
 

@@ -2,7 +2,7 @@
 use Rattle.std.specs.Prelude.{ℕ, ◌≡◌}
 use Rattle.std.proofs.Common.{lit≤}
 use Rattle.bx_advice.specs.declared.config.Limits.{Limits}
-use Rattle.bx_advice.specs.declared.config.TheConstants.{MAX_MOMENT, MAX_LENGTH, STANDARD_BATCH, STANDARD_EVENTS, STANDARD_PATTERNS, STANDARD_SESSIONS, STANDARD_TEXTS}
+use Rattle.bx_advice.specs.declared.config.TheConstants.{MAX_MOMENT, MAX_LENGTH, STANDARD_BATCH, STANDARD_BYTES, STANDARD_EVENTS, STANDARD_PATTERNS, STANDARD_SESSIONS, STANDARD_TEXTS}
 
 -- the greatest moment that is taken
 abbrev pub greatest_moment : ℕ
@@ -16,6 +16,7 @@ greatest_length = MAX_LENGTH
 abbrev pub standard_limits : Limits
 standard_limits = record {
   events = STANDARD_EVENTS;
+  bytes = STANDARD_BYTES;
   patterns = STANDARD_PATTERNS;
   batch = STANDARD_BATCH;
   sessions = STANDARD_SESSIONS;
@@ -26,6 +27,7 @@ standard_limits = record {
 -- the limits are those of this server
 pub record IsStandard (limits : Limits) : Type 0 where
   pub events : limits.events ≡ standard_limits.events
+  pub bytes : limits.bytes ≡ standard_limits.bytes
   pub patterns : limits.patterns ≡ standard_limits.patterns
   pub batch : limits.batch ≡ standard_limits.batch
   pub sessions : limits.sessions ≡ standard_limits.sessions

@@ -19,11 +19,16 @@ pub const MAX_LENGTH: u64 = 4_611_686_018_427_387_904;
 /// The most waiting events of a session that a configuration may allow.
 pub const MAX_EVENTS: u32 = 65_536;
 
+/// The most bytes of waiting events of a session that a configuration may set as a limit: what 32 bits hold.
+pub const MAX_BYTES: u32 = 4_294_967_295;
+
 /// The server's limits, which [`STANDARD_LIMITS`] sets.
 #[derive(Clone, Copy, Debug)]
 pub struct Limits {
     /// The most events that may wait for a session, given ones that are not acknowledged included.
     pub events: usize,
+    /// The most bytes that the texts of these events may have.
+    pub bytes: usize,
     /// The most patterns that may be in force for a session.
     pub patterns: usize,
     /// The most events that one connect is given.
@@ -37,6 +42,9 @@ pub struct Limits {
 
 /// How many events may wait for a session where nothing else is configured.
 pub const STANDARD_EVENTS: usize = 1024;
+
+/// How many bytes the events that wait for a session may have where nothing else is configured: 2^62, which none ever has.
+pub const STANDARD_BYTES: usize = 4_611_686_018_427_387_904;
 
 /// How many patterns may be in force for a session.
 pub const STANDARD_PATTERNS: usize = 1024;
@@ -53,6 +61,7 @@ pub const STANDARD_TEXTS: usize = 64;
 /// The limits of this server.
 pub const STANDARD_LIMITS: Limits = Limits {
     events: STANDARD_EVENTS,
+    bytes: STANDARD_BYTES,
     patterns: STANDARD_PATTERNS,
     batch: STANDARD_BATCH,
     sessions: STANDARD_SESSIONS,
@@ -171,6 +180,34 @@ impl Config {
         }
         let mut config = self;
         config.limits.events = events as usize;
+        Some(config)
+    }
+
+    /// The same, with so many bytes that the events which wait for each session may have; none where they are not 1 to
+    /// [`MAX_BYTES`].
+    pub fn with_bytes(self, bytes: u32) -> Option<Config>
+        ensures valid { IsSome result ↔ ((1 ≤ bytes) × (bytes ≤ MAX_BYTES)) }
+        ensures limit { IfSome result (λ c. c ≡ record self { limits = record self.limits { bytes = bytes } }) }
+    {
+        if bytes < 1 {
+            return None;
+        }
+        let mut config = self;
+        config.limits.bytes = bytes as usize;
+        Some(config)
+    }
+
+    /// The same, with so many sessions that may be live; none where they are not 1 to [`STANDARD_SESSIONS`].
+    pub fn with_sessions(self, sessions: u32) -> Option<Config>
+        ensures valid { IsSome result ↔ ((1 ≤ sessions) × (sessions ≤ STANDARD_SESSIONS)) }
+        ensures limit { IfSome result (λ c. c ≡ record self { limits = record self.limits { sessions = sessions } }) }
+    {
+        let sessions = sessions as usize;
+        if sessions < 1 || sessions > STANDARD_SESSIONS {
+            return None;
+        }
+        let mut config = self;
+        config.limits.sessions = sessions;
         Some(config)
     }
 }

@@ -1,9 +1,11 @@
-ghost use Rattle.std.specs.Prelude.{◌≡◌, ◌<◌, ◌≤◌, ◌+◌, ◌++◌, ◌⊎◌, ◌↔◌, [], not, IsTrue, OnOk, OnErr, IsErrOf, length, take, drop, if◌then◌else◌, ◌^◌};
+ghost use Rattle.std.specs.Prelude.{◌≡◌, ◌<◌, ◌≤◌, ◌+◌, ◌++◌, ◌⊎◌, ◌↔◌, [], not, IsFalse, IsTrue, OnOk, OnErr, IsErrOf, length, take, drop, if◌then◌else◌, ◌^◌};
 ghost use Rattle.std.specs.Vec.{vec_capacity, vec_len};
 ghost use Rattle.std.specs.VecDeque.{deque_capacity};
 ghost use Rattle.std.specs.VecDeque.Iter.{deque_iter_rest};
+ghost use Rattle.std.specs.List.{sum_by};
+ghost use Rattle.bx_message.specs.Events.{event_size};
 ghost use Rattle.bx_entry.specs.Answers.{events_of};
-ghost use Rattle.bx_entry.specs.Windows.{acknowledged, acknowledges, emptied, empty, forgotten, formed, has_room, outstanding, portion, with_event};
+ghost use Rattle.bx_entry.specs.Windows.{acknowledged, acknowledges, bytes_of, emptied, empty, forgotten, formed, has_room, outstanding, portion, with_event};
 
 use crate::publication::{Publication, Published};
 use bx_history::History;
@@ -24,11 +26,15 @@ pub struct Window {
     out: usize,
     // That of the last batch formed.
     number: u64,
+    // How many bytes the texts of all events have.
+    bytes: usize,
 }
 
 impl Model for Window {
     ghost use Rattle.std.specs.Prelude.{◌≡◌, ◌≤◌, ◌-◌, length};
+    ghost use Rattle.std.specs.List.{sum_by};
     ghost use Rattle.std.specs.VecDeque.{deque_capacity, deque_len};
+    ghost use Rattle.bx_message.specs.Events.{event_size};
     ghost use Rattle.bx_entry.specs.Answers.{events_of};
     ghost use Rattle.bx_batches.specs.Windows.{Windowed};
 
@@ -39,7 +45,8 @@ impl Model for Window {
       spare = deque_capacity w.events - deque_len w.events;
     } };
 
-    ghost invariant = { λ w. (events_of w.queue ≡ w.events.items) × (w.out ≤ length w.events.items) };
+    ghost invariant = { λ w. (events_of w.queue ≡ w.events.items) × (w.out ≤ length w.events.items)
+        × (w.bytes ≡ sum_by event_size w.events.items) };
 }
 
 /// What a connect is given: the outstanding batch, and its number.
@@ -61,14 +68,20 @@ impl Window {
             queue: History::new(),
             out: 0,
             number: 0,
+            bytes: 0,
         }
     }
 
-    /// Whether no further event is taken, where at most `limit` are.
-    pub fn is_full(&self, limit: usize) -> bool
-        ensures { result ≡ not (has_room limit self.now.contents) }
+    /// Whether this event is not taken, where at most so many are, whose texts have at most so many bytes.
+    #[tactic(auto, using(crate::proofs::Parts::bytes_in), unfolding(bx_entry::specs::Windows::has_room))]
+    pub fn is_full(&self, events: usize, bytes: usize, event: &SharedEvent) -> bool
+        ensures full { result ≡ not (has_room events bytes event.now self.now.contents) }
+        ensures fits { IsFalse result → bytes_of self.now.contents.queue + event_size event.now < 2 ^ 64 }
     {
-        self.len() >= limit
+        match self.bytes.checked_add(event.size()) {
+            Some(all) => self.len() >= events || all > bytes,
+            None => true,
+        }
     }
 
     /// How many events wait or are outstanding.
@@ -89,13 +102,16 @@ impl Window {
     }
 
     /// Adds the event of the publish at this place, for which there is room.
+    #[tactic(auto, using(crate::proofs::Parts::bytes_in, crate::proofs::Parts::pushed_bytes))]
     pub fn push_reserved(&mut self, place: u64, event: SharedEvent)
         requires room { 0 < self.old.spare }
+        requires fits { bytes_of self.old.contents.queue + event_size event < 2 ^ 64 }
         ensures added { self.new.contents ≡ with_event (record { place = place; event = event }) self.old.contents }
         ensures spare { self.new.spare + 1 ≡ self.old.spare }
     {
         let published = History::of::<(u64, &SharedEvent), Published>(&(place, &event));
         self.queue.join(&published);
+        self.bytes += event.size();
         self.events.push_back_reserved(event);
     }
 
@@ -123,12 +139,13 @@ impl Window {
 
     /// Takes an acknowledgement: a number at or above that of the last batch gives for good what is
     /// outstanding, a smaller one nothing.
+    #[tactic(auto, using(crate::proofs::Parts::front_bytes))]
     pub fn acknowledge(&mut self, number: u64)
         ensures contents { self.new.contents ≡ acknowledged number self.old.contents }
         ensures spare { self.old.spare ≤ self.new.spare }
     {
         let done = self.acknowledged(number);
-        self.events.drain(..done);
+        self.bytes -= drop_front(&mut self.events, done);
         self.queue.forget(done);
         self.out -= done;
     }
@@ -166,16 +183,18 @@ impl Window {
     }
 
     /// Forgets so many events, which were given without a batch.
+    #[tactic(auto, using(crate::proofs::Parts::front_bytes))]
     pub fn forget(&mut self, count: usize)
         requires none_out { self.old.contents.out ≡ 0 }
         ensures forgotten { self.new.contents ≡ forgotten count self.old.contents }
         ensures spare { self.old.spare ≤ self.new.spare }
     {
         self.queue.forget(count);
-        self.events.drain(..count.min(self.events.len()));
+        self.bytes -= drop_front(&mut self.events, count);
     }
 
     /// Moves so many events, which are given without a batch, into a list that is empty and has room for them.
+    #[tactic(auto, using(crate::proofs::Parts::front_bytes))]
     pub fn hand_over(&mut self, count: usize, into: Vec<SharedEvent>) -> Vec<SharedEvent>
         requires none_out { self.old.contents.out ≡ 0 }
         requires empty { into.items ≡ [] }
@@ -187,6 +206,7 @@ impl Window {
         let mut into = into;
         move_front(&mut self.events, count, &mut into);
         self.queue.forget(count);
+        self.bytes -= bytes_in(into.as_slice());
         into
     }
 
@@ -198,7 +218,27 @@ impl Window {
         self.events.clear();
         self.queue = History::new();
         self.out = 0;
+        self.bytes = 0;
     }
+}
+
+// Drops so many events from the front of a queue, or all where there are fewer, and tells how many bytes their texts had.
+#[tactic(auto, using(crate::proofs::Parts::front_bytes, crate::proofs::Parts::first_bytes))]
+fn drop_front(events: &mut VecDeque<SharedEvent>, count: usize) -> usize
+    requires { sum_by event_size events.old.items < 2 ^ 64 }
+    ensures left { events.new.items ≡ drop count events.old.items }
+    ensures bytes { result ≡ sum_by event_size (take count events.old.items) }
+    ensures capacity { deque_capacity events.new ≡ deque_capacity events.old }
+{
+    let mut bytes = 0;
+    let mut left = count;
+    while left > 0 {
+        if let Some(event) = events.pop_front() {
+            bytes += event.size();
+        }
+        left -= 1;
+    }
+    bytes
 }
 
 // Moves so many events from the front of a queue, or all where there are fewer, behind those of a list that has room for
@@ -216,4 +256,17 @@ fn move_front(events: &mut VecDeque<SharedEvent>, count: usize, into: &mut Vec<S
         }
         left -= 1;
     }
+}
+
+// How many bytes the texts of these events have.
+#[tactic(auto, using(crate::proofs::Parts::grown_bytes))]
+fn bytes_in(events: &[SharedEvent]) -> usize
+    requires { sum_by event_size events.now < 2 ^ 64 }
+    ensures { result ≡ sum_by event_size events.now }
+{
+    let mut bytes = 0;
+    for event in events {
+        bytes += event.size();
+    }
+    bytes
 }

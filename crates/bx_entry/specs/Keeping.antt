@@ -3,6 +3,7 @@ use Rattle.std.specs.Prelude.{ℕ, ◌≡◌, ◌<◌, ◌≤◌, Bool, true, fa
 use Rattle.bx_names.specs.Globs.{Glob}
 use Rattle.bx_advice.specs.declared.config.Config.{Config}
 use Rattle.bx_entry.specs.declared.entry.Entry.{Entry}
+use Rattle.bx_entry.specs.Windows.{bytes_of}
 use Rattle.bx_entry.specs.Sessions.{Session, Publication, Pending, Filed, Stage, unopened, step, session}
 
 -- ---- the state
@@ -87,10 +88,11 @@ KeptRuns = (config : Config) (number : ℕ) (es : List Entry) → kept (session 
 
 -- ---- what holds of what is kept
 
--- The queue never passes its limit, nor the outstanding batch its own, which is the front of the queue; a plain session has no batch; while a
+-- The queue never passes its limits, nor the outstanding batch its own, which is the front of the queue; a plain session has no batch; while a
 -- connect is held the queue is empty.
 pub record InBounds (config : Config) (k : Kept) : Type 0 where
   pub queue : length k.queue ≤ config.limits.events
+  pub bytes : bytes_of k.queue ≤ config.limits.bytes
   pub batch : k.out ≤ config.limits.batch
   pub front : k.out ≤ length k.queue
   pub plain : k.ack ≡ false → k.out ≡ 0

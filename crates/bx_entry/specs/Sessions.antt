@@ -12,7 +12,7 @@ use Rattle.bx_entry.specs.declared.entry.{Entry.Entry, EntryKind.EntryKind, Ride
 use Rattle.bx_entry.specs.declared.entry.EntryKind.TheVariants.{Connect, Subscribe, Unsubscribe, Publish, Disconnect, Refused, Tick}
 use Rattle.bx_entry.specs.declared.entry.EntryKind.TheVariants as entries
 use Rattle.bx_entry.specs.Windows as windows
-use Rattle.bx_entry.specs.Windows.{Window, acknowledges, emptied, forms, outstanding}
+use Rattle.bx_entry.specs.Windows.{Window, acknowledges, bytes_of, emptied, forms, outstanding}
 pub use Rattle.bx_entry.specs.Windows.{Publication}
 
 -- ---- the state
@@ -82,6 +82,10 @@ is_live Closed = false
 -- how many events wait or are outstanding
 abbrev pub pending_count : Session → ℕ
 pending_count s = length s.queue
+
+-- how many bytes their texts have
+abbrev pub pending_bytes : Session → ℕ
+pending_bytes s = bytes_of s.queue
 
 -- the window of the session
 abbrev pub window_in : Session → Window
@@ -207,9 +211,9 @@ unsubscribed ps s = record s { patterns = fold without_pattern s.patterns ps }
 abbrev pub is_hit : Session → Event → Bool
 is_hit s e = is_live s.stage && not s.overflow && is_broadcast e.channel && any_matches s.patterns (segments e.channel)
 
--- a hit is an event of the session where the queue has room
-abbrev pub has_room : Config → Session → Bool
-has_room config s = windows.has_room config.limits.events (window_in s)
+-- a hit is an event of the session where the queue has room for it
+abbrev pub has_room : Config → Event → Session → Bool
+has_room config e s = windows.has_room config.limits.events config.limits.bytes e (window_in s)
 
 -- one event is given to a held connect: as a batch, or for good
 abbrev pub gives_one : Session → Session
@@ -228,9 +232,9 @@ with_event e s = record (with_window (windows.with_event e (window_in s)) s) { e
 abbrev pub delivered : Config → Publication → Session → Session
 delivered config e s = delivered_to config e (with_event e s) s.held
 
--- an event that finds the queue full makes the session overflow
+-- an event for which the queue has no room makes the session overflow
 abbrev pub received : Config → Publication → Session → Session
-received config e s = if has_room config s then delivered config e s else overflowed s
+received config e s = if has_room config e.event s then delivered config e s else overflowed s
 
 -- each hit is received
 abbrev pub published : Config → Publication → Session → Session

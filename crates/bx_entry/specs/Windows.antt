@@ -1,6 +1,7 @@
 -- The events that wait for a session, and the batch of them that is outstanding.
 use Rattle.std.specs.Prelude.{ℕ, ◌+◌, ◌==◌, ◌&&◌, min, Bool, List, [], ◌∷◌, ◌++◌, length, take, drop, nat_lt, nat_le, if◌then◌else◌}
 use Rattle.bx_message.specs.declared.event.Event.{Event}
+use Rattle.bx_message.specs.Events.{event_size}
 
 -- an event with the place of its publish, so that two publishes of equal data are two
 pub record Publication : Type 0 where
@@ -18,9 +19,14 @@ pub record Window : Type 0 where
 abbrev pub empty : Window
 empty = record { queue = []; out = 0; number = 0 }
 
--- whether one more event is taken, where at most so many are
-abbrev pub has_room : ℕ → Window → Bool
-has_room limit w = nat_lt (length w.queue) limit
+-- how many bytes the texts of these events have, as they are given
+unfoldable pub bytes_of : List Publication → ℕ
+bytes_of [] = 0
+bytes_of (p ∷ ps) = event_size p.event + bytes_of ps
+
+-- whether this event is taken too, where at most so many are, with so many bytes
+unfoldable pub has_room : ℕ → ℕ → Event → Window → Bool
+has_room events bytes e w = nat_lt (length w.queue) events && nat_le (bytes_of w.queue + event_size e) bytes
 
 -- one more event waits
 abbrev pub with_event : Publication → Window → Window

@@ -2,6 +2,8 @@
 use Rattle.std.specs.Prelude.{refl}
 use Rattle.std.specs.Fmt.{digits}
 use Rattle.json.specs.Print.{escape_byte}
+use Rattle.bx_message.specs.Events.{event_size}
+use Rattle.bx_entry.specs.Windows.{bytes_of, has_room}
 use Rattle.bx_laws.specs.Worked.{EventsRide, RideBehindHold, NothingRides, NothingRidesBehindRefused, NothingRidesBehindSessionless, NothingRidesBehindHandshake, NothingRidesBehindTwo, SessionlessPublish, SessionlessRefused, NamesRead, PatternsRead, StarsMatch, DoubleStarsMatch, AllMatch, PlainMatch, RefusedHandshake, HeldThenGiven, HandshakeWithId, NothingPosted, NoNumber, BatchesRepeat, GreatNumber, MatchedTwice, HoldRunsOut, SessionExpires, GoneWithinARequest, NotSole, Superseded, SupersededHeld, MomentsRise, TwoHandshakes, HoldEndsWithSession, EventIsBatch, EventIsBatchHeld, FullQueue, QueueWithRoom, FullWithBatch, HeldThroughOverflow, LengthsRead, EachRefusal, ServicePublish, HoldExtends, OverflowAt1025, FourFullBatches, HandshakeText, RefusedText, BatchText, CallbackExample, EmptyCallback, Unreadable, SenderBytes, UnknownType, ManyPatterns, DeliveryText, GoneText, SupersededText, OverflowText, SecondText, EndedText, RefusalsText, RefusedMovesClock, EmptyKeepsClock, RefusedKeepsDue, HoldBeforeEnd, EndedWithNumber, SupersededWithoutNumber, MixedArrays, FullServer, OverflowOutlivesPatterns, ServicePatternsAside, ScriptLines, LineForms, NonceForms, NoncesWait, ScriptPrinted, NoncePrinted}
 
 pub names_read : NamesRead
@@ -41,30 +43,37 @@ pub unreadable : Unreadable
 unreadable = refl
 
 pub held_then_given : HeldThenGiven
+unfolding has_room bytes_of event_size escape_byte
 held_then_given = refl
 
 pub matched_twice : MatchedTwice
+unfolding has_room bytes_of event_size escape_byte
 matched_twice = refl
 
 pub service_publish : ServicePublish
 service_publish = refl
 
 pub sender_bytes : SenderBytes
+unfolding has_room bytes_of event_size escape_byte
 sender_bytes = refl
 
 pub no_number : NoNumber
 no_number = refl
 
 pub batches_repeat : BatchesRepeat
+unfolding has_room bytes_of event_size escape_byte
 batches_repeat = refl
 
 pub great_number : GreatNumber
+unfolding has_room bytes_of event_size escape_byte
 great_number = refl
 
 pub event_is_batch : EventIsBatch
+unfolding has_room bytes_of event_size escape_byte
 event_is_batch = refl
 
 pub event_is_batch_held : EventIsBatchHeld
+unfolding has_room bytes_of event_size escape_byte
 event_is_batch_held = refl
 
 pub hold_runs_out : HoldRunsOut
@@ -83,6 +92,7 @@ pub hold_ends_with_session : HoldEndsWithSession
 hold_ends_with_session = refl
 
 pub hold_extends : HoldExtends
+unfolding has_room bytes_of event_size escape_byte
 hold_extends = refl
 
 pub moments_rise : MomentsRise
@@ -104,27 +114,33 @@ pub many_patterns : ManyPatterns
 many_patterns = refl
 
 pub sessionless_publish : SessionlessPublish
+unfolding has_room bytes_of event_size escape_byte
 sessionless_publish = refl
 
 pub sessionless_refused : SessionlessRefused
 sessionless_refused = refl
 
 pub full_queue : FullQueue
+unfolding has_room bytes_of event_size escape_byte
 full_queue = refl
 
 pub queue_with_room : QueueWithRoom
+unfolding has_room bytes_of event_size escape_byte
 queue_with_room = refl
 
 pub full_with_batch : FullWithBatch
+unfolding has_room bytes_of event_size escape_byte
 full_with_batch = refl
 
 pub held_through_overflow : HeldThroughOverflow
 held_through_overflow = refl
 
 pub overflow_at_1025 : OverflowAt1025
+unfolding has_room bytes_of event_size escape_byte
 overflow_at_1025 = refl
 
 pub four_full_batches : FourFullBatches
+unfolding has_room bytes_of event_size escape_byte
 four_full_batches = refl
 
 pub handshake_text : HandshakeText
@@ -136,11 +152,11 @@ unfolding digits escape_byte
 refused_text = refl
 
 pub batch_text : BatchText
-unfolding digits escape_byte
+unfolding digits escape_byte has_room bytes_of event_size
 batch_text = refl
 
 pub delivery_text : DeliveryText
-unfolding digits escape_byte
+unfolding digits escape_byte has_room bytes_of event_size
 delivery_text = refl
 
 pub callback_example : CallbackExample
@@ -160,7 +176,7 @@ unfolding digits escape_byte
 superseded_text = refl
 
 pub overflow_text : OverflowText
-unfolding digits escape_byte
+unfolding digits escape_byte has_room bytes_of event_size
 overflow_text = refl
 
 pub second_text : SecondText
@@ -226,22 +242,29 @@ unfolding digits escape_byte
 nonce_printed = refl
 
 pub events_ride : EventsRide
+unfolding has_room bytes_of event_size escape_byte
 events_ride = refl
 
 pub ride_behind_hold : RideBehindHold
+unfolding has_room bytes_of event_size escape_byte
 ride_behind_hold = refl
 
 pub nothing_rides : NothingRides
+unfolding has_room bytes_of event_size escape_byte
 nothing_rides = refl
 
 pub nothing_rides_behind_refused : NothingRidesBehindRefused
+unfolding has_room bytes_of event_size escape_byte
 nothing_rides_behind_refused = refl
 
 pub nothing_rides_behind_sessionless : NothingRidesBehindSessionless
+unfolding has_room bytes_of event_size escape_byte
 nothing_rides_behind_sessionless = refl
 
 pub nothing_rides_behind_handshake : NothingRidesBehindHandshake
+unfolding has_room bytes_of event_size escape_byte
 nothing_rides_behind_handshake = refl
 
 pub nothing_rides_behind_two : NothingRidesBehindTwo
+unfolding has_room bytes_of event_size escape_byte
 nothing_rides_behind_two = refl

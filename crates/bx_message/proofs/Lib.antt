@@ -1,2 +1,3 @@
 pub mod ObjectLemmas
+pub mod Sizes
 pub mod FieldLemmas

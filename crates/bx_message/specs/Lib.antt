@@ -1,3 +1,4 @@
+pub mod Events
 pub mod MessageKinds
 pub mod Replies
 pub mod Statuses

@@ -1,36 +1,15 @@
 -- The text of a reply, of an event, of a response's array and of a callback's body: compact JSON, members in ascending byte order of their names.
 use Rattle.std.specs.Prelude.{ℕ, List, [], ◌∷◌, ◌++◌, map, drop, nat_eq, codes, decimal, if◌then◌else◌, Option, Some, None}
-use Rattle.std.specs.List.{join_with_byte, starts_with}
+use Rattle.std.specs.List.{starts_with}
 use Rattle.json.specs.Print.{quoted}
+pub use Rattle.bx_message.specs.Events.{member, object, array, raw_member, text_member, event_members, event_text, event_size}
 use Rattle.bx_advice.specs.Errors.{error_text}
 use Rattle.bx_advice.specs.declared.advice.{Advice.Advice, Reconnect.Reconnect, Outcome.Outcome}
 use Rattle.bx_advice.specs.declared.advice.Reconnect.TheVariants.{Retry, Handshake, Never}
 use Rattle.bx_advice.specs.declared.advice.Outcome.TheVariants.{Failed}
-use Rattle.bx_message.specs.declared.{message_kind.MessageKind.MessageKind, event.Event.Event, reply.Reply.Reply, reply.Item.Item, reply.AckReply.AckReply}
+use Rattle.bx_message.specs.declared.{message_kind.MessageKind.MessageKind, reply.Reply.Reply, reply.Item.Item, reply.AckReply.AckReply}
 use Rattle.bx_message.specs.declared.reply.Item.TheVariants.{EventItem, ReplyItem}
 use Rattle.bx_message.specs.declared.reply.AckReply.TheVariants.{NoAck, AckTrue, AckNumber}
-
--- a member: its name as JSON writes it, and the text of its value
-abbrev pub member : List ℕ → List ℕ → List ℕ
-member name value = quoted name ++ (58 ∷ value)
-
--- an object with these members
-abbrev pub object : List (List ℕ) → List ℕ
-object members = 123 ∷ (join_with_byte 44 members ++ 125 ∷ [])
-
--- an array of these values
-abbrev pub array : List (List ℕ) → List ℕ
-array values = 91 ∷ (join_with_byte 44 values ++ 93 ∷ [])
-
--- a member whose value is the sender's bytes, where there are any
-abbrev pub raw_member : List ℕ → Option (List ℕ) → List (List ℕ)
-raw_member name None = []
-raw_member name (Some value) = member name value ∷ []
-
--- a member whose value is a text, where there is one
-abbrev pub text_member : List ℕ → Option (List ℕ) → List (List ℕ)
-text_member name None = []
-text_member name (Some text) = member name (quoted text) ∷ []
 
 -- a member whose value is a number, where there is one
 abbrev pub number_member : List ℕ → Option ℕ → List (List ℕ)
@@ -105,17 +84,6 @@ reply_members r =
 -- a reply
 abbrev pub reply_text : Reply → List ℕ
 reply_text r = object (reply_members r)
-
--- the members of an event, in order
-abbrev pub event_members : Event → List (List ℕ)
-event_members e =
-    text_member (codes "channel") (Some e.channel)
-    ++ raw_member (codes "data") (Some e.payload)
-    ++ raw_member (codes "id") e.id
-
--- an event
-abbrev pub event_text : Event → List ℕ
-event_text e = object (event_members e)
 
 -- an event or a reply
 abbrev pub item_text : Item → List ℕ

@@ -14,8 +14,10 @@ run_by arguments = record {
   ride = arguments.config.ride;
   anonymous = arguments.config.anonymous;
   limit = arguments.config.limits.events;
+  bytes = arguments.config.limits.bytes;
+  sessions = arguments.config.limits.sessions;
 }
 
--- but for how many events may wait for a session, the limits are those of this server
+-- but for how many events with how many bytes may wait for a session, and how many sessions may be live, the limits are those of this server
 abbrev pub HasStandardLimits : Arguments → Type 0
-HasStandardLimits arguments = IsStandard (record arguments.config.limits { events = standard_limits.events })
+HasStandardLimits arguments = IsStandard (record arguments.config.limits { events = standard_limits.events; bytes = standard_limits.bytes; sessions = standard_limits.sessions })

@@ -3,11 +3,14 @@ ghost use Rattle.std.specs.Prelude.{◌≡◌, ◌<◌, IfSome, Option, option_m
 ghost use Rattle.bx_advice.specs.Limits.{IsStandard};
 ghost use Rattle.bx_advice.specs.Options.{options_in};
 ghost use Rattle.bx_message.specs.Fields.{number_of};
-ghost use Rattle.bx_replay.specs.Settings.{count_in, settings_in, settings_of, time_in};
+ghost use Rattle.bx_replay.specs.Settings.{count_in, first_in, further_in, settings_in, settings_of, time_in, with_bytes, with_sessions};
 
 use bx_advice::{Config, Options};
 use bx_message::number_of;
 use bx_workers::WorkerCount;
+
+// How many words may stand before those that say further limits.
+const FIRST: usize = 7;
 
 /// How the server is run.
 #[derive(Clone, Copy)]
@@ -24,9 +27,20 @@ impl Arguments {
     /// What these words say. Five of them do it by digits alone: how many shards there are, 1 to 64, how many workers, 1
     /// to 16, and in milliseconds the timeout, the interval and the longest interval, each of 32 bits. A sixth has the
     /// options, as [`Options::read`] reads them, and is `-` where there is none. A seventh says by digits alone how many
-    /// events may wait for each session, 1 to 65,536, and 1,024 where there is none. None where they are not these.
+    /// events may wait for each session, 1 to 65,536, and 1,024 where there is none. An eighth says how many bytes these
+    /// may have, 1 to [`MAX_BYTES`](bx_advice::MAX_BYTES), and `-` that nothing is said of them; a ninth how many sessions
+    /// may be live, 1 to 65,536. None where they are not these.
     pub fn read(words: &[String]) -> Option<Arguments>
         ensures said { option_map run_by result ≡ settings_in (map string_bytes words.now) }
+        ensures limits { IfSome result (λ arguments. HasStandardLimits arguments) }
+    {
+        let (first, further) = words.split_at(FIRST.min(words.len()));
+        Arguments::read_first(first)?.with_further(further)
+    }
+
+    // What the first words say, with no limit of bytes.
+    fn read_first(words: &[String]) -> Option<Arguments>
+        ensures said { option_map run_by result ≡ first_in (map string_bytes words.now) }
         ensures limits { IfSome result (λ arguments. HasStandardLimits arguments) }
     {
         match words {
@@ -67,6 +81,51 @@ impl Arguments {
             ),
             _ => None,
         }
+    }
+
+    // The same with what the further words say.
+    fn with_further(self, words: &[String]) -> Option<Arguments>
+        requires { HasStandardLimits self }
+        ensures said { option_map run_by result ≡ further_in (run_by self) (map string_bytes words.now) }
+        ensures limits { IfSome result (λ arguments. HasStandardLimits arguments) }
+    {
+        match words {
+            [] => Some(self),
+            [bytes] => self.with_bytes(bytes.as_bytes()),
+            [bytes, sessions] => self
+                .with_bytes(bytes.as_bytes())?
+                .with_sessions(sessions.as_bytes()),
+            _ => None,
+        }
+    }
+
+    // The same with so many bytes that waiting events may have as this word says.
+    fn with_bytes(self, word: &[u8]) -> Option<Arguments>
+        requires { HasStandardLimits self }
+        ensures said { option_map run_by result ≡ with_bytes word.now (run_by self) }
+        ensures limits { IfSome result (λ arguments. HasStandardLimits arguments) }
+    {
+        if word == b"-".as_slice() {
+            return Some(self);
+        }
+        let config = self.config.with_bytes(time_in(word)?)?;
+        Some(Arguments {
+            config,
+            workers: self.workers,
+        })
+    }
+
+    // The same with so many live sessions as these digits say.
+    fn with_sessions(self, digits: &[u8]) -> Option<Arguments>
+        requires { HasStandardLimits self }
+        ensures said { option_map run_by result ≡ with_sessions digits.now (run_by self) }
+        ensures limits { IfSome result (λ arguments. HasStandardLimits arguments) }
+    {
+        let config = self.config.with_sessions(time_in(digits)?)?;
+        Some(Arguments {
+            config,
+            workers: self.workers,
+        })
     }
 
     fn of_words(
@@ -117,7 +176,8 @@ fn with_limit(config: Config, limit: &[u8]) -> Option<Config>
         ≡ option_map (λ n. record config { limits = record config.limits { events = n } }) (count_in 65536 limit.now) }
     ensures limits { IfSome result (λ c.
         (c.limits.patterns ≡ config.limits.patterns) × (c.limits.batch ≡ config.limits.batch)
-        × (c.limits.sessions ≡ config.limits.sessions) × (c.limits.texts ≡ config.limits.texts)) }
+        × (c.limits.bytes ≡ config.limits.bytes) × (c.limits.sessions ≡ config.limits.sessions)
+        × (c.limits.texts ≡ config.limits.texts)) }
 {
     config.with_limit(time_in(limit)?)
 }

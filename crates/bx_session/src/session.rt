@@ -1,12 +1,14 @@
 //! One session, entry by entry.
-ghost use Rattle.std.specs.Prelude.{◌≡◌, ◌<◌, ◌≤◌, ◌+◌, ◌&&◌, not, ℕ, [], IfOk, IsOk, OnOk, OnErr, true, false, length, map, take, drop, fold, nat_lt, is_some, if◌then◌else◌, Option, None, Some, option_map};
+ghost use Rattle.std.specs.Prelude.{◌≡◌, ◌<◌, ◌≤◌, ◌+◌, ◌&&◌, not, ℕ, [], IfOk, IsOk, OnOk, OnErr, true, false, length, map, take, drop, fold, nat_lt, is_some, if◌then◌else◌, Option, None, Some, option_map, IsTrue, ◌^◌};
 ghost use Rattle.std.specs.Option.{option_to_list};
 ghost use Rattle.std.specs.VecDeque.Iter.{deque_iter_rest};
 ghost use Rattle.bx_names.specs.InForce.{with_pattern, without_pattern};
 ghost use Rattle.bx_advice.specs.declared.advice.Outcome.TheVariants.{Connected, Disconnected};
 ghost use Rattle.bx_entry.specs.Answers.{events_of};
 ghost use Rattle.bx_entry.specs.Keeping.{after, answers_of, kept, resumed};
-ghost use Rattle.bx_entry.specs.Sessions.{ack_given, acknowledged, admitted, answered_or_held, begun, connected, ends_by, expired, forgotten, given, gives, overflowed, received, released, ride_portion, subscribed, unheld, unopened, unsubscribed};
+ghost use Rattle.bx_message.specs.Events.{event_size};
+ghost use Rattle.bx_entry.specs.Windows.{bytes_of};
+ghost use Rattle.bx_entry.specs.Sessions.{ack_given, acknowledged, admitted, answered_or_held, begun, connected, ends_by, expired, forgotten, given, gives, has_room, overflowed, received, released, ride_portion, subscribed, unheld, unopened, unsubscribed};
 ghost use Rattle.bx_session.specs.Views.{Countable, answered_of, connection_answers, delivery_answers, is_overflow, ride_most, wants_two};
 
 use crate::answered::{Answered, Connection, Delivery};
@@ -340,11 +342,20 @@ impl Session {
         }
     }
 
+    // Whether the event is taken too.
+    fn has_room(&self, config: &Config, event: &SharedEvent) -> bool
+        ensures room { result ≡ has_room config.now event.now (resumed self.now.kept) }
+        ensures fits { IsTrue result → bytes_of self.now.kept.queue + event_size event.now < 2 ^ 64 }
+    {
+        let limits = config.limits;
+        !self.window.is_full(limits.events, limits.bytes, event)
+    }
+
     /// An event of the session, of the publish at this place of the list, with a handle of it, and a further one where two
     /// are wanted. It goes to the connect that is held: an acknowledging session keeps it as the next batch, a
-    /// plain one forgets it. Where none is held it waits. Where as many events wait or are outstanding as may, the
-    /// session overflows instead: its events are dropped, and all of its patterns are to be taken out. Takes
-    /// no memory. (Bayeux 1.0, delivery of events; that a session overflows is this server's choice.)
+    /// plain one forgets it. Where none is held it waits. Where as many events wait or are outstanding as may, or where theirs
+    /// and its own bytes are more than may be, the session overflows instead: its events are dropped, and all of its patterns
+    /// are to be taken out. Takes no memory. (Bayeux 1.0, delivery of events; that a session overflows is this server's choice.)
     pub fn deliver(
         &mut self,
         config: &Config,
@@ -360,7 +371,7 @@ impl Session {
         ensures overflow { is_overflow result ≡ self.new.kept.overflow }
         ensures kept { self.new.kept ≡ after (received config.now (record { place = place; event = event })) self.old.kept }
     {
-        if self.window.is_full(config.limits.events) {
+        if !self.has_room(config, &event) {
             self.overflow();
             return Delivery::Overflowed;
         }

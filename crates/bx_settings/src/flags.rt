@@ -1,7 +1,7 @@
 //! The flags.
 use crate::settings::{Seed, Settings};
 use crate::time::milliseconds;
-use bx_advice::{Config, MAX_SHARDS, Options, STANDARD_LIMITS};
+use bx_advice::{Config, MAX_SHARDS, Options};
 use bx_message::number_of;
 use clap::error::ErrorKind;
 use clap::{Arg, ArgAction, ArgMatches, Command, Error};
@@ -17,6 +17,8 @@ const TIME: &str = "a number of milliseconds up to 4294967295, or of seconds as 
 
 // Of events and of sessions.
 const LIMIT: &str = "a number from 1 to 65536";
+
+const BYTES: &str = "a number from 1 to 4294967295";
 
 const CONNECTIONS: &str = "a number";
 
@@ -73,6 +75,9 @@ fn read_config(
     let Some(config) = with_limit(config.with(options), matches) else {
         return Err(wrong(alloc, command, matches, "limit", "N", LIMIT)?);
     };
+    let Some(config) = with_bytes(config, matches) else {
+        return Err(wrong(alloc, command, matches, "bytes", "N", BYTES)?);
+    };
     match with_sessions(config, matches) {
         Some(config) => Ok(config),
         None => Err(wrong(alloc, command, matches, "sessions", "N", LIMIT)?),
@@ -102,18 +107,20 @@ fn with_limit(config: Config, matches: &ArgMatches<'_>) -> Option<Config> {
     }
 }
 
+// The configuration with the limit of bytes that is said, if one is.
+fn with_bytes(config: Config, matches: &ArgMatches<'_>) -> Option<Config> {
+    match matches.get_str("bytes") {
+        Some(text) => config.with_bytes(u32::try_from(number_of(text.as_bytes())?).ok()?),
+        None => Some(config),
+    }
+}
+
 // The configuration with as many live sessions as are said, if that is.
 fn with_sessions(config: Config, matches: &ArgMatches<'_>) -> Option<Config> {
-    let Some(text) = matches.get_str("sessions") else {
-        return Some(config);
-    };
-    let sessions = usize::try_from(number_of(text.as_bytes())?).ok()?;
-    if sessions < 1 || sessions > STANDARD_LIMITS.sessions {
-        return None;
+    match matches.get_str("sessions") {
+        Some(text) => config.with_sessions(u32::try_from(number_of(text.as_bytes())?).ok()?),
+        None => Some(config),
     }
-    let mut config = config;
-    config.limits.sessions = sessions;
-    Some(config)
 }
 
 // The milliseconds that the flag of this name says, or else its standard text.
@@ -215,6 +222,12 @@ fn with_events<'a>(alloc: Global, command: Command<'a>) -> Result<Command<'a>, A
             "limit",
             "N",
             "How many events may wait for a session, 1 to 65536 [default: 1024]",
+        ))?
+        .arg(value(
+            alloc,
+            "bytes",
+            "N",
+            "How many bytes these events may have, 1 to 4294967295 [default: no limit]",
         ))?
         .arg(value(
             alloc,

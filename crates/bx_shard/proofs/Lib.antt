@@ -7,6 +7,7 @@ pub mod Ends
 pub mod Filings
 pub mod Finding
 pub mod Followed
+pub mod Receiving
 pub mod Riding
 pub mod Gives
 pub mod Given

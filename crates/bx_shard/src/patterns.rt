@@ -65,6 +65,7 @@ impl Sessions {
 
     /// What is in a parcel for a session that is here and that has not overflowed. Where the session overflows, its patterns
     /// are in force no longer. The waker beside a connect that is answered is to be woken.
+    #[tactic(auto, using(crate::proofs::Receiving::received_patterns, crate::proofs::Receiving::received_hold))]
     pub(crate) fn receive(&mut self, place: u64, parcel: Parcel, wakers: &mut Wakers)
         requires here { IfSome (kept_in self.old parcel.number) (λ (k : Kept). (k.overflow ≡ false) × Countable k) }
         requires packed { IsPacked self.old parcel }

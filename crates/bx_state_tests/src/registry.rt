@@ -49,6 +49,7 @@ pub fn config(sessions: usize) -> Config {
         max_interval: 10_000,
         limits: Limits {
             events: 4,
+            bytes: 1_000_000,
             patterns: 4,
             batch: 4,
             sessions,

@@ -41,9 +41,14 @@ fn text_of(alloc: Global, window: &Window) -> Result<String, Fail> {
     Ok(text)
 }
 
-fn push(alloc: Global, window: &mut Window, place: u64, number: u64) -> Result<(), Fail> {
+fn push(alloc: Global, window: &mut Window, place: u64, number: u64) -> Result<(), Fail>
+    ensures { window.new.contents.out ≡ window.old.contents.out }
+{
     let event = event(alloc, number)?;
     window.reserve(1)?;
+    if window.is_full(usize::MAX, usize::MAX, &event) {
+        return Err(Fail::from("no room"));
+    }
     window.push_reserved(place, event);
     Ok(())
 }
@@ -58,7 +63,12 @@ fn push_all(alloc: Global, window: &mut Window, first: u64, count: u64) -> Resul
 fn apply(rt: &impl Abort, alloc: Global, window: &mut Window, step: Move) -> Result<(), Fail> {
     match step {
         Move::Push(first, count) => push_all(alloc, window, first, count)?,
-        Move::Full => same(rt, window.is_full(LIMIT), true, step),
+        Move::Full => same(
+            rt,
+            window.is_full(LIMIT, usize::MAX, &event(alloc, 1)?),
+            true,
+            step,
+        ),
         Move::Give(most) => {
             if window.given().number < MANY {
                 window.give(most);
@@ -119,11 +129,12 @@ fn a_full_window_takes_no_more(rt: HostRuntime) -> Result<(), Fail> {
 // As many events as a configuration may allow, and one more.
 fn check_most(rt: &impl Abort, alloc: Global, window: &mut Window) -> Result<(), Fail> {
     let most = MAX_EVENTS as usize;
+    let next = event(alloc, 1)?;
     for place in 0..u64::from(MAX_EVENTS) {
-        same(rt, window.is_full(most), false, "room");
+        same(rt, window.is_full(most, usize::MAX, &next), false, "room");
         push(alloc, window, place, place)?;
     }
-    same(rt, window.is_full(most), true, "full");
+    same(rt, window.is_full(most, usize::MAX, &next), true, "full");
     same(rt, window.len(), most, "length");
     Ok(())
 }
@@ -152,9 +163,8 @@ fn a_cleared_window_keeps_its_number(rt: HostRuntime) -> Result<(), Fail> {
 fn check_forget(rt: &impl Abort, alloc: Global, window: &mut Window) -> Result<(), Fail>
     requires { window.old.contents.out ≡ 0 }
 {
-    window.reserve(2)?;
-    window.push_reserved(0, event(alloc, 1)?);
-    window.push_reserved(1, event(alloc, 2)?);
+    push(alloc, window, 0, 1)?;
+    push(alloc, window, 1, 2)?;
     same(rt, window.events().count(), 2, "events");
     window.forget(1);
     same(rt, window.len(), 1, "length");
@@ -194,4 +204,58 @@ fn look_ahead(rt: &impl Abort, alloc: Global, window: &mut Window) -> Result<(),
 fn a_look_ahead_says_what_a_connect_is_given(rt: HostRuntime) -> Result<(), Fail> {
     let alloc = rt.alloc();
     look_ahead(&rt, alloc, &mut Window::new(alloc))
+}
+
+// {"channel":"/a/b","data":7}, the text of each event whose number has one digit, has 27 bytes.
+fn check_bytes(rt: &impl Abort, alloc: Global, window: &mut Window) -> Result<(), Fail>
+    requires { window.old.contents.out ≡ 0 }
+{
+    let next = event(alloc, 9)?;
+    same(rt, next.size(), 27, "size");
+    push(alloc, window, 0, 1)?;
+    push(alloc, window, 1, 2)?;
+    same(
+        rt,
+        window.is_full(LIMIT, 81, &next),
+        false,
+        "room for a third",
+    );
+    same(
+        rt,
+        window.is_full(LIMIT, 80, &next),
+        true,
+        "a byte too little",
+    );
+    window.forget(1);
+    same(
+        rt,
+        window.is_full(LIMIT, 54, &next),
+        false,
+        "room of one that went",
+    );
+    same(rt, window.is_full(LIMIT, 53, &next), true, "but no more");
+    if window.given().number < MANY {
+        window.give(256);
+    }
+    same(
+        rt,
+        window.is_full(LIMIT, 53, &next),
+        true,
+        "it is outstanding",
+    );
+    window.acknowledge(1);
+    same(rt, window.is_full(LIMIT, 27, &next), false, "none waits");
+    same(
+        rt,
+        window.is_full(LIMIT, 26, &next),
+        true,
+        "larger by itself",
+    );
+    Ok(())
+}
+
+#[test]
+fn bytes_count_until_their_event_is_given_for_good(rt: HostRuntime) -> Result<(), Fail> {
+    let alloc = rt.alloc();
+    check_bytes(&rt, alloc, &mut Window::new(alloc))
 }

@@ -68,8 +68,8 @@ delivered_to_forms config e s (Some p) h full i =
 
 published_forms : (config : Config) (e : Publication) (s : Session) → InStep config s → Forms s.num (published config e s)
 published_forms config e s i =
-    cond_both (is_hit s e.event) (cond (has_room config s) (delivered config e s) (overflowed s)) s (Forms s.num)
-    (λ h. cond_both (has_room config s) (delivered config e s) (overflowed s) (Forms s.num)
+    cond_both (is_hit s e.event) (cond (has_room config e.event s) (delivered config e s) (overflowed s)) s (Forms s.num)
+    (λ h. cond_both (has_room config e.event s) (delivered config e s) (overflowed s) (Forms s.num)
     (λ g. delivered_to_forms config e s s.held refl (grind (arith, common_steps)) i) (λ g. inl refl))
     (λ h. inl refl)
 

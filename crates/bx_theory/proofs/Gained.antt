@@ -1,14 +1,16 @@
 -- What a session gains by an entry: the event of a publish that it gets, and nothing else.
-use Rattle.std.proofs.Common.{◌≡◌, ℕ, ◌+◌, ◌<◌, Bool, true, false, cond, not, ◌&&◌, ◌||◌, List, [], ◌∷◌, ◌++◌, fold, refl, sym, ap, ◌∙◌, subst, append-nil, append_assoc, filter_map, arith}
+use Rattle.std.proofs.Common.{◌≡◌, ℕ, ◌+◌, ◌<◌, ◌≤◌, Bool, true, false, cond, not, ◌&&◌, ◌||◌, List, [], ◌∷◌, ◌++◌, fold, refl, sym, ap, ◌∙◌, subst, append-nil, append_assoc, filter_map, arith}
 use Rattle.std.proofs.lemmas.{Bool.cond_both, Bool.cond-true, Bool.and_parts, List.Sums.fold-append, Grind.common_steps}
 use Rattle.std.proofs.ByRecursion.{All-append, All-push, All-weaker}
 use Rattle.bx_history.proofs.Tests.{either}
 use Rattle.bx_names.specs.Words.{Glob, same_glob, matches, any_matches, same_glob-decides, segments, is_broadcast, in_force}
 use Rattle.bx_advice.specs.declared.config.Config.{Config}
 use Rattle.bx_message.specs.declared.event.Event.{Event}
+use Rattle.bx_message.specs.Events.{event_size}
 use Rattle.bx_entry.specs.declared.entry.{Entry.Entry, EntryKind.EntryKind}
 use Rattle.bx_entry.specs.declared.entry.EntryKind.TheVariants.{Publish}
-use Rattle.bx_entry.specs.Sessions.{Session, Publication, is_live, is_hit, has_room, pending_count, step_by, step, unopened, session, rider_of}
+use Rattle.bx_entry.specs.Sessions.{Session, Publication, is_live, is_hit, has_room, pending_bytes, pending_count, step_by, step, unopened, session, rider_of, window_in}
+use Rattle.bx_entry.proofs.Rooms.{room_count, room_bytes, room_where}
 use Rattle.bx_theory.specs.Readings.{mention_by, last_of}
 use Rattle.bx_theory.specs.Laws.{EachOf, PlacesFrom}
 use Rattle.bx_theory.specs.Events.{IsEvent, GetsPublish, Rising, EventsWerePublished, PublishesAreEvents, EventsRise}
@@ -17,7 +19,7 @@ use Rattle.bx_theory.proofs.{Keeps.ride_k, Keeps.overflow_reading, Stages.live_r
 -- ---- one entry
 
 gains_by : Config → Session → ℕ → EntryKind → List Publication
-gains_by config s place (Publish e) = cond (is_hit s e && has_room config s) (record { place = place; event = e } ∷ []) []
+gains_by config s place (Publish e) = cond (is_hit s e && has_room config e s) (record { place = place; event = e } ∷ []) []
 gains_by config s place _ = []
 
 pub gains : Config → Session → Entry → List Publication
@@ -70,7 +72,7 @@ rising_later n events (e ∷ f ∷ fs) l r = absurd l
 
 gains_later : (config : Config) (s : Session) (place : ℕ) (k : EntryKind) → LaterAt place (gains_by config s place k)
 unfolding gains_by
-gains_later config s place (Publish e) = let p : Publication = record { place = place; event = e } in cond_both (is_hit s e && has_room config s) (p ∷ []) [] (LaterAt place) (λ h. refl) (λ h. tt)
+gains_later config s place (Publish e) = let p : Publication = record { place = place; event = e } in cond_both (is_hit s e && has_room config e s) (p ∷ []) [] (LaterAt place) (λ h. refl) (λ h. tt)
 gains_later config s place _ = tt
 
 rising_step : (config : Config) (n : ℕ) (s : Session) (e : Entry) → e.place ≡ n → RisingBelow n s.events → RisingBelow (n + 1) (step config s e).events
@@ -112,20 +114,22 @@ record Hit (config : Config) (s : Session) (e : Event) : Type 0 where
   broadcast : is_broadcast e.channel ≡ true
   matched : any_matches s.patterns (segments e.channel) ≡ true
   room : pending_count s < config.limits.events
+  fits : pending_bytes s + event_size e ≤ config.limits.bytes
 
-hit : (config : Config) (s : Session) (e : Event) → (is_hit s e && has_room config s) ≡ true → Hit config s e
+hit : (config : Config) (s : Session) (e : Event) → (is_hit s e && has_room config e s) ≡ true → Hit config s e
 hit config s e h = record {
   live = grind (arith, common_steps);
   within = grind (arith, common_steps);
   broadcast = grind (arith, common_steps);
-  matched = (and_parts (is_live s.stage && not s.overflow && is_broadcast e.channel) (any_matches s.patterns (segments e.channel)) (and_parts (is_hit s e) (has_room config s) h).0).1;
-  room = grind (arith, common_steps);
+  matched = (and_parts (is_live s.stage && not s.overflow && is_broadcast e.channel) (any_matches s.patterns (segments e.channel)) (and_parts (is_hit s e) (has_room config e s) h).0).1;
+  room = room_count config.limits.events config.limits.bytes e (window_in s) (and_parts (is_hit s e) (has_room config e s) h).1;
+  fits = room_bytes config.limits.events config.limits.bytes e (window_in s) (and_parts (is_hit s e) (has_room config e s) h).1;
 }
 
-is_so : (config : Config) (s : Session) (e : Event) → Hit config s e → (is_hit s e && has_room config s) ≡ true
-is_so config s e h = grind (arith, common_steps)
+is_so : (config : Config) (s : Session) (e : Event) → Hit config s e → (is_hit s e && has_room config e s) ≡ true
+is_so config s e h = let room : has_room config e s ≡ true = room_where config.limits.events config.limits.bytes e (window_in s) h.room h.fits in grind (arith, common_steps)
 
-hit_reads : (config : Config) (number : ℕ) (before : List Entry) (e : Event) → (is_hit (session config number before) e && has_room config (session config number before)) ≡ true → IsEvent config number before e
+hit_reads : (config : Config) (number : ℕ) (before : List Entry) (e : Event) → (is_hit (session config number before) e && has_room config e (session config number before)) ≡ true → IsEvent config number before e
 hit_reads config number before e h =
     let s : Session = session config number before in
     let x : Hit config (session config number before) e = hit config (session config number before) e h in
@@ -138,9 +142,10 @@ hit_reads config number before e h =
       in_force = (and_parts (not s.overflow) (last_of false (filter_map (λ (x : Entry). mention_by number m.pattern x.kind) before)) (sym (in_force_reading config number before m.pattern) ∙ m.force)).1;
       matching = m.matching;
       room = x.room;
+      fits = x.fits;
     }
 
-reads_hit : (config : Config) (number : ℕ) (before : List Entry) (e : Event) → IsEvent config number before e → (is_hit (session config number before) e && has_room config (session config number before)) ≡ true
+reads_hit : (config : Config) (number : ℕ) (before : List Entry) (e : Event) → IsEvent config number before e → (is_hit (session config number before) e && has_room config e (session config number before)) ≡ true
 reads_hit config number before e i =
     let s : Session = session config number before in
     let within : s.overflow ≡ false = overflow_reading config (unopened number) before ∙ i.within in
@@ -151,6 +156,7 @@ reads_hit config number before e i =
       matched = matching_any s.patterns (segments e.channel) i.pattern
           (in_force_reading config number before i.pattern ∙ ap (λ (o : Bool). not o && last_of false (filter_map (λ (x : Entry). mention_by number i.pattern x.kind) before)) within ∙ i.in_force) i.matching;
       room = i.room;
+      fits = i.fits;
     })
 
 -- ---- each event is such a publish
@@ -161,7 +167,7 @@ unfolding gains_by
 gains_gets config number before e behind (Publish x) h =
     let p : Publication = record { place = e.place; event = x } in
     let s : Session = session config number before in
-    cond_both (is_hit s x && has_room config s) (p ∷ []) [] (EachOf (GetsPublish config number (before ++ e ∷ behind)))
+    cond_both (is_hit s x && has_room config x s) (p ∷ []) [] (EachOf (GetsPublish config number (before ++ e ∷ behind)))
     (λ g. (record { before = before; entry = e; behind = behind; split = refl; place = refl; kind = h; gets = hit_reads config number before x g }, tt)) (λ g. tt)
 gains_gets config number before e behind _ h = tt
 
@@ -184,9 +190,9 @@ events_were_published config number es = gets_run config number [] es tt
 
 -- ---- each such publish is an event
 
-gains_one : (config : Config) (s : Session) (place : ℕ) (e : Event) (k : EntryKind) → k ≡ Publish e → (is_hit s e && has_room config s) ≡ true → gains_by config s place k ≡ record { place = place; event = e } ∷ []
+gains_one : (config : Config) (s : Session) (place : ℕ) (e : Event) (k : EntryKind) → k ≡ Publish e → (is_hit s e && has_room config e s) ≡ true → gains_by config s place k ≡ record { place = place; event = e } ∷ []
 unfolding gains_by
-gains_one config s place e k h g = let p : Publication = record { place = place; event = e } in ap (gains_by config s place) h ∙ cond-true (is_hit s e && has_room config s) (p ∷ []) [] g
+gains_one config s place e k h g = let p : Publication = record { place = place; event = e } in ap (gains_by config s place) h ∙ cond-true (is_hit s e && has_room config e s) (p ∷ []) [] g
 
 pub publishes_are_events : PublishesAreEvents
 unfolding gains

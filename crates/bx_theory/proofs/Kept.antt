@@ -26,7 +26,8 @@ kept_in_bounds config number es room =
     let s : Session = session config number es in
     let i : InStep config (session config number es) = all_in_step config (unopened number) es room (unopened_in_step config number) in
     record {
-      queue = queue_bounded config number es;
+      queue = (queue_bounded config number es).events;
+      bytes = (queue_bounded config number es).bytes;
       batch = i.small;
       front = i.front;
       plain = i.plain;

@@ -109,8 +109,8 @@ delivered_to_files config e s (Some p) i = files_one e.place s _ (filing config 
 
 published_files : (config : Config) (e : Publication) (s : Session) → InStep config s → Files e.place s (published config e s)
 published_files config e s i =
-    cond_both (is_hit s e.event) (cond (has_room config s) (delivered config e s) (overflowed s)) s (Files e.place s)
-    (λ h. cond_both (has_room config s) (delivered config e s) (overflowed s) (Files e.place s)
+    cond_both (is_hit s e.event) (cond (has_room config e.event s) (delivered config e s) (overflowed s)) s (Files e.place s)
+    (λ h. cond_both (has_room config e.event s) (delivered config e s) (overflowed s) (Files e.place s)
     (λ g. delivered_to_files config e s s.held i) (λ g. files_none e.place s (overflowed s) (grind (arith, common_steps, drop-append_seam))))
     (λ h. files_none e.place s s (grind (arith, common_steps, drop-append_seam)))
 

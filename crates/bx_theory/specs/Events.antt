@@ -1,21 +1,22 @@
 -- Which publishes are a session's events, and what answers give of them.
-use Rattle.std.specs.Prelude.{ℕ, ◌≡◌, ◌<◌, true, false, List, [], ◌∷◌, ◌++◌, filter_map, option_map, slice_get, Some, ⊤}
+use Rattle.std.specs.Prelude.{ℕ, ◌≡◌, ◌<◌, ◌≤◌, ◌+◌, true, false, List, [], ◌∷◌, ◌++◌, filter_map, option_map, slice_get, Some, ⊤}
 use Rattle.bx_names.specs.Words.{Glob, matches, segments, is_broadcast}
 use Rattle.bx_advice.specs.declared.config.Config.{Config}
 use Rattle.bx_message.specs.declared.{event.Event.Event, message_kind.MessageKind.MessageKind}
 use Rattle.bx_message.specs.MessageKinds.{message_kind_of}
+use Rattle.bx_message.specs.Events.{event_size}
 use Rattle.bx_entry.specs.declared.entry.Entry.{Entry}
 use Rattle.bx_entry.specs.declared.entry.EntryKind.TheVariants.{Publish}
 use Rattle.bx_entry.specs.Words.{Posted, Listed, Post, Judged, Waiting, event_of, registry, entries, PlacedAnswer, answer}
-use Rattle.bx_entry.specs.Sessions.{Publication, pending_count, unopened, session}
+use Rattle.bx_entry.specs.Sessions.{Publication, pending_bytes, pending_count, unopened, session}
 use Rattle.bx_theory.specs.Laws.{EachOf, PlacesFrom}
 use Rattle.bx_theory.specs.Readings.{since_opening, unclosed, mention_by, last_of, some_overfills}
 
 -- ---- which publishes are events
 
 -- A publish of this event, behind these entries, is one that the session gets: it is to a broadcast channel, the session was opened and not
--- closed since, no earlier entry found it without room, the last mention of some pattern that matches is in a subscribe, and fewer events
--- wait than the limit.
+-- closed since, no earlier entry found it without room, the last mention of some pattern that matches is in a subscribe, fewer events
+-- wait than the limit, and with its own bytes theirs are within the other limit.
 pub record IsEvent (config : Config) (number : ℕ) (before : List Entry) (e : Event) : Type 0 where
   pub broadcast : is_broadcast e.channel ≡ true
   pub live : unclosed number (since_opening number before) ≡ true
@@ -24,6 +25,7 @@ pub record IsEvent (config : Config) (number : ℕ) (before : List Entry) (e : E
   pub in_force : last_of false (filter_map (λ (x : Entry). mention_by number pattern x.kind) before) ≡ true
   pub matching : matches pattern (segments e.channel) ≡ true
   pub room : pending_count (session config number before) < config.limits.events
+  pub fits : pending_bytes (session config number before) + event_size e ≤ config.limits.bytes
 
 -- some publish entry of these has this event at this place, and the session gets it
 pub record GetsPublish (config : Config) (number : ℕ) (es : List Entry) (p : Publication) : Type 0 where

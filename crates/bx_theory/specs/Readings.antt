@@ -13,7 +13,7 @@ use Rattle.bx_entry.specs.Words.{Listed, Post, Posted, due_of, Registered, Regis
 use Rattle.bx_entry.specs.Listing as messages
 use Rattle.bx_entry.specs.declared.entry.{Entry.Entry, EntryKind.EntryKind}
 use Rattle.bx_entry.specs.declared.entry.EntryKind.TheVariants.{Opened, Connect, Subscribe, Unsubscribe, Publish, Disconnect, Refused, Tick}
-use Rattle.bx_entry.specs.Sessions.{Session, Pending, Filed, Publication, ack_given, is_live, is_hit, has_room, pending_count, step, session, Closed, deadline}
+use Rattle.bx_entry.specs.Sessions.{Session, Pending, Filed, Publication, ack_given, is_live, is_hit, has_room, pending_bytes, pending_count, step, session, Closed, deadline}
 
 -- ---- live: opened, and not closed since
 
@@ -69,7 +69,7 @@ InForceReading = (config : Config) (number : ℕ) (es : List Entry) (p : Glob) �
 -- the entry ends this hold: an event of the session, a newer connect of it, its disconnect, or a tick at or past the deadline
 abbrev pub ends_by : Config → Session → Pending → ℕ → EntryKind → Bool
 ends_by config s p moment (Connect n client id acked hold) = n == s.number
-ends_by config s p moment (Publish e) = is_hit s e && has_room config s
+ends_by config s p moment (Publish e) = is_hit s e && has_room config e s
 ends_by config s p moment (Disconnect n) = n == s.number
 ends_by config s p moment (Tick numbers) = nat_le (deadline p) moment
 ends_by config s p moment _ = false
@@ -120,10 +120,10 @@ EndingReading = (config : Config) (s : Session) (p : Pending) (es : List Entry) 
 -- whether an entry of this kind finds no room
 abbrev pub overfills_by : Config → Session → EntryKind → Bool
 overfills_by config s (Subscribe n ps) = (n == s.number) && nat_lt config.limits.patterns (length (fold with_pattern s.patterns ps))
-overfills_by config s (Publish e) = is_hit s e && not (has_room config s)
+overfills_by config s (Publish e) = is_hit s e && not (has_room config e s)
 overfills_by config s _ = false
 
--- some entry is a hit that finds the queue full, or a subscribe after which too many patterns are in force
+-- some entry is a hit that finds no room in the queue, or a subscribe after which too many patterns are in force
 abbrev pub some_overfills : Config → Session → List Entry → Bool
 some_overfills config s [] = false
 some_overfills config s (e ∷ es) = overfills_by config s e.kind || some_overfills config (step config s e) es
@@ -132,9 +132,14 @@ some_overfills config s (e ∷ es) = overfills_by config s e.kind || some_overfi
 abbrev pub OverflowReading : Type 0
 OverflowReading = (config : Config) (s : Session) (es : List Entry) → (fold (step config) s es).overflow ≡ (s.overflow || some_overfills config s es)
 
--- a queue is never longer than its limit
+-- a session's queue is within both of its limits
+pub record Bounded (config : Config) (s : Session) : Type 0 where
+  pub events : pending_count s ≤ config.limits.events
+  pub bytes : pending_bytes s ≤ config.limits.bytes
+
+-- so every queue is
 abbrev pub QueueBounded : Type 0
-QueueBounded = (config : Config) (number : ℕ) (es : List Entry) → pending_count (session config number es) ≤ config.limits.events
+QueueBounded = (config : Config) (number : ℕ) (es : List Entry) → Bounded config (session config number es)
 
 -- ---- due: the greatest moment that an accepted message gave
 

@@ -1,16 +1,19 @@
-use Rattle.std.proofs.Common.{◌≡◌, ℕ, List, map, length, arith}
-use Rattle.std.specs.Prelude.{None, string_bytes}
-use Rattle.std.proofs.lemmas.{Bool.ltb-true, Bool.ltb-false, List.length-map}
-use Rattle.bx_replay.specs.Settings.{settings_in}
-use Rattle.bx_replay.proofs.Words.{few, many}
-use Rattle.bx_replay.proofs.arguments.Arguments.read.Goals.{in_default-via-then-words-lt5, in_default-via-else-words-lt5+else-words-lt6+else-words-lt7+else-words-lt8}
+use Rattle.std.proofs.Common.{rules, ◌≡◌, min, take, drop, length, ap, ◌∙◌}
+use Rattle.std.specs.Prelude.{option_map, string_bytes}
+use Rattle.bx_replay.specs.Arguments.{run_by}
+use Rattle.bx_replay.proofs.Words.{none_of_first, all_of_both}
 use Rattle.bx_replay.proofs.arguments.Arguments.read.Goals as goal
 
-pub returns-in_default-clause-said : goal.returns-in_default-clause-said
-returns-in_default-clause-said c =
-    let words : List (List ℕ) = map string_bytes c.args.words.now in
-    let same : length words ≡ length c.args.words.now = length-map c.args.words.now string_bytes in
-    elim c.in_default.branch as (λ _. None ≡ settings_in words) [
-      | in_default-via-then-words-lt5 w ↦ few words (omega (arith, same, ltb-true (length c.args.words.now) 5 w.if-words-lt5-1.true))
-      | in_default-via-else-words-lt5+else-words-lt6+else-words-lt7+else-words-lt8 w ↦ many words (omega (arith, same, ltb-false (length c.args.words.now) 8 w.if-words-lt8-1.false))
-    ]
+pub returns-in_err-read_first-clause-said : goal.returns-in_err-read_first-clause-said
+returns-in_err-read_first-clause-said c =
+    let words = c.args.words.now in
+    let front : c.split_at.result.0.now ≡ take (min 7 (length words)) words = search rules in
+    ap (option_map run_by) c.from_residual.ensures ∙ none_of_first string_bytes words c.split_at.result.0.now front c.in_err-read_first.ensures.said
+
+pub returns-clause-said : goal.returns-clause-said
+returns-clause-said c =
+    let words = c.args.words.now in
+    let front : c.split_at.result.0.now ≡ take (min 7 (length words)) words = search rules in
+    let back : c.split_at.result.1.now ≡ drop (min 7 (length words)) words = search rules in
+    all_of_both string_bytes words c.split_at.result.0.now c.split_at.result.1.now (run_by c.in_ok-read_first.field-0) (option_map run_by c.with_further.result) front back
+    c.in_ok-read_first.ensures.said c.with_further.ensures.said
