@@ -9,6 +9,7 @@ mod serve;
 mod ticker;
 
 use bx_figures::Counts;
+use bx_service::BodyLimit;
 use bx_settings::{Seed, Settings, read_flags, read_seed, read_words};
 use end::tell_at_end;
 use figures::show_figures;
@@ -107,6 +108,7 @@ fn parts_of(rt: &HostRuntime, settings: &Settings<'_>) -> Result<Parts, ExitCode
     Ok(Parts {
         arguments: Serving {
             config: settings.config,
+            body: body_of(settings),
             seed,
             connections: settings.connections,
             until_eof: settings.until_eof,
@@ -116,6 +118,14 @@ fn parts_of(rt: &HostRuntime, settings: &Settings<'_>) -> Result<Parts, ExitCode
         told,
         end,
     })
+}
+
+// How large a body or a query may be.
+fn body_of(settings: &Settings<'_>) -> BodyLimit {
+    match BodyLimit::new(settings.body) {
+        Some(limit) => limit,
+        None => unreachable!(),
+    }
 }
 
 // The status of a server that ended so.
@@ -154,8 +164,8 @@ fn settings_text(alloc: Global, settings: &Settings<'_>) -> Result<String, Alloc
     )?;
     write!(
         text,
-        " limit={} bytes={} sessions={}",
-        config.limits.events, config.limits.bytes, config.limits.sessions
+        " limit={} bytes={} sessions={} body={}",
+        config.limits.events, config.limits.bytes, config.limits.sessions, settings.body
     )?;
     write!(text, " ride={} anonymous={}", config.ride, config.anonymous)?;
     write!(

@@ -12,7 +12,7 @@ use bx_figures::Counts;
 use bx_hub::{Hub, OpenGate};
 use bx_message::Item;
 use bx_serve::serve_until;
-use bx_service::{Backend, BayeuxService, HubBackend, Unanswered};
+use bx_service::{Backend, BayeuxService, BodyLimit, HubBackend, Unanswered};
 use bx_window::{Naming, Opened};
 use futures::Future;
 use futures::channel::oneshot::Receiver;
@@ -37,6 +37,8 @@ use tokio::runtime::Runtime;
 pub struct Serving {
     /// How many shards there are, the times in milliseconds, the limits and the options.
     pub config: Config,
+    /// How large a body or a query may be.
+    pub body: BodyLimit,
     /// Of the generator of nonces.
     pub seed: [u8; 32],
     /// After how many connections it ends; 0: never.
@@ -177,9 +179,10 @@ where
     let is_over = Arc::new(alloc, AtomicBool::new(false))?;
     let (ticked, over) = (Arc::try_clone(&hub)?, Arc::try_clone(&is_over)?);
     let counted = Arc::try_clone(counts)?;
+    let crowd = arguments.config.limits.sessions;
     let ticker = thread::spawn(
         &rt,
-        move || tick(&rt, alloc, &*ticked, &clock, &*counted, &*over),
+        move || tick(&rt, alloc, &*ticked, &clock, &*counted, crowd, &*over),
     )?;
     if arguments.until_eof {
         runtime.set_shutdown_timeout(Some(Duration::from_millis(LEAVE)));
@@ -266,7 +269,7 @@ where
     requires { A.can_poll end }
 {
     let counted = CountedBackend::new(backend, Arc::try_clone(counts)?);
-    let service = BayeuxService::new(rt.alloc(), counted)?;
+    let service = BayeuxService::new(rt.alloc(), counted)?.with_limit(arguments.body);
     let service = CountedService::new(service, Arc::try_clone(counts)?);
     let count = arguments.connections;
     serve_until(rt, runtime, listener, service, count, end)

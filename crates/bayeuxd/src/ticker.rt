@@ -20,17 +20,21 @@ const TICK: u64 = 100;
 // choice.)
 const KEPT: usize = 600;
 
+// The same where more are filed than sessions may live: a second. (This server's choice.)
+const KEPT_IN_A_CROWD: usize = 10;
+
 // After how many ticks it is said again why requests are refused: a second. (This server's choice.)
 const TELLING: u64 = 10;
 
-/// Posts a tick every 100 ms until it is told to stop. It counts what came of each, and says once a second why requests are refused, where
-/// some were.
+/// Posts a tick every 100 ms until it is told to stop. It counts what came of each, says once a second why requests are refused, where some
+/// were, and drops filed answers that nobody took for too long: sooner where more than `crowd` are filed.
 pub fn tick<J, P, G, H, R, C>(
     rt: &R,
     alloc: Global,
     hub: &Hub<J, P, G, H>,
     clock: &C,
     counts: &Counts,
+    crowd: usize,
     is_over: &AtomicBool,
 )
 where
@@ -60,15 +64,27 @@ where
             continue;
         };
         count_tick(counts, ticked.brought.behind());
-        survey(rt, hub, &mut pass, counts);
+        let filed = survey(rt, hub, &mut pass, counts);
         let _ = places.push_back(ticked.place);
-        if places.len() > KEPT
-            && let Some(before) = places.pop_front()
-        {
+        let kept = if filed > crowd as u64 {
+            KEPT_IN_A_CROWD
+        } else {
+            KEPT
+        };
+        if let Some(before) = last_before(&mut places, kept) {
             let swept = hub.sweep(rt, before);
             counts.add(Figure::Swept, swept as u64);
         }
     }
+}
+
+// Takes the places of all ticks but the newest ones, of which so many are kept, and gives the last that it took.
+fn last_before(places: &mut VecDeque<u64>, kept: usize) -> Option<u64> {
+    let mut last = None;
+    for _ in kept..places.len() {
+        last = places.pop_front();
+    }
+    last
 }
 
 // Counts a tick that was taken into the list, with the shards that stayed behind it.
@@ -88,13 +104,13 @@ fn count_tick(counts: &Counts, behind: Lagging) {
     counts.set(Figure::ShardsBehind, shards);
 }
 
-// Writes down how the hub stands, and each of its shards.
+// Writes down how the hub stands, and each of its shards, and gives how many answers are filed.
 fn survey<J: Naming, P: Placing, G: Gate + Drop, H: Wait + Drop, R: Wait>(
     rt: &R,
     hub: &Hub<J, P, G, H>,
     pass: &mut Pass<J>,
     counts: &Counts,
-) {
+) -> u64 {
     let Survey {
         entries,
         live,
@@ -116,4 +132,5 @@ fn survey<J: Naming, P: Placing, G: Gate + Drop, H: Wait + Drop, R: Wait>(
     }
     counts.set(Figure::Connects, connects);
     counts.set(Figure::Filed, answers);
+    answers
 }

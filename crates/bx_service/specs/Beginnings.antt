@@ -1,57 +1,66 @@
 -- How an exchange begins.
-use Rattle.std.specs.Prelude.{◌≡◌, ◌<◌, ◌⊎◌, ℕ, List, [], codes, Option, Some, None, option_map, unwrap_or}
-use Rattle.std.specs.Str.Parse.{IsNumeral, digits_value, without_leading_plus}
+use Rattle.std.specs.Prelude.{◌≡◌, ℕ, nat_lt, Bool, true, false, List, [], codes, length, Option, Some, None, option_map, option_and_then, unwrap_or}
+use Rattle.std.specs.Option.{option_map_or}
 use Rattle.http.specs.declared.request.Parts.{Parts}
 use Rattle.http_header.specs.FieldValue.{FieldValue}
 use Rattle.http_header.specs.HeaderMap.{Entries, get}
 use Rattle.http_uri.specs.Uri.{uri_path, uri_query}
-use Rattle.bx_advice.specs.declared.config.TheConstants.{BODY_LIMIT}
 use Rattle.bx_service.specs.declared.{exchange.State.State, route.Route.Route}
 use Rattle.bx_service.specs.declared.exchange.State.TheVariants.{Collecting, Asked, Held, Refused}
 use Rattle.bx_service.specs.declared.route.Route.TheVariants as routes
-use Rattle.bx_service.specs.declared.collect.CollectError.TheVariants.{TooLarge}
+use Rattle.bx_message.specs.Fields.{number_of}
 use Rattle.bx_message.specs.declared.status.Status.TheVariants.{Unavailable}
-use Rattle.bx_service.specs.Statuses.{body_status, route_of}
+use Rattle.bx_transport.specs.Statuses.{transport_status}
+use Rattle.bx_transport.specs.declared.error.TransportError.TheVariants.{TooLarge}
+use Rattle.bx_service.specs.Statuses.{route_of}
 
 -- what the fields say of the body
 abbrev pub content_type_of : Entries FieldValue → Option (List ℕ)
 content_type_of fields = option_map (λ (value : FieldValue). value.bytes) (get fields (codes "content-type"))
 
--- how many bytes the fields say that the body has
+-- the text in which the fields say how many bytes the body has
 abbrev pub length_of : Entries FieldValue → Option (List ℕ)
 length_of fields = option_map (λ (value : FieldValue). value.bytes) (get fields (codes "content-length"))
 
--- a number of bytes above the limit
-abbrev pub IsTooLong : Option (List ℕ) → Type 0
-IsTooLong None = ⊥
-IsTooLong (Some text) = IsNumeral 10 (without_leading_plus text) × (BODY_LIMIT < digits_value 10 (without_leading_plus text))
+-- whether this text says more bytes than the limit; one that is no number up to 2^64-1, in digits alone, says nothing
+abbrev pub says_more : ℕ → Option (List ℕ) → Bool
+says_more limit text = option_map_or (nat_lt limit) (option_and_then number_of text) false
 
 module _ {I B : Type 0} where
   -- a request with this query is asked; it is refused where there is no memory for the query
-  abbrev pub IsAsking : List ℕ → State I B → Type 0
-  IsAsking query (Collecting kind body) = ⊥
-  IsAsking query (Asked text) = text.items ≡ query
-  IsAsking query (Held callback items) = ⊥
-  IsAsking query (Refused status) = status ≡ Unavailable
+  abbrev pub IsAsked : List ℕ → State I B → Type 0
+  IsAsked query (Collecting kind body) = ⊥
+  IsAsked query (Asked text) = text.items ≡ query
+  IsAsked query (Held callback items) = ⊥
+  IsAsked query (Refused status) = status ≡ Unavailable
 
   -- nothing of this body is collected, and no more than the limit will be; the request is refused where there is no memory for its content type
-  abbrev pub IsPosting : Option (List ℕ) → B → State I B → Type 0
-  IsPosting kind body (Collecting text collect) =
-      (option_map (λ t. t.items) text ≡ kind) × (collect.body ≡ body) × (collect.limit ≡ BODY_LIMIT) × (collect.bytes.items ≡ [])
-  IsPosting kind body (Asked text) = ⊥
-  IsPosting kind body (Held callback items) = ⊥
-  IsPosting kind body (Refused status) = status ≡ Unavailable
+  abbrev pub IsCollecting : ℕ → Option (List ℕ) → B → State I B → Type 0
+  IsCollecting limit kind body (Collecting text collect) =
+      (option_map (λ t. t.items) text ≡ kind) × (collect.body ≡ body) × (collect.limit ≡ limit) × (collect.bytes.items ≡ [])
+  IsCollecting limit kind body (Asked text) = ⊥
+  IsCollecting limit kind body (Held callback items) = ⊥
+  IsCollecting limit kind body (Refused status) = status ≡ Unavailable
 
-  -- the state of a POST: one that says a length above the limit may be refused before its body comes
-  abbrev pub IsPosted : Entries FieldValue → B → State I B → Type 0
-  IsPosted fields body state = IsPosting (content_type_of fields) body state ⊎ (IsTooLong (length_of fields) × (state ≡ Refused (body_status TooLarge)))
+  -- by whether a request is larger than the limit: it is refused as such, or else its state is one of these
+  abbrev pub OrTooLarge : Bool → (State I B → Type 0) → State I B → Type 0
+  OrTooLarge true states state = state ≡ Refused (transport_status TooLarge)
+  OrTooLarge false states state = states state
+
+  -- the state of a GET, by how long its query is
+  abbrev pub IsAsking : ℕ → List ℕ → State I B → Type 0
+  IsAsking limit query state = OrTooLarge (nat_lt limit (length query)) (IsAsked query) state
+
+  -- the state of a POST, by what it says of its body's length before that comes
+  abbrev pub IsPosted : ℕ → Entries FieldValue → B → State I B → Type 0
+  IsPosted limit fields body state = OrTooLarge (says_more limit (length_of fields)) (IsCollecting limit (content_type_of fields) body) state
 
   -- the state of a request that is served so
-  abbrev pub BeginsAs : Route → Parts → B → State I B → Type 0
-  BeginsAs routes.Post head body state = IsPosted head.headers body state
-  BeginsAs routes.Get head body state = IsAsking (unwrap_or (uri_query head.uri) []) state
-  BeginsAs (routes.Refused status) head body state = state ≡ Refused status
+  abbrev pub BeginsAs : Route → ℕ → Parts → B → State I B → Type 0
+  BeginsAs routes.Post limit head body state = IsPosted limit head.headers body state
+  BeginsAs routes.Get limit head body state = IsAsking limit (unwrap_or (uri_query head.uri) []) state
+  BeginsAs (routes.Refused status) limit head body state = state ≡ Refused status
 
-  -- the state of a request that has just come, by its method and its path
-  abbrev pub Begins : Parts → B → State I B → Type 0
-  Begins head body state = BeginsAs (route_of head.method (uri_path head.uri)) head body state
+  -- the state of a request that has just come to a service with this limit, by its method and its path
+  abbrev pub Begins : ℕ → Parts → B → State I B → Type 0
+  Begins limit head body state = BeginsAs (route_of head.method (uri_path head.uri)) limit head body state

@@ -1,24 +1,27 @@
 //! One request and its response.
-ghost use Rattle.std.specs.Prelude.{◌≡◌, [], IfOk, IfSome, IsTrue, Ok, MatchOption, option_copied, option_map, string_bytes, unwrap_or};
+ghost use Rattle.std.specs.Prelude.{◌≡◌, [], IfOk, IfSome, Ok, MatchOption, option_copied, option_map, string_bytes, unwrap_or};
 ghost use Rattle.std.specs.Arc.{arc_value};
 ghost use Rattle.futures.specs.Poll.{IfReady, OnPending};
 ghost use Rattle.futures.specs.Task.{IsArmed, Keeps};
 ghost use Rattle.bx_service.specs.Polling.{CanPoll};
 ghost use Rattle.http.specs.Request.{head_of, body_of};
 ghost use Rattle.bx_cut.specs.Bodies.{texts_of};
-ghost use Rattle.bx_service.specs.Beginnings.{Begins, IsAsking, IsPosting, IsTooLong};
+ghost use Rattle.bx_service.specs.Beginnings.{Begins, IsAsking, IsCollecting, says_more};
+ghost use Rattle.bx_service.specs.declared.exchange.State.TheVariants.{Refused};
+ghost use Rattle.bx_transport.specs.Statuses.{transport_status};
+ghost use Rattle.bx_transport.specs.declared.error.TransportError.TheVariants.{TooLarge};
 ghost use Rattle.bx_service.specs.Exchanges.{ForAsked, ForCollected, ForDocuments, ForItems, MayAnswer, Sent};
 
 use crate::backend::{Backend, Unanswered};
 use crate::collect::{Collect, CollectError};
+use crate::limit::BodyLimit;
 use crate::response::{answer, refusal};
 use crate::route::Route;
 use crate::service::ServiceFault;
 use crate::status::body_status;
-use bx_advice::BODY_LIMIT;
 use bx_cut::Bodies;
-use bx_message::{Item, Status};
-use bx_transport::{read_get, read_post};
+use bx_message::{Item, Status, number_of};
+use bx_transport::{TransportError, read_get, read_post};
 use bytes::{Buf, Bytes};
 use futures::Future;
 use futures::task::{Context, Poll};
@@ -62,59 +65,78 @@ impl<S, I: Future, B: Body> Exchange<S, I, B> {
     pub(crate) fn new(
         alloc: Global,
         backend: &Arc<S, Global>,
+        limit: BodyLimit,
         request: Request<B>,
     ) -> Exchange<S, I, B>
         requires { (body : B) → B.can_poll body }
         ensures again { CanPoll I.can_poll B.can_poll result.state }
-        ensures begins { Begins (head_of request) (body_of request) result.state }
+        ensures begins { Begins limit (head_of request) (body_of request) result.state }
         ensures backend { IfSome result.backend (λ handle. arc_value handle ≡ arc_value backend.now) }
     {
         let (parts, body) = request.into_parts();
         Exchange {
             alloc,
             backend: Arc::try_clone(backend).ok(),
-            state: State::new(alloc, parts, body),
+            state: State::new(alloc, limit, parts, body),
         }
     }
 }
 
 impl<I: Future, B: Body> State<I, B> {
     // The state of a request that came.
-    fn new(alloc: Global, parts: Parts, body: B) -> State<I, B>
+    fn new(alloc: Global, limit: BodyLimit, parts: Parts, body: B) -> State<I, B>
         requires { B.can_poll body }
         ensures again { CanPoll I.can_poll B.can_poll result }
-        ensures begins { Begins parts body result }
+        ensures begins { Begins limit parts body result }
     {
         match Route::of(&parts.method, parts.uri.path()) {
             Route::Refused(status) => State::Refused(status),
-            Route::Get => State::asking(alloc, parts.uri.query()),
-            Route::Post if is_too_long(parts.headers.get(CONTENT_LENGTH)) => {
-                State::Refused(body_status(CollectError::TooLarge))
+            Route::Get => State::asking(alloc, limit, parts.uri.query()),
+            Route::Post if says_more(limit, parts.headers.get(CONTENT_LENGTH)) => {
+                State::too_large()
             }
-            Route::Post => State::posting(alloc, parts.headers.get(CONTENT_TYPE), body),
+            Route::Post => {
+                State::collecting(alloc, limit, parts.headers.get(CONTENT_TYPE), body)
+            }
         }
     }
 
-    // The state of a GET; one without a query has an empty one.
-    fn asking(alloc: Global, query: Option<&str>) -> State<I, B>
+    // The state of a request that is larger than the limit.
+    fn too_large() -> State<I, B>
         ensures again { CanPoll I.can_poll B.can_poll result }
-        ensures begins { IsAsking (unwrap_or (option_copied query.entry) []) result }
+        ensures refused { result ≡ Refused (transport_status TooLarge) }
+    {
+        State::Refused(TransportError::TooLarge.status())
+    }
+
+    // The state of a GET; one without a query has an empty one.
+    fn asking(alloc: Global, limit: BodyLimit, query: Option<&str>) -> State<I, B>
+        ensures again { CanPoll I.can_poll B.can_poll result }
+        ensures begins { IsAsking limit (unwrap_or (option_copied query.entry) []) result }
     {
         let query = match query {
             Some(query) => query,
             None => "",
         };
+        if limit.is_passed_by(query.len() as u64) {
+            return State::too_large();
+        }
         match Vec::from_slice(alloc, query.as_bytes()) {
             Ok(query) => State::Asked(query),
             Err(_) => State::Refused(Status::Unavailable),
         }
     }
 
-    // The state of a POST of this content type.
-    fn posting(alloc: Global, content_type: Option<&HeaderValue>, body: B) -> State<I, B>
+    // The state of a POST of this content type, whose body is collected up to the limit.
+    fn collecting(
+        alloc: Global,
+        limit: BodyLimit,
+        content_type: Option<&HeaderValue>,
+        body: B,
+    ) -> State<I, B>
         requires { B.can_poll body }
         ensures again { CanPoll I.can_poll B.can_poll result }
-        ensures begins { IsPosting (option_map (λ value. value.bytes) (option_copied content_type.entry)) body result }
+        ensures begins { IsCollecting limit (option_map (λ value. value.bytes) (option_copied content_type.entry)) body result }
     {
         let content_type = match content_type {
             Some(value) => match Vec::from_slice(alloc, value.as_bytes()) {
@@ -125,19 +147,22 @@ impl<I: Future, B: Body> State<I, B> {
         };
         State::Collecting {
             content_type,
-            body: Collect::new(alloc, body, BODY_LIMIT),
+            body: Collect::new(alloc, body, limit.get()),
         }
     }
 }
 
 // Whether the length of a body, as its request says it, is above the limit.
-fn is_too_long(length: Option<&HeaderValue>) -> bool
-    ensures { IsTrue result → IsTooLong (option_map (λ value. value.bytes) (option_copied length.entry)) }
+fn says_more(limit: BodyLimit, length: Option<&HeaderValue>) -> bool
+    ensures { result ≡ says_more limit (option_map (λ value. value.bytes) (option_copied length.entry)) }
 {
-    let Some(Ok(digits)) = length.map(|it| it.to_str()) else {
-        return false;
-    };
-    u64::from_str_radix(digits, 10).is_ok_and(|count| count > BODY_LIMIT as u64)
+    match length {
+        Some(length) => match number_of(length.as_bytes()) {
+            Some(count) => limit.is_passed_by(count),
+            None => false,
+        },
+        None => false,
+    }
 }
 
 // The state of a request with these documents.

@@ -1,11 +1,13 @@
 //! The service of a connection.
-ghost use Rattle.std.specs.Prelude.{◌≡◌, IfSome};
+ghost use Rattle.std.specs.Prelude.{◌≡◌, IfOk, IfSome};
 ghost use Rattle.http.specs.Request.{head_of, body_of};
+ghost use Rattle.bx_advice.specs.declared.config.TheConstants.{BODY_LIMIT};
 ghost use Rattle.bx_service.specs.Beginnings.{Begins};
 ghost use Rattle.std.specs.Arc.{arc_value};
 
 use crate::backend::{Backend, Unanswered};
 use crate::exchange::Exchange;
+use crate::limit::BodyLimit;
 use bx_message::Item;
 use bytes::{Buf, Bytes};
 use futures::Future;
@@ -38,25 +40,41 @@ impl Error for ServiceFault {}
 pub struct BayeuxService<S> {
     alloc: Global,
     backend: Arc<S, Global>,
+    limit: BodyLimit,
 }
 
 impl<S: Drop> BayeuxService<S> {
-    /// A service over the backend. An error means that memory was refused.
-    pub fn new(alloc: Global, backend: S) -> Result<BayeuxService<S>, AllocError> {
+    /// A service over the backend, which takes bodies and queries of up to [`bx_advice::BODY_LIMIT`] bytes. An error means that memory
+    /// was refused.
+    pub fn new(alloc: Global, backend: S) -> Result<BayeuxService<S>, AllocError>
+        ensures backend { IfOk result (λ service. arc_value service.backend ≡ backend) }
+        ensures limit { IfOk result (λ service. service.limit ≡ BODY_LIMIT) }
+    {
         Ok(BayeuxService {
             alloc,
             backend: Arc::new(alloc, backend)?,
+            limit: BodyLimit::greatest(),
         })
+    }
+
+    /// The same, with this limit of bodies and queries.
+    pub fn with_limit(self, limit: BodyLimit) -> BayeuxService<S>
+        ensures { result ≡ record self { limit = limit } }
+    {
+        let mut service = self;
+        service.limit = limit;
+        service
     }
 }
 
 impl<S: Drop> Clone for BayeuxService<S> {
-    ghost is_clone = { λ service copy. arc_value copy.backend ≡ arc_value service.backend };
+    ghost is_clone = { λ service copy. (arc_value copy.backend ≡ arc_value service.backend) × (copy.limit ≡ service.limit) };
 
     fn clone(&self) -> Result<BayeuxService<S>, AllocError> {
         Ok(BayeuxService {
             alloc: self.alloc,
             backend: Arc::try_clone(&self.backend)?,
+            limit: self.limit,
         })
     }
 }
@@ -77,11 +95,11 @@ where
     // Bodies of this type may be polled as they come.
     ghost can_call = { λ _. (body : B) → B.can_poll body };
 
-    // The exchange begins as its request says, and its handle, where it has one, is on the service's backend.
-    ghost calls = { λ service request exchange. Begins (head_of request) (body_of request) exchange.state
+    // The exchange begins as its request and the limit say, and its handle, where it has one, is on the service's backend.
+    ghost calls = { λ service request exchange. Begins service.limit (head_of request) (body_of request) exchange.state
         × IfSome exchange.backend (λ handle. arc_value handle ≡ arc_value service.backend) };
 
     fn call(&self, request: Request<B>) -> Self::Future {
-        Exchange::new(self.alloc, &self.backend, request)
+        Exchange::new(self.alloc, &self.backend, self.limit, request)
     }
 }

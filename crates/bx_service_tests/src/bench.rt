@@ -31,7 +31,7 @@ impl Nonces for Zeros {
     }
 }
 
-/// A service over a hub, the same at a moment that is too great, and two tasks that were not woken.
+/// A service over a hub, the same at a moment that is too great, the same with a small limit of bodies, and two tasks that were not woken.
 #[derive(Drop)]
 pub struct Bench<J: Naming, S: Drop, H: Wait + Drop> {
     pub alloc: Global,
@@ -39,6 +39,7 @@ pub struct Bench<J: Naming, S: Drop, H: Wait + Drop> {
     pub pass: Pass<J>,
     pub service: BayeuxService<S>,
     pub too_late: BayeuxService<S>,
+    pub small: BayeuxService<S>,
     pub first: MockTask,
     pub second: MockTask,
 }

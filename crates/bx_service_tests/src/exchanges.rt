@@ -4,12 +4,12 @@ ghost use Rattle.bx_entry.specs.Placings.{by_remainder};
 
 use crate::bench::{Bench, Still, Zeros};
 use crate::requests::{Ask, Content, Given, POST, Want, check_given, check_pending};
-use crate::runs::{Held, RUNS, Step};
+use crate::runs::{Held, RUNS, SMALL, Step};
 use bx_advice::{Config, Options};
 use bx_entry::ByRemainder;
 use bx_hub::{Hub, OpenGate};
 use bx_message::Item;
-use bx_service::{Backend, BayeuxService, HubBackend, Unanswered};
+use bx_service::{Backend, BayeuxService, BodyLimit, HubBackend, Unanswered};
 use bx_window::{Naming, Opened};
 use futures::Future;
 use futures::test::MockTask;
@@ -117,6 +117,7 @@ where
             let ask = Ask::post(Content::Whole(*text));
             asks(rt, alloc, &bench.too_late, task, &ask, *want)?;
         }
+        Step::Small(ask, want) => asks(rt, alloc, &bench.small, task, ask, *want)?,
         Step::Wait(text) => waits(rt, alloc, service, task, *text)?,
         Step::Break(text) => breaks(rt, alloc, service, task, *text)?,
         Step::Tick(moment) => bench.tick(rt, *moment)?,
@@ -227,6 +228,8 @@ fn run_in_hub<J: Naming, R: Wait + Abort>(
         Still((1 << 62) + 1),
         Zeros,
     );
+    let small = HubBackend::new(rt, alloc, Arc::try_clone(&hub)?, Still(0), Zeros);
+    let limit = BodyLimit::new(SMALL).ok_or("no such limit")?;
     let (first, second) = tasks;
     let mut bench = Bench {
         alloc,
@@ -234,6 +237,7 @@ fn run_in_hub<J: Naming, R: Wait + Abort>(
         pass,
         service: BayeuxService::new(alloc, backend)?,
         too_late: BayeuxService::new(alloc, too_late)?,
+        small: BayeuxService::new(alloc, small)?.with_limit(limit),
         first,
         second,
     };

@@ -14,6 +14,8 @@ pub enum Step {
     Target(&'static str, &'static str, Want),
     /// A request is given this.
     Ask(Ask, Want),
+    /// A request to a service that takes [`SMALL`] bytes is given this.
+    Small(Ask, Want),
     /// A POST of this JSON at a moment that is too great is given this.
     TooLate(&'static str, Want),
     /// A POST of this JSON waits, and is given up.
@@ -68,6 +70,99 @@ const OPENED_WITH_ACK: [Step; 3] = [
 const PUBLISH: Step = Step::Post(texts::PUBLISH, texts::PUBLISHED);
 
 const BAD: Want = Want::Status(400);
+
+const TOO_LARGE: Want = Want::Status(413);
+
+/// How many bytes a body or a query may have where the limit is small.
+pub const SMALL: usize = 16;
+
+// Bodies and queries at a small limit and beyond it, with a length that is said and with none. One that is said to be beyond it is refused before
+// any of it came, and one whose said length is within it is waited for.
+const SMALL_LIMIT: Run = Run {
+    first: &[
+        Step::Small(
+            Ask {
+                content: Content::Padded("[]", SMALL),
+                ..POST
+            },
+            Want::Json("[]"),
+        ),
+        Step::Small(
+            Ask {
+                content: Content::Padded("[]", SMALL + 1),
+                ..POST
+            },
+            TOO_LARGE,
+        ),
+        Step::Small(
+            Ask {
+                kind: FORM,
+                content: Content::Padded("message=[]", SMALL),
+                ..POST
+            },
+            Want::Json("[]"),
+        ),
+        Step::Small(
+            Ask {
+                kind: FORM,
+                content: Content::Padded("message=[]", SMALL + 1),
+                ..POST
+            },
+            TOO_LARGE,
+        ),
+        Step::Small(
+            Ask {
+                said: Some(SMALL as u64),
+                content: Content::Padded("[]", SMALL),
+                ..POST
+            },
+            Want::Json("[]"),
+        ),
+        Step::Small(
+            Ask {
+                said: Some((SMALL + 1) as u64),
+                content: Content::Late("[]"),
+                ..POST
+            },
+            TOO_LARGE,
+        ),
+        Step::Small(
+            Ask {
+                said: Some(u64::MAX),
+                content: Content::Late("[]"),
+                ..POST
+            },
+            TOO_LARGE,
+        ),
+        Step::Small(
+            Ask {
+                method: "GET",
+                target: "/cometd?message=[]&x=123",
+                ..POST
+            },
+            Want::Script("jsonpcallback([])"),
+        ),
+        Step::Small(
+            Ask {
+                method: "GET",
+                target: "/cometd?message=[]&x=1234",
+                ..POST
+            },
+            TOO_LARGE,
+        ),
+        Step::Small(
+            Ask {
+                method: "GET",
+                target: "/cometd?jsonp=a(&message=[",
+                ..POST
+            },
+            TOO_LARGE,
+        ),
+    ],
+    held: None,
+    last: &[],
+    ride: false,
+};
 
 // A document to a path below the one that is served, and one of which nothing is there at first.
 const ANSWERED: Run = Run {
@@ -126,7 +221,7 @@ const REFUSED: Run = Run {
                 content: Content::Padded("[]", BODY_LIMIT + 1),
                 ..POST
             },
-            Want::Status(413),
+            TOO_LARGE,
         ),
         Step::Ask(
             Ask {
@@ -134,7 +229,7 @@ const REFUSED: Run = Run {
                 content: Content::Late("[]"),
                 ..POST
             },
-            Want::Status(413),
+            TOO_LARGE,
         ),
         Step::TooLate(texts::HANDSHAKE, BAD),
         Step::Post(texts::HANDSHAKE, texts::HANDSHAKEN),
@@ -374,9 +469,10 @@ const RIDDEN: Run = Run {
 };
 
 /// All runs.
-pub const RUNS: [Run; 16] = [
+pub const RUNS: [Run; 17] = [
     ANSWERED,
     REFUSED,
+    SMALL_LIMIT,
     CLOSED,
     OTHER_FORMS,
     PUBLISHED,

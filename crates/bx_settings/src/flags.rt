@@ -1,7 +1,10 @@
 //! The flags.
+ghost use Rattle.std.specs.Prelude.{◌≤◌, IfSome};
+ghost use Rattle.bx_advice.specs.declared.config.TheConstants.{BODY_LIMIT};
+
 use crate::settings::{Seed, Settings};
 use crate::time::milliseconds;
-use bx_advice::{Config, MAX_SHARDS, Options};
+use bx_advice::{BODY_LIMIT, Config, MAX_SHARDS, Options};
 use bx_message::number_of;
 use clap::error::ErrorKind;
 use clap::{Arg, ArgAction, ArgMatches, Command, Error};
@@ -20,6 +23,8 @@ const LIMIT: &str = "a number from 1 to 65536";
 
 const BYTES: &str = "a number from 1 to 4294967295";
 
+const BODY: &str = "a number from 1 to 1048576";
+
 const CONNECTIONS: &str = "a number";
 
 /// What these flags say, where so many processors are there; or what is wrong with them, with a text for it; or the text that
@@ -32,6 +37,9 @@ pub fn read_flags<'a>(
     let mut command = command(alloc)?;
     let matches = command.try_get_matches_from_mut(words)?;
     let config = read_config(alloc, &mut command, &matches, processors)?;
+    let Some(body) = body_of(&matches) else {
+        return Err(wrong(alloc, &mut command, &matches, "body", "N", BODY)?);
+    };
     let Some(connections) = number_of(value_of(&matches, "connections", "0").as_bytes()) else {
         return Err(wrong(
             alloc,
@@ -45,6 +53,7 @@ pub fn read_flags<'a>(
     Ok(Settings {
         listen: value_of(&matches, "listen", "127.0.0.1:8087"),
         config,
+        body,
         seed: match matches.get_str("seed-file") {
             Some(path) => Seed::File(path),
             None => Seed::Drawn,
@@ -72,13 +81,14 @@ fn read_config(
         ride: matches.get_flag("ride"),
         anonymous: matches.get_flag("anonymous"),
     };
-    let Some(config) = with_limit(config.with(options), matches) else {
+    let config = config.with(options);
+    let Some(config) = with_number(config, matches, "limit", |it, n| it.with_limit(n)) else {
         return Err(wrong(alloc, command, matches, "limit", "N", LIMIT)?);
     };
-    let Some(config) = with_bytes(config, matches) else {
+    let Some(config) = with_number(config, matches, "bytes", |it, n| it.with_bytes(n)) else {
         return Err(wrong(alloc, command, matches, "bytes", "N", BYTES)?);
     };
-    match with_sessions(config, matches) {
+    match with_number(config, matches, "sessions", |it, n| it.with_sessions(n)) {
         Some(config) => Ok(config),
         None => Err(wrong(alloc, command, matches, "sessions", "N", LIMIT)?),
     }
@@ -99,28 +109,33 @@ fn config_of(
     Config::new(shards, timeout, interval, max_interval)
 }
 
-// The configuration with the limit of events that is said, if one is.
-fn with_limit(config: Config, matches: &ArgMatches<'_>) -> Option<Config> {
-    match matches.get_str("limit") {
-        Some(text) => config.with_limit(u32::try_from(number_of(text.as_bytes())?).ok()?),
+// The configuration with what the flag of this name says, if it is said.
+fn with_number<F: FnOnce(Config, u32) -> Option<Config>>(
+    config: Config,
+    matches: &ArgMatches<'_>,
+    name: &str,
+    with: F,
+) -> Option<Config>
+    requires { F.IsAlwaysCallable with }
+{
+    match matches.get_str(name) {
+        Some(text) => with(config, u32::try_from(number_of(text.as_bytes())?).ok()?),
         None => Some(config),
     }
 }
 
-// The configuration with the limit of bytes that is said, if one is.
-fn with_bytes(config: Config, matches: &ArgMatches<'_>) -> Option<Config> {
-    match matches.get_str("bytes") {
-        Some(text) => config.with_bytes(u32::try_from(number_of(text.as_bytes())?).ok()?),
-        None => Some(config),
+// The most bytes of a body: as many as are said, or else as there may be at most.
+fn body_of(matches: &ArgMatches<'_>) -> Option<usize>
+    ensures { IfSome result (λ bytes. (1 ≤ bytes) × (bytes ≤ BODY_LIMIT)) }
+{
+    let bytes = match matches.get_str("body") {
+        Some(text) => usize::try_from(number_of(text.as_bytes())?).ok()?,
+        None => BODY_LIMIT,
+    };
+    if bytes < 1 || bytes > BODY_LIMIT {
+        return None;
     }
-}
-
-// The configuration with as many live sessions as are said, if that is.
-fn with_sessions(config: Config, matches: &ArgMatches<'_>) -> Option<Config> {
-    match matches.get_str("sessions") {
-        Some(text) => config.with_sessions(u32::try_from(number_of(text.as_bytes())?).ok()?),
-        None => Some(config),
-    }
+    Some(bytes)
 }
 
 // The milliseconds that the flag of this name says, or else its standard text.
@@ -234,6 +249,12 @@ fn with_events<'a>(alloc: Global, command: Command<'a>) -> Result<Command<'a>, A
             "sessions",
             "N",
             "How many sessions may be live, 1 to 65536 [default: 65536]",
+        ))?
+        .arg(value(
+            alloc,
+            "body",
+            "N",
+            "How many bytes the body or the query of a request may have, 1 to 1048576 [default: 1048576]",
         ))?
         .arg(switch(
             alloc,

@@ -1,3 +1,6 @@
+ghost use Rattle.std.specs.Prelude.{◌≤◌};
+ghost use Rattle.bx_advice.specs.declared.config.TheConstants.{BODY_LIMIT};
+
 use bx_advice::Config;
 
 /// Where the seed of the generator of nonces comes from.
@@ -18,6 +21,8 @@ pub struct Settings<'a> {
     pub listen: &'a str,
     /// How many shards there are, the times in milliseconds, the limits and the options.
     pub config: Config,
+    /// The most bytes that the body of a request, or its query, may have: 1 to [`bx_advice::BODY_LIMIT`].
+    pub body: usize,
     /// Of the generator of nonces.
     pub seed: Seed<'a>,
     /// After how many connections it ends; 0: never.
@@ -26,4 +31,6 @@ pub struct Settings<'a> {
     pub figures: Option<&'a str>,
     /// Whether it ends at the end of standard input.
     pub until_eof: bool,
+    pub ghost some_body: { 1 ≤ body },
+    pub ghost body_in_range: { body ≤ BODY_LIMIT },
 }

@@ -4,7 +4,7 @@ ghost use Rattle.bx_settings.specs.Saying.{IsConfigOf, IsSaidBy};
 
 use crate::seed::read_digits;
 use crate::settings::{Seed, Settings};
-use bx_advice::{Config, Options};
+use bx_advice::{BODY_LIMIT, Config, Options};
 use bx_message::number_of;
 use std::net::SocketAddr;
 
@@ -38,6 +38,7 @@ pub fn read_words(words: &[String]) -> Option<Settings<'_>>
     Some(Settings {
         listen: listen.as_str(),
         config: with_more(config, more)?,
+        body: BODY_LIMIT,
         seed: Seed::Said(read_digits(seed.as_bytes())?),
         connections: number_of(connections.as_bytes())?,
         figures: None,
