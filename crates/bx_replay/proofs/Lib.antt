@@ -4,3 +4,4 @@ pub mod Steps
 pub mod Ready
 pub mod Fronts
 mod Words
+pub mod Records

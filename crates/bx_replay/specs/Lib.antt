@@ -1,5 +1,6 @@
 pub mod Arguments
 pub mod Faults
 pub mod Kept
+pub mod Records
 pub mod Serving
 pub mod Settings

@@ -4,8 +4,10 @@
 
 mod arguments;
 mod kept;
+mod laws;
 mod script;
 mod server;
 
 pub use arguments::Arguments;
+pub use laws::configs_are_taken;
 pub use script::replay;

@@ -1,0 +1,9 @@
+pub mod Bytes
+pub mod Newlines
+pub mod Digits
+pub mod Forms
+pub mod Configs
+pub mod Carried
+pub mod ReadBack
+pub mod BrokenOff
+pub mod Unused

@@ -1,0 +1,106 @@
+-- What a record reads as: its first line, and the others as a script.
+use Rattle.std.specs.Prelude.{ℕ, ◌^◌, ◌<◌, ◌==◌, ◌≡◌, Bool, true, false, List, [], ◌∷◌, ◌++◌, map, take, if◌then◌else◌, is_ok, Option, Some, None}
+use Rattle.std.specs.List.{list_all, slice_split, AllByRecursion}
+use Rattle.bx_advice.specs.declared.config.Config.{Config}
+use Rattle.bx_advice.specs.declared.config.TheConstants.{STANDARD_BYTES}
+use Rattle.bx_advice.specs.Options.{options_in}
+use Rattle.bx_message.specs.Fields.{number_of}
+use Rattle.bx_cut.specs.Bodies.{texts_of}
+use Rattle.bx_entry.specs.declared.input.{Arrival.Arrival, Input.Input}
+use Rattle.bx_entry.specs.declared.input.Input.TheVariants.{Post, Tick}
+use Rattle.bx_entry.specs.Words.{held, outs, read_input, request_messages}
+use Rattle.bx_script.specs.Words.{Accepted, Announced, Line, first_of, is_newline, is_space, line_of, lines_of, rest_of, with_nonces}
+use Rattle.bx_theory.specs.Lines.{inputs_in}
+use Rattle.bx_record.specs.Record.{can_say, config_text, config_words, options_word, record_of, said_of}
+
+-- ---- inputs
+
+-- a request whose documents are read and that a line can say, with numbers that fit their types
+pub record IsRecordable (a : Arrival) : Type 0 where
+  pub moment : a.moment < 2 ^ 64
+  pub nonce : a.nonce < 2 ^ 128
+  pub readable : is_ok (request_messages (texts_of a.bodies)) ≡ true
+  pub sayable : can_say (texts_of a.bodies) ≡ true
+
+-- an input that a record has
+abbrev pub CanRecord : Input → Type 0
+CanRecord (Post a) = IsRecordable a
+CanRecord (Tick moment) = moment < 2 ^ 64
+
+-- whether a line says an input without the name of a callback, or a nonce
+abbrev pub is_of_record : Line → Bool
+is_of_record (Accepted None input) = true
+is_of_record (Announced nonce) = true
+is_of_record line = false
+
+-- the lines of a script, each request with its nonce
+abbrev pub script_lines : List ℕ → List Line
+script_lines script = with_nonces 0 (map line_of (lines_of script))
+
+-- those of a record
+abbrev pub recorded_lines : List Input → List Line
+recorded_lines inputs = script_lines (record_of inputs)
+
+-- its lines have just these inputs, in order, and say nothing else but nonces
+pub record ReadsBack (inputs : List Input) : Type 0 where
+  pub inputs_are : inputs_in (recorded_lines inputs) ≡ map (λ input. said_of (read_input input)) inputs
+  pub nothing_else : list_all is_of_record (recorded_lines inputs) ≡ true
+
+-- so every record reads back
+abbrev pub RecordsReadBack : Type 0
+RecordsReadBack = (inputs : List Input) → AllByRecursion CanRecord inputs → ReadsBack inputs
+
+-- What comes of these inputs, read off the record, is what comes of the inputs themselves: the same outs, one for each input that is whole, and the same
+-- inputs are held.
+pub record AnswersAlike (config : Config) (inputs : List Input) : Type 0 where
+  pub outs_are : outs config (inputs_in (recorded_lines inputs)) ≡ outs config (map read_input inputs)
+  pub held_are : held config (inputs_in (recorded_lines inputs)) ≡ held config (map read_input inputs)
+
+-- so every record is answered as what it records was
+abbrev pub RecordsAnswerAlike : Type 0
+RecordsAnswerAlike = (config : Config) (inputs : List Input) → AllByRecursion CanRecord inputs → AnswersAlike config inputs
+
+-- ---- a record that breaks off
+
+-- a byte in front of lines that have their end, where there are some; else it has to be an end itself
+abbrev pub ended_by : ℕ → List ℕ → List ℕ
+ended_by byte [] = if is_newline byte then byte ∷ [] else []
+ended_by byte (x ∷ xs) = byte ∷ x ∷ xs
+
+-- the lines of a text that have their end
+abbrev pub ended_lines : List ℕ → List ℕ
+ended_lines [] = []
+ended_lines (x ∷ xs) = ended_by x (ended_lines xs)
+
+-- these lines of a front of a record have so many of its inputs, the first ones, and say nothing else but nonces
+pub record ReadsUpTo (inputs : List Input) (front : List ℕ) : Type 0 where
+  pub count : ℕ
+  pub inputs_are : inputs_in (script_lines (ended_lines front)) ≡ map (λ input. said_of (read_input input)) (take count inputs)
+  pub nothing_else : list_all is_of_record (script_lines (ended_lines front)) ≡ true
+
+-- so a record may break off anywhere
+abbrev pub RecordsBreakOff : Type 0
+RecordsBreakOff = (inputs : List Input) (front behind : List ℕ) → AllByRecursion CanRecord inputs → front ++ behind ≡ record_of inputs → ReadsUpTo inputs front
+
+-- ---- the configuration
+
+-- the numbers of a configuration fit 64 bits
+pub record FitsWords (c : Config) : Type 0 where
+  pub times : (c.timeout < 2 ^ 64) × (c.interval < 2 ^ 64) × (c.max_interval < 2 ^ 64)
+  pub limits : (c.limits.events < 2 ^ 64) × (c.limits.bytes < 2 ^ 64) × (c.limits.sessions < 2 ^ 64)
+
+-- the numbers that its words say, where they say one: the options say none, nor does a limit of bytes that is none
+abbrev pub config_numbers : Config → List (Option ℕ)
+config_numbers c = Some c.shards ∷ Some 1 ∷ Some c.timeout ∷ Some c.interval ∷ Some c.max_interval ∷ None
+    ∷ Some c.limits.events ∷ (if c.limits.bytes == STANDARD_BYTES then None else Some c.limits.bytes) ∷ Some c.limits.sessions ∷ []
+
+-- the first line of this text has its words, which say its numbers and options, and behind the line stands the rest
+pub record SaysConfig (c : Config) (text rest : List ℕ) : Type 0 where
+  pub words_are : slice_split is_space (first_of text) ≡ config_words c
+  pub numbers_are : map number_of (config_words c) ≡ config_numbers c
+  pub options_are : options_in (options_word c.ride c.anonymous) ≡ Some (record { ride = c.ride; anonymous = c.anonymous })
+  pub left : rest_of text ≡ rest
+
+-- so the line of a configuration says it, whatever stands behind it
+abbrev pub ConfigsReadBack : Type 0
+ConfigsReadBack = (c : Config) (rest : List ℕ) → FitsWords c → SaysConfig c (config_text c ++ rest) rest

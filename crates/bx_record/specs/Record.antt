@@ -1,0 +1,97 @@
+-- The text of a record: the lines of a script that say what a server took in.
+use Rattle.std.specs.Prelude.{ℕ, ◌==◌, Bool, true, false, List, [], ◌∷◌, ◌++◌, length, map, flat_map, nat_le, codes, decimal, if◌then◌else◌, Option, Some, None}
+use Rattle.std.specs.List.{list_any, join_with_byte}
+use Rattle.form_urlencoded.specs.Form.{byte_serialize}
+use Rattle.bx_advice.specs.declared.config.Config.{Config}
+use Rattle.bx_advice.specs.declared.config.TheConstants.{BODY_LIMIT, STANDARD_BYTES}
+use Rattle.bx_cut.specs.Bodies.{texts_of}
+use Rattle.bx_message.specs.MessageKinds.{is_handshake}
+use Rattle.bx_entry.specs.declared.input.Input.{Input}
+use Rattle.bx_entry.specs.declared.input.Input.TheVariants.{Post}
+use Rattle.bx_entry.specs.declared.input.Input.TheVariants as inputs
+use Rattle.bx_entry.specs.Words.{ReadInput, Request, read_input}
+use Rattle.bx_entry.specs.Registry.{hex_digits}
+use Rattle.bx_script.specs.Words.{is_newline, line_text, with_nonce}
+
+-- ---- documents
+
+-- the document that a line can have as it is: the only one of its request, with no line end in it
+abbrev pub plain_document : List (List ℕ) → Option (List ℕ)
+plain_document (d ∷ []) = if list_any is_newline d then None else Some d
+plain_document documents = None
+
+-- the parameter of a form that carries a document
+abbrev pub parameter_of : List ℕ → List ℕ
+parameter_of document = codes "message=" ++ byte_serialize document
+
+-- the form that carries documents in order
+unfoldable pub form_of : List (List ℕ) → List ℕ
+form_of documents = join_with_byte 38 (map parameter_of documents)
+
+-- the body that carries documents: the plain one itself, and where there is none, a form
+abbrev pub carrier_by : Option (List ℕ) → List (List ℕ) → List ℕ
+carrier_by (Some d) documents = d
+carrier_by None documents = form_of documents
+
+-- what stands for them behind the moment of a line
+abbrev pub command_by : Option (List ℕ) → List (List ℕ) → List ℕ
+command_by (Some d) documents = codes "P " ++ d
+command_by None documents = codes "F " ++ form_of documents
+
+abbrev pub command_of : List (List ℕ) → List ℕ
+command_of documents = command_by (plain_document documents) documents
+
+-- whether a line can say them: there are some, and the body that carries them is no longer than a body may be
+abbrev pub can_say : List (List ℕ) → Bool
+can_say [] = false
+can_say documents = nat_le (length (carrier_by (plain_document documents) documents)) BODY_LIMIT
+
+-- ---- the configuration
+
+-- options, as a word says them
+abbrev pub options_word : Bool → Bool → List ℕ
+options_word false false = codes "-"
+options_word true false = codes "r"
+options_word false true = codes "a"
+options_word true true = codes "ra"
+
+-- a limit of bytes; the standard one is none
+abbrev pub bytes_word : ℕ → List ℕ
+bytes_word bytes = if bytes == STANDARD_BYTES then codes "-" else decimal bytes
+
+-- how the server is run, as those who read scripts are told, with one worker
+abbrev pub config_words : Config → List (List ℕ)
+config_words c = decimal c.shards ∷ codes "1" ∷ decimal c.timeout ∷ decimal c.interval ∷ decimal c.max_interval ∷ options_word c.ride c.anonymous
+    ∷ decimal c.limits.events ∷ bytes_word c.limits.bytes ∷ decimal c.limits.sessions ∷ []
+
+-- the line that says it
+abbrev pub config_text : Config → List ℕ
+config_text c = join_with_byte 32 (config_words c) ++ 10 ∷ []
+
+-- ---- inputs
+
+-- whether some message of an input asks for a new session, which has its client id of the nonce
+abbrev pub asks_for_session : ReadInput → Bool
+asks_for_session (Request moment nonce ms) = list_any is_handshake ms
+asks_for_session input = false
+
+-- the 32 digits of a nonce
+unfoldable pub nonce_digits : ℕ → List ℕ
+nonce_digits nonce = hex_digits 32 nonce
+
+-- the line that says the nonce of the next request, where that is used
+abbrev pub nonce_text : Bool → ℕ → ℕ → List ℕ
+nonce_text used moment nonce = if used then line_text moment (codes "N " ++ nonce_digits nonce) else []
+
+-- the lines that say an input
+abbrev pub input_text : Input → List ℕ
+input_text (Post a) = nonce_text (asks_for_session (read_input (Post a))) a.moment a.nonce ++ line_text a.moment (command_of (texts_of a.bodies))
+input_text (inputs.Tick moment) = line_text moment (codes "T")
+
+-- the text of a record
+abbrev pub record_of : List Input → List ℕ
+record_of inputs = flat_map input_text inputs
+
+-- what a record says of an input: all of it, but for a nonce that is not used, in whose place is 0
+abbrev pub said_of : ReadInput → ReadInput
+said_of input = if asks_for_session input then input else with_nonce 0 input

@@ -1,0 +1,73 @@
+//! The line that says how a server is run.
+ghost use Rattle.std.specs.Prelude.{◌≡◌, ◌∷◌, ◌++◌, IfOk, OnOk, decimal};
+ghost use Rattle.bx_record.specs.Record.{bytes_word, config_text, options_word};
+
+use bx_advice::{Config, STANDARD_BYTES};
+use itoa::Buffer;
+use std::alloc::{AllocError, Global};
+
+/// How a server is run, as a line of the words that the replay takes: how many shards there are, one worker, the times in
+/// milliseconds, the options, and how many events may wait for a session, with how many bytes, and how many sessions may be
+/// live. An error means that memory was refused.
+pub fn config_text(alloc: Global, config: &Config) -> Result<Vec<u8>, AllocError>
+    ensures { IfOk result (λ text. text.items ≡ config_text config.now) }
+{
+    let mut text = Vec::with_capacity(alloc, 96)?;
+    let mut buffer = Buffer::new();
+    text.extend_from_slice(buffer.format(config.shards as u64).as_bytes())?;
+    push_word(&mut text, b"1")?;
+    push_time(&mut text, config.timeout)?;
+    push_time(&mut text, config.interval)?;
+    push_time(&mut text, config.max_interval)?;
+    push_word(&mut text, options_word(config.ride, config.anonymous))?;
+    push_number(&mut text, config.limits.events as u64)?;
+    push_bytes(&mut text, config.limits.bytes)?;
+    push_number(&mut text, config.limits.sessions as u64)?;
+    text.push(b'\n')?;
+    Ok(text)
+}
+
+fn options_word(ride: bool, anonymous: bool) -> &'static [u8]
+    ensures { result.now ≡ options_word ride anonymous }
+{
+    match (ride, anonymous) {
+        (false, false) => b"-",
+        (true, false) => b"r",
+        (false, true) => b"a",
+        (true, true) => b"ra",
+    }
+}
+
+// Adds the word for a limit of bytes.
+fn push_bytes(text: &mut Vec<u8>, bytes: usize) -> Result<(), AllocError>
+    ensures { OnOk result (text.new.items ≡ text.old.items ++ 32 ∷ bytes_word bytes) }
+{
+    if bytes == STANDARD_BYTES {
+        push_word(text, b"-")
+    } else {
+        push_number(text, bytes as u64)
+    }
+}
+
+// Adds a time as a word.
+fn push_time(text: &mut Vec<u8>, time: u32) -> Result<(), AllocError>
+    ensures { OnOk result (text.new.items ≡ text.old.items ++ 32 ∷ decimal time) }
+{
+    push_number(text, u64::from(time))
+}
+
+// Adds a number as a word.
+fn push_number(text: &mut Vec<u8>, number: u64) -> Result<(), AllocError>
+    ensures { OnOk result (text.new.items ≡ text.old.items ++ 32 ∷ decimal number) }
+{
+    let mut buffer = Buffer::new();
+    push_word(text, buffer.format(number).as_bytes())
+}
+
+// Adds a word behind others.
+fn push_word(text: &mut Vec<u8>, word: &[u8]) -> Result<(), AllocError>
+    ensures { OnOk result (text.new.items ≡ text.old.items ++ 32 ∷ word.now) }
+{
+    text.push(b' ')?;
+    text.extend_from_slice(word)
+}

@@ -1,0 +1,14 @@
+//! The text that records what a server took in, as a script that the replay reads, and the law that it reads back.
+#![tactic(auto)]
+
+mod config;
+mod form;
+mod laws;
+mod nonce;
+#[cfg(test)]
+mod tests;
+mod text;
+
+pub use config::config_text;
+pub use laws::{configs_read_back, records_answer_alike, records_break_off, records_read_back};
+pub use text::{request_text, tick_text};

@@ -1,0 +1,147 @@
+//! The text of what is taken in.
+ghost use Rattle.std.specs.Prelude.{◌≡◌, ◌≤◌, ◌<◌, ◌∷◌, ◌++◌, [], IfOk, IfSome, MatchOption, OnOk, Ok, codes, decimal, is_some, length, option_map};
+ghost use Rattle.std.specs.List.{list_any};
+ghost use Rattle.bx_advice.specs.declared.config.TheConstants.{BODY_LIMIT};
+ghost use Rattle.bx_cut.specs.Bodies.{texts_of};
+ghost use Rattle.bx_entry.specs.Requests.{request_messages};
+ghost use Rattle.bx_entry.specs.declared.input.Input.TheVariants as inputs;
+ghost use Rattle.bx_message.specs.MessageKinds.{is_handshake};
+ghost use Rattle.bx_script.specs.Replay.{is_newline, line_text};
+ghost use Rattle.bx_record.specs.Record.{can_say, command_by, input_text, nonce_digits, plain_document};
+
+use crate::form::{form_len, push_form};
+use crate::nonce::push_nonce_digits;
+use bx_advice::BODY_LIMIT;
+use bx_cut::Bodies;
+use bx_entry::Arrival;
+use bx_message::Message;
+use itoa::Buffer;
+use memchr::memchr;
+use std::alloc::{AllocError, Global};
+
+// The lines of a request have at most so many bytes beside its documents: two moments of up to 20 digits, each with a
+// letter, two spaces and a line end, and the 32 digits of a nonce.
+const BESIDE: usize = 2 * (20 + 4) + 32;
+
+/// The lines of a request: where some message of it asks for a new session, one that says its nonce, and then one that
+/// says its documents. None where no line can say these: there are none, or the body that would carry them has more than
+/// [`BODY_LIMIT`] bytes. `messages` are those of its documents. An error means that memory was refused.
+pub fn request_text(
+    alloc: Global,
+    arrival: &Arrival,
+    messages: &[Message],
+) -> Result<Option<Vec<u8>>, AllocError>
+    requires { request_messages (texts_of arrival.now.bodies) ≡ Ok messages.now }
+    ensures text { IfOk result (λ lines. IfSome lines (λ text. text.items ≡ input_text (inputs.Post arrival.now))) }
+    ensures sayable { IfOk result (λ lines. is_some lines ≡ can_say (texts_of arrival.now.bodies)) }
+{
+    let plain = plain_document(&arrival.bodies);
+    let Some(length) = carrier_len(plain, &arrival.bodies) else {
+        return Ok(None);
+    };
+    let mut text = Vec::with_capacity(alloc, BESIDE + length)?;
+    if asks_for_session(messages) {
+        push_nonce(&mut text, arrival.moment, arrival.nonce)?;
+    }
+    push_documents(&mut text, arrival.moment, plain, &arrival.bodies)?;
+    Ok(Some(text))
+}
+
+/// The line of a tick at this moment. An error means that memory was refused.
+pub fn tick_text(alloc: Global, moment: u64) -> Result<Vec<u8>, AllocError>
+    ensures { IfOk result (λ text. text.items ≡ input_text (inputs.Tick moment)) }
+{
+    let mut text = Vec::with_capacity(alloc, 24)?;
+    push_head(&mut text, moment, b"T")?;
+    text.push(b'\n')?;
+    Ok(text)
+}
+
+// Whether some message asks for a new session.
+fn asks_for_session(messages: &[Message]) -> bool
+    ensures { result ≡ list_any is_handshake messages.now }
+{
+    messages
+        .iter()
+        .any(|message| message.channel.as_str() == "/meta/handshake")
+}
+
+// The document that a line can have as it is.
+fn plain_document(bodies: &Bodies) -> Option<&[u8]>
+    ensures { option_map (λ d. d.now) result ≡ plain_document (texts_of bodies.now) }
+{
+    if bodies.len() != 1 {
+        return None;
+    }
+    let document = bodies.get(0);
+    if has_newline(document) {
+        None
+    } else {
+        Some(document)
+    }
+}
+
+#[tactic(auto, using(crate::proofs::Newlines::newline_found))]
+fn has_newline(document: &[u8]) -> bool
+    ensures { result ≡ list_any is_newline document.now }
+{
+    memchr(b'\n', document).is_some()
+}
+
+// How many bytes the body has that carries these documents, of which this is the plain one; none where no line can say them.
+fn carrier_len(plain: Option<&[u8]>, bodies: &Bodies) -> Option<usize>
+    requires { option_map (λ d. d.now) plain ≡ plain_document (texts_of bodies.now) }
+    ensures sayable { is_some result ≡ can_say (texts_of bodies.now) }
+    ensures within { IfSome result (λ count. count ≤ BODY_LIMIT) }
+{
+    match plain {
+        Some(document) if document.len() <= BODY_LIMIT => Some(document.len()),
+        Some(_) => None,
+        None if bodies.is_empty() => None,
+        None => form_len(bodies),
+    }
+}
+
+// Adds the line that says a nonce.
+fn push_nonce(text: &mut Vec<u8>, moment: u64, nonce: u128) -> Result<(), AllocError>
+    ensures { OnOk result (text.new.items ≡ text.old.items ++ line_text moment (codes "N " ++ nonce_digits nonce)) }
+{
+    push_head(text, moment, b"N ")?;
+    push_nonce_digits(text, nonce)?;
+    text.push(b'\n')?;
+    Ok(())
+}
+
+// Adds the line that says documents, of which this is the plain one.
+fn push_documents(
+    text: &mut Vec<u8>,
+    moment: u64,
+    plain: Option<&[u8]>,
+    bodies: &Bodies,
+) -> Result<(), AllocError>
+    ensures { OnOk result (text.new.items
+        ≡ text.old.items ++ line_text moment (command_by (option_map (λ d. d.now) plain.entry) (texts_of bodies.now))) }
+{
+    match plain {
+        Some(document) => {
+            push_head(text, moment, b"P ")?;
+            text.extend_from_slice(document)?;
+        }
+        None => {
+            push_head(text, moment, b"F ")?;
+            push_form(text, bodies)?;
+        }
+    }
+    text.push(b'\n')?;
+    Ok(())
+}
+
+// Adds a moment, a space and a command.
+fn push_head(text: &mut Vec<u8>, moment: u64, command: &[u8]) -> Result<(), AllocError>
+    ensures { OnOk result (text.new.items ≡ text.old.items ++ decimal moment ++ 32 ∷ command.now) }
+{
+    let mut buffer = Buffer::new();
+    text.extend_from_slice(buffer.format(moment).as_bytes())?;
+    text.push(b' ')?;
+    text.extend_from_slice(command)
+}
