@@ -4,11 +4,13 @@
 mod clock;
 mod end;
 mod figures;
+mod recorder;
 mod refusals;
 mod serve;
 mod ticker;
 
 use bx_figures::Counts;
+use bx_recorder::CountedFile;
 use bx_service::BodyLimit;
 use bx_settings::{Seed, Settings, read_flags, read_seed, read_words};
 use end::tell_at_end;
@@ -16,8 +18,10 @@ use figures::show_figures;
 use futures::channel::oneshot;
 use futures::channel::oneshot::{Receiver, Sender};
 use log::info;
+use recorder::make_record;
 use serve::{ServeEnd, Serving, serve};
 use std::alloc::{AllocError, Global};
+use std::fs::File;
 use std::net::{SocketAddr, ToSocketAddrs};
 use std::process::ExitCode;
 use std::random::RandomSource;
@@ -33,6 +37,9 @@ const CANNOT_LISTEN: &str = "bayeuxd: cannot listen";
 
 /// What it says where there is nothing to listen on for those who ask for figures, before it names the address.
 const NO_FIGURES: &str = "bayeuxd: cannot listen for figures";
+
+/// What it says where the file of a record cannot be made or written, before it names it.
+const CANNOT_RECORD: &str = "bayeuxd: cannot record";
 
 /// What it says where the system refuses the thread that waits for the end of standard input.
 const NO_READER: &str = "bayeuxd: cannot read standard input";
@@ -61,6 +68,10 @@ fn main(rt: HostRuntime) -> ExitCode {
         end,
     } = parts;
     tell_settings(&rt, &settings);
+    let record_file = match record_of(&rt, &settings) {
+        Ok(file) => file,
+        Err(status) => return status,
+    };
     if let Some(address) = settings.figures
         && let Err(error) = show_figures(rt, address, &counts)
     {
@@ -76,7 +87,15 @@ fn main(rt: HostRuntime) -> ExitCode {
         Some(told)
     };
     let (addresses, mut writer) = (addresses.as_slice(), io::writer(&rt));
-    let ended = serve(rt, addresses, arguments, &counts, end, &mut writer);
+    let ended = serve(
+        rt,
+        addresses,
+        arguments,
+        record_file,
+        &counts,
+        end,
+        &mut writer,
+    );
     status_of(&rt, settings.listen, ended)
 }
 
@@ -118,6 +137,20 @@ fn parts_of(rt: &HostRuntime, settings: &Settings<'_>) -> Result<Parts, ExitCode
         told,
         end,
     })
+}
+
+// The file of the record, where there is to be one; or the status, once it was said what is wrong.
+fn record_of(
+    rt: &HostRuntime,
+    settings: &Settings<'_>,
+) -> Result<Option<CountedFile<File>>, ExitCode> {
+    let Some(path) = settings.record_file else {
+        return Ok(None);
+    };
+    match make_record(rt, path, &settings.config) {
+        Ok(file) => Ok(Some(file)),
+        Err(error) => Err(refused_at(rt, CANNOT_RECORD, path, &error)),
+    }
 }
 
 // How large a body or a query may be.
@@ -170,9 +203,10 @@ fn settings_text(alloc: Global, settings: &Settings<'_>) -> Result<String, Alloc
     write!(text, " ride={} anonymous={}", config.ride, config.anonymous)?;
     write!(
         text,
-        " connections={} figures={} until_eof={}",
+        " connections={} figures={} record={} until_eof={}",
         settings.connections,
         settings.figures.unwrap_or("-"),
+        settings.record_file.unwrap_or("-"),
         settings.until_eof
     )?;
     Ok(text)
@@ -238,9 +272,9 @@ fn addresses_of(rt: &HostRuntime, listen: &str) -> io::Result<Vec<SocketAddr>> {
     Ok(addresses)
 }
 
-// The status where the system refused something at an address, once it was said what, where and why.
-fn refused_at(rt: &HostRuntime, what: &str, address: &str, error: &io::Error) -> ExitCode {
-    match format!(in rt.alloc(); "{what} at {address}: {error}") {
+// The status where the system refused something at an address, or a file, once it was said what, where and why.
+fn refused_at(rt: &HostRuntime, what: &str, place: &str, error: &io::Error) -> ExitCode {
+    match format!(in rt.alloc(); "{what} at {place}: {error}") {
         Ok(why) => failed(rt, why.as_str()),
         Err(_) => failed(rt, what),
     }

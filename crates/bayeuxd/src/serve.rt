@@ -4,6 +4,7 @@ ghost use Rattle.bx_entry.specs.Placings.{by_remainder};
 
 use crate::clock::{Drawn, SinceStart};
 use crate::end::Closing;
+use crate::recorder::Recorder;
 use crate::ticker::tick;
 use bx_advice::Config;
 use bx_counted::{CountedBackend, CountedService};
@@ -11,6 +12,7 @@ use bx_entry::ByRemainder;
 use bx_figures::Counts;
 use bx_hub::{Hub, OpenGate};
 use bx_message::Item;
+use bx_recorder::CountedFile;
 use bx_serve::serve_until;
 use bx_service::{Backend, BayeuxService, BodyLimit, HubBackend, Unanswered};
 use bx_window::{Naming, Opened};
@@ -62,11 +64,12 @@ pub enum ServeEnd {
 }
 
 /// Serves on the first of the addresses that the system grants, and prints it once it listens. Once the end is told it takes no more
-/// connections, answers held connects, and cuts what is still open where it was to end so.
-pub fn serve<R, W>(
+/// connections, answers held connects, and cuts what is still open where it was to end so. Where there is a file for a record, what is listed is written there.
+pub fn serve<R, F, W>(
     rt: R,
     addresses: &[SocketAddr],
     arguments: Serving,
+    record_file: Option<CountedFile<F>>,
     counts: &Arc<Counts, Global>,
     told: Receiver<()>,
     writer: &mut W,
@@ -84,9 +87,10 @@ where
         + Copy
         + Drop
         + 'static,
+    F: Write + Send + Drop + 'static,
     W: Write,
 {
-    match begin(rt, addresses, arguments, counts, told, writer) {
+    match begin(rt, addresses, arguments, record_file, counts, told, writer) {
         Ok(()) => ServeEnd::Done,
         Err(error) if error.kind() == io::ErrorKind::OutOfMemory => ServeEnd::Memory,
         Err(error) => ServeEnd::CannotListen(error),
@@ -94,10 +98,11 @@ where
 }
 
 // Serves from now on.
-fn begin<R, W>(
+fn begin<R, F, W>(
     rt: R,
     addresses: &[SocketAddr],
     arguments: Serving,
+    record_file: Option<CountedFile<F>>,
     counts: &Arc<Counts, Global>,
     told: Receiver<()>,
     writer: &mut W,
@@ -115,15 +120,17 @@ where
         + Copy
         + Drop
         + 'static,
+    F: Write + Send + Drop + 'static,
     W: Write,
 {
     let start = Instant::now(&rt)?;
     let placing = Arc::new(rt.alloc(), ByRemainder)?;
-    run::<Brand, R, W>(
+    run::<Brand, R, F, W>(
         rt,
         Opened::new(),
         addresses,
         arguments,
+        record_file,
         start,
         placing,
         counts,
@@ -133,11 +140,12 @@ where
 }
 
 // Serves over a hub of its own, while a thread lets the clock tick.
-fn run<J, R, W>(
+fn run<J, R, F, W>(
     rt: R,
     opened: Opened,
     addresses: &[SocketAddr],
     arguments: Serving,
+    record_file: Option<CountedFile<F>>,
     start: Instant,
     placing: Arc<ByRemainder, Global>,
     counts: &Arc<Counts, Global>,
@@ -158,6 +166,7 @@ where
         + Copy
         + Drop
         + 'static,
+    F: Write + Send + Drop + 'static,
     W: Write,
     requires book { opened.seen.book ≡ J.book }
     requires config { arguments.config ≡ J.config }
@@ -180,10 +189,6 @@ where
     let (ticked, over) = (Arc::try_clone(&hub)?, Arc::try_clone(&is_over)?);
     let counted = Arc::try_clone(counts)?;
     let crowd = arguments.config.limits.sessions;
-    let ticker = thread::spawn(
-        &rt,
-        move || tick(&rt, alloc, &*ticked, &clock, &*counted, crowd, &*over),
-    )?;
     if arguments.until_eof {
         runtime.set_shutdown_timeout(Some(Duration::from_millis(LEAVE)));
     }
@@ -194,11 +199,18 @@ where
         told,
     };
     let backend = backend_of(rt, alloc, Arc::try_clone(&hub)?, clock, arguments.seed);
+    // Before anything is listed, as by the first tick.
+    let recorder = Recorder::start(rt, &hub, record_file)?;
+    let ticker = thread::spawn(
+        &rt,
+        move || tick(&rt, alloc, &*ticked, &clock, &*counted, crowd, &*over),
+    )?;
     let served = serve_backend(rt, &mut runtime, listener, backend, counts, arguments, end);
     counts.set_listens(false);
     is_over.store(true, Ordering::SeqCst);
     ticker.join(&rt);
     hub.close(&rt);
+    recorder.end(&rt);
     served
 }
 

@@ -59,13 +59,15 @@ where
         if turn % TELLING == 0 {
             refusals.tell(rt, counts);
         }
-        let Ok(ticked) = hub.tick(rt, alloc, &mut pass, clock.now()) else {
-            counts.add(Figure::RefusedTicks, 1);
-            continue;
-        };
-        count_tick(counts, ticked.brought.behind());
+        // One that is refused, as for want of memory, drops answers all the same.
+        match hub.tick(rt, alloc, &mut pass, clock.now()) {
+            Ok(ticked) => {
+                count_tick(counts, ticked.brought.behind());
+                let _ = places.push_back(ticked.place);
+            }
+            Err(_) => counts.add(Figure::RefusedTicks, 1),
+        }
         let filed = survey(rt, hub, &mut pass, counts);
-        let _ = places.push_back(ticked.place);
         let kept = if filed > crowd as u64 {
             KEPT_IN_A_CROWD
         } else {

@@ -4,4 +4,6 @@ pub mod Lists
 pub mod Lying
 pub mod Places
 pub mod Posts
+pub mod Records
 pub mod Waking
+pub mod Walks

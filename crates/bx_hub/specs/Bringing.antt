@@ -1,11 +1,19 @@
 -- That every shard was brought up to a note.
-use Rattle.std.specs.Prelude.{ℕ, ◌≡◌, List, length}
+use Rattle.std.specs.Prelude.{ℕ, ◌≡◌, ◌<◌, List, length}
+use Rattle.bx_hub.specs.Walks.{walked_at}
 use Rattle.bx_hub.specs.declared.brought.AllBrought.{AllBrought}
 use Rattle.bx_window.specs.declared.law.Naming as Naming
 use Rattle.bx_window.specs.declared.law.LogStep.{LogStep}
 
 module _ {J : Type 0} {g : Naming.Ghosts J} where
+  -- the step at which a shard was brought up
+  pub record IsWalked (round : AllBrought J g) (index : ℕ) : Type 0 where
+    pub step : ℕ
+    pub done : step < length round.stays
+    pub is : walked_at round.first round.shards step ≡ index
+
   -- each of so many shards was brought up to this front
   pub record IsOfAll (shards : ℕ) (front : List LogStep) (round : AllBrought J g) : Type 0 where
     pub note : round.note.value ≡ front
     pub all : length round.stays ≡ shards
+    pub each : (index : ℕ) → index < shards → IsWalked round index

@@ -6,6 +6,8 @@ pub mod Lags
 pub mod Listables
 pub mod Lying
 pub mod Posts
+pub mod Records
 pub mod Surveys
 pub mod Watches
 pub mod Waking
+pub mod Walks

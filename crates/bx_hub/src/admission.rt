@@ -1,5 +1,6 @@
 //! What lies under the admission lock.
-ghost use Rattle.std.specs.Prelude.{◌≡◌, ◌<◌, ◌≤◌, ◌++◌, ◌⊎◌, drop, length, [], None, true, false, IfOk, IfErr, OnOk, OnErr};
+ghost use Rattle.std.specs.Prelude.{◌≡◌, ◌<◌, ◌≤◌, ◌++◌, ◌⊎◌, drop, length, [], None, true, false, is_some, IfOk, IfErr, IfSome, OnOk, OnErr};
+ghost use Rattle.std.specs.Option.{ForSome};
 ghost use Rattle.std.specs.List.{All};
 ghost use mathlib.Core.List.{IsPrefix};
 ghost use Rattle.bx_registry.specs.Plans.{IsFault};
@@ -10,12 +11,14 @@ ghost use Rattle.bx_window.specs.Steps.{below, firsts_of, list_of};
 ghost use Rattle.bx_entry.specs.Placings.{placed_by};
 ghost use Rattle.bx_hub.specs.declared.fault.PostFault.TheVariants as faults;
 ghost use Rattle.bx_hub.specs.Listables.{input_of};
+ghost use Rattle.bx_hub.specs.Records.{list_by};
 ghost use Rattle.bx_hub.specs.Surveys.{survey_of};
 ghost use Rattle.bx_hub.specs.Posts.{AreSlotsAt, IsAdmittedAt, IsRefused, IsTrimmedTo, IsUnpublished, IsWhole};
 
-use crate::fault::PostFault;
+use crate::fault::{PostFault, RecordFault};
 use crate::least::{Least, Stood};
-use crate::listable::Listable;
+use crate::listable::{Listable, Spent};
+use crate::recording::{Recording, TakenRecord};
 use crate::survey::Survey;
 use bx_advice::Config;
 use bx_entry::{Placing, Slot};
@@ -35,15 +38,26 @@ pub(crate) struct Receipt {
     pub slots: Sequence<Slot>,
 }
 
-/// Who is live, beside the writer of the list.
+/// What is left of a record that goes no further, and why it does not.
+#[derive(Drop)]
+struct RecordEnd {
+    recording: Recording,
+    fault: RecordFault,
+}
+
+/// Who is live, beside the writer of the list, and the record of what is listed, where one is kept.
 #[derive(Drop)]
 pub(crate) struct Admission<J: Naming, R: Wait + Drop> {
     registry: Registry,
     closed: bool,
     writer: LogWriter<J, R>,
+    recording: Option<Recording>,
+    // Until it is taken out.
+    record_end: Option<RecordEnd>,
     ghost config: { registry.config ≡ J.config },
     ghost counted: { registry.shards ≡ J.config.shards },
     ghost listed: { registry.list ≡ list_of writer },
+    ghost recorded: { ForSome recording (λ r. list_by r.inputs ≡ list_of writer) },
 }
 
 impl<J: Naming, R: Wait + Drop> Admission<J, R> {
@@ -61,35 +75,101 @@ impl<J: Naming, R: Wait + Drop> Admission<J, R> {
             registry: Registry::new(alloc, config)?,
             closed: false,
             writer,
+            recording: None,
+            record_end: None,
         })
     }
 
-    /// Takes the messages of a request, or a tick, into the list, which uses it up; where it is refused, it comes back. A request without
-    /// messages adds nothing.
+    /// Takes the messages of a request, or a tick, into the list, which uses it up: what is left of it is given to be let go of. Where it is
+    /// refused, it comes back. A request without messages adds nothing.
     pub(crate) fn admit<P: Placing>(
         &mut self,
         alloc: Global,
         placing: &P,
         pass: &mut Note<J>,
         wanted: Listable,
-    ) -> Result<Receipt, (Listable, PostFault)>
+    ) -> Result<(Receipt, Spent), (Listable, PostFault)>
         requires placing { P.place_of placing.now ≡ J.placing }
         ensures seen { IsPrefix pass.old pass.new }
-        ensures admitted { IfOk result (λ a. IsAdmittedAt (input_of wanted) a.first pass.old pass.new) }
-        ensures slots { IfOk result (λ a. AreSlotsAt (placed_by J.config J.config.shards J.placing) (input_of wanted) a.first pass.new a.slots) }
+        ensures admitted { IfOk result (λ a. IsAdmittedAt (input_of wanted) a.0.first pass.old pass.new) }
+        ensures slots { IfOk result (λ a. AreSlotsAt (placed_by J.config J.config.shards J.placing) (input_of wanted) a.0.first pass.new a.0.slots) }
         ensures back { IfErr result (λ r. r.0 ≡ wanted) }
         ensures refused { IfErr result (λ r. IsRefused (input_of wanted) r.1 pass.new) }
-        ensures grown { IfOk result (λ a. (a.first ≡ length (list_of self.old.writer)) × (list_of self.new.writer ≡ list_of self.old.writer ++ added_by (input_of wanted)) × (pass.new ≡ self.new.writer)) }
+        ensures grown { IfOk result (λ a. (a.0.first ≡ length (list_of self.old.writer)) × (list_of self.new.writer ≡ list_of self.old.writer ++ added_by (input_of wanted)) × (pass.new ≡ self.new.writer)) }
         ensures same { OnErr result (self.new.writer ≡ self.old.writer) }
         ensures whole { IfErr result (λ r. IsWhole r.1 pass.new self.new.writer) }
         ensures closed { IfErr result (λ r. (r.1 ≡ faults.Closed → self.old.closed ≡ true) × (self.old.closed ≡ true → r.1 ≡ faults.Closed)) }
         ensures open { OnOk result (self.old.closed ≡ false) }
         ensures kept { self.new.closed ≡ self.old.closed }
     {
+        let recording = self.recording.take();
         match self.list(alloc, placing, pass, &wanted) {
-            Ok(receipt) => Ok(receipt),
-            Err(fault) => Err((wanted, fault)),
+            Ok(receipt) => {
+                if let Some(recording) = recording {
+                    self.record(alloc, recording, &wanted);
+                }
+                Ok((receipt, wanted.into_spent()))
+            }
+            Err(fault) => {
+                self.recording = recording;
+                Err((wanted, fault))
+            }
         }
+    }
+
+    // What was just listed comes behind what was recorded, or the record goes no further.
+    fn record(&mut self, alloc: Global, mut recording: Recording, listed: &Listable)
+        requires { list_of self.old.writer ≡ list_by recording.inputs ++ added_by (input_of listed.now) }
+        ensures { (self.new.registry ≡ self.old.registry) × (self.new.writer ≡ self.old.writer) × (self.new.closed ≡ self.old.closed) }
+    {
+        match recording.add(alloc, listed) {
+            Ok(()) => self.recording = Some(recording),
+            Err(fault) => self.record_end = Some(RecordEnd { recording, fault }),
+        }
+    }
+
+    /// Begins to record what is listed from now on. False where something was listed before: nothing is recorded then.
+    pub(crate) fn start_record(&mut self, alloc: Global) -> bool
+        ensures same { (self.new.registry ≡ self.old.registry) × (self.new.writer ≡ self.old.writer) × (self.new.closed ≡ self.old.closed) }
+        ensures started { result ≡ true → is_some self.new.recording ≡ true }
+        ensures refused { result ≡ false → 0 < length (list_of self.old.writer) }
+    {
+        if self.registry.entries() > 0 {
+            return false;
+        }
+        self.recording = Some(Recording::new(alloc));
+        true
+    }
+
+    /// Records nothing any more, and lets go of what waits.
+    pub(crate) fn stop_record(&mut self)
+        ensures same { (self.new.registry ≡ self.old.registry) × (self.new.writer ≡ self.old.writer) × (self.new.closed ≡ self.old.closed) }
+        ensures none { (self.new.recording ≡ None) × (self.new.record_end ≡ None) }
+    {
+        self.recording = None;
+        self.record_end = None;
+    }
+
+    /// Takes out what waits of the record, and leaves an empty buffer in its place. None where nothing is recorded, and where the end of the record was taken out
+    /// before.
+    pub(crate) fn take_record(&mut self, empty: Vec<u8>) -> Option<TakenRecord<J>>
+        requires { empty.items ≡ [] }
+        ensures same { (self.new.registry ≡ self.old.registry) × (self.new.writer ≡ self.old.writer) × (self.new.closed ≡ self.old.closed) }
+        ensures taken { IfSome self.old.recording (λ r. IfSome result (λ t. (t.bytes.items ≡ r.waiting.items) × (t.before ≡ r.taken))) }
+        ensures some { is_some self.old.recording ≡ true → is_some result ≡ true }
+        ensures goes_on { is_some self.new.recording ≡ is_some self.old.recording }
+    {
+        if let Some(mut recording) = self.recording.take() {
+            let front = self.writer.tell();
+            let taken = TakenRecord::of(&mut recording, Some(front), None, empty);
+            self.recording = Some(recording);
+            return Some(taken);
+        }
+        let RecordEnd {
+            mut recording,
+            fault,
+        } = self.record_end.take()?;
+        Some(TakenRecord::of(&mut recording, None, Some(fault), empty))
     }
 
     // Takes it into the list. No messages add nothing.
@@ -102,6 +182,7 @@ impl<J: Naming, R: Wait + Drop> Admission<J, R> {
         wanted: &Listable,
     ) -> Result<Receipt, PostFault>
         requires placing { P.place_of placing.now ≡ J.placing }
+        requires unrecorded { self.old.recording ≡ None }
         ensures seen { IsPrefix pass.old pass.new }
         ensures admitted { IfOk result (λ a. IsAdmittedAt (input_of wanted.now) a.first pass.old pass.new) }
         ensures slots { IfOk result (λ a. AreSlotsAt (placed_by J.config J.config.shards J.placing) (input_of wanted.now) a.first pass.new a.slots) }
@@ -111,7 +192,7 @@ impl<J: Naming, R: Wait + Drop> Admission<J, R> {
         ensures whole { IfErr result (λ f. IsWhole f pass.new self.new.writer) }
         ensures closed { IfErr result (λ f. (f ≡ faults.Closed → self.old.closed ≡ true) × (self.old.closed ≡ true → f ≡ faults.Closed)) }
         ensures open { OnOk result (self.old.closed ≡ false) }
-        ensures kept { self.new.closed ≡ self.old.closed }
+        ensures kept { (self.new.closed ≡ self.old.closed) × (self.new.recording ≡ None) }
     {
         self.tell(pass)?;
         let plan = self.plan(alloc, placing, wanted)?;
@@ -134,7 +215,7 @@ impl<J: Naming, R: Wait + Drop> Admission<J, R> {
         wanted: &Listable,
     ) -> Result<Plan, AdmitFault>
         requires placing { P.place_of placing.now ≡ J.placing }
-        ensures same { (self.new.writer ≡ self.old.writer) × (self.new.closed ≡ self.old.closed) }
+        ensures same { (self.new.writer ≡ self.old.writer) × (self.new.closed ≡ self.old.closed) × (self.new.recording ≡ self.old.recording) }
         ensures continues { IfOk result (λ p. Continues self.new.registry p) }
         ensures elements { IfOk result (λ p. p.elements ≡ added_by (input_of wanted.now)) }
         ensures slots { IfOk result (λ p. p.slots ≡ admitted_slots (placed_by J.config J.config.shards J.placing) (list_of self.new.writer) p.elements) }
@@ -155,7 +236,7 @@ impl<J: Naming, R: Wait + Drop> Admission<J, R> {
 
     // The pass has then seen the whole list, where the hub is open.
     fn tell(&mut self, pass: &mut Note<J>) -> Result<(), PostFault>
-        ensures same { (self.new.registry ≡ self.old.registry) × (self.new.writer ≡ self.old.writer) × (self.new.closed ≡ self.old.closed) }
+        ensures same { (self.new.registry ≡ self.old.registry) × (self.new.writer ≡ self.old.writer) × (self.new.closed ≡ self.old.closed) × (self.new.recording ≡ self.old.recording) }
         ensures seen { IsPrefix pass.old pass.new }
         ensures whole { OnOk result ((pass.new ≡ self.new.writer) × (self.old.closed ≡ false)) }
         ensures refused { IfErr result (λ f. (f ≡ faults.Closed) × (self.old.closed ≡ true)) }
@@ -177,6 +258,7 @@ impl<J: Naming, R: Wait + Drop> Admission<J, R> {
         requires continues { Continues self.old.registry plan }
         requires some { 0 < length plan.batch.entries }
         requires whole { pass.old ≡ self.old.writer }
+        requires unrecorded { self.old.recording ≡ None }
         ensures seen { IsPrefix pass.old pass.new }
         ensures taken { IfOk result (λ a. (a ≡ record { first = plan.batch.first; slots = plan.slots })
             × (list_of pass.new ≡ list_of pass.old ++ plan.elements)) }
@@ -184,7 +266,7 @@ impl<J: Naming, R: Wait + Drop> Admission<J, R> {
         ensures same { OnErr result ((self.new.writer ≡ self.old.writer) × (pass.new ≡ pass.old)) }
         ensures whole { pass.new ≡ self.new.writer }
         ensures room { IfErr result (λ f. IsWhole f pass.new self.new.writer) }
-        ensures kept { self.new.closed ≡ self.old.closed }
+        ensures kept { (self.new.closed ≡ self.old.closed) × (self.new.recording ≡ None) }
     {
         if pass.steps() >= MOST_STEPS {
             return Err(PostFault::Ended);

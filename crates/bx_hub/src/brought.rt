@@ -2,6 +2,7 @@
 ghost use Rattle.std.specs.Prelude.{◌≡◌, ◌≢◌, ◌≤◌, ◌<◌, ◌++◌, ◌∷◌, [], length, Option, Some, None, IfSome, IfNone};
 ghost use mathlib.Core.List.{IsPrefix};
 ghost use Rattle.bx_hub.specs.Faults.{IsStopped, IsStoppedIn};
+ghost use Rattle.bx_hub.specs.Walks.{walked_at};
 ghost use Rattle.bx_hub.specs.Lagging.{lagging_of};
 ghost use Rattle.bx_hub.specs.declared.fault.HubFault.TheVariants as faults;
 ghost use Rattle.bx_window.specs.Steps.{list_of};
@@ -74,35 +75,54 @@ impl<J: Naming> Brought<J> {
     }
 }
 
-/// What came of bringing the shards up to a note, one after another: what stopped each that stays below it, in the order of their
-/// indices, for contracts alone, and how many those are.
+/// What came of bringing the shards up to a note, one after another, from one on and in a circle: what stopped each that stays
+/// below it, in the order in which they were brought, for contracts alone, and how many those are.
 #[derive(Drop)]
 pub struct AllBrought<J: Naming> {
     note: Snapshot<Note<J>>,
+    first: usize,
+    shards: usize,
     stays: History<Option<HubFault>>,
     behind: Lagging,
+    ghost within: { first ≤ shards },
     ghost counted: { behind ≡ lagging_of stays },
 }
 
 impl<J: Naming> AllBrought<J> {
-    /// No shard was brought up to the note.
-    pub(crate) fn new(note: &Note<J>) -> AllBrought<J>
-        ensures { (result.note.value ≡ note.now) × (result.stays ≡ []) }
+    /// None of so many shards was brought up to the note. The first that is to be is another one for each length of the list, so that
+    /// threads that bring them up at once do not wait for one another at each.
+    pub(crate) fn new(note: &Note<J>, shards: usize) -> AllBrought<J>
+        ensures { (result.note.value ≡ note.now) × (result.shards ≡ shards) × (result.stays ≡ []) }
     {
         AllBrought {
             note: Snapshot::of(note),
+            first: (note.len() as usize).checked_rem(shards).unwrap_or(0),
+            shards,
             stays: History::new(),
             behind: Lagging::none(),
         }
     }
 
+    /// The index of the shard that comes at this step.
+    pub(crate) fn index_at(&self, step: usize) -> usize
+        requires { step < self.now.shards }
+        ensures { (result ≡ walked_at self.now.first self.now.shards step) × (result < self.now.shards) }
+    {
+        let before_end = self.shards - self.first;
+        if step < before_end {
+            self.first + step
+        } else {
+            step - before_end
+        }
+    }
+
     /// The next shard was brought up to it.
     pub(crate) fn add(&mut self, brought: Brought<J>)
-        requires next { brought.index.value ≡ length self.old.stays }
+        requires next { brought.index.value ≡ walked_at self.old.first self.old.shards (length self.old.stays) }
         requires note { brought.note.value ≡ self.old.note.value }
         requires few { length self.old.stays < 18446744073709551615 }
         ensures added { self.new.stays ≡ self.old.stays ++ brought.stays ∷ [] }
-        ensures same { self.new.note ≡ self.old.note }
+        ensures same { (self.new.note ≡ self.old.note) × (self.new.first ≡ self.old.first) × (self.new.shards ≡ self.old.shards) }
     {
         self.stays.push(&brought.stays);
         match brought.stays {

@@ -13,9 +13,10 @@ use crate::brought::{AllBrought, Brought};
 use crate::desk::{Desk, Watch, Woken};
 use crate::fault::{HubFault, PostFault, PostReceipt, TickReceipt};
 use crate::least::{Least, Stood};
-use crate::listable::Listable;
+use crate::listable::{Listable, Spent};
 use crate::pass::Pass;
 use crate::reading::{Reading, Refused, Unlisted};
+use crate::recording::TakenRecord;
 use crate::stopped::Stopped;
 use crate::survey::{ShardSurvey, Survey};
 use bx_advice::Config;
@@ -123,8 +124,13 @@ impl<J: Naming, P: Placing, G: Gate + Drop, R: Wait + Drop> Hub<J, P, G, R> {
     {
         let reading = Reading::of(alloc, arrival)?;
         let wanted = Listable::Request(reading);
-        let Receipt { first, slots } = match self.admit(rt, alloc, &mut pass.front, wanted) {
-            Ok(receipt) => receipt,
+        let (Receipt { first, slots }, spent) = match self.admit(
+            rt,
+            alloc,
+            &mut pass.front,
+            wanted,
+        ) {
+            Ok(listed) => listed,
             Err((wanted, why)) => {
                 let Some(arrival) = wanted.into_arrival() else {
                     unreachable!()
@@ -133,6 +139,7 @@ impl<J: Naming, P: Placing, G: Gate + Drop, R: Wait + Drop> Hub<J, P, G, R> {
             }
         };
         let brought = self.bring_all(rt, alloc, &pass.front);
+        drop(spent);
         Ok(PostReceipt {
             first,
             slots,
@@ -156,8 +163,8 @@ impl<J: Naming, P: Placing, G: Gate + Drop, R: Wait + Drop> Hub<J, P, G, R> {
         ensures behind { IfOk result (λ t. IsOfAll J.config.shards pass.new t.brought) }
     {
         let wanted = Listable::Tick(moment);
-        let Receipt { first, .. } = match self.admit(rt, alloc, &mut pass.front, wanted) {
-            Ok(receipt) => receipt,
+        let (Receipt { first, .. }, _) = match self.admit(rt, alloc, &mut pass.front, wanted) {
+            Ok(listed) => listed,
             Err((_, why)) => return Err(why),
         };
         let brought = self.bring_all(rt, alloc, &pass.front);
@@ -168,24 +175,25 @@ impl<J: Naming, P: Placing, G: Gate + Drop, R: Wait + Drop> Hub<J, P, G, R> {
         })
     }
 
-    // Takes it into the list; where the window is full, once more with the room that the shards leave. Where it is refused, it comes back.
+    // Takes it into the list; where the window is full, once more with the room that the shards leave. Where it is refused, it comes back; else what is left of
+    // it comes, and is let go of once admission is unlocked.
     fn admit<W: Wait>(
         &self,
         rt: &W,
         alloc: Global,
         pass: &mut Note<J>,
         wanted: Listable,
-    ) -> Result<Receipt, (Listable, Unlisted<J>)>
+    ) -> Result<(Receipt, Spent), (Listable, Unlisted<J>)>
         ensures seen { IsPrefix pass.old pass.new }
-        ensures admitted { IfOk result (λ a. IsAdmittedAt (input_of wanted) a.first pass.old pass.new) }
-        ensures slots { IfOk result (λ a. AreSlotsAt (placed_by J.config J.config.shards J.placing) (input_of wanted) a.first pass.new a.slots) }
+        ensures admitted { IfOk result (λ a. IsAdmittedAt (input_of wanted) a.0.first pass.old pass.new) }
+        ensures slots { IfOk result (λ a. AreSlotsAt (placed_by J.config J.config.shards J.placing) (input_of wanted) a.0.first pass.new a.0.slots) }
         ensures back { IfErr result (λ r. r.0 ≡ wanted) }
         ensures refused { IfErr result (λ r. IsRefused (input_of wanted) r.1.fault pass.new) }
         ensures lags { IfErr result (λ r. IsLagging r.1.fault r.1.lag pass.new) }
     {
         let mut admission = self.admission.lock(rt);
         let wanted = match admission.admit(alloc, &*self.placing, pass, wanted) {
-            Ok(receipt) => return Ok(receipt),
+            Ok(listed) => return Ok(listed),
             Err((wanted, PostFault::Behind { .. })) => wanted,
             Err((wanted, fault)) => return Err((wanted, Unlisted::of(&*admission, fault, None))),
         };
@@ -194,7 +202,7 @@ impl<J: Naming, P: Placing, G: Gate + Drop, R: Wait + Drop> Hub<J, P, G, R> {
             Err(fault) => return Err((wanted, Unlisted::of(&*admission, fault, None))),
         };
         match admission.admit(alloc, &*self.placing, pass, wanted) {
-            Ok(receipt) => Ok(receipt),
+            Ok(listed) => Ok(listed),
             Err((wanted, fault)) => Err((wanted, Unlisted::of(&*admission, fault, Some(lowest)))),
         }
     }
@@ -288,12 +296,15 @@ impl<J: Naming, P: Placing, G: Gate + Drop, R: Wait + Drop> Hub<J, P, G, R> {
         }
     }
 
-    // Brings each shard up to the note, and says what came of it.
+    // Brings each shard up to the note, from one on and in a circle, and says what came of it.
+    #[tactic(auto, using(crate::proofs::Walks::all_walked))]
     fn bring_all<W: Wait>(&self, rt: &W, alloc: Global, note: &Note<J>) -> AllBrought<J>
         ensures { IsOfAll J.config.shards note.now result }
     {
-        let mut round = AllBrought::new(note);
-        for index in 0..self.desks.len() {
+        let shards = self.desks.len();
+        let mut round = AllBrought::new(note, shards);
+        for step in 0..shards {
+            let index = round.index_at(step);
             let mut wakers = Wakers::new(alloc);
             round.add(self.bring_one(rt, alloc, index, note, &mut wakers));
         }
@@ -416,6 +427,24 @@ impl<J: Naming, P: Placing, G: Gate + Drop, R: Wait + Drop> Hub<J, P, G, R> {
     {
         let desk = self.desks.get(shard)?;
         Some(desk.lock(rt).survey())
+    }
+
+    /// Begins to record what is listed. False where something was listed before, and then nothing is recorded.
+    pub fn start_record<W: Wait>(&self, rt: &W, alloc: Global) -> bool {
+        self.admission.lock(rt).start_record(alloc)
+    }
+
+    /// Takes out what waits of the record, for whoever writes it, and leaves an empty buffer in its place. None where nothing is recorded, and once the end of
+    /// the record was taken out.
+    pub fn take_record<W: Wait>(&self, rt: &W, empty: Vec<u8>) -> Option<TakenRecord<J>>
+        requires { empty.items ≡ [] }
+    {
+        self.admission.lock(rt).take_record(empty)
+    }
+
+    /// Records nothing any more, and lets go of what waits.
+    pub fn stop_record<W: Wait>(&self, rt: &W) {
+        self.admission.lock(rt).stop_record();
     }
 
     /// Drops the answers that were filed by entries below this place and that nobody took, and says how many they were.

@@ -12,15 +12,17 @@ mod least;
 mod listable;
 mod pass;
 mod reading;
+mod recording;
 mod stopped;
 mod survey;
 
 pub use brought::AllBrought;
 pub use bx_workers::{Gate, OpenGate};
 pub use desk::{Left, Watch};
-pub use fault::{HubFault, Lagging, PostFault, PostReceipt, TickReceipt};
+pub use fault::{HubFault, Lagging, PostFault, PostReceipt, RecordFault, TickReceipt};
 pub use hub::Hub;
 pub use pass::Pass;
 pub use reading::{Refused, Unlisted};
+pub use recording::TakenRecord;
 pub use stopped::Stopped;
 pub use survey::{ShardSurvey, Survey};

@@ -13,7 +13,20 @@ pub(crate) enum Listable {
     Tick(u64),
 }
 
+/// What was listed. Nothing can be listed of it again: it is there to be let go of without a lock.
+#[derive(Drop)]
+pub(crate) struct Spent {
+    listed: Listable,
+}
+
 impl Listable {
+    /// It was listed.
+    pub(crate) fn into_spent(self) -> Spent
+        ensures { result.listed ≡ self }
+    {
+        Spent { listed: self }
+    }
+
     /// The request as it came in; a tick has none.
     pub(crate) fn into_arrival(self) -> Option<Arrival>
         ensures { result ≡ arrival_of self }

@@ -6,6 +6,7 @@ ghost use Rattle.bx_entry.specs.Requests.{request_messages};
 mod refused;
 mod unlisted;
 
+use bx_cut::Bodies;
 use bx_entry::{Arrival, read_messages};
 use bx_message::Message;
 use bx_window::Naming;
@@ -60,6 +61,13 @@ impl Reading {
         ensures { result.now ≡ self.now.messages.items }
     {
         self.messages.as_slice()
+    }
+
+    /// Its documents.
+    pub(crate) fn bodies(&self) -> &Bodies
+        ensures { result.now ≡ self.now.arrival.bodies }
+    {
+        &self.arrival.bodies
     }
 
     /// The request as it came in.

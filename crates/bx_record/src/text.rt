@@ -7,13 +7,13 @@ ghost use Rattle.bx_entry.specs.Requests.{request_messages};
 ghost use Rattle.bx_entry.specs.declared.input.Input.TheVariants as inputs;
 ghost use Rattle.bx_message.specs.MessageKinds.{is_handshake};
 ghost use Rattle.bx_script.specs.Replay.{is_newline, line_text};
+ghost use Rattle.bx_record.specs.Laws.{CanRecord};
 ghost use Rattle.bx_record.specs.Record.{can_say, command_by, input_text, nonce_digits, plain_document};
 
 use crate::form::{form_len, push_form};
 use crate::nonce::push_nonce_digits;
 use bx_advice::BODY_LIMIT;
 use bx_cut::Bodies;
-use bx_entry::Arrival;
 use bx_message::Message;
 use itoa::Buffer;
 use memchr::memchr;
@@ -28,28 +28,32 @@ const BESIDE: usize = 2 * (20 + 4) + 32;
 /// [`BODY_LIMIT`] bytes. `messages` are those of its documents. An error means that memory was refused.
 pub fn request_text(
     alloc: Global,
-    arrival: &Arrival,
+    moment: u64,
+    nonce: u128,
+    bodies: &Bodies,
     messages: &[Message],
 ) -> Result<Option<Vec<u8>>, AllocError>
-    requires { request_messages (texts_of arrival.now.bodies) ≡ Ok messages.now }
-    ensures text { IfOk result (λ lines. IfSome lines (λ text. text.items ≡ input_text (inputs.Post arrival.now))) }
-    ensures sayable { IfOk result (λ lines. is_some lines ≡ can_say (texts_of arrival.now.bodies)) }
+    requires { request_messages (texts_of bodies.now) ≡ Ok messages.now }
+    ensures text { IfOk result (λ lines. IfSome lines (λ text. text.items ≡ input_text (inputs.Post (record { moment = moment; nonce = nonce; bodies = bodies.now })))) }
+    ensures sayable { IfOk result (λ lines. is_some lines ≡ can_say (texts_of bodies.now)) }
+    ensures recordable { IfOk result (λ lines. IfSome lines (λ text. CanRecord (inputs.Post (record { moment = moment; nonce = nonce; bodies = bodies.now })))) }
 {
-    let plain = plain_document(&arrival.bodies);
-    let Some(length) = carrier_len(plain, &arrival.bodies) else {
+    let plain = plain_document(bodies);
+    let Some(length) = carrier_len(plain, bodies) else {
         return Ok(None);
     };
     let mut text = Vec::with_capacity(alloc, BESIDE + length)?;
     if asks_for_session(messages) {
-        push_nonce(&mut text, arrival.moment, arrival.nonce)?;
+        push_nonce(&mut text, moment, nonce)?;
     }
-    push_documents(&mut text, arrival.moment, plain, &arrival.bodies)?;
+    push_documents(&mut text, moment, plain, bodies)?;
     Ok(Some(text))
 }
 
 /// The line of a tick at this moment. An error means that memory was refused.
 pub fn tick_text(alloc: Global, moment: u64) -> Result<Vec<u8>, AllocError>
-    ensures { IfOk result (λ text. text.items ≡ input_text (inputs.Tick moment)) }
+    ensures text { IfOk result (λ text. text.items ≡ input_text (inputs.Tick moment)) }
+    ensures recordable { OnOk result (CanRecord (inputs.Tick moment)) }
 {
     let mut text = Vec::with_capacity(alloc, 24)?;
     push_head(&mut text, moment, b"T")?;

@@ -60,6 +60,7 @@ pub fn read_flags<'a>(
         },
         connections,
         figures: matches.get_str("figures"),
+        record_file: matches.get_str("record"),
         until_eof: matches.get_flag("until-eof"),
     })
 }
@@ -282,6 +283,12 @@ fn with_running<'a>(alloc: Global, command: Command<'a>) -> Result<Command<'a>, 
             "figures",
             "ADDRESS",
             "Where GET /metrics and GET /healthz are answered [default: nowhere]",
+        ))?
+        .arg(value(
+            alloc,
+            "record",
+            "FILE",
+            "The file that it makes, and in which it records what it takes in [default: none]",
         ))?
         .arg(switch(alloc, "until-eof", "It ends at the end of standard input"))
 }

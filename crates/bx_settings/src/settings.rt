@@ -29,6 +29,8 @@ pub struct Settings<'a> {
     pub connections: u64,
     /// Where it listens for those who ask for its figures, as `listen`; none: nowhere.
     pub figures: Option<&'a str>,
+    /// The file that it makes, and in which it records what it takes in; none: it records nothing.
+    pub record_file: Option<&'a str>,
     /// Whether it ends at the end of standard input.
     pub until_eof: bool,
     pub ghost some_body: { 1 ≤ body },

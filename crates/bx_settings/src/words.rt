@@ -42,6 +42,7 @@ pub fn read_words(words: &[String]) -> Option<Settings<'_>>
         seed: Seed::Said(read_digits(seed.as_bytes())?),
         connections: number_of(connections.as_bytes())?,
         figures: None,
+        record_file: None,
         until_eof: false,
     })
 }

@@ -3,6 +3,9 @@ use Rattle.bx_registry.specs.Standings.{LeadsTo, Standing}
 use Rattle.bx_entry.specs.Listing.{Listed}
 use Rattle.bx_window.specs.Steps.{adding, list_of}
 use Rattle.bx_window.proofs.Lists.{list_of-adding}
+use Rattle.std.specs.Option.{ForSome}
+use Rattle.bx_hub.specs.Records.{list_by}
+use Rattle.bx_hub.specs.declared.recording.Recording.{Recording}
 use Rattle.bx_hub.proofs.Posts.{continues, places_end}
 use Rattle.bx_hub.proofs.admission.Admission.publish.Goals as goal
 
@@ -26,4 +29,5 @@ invariant_of-self g c =
       config = ap (λ (l : Standing). l.config) made ∙ d.config;
       counted = ap (λ (l : Standing). l.shards) made ∙ d.counted;
       listed = ap (λ (l : Standing). l.list) made ∙ ap (λ (xs : List Listed). d.registry.list ++ xs) c.again-added.ensures ∙ ap (λ (xs : List Listed). xs ++ p.elements) d.listed ∙ sym grown;
+      recorded = subst (λ o. ForSome o (λ (r : Recording). list_by r.inputs ≡ list_of c.publish.new.self)) (sym c.requires.unrecorded) (λ r is. absurd (cc is));
     }

@@ -17,10 +17,10 @@ invariant_of-self g c =
     let fault = c.in-Some.fault in
     let was : one_more fault old.behind ≡ one_more fault (lagging_of old.stays) = ap (one_more fault) old.counted in
     let last = lagging-last old.stays fault in
-    record { counted = cc (c.with-self.ensures.which, was, last, c.push.ensures, c.in-Some.is) }
+    record { within = old.within; counted = cc (c.with-self.ensures.which, was, last, c.push.ensures, c.in-Some.is) }
 
 pub invariant_of-self-in-None : goal.invariant_of-self-in-None
 invariant_of-self-in-None g c =
     let old = c.args.self.now in
     let last = level-last old.stays in
-    record { counted = cc (old.counted, last, c.push.ensures, c.in-None.is) }
+    record { within = old.within; counted = cc (old.counted, last, c.push.ensures, c.in-None.is) }

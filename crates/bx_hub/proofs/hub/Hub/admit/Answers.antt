@@ -8,7 +8,7 @@ use Rattle.bx_hub.proofs.hub.Hub.admit.Goals as goal
 
 pub returns-in-Ok-admit-clause-admitted : goal.returns-in-Ok-admit-clause-admitted
 returns-in-Ok-admit-clause-admitted g c =
-    let first = c.in-Ok-admit.receipt.first in
+    let first = c.in-Ok-admit.listed.0.first in
     let mid = c.make_room.new.pass in
     let new = c.admit-2.new.pass in
     let before = prefix_trans c.args.pass.now c.admit.new.pass mid c.admit.ensures.seen c.make_room.ensures.seen in
