@@ -83,6 +83,9 @@ def long_lines():
         yield f"{front} and {count} spaces", f"{front}{' ' * count}\n0 P []\n", f"1 {printed}\n2 200 []\n"
     yield "a long line of another form is bad", f"{'0' * (BODY * 3)}\n0 P []\n", "1 bad\n2 200 []\n"
     yield "a long nonce is bad", f"0 N {'0' * (BODY * 3)}\n0 P []\n", "1 bad\n2 200 []\n"
+    # A place of zeros, a space, and the digits of a digest.
+    for count, printed in ((BODY - 65, ""), (BODY - 64, "1 bad\n"), (BODY * 3, "1 bad\n")):
+        yield f"a note with {count} digits of a place", f"A {'0' * count} {'f' * 64}\n0 P []\n", f"{printed}2 200 []\n"
 
 
 def thousands_of_lines():

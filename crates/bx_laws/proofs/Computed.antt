@@ -4,7 +4,7 @@ use Rattle.std.specs.Fmt.{digits}
 use Rattle.json.specs.Print.{escape_byte}
 use Rattle.bx_message.specs.Events.{event_size}
 use Rattle.bx_entry.specs.Windows.{bytes_of, has_room}
-use Rattle.bx_laws.specs.Worked.{EventsRide, RideBehindHold, NothingRides, NothingRidesBehindRefused, NothingRidesBehindSessionless, NothingRidesBehindHandshake, NothingRidesBehindTwo, SessionlessPublish, SessionlessRefused, NamesRead, PatternsRead, StarsMatch, DoubleStarsMatch, AllMatch, PlainMatch, RefusedHandshake, HeldThenGiven, HandshakeWithId, NothingPosted, NoNumber, BatchesRepeat, GreatNumber, MatchedTwice, HoldRunsOut, SessionExpires, GoneWithinARequest, NotSole, Superseded, SupersededHeld, MomentsRise, TwoHandshakes, HoldEndsWithSession, EventIsBatch, EventIsBatchHeld, FullQueue, QueueWithRoom, FullWithBatch, HeldThroughOverflow, LengthsRead, EachRefusal, ServicePublish, HoldExtends, OverflowAt1025, FourFullBatches, HandshakeText, RefusedText, BatchText, CallbackExample, EmptyCallback, Unreadable, SenderBytes, UnknownType, ManyPatterns, DeliveryText, GoneText, SupersededText, OverflowText, SecondText, EndedText, RefusalsText, RefusedMovesClock, EmptyKeepsClock, RefusedKeepsDue, HoldBeforeEnd, EndedWithNumber, SupersededWithoutNumber, MixedArrays, FullServer, OverflowOutlivesPatterns, ServicePatternsAside, ScriptLines, LineForms, NonceForms, NoncesWait, ScriptPrinted, NoncePrinted}
+use Rattle.bx_laws.specs.Worked.{EventsRide, RideBehindHold, NothingRides, NothingRidesBehindRefused, NothingRidesBehindSessionless, NothingRidesBehindHandshake, NothingRidesBehindTwo, SessionlessPublish, SessionlessRefused, NamesRead, PatternsRead, StarsMatch, DoubleStarsMatch, AllMatch, PlainMatch, RefusedHandshake, HeldThenGiven, HandshakeWithId, NothingPosted, NoNumber, BatchesRepeat, GreatNumber, MatchedTwice, HoldRunsOut, SessionExpires, GoneWithinARequest, NotSole, Superseded, SupersededHeld, MomentsRise, TwoHandshakes, HoldEndsWithSession, EventIsBatch, EventIsBatchHeld, FullQueue, QueueWithRoom, FullWithBatch, HeldThroughOverflow, LengthsRead, EachRefusal, ServicePublish, HoldExtends, OverflowAt1025, FourFullBatches, HandshakeText, RefusedText, BatchText, CallbackExample, EmptyCallback, Unreadable, SenderBytes, UnknownType, ManyPatterns, DeliveryText, GoneText, SupersededText, OverflowText, SecondText, EndedText, RefusalsText, RefusedMovesClock, EmptyKeepsClock, RefusedKeepsDue, HoldBeforeEnd, EndedWithNumber, SupersededWithoutNumber, MixedArrays, FullServer, OverflowOutlivesPatterns, ServicePatternsAside, ScriptLines, LineForms, NonceForms, NoteForms, NoncesWait, ScriptPrinted, NoncePrinted, NotePrinted}
 
 pub names_read : NamesRead
 names_read = refl
@@ -230,6 +230,9 @@ line_forms = refl
 pub nonce_forms : NonceForms
 nonce_forms = refl
 
+pub note_forms : NoteForms
+note_forms = refl
+
 pub nonces_wait : NoncesWait
 nonces_wait = refl
 
@@ -240,6 +243,10 @@ script_printed = refl
 pub nonce_printed : NoncePrinted
 unfolding digits escape_byte
 nonce_printed = refl
+
+pub note_printed : NotePrinted
+unfolding digits escape_byte
+note_printed = refl
 
 pub events_ride : EventsRide
 unfolding has_room bytes_of event_size escape_byte

@@ -18,7 +18,7 @@ use Rattle.bx_message.specs.Texts.{callback_text}
 use Rattle.bx_laws.specs.Samples.{ack_connect, blank, id_of, versioned, handshake, ack_handshake, connect, connect_now, ack_connect_now, in_quotes, subscribe, unsubscribe, disconnect, publish, post, standard, reply, handshaken, ack_handshaken, connected_as, connected, ack_connected, subscribed, unsubscribed, disconnected, published, unknown_client, event, out, subscribe_all, subscribed_all, match_all, two_connects, held_with_ack, small, failed, four_batches, full_batch, texts, refused_messages, mixed, mixed_failed, crowded, anonymous, open_to_all, ridden_publishes, ridden_hold, ridden_behind, waits_behind, riding}
 use Rattle.bx_advice.specs.declared.error.Error.TheVariants.{TooManySessions}
 use Rattle.std.specs.Prelude.{◌++◌, map}
-use Rattle.bx_script.specs.Replay.{lines_of, line_of, Bad, Rejected, Accepted, Resharded, Announced, inputs_from, printed, with_nonces}
+use Rattle.bx_script.specs.Replay.{lines_of, line_of, Bad, Rejected, Accepted, Resharded, Announced, Noted, inputs_from, printed, with_nonces}
 
 -- ---- which texts read as names and patterns, and what patterns match
 
@@ -547,6 +547,12 @@ NonceForms =
     map line_of (codes "7 N 000000000000000000000000000000fF" ∷ codes "7 N 00000000000000000000000000000ff" ∷ codes "7 N 0000000000000000000000000000000ff" ∷ codes "7 N +00000000000000000000000000000ff" ∷ codes "7 N 000000000000000000000000000000fg" ∷ codes "7 N" ∷ codes "N 000000000000000000000000000000ff" ∷ [])
     ≡ Announced 255 ∷ Bad ∷ Bad ∷ Bad ∷ Bad ∷ Bad ∷ Bad ∷ []
 
+-- notes of answers, and lines that are not quite notes
+abbrev pub NoteForms : Type 0
+NoteForms =
+    map line_of (codes "A 7 4f53cda18c2baa0c0354bb5f9a3ecbe5ed12ab4d8e11ba873c2f11161202b945" ∷ codes "A 18446744073709551615 4F53CDA18C2BAA0C0354BB5F9A3ECBE5ED12AB4D8E11BA873C2F11161202B945" ∷ codes "A 007 4f53cda18c2baa0c0354bb5f9a3ecbe5ed12ab4d8e11ba873c2f11161202b945" ∷ codes "A 18446744073709551616 4f53cda18c2baa0c0354bb5f9a3ecbe5ed12ab4d8e11ba873c2f11161202b945" ∷ codes "A 7 4f53cda18c2baa0c0354bb5f9a3ecbe5ed12ab4d8e11ba873c2f11161202b94" ∷ codes "A 7 4f53cda18c2baa0c0354bb5f9a3ecbe5ed12ab4d8e11ba873c2f11161202b9450" ∷ codes "A 7 4f53cda18c2baa0c0354bb5f9a3ecbe5ed12ab4d8e11ba873c2f11161202b94g" ∷ codes "A 7" ∷ codes "A  4f53cda18c2baa0c0354bb5f9a3ecbe5ed12ab4d8e11ba873c2f11161202b945" ∷ codes "A 4f53cda18c2baa0c0354bb5f9a3ecbe5ed12ab4d8e11ba873c2f11161202b945" ∷ codes "A 7  4f53cda18c2baa0c0354bb5f9a3ecbe5ed12ab4d8e11ba873c2f11161202b945" ∷ codes "A -7 4f53cda18c2baa0c0354bb5f9a3ecbe5ed12ab4d8e11ba873c2f11161202b945" ∷ codes "7 A 7 4f53cda18c2baa0c0354bb5f9a3ecbe5ed12ab4d8e11ba873c2f11161202b945" ∷ codes "a 7 4f53cda18c2baa0c0354bb5f9a3ecbe5ed12ab4d8e11ba873c2f11161202b945" ∷ [])
+    ≡ Noted ∷ Noted ∷ Noted ∷ Bad ∷ Bad ∷ Bad ∷ Bad ∷ Bad ∷ Bad ∷ Bad ∷ Bad ∷ Bad ∷ Bad ∷ Bad ∷ []
+
 -- a nonce waits for the next request, which takes it
 abbrev pub NoncesWait : Type 0
 NoncesWait =
@@ -566,3 +572,10 @@ NoncePrinted =
     (let ls = with_nonces 0 (Announced 255 ∷ Accepted None (post 0 (handshake ∷ [])) ∷ []) in
     printed standard (inputs_from 1 ls) ls)
     ≡ codes "2 200 [{\"advice\":{\"interval\":0,\"reconnect\":\"retry\",\"timeout\":30000},\"channel\":\"/meta/handshake\",\"clientId\":\"000000000000000000000000000000ff0000000000000001\",\"successful\":true,\"supportedConnectionTypes\":[\"long-polling\",\"callback-polling\"],\"version\":\"1.0\"}]" ++ 10 ∷ []
+
+-- a note between a nonce and its request prints nothing, and leaves the nonce waiting
+abbrev pub NotePrinted : Type 0
+NotePrinted =
+    (let ls = with_nonces 0 (Announced 255 ∷ Noted ∷ Accepted None (post 0 (handshake ∷ [])) ∷ Noted ∷ Bad ∷ []) in
+    printed standard (inputs_from 1 ls) ls)
+    ≡ (codes "3 200 [{\"advice\":{\"interval\":0,\"reconnect\":\"retry\",\"timeout\":30000},\"channel\":\"/meta/handshake\",\"clientId\":\"000000000000000000000000000000ff0000000000000001\",\"successful\":true,\"supportedConnectionTypes\":[\"long-polling\",\"callback-polling\"],\"version\":\"1.0\"}]" ++ 10 ∷ []) ++ (codes "5 bad" ++ 10 ∷ [])

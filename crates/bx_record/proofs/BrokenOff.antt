@@ -1,5 +1,5 @@
 -- A record that breaks off reads as one of its first inputs.
-use Rattle.std.proofs.Common.{◌≡◌, ℕ, suc, ◌+◌, ◌<◌, ◌^◌, ◌⊎◌, inl, inr, Bool, true, false, eqb, cond, List, [], ◌∷◌, ◌++◌, take, codes, decimal, refl, sym, ap, ◌∙◌, arith, append_assoc}
+use Rattle.std.proofs.Common.{◌≡◌, ℕ, zero, suc, ◌+◌, ◌<◌, ◌^◌, ◌⊎◌, inl, inr, Bool, true, false, eqb, cond, List, [], ◌∷◌, ◌++◌, map, take, codes, decimal, refl, sym, ap, ◌∙◌, arith, append_assoc}
 use Rattle.std.specs.Prelude.{flat_map}
 use Rattle.std.specs.List.{list_all, AllByRecursion}
 use Rattle.std.proofs.lemmas.List.Folds.{list_all-append}
@@ -10,11 +10,15 @@ use Rattle.bx_entry.specs.Words.{ReadInput, read_input}
 use Rattle.bx_script.specs.Words.{Announced, Line, line_text, with_nonces}
 use Rattle.bx_script.proofs.Cuts.{Lacks}
 use Rattle.bx_theory.specs.Lines.{inputs_in}
-use Rattle.bx_record.specs.Record.{asks_for_session, command_of, input_text, nonce_digits, nonce_text, record_of, said_of}
-use Rattle.bx_record.specs.Laws.{CanRecord, IsRecordable, RecordsBreakOff, ended_by, ended_lines, is_of_record, script_lines}
+use Rattle.bx_record.specs.Answers.{Given, Part, Taken, part_text, record_with, taken_inputs}
+use Rattle.bx_record.specs.Record.{asks_for_session, command_of, nonce_digits, nonce_text, record_of, said_of}
+use Rattle.bx_record.specs.Laws.{AnswersBreakOff, CanRecord, CanStand, IsRecordable, RecordsBreakOff, ended_by, ended_lines, is_of_either, is_of_record, script_lines}
+use Rattle.bx_record.proofs.Answered.{part_lines, said_part, text_is}
+use Rattle.bx_record.proofs.Answered as answers
 use Rattle.bx_record.proofs.Bytes.{readable_utf8}
 use Rattle.bx_record.proofs.Digits.{lacks-append, moment_lacks, nonce_lacks}
-use Rattle.bx_record.proofs.ReadBack.{Says, documents_say, input_lines, inputs_at, inputs_by, no_others, nonce_line, said_all, said_lines}
+use Rattle.bx_record.proofs.ReadBack.{Says, documents_say, inputs_at, inputs_by, nonce_line, said_all, said_lines}
+use Rattle.bx_record.proofs.ReadBack as records
 
 -- ---- lines that have their end
 
@@ -53,30 +57,30 @@ goes_past (y ∷ m) (x ∷ front) behind rest h e = by_rest (goes_past m front b
     by_rest (inl lacks) = inl (ap (λ z. eqb z 10) first ∙ h.0, lacks)
     by_rest (inr past) = inr (record { next = past.next; front_is = ap (λ z. z ∷ front) first ∙ ap (λ l. y ∷ l) past.front_is; rest_is = past.rest_is })
 
--- ---- one input
+-- ---- one part
 
--- what the lines of a front say: those of so many inputs, and then a nonce at most
-record SaysUpTo (inputs : List Input) (lines : List Line) : Type 0 where
+-- what the lines of a front say: those of so many parts, and then a nonce at most
+record SaysUpTo (parts : List Part) (lines : List Line) : Type 0 where
   count : ℕ
   last : List Line
-  lines_are : lines ≡ flat_map said_lines (take count inputs) ++ last
+  lines_are : lines ≡ flat_map said_part (take count parts) ++ last
   at_most : (last ≡ []) ⊎ ((nonce : ℕ) × (last ≡ Announced nonce ∷ []))
 
-says_nothing : (inputs : List Input) (front : List ℕ) → Lacks 10 front → SaysUpTo inputs (script_lines (ended_lines front))
-says_nothing inputs front lacks = record { count = 0; last = []; lines_are = ap script_lines (none_ends front lacks); at_most = inl refl }
+says_nothing : (parts : List Part) (front : List ℕ) → Lacks 10 front → SaysUpTo parts (script_lines (ended_lines front))
+says_nothing parts front lacks = record { count = 0; last = []; lines_are = ap script_lines (none_ends front lacks); at_most = inl refl }
 
--- one more input, whose lines the front has
-says_more : (input : Input) (inputs : List Input) (front next : List ℕ) → CanRecord input → ended_lines front ≡ input_text input ++ ended_lines next → SaysUpTo inputs (script_lines (ended_lines next))
-    → SaysUpTo (input ∷ inputs) (script_lines (ended_lines front))
-says_more input inputs front next can ends more = record {
+-- one more part, whose lines the front has
+says_more : (part : Part) (parts : List Part) (front next : List ℕ) → CanStand part → ended_lines front ≡ part_text part ++ ended_lines next → SaysUpTo parts (script_lines (ended_lines next))
+    → SaysUpTo (part ∷ parts) (script_lines (ended_lines front))
+says_more part parts front next can ends more = record {
   count = suc more.count;
   last = more.last;
-  lines_are = ap script_lines ends ∙ input_lines input (ended_lines next) can ∙ ap (λ ls. said_lines input ++ ls) more.lines_are
-      ∙ sym (append_assoc (said_lines input) (flat_map said_lines (take more.count inputs)) more.last);
+  lines_are = ap script_lines ends ∙ part_lines part (ended_lines next) can ∙ ap (λ ls. said_part part ++ ls) more.lines_are
+      ∙ sym (append_assoc (said_part part) (flat_map said_part (take more.count parts)) more.last);
   at_most = more.at_most;
 }
 
--- a line without its end
+-- a line with a moment, without its end
 abbrev bare : ℕ → List ℕ → List ℕ
 bare m text = decimal m ++ 32 ∷ text
 
@@ -86,31 +90,35 @@ bare_lacks m text fits lacks = lacks-append 10 (decimal m) (32 ∷ text) (moment
 line_is : (m : ℕ) (text rest : List ℕ) → line_text m text ++ rest ≡ bare m text ++ 10 ∷ rest
 line_is m text rest = simp append_assoc
 
--- what a front of one line and of others says, by what a front of the others does
-abbrev GoesOn : List Input → List ℕ → List ℕ → Type 0
-GoesOn inputs behind rest = (next : List ℕ) → next ++ behind ≡ rest → SaysUpTo inputs (script_lines (ended_lines next))
+-- a part is one line
+abbrev IsLine : Part → List ℕ → Type 0
+IsLine part line = (rest : List ℕ) → part_text part ++ rest ≡ line ++ 10 ∷ rest
 
-one_more_line : (m : ℕ) (text : List ℕ) (input : Input) (inputs : List Input) (front behind : List ℕ) → m < 2 ^ 64 → Lacks 10 text → CanRecord input → input_text input ≡ line_text m text
-    → GoesOn inputs behind (record_of inputs) → front ++ behind ≡ line_text m text ++ record_of inputs → SaysUpTo (input ∷ inputs) (script_lines (ended_lines front))
-one_more_line m text input inputs front behind fits lacks can same more e = by_front (goes_past (bare m text) front behind (record_of inputs) bare_line (e ∙ line_is m text (record_of inputs)))
+-- what a front of one part and of others says, by what a front of the others does
+abbrev GoesOn : List Part → List ℕ → List ℕ → Type 0
+GoesOn parts behind rest = (next : List ℕ) → next ++ behind ≡ rest → SaysUpTo parts (script_lines (ended_lines next))
+
+one_more_line : (line : List ℕ) (part : Part) (parts : List Part) (front behind : List ℕ) → Lacks 10 line → CanStand part → IsLine part line
+    → GoesOn parts behind (record_with parts) → front ++ behind ≡ part_text part ++ record_with parts → SaysUpTo (part ∷ parts) (script_lines (ended_lines front))
+one_more_line line part parts front behind lacks can same more e = by_front (goes_past line front behind (record_with parts) lacks (e ∙ same (record_with parts)))
   where
-    bare_line : Lacks 10 (bare m text)
-    bare_line = bare_lacks m text fits lacks
-
-    by_front : Lacks 10 front ⊎ GoesPast (bare m text) front behind (record_of inputs) → SaysUpTo (input ∷ inputs) (script_lines (ended_lines front))
-    by_front (inl none) = says_nothing (input ∷ inputs) front none
+    by_front : Lacks 10 front ⊎ GoesPast line front behind (record_with parts) → SaysUpTo (part ∷ parts) (script_lines (ended_lines front))
+    by_front (inl none) = says_nothing (part ∷ parts) front none
     by_front (inr past) =
-        let ends : ended_lines front ≡ input_text input ++ ended_lines past.next =
-        ap ended_lines past.front_is ∙ line_ends (bare m text) past.next bare_line ∙ sym (line_is m text (ended_lines past.next)) ∙ sym (ap (λ t. t ++ ended_lines past.next) same) in
-        says_more input inputs front past.next can ends (more past.next past.rest_is)
+        let ends : ended_lines front ≡ part_text part ++ ended_lines past.next =
+        ap ended_lines past.front_is ∙ line_ends line past.next lacks ∙ sym (same (ended_lines past.next)) in
+        says_more part parts front past.next can ends (more past.next past.rest_is)
 
-two_lines : (a : Arrival) (inputs : List Input) (front behind : List ℕ) → CanRecord (Post a) → (b : Bool) → asks_for_session (read_input (Post a)) ≡ b → Lacks 10 (command_of (texts_of a.bodies))
-    → GoesOn inputs behind (record_of inputs) → front ++ behind ≡ (nonce_text b a.moment a.nonce ++ line_text a.moment (command_of (texts_of a.bodies))) ++ record_of inputs
-    → SaysUpTo (Post a ∷ inputs) (script_lines (ended_lines front))
-two_lines a inputs front behind can false asks lacks more e =
-    one_more_line a.moment (command_of (texts_of a.bodies)) (Post a) inputs front behind can.moment lacks can (ap (λ b. nonce_text b a.moment a.nonce ++ line_text a.moment (command_of (texts_of a.bodies))) asks) more e
-two_lines a inputs front behind can true asks lacks more e =
-    by_front (goes_past first front behind (second ++ record_of inputs) first_lacks (e ∙ append_assoc (line_text a.moment said) second (record_of inputs) ∙ line_is a.moment said (second ++ record_of inputs)))
+two_lines : (a : Arrival) (parts : List Part) (front behind : List ℕ) → CanRecord (Post a) → (b : Bool) → asks_for_session (read_input (Post a)) ≡ b → Lacks 10 (command_of (texts_of a.bodies))
+    → GoesOn parts behind (record_with parts) → front ++ behind ≡ (nonce_text b a.moment a.nonce ++ line_text a.moment (command_of (texts_of a.bodies))) ++ record_with parts
+    → SaysUpTo (Taken (Post a) ∷ parts) (script_lines (ended_lines front))
+two_lines a parts front behind can false asks lacks more e =
+    let documents : List ℕ = command_of (texts_of a.bodies) in
+    one_more_line (bare a.moment documents) (Taken (Post a)) parts front behind (bare_lacks a.moment documents can.moment lacks) can
+    (λ rest. ap (λ b. (nonce_text b a.moment a.nonce ++ line_text a.moment documents) ++ rest) asks ∙ line_is a.moment documents rest) more
+    (e ∙ sym (ap (λ b. (nonce_text b a.moment a.nonce ++ line_text a.moment documents) ++ record_with parts) asks))
+two_lines a parts front behind can true asks lacks more e =
+    by_front (goes_past first front behind (second ++ record_with parts) first_lacks (e ∙ append_assoc (line_text a.moment said) second (record_with parts) ∙ line_is a.moment said (second ++ record_with parts)))
   where
     said : List ℕ
     said = codes "N " ++ nonce_digits a.nonce
@@ -130,58 +138,102 @@ two_lines a inputs front behind can true asks lacks more e =
     second_lacks : Lacks 10 (bare a.moment documents)
     second_lacks = bare_lacks a.moment documents can.moment lacks
 
-    both : (rest : List ℕ) → input_text (Post a) ++ rest ≡ first ++ 10 ∷ (bare a.moment documents ++ 10 ∷ rest)
+    both : (rest : List ℕ) → part_text (Taken (Post a)) ++ rest ≡ first ++ 10 ∷ (bare a.moment documents ++ 10 ∷ rest)
     both rest =
         ap (λ b. (nonce_text b a.moment a.nonce ++ second) ++ rest) asks ∙ append_assoc (line_text a.moment said) second rest ∙ line_is a.moment said (second ++ rest)
         ∙ ap (λ t. first ++ 10 ∷ t) (line_is a.moment documents rest)
 
-    by_second : (next : List ℕ) → front ≡ first ++ 10 ∷ next → Lacks 10 next ⊎ GoesPast (bare a.moment documents) next behind (record_of inputs) → SaysUpTo (Post a ∷ inputs) (script_lines (ended_lines front))
+    by_second : (next : List ℕ) → front ≡ first ++ 10 ∷ next → Lacks 10 next ⊎ GoesPast (bare a.moment documents) next behind (record_with parts) → SaysUpTo (Taken (Post a) ∷ parts) (script_lines (ended_lines front))
     by_second next is (inl none) =
         let ends : ended_lines front ≡ line_text a.moment said ++ [] =
         ap ended_lines is ∙ line_ends first next first_lacks ∙ ap (λ t. first ++ 10 ∷ t) (none_ends next none) ∙ sym (line_is a.moment said []) in
         record { count = 0; last = Announced a.nonce ∷ []; lines_are = ap script_lines ends ∙ ap (with_nonces 0) (nonce_line a.moment a.nonce [] can.moment can.nonce); at_most = inr (a.nonce, refl) }
     by_second next is (inr past) =
-        let ends : ended_lines front ≡ input_text (Post a) ++ ended_lines past.next =
+        let ends : ended_lines front ≡ part_text (Taken (Post a)) ++ ended_lines past.next =
         ap ended_lines is ∙ line_ends first next first_lacks ∙ ap (λ t. first ++ 10 ∷ t) (ap ended_lines past.front_is ∙ line_ends (bare a.moment documents) past.next second_lacks) ∙ sym (both (ended_lines past.next)) in
-        says_more (Post a) inputs front past.next can ends (more past.next past.rest_is)
+        says_more (Taken (Post a)) parts front past.next can ends (more past.next past.rest_is)
 
-    by_front : Lacks 10 front ⊎ GoesPast first front behind (second ++ record_of inputs) → SaysUpTo (Post a ∷ inputs) (script_lines (ended_lines front))
-    by_front (inl none) = says_nothing (Post a ∷ inputs) front none
-    by_front (inr past) = by_second past.next past.front_is (goes_past (bare a.moment documents) past.next behind (record_of inputs) second_lacks (past.rest_is ∙ line_is a.moment documents (record_of inputs)))
+    by_front : Lacks 10 front ⊎ GoesPast first front behind (second ++ record_with parts) → SaysUpTo (Taken (Post a) ∷ parts) (script_lines (ended_lines front))
+    by_front (inl none) = says_nothing (Taken (Post a) ∷ parts) front none
+    by_front (inr past) = by_second past.next past.front_is (goes_past (bare a.moment documents) past.next behind (record_with parts) second_lacks (past.rest_is ∙ line_is a.moment documents (record_with parts)))
 
--- ---- a record
+-- ---- a record with answers
 
-says_up_to : (inputs : List Input) (front behind : List ℕ) → AllByRecursion CanRecord inputs → front ++ behind ≡ record_of inputs → SaysUpTo inputs (script_lines (ended_lines front))
+says_up_to : (parts : List Part) (front behind : List ℕ) → AllByRecursion CanStand parts → front ++ behind ≡ record_with parts → SaysUpTo parts (script_lines (ended_lines front))
 says_up_to [] [] behind h e = record { count = 0; last = []; lines_are = refl; at_most = inl refl }
 says_up_to [] (x ∷ front) behind h e = cc
-says_up_to (Tick moment ∷ inputs) front behind h e =
-    one_more_line moment (codes "T") (Tick moment) inputs front behind h.0 (refl, tt) h.0 refl (λ next same. says_up_to inputs next behind h.1 same) e
-says_up_to (Post a ∷ inputs) front behind h e =
+says_up_to (Given place digest ∷ parts) front behind h e =
+    one_more_line (answers.bare place digest) (Given place digest) parts front behind (answers.bare_lacks place digest h.0.0 h.0.1) h.0 (λ rest. text_is place digest rest)
+    (λ next same. says_up_to parts next behind h.1 same) e
+says_up_to (Taken (Tick moment) ∷ parts) front behind h e =
+    one_more_line (bare moment (codes "T")) (Taken (Tick moment)) parts front behind (bare_lacks moment (codes "T") h.0 (refl, tt)) h.0 (λ rest. line_is moment (codes "T") rest)
+    (λ next same. says_up_to parts next behind h.1 same) e
+says_up_to (Taken (Post a) ∷ parts) front behind h e =
     let can : IsRecordable a = h.0 in
     let says : Says a.moment (command_of (texts_of a.bodies)) (texts_of a.bodies) = documents_say a.moment (texts_of a.bodies) (readable_utf8 (texts_of a.bodies) can.readable) can.sayable in
-    two_lines a inputs front behind can (asks_for_session (read_input (Post a))) refl says.lacks (λ next same. says_up_to inputs next behind h.1 same) e
+    two_lines a parts front behind can (asks_for_session (read_input (Post a))) refl says.lacks (λ next same. says_up_to parts next behind h.1 same) e
 
--- a nonce behind all inputs is no input
-its_first : (number : ℕ) (inputs : List Input) (last : List Line) → (last ≡ []) ⊎ ((nonce : ℕ) × (last ≡ Announced nonce ∷ [])) → inputs_at number (flat_map said_lines inputs ++ last) ≡ said_all inputs
+-- a nonce at most
+abbrev IsLast : List Line → Type 0
+IsLast last = (last ≡ []) ⊎ ((nonce : ℕ) × (last ≡ Announced nonce ∷ []))
+
+-- which is no input behind all others
+its_first : (number : ℕ) (parts : List Part) (last : List Line) → IsLast last → inputs_at number (flat_map said_part parts ++ last) ≡ said_all (taken_inputs parts)
 its_first number [] last (inl e) = ap (inputs_at number) e
 its_first number [] last (inr (nonce, e)) = ap (inputs_at number) e
-its_first number (Tick moment ∷ inputs) last at_most = ap (λ (js : List ReadInput). read_input (Tick moment) ∷ js) (its_first (number + 1) inputs last at_most)
-its_first number (Post a ∷ inputs) last at_most =
+its_first number (Given place digest ∷ parts) last at_most = its_first (number + 1) parts last at_most
+its_first number (Taken (Tick moment) ∷ parts) last at_most = ap (λ (js : List ReadInput). read_input (Tick moment) ∷ js) (its_first (number + 1) parts last at_most)
+its_first number (Taken (Post a) ∷ parts) last at_most =
     let input : ReadInput = said_of (read_input (Post a)) in
-    ap (inputs_at number) (append_assoc (said_lines (Post a)) (flat_map said_lines inputs) last)
-    ∙ inputs_by number a.nonce input (flat_map said_lines inputs ++ last) (said_all inputs) (λ k. its_first k inputs last at_most) (asks_for_session (read_input (Post a)))
+    ap (inputs_at number) (append_assoc (said_lines (Post a)) (flat_map said_part parts) last)
+    ∙ inputs_by number a.nonce input (flat_map said_part parts ++ last) (said_all (taken_inputs parts)) (λ k. its_first k parts last at_most) (asks_for_session (read_input (Post a)))
 
-last_is : (last : List Line) → (last ≡ []) ⊎ ((nonce : ℕ) × (last ≡ Announced nonce ∷ [])) → list_all is_of_record last ≡ true
-last_is last (inl e) = ap (list_all is_of_record) e
-last_is last (inr (nonce, e)) = ap (list_all is_of_record) e
+last_is : (p : Line → Bool) (last : List Line) → ((nonce : ℕ) → p (Announced nonce) ≡ true) → IsLast last → list_all p last ≡ true
+last_is p last passes (inl e) = ap (list_all p) e
+last_is p last passes (inr (nonce, e)) = ap (list_all p) e ∙ rw (passes nonce) refl
 
-pub broken_off : RecordsBreakOff
-broken_off inputs front behind h e =
-    let says = says_up_to inputs front behind h e in
-    let first : List Input = take says.count inputs in
+-- nothing else stands in lines behind which a nonce stands at most
+none_else : (p : Line → Bool) (lines first last : List Line) → lines ≡ first ++ last → list_all p first ≡ true → ((nonce : ℕ) → p (Announced nonce) ≡ true) → IsLast last → list_all p lines ≡ true
+none_else p lines first last e all passes at_most = ap (list_all p) e ∙ list_all-append p first last ∙ rw (all, last_is p last passes at_most) refl
+
+pub answers_broken_off : AnswersBreakOff
+answers_broken_off parts front behind h e =
+    let says = says_up_to parts front behind h e in
+    let first : List Part = take says.count parts in
     record {
       count = says.count;
       inputs_are = ap inputs_in says.lines_are ∙ its_first 1 first says.last says.at_most;
-      nothing_else = ap (list_all is_of_record) says.lines_are ∙ list_all-append is_of_record (flat_map said_lines first) says.last
-          ∙ rw (no_others first, last_is says.last says.at_most) refl;
+      nothing_else = none_else is_of_either (script_lines (ended_lines front)) (flat_map said_part first) says.last says.lines_are (answers.no_others first) (λ nonce. refl) says.at_most;
+    }
+
+-- ---- a record without
+
+can_stand : (inputs : List Input) → AllByRecursion CanRecord inputs → AllByRecursion CanStand (map Taken inputs)
+can_stand [] h = tt
+can_stand (input ∷ inputs) h = (h.0, can_stand inputs h.1)
+
+same_text : (inputs : List Input) → record_of inputs ≡ record_with (map Taken inputs)
+same_text [] = refl
+same_text (input ∷ inputs) = ap (λ t. part_text (Taken input) ++ t) (same_text inputs)
+
+same_lines : (count : ℕ) (inputs : List Input) → flat_map said_part (take count (map Taken inputs)) ≡ flat_map said_lines (take count inputs)
+same_lines zero inputs = refl
+same_lines (suc count) [] = refl
+same_lines (suc count) (input ∷ inputs) = ap (λ ls. said_lines input ++ ls) (same_lines count inputs)
+
+same_inputs : (count : ℕ) (inputs : List Input) → taken_inputs (take count (map Taken inputs)) ≡ take count inputs
+same_inputs zero inputs = refl
+same_inputs (suc count) [] = refl
+same_inputs (suc count) (input ∷ inputs) = ap (λ is. input ∷ is) (same_inputs count inputs)
+
+pub broken_off : RecordsBreakOff
+broken_off inputs front behind h e =
+    let parts : List Part = map Taken inputs in
+    let says = says_up_to parts front behind (can_stand inputs h) (e ∙ same_text inputs) in
+    let first : List Input = take says.count inputs in
+    record {
+      count = says.count;
+      inputs_are = ap inputs_in says.lines_are ∙ its_first 1 (take says.count parts) says.last says.at_most ∙ ap said_all (same_inputs says.count inputs);
+      nothing_else = none_else is_of_record (script_lines (ended_lines front)) (flat_map said_lines first) says.last (says.lines_are ∙ ap (λ ls. ls ++ says.last) (same_lines says.count inputs))
+          (records.no_others first) (λ nonce. refl) says.at_most;
     }

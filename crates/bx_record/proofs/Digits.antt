@@ -26,12 +26,18 @@ moment_reads m fits =
     let value : digits_value 10 (decimal m) ≡ m = digits_value-decimal own m fits in
     rw (lt-ltb 0 (length (decimal m)) some, digits, value, lt-ltb m (2 ^ 64) fits) refl
 
-apart : (c k : ℕ) → c < 48 → eqb (48 + k) c ≡ false
-apart c k low = ne_eqb (48 + k) c (λ e. omega arith)
+lacks_by : (c m : ℕ) → ((k : ℕ) → k < 10 → eqb (48 + k) c ≡ false) → m < 2 ^ 64 → Lacks c (decimal m)
+lacks_by c m apart fits =
+    decimal_by_steps (λ n ds. Lacks c ds) (λ n small. (apart n small, tt)) (λ n ds large h. lacks-append c ds ((48 + n % 10) ∷ []) h (apart (n % 10) (mod-lt n (omega arith)), tt)) m fits
 
 pub moment_lacks : (c m : ℕ) → c < 48 → m < 2 ^ 64 → Lacks c (decimal m)
-moment_lacks c m low fits =
-    decimal_by_steps (λ n ds. Lacks c ds) (λ n small. (apart c n low, tt)) (λ n ds large h. lacks-append c ds ((48 + n % 10) ∷ []) h (apart c (n % 10) low, tt)) m fits
+moment_lacks c m low fits = lacks_by c m (λ k small. ne_eqb (48 + k) c (λ e. omega arith)) fits
+
+pub moment_lacks_letter : (c m : ℕ) → 57 < c → m < 2 ^ 64 → Lacks c (decimal m)
+moment_lacks_letter c m high fits = lacks_by c m (λ k small. ne_eqb (48 + k) c (λ e. omega arith)) fits
+
+pub moment_nonempty : (m : ℕ) → m < 2 ^ 64 → 0 < length (decimal m)
+moment_nonempty m fits = decimal_nonempty m fits
 
 -- ---- nonces
 

@@ -5,5 +5,6 @@ pub mod Forms
 pub mod Configs
 pub mod Carried
 pub mod ReadBack
-pub mod BrokenOff
 pub mod Unused
+pub mod Answered
+pub mod BrokenOff

@@ -1,8 +1,8 @@
 -- A record reads back.
-use Rattle.std.proofs.Common.{◌≡◌, ℕ, ◌+◌, ◌<◌, ◌^◌, ◌||◌, Bool, true, false, eqb, cond, List, [], ◌∷◌, ◌++◌, length, map, codes, decimal, Some, None, Result, Ok, Err, is_ok, refl, sym, ap, ◌∙◌, subst, arith, append_assoc, length-append}
-use Rattle.std.specs.Prelude.{flat_map, nat_lt, nat_le}
-use Rattle.std.specs.{List.after_first, List.list_all, List.list_any, List.AllByRecursion, Str.IsUtf8}
-use Rattle.std.proofs.lemmas.{Bool.le-ltb, Bool.leb-true}
+use Rattle.std.proofs.Common.{◌≡◌, ℕ, ◌+◌, ◌<◌, ◌^◌, ◌||◌, Bool, true, false, eqb, cond, List, [], ◌∷◌, ◌++◌, drop, length, map, codes, decimal, Some, None, Result, Ok, Err, is_ok, refl, sym, ap, ◌∙◌, subst, arith, append_assoc, length-append}
+use Rattle.std.specs.Prelude.{flat_map, nat_eq, nat_lt, nat_le}
+use Rattle.std.specs.{List.after_first, List.list_all, List.list_any, List.starts_with, List.AllByRecursion, Str.IsUtf8}
+use Rattle.std.proofs.lemmas.{Bool.le-ltb, Bool.leb-true, Grind.common_steps}
 use Rattle.bx_advice.specs.declared.config.TheConstants.{BODY_LIMIT}
 use Rattle.bx_cut.specs.Bodies.{texts_of}
 use Rattle.bx_message.specs.declared.message.Message.{Message}
@@ -16,7 +16,7 @@ use Rattle.bx_entry.specs.Inputs.{Tick}
 use Rattle.bx_transport.specs.declared.error.TransportError.TheVariants.{TooLarge}
 use Rattle.bx_transport.specs.Forms.{values_of}
 use Rattle.bx_transport.specs.Transports.{some_documents}
-use Rattle.bx_script.specs.Words.{Accepted, Announced, Line, Numbered, command, handed_by, inputs_from, is_newline, is_space, line_by, line_of, line_text, lines_of, with_nonces}
+use Rattle.bx_script.specs.Words.{Accepted, Announced, Line, Numbered, command, handed_by, inputs_from, is_newline, is_space, line_by, line_of, line_text, lines_of, noted_by, timed_line, with_nonces}
 use Rattle.bx_script.specs.Replay.{Documents, announces, body_by}
 use Rattle.bx_script.proofs.Cuts.{Lacks, after_it, before_it}
 use Rattle.bx_script.proofs.Script.{lines_are}
@@ -25,19 +25,26 @@ use Rattle.bx_record.specs.Record.{asks_for_session, can_say, carrier_by, comman
 use Rattle.bx_record.specs.Laws.{CanRecord, RecordsReadBack, is_of_record, recorded_lines}
 use Rattle.bx_record.proofs.Bytes.{readable_utf8}
 use Rattle.bx_record.proofs.Carried.{carried, form_lacks}
-use Rattle.bx_record.proofs.Digits.{lacks-append, moment_lacks, moment_reads, nonce_lacks, nonce_reads}
+use Rattle.bx_record.proofs.Digits.{lacks-append, moment_lacks, moment_lacks_letter, moment_nonempty, moment_reads, nonce_lacks, nonce_reads}
 
 -- ---- one line
 
-first_line : (line rest : List ℕ) → Lacks 10 line → lines_of (line ++ 10 ∷ rest) ≡ line ∷ lines_of rest
+pub first_line : (line rest : List ℕ) → Lacks 10 line → lines_of (line ++ 10 ∷ rest) ≡ line ∷ lines_of rest
 first_line line rest lacks =
     lines_are (line ++ 10 ∷ rest) (λ e. omega (arith, ap length e, length-append line (10 ∷ rest)))
     ∙ ap (λ l. l ∷ lines_of (after_first is_newline (line ++ 10 ∷ rest))) (before_it 10 line rest lacks) ∙ ap (λ l. line ∷ lines_of l) (after_it 10 line rest lacks)
 
+-- what begins otherwise is no note
+no_note : (front rest : List ℕ) → 0 < length front → Lacks 65 front → starts_with nat_eq (front ++ rest) (codes "A ") ≡ false
+no_note [] rest some lacks = absurd (omega arith)
+no_note (x ∷ front) rest some lacks = grind (arith, common_steps, lacks.0)
+
 says : (m : ℕ) (text : List ℕ) → m < 2 ^ 64 → line_of (decimal m ++ 32 ∷ text) ≡ command m text
 says m text fits =
     let lacks = moment_lacks 32 m (omega arith) fits in
-    ap (λ l. line_by (number_of l) (after_first is_space (decimal m ++ 32 ∷ text))) (before_it 32 (decimal m) text lacks)
+    let line = decimal m ++ 32 ∷ text in
+    ap (λ b. cond b (noted_by (drop 2 line)) (timed_line line)) (no_note (decimal m) (32 ∷ text) (moment_nonempty m fits) (moment_lacks_letter 65 m (omega arith) fits))
+    ∙ ap (λ l. line_by (number_of l) (after_first is_space (decimal m ++ 32 ∷ text))) (before_it 32 (decimal m) text lacks)
     ∙ ap (line_by (number_of (decimal m))) (after_it 32 (decimal m) text lacks) ∙ ap (λ o. line_by o text) (moment_reads m fits)
 
 -- the lines that a text says

@@ -199,14 +199,14 @@ unused config inputs =
 
 -- ---- a record
 
-same_outs : (config : Config) (inputs : List ReadInput) → outs config (map said_of inputs) ≡ outs config inputs
+pub same_outs : (config : Config) (inputs : List ReadInput) → outs config (map said_of inputs) ≡ outs config inputs
 same_outs config inputs = ap (λ n. outs_in n (wholes config (map said_of inputs))) (length-map inputs said_of) ∙ ap (λ ws. outs_in (length inputs) ws) (unused config inputs)
 
-same_held : (config : Config) (inputs : List ReadInput) → held config (map said_of inputs) ≡ held config inputs
+pub same_held : (config : Config) (inputs : List ReadInput) → held config (map said_of inputs) ≡ held config inputs
 same_held config inputs = ap (λ (ws : List Whole). map (λ (w : Whole). w.out.input) (filter (λ (w : Whole). is_none w.at) ws)) (unused config inputs)
 
 -- inputs that are read, as they are said
-said_after : (inputs : List Input) → map (λ input. said_of (read_input input)) inputs ≡ map said_of (map read_input inputs)
+pub said_after : (inputs : List Input) → map (λ input. said_of (read_input input)) inputs ≡ map said_of (map read_input inputs)
 said_after [] = refl
 said_after (input ∷ inputs) = ap (λ (is : List ReadInput). said_of (read_input input) ∷ is) (said_after inputs)
 

@@ -9,8 +9,9 @@ use Rattle.bx_cut.specs.Bodies.{texts_of}
 use Rattle.bx_entry.specs.declared.input.{Arrival.Arrival, Input.Input}
 use Rattle.bx_entry.specs.declared.input.Input.TheVariants.{Post, Tick}
 use Rattle.bx_entry.specs.Words.{held, outs, read_input, request_messages}
-use Rattle.bx_script.specs.Words.{Accepted, Announced, Line, first_of, is_newline, is_space, line_of, lines_of, rest_of, with_nonces}
+use Rattle.bx_script.specs.Words.{Accepted, Announced, Line, Noted, first_of, is_newline, is_space, line_of, lines_of, rest_of, with_nonces}
 use Rattle.bx_theory.specs.Lines.{inputs_in}
+use Rattle.bx_record.specs.Answers.{Given, IsSha256, Part, Taken, answer_text, record_with, taken_inputs}
 use Rattle.bx_record.specs.Record.{can_say, config_text, config_words, options_word, record_of, said_of}
 
 -- ---- inputs
@@ -60,6 +61,38 @@ pub record AnswersAlike (config : Config) (inputs : List Input) : Type 0 where
 abbrev pub RecordsAnswerAlike : Type 0
 RecordsAnswerAlike = (config : Config) (inputs : List Input) → AllByRecursion CanRecord inputs → AnswersAlike config inputs
 
+-- ---- answers
+
+-- the first line notes an answer, and the rest stands behind it
+pub record SaysAnswer (text rest : List ℕ) : Type 0 where
+  pub noted : line_of (first_of text) ≡ Noted
+  pub left : rest_of text ≡ rest
+
+-- so the line of an answer is skipped, whatever stands behind it
+abbrev pub AnswersAreSkipped : Type 0
+AnswersAreSkipped = (place : ℕ) (digest rest : List ℕ) → place < 2 ^ 64 → IsSha256 digest → SaysAnswer (answer_text place digest ++ rest) rest
+
+-- a part that a record has
+abbrev pub CanStand : Part → Type 0
+CanStand (Taken input) = CanRecord input
+CanStand (Given place digest) = (place < 2 ^ 64) × IsSha256 digest
+
+-- whether a line is one of a record, or notes an answer
+abbrev pub is_of_either : Line → Bool
+is_of_either Noted = true
+is_of_either line = is_of_record line
+
+-- a record with answers has just the inputs that it has without them, in order, and says nothing else but nonces; so what comes of them is the same
+pub record ReadsWith (parts : List Part) : Type 0 where
+  pub inputs_are : inputs_in (script_lines (record_with parts)) ≡ map (λ input. said_of (read_input input)) (taken_inputs parts)
+  pub nothing_else : list_all is_of_either (script_lines (record_with parts)) ≡ true
+  pub outs_are : (config : Config) → outs config (inputs_in (script_lines (record_with parts))) ≡ outs config (map read_input (taken_inputs parts))
+  pub held_are : (config : Config) → held config (inputs_in (script_lines (record_with parts))) ≡ held config (map read_input (taken_inputs parts))
+
+-- so answers change nothing, wherever they stand between whole inputs
+abbrev pub AnswersChangeNothing : Type 0
+AnswersChangeNothing = (parts : List Part) → AllByRecursion CanStand parts → ReadsWith parts
+
 -- ---- a record that breaks off
 
 -- a byte in front of lines that have their end, where there are some; else it has to be an end itself
@@ -81,6 +114,16 @@ pub record ReadsUpTo (inputs : List Input) (front : List ℕ) : Type 0 where
 -- so a record may break off anywhere
 abbrev pub RecordsBreakOff : Type 0
 RecordsBreakOff = (inputs : List Input) (front behind : List ℕ) → AllByRecursion CanRecord inputs → front ++ behind ≡ record_of inputs → ReadsUpTo inputs front
+
+-- the same of a record with answers: so many of its parts have these inputs
+pub record ReadsWithUpTo (parts : List Part) (front : List ℕ) : Type 0 where
+  pub count : ℕ
+  pub inputs_are : inputs_in (script_lines (ended_lines front)) ≡ map (λ input. said_of (read_input input)) (taken_inputs (take count parts))
+  pub nothing_else : list_all is_of_either (script_lines (ended_lines front)) ≡ true
+
+-- so it may break off anywhere too
+abbrev pub AnswersBreakOff : Type 0
+AnswersBreakOff = (parts : List Part) (front behind : List ℕ) → AllByRecursion CanStand parts → front ++ behind ≡ record_with parts → ReadsWithUpTo parts front
 
 -- ---- the configuration
 

@@ -1,4 +1,4 @@
-use crate::{config_text, request_text, tick_text};
+use crate::{answer_text, config_text, request_text, tick_text};
 use bx_advice::{BODY_LIMIT, Config, Options};
 use bx_cut::Bodies;
 use bx_entry::read_messages;
@@ -104,6 +104,20 @@ fn ticks_have_their_moment(rt: HostRuntime) -> Result<(), Fail> {
         tick_text(alloc, 9_223_372_036_854_775_808)?.as_slice()
             == b"9223372036854775808 T\n".as_slice()
     );
+    Ok(())
+}
+
+#[test]
+fn answers_have_their_place_and_digest(rt: HostRuntime) -> Result<(), Fail> {
+    let alloc = rt.alloc();
+    let mut digest = [0u8; 32];
+    digest[0] = 0xa9;
+    digest[1] = 0x0f;
+    digest[31] = 0xff;
+    let line =
+        b"A 18446744073709551615 a90f0000000000000000000000000000000000000000000000000000000000ff\n";
+    let text = answer_text(alloc, 18_446_744_073_709_551_615, &digest)?;
+    assert!(rt; text.as_slice() == line.as_slice());
     Ok(())
 }
 

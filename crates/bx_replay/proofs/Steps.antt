@@ -10,7 +10,7 @@ use Rattle.bx_replay.specs.declared.kept.PendingLine.{PendingLine}
 use Rattle.bx_replay.proofs.{Keeping.appends_more, Keeping.appends_none, Ready.none_last}
 use Rattle.bx_advice.specs.declared.config.Config.{Config}
 use Rattle.bx_entry.specs.Words.{ReadInput, read_input, Out, held, outs}
-use Rattle.bx_script.specs.Words.{Line, Bad, Rejected, Accepted, Resharded, Announced, Numbered, inputs_from, line_of, lines_of, printed, replay_text, IsNext, NextLine, said_by, Writes, nonce_at, numbered, rest_of, with_nonce, with_nonces}
+use Rattle.bx_script.specs.Words.{Line, Bad, Rejected, Accepted, Resharded, Announced, Noted, Numbered, inputs_from, line_of, lines_of, printed, replay_text, IsNext, NextLine, said_by, Writes, nonce_at, numbered, rest_of, with_nonce, with_nonces}
 use Rattle.bx_entry.specs.declared.{Placing.Ghosts, input.Input.Input}
 use Rattle.bx_fanout.specs.Rounds.{IsRun, added_by, inputs_of, setup_in}
 use Rattle.bx_fanout.specs.Stages.{seen_out}
@@ -97,6 +97,7 @@ few_from number (Rejected status ∷ ls) = omega (arith, few_from (number + 1) l
 few_from number (Accepted callback input ∷ ls) = omega (arith, few_from (number + 1) ls)
 few_from number (Resharded shards ∷ ls) = omega (arith, few_from (number + 1) ls)
 few_from number (Announced nonce ∷ ls) = omega (arith, few_from (number + 1) ls)
+few_from number (Noted ∷ ls) = omega (arith, few_from (number + 1) ls)
 
 pub many_of : (config : Config) (ls : List Line) (inputs : List ReadInput) (added : List Out) (kept : ℕ → Option PendingLine) (number : ℕ) → Served config ls inputs added kept number → length (inputs_from 1 ls) ≡ length inputs
 many_of config ls inputs added kept number d = sym (ap length d.inputs_are ∙ length-map (inputs_from 1 ls) (λ (n : Numbered). n.input))

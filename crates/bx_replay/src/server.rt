@@ -120,6 +120,7 @@ pub fn answer<T: Threads + Sync, P: Placing + Drop + Send + Sync, W: Write>(
             server.nonce = nonce;
             Ok(server)
         }
+        Line::Noted => Ok(server),
     }
 }
 

@@ -19,6 +19,7 @@ fn told(alloc: Global, line: &Line) -> Result<String, AllocError> {
         Line::Rejected { status } => format!(in alloc; "turned {}", status.code()),
         Line::Resharded { shards } => format!(in alloc; "shards {}", shards.get()),
         Line::Announced { nonce } => format!(in alloc; "nonce {nonce}"),
+        Line::Noted => String::from_str(alloc, "note"),
         Line::Accepted { callback, input } => {
             let name = match callback {
                 Some(name) => name.as_str(),
@@ -67,10 +68,10 @@ fn all_told<R: BufRead>(alloc: Global, reader: &mut R) -> Result<String, ScriptF
 }
 
 const SCRIPT: &[u8] =
-    b"0 P []\r\n0 T\r\n\0\n0 P \0\n\n000000000000000000000000000007 T\n100000000000000000000000000007 T\n T\n00 T\n1 G jsonp=cb&message=%5B%5D\n0 G \n0 S 0\n0 S 64\n0 S 65\n0 S 00000000000000000000000000001\n0 T\n2 F message=%5B%5D&jsonp=cb&message=+\n0 F \n0 F jsonp=cb\n0 F\n3 N 000000000000000000000000000000fF\n0 N 00000000000000000000000000000ff\n0 N 0000000000000000000000000000000ff\n0 N +00000000000000000000000000000ff\n0 N 000000000000000000000000000000fg\n0 N ffffffffffffffffffffffffffffffff";
+    b"0 P []\r\n0 T\r\n\0\n0 P \0\n\n000000000000000000000000000007 T\n100000000000000000000000000007 T\n T\n00 T\n1 G jsonp=cb&message=%5B%5D\n0 G \n0 S 0\n0 S 64\n0 S 65\n0 S 00000000000000000000000000001\n0 T\n2 F message=%5B%5D&jsonp=cb&message=+\n0 F \n0 F jsonp=cb\n0 F\n3 N 000000000000000000000000000000fF\n0 N 00000000000000000000000000000ff\n0 N 0000000000000000000000000000000ff\n0 N +00000000000000000000000000000ff\n0 N 000000000000000000000000000000fg\n0 N ffffffffffffffffffffffffffffffff\nA 7 4f53cda18c2baa0c0354bb5f9a3ecbe5ed12ab4d8e11ba873c2f11161202b945\nA 18446744073709551615 4F53CDA18C2BAA0C0354BB5F9A3ECBE5ED12AB4D8E11BA873C2F11161202B945\nA 007 4f53cda18c2baa0c0354bb5f9a3ecbe5ed12ab4d8e11ba873c2f11161202b945\nA 18446744073709551616 4f53cda18c2baa0c0354bb5f9a3ecbe5ed12ab4d8e11ba873c2f11161202b945\nA 7 4f53cda18c2baa0c0354bb5f9a3ecbe5ed12ab4d8e11ba873c2f11161202b94\nA 7 4f53cda18c2baa0c0354bb5f9a3ecbe5ed12ab4d8e11ba873c2f11161202b9450\nA 7 4f53cda18c2baa0c0354bb5f9a3ecbe5ed12ab4d8e11ba873c2f11161202b94g\nA 7\nA\nA  4f53cda18c2baa0c0354bb5f9a3ecbe5ed12ab4d8e11ba873c2f11161202b945\nA 4f53cda18c2baa0c0354bb5f9a3ecbe5ed12ab4d8e11ba873c2f11161202b945\nA 7  4f53cda18c2baa0c0354bb5f9a3ecbe5ed12ab4d8e11ba873c2f11161202b945\nA -7 4f53cda18c2baa0c0354bb5f9a3ecbe5ed12ab4d8e11ba873c2f11161202b945\n5 A 7 4f53cda18c2baa0c0354bb5f9a3ecbe5ed12ab4d8e11ba873c2f11161202b945\n0A 7 4f53cda18c2baa0c0354bb5f9a3ecbe5ed12ab4d8e11ba873c2f11161202b945";
 
 const TOLD: &str =
-    "post 0 - |[]\r|;bad;bad;post 0 - |\0|;bad;tick 7;bad;bad;tick 0;post 1 cb |[]|;turned 400;bad;shards 64;bad;shards 1;tick 0;post 2 - |[]| | |;turned 400;turned 400;bad;nonce 255;bad;bad;bad;bad;nonce 340282366920938463463374607431768211455;";
+    "post 0 - |[]\r|;bad;bad;post 0 - |\0|;bad;tick 7;bad;bad;tick 0;post 1 cb |[]|;turned 400;bad;shards 64;bad;shards 1;tick 0;post 2 - |[]| | |;turned 400;turned 400;bad;nonce 255;bad;bad;bad;bad;nonce 340282366920938463463374607431768211455;note;note;note;bad;bad;bad;bad;bad;bad;bad;bad;bad;bad;bad;bad;";
 
 // Gives one byte a read, and a fault in place of the read of a number.
 #[derive(Drop)]

@@ -1,10 +1,11 @@
 -- What is kept of a line says what the line says.
 use Rattle.std.proofs.Common.{◌≡◌, ℕ, zero, suc, ◌+◌, ◌-◌, ◌*◌, ◌^◌, ◌<◌, ◌≤◌, ◌&&◌, ◌⊎◌, inl, inr, Bool, true, false, eqb, ltb, cond, List, [], ◌∷◌, ◌++◌, length, take, refl, sym, ap, subst, ◌∙◌, arith, Option, Some, None, take_all, eqb-true, fold, lit≤, le_trans, length-take-le}
 use Rattle.std.proofs.lemmas.{Grind.common_steps, List.take-append-le, Bool.lt-ltb, Bool.ltb-true, Bool.ltb-false, Bool.le-ltb, Bool.Decides.nat_tests}
-use Rattle.std.specs.{Str.Parse.digits_value, Str.Parse.digits_value_after, Char.digit_value, List.before_first, List.after_first}
+use Rattle.std.specs.Prelude.{codes, nat_eq}
+use Rattle.std.specs.{List.starts_with, Str.Parse.digits_value, Str.Parse.digits_value_after, Char.digit_value, List.before_first, List.after_first}
 use Rattle.bx_advice.specs.declared.config.TheConstants.{BODY_LIMIT}
 use Rattle.bx_message.specs.Fields.{number_of, is_digits}
-use Rattle.bx_script.specs.Words.{is_space, Bad, command, line_by, line_of, without_zeros, kept_with, keep_byte}
+use Rattle.bx_script.specs.Words.{is_space, Bad, command, line_by, line_of, noted_by, timed_line, without_zeros, kept_with, keep_byte}
 use Rattle.bx_script.specs.declared.kept.TheConstants.{KEPT_LIMIT}
 use Rattle.bx_script.proofs.Keeping.{keeps_room, keeps_behind_zero, strips, IsStripped}
 use Rattle.bx_script.proofs.Cuts.{Lacks, lacks_taken, after_all, before_it, after_it, before_past, after_past, Parted, parted}
@@ -80,10 +81,10 @@ cut_command moment _ _ long within = absurd (omega arith)
 no_command : (o : Option ℕ) → line_by o [] ≡ Bad
 no_command o = grind (arith, common_steps)
 
-no_space : (text : List ℕ) → Lacks 32 text → line_of text ≡ Bad
+no_space : (text : List ℕ) → Lacks 32 text → timed_line text ≡ Bad
 no_space text lacks = ap (line_by (number_of (before_first is_space text))) (after_all 32 text lacks) ∙ no_command _
 
-at_space : (m r : List ℕ) → Lacks 32 m → line_of (m ++ 32 ∷ r) ≡ line_by (number_of m) r
+at_space : (m r : List ℕ) → Lacks 32 m → timed_line (m ++ 32 ∷ r) ≡ line_by (number_of m) r
 at_space m r lacks =
     ap (λ l. line_by (number_of l) (after_first is_space (m ++ 32 ∷ r))) (before_it 32 m r lacks) ∙ ap (line_by (number_of m)) (after_it 32 m r lacks)
 
@@ -117,24 +118,47 @@ cut_in_rest limit (x ∷ m) r h =
     ap (λ n. take n (x ∷ (m ++ 32 ∷ r))) room ∙ ap (λ l. x ∷ l) (cut_in_rest (limit - 1) m r (omega arith)) ∙ ap (λ n. x ∷ (m ++ 32 ∷ take n r)) same
 
 cut_by : (limit : ℕ) (m r : List ℕ) → BODY_LIMIT + 32 ≤ limit → IsNormal m → Lacks 32 m → (b : Bool) → ltb (length m) limit ≡ b
-    → line_of (take limit (m ++ 32 ∷ r)) ≡ line_of (m ++ 32 ∷ r)
+    → timed_line (take limit (m ++ 32 ∷ r)) ≡ timed_line (m ++ 32 ∷ r)
 cut_by limit m r large normal lacks true e =
     let within : length m < limit = ltb-true _ _ e in
-    ap line_of (cut_in_rest limit m r within) ∙ at_space m (take (limit - length m - 1) r) lacks
+    ap timed_line (cut_in_rest limit m r within) ∙ at_space m (take (limit - length m - 1) r) lacks
     ∙ cut_rest m r (limit - length m - 1) normal (omega arith) ∙ sym (at_space m r lacks)
 cut_by limit m r large normal lacks false e =
     let past : limit ≤ length m = ltb-false _ _ e in
-    ap line_of (take-append-le limit m (32 ∷ r) past) ∙ no_space (take limit m) (lacks_taken 32 limit m lacks)
+    ap timed_line (take-append-le limit m (32 ∷ r) past) ∙ no_space (take limit m) (lacks_taken 32 limit m lacks)
     ∙ sym (at_space m r lacks ∙ ap (λ o. line_by o r) (many_digits m normal (omega arith)))
 
-pub cut_says : (limit : ℕ) (text : List ℕ) → BODY_LIMIT + 32 ≤ limit → IsNormal text → line_of (take limit text) ≡ line_of text
-cut_says limit text room normal = by_space (parted 32 text)
+cut_timed : (limit : ℕ) (text : List ℕ) → BODY_LIMIT + 32 ≤ limit → IsNormal text → timed_line (take limit text) ≡ timed_line text
+cut_timed limit text room normal = by_space (parted 32 text)
   where
-    by_space : Lacks 32 text ⊎ Parted 32 text → line_of (take limit text) ≡ line_of text
+    by_space : Lacks 32 text ⊎ Parted 32 text → timed_line (take limit text) ≡ timed_line text
     by_space (inl lacks) = no_space (take limit text) (lacks_taken 32 limit text lacks) ∙ sym (no_space text lacks)
     by_space (inr p) =
         let front = front_is_normal p.front (32 ∷ p.back) (subst IsNormal p.whole normal) in
-        ap (λ l. line_of (take limit l)) p.whole ∙ cut_by limit p.front p.back room front p.lacks (ltb (length p.front) limit) refl ∙ sym (ap line_of p.whole)
+        ap (λ l. timed_line (take limit l)) p.whole ∙ cut_by limit p.front p.back room front p.lacks (ltb (length p.front) limit) refl ∙ sym (ap timed_line p.whole)
+
+-- ---- a note
+
+cut_note : (n : ℕ) (note : List ℕ) → BODY_LIMIT < n → noted_by (take n note) ≡ noted_by note
+cut_note n note room = by_room (ltb n (length note)) refl
+  where
+    by_room : (b : Bool) → ltb n (length note) ≡ b → noted_by (take n note) ≡ noted_by note
+    by_room true e =
+        let within : n < length note = ltb-true _ _ e in
+        let short : BODY_LIMIT < length (take n note) = omega (arith, length-take-le n note (omega arith)) in
+        let whole : BODY_LIMIT < length note = omega arith in
+        rw (lt-ltb BODY_LIMIT (length (take n note)) short, lt-ltb BODY_LIMIT (length note) whole) refl
+    by_room false e = ap noted_by (take_all n note (ltb-false _ _ e))
+
+-- a line of either kind
+pub cut_says : (limit : ℕ) (text : List ℕ) → BODY_LIMIT + 32 ≤ limit → IsNormal text → line_of (take limit text) ≡ line_of text
+cut_says (suc (suc n)) (a ∷ b ∷ rest) room normal =
+    let is_note : Bool = starts_with nat_eq (a ∷ b ∷ rest) (codes "A ") in
+    ap (λ l. cond is_note l (timed_line (a ∷ b ∷ take n rest))) (cut_note n rest (omega arith))
+    ∙ ap (cond is_note (noted_by rest)) (cut_timed (suc (suc n)) (a ∷ b ∷ rest) room normal)
+cut_says limit [] room normal = ap line_of (take_all limit [] (omega arith))
+cut_says limit (a ∷ []) room normal = ap line_of (take_all limit (a ∷ []) (omega arith))
+cut_says _ (a ∷ b ∷ rest) room normal = absurd (omega arith)
 
 -- ---- zeros
 
@@ -144,7 +168,7 @@ zero_more m =
     let one : 0 < length (48 ∷ m) = omega arith in
     rw (lt-ltb 0 (length (48 ∷ 48 ∷ m)) two, lt-ltb 0 (length (48 ∷ m)) one) refl
 
-two_zeros : (xs : List ℕ) → line_of (48 ∷ 48 ∷ xs) ≡ line_of (48 ∷ xs)
+two_zeros : (xs : List ℕ) → timed_line (48 ∷ 48 ∷ xs) ≡ timed_line (48 ∷ xs)
 two_zeros xs =
     let once = before_past 32 48 xs refl in
     let twice = before_past 32 48 (48 ∷ xs) refl ∙ ap (λ l. 48 ∷ l) once in
@@ -153,7 +177,7 @@ two_zeros xs =
     ∙ ap (λ o. line_by o (after_first is_space (48 ∷ xs))) (zero_more (before_first is_space xs))
     ∙ sym (ap (λ l. line_by (number_of l) (after_first is_space (48 ∷ xs))) once)
 
-zeros_say : (xs : List ℕ) → line_of (48 ∷ without_zeros xs) ≡ line_of (48 ∷ xs)
+zeros_say : (xs : List ℕ) → timed_line (48 ∷ without_zeros xs) ≡ timed_line (48 ∷ xs)
 zeros_say [] = refl
 zeros_say (x ∷ xs) = grind (arith, common_steps, zeros_say xs, two_zeros xs, eqb-true)
 

@@ -7,7 +7,7 @@ use Rattle.bx_message.specs.Statuses.{code_of}
 use Rattle.bx_script.specs.Reading.{first_of, rest_of}
 use Rattle.bx_script.specs.Reads.{HasEnded, IsReadFault}
 use Rattle.bx_script.specs.declared.{error.ScriptFault.ScriptFault, line.Line.Line, lines.Lines.Lines}
-use Rattle.bx_script.specs.declared.line.Line.TheVariants.{Bad, Rejected, Accepted, Resharded, Announced}
+use Rattle.bx_script.specs.declared.line.Line.TheVariants.{Bad, Rejected, Accepted, Resharded, Announced, Noted}
 
 -- what a line is read as, in the words of the replay
 abbrev pub said_by : Line → replay.Line
@@ -16,6 +16,7 @@ said_by (Rejected status) = replay.Rejected (code_of status)
 said_by (Accepted callback input) = replay.Accepted (option_map string_bytes callback) (read_input input)
 said_by (Resharded shards) = replay.Resharded shards
 said_by (Announced nonce) = replay.Announced nonce
+said_by Noted = replay.Noted
 
 -- what is left of the script
 abbrev pub unread : {R : Type 0} → (R → Option (List ℕ)) → Lines R → Option (List ℕ)

@@ -1,5 +1,5 @@
 -- What a replay prints for a script, from the script's bytes to what is printed.
-use Rattle.std.specs.Prelude.{ℕ, ◌+◌, ◌==◌, ◌&&◌, Bool, List, [], ◌∷◌, ◌++◌, length, map, flat_map, fold, drop, nat_lt, nat_eq, nat_le, codes, decimal, if◌then◌else◌, Option, Some, None, slice_get, Result, Ok, Err}
+use Rattle.std.specs.Prelude.{ℕ, ◌+◌, ◌==◌, ◌&&◌, Bool, List, [], ◌∷◌, ◌++◌, length, map, flat_map, fold, drop, nat_lt, nat_eq, nat_le, codes, decimal, if◌then◌else◌, Option, Some, None, is_some, slice_get, Result, Ok, Err}
 use Rattle.std.specs.{Char.is_ascii_hexdigit, List.starts_with, List.slice_split, List.before_first, List.after_first, List.list_all, Str.bytes_eq, Str.Parse.digits_value}
 use Rattle.bx_advice.specs.declared.config.Config.{Config}
 use Rattle.bx_advice.specs.declared.config.TheConstants.{BODY_LIMIT}
@@ -65,13 +65,14 @@ query_by (Err error) = not_taken error
 abbrev pub query_taken : List ℕ → Taken
 query_taken query = query_by (get_taken query)
 
--- a line of another form, one that its transport refuses, an input with the name of its callback, or what is no input: a change of the number of shards, or the nonce of a request that comes
+-- a line of another form, one that its transport refuses, an input with the name of its callback, or what is no input: a change of the number of shards, the nonce of a request that comes, or a note of an answer, which says nothing of what comes
 pub data Line : Type 0 where
   Bad : Line
   Rejected : (status : ℕ) → Line
   Accepted : (callback : Option (List ℕ)) → (input : ReadInput) → Line
   Resharded : (shards : ℕ) → Line
   Announced : (nonce : ℕ) → Line
+  Noted : Line
 
 -- the documents of a request, with the nonce 0 until lines give it theirs
 abbrev pub handed_by : ℕ → Taken → Line
@@ -116,8 +117,22 @@ line_by None rest = Bad
 line_by (Some moment) rest = command moment rest
 
 -- a moment, a space and a command
+abbrev pub timed_line : List ℕ → Line
+timed_line text = line_by (number_of (before_first is_space text)) (after_first is_space text)
+
+-- whether these are 64 hexadecimal digits of either case
+abbrev pub is_digest : List ℕ → Bool
+is_digest digits = length digits == 64 && list_all is_ascii_hexdigit digits
+
+-- a place, which is digits that fit 64 bits, a space and a digest; they aren't read where they are more than a body may have bytes
+abbrev pub noted_by : List ℕ → Line
+noted_by note =
+    if nat_lt BODY_LIMIT (length note) then Bad
+    else (if is_some (number_of (before_first is_space note)) && is_digest (after_first is_space note) then Noted else Bad)
+
+-- a note of an answer, or a line with a moment
 abbrev pub line_of : List ℕ → Line
-line_of text = line_by (number_of (before_first is_space text)) (after_first is_space text)
+line_of text = if starts_with nat_eq text (codes "A ") then noted_by (drop 2 text) else timed_line text
 
 -- ---- nonces
 
@@ -138,7 +153,7 @@ nonce_left nonce (Request moment other messages) = 0
 nonce_left nonce (Unread fault) = 0
 nonce_left nonce (Tick moment) = nonce
 
--- and behind a line: what is announced replaces it, and what is no input leaves it
+-- and behind a line: what is announced replaces it, and what else is no input leaves it
 abbrev pub nonce_behind : ℕ → Line → ℕ
 nonce_behind nonce (Announced other) = other
 nonce_behind nonce (Accepted callback input) = nonce_left nonce input
@@ -200,6 +215,7 @@ printed_from ws numbered number index (Rejected status ∷ ls) = line_text numbe
 printed_from ws numbered number index (Accepted callback input ∷ ls) = outs_at ws numbered index ++ printed_from ws numbered (number + 1) (index + 1) ls
 printed_from ws numbered number index (Resharded shards ∷ ls) = printed_from ws numbered (number + 1) index ls
 printed_from ws numbered number index (Announced nonce ∷ ls) = printed_from ws numbered (number + 1) index ls
+printed_from ws numbered number index (Noted ∷ ls) = printed_from ws numbered (number + 1) index ls
 
 -- an input that isn't whole at the end
 abbrev pub held_text : Option Numbered → List ℕ

@@ -4,4 +4,4 @@ pub use Rattle.bx_script.specs.Lines.{CannotRead, IsNext, NextLine, reads_left, 
 pub use Rattle.bx_script.specs.Output.{HasFailed, IsWriteFault, written}
 pub use Rattle.bx_script.specs.Printing.{AppendsFront, Writes, is_tick, numbered}
 pub use Rattle.bx_script.specs.Reading.{IsCut, PartRead, ReadsLine, ReadsPart, first_of, rest_of}
-pub use Rattle.bx_script.specs.Replay.{Accepted, Announced, Bad, Line, Numbered, Refused, Rejected, Resharded, announced_by, body_taken, command, form_taken, handed_by, held_text, inputs_from, is_newline, is_space, line_by, line_of, line_text, line_with, lines_of, nonce_at, nonce_behind, nonce_left, nonce_of, out_by, printed, query_taken, replay_text, resharded_by, result_text, with_nonce, with_nonces, without_empty_end}
+pub use Rattle.bx_script.specs.Replay.{Accepted, Announced, Bad, Line, Noted, Numbered, Refused, Rejected, Resharded, announced_by, body_taken, command, form_taken, handed_by, held_text, inputs_from, is_digest, is_newline, is_space, line_by, line_of, line_text, line_with, lines_of, nonce_at, nonce_behind, nonce_left, nonce_of, noted_by, out_by, printed, query_taken, replay_text, resharded_by, result_text, timed_line, with_nonce, with_nonces, without_empty_end}

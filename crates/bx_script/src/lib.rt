@@ -1,6 +1,7 @@
 //! The lines of a script: how they are read, what each says, and what is printed for it.
 #![tactic(auto)]
 
+mod digest;
 mod error;
 mod kept;
 mod line;

@@ -5,9 +5,10 @@ ghost use Rattle.bx_cut.specs.Bodies.{texts_of};
 ghost use Rattle.bx_message.specs.Statuses.{code_of};
 ghost use Rattle.bx_transport.specs.Statuses.{transport_status};
 ghost use Rattle.bx_transport.specs.Transports.{post_taken};
-ghost use Rattle.bx_script.specs.Replay.{Documents, Rejected, announced_by, body_by, command, handed_by, is_space, line_of, query_taken, resharded_by, reshards};
+ghost use Rattle.bx_script.specs.Replay.{Documents, Rejected, announced_by, body_by, command, handed_by, is_space, line_of, noted_by, query_taken, resharded_by, reshards, timed_line};
 ghost use Rattle.bx_script.specs.Lines.{said_by};
 
+use crate::digest::is_digest;
 use crate::nonce::nonce_of;
 use bx_advice::{BODY_LIMIT, ShardCount};
 use bx_cut::Bodies;
@@ -46,21 +47,34 @@ pub enum Line {
         /// This one.
         nonce: u128,
     },
+    /// A note of an answer that was given, which says nothing of what comes.
+    Noted,
 }
 
 impl Line {
     /// Reads a line: digits, which are a moment in milliseconds, a space, and behind them `T` alone, `P`
     /// with a space and a body, `F` with a space and a form, `G` with a space and a query, `S` with a space
-    /// and a number of shards, or `N` with a space and 32 hexadecimal digits, which are a nonce. A body is
-    /// copied once. An error means that memory was refused.
+    /// and a number of shards, or `N` with a space and 32 hexadecimal digits, which are a nonce. A note of an
+    /// answer has no moment: it is `A`, a space, digits, which are a place, a space, and 64 hexadecimal digits,
+    /// which are a SHA-256. A body is copied once. An error means that memory was refused.
     pub fn read(alloc: Global, text: &[u8]) -> Result<Line, AllocError>
         ensures said { IfOk result (λ line. said_by line ≡ line_of text.now) }
     {
-        let (digits, rest) = cut_at_space(text);
-        match number_of(digits) {
-            Some(moment) => read_command(alloc, moment, rest),
-            None => Ok(Line::Bad),
+        match text.strip_prefix(b"A ") {
+            Some(note) => Ok(read_note(note)),
+            None => read_timed(alloc, text),
         }
+    }
+}
+
+// A line that has a moment.
+fn read_timed(alloc: Global, text: &[u8]) -> Result<Line, AllocError>
+    ensures { IfOk result (λ line. said_by line ≡ timed_line text.now) }
+{
+    let (digits, rest) = cut_at_space(text);
+    match number_of(digits) {
+        Some(moment) => read_command(alloc, moment, rest),
+        None => Ok(Line::Bad),
     }
 }
 
@@ -191,5 +205,20 @@ fn read_nonce(digits: &[u8]) -> Line
     match nonce_of(digits) {
         Some(nonce) => Line::Announced { nonce },
         None => Line::Bad,
+    }
+}
+
+// The note of an answer that a place and a digest are.
+fn read_note(note: &[u8]) -> Line
+    ensures { said_by result ≡ noted_by note.now }
+{
+    if note.len() > BODY_LIMIT {
+        return Line::Bad;
+    }
+    let (place, digest) = cut_at_space(note);
+    if number_of(place).is_some() && is_digest(digest) {
+        Line::Noted
+    } else {
+        Line::Bad
     }
 }

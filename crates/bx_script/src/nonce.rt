@@ -20,7 +20,7 @@ pub(crate) fn nonce_of(digits: &[u8]) -> Option<u128>
     }
 }
 
-fn are_hexadecimal(bytes: &[u8]) -> bool
+pub(crate) fn are_hexadecimal(bytes: &[u8]) -> bool
     ensures { result ≡ list_all is_ascii_hexdigit bytes.now }
 {
     bytes.iter().all(|byte| byte.is_ascii_hexdigit())

@@ -3,7 +3,7 @@ use Rattle.std.proofs.Common.{◌≡◌, ℕ, zero, suc, ◌+◌, ◌<◌, ◌�
 use Rattle.std.proofs.lemmas.{Grind.common_steps, Grind.flat_map-append, List.map-append, List.append_cancel_left, List.length-map, List.Sums.fold-append}
 use Rattle.bx_advice.specs.declared.config.Config.{Config}
 use Rattle.bx_entry.specs.Words.{ReadInput, Registry, registry, Intake, Taking, take_in, taken_in, Out, numbers_from, Whole, whole_of, wholes_from, wholes, is_at, whole_at, outs}
-use Rattle.bx_script.specs.Replay.{Line, Bad, Rejected, Accepted, Resharded, Announced, Numbered, inputs_from, line_text, out_by, outs_at, printed_from}
+use Rattle.bx_script.specs.Replay.{Line, Bad, Rejected, Accepted, Resharded, Announced, Noted, Numbered, inputs_from, line_text, out_by, outs_at, printed_from}
 use Rattle.bx_theory.specs.Lines.{inputs_in, printed_so_far, AddsOuts, outs_text, line_prints, InputsGoOn, LinesGoOn, HeldComeLast}
 use Rattle.bx_theory.proofs.Wholes.{Took, took, whole_push, numbers_split, flat_same, Grows, grows, ends_of, many_of}
 
@@ -34,6 +34,7 @@ first_prints ws numbered number index (Rejected status) ls = text_first (line_te
 first_prints ws numbered number index (Accepted callback input) ls = text_first (outs_at ws numbered index) (printed_from ws numbered (number + 1) (index + 1) ls) (printed_from ws numbered (number + 1) (index + 1) ls) refl
 first_prints ws numbered number index (Resharded shards) ls = ap (λ (i : ℕ). printed_from ws numbered (number + 1) i ls) (let e : index ≡ index + 0 = omega arith in e)
 first_prints ws numbered number index (Announced nonce) ls = ap (λ (i : ℕ). printed_from ws numbered (number + 1) i ls) (let e : index ≡ index + 0 = omega arith in e)
+first_prints ws numbered number index Noted ls = ap (λ (i : ℕ). printed_from ws numbered (number + 1) i ls) (let e : index ≡ index + 0 = omega arith in e)
 
 prints_on : (ws : List Whole) (numbered : List Numbered) (number index : ℕ) (ls ms : List Line) →
     printed_from ws numbered number index (ls ++ ms) ≡ printed_from ws numbered number index ls ++ printed_from ws numbered (number + length ls) (index + length (inputs_from number ls)) ms
@@ -67,6 +68,7 @@ prints_same ws us numbered many number index end (Accepted callback input ∷ ls
     ∙ ap (λ (t : List ℕ). outs_at us many index ++ t) (prints_same ws us numbered many (number + 1) (index + 1) end ls (omega arith) e)
 prints_same ws us numbered many number index end (Resharded shards ∷ ls) h e = prints_same ws us numbered many (number + 1) index end ls h e
 prints_same ws us numbered many number index end (Announced nonce ∷ ls) h e = prints_same ws us numbered many (number + 1) index end ls h e
+prints_same ws us numbered many number index end (Noted ∷ ls) h e = prints_same ws us numbered many (number + 1) index end ls h e
 
 InputsBelow : ℕ → List Out → Type 0
 InputsBelow n [] = Unit {0}
@@ -143,6 +145,7 @@ last_prints config inputs ws numbered number index (Accepted callback input) mor
     ∙ ap (outs_text numbered) (append_cancel_left (outs config inputs) (whole_at (length inputs) (wholes config (inputs ++ input ∷ []))) more (sym (outs_last config inputs input room) ∙ a))
 last_prints config inputs ws numbered number index (Resharded shards) more room i a e = refl
 last_prints config inputs ws numbered number index (Announced nonce) more room i a e = refl
+last_prints config inputs ws numbered number index Noted more room i a e = refl
 
 pub inputs_go_on : InputsGoOn
 inputs_go_on ls l = inputs_on 1 ls (l ∷ []) ∙ ap (λ (n : ℕ). inputs_from 1 ls ++ inputs_from n (l ∷ [])) (let e : 1 + length ls ≡ length ls + 1 = omega arith in e)

@@ -7,7 +7,7 @@ use Rattle.bx_message.specs.Fields.{number_of}
 use Rattle.bx_entry.specs.declared.input.BodyError.{BodyError}
 use Rattle.bx_entry.specs.Inputs.{Request, Unread, Tick}
 use Rattle.bx_entry.specs.Words.{read_by, request_messages}
-use Rattle.bx_script.specs.Replay.{Line, Bad, Rejected, Accepted, Resharded, Announced, Taken, Refused, Documents, announces, body_taken, command, form_taken, handed_by, is_space, line_by, line_of, line_with, nonce_behind, nonce_of, query_taken, resharded_by, reshards, with_nonce, with_nonces}
+use Rattle.bx_script.specs.Replay.{Line, Bad, Rejected, Accepted, Resharded, Announced, Noted, Taken, Refused, Documents, announces, body_taken, command, form_taken, handed_by, is_space, line_by, line_of, line_with, nonce_behind, nonce_of, noted_by, query_taken, resharded_by, reshards, with_nonce, with_nonces}
 use Rattle.bx_theory.specs.Lines.{NoncesGoOn, NoncesStay, says_no_nonce}
 
 -- ---- one line, and the lines behind it
@@ -69,9 +69,19 @@ none_command moment rest =
     (none_by _ _ _ (none_shards behind)
     (none_by _ _ _ (none_announced (nonce_of behind)) none_bad)))))
 
-none_line : (o : Option ℕ) (rest : List ℕ) → HasNone (line_by o rest)
-none_line None rest = none_bad
-none_line (Some moment) rest = none_command moment rest
+none_timed : (o : Option ℕ) (rest : List ℕ) → HasNone (line_by o rest)
+none_timed None rest = none_bad
+none_timed (Some moment) rest = none_command moment rest
+
+none_note : HasNone Noted
+unfolding HasNone
+none_note = refl
+
+none_noted : (note : List ℕ) → HasNone (noted_by note)
+none_noted note = none_by _ Bad _ none_bad (none_by _ Noted Bad none_note none_bad)
+
+none_line : (text : List ℕ) → HasNone (line_of text)
+none_line text = none_by _ _ _ (none_noted (drop 2 text)) (none_timed (number_of (before_first is_space text)) (after_first is_space text))
 
 stays : (l : Line) → says_no_nonce l ≡ true → nonce_behind 0 l ≡ 0
 stays Bad h = refl
@@ -81,12 +91,13 @@ stays (Accepted callback (Unread fault)) h = refl
 stays (Accepted callback (Tick moment)) h = refl
 stays (Resharded shards) h = refl
 stays (Announced nonce) h = cc
+stays Noted h = refl
 
 pub nonces_stay : NoncesStay
 unfolding HasNone
 nonces_stay [] h = refl
 nonces_stay (text ∷ texts) h =
     let parts = and_parts (says_no_nonce (line_of text)) (list_all says_no_nonce (map line_of texts)) h in
-    ap (λ (l : Line). l ∷ with_nonces (nonce_behind 0 (line_of text)) (map line_of texts)) (none_line (number_of (before_first is_space text)) (after_first is_space text))
+    ap (λ (l : Line). l ∷ with_nonces (nonce_behind 0 (line_of text)) (map line_of texts)) (none_line text)
     ∙ ap (λ (n : ℕ). line_of text ∷ with_nonces n (map line_of texts)) (stays (line_of text) parts.0)
     ∙ ap (λ (us : List Line). line_of text ∷ us) (nonces_stay texts parts.1)

@@ -3,7 +3,7 @@ use Rattle.std.specs.Prelude.{ℕ, ◌+◌, ◌<◌, ◌≡◌, Bool, true, fals
 use Rattle.std.specs.List.{list_all}
 use Rattle.bx_advice.specs.declared.config.Config.{Config}
 use Rattle.bx_entry.specs.Words.{ReadInput, Out, wholes, outs, held}
-use Rattle.bx_script.specs.Replay.{Line, Bad, Rejected, Accepted, Resharded, Announced, Numbered, inputs_from, line_of, line_text, line_with, nonce_at, out_by, printed_from, printed, held_text, with_nonces}
+use Rattle.bx_script.specs.Replay.{Line, Bad, Rejected, Accepted, Resharded, Announced, Noted, Numbered, inputs_from, line_of, line_text, line_with, nonce_at, out_by, printed_from, printed, held_text, with_nonces}
 
 -- the inputs among a script's first lines
 abbrev pub inputs_in : List Line → List ReadInput
@@ -29,6 +29,7 @@ line_prints number numbered (Rejected status) more = line_text number (decimal s
 line_prints number numbered (Accepted callback input) more = outs_text numbered more
 line_prints number numbered (Resharded shards) more = []
 line_prints number numbered (Announced nonce) more = []
+line_prints number numbered Noted more = []
 
 -- One more line's input stands behind those before it;
 abbrev pub InputsGoOn : Type 0

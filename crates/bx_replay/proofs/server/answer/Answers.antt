@@ -121,6 +121,23 @@ returns-in-Announced-clause-prints g c =
     let writer = written g.W.Write.contents c.args.writer.now in
     prints_bare (setup_in s.round).config s.lines c.push.new.self c.args.line (Line.Announced c.in-Announced.nonce) [] [] writer writer (setup_in s.round).config.limits.some_batch c.push.ensures c.in-Announced.is tt refl (appends_none writer)
 
+pub returns-in-Noted-clause-serves : goal.returns-in-Noted-clause-serves
+returns-in-Noted-clause-serves g c =
+    let s = c.args.server in
+    record {
+      served = served_line (setup_in s.round).config s.lines c.push.new.self c.args.line Line.Noted (inputs_of s.round) (added_by s.round) (get nat_cmp s.kept) s.number c.push.ensures c.in-Noted.is (λ n. refl) c.requires.serves.served;
+      nonce_is = nonce_more s.lines c.push.new.self c.args.line Line.Noted s.nonce c.push.ensures c.in-Noted.is c.requires.serves.nonce_is;
+    }
+
+pub returns-in-Noted-clause-prints : goal.returns-in-Noted-clause-prints
+returns-in-Noted-clause-prints g c =
+    let s = c.args.server in
+    let writer = written g.W.Write.contents c.args.writer.now in
+    prints_bare (setup_in s.round).config s.lines c.push.new.self c.args.line Line.Noted [] [] writer writer (setup_in s.round).config.limits.some_batch c.push.ensures c.in-Noted.is tt refl (appends_none writer)
+
+pub returns-in-Noted-clause-shards : goal.returns-in-Noted-clause-shards
+returns-in-Noted-clause-shards g c = ap (λ (l : Line). shards_after l (setup_in c.args.server.round).shards) (sym c.in-Noted.is)
+
 pub returns-in-Announced-clause-shards : goal.returns-in-Announced-clause-shards
 returns-in-Announced-clause-shards g c = ap (λ (l : Line). shards_after l (setup_in c.args.server.round).shards) (sym c.in-Announced.is)
 
