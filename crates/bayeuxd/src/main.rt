@@ -10,7 +10,6 @@ mod serve;
 mod ticker;
 
 use bx_figures::Counts;
-use bx_recorder::CountedFile;
 use bx_service::BodyLimit;
 use bx_settings::{Seed, Settings, read_flags, read_seed, read_words};
 use end::tell_at_end;
@@ -18,7 +17,7 @@ use figures::show_figures;
 use futures::channel::oneshot;
 use futures::channel::oneshot::{Receiver, Sender};
 use log::info;
-use recorder::make_record;
+use recorder::{RecordFile, make_record};
 use serve::{ServeEnd, Serving, serve};
 use std::alloc::{AllocError, Global};
 use std::fs::File;
@@ -143,11 +142,11 @@ fn parts_of(rt: &HostRuntime, settings: &Settings<'_>) -> Result<Parts, ExitCode
 fn record_of(
     rt: &HostRuntime,
     settings: &Settings<'_>,
-) -> Result<Option<CountedFile<File>>, ExitCode> {
+) -> Result<Option<RecordFile<File>>, ExitCode> {
     let Some(path) = settings.record_file else {
         return Ok(None);
     };
-    match make_record(rt, path, &settings.config) {
+    match make_record(rt, path, &settings.config, settings.record_answers) {
         Ok(file) => Ok(Some(file)),
         Err(error) => Err(refused_at(rt, CANNOT_RECORD, path, &error)),
     }
@@ -203,10 +202,11 @@ fn settings_text(alloc: Global, settings: &Settings<'_>) -> Result<String, Alloc
     write!(text, " ride={} anonymous={}", config.ride, config.anonymous)?;
     write!(
         text,
-        " connections={} figures={} record={} until_eof={}",
+        " connections={} figures={} record={} record_answers={} until_eof={}",
         settings.connections,
         settings.figures.unwrap_or("-"),
         settings.record_file.unwrap_or("-"),
+        settings.record_answers,
         settings.until_eof
     )?;
     Ok(text)

@@ -1,12 +1,13 @@
 //! The record of what the hub lists: its file, and the thread that writes it.
 use bx_advice::Config;
+use bx_answers::{AnswerFault, AnswerLog, TakenAnswers};
 use bx_entry::ByRemainder;
-use bx_hub::{Hub, OpenGate, RecordFault, TakenRecord};
+use bx_hub::{Hub, OpenGate, RecordFault, RecordFront};
 use bx_record::config_text;
-use bx_recorder::{CountedFile, End, Source, Taken, Written, write_out};
+use bx_recorder::{CountedFile, End, Out, Source, Taken, Written, write_out};
 use bx_window::Naming;
 use log::{Log, info, warn};
-use std::alloc::{AllocGlobal, Global};
+use std::alloc::{AllocError, AllocGlobal, Global};
 use std::fs::{File, OpenOptions};
 use std::io::Write;
 use std::os::unix::fs::OpenOptionsExt;
@@ -19,8 +20,21 @@ use std::{io, thread};
 // Who may read the file of a record, and write it: its owner alone.
 const OWNERS: u32 = 0o600;
 
+/// The file of a record.
+#[derive(Drop)]
+pub struct RecordFile<F> {
+    file: CountedFile<F>,
+    /// Whether the digests of answers stand there too.
+    has_answers: bool,
+}
+
 /// Makes the file of a record, with the line that says how the server is run. `Err` where there is such a file, or where the system refuses it.
-pub fn make_record(rt: &HostRuntime, path: &str, config: &Config) -> io::Result<CountedFile<File>> {
+pub fn make_record(
+    rt: &HostRuntime,
+    path: &str,
+    config: &Config,
+    has_answers: bool,
+) -> io::Result<RecordFile<File>> {
     let file = OpenOptions::new()
         .write(true)
         .create_new(true)
@@ -29,13 +43,14 @@ pub fn make_record(rt: &HostRuntime, path: &str, config: &Config) -> io::Result<
     let mut file = CountedFile::new(file);
     file.write_all(config_text(rt.alloc(), config)?.as_slice())?;
     info!(rt; target: "bayeuxd", "recording to {path}");
-    Ok(file)
+    Ok(RecordFile { file, has_answers })
 }
 
 /// The thread that writes the record, where there is one.
 #[derive(Drop)]
 pub struct Recorder {
     thread: Option<JoinHandle<()>>,
+    answers: Option<Arc<AnswerLog, Global>>,
     is_over: Arc<AtomicBool, Global>,
 }
 
@@ -45,7 +60,7 @@ impl Recorder {
     pub fn start<J, R, F>(
         rt: R,
         hub: &Arc<Hub<J, ByRemainder, OpenGate, R>, Global>,
-        file: Option<CountedFile<F>>,
+        file: Option<RecordFile<F>>,
     ) -> io::Result<Recorder>
     where
         J: Naming + Send + Sync + 'static,
@@ -54,29 +69,51 @@ impl Recorder {
     {
         let alloc = rt.alloc();
         let is_over = Arc::new(alloc, AtomicBool::new(false))?;
-        let thread = match file {
-            Some(file) => {
-                let record = HubRecord {
-                    rt,
-                    hub: Arc::try_clone(hub)?,
-                };
-                let over = Arc::try_clone(&is_over)?;
-                if !hub.start_record(&rt, alloc) {
-                    return Err(io::ErrorKind::InvalidInput.into());
-                }
-                Some(thread::spawn(
-                    &rt,
-                    move || tell(&rt, &write_out(&rt, alloc, record, file, &*over)),
-                )?)
-            }
-            None => None,
+        let Some(RecordFile { file, has_answers }) = file else {
+            return Ok(Recorder {
+                thread: None,
+                answers: None,
+                is_over,
+            });
         };
-        Ok(Recorder { thread, is_over })
+        let log = Arc::new(alloc, AnswerLog::new(alloc))?;
+        let record = HubRecord {
+            rt,
+            alloc,
+            hub: Arc::try_clone(hub)?,
+            log: Arc::try_clone(&log)?,
+        };
+        let over = Arc::try_clone(&is_over)?;
+        let Some(start) = hub.start_record(&rt, alloc) else {
+            return Err(io::ErrorKind::InvalidInput.into());
+        };
+        let out = Out::new(file, start);
+        let thread = thread::spawn(
+            &rt,
+            move || tell(&rt, &write_out(&rt, alloc, record, out, &*over)),
+        )?;
+        Ok(Recorder {
+            thread: Some(thread),
+            answers: has_answers.then_some(log),
+            is_over,
+        })
+    }
+
+    /// Where answers are noted, where they are.
+    pub fn answers(&self) -> Result<Option<Arc<AnswerLog, Global>>, AllocError> {
+        match &self.answers {
+            Some(log) => Ok(Some(Arc::try_clone(log)?)),
+            None => Ok(None),
+        }
     }
 
     /// Writes what waits, and ends.
     pub fn end<R: Threads>(self, rt: &R) {
-        let Recorder { thread, is_over } = self;
+        let Recorder {
+            thread,
+            is_over,
+            ..
+        } = self;
         is_over.store(true, Ordering::SeqCst);
         if let Some(thread) = thread {
             thread.join(rt);
@@ -84,34 +121,64 @@ impl Recorder {
     }
 }
 
+// Why a record goes no further than to a place of the list, the end of what it has.
+#[derive(Clone, Copy, Debug)]
+struct Ended {
+    fault: RecordFault,
+    place: u64,
+}
+
 // The record of a hub, as it waits to be written.
 #[derive(Drop)]
 struct HubRecord<J: Naming, R: Wait + Drop> {
     rt: R,
+    alloc: Global,
     hub: Arc<Hub<J, ByRemainder, OpenGate, R>, Global>,
+    log: Arc<AnswerLog, Global>,
 }
 
-impl<J: Naming, R: Wait + Drop> Source for HubRecord<J, R> {
-    type Fault = RecordFault;
+impl<J: Naming, R: Wait + Log + Drop> Source for HubRecord<J, R> {
+    type Front = RecordFront<J>;
 
-    fn take(&mut self, empty: Vec<u8>) -> Option<Taken<RecordFault>> {
-        let TakenRecord { bytes, fault, .. } = self.hub.take_record(&self.rt, empty)?;
-        Some(Taken { bytes, fault })
+    type Fault = Ended;
+
+    fn waiting(&self) -> usize {
+        self.hub.record_waiting(&self.rt)
+    }
+
+    fn take(&mut self, empty: Vec<u8>) -> Option<Taken<RecordFront<J>, Ended>> {
+        let Taken { chunk, fault } = self.hub.take_record(&self.rt, empty)?;
+        let place = chunk.upto().place();
+        Some(Taken {
+            chunk,
+            fault: fault.map(|fault| Ended { fault, place }),
+        })
+    }
+
+    // A request is listed before its answer is noted.
+    fn take_notes(&mut self, empty: Vec<u8>) -> Vec<u8> {
+        let TakenAnswers { bytes, fault, .. } = self.log.take(&self.rt, empty);
+        if let Some(fault) = fault {
+            let why = lack_of(fault);
+            warn!(&self.rt; target: "bayeuxd", "answers are recorded no further: {why}");
+        }
+        bytes
     }
 
     fn stop(&mut self) {
         self.hub.stop_record(&self.rt);
+        self.log.stop(&self.rt, self.alloc);
     }
 }
 
 // Says what was written.
-fn tell<R: Log>(rt: &R, written: &Written<RecordFault>) {
+fn tell<R: Log>(rt: &R, written: &Written<Ended>) {
     let count = written.count;
     match &written.end {
         End::Told => info!(rt; target: "bayeuxd", "recorded {count} bytes"),
-        End::Ended(fault) => {
+        End::Ended(Ended { fault, place }) => {
             let why = why_of(*fault);
-            warn!(rt; target: "bayeuxd", "record ended after {count} bytes: {why}");
+            warn!(rt; target: "bayeuxd", "record ended after {count} bytes, at place {place}: {why}");
         }
         End::Gone => {
             warn!(rt; target: "bayeuxd", "record ended after {count} bytes: nothing is recorded");
@@ -119,6 +186,14 @@ fn tell<R: Log>(rt: &R, written: &Written<RecordFault>) {
         End::Refused(error) => {
             warn!(rt; target: "bayeuxd", "record ended after {count} bytes: {error}");
         }
+    }
+}
+
+// What a line says of it.
+fn lack_of(fault: AnswerFault) -> &'static str {
+    match fault {
+        AnswerFault::Full => "more than 64 MiB would wait to be written",
+        AnswerFault::Memory => "out of memory",
     }
 }
 

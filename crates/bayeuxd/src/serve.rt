@@ -4,15 +4,15 @@ ghost use Rattle.bx_entry.specs.Placings.{by_remainder};
 
 use crate::clock::{Drawn, SinceStart};
 use crate::end::Closing;
-use crate::recorder::Recorder;
+use crate::recorder::{RecordFile, Recorder};
 use crate::ticker::tick;
 use bx_advice::Config;
+use bx_answers::NotedBackend;
 use bx_counted::{CountedBackend, CountedService};
 use bx_entry::ByRemainder;
 use bx_figures::Counts;
 use bx_hub::{Hub, OpenGate};
 use bx_message::Item;
-use bx_recorder::CountedFile;
 use bx_serve::serve_until;
 use bx_service::{Backend, BayeuxService, BodyLimit, HubBackend, Unanswered};
 use bx_window::{Naming, Opened};
@@ -69,7 +69,7 @@ pub fn serve<R, F, W>(
     rt: R,
     addresses: &[SocketAddr],
     arguments: Serving,
-    record_file: Option<CountedFile<F>>,
+    record_file: Option<RecordFile<F>>,
     counts: &Arc<Counts, Global>,
     told: Receiver<()>,
     writer: &mut W,
@@ -102,7 +102,7 @@ fn begin<R, F, W>(
     rt: R,
     addresses: &[SocketAddr],
     arguments: Serving,
-    record_file: Option<CountedFile<F>>,
+    record_file: Option<RecordFile<F>>,
     counts: &Arc<Counts, Global>,
     told: Receiver<()>,
     writer: &mut W,
@@ -145,7 +145,7 @@ fn run<J, R, F, W>(
     opened: Opened,
     addresses: &[SocketAddr],
     arguments: Serving,
-    record_file: Option<CountedFile<F>>,
+    record_file: Option<RecordFile<F>>,
     start: Instant,
     placing: Arc<ByRemainder, Global>,
     counts: &Arc<Counts, Global>,
@@ -198,9 +198,10 @@ where
         counts: Arc::try_clone(counts)?,
         told,
     };
-    let backend = backend_of(rt, alloc, Arc::try_clone(&hub)?, clock, arguments.seed);
     // Before anything is listed, as by the first tick.
     let recorder = Recorder::start(rt, &hub, record_file)?;
+    let backend = backend_of(rt, alloc, Arc::try_clone(&hub)?, clock, arguments.seed);
+    let backend = NotedBackend::new(rt, alloc, backend, recorder.answers()?);
     let ticker = thread::spawn(
         &rt,
         move || tick(&rt, alloc, &*ticked, &clock, &*counted, crowd, &*over),

@@ -14,6 +14,7 @@ use Rattle.bx_entry.specs.Listing as messages
 use Rattle.bx_advice.specs.Limits.{greatest_length}
 use Rattle.bx_advice.specs.declared.config.Config.{Config}
 use Rattle.bx_entry.specs.Words.{ReadInput, added_by, refusal_of, refused_beyond, Listed, entries}
+use Rattle.bx_entry.specs.declared.input.Input.{Input}
 use Rattle.bx_entry.specs.declared.entry.Entry.{Entry}
 use Rattle.bx_theory.proofs.Lists.{entries_length}
 use Rattle.bx_registry.specs.declared.plan.AdmitFault.{AdmitFault}
@@ -38,11 +39,11 @@ entries_many l p c =
     omega (arith, all, old, ap (λ (es : List Entry). length es) c.entries, length-append (entries l.config l.list) p.batch.entries, length-append l.list p.elements)
 
 -- a plan continues the list of the window
-pub continues : (config : Config) (list : List Listed) (l : Standing) (p : Plan) → l.config ≡ config → l.list ≡ list → Continues l p → 0 < length p.batch.entries →
-    places.Continues config list (record { batch = p.batch; elements = p.elements })
-continues config list l p same is c some =
-    subst (λ (k : Config). places.Continues k list (record { batch = p.batch; elements = p.elements })) same
-    (subst (λ (xs : List Listed). places.Continues l.config xs (record { batch = p.batch; elements = p.elements })) is
+pub continues : (config : Config) (list : List Listed) (l : Standing) (p : Plan) (inputs : List Input) → l.config ≡ config → l.list ≡ list → Continues l p → 0 < length p.batch.entries →
+    places.Continues config list (record { batch = p.batch; elements = p.elements; inputs = inputs })
+continues config list l p inputs same is c some =
+    subst (λ (k : Config). places.Continues k list (record { batch = p.batch; elements = p.elements; inputs = inputs })) same
+    (subst (λ (xs : List Listed). places.Continues l.config xs (record { batch = p.batch; elements = p.elements; inputs = inputs })) is
     (record { first = c.first; some = some; entries = c.entries }))
 
 -- the list with the batch has its end

@@ -7,6 +7,7 @@ pub mod Listables
 pub mod Lying
 pub mod Posts
 pub mod Records
+pub mod Recordings
 pub mod Surveys
 pub mod Watches
 pub mod Waking

@@ -1,10 +1,13 @@
 -- What is recorded of a list.
-use Rattle.std.specs.Prelude.{List, [], ◌∷◌}
+use Rattle.std.specs.Prelude.{ℕ, ◌≡◌, List, [], ◌∷◌, ◌++◌, Result, Ok, Err}
 use Rattle.std.specs.List.{flat_map, AllByRecursion}
 use Rattle.std.proofs.Props.{props}
+use Rattle.bx_cut.specs.Bodies.{texts_of}
 use Rattle.bx_entry.specs.Inputs.{added_by}
 use Rattle.bx_entry.specs.Listing.{Listed}
-use Rattle.bx_entry.specs.Requests.{read_input}
+use Rattle.bx_message.specs.declared.message.Message.{Message}
+use Rattle.bx_entry.specs.Requests.{read_input, request_messages}
+use Rattle.bx_entry.specs.declared.input.BodyError.{BodyError}
 use Rattle.bx_entry.specs.declared.input.Input.{Input}
 use Rattle.bx_entry.specs.declared.input.Input.TheVariants.{Post, Tick}
 use Rattle.bx_record.specs.Laws.{CanRecord}
@@ -15,6 +18,35 @@ use Rattle.bx_hub.specs.declared.listable.Listable.TheVariants as listable
 abbrev pub input_in : Listable → Input
 input_in (listable.Request r) = Post r.arrival
 input_in (listable.Tick moment) = Tick moment
+
+-- its documents; a tick has none
+abbrev pub documents_in : Listable → List (List ℕ)
+documents_in (listable.Request r) = texts_of r.arrival.bodies
+documents_in (listable.Tick moment) = []
+
+-- a request, where it has messages
+abbrev pub where_any : List Message → Input → List Input
+where_any [] input = []
+where_any (m ∷ ms) input = input ∷ []
+
+-- what a record has of it: a request without messages adds nothing to the list, and a record has nothing of it
+abbrev pub inputs_by : Listable → List Input
+inputs_by (listable.Request r) = where_any r.messages.items (Post r.arrival)
+inputs_by (listable.Tick moment) = Tick moment ∷ []
+
+-- the same, of what was handed in
+abbrev pub input_by : Result (List Message) BodyError → Input → List Input
+input_by (Ok ms) input = where_any ms input
+input_by (Err fault) input = []
+
+abbrev pub inputs_from : Input → List Input
+inputs_from (Post a) = input_by (request_messages (texts_of a.bodies)) (Post a)
+inputs_from (Tick moment) = Tick moment ∷ []
+
+-- these inputs are the last ones
+pub record EndsIn (all last : List Input) : Type 0 where
+  pub before : List Input
+  pub is : all ≡ before ++ last
 
 -- the list that inputs make, one behind the other
 abbrev pub list_by : List Input → List Listed

@@ -1,5 +1,5 @@
 //! What lies under the admission lock.
-ghost use Rattle.std.specs.Prelude.{◌≡◌, ◌<◌, ◌≤◌, ◌++◌, ◌⊎◌, drop, length, [], None, true, false, is_some, IfOk, IfErr, IfSome, OnOk, OnErr};
+ghost use Rattle.std.specs.Prelude.{◌≡◌, ◌<◌, ◌≤◌, ◌++◌, ◌⊎◌, drop, length, [], None, Some, true, false, is_some, IfOk, IfErr, IfSome, IfNone, MatchOption, OnOk, OnErr};
 ghost use Rattle.std.specs.Option.{ForSome};
 ghost use Rattle.std.specs.List.{All};
 ghost use mathlib.Core.List.{IsPrefix};
@@ -7,22 +7,25 @@ ghost use Rattle.bx_registry.specs.Plans.{IsFault};
 ghost use Rattle.bx_registry.specs.Slots.{admitted_slots};
 ghost use Rattle.bx_registry.specs.Standings.{Continues};
 ghost use Rattle.bx_entry.specs.Inputs.{added_by, refusal_of};
-ghost use Rattle.bx_window.specs.Steps.{below, firsts_of, list_of};
+ghost use Rattle.bx_window.specs.Steps.{below, firsts_of, inputs_of, list_of};
 ghost use Rattle.bx_entry.specs.Placings.{placed_by};
 ghost use Rattle.bx_hub.specs.declared.fault.PostFault.TheVariants as faults;
 ghost use Rattle.bx_hub.specs.Listables.{input_of};
-ghost use Rattle.bx_hub.specs.Records.{list_by};
+ghost use Rattle.bx_hub.specs.Records.{inputs_by, list_by};
+ghost use Rattle.bx_record.specs.Record.{record_of};
 ghost use Rattle.bx_hub.specs.Surveys.{survey_of};
 ghost use Rattle.bx_hub.specs.Posts.{AreSlotsAt, IsAdmittedAt, IsRefused, IsTrimmedTo, IsUnpublished, IsWhole};
 
 use crate::fault::{PostFault, RecordFault};
 use crate::least::{Least, Stood};
 use crate::listable::{Listable, Spent};
-use crate::recording::{Recording, TakenRecord};
+use crate::recording::{RecordFront, Recording, inputs_by};
 use crate::survey::Survey;
 use bx_advice::Config;
-use bx_entry::{Placing, Slot};
+use bx_entry::{Input, Placing, Slot};
+use bx_history::History;
 use bx_message::Sequence;
+use bx_recorder::Taken;
 use bx_registry::{AdmitFault, Plan, Registry};
 use bx_window::{Bundle, LogWriter, Naming, Note, PublishFault};
 use std::alloc::{AllocError, Global};
@@ -40,9 +43,12 @@ pub(crate) struct Receipt {
 
 /// What is left of a record that goes no further, and why it does not.
 #[derive(Drop)]
-struct RecordEnd {
-    recording: Recording,
+struct RecordEnd<J: Naming> {
+    recording: Recording<J>,
+    // Up to which it goes.
+    front: Note<J>,
     fault: RecordFault,
+    ghost whole: { (recording.inputs ≡ inputs_of front) × (list_by recording.inputs ≡ list_of front) },
 }
 
 /// Who is live, beside the writer of the list, and the record of what is listed, where one is kept.
@@ -51,16 +57,19 @@ pub(crate) struct Admission<J: Naming, R: Wait + Drop> {
     registry: Registry,
     closed: bool,
     writer: LogWriter<J, R>,
-    recording: Option<Recording>,
+    recording: Option<Recording<J>>,
     // Until it is taken out.
-    record_end: Option<RecordEnd>,
+    record_end: Option<RecordEnd<J>>,
     ghost config: { registry.config ≡ J.config },
     ghost counted: { registry.shards ≡ J.config.shards },
     ghost listed: { registry.list ≡ list_of writer },
-    ghost recorded: { ForSome recording (λ r. list_by r.inputs ≡ list_of writer) },
+    ghost of_inputs: { list_by (inputs_of writer) ≡ list_of writer },
+    ghost recorded: { ForSome recording (λ r. r.inputs ≡ inputs_of writer) },
 }
 
 impl<J: Naming, R: Wait + Drop> Admission<J, R> {
+    ghost use Rattle.bx_hub.specs.Recordings.{EndsBefore, GoesOn};
+
     /// An empty list.
     pub(crate) fn new(
         alloc: Global,
@@ -101,12 +110,18 @@ impl<J: Naming, R: Wait + Drop> Admission<J, R> {
         ensures closed { IfErr result (λ r. (r.1 ≡ faults.Closed → self.old.closed ≡ true) × (self.old.closed ≡ true → r.1 ≡ faults.Closed)) }
         ensures open { OnOk result (self.old.closed ≡ false) }
         ensures kept { self.new.closed ≡ self.old.closed }
+        ensures recorded { OnOk result (IfSome self.old.recording (λ r. IfSome self.new.recording (GoesOn r (record_of (inputs_by wanted)))
+            × IfNone self.new.recording (MatchOption self.new.record_end ⊥ (EndsBefore r self.old.writer)))) }
+        ensures unrecorded { OnErr result ((self.new.recording ≡ self.old.recording) × (self.new.record_end ≡ self.old.record_end)) }
+        ensures inputs { OnOk result (inputs_of pass.new ≡ inputs_of self.old.writer ++ inputs_by wanted) }
+        ensures none { OnOk result (IfNone self.old.recording ((self.new.recording ≡ None) × (self.new.record_end ≡ self.old.record_end))) }
     {
+        let before = self.writer.tell();
         let recording = self.recording.take();
         match self.list(alloc, placing, pass, &wanted) {
             Ok(receipt) => {
                 if let Some(recording) = recording {
-                    self.record(alloc, recording, &wanted);
+                    self.record(alloc, recording, before, &wanted);
                 }
                 Ok((receipt, wanted.into_spent()))
             }
@@ -117,27 +132,45 @@ impl<J: Naming, R: Wait + Drop> Admission<J, R> {
         }
     }
 
-    // What was just listed comes behind what was recorded, or the record goes no further.
-    fn record(&mut self, alloc: Global, mut recording: Recording, listed: &Listable)
-        requires { list_of self.old.writer ≡ list_by recording.inputs ++ added_by (input_of listed.now) }
-        ensures { (self.new.registry ≡ self.old.registry) × (self.new.writer ≡ self.old.writer) × (self.new.closed ≡ self.old.closed) }
+    // What was just listed comes behind what was recorded, or the record goes no further than to the front before it.
+    fn record(&mut self, alloc: Global, recording: Recording<J>, before: Note<J>, listed: &Listable)
+        requires unrecorded { self.old.recording ≡ None }
+        requires inputs { recording.inputs ≡ inputs_of before }
+        requires listed { list_by (inputs_of before) ≡ list_of before }
+        requires grown { inputs_of self.old.writer ≡ inputs_of before ++ inputs_by listed.now }
+        ensures same { (self.new.registry ≡ self.old.registry) × (self.new.writer ≡ self.old.writer) × (self.new.closed ≡ self.old.closed) }
+        ensures goes_on { IfSome self.new.recording (GoesOn recording (record_of (inputs_by listed.now))) }
+        ensures ends { IfNone self.new.recording (MatchOption self.new.record_end ⊥ (EndsBefore recording before)) }
     {
+        let mut recording = recording;
+        if !listed.adds() {
+            self.recording = Some(recording);
+            return;
+        }
         match recording.add(alloc, listed) {
             Ok(()) => self.recording = Some(recording),
-            Err(fault) => self.record_end = Some(RecordEnd { recording, fault }),
+            Err(fault) => {
+                self.record_end = Some(RecordEnd {
+                    recording,
+                    front: before,
+                    fault,
+                });
+            }
         }
     }
 
-    /// Begins to record what is listed from now on. False where something was listed before: nothing is recorded then.
+    /// Begins to record what is listed from now on. False where the log has steps: nothing is changed then.
     pub(crate) fn start_record(&mut self, alloc: Global) -> bool
         ensures same { (self.new.registry ≡ self.old.registry) × (self.new.writer ≡ self.old.writer) × (self.new.closed ≡ self.old.closed) }
-        ensures started { result ≡ true → is_some self.new.recording ≡ true }
-        ensures refused { result ≡ false → 0 < length (list_of self.old.writer) }
+        ensures started { result ≡ true → IfSome self.new.recording (λ r. (r.from.front ≡ []) × (r.waiting.items ≡ [])) × (is_some self.new.recording ≡ true) }
+        ensures empty { result ≡ true → self.old.writer ≡ [] }
+        ensures refused { result ≡ false → (0 < length self.old.writer) × (self.new.recording ≡ self.old.recording) × (self.new.record_end ≡ self.old.record_end) }
     {
-        if self.registry.entries() > 0 {
+        let front = self.writer.tell();
+        if front.steps() > 0 {
             return false;
         }
-        self.recording = Some(Recording::new(alloc));
+        self.recording = Some(Recording::new(alloc, RecordFront::first(front)));
         true
     }
 
@@ -150,26 +183,44 @@ impl<J: Naming, R: Wait + Drop> Admission<J, R> {
         self.record_end = None;
     }
 
-    /// Takes out what waits of the record, and leaves an empty buffer in its place. None where nothing is recorded, and where the end of the record was taken out
-    /// before.
-    pub(crate) fn take_record(&mut self, empty: Vec<u8>) -> Option<TakenRecord<J>>
+    /// How many bytes of the record wait.
+    pub(crate) fn record_waiting(&self) -> usize
+        ensures { MatchOption self.now.recording (result ≡ 0) (λ r. result ≡ length r.waiting.items) }
+    {
+        match &self.recording {
+            Some(recording) => recording.waiting(),
+            None => 0,
+        }
+    }
+
+    /// Takes out what waits of the record, and leaves an empty buffer in its place. Where the record goes no further, what is left of it comes once, with the fault.
+    /// None where nothing is recorded.
+    pub(crate) fn take_record(
+        &mut self,
+        empty: Vec<u8>,
+    ) -> Option<Taken<RecordFront<J>, RecordFault>>
         requires { empty.items ≡ [] }
         ensures same { (self.new.registry ≡ self.old.registry) × (self.new.writer ≡ self.old.writer) × (self.new.closed ≡ self.old.closed) }
-        ensures taken { IfSome self.old.recording (λ r. IfSome result (λ t. (t.bytes.items ≡ r.waiting.items) × (t.before ≡ r.taken))) }
-        ensures some { is_some self.old.recording ≡ true → is_some result ≡ true }
-        ensures goes_on { is_some self.new.recording ≡ is_some self.old.recording }
+        ensures taken { IfSome self.old.recording (λ r. MatchOption result ⊥ (λ t. (t.chunk.from ≡ r.from) × (t.chunk.to.front ≡ self.old.writer) × (t.chunk.bytes ≡ r.waiting) × (t.fault ≡ None))) }
+        ensures left { IfSome self.old.recording (λ _. MatchOption self.new.recording ⊥ (λ r. (r.from.front ≡ self.old.writer) × (r.waiting.items ≡ []))) }
+        ensures end { IfNone self.old.recording (IfSome self.old.record_end (λ e. MatchOption result ⊥ (λ t. (t.chunk.from ≡ e.recording.from) × (t.chunk.to.front ≡ e.front) × (t.chunk.bytes ≡ e.recording.waiting) × (t.fault ≡ Some e.fault)))) }
+        ensures none { IfNone self.old.recording (IfNone self.old.record_end (result ≡ None)) }
+        ensures gone { IfNone self.old.recording ((self.new.recording ≡ None) × (self.new.record_end ≡ None)) }
     {
         if let Some(mut recording) = self.recording.take() {
-            let front = self.writer.tell();
-            let taken = TakenRecord::of(&mut recording, Some(front), None, empty);
+            let chunk = recording.take(self.writer.tell(), empty);
             self.recording = Some(recording);
-            return Some(taken);
+            return Some(Taken { chunk, fault: None });
         }
         let RecordEnd {
             mut recording,
+            front,
             fault,
         } = self.record_end.take()?;
-        Some(TakenRecord::of(&mut recording, None, Some(fault), empty))
+        Some(Taken {
+            chunk: recording.take(front, empty),
+            fault: Some(fault),
+        })
     }
 
     // Takes it into the list. No messages add nothing.
@@ -192,7 +243,8 @@ impl<J: Naming, R: Wait + Drop> Admission<J, R> {
         ensures whole { IfErr result (λ f. IsWhole f pass.new self.new.writer) }
         ensures closed { IfErr result (λ f. (f ≡ faults.Closed → self.old.closed ≡ true) × (self.old.closed ≡ true → f ≡ faults.Closed)) }
         ensures open { OnOk result (self.old.closed ≡ false) }
-        ensures kept { (self.new.closed ≡ self.old.closed) × (self.new.recording ≡ None) }
+        ensures inputs { OnOk result (inputs_of self.new.writer ≡ inputs_of self.old.writer ++ inputs_by wanted.now) }
+        ensures kept { (self.new.closed ≡ self.old.closed) × (self.new.recording ≡ None) × (self.new.record_end ≡ self.old.record_end) }
     {
         self.tell(pass)?;
         let plan = self.plan(alloc, placing, wanted)?;
@@ -203,7 +255,7 @@ impl<J: Naming, R: Wait + Drop> Admission<J, R> {
                 slots: plan.slots,
             });
         }
-        self.publish(alloc, pass, plan)
+        self.publish(alloc, pass, plan, inputs_by(wanted))
     }
 
     // What it comes to behind the list.
@@ -215,7 +267,7 @@ impl<J: Naming, R: Wait + Drop> Admission<J, R> {
         wanted: &Listable,
     ) -> Result<Plan, AdmitFault>
         requires placing { P.place_of placing.now ≡ J.placing }
-        ensures same { (self.new.writer ≡ self.old.writer) × (self.new.closed ≡ self.old.closed) × (self.new.recording ≡ self.old.recording) }
+        ensures same { (self.new.writer ≡ self.old.writer) × (self.new.closed ≡ self.old.closed) × (self.new.recording ≡ self.old.recording) × (self.new.record_end ≡ self.old.record_end) }
         ensures continues { IfOk result (λ p. Continues self.new.registry p) }
         ensures elements { IfOk result (λ p. p.elements ≡ added_by (input_of wanted.now)) }
         ensures slots { IfOk result (λ p. p.slots ≡ admitted_slots (placed_by J.config J.config.shards J.placing) (list_of self.new.writer) p.elements) }
@@ -236,7 +288,7 @@ impl<J: Naming, R: Wait + Drop> Admission<J, R> {
 
     // The pass has then seen the whole list, where the hub is open.
     fn tell(&mut self, pass: &mut Note<J>) -> Result<(), PostFault>
-        ensures same { (self.new.registry ≡ self.old.registry) × (self.new.writer ≡ self.old.writer) × (self.new.closed ≡ self.old.closed) × (self.new.recording ≡ self.old.recording) }
+        ensures same { (self.new.registry ≡ self.old.registry) × (self.new.writer ≡ self.old.writer) × (self.new.closed ≡ self.old.closed) × (self.new.recording ≡ self.old.recording) × (self.new.record_end ≡ self.old.record_end) }
         ensures seen { IsPrefix pass.old pass.new }
         ensures whole { OnOk result ((pass.new ≡ self.new.writer) × (self.old.closed ≡ false)) }
         ensures refused { IfErr result (λ f. (f ≡ faults.Closed) × (self.old.closed ≡ true)) }
@@ -254,7 +306,9 @@ impl<J: Naming, R: Wait + Drop> Admission<J, R> {
         alloc: Global,
         pass: &mut Note<J>,
         plan: Plan,
+        inputs: History<Input>,
     ) -> Result<Receipt, PostFault>
+        requires inputs { list_by inputs ≡ plan.elements }
         requires continues { Continues self.old.registry plan }
         requires some { 0 < length plan.batch.entries }
         requires whole { pass.old ≡ self.old.writer }
@@ -262,11 +316,12 @@ impl<J: Naming, R: Wait + Drop> Admission<J, R> {
         ensures seen { IsPrefix pass.old pass.new }
         ensures taken { IfOk result (λ a. (a ≡ record { first = plan.batch.first; slots = plan.slots })
             × (list_of pass.new ≡ list_of pass.old ++ plan.elements)) }
+        ensures inputs { OnOk result (inputs_of self.new.writer ≡ inputs_of self.old.writer ++ inputs) }
         ensures refused { IfErr result (λ f. IsUnpublished f pass.new) }
         ensures same { OnErr result ((self.new.writer ≡ self.old.writer) × (pass.new ≡ pass.old)) }
         ensures whole { pass.new ≡ self.new.writer }
         ensures room { IfErr result (λ f. IsWhole f pass.new self.new.writer) }
-        ensures kept { (self.new.closed ≡ self.old.closed) × (self.new.recording ≡ None) }
+        ensures kept { (self.new.closed ≡ self.old.closed) × (self.new.recording ≡ None) × (self.new.record_end ≡ self.old.record_end) }
     {
         if pass.steps() >= MOST_STEPS {
             return Err(PostFault::Ended);
@@ -279,7 +334,12 @@ impl<J: Naming, R: Wait + Drop> Admission<J, R> {
         } = plan;
         let first = batch.first;
         let added = elements.again();
-        match self.writer.publish(alloc, Bundle { batch, elements }) {
+        let bundle = Bundle {
+            batch,
+            elements,
+            inputs,
+        };
+        match self.writer.publish(alloc, bundle) {
             Ok(()) => {
                 self.registry.commit(change, &added);
                 *pass = self.writer.tell();
@@ -303,7 +363,7 @@ impl<J: Naming, R: Wait + Drop> Admission<J, R> {
         ensures room { IfOk result (λ s. IsTrimmedTo s.place self.new.writer) }
         ensures same { OnErr result (self.new.writer ≡ self.old.writer) }
         ensures list { list_of self.new.writer ≡ list_of self.old.writer }
-        ensures kept { self.new.closed ≡ self.old.closed }
+        ensures kept { (self.new.closed ≡ self.old.closed) × (self.new.recording ≡ self.old.recording) × (self.new.record_end ≡ self.old.record_end) }
     {
         let Some(lowest) = least.into_lowest() else {
             unreachable!()
@@ -319,7 +379,7 @@ impl<J: Naming, R: Wait + Drop> Admission<J, R> {
 
     /// How the list and the registry stand. The pass has then seen the whole list.
     pub(crate) fn survey(&mut self, pass: &mut Note<J>) -> Survey
-        ensures same { (self.new.registry ≡ self.old.registry) × (self.new.writer ≡ self.old.writer) × (self.new.closed ≡ self.old.closed) }
+        ensures same { (self.new.registry ≡ self.old.registry) × (self.new.writer ≡ self.old.writer) × (self.new.closed ≡ self.old.closed) × (self.new.recording ≡ self.old.recording) × (self.new.record_end ≡ self.old.record_end) }
         ensures seen { IsPrefix pass.old pass.new }
         ensures whole { pass.new ≡ self.old.writer }
         ensures counted { result ≡ survey_of J.config pass.new }
@@ -342,7 +402,8 @@ impl<J: Naming, R: Wait + Drop> Admission<J, R> {
 
     /// No more entries.
     pub(crate) fn close(&mut self)
-        ensures { (self.new.writer ≡ self.old.writer) × (self.new.closed ≡ true) }
+        ensures closed { self.new.closed ≡ true }
+        ensures same { (self.new.writer ≡ self.old.writer) × (self.new.recording ≡ self.old.recording) × (self.new.record_end ≡ self.old.record_end) }
     {
         self.closed = true;
     }

@@ -89,8 +89,8 @@ pub struct AllBrought<J: Naming> {
 }
 
 impl<J: Naming> AllBrought<J> {
-    /// None of so many shards was brought up to the note. The first that is to be is another one for each length of the list, so that
-    /// threads that bring them up at once do not wait for one another at each.
+    /// None of so many shards was brought up to the note. The first that is to be is the one at the length of the list modulo their
+    /// number, so that threads that bring them up at once mostly begin at different ones.
     pub(crate) fn new(note: &Note<J>, shards: usize) -> AllBrought<J>
         ensures { (result.note.value ≡ note.now) × (result.shards ≡ shards) × (result.stays ≡ []) }
     {

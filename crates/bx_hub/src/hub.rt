@@ -5,23 +5,24 @@ ghost use mathlib.Core.List.{IsPrefix};
 ghost use Rattle.bx_entry.specs.Placings.{placed_by};
 ghost use Rattle.bx_entry.specs.Requests.{read_input};
 ghost use Rattle.bx_entry.specs.declared.input.Input.TheVariants as inputs;
-ghost use Rattle.bx_window.specs.Steps.{list_of};
+ghost use Rattle.bx_window.specs.Steps.{inputs_of, list_of};
 ghost use Rattle.bx_hub.specs.Faults.{IsStopped};
 
 use crate::admission::{Admission, Receipt};
 use crate::brought::{AllBrought, Brought};
 use crate::desk::{Desk, Watch, Woken};
-use crate::fault::{HubFault, PostFault, PostReceipt, TickReceipt};
+use crate::fault::{HubFault, PostFault, PostReceipt, RecordFault, TickReceipt};
 use crate::least::{Least, Stood};
 use crate::listable::{Listable, Spent};
 use crate::pass::Pass;
 use crate::reading::{Reading, Refused, Unlisted};
-use crate::recording::TakenRecord;
+use crate::recording::RecordFront;
 use crate::stopped::Stopped;
 use crate::survey::{ShardSurvey, Survey};
 use bx_advice::Config;
 use bx_entry::{Arrival, Placing, Ticket};
 use bx_message::Answer;
+use bx_recorder::Taken;
 use bx_shard::Wakers;
 use bx_window::{Naming, Note, Opened, log_pair};
 use bx_workers::Gate;
@@ -51,6 +52,7 @@ impl<J: Naming, P: Placing, G: Gate + Drop, R: Wait + Drop> Hub<J, P, G, R> {
     ghost use Rattle.bx_hub.specs.Held.{IsLevelWithout, answer_over};
     ghost use Rattle.bx_hub.specs.Lags.{IsLagging};
     ghost use Rattle.bx_hub.specs.Listables.{input_of};
+    ghost use Rattle.bx_hub.specs.Records.{EndsIn, inputs_by, inputs_from};
     ghost use Rattle.bx_hub.specs.Posts.{AreSlotsAt, IsAdmittedAt, IsRefused, IsTrimmedTo, IsWithoutRoom};
     ghost use Rattle.bx_hub.specs.Surveys.{survey_of};
     ghost use Rattle.bx_hub.specs.Waking.{put_of};
@@ -121,6 +123,7 @@ impl<J: Naming, P: Placing, G: Gate + Drop, R: Wait + Drop> Hub<J, P, G, R> {
         ensures refused { IfErr result (λ r. IsRefused (read_input (inputs.Post arrival)) r.why.fault pass.new) }
         ensures lags { IfErr result (λ r. IsLagging r.why.fault r.why.lag pass.new) }
         ensures behind { IfOk result (λ p. IsOfAll J.config.shards pass.new p.brought) }
+        ensures inputs { OnOk result (EndsIn (inputs_of pass.new) (inputs_from (inputs.Post arrival))) }
     {
         let reading = Reading::of(alloc, arrival)?;
         let wanted = Listable::Request(reading);
@@ -161,6 +164,7 @@ impl<J: Naming, P: Placing, G: Gate + Drop, R: Wait + Drop> Hub<J, P, G, R> {
         ensures refused { IfErr result (λ u. IsRefused (read_input (inputs.Tick moment)) u.fault pass.new) }
         ensures lags { IfErr result (λ u. IsLagging u.fault u.lag pass.new) }
         ensures behind { IfOk result (λ t. IsOfAll J.config.shards pass.new t.brought) }
+        ensures inputs { OnOk result (EndsIn (inputs_of pass.new) (inputs_from (inputs.Tick moment))) }
     {
         let wanted = Listable::Tick(moment);
         let (Receipt { first, .. }, _) = match self.admit(rt, alloc, &mut pass.front, wanted) {
@@ -190,6 +194,7 @@ impl<J: Naming, P: Placing, G: Gate + Drop, R: Wait + Drop> Hub<J, P, G, R> {
         ensures back { IfErr result (λ r. r.0 ≡ wanted) }
         ensures refused { IfErr result (λ r. IsRefused (input_of wanted) r.1.fault pass.new) }
         ensures lags { IfErr result (λ r. IsLagging r.1.fault r.1.lag pass.new) }
+        ensures inputs { OnOk result (EndsIn (inputs_of pass.new) (inputs_by wanted)) }
     {
         let mut admission = self.admission.lock(rt);
         let wanted = match admission.admit(alloc, &*self.placing, pass, wanted) {
@@ -429,14 +434,29 @@ impl<J: Naming, P: Placing, G: Gate + Drop, R: Wait + Drop> Hub<J, P, G, R> {
         Some(desk.lock(rt).survey())
     }
 
-    /// Begins to record what is listed. False where something was listed before, and then nothing is recorded.
-    pub fn start_record<W: Wait>(&self, rt: &W, alloc: Global) -> bool {
-        self.admission.lock(rt).start_record(alloc)
+    /// Begins to record what is listed, and gives the front of what was listed before: nothing. None where something was, and then nothing changes.
+    pub fn start_record<W: Wait>(&self, rt: &W, alloc: Global) -> Option<RecordFront<J>>
+        ensures { IfSome result (λ it. it.front ≡ []) }
+    {
+        if self.admission.lock(rt).start_record(alloc) {
+            Some(RecordFront::first(self.start.again()))
+        } else {
+            None
+        }
     }
 
-    /// Takes out what waits of the record, for whoever writes it, and leaves an empty buffer in its place. None where nothing is recorded, and once the end of
-    /// the record was taken out.
-    pub fn take_record<W: Wait>(&self, rt: &W, empty: Vec<u8>) -> Option<TakenRecord<J>>
+    /// How many bytes of the record wait.
+    pub fn record_waiting<W: Wait>(&self, rt: &W) -> usize {
+        self.admission.lock(rt).record_waiting()
+    }
+
+    /// Takes out what waits of the record, for whoever writes it, and leaves an empty buffer in its place. What is left of a record that goes no further comes
+    /// once, with the fault. None where nothing is recorded.
+    pub fn take_record<W: Wait>(
+        &self,
+        rt: &W,
+        empty: Vec<u8>,
+    ) -> Option<Taken<RecordFront<J>, RecordFault>>
         requires { empty.items ≡ [] }
     {
         self.admission.lock(rt).take_record(empty)

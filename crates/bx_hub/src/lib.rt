@@ -23,6 +23,6 @@ pub use fault::{HubFault, Lagging, PostFault, PostReceipt, RecordFault, TickRece
 pub use hub::Hub;
 pub use pass::Pass;
 pub use reading::{Refused, Unlisted};
-pub use recording::TakenRecord;
+pub use recording::RecordFront;
 pub use stopped::Stopped;
 pub use survey::{ShardSurvey, Survey};

@@ -1,6 +1,5 @@
 //! What can be listed.
-ghost use Rattle.std.specs.Prelude.{◌≡◌};
-ghost use Rattle.bx_hub.specs.Listables.{arrival_of};
+ghost use Rattle.std.specs.Prelude.{◌≡◌, ◌∷◌, [], MatchBool};
 
 use crate::reading::Reading;
 use bx_entry::Arrival;
@@ -20,6 +19,19 @@ pub(crate) struct Spent {
 }
 
 impl Listable {
+    ghost use Rattle.bx_hub.specs.Listables.{arrival_of};
+    ghost use Rattle.bx_hub.specs.Records.{input_in, inputs_by};
+
+    /// Whether it adds something to the list, as all but a request without messages does.
+    pub(crate) fn adds(&self) -> bool
+        ensures { MatchBool result (inputs_by self.now ≡ input_in self.now ∷ []) (inputs_by self.now ≡ []) }
+    {
+        match self {
+            Listable::Request(reading) => !reading.messages().is_empty(),
+            Listable::Tick(_) => true,
+        }
+    }
+
     /// It was listed.
     pub(crate) fn into_spent(self) -> Spent
         ensures { result.listed ≡ self }

@@ -1,17 +1,19 @@
 //! The record of what is listed, while it waits to be written.
-ghost use Rattle.std.specs.Prelude.{◌≡◌, ◌++◌, ◌∷◌, [], OnErr, OnOk, IfOk, IfSome};
+ghost use Rattle.std.specs.Prelude.{◌≡◌, ◌≢◌, ◌+◌, ◌<◌, ◌++◌, ◌∷◌, [], false, length, OnErr, OnOk, IfErr, IfOk};
 ghost use Rattle.std.specs.List.{AllByRecursion};
-ghost use Rattle.std.specs.Option.{ForSome};
-ghost use Rattle.bx_hub.specs.Records.{input_in, list_by, record_props};
+ghost use Rattle.bx_hub.specs.Records.{documents_in, input_in, inputs_by, list_by, record_props};
+ghost use Rattle.bx_hub.specs.declared.fault.RecordFault.TheVariants as faults;
+ghost use Rattle.bx_hub.specs.declared.recording.TheConstants.{MOST_WAITING};
 ghost use Rattle.bx_record.specs.Laws.{CanRecord};
-ghost use Rattle.bx_window.specs.Steps.{list_of};
-ghost use Rattle.bx_record.specs.Record.{input_text, record_of};
+ghost use Rattle.bx_record.specs.Record.{can_say, input_text, record_of};
+ghost use Rattle.bx_window.specs.Steps.{inputs_of, list_of};
 
 use crate::fault::RecordFault;
 use crate::listable::Listable;
 use bx_entry::Input;
 use bx_history::{History, Lists};
 use bx_record::{request_text, tick_text};
+use bx_recorder::{Chunk, Front};
 use bx_window::{Naming, Note};
 use std::alloc::Global;
 use std::mem;
@@ -19,104 +21,138 @@ use std::mem;
 /// How many bytes of a record may wait.
 const MOST_WAITING: usize = 64 << 20;
 
-/// What was listed since the record began, for contracts alone, and the lines of the record that wait to be written. Those that were taken out
-/// before, and they behind them, are the text of all of it.
+/// How far a record goes: a front of the hub's log, whose requests and ticks make just its list, and each of which a line says.
 #[derive(Drop)]
-pub(crate) struct Recording {
+pub struct RecordFront<J: Naming> {
+    front: Note<J>,
+    ghost listed: { list_by (inputs_of front) ≡ list_of front },
+    ghost recordable: { AllByRecursion CanRecord (inputs_of front) } by { Prim.hlevel record_props },
+}
+
+impl<J: Naming> RecordFront<J> {
+    // Up to this front.
+    fn of(front: Note<J>) -> RecordFront<J>
+        requires listed { list_by (inputs_of front) ≡ list_of front }
+        requires recordable { AllByRecursion CanRecord (inputs_of front) }
+        ensures { result.front ≡ front }
+    {
+        RecordFront { front }
+    }
+
+    /// The place where its list ends.
+    pub fn place(&self) -> u64
+        ensures { result ≡ length (list_of self.now.front) }
+    {
+        self.front.len()
+    }
+
+    /// Nothing was listed.
+    pub(crate) fn first(front: Note<J>) -> RecordFront<J>
+        requires { front ≡ [] }
+        ensures { result.front ≡ front }
+    {
+        RecordFront { front }
+    }
+}
+
+impl<J: Naming> Front for RecordFront<J> {
+    ghost use Rattle.std.specs.Prelude.{◌≡◌};
+    ghost use Rattle.bx_record.specs.Record.{record_of};
+    ghost use Rattle.bx_window.specs.Steps.{inputs_of};
+
+    ghost text = { λ it. record_of (inputs_of it.front) };
+
+    ghost is_copy = { λ it copy. copy.front ≡ it.front };
+
+    fn again(&self) -> RecordFront<J> {
+        RecordFront {
+            front: self.front.again(),
+        }
+    }
+
+    fn is_same(&self, other: &RecordFront<J>) -> bool {
+        self.front.covers(&other.front) && other.front.covers(&self.front)
+    }
+}
+
+/// What was listed since the record began, for contracts alone, and the lines of the record that wait to be written. Those up to the front where the last ones
+/// were taken out, and they behind them, are the text of all of it.
+#[derive(Drop)]
+pub(crate) struct Recording<J: Naming> {
+    from: RecordFront<J>,
     inputs: History<Input>,
-    taken: History<u8>,
     waiting: Vec<u8>,
-    ghost whole: { taken ++ waiting.items ≡ record_of inputs },
+    ghost whole: { record_of (inputs_of from.front) ++ waiting.items ≡ record_of inputs },
     ghost recordable: { AllByRecursion CanRecord inputs } by { Prim.hlevel record_props },
 }
 
-impl Recording {
+impl<J: Naming> Recording<J> {
     /// Nothing was listed.
-    pub(crate) fn new(alloc: Global) -> Recording
-        ensures { result.inputs ≡ [] }
+    pub(crate) fn new(alloc: Global, from: RecordFront<J>) -> Recording<J>
+        requires { from.front ≡ [] }
+        ensures { (result.from ≡ from) × (result.inputs ≡ []) × (result.waiting.items ≡ []) }
     {
         Recording {
+            from,
             inputs: History::new(),
-            taken: History::new(),
             waiting: Vec::new(alloc),
         }
     }
 
-    /// The lines of what was listed come behind the others. An error says why they do not, and then nothing has changed.
+    /// How many bytes wait.
+    pub(crate) fn waiting(&self) -> usize
+        ensures { result ≡ length self.now.waiting.items }
+    {
+        self.waiting.len()
+    }
+
+    /// The lines of what was listed, and added something to the list, come behind the others. An error says why they do not, and then nothing has changed.
     #[tactic(auto, using(crate::proofs::Records::all_recordable))]
     pub(crate) fn add(&mut self, alloc: Global, listed: &Listable) -> Result<(), RecordFault>
-        ensures added { OnOk result (self.new.inputs ≡ self.old.inputs ++ input_in listed.now ∷ []) }
-        ensures same { OnErr result ((self.new.inputs ≡ self.old.inputs) × (self.new.taken ≡ self.old.taken) × (self.new.waiting.items ≡ self.old.waiting.items)) }
+        requires { inputs_by listed.now ≡ input_in listed.now ∷ [] }
+        ensures added { OnOk result ((self.new.inputs ≡ self.old.inputs ++ input_in listed.now ∷ []) × (self.new.waiting.items ≡ self.old.waiting.items ++ input_text (input_in listed.now))) }
+        ensures same { OnErr result ((self.new.inputs ≡ self.old.inputs) × (self.new.waiting.items ≡ self.old.waiting.items)) }
+        ensures from { self.new.from ≡ self.old.from }
+        ensures full { IfErr result (λ f. f ≡ faults.Full → MOST_WAITING < length self.old.waiting.items + length (input_text (input_in listed.now))) }
+        ensures unsayable { IfErr result (λ f. f ≡ faults.Unsayable → can_say (documents_in listed.now) ≡ false) }
     {
         let lines = text_of(alloc, listed)?;
         if lines.len() > MOST_WAITING.saturating_sub(self.waiting.len()) {
             return Err(RecordFault::Full);
         }
         self.waiting.extend_from_slice(lines.as_slice())?;
-        self.inputs
-            .join(&History::of::<&Listable, Recorded>(&listed));
+        self.inputs.join(&inputs_by(listed));
         Ok(())
     }
 
-    /// Takes out all that waits, and leaves an empty buffer in its place. It takes no memory, and copies nothing.
-    pub(crate) fn take(&mut self, empty: Vec<u8>) -> Vec<u8>
-        requires { empty.items ≡ [] }
-        ensures bytes { result.items ≡ self.old.waiting.items }
-        ensures taken { self.new.taken ≡ self.old.taken ++ self.old.waiting.items }
-        ensures inputs { self.new.inputs ≡ self.old.inputs }
-    {
-        self.taken.append(self.waiting.as_slice());
-        mem::replace(&mut self.waiting, empty)
-    }
-}
-
-/// What was taken out of a record to be written. Behind all that was taken out before, its bytes make the record's text, and while the record goes on that is
-/// the text of what a front of the hub's log has.
-#[derive(Drop)]
-pub struct TakenRecord<J: Naming> {
-    /// The lines.
-    pub bytes: Vec<u8>,
-    /// Why the record goes no further, where it does not. Nothing is taken out any more then.
-    pub fault: Option<RecordFault>,
-    before: History<u8>,
-    inputs: History<Input>,
-    // Up to which the record goes, where it goes on.
-    front: Option<Note<J>>,
-    ghost whole: { before ++ bytes.items ≡ record_of inputs },
-    ghost recordable: { AllByRecursion CanRecord inputs } by { Prim.hlevel record_props },
-    ghost listed: { ForSome front (λ f. list_by inputs ≡ list_of f) },
-}
-
-impl<J: Naming> TakenRecord<J> {
-    /// All that waits of a record that goes on, up to this front, or that ended, for this fault.
-    pub(crate) fn of(
-        recording: &mut Recording,
-        front: Option<Note<J>>,
-        fault: Option<RecordFault>,
-        empty: Vec<u8>,
-    ) -> TakenRecord<J>
+    /// Takes out all that waits, which is the record's text up to this front, and leaves an empty buffer in its place. It takes no memory, and copies nothing.
+    pub(crate) fn take(&mut self, upto: Note<J>, empty: Vec<u8>) -> Chunk<RecordFront<J>>
+        requires inputs { self.old.inputs ≡ inputs_of upto }
+        requires listed { list_by self.old.inputs ≡ list_of upto }
         requires empty { empty.items ≡ [] }
-        requires listed { IfSome front (λ f. list_by recording.old.inputs ≡ list_of f) }
-        ensures taken { (result.before ≡ recording.old.taken) × (result.bytes.items ≡ recording.old.waiting.items) }
-        ensures inputs { (result.inputs ≡ recording.old.inputs) × (recording.new.inputs ≡ recording.old.inputs) }
-        ensures front { (result.front ≡ front) × (result.fault ≡ fault) }
+        ensures fronts { (result.from ≡ self.old.from) × (result.to.front ≡ upto) }
+        ensures bytes { result.bytes ≡ self.old.waiting }
+        ensures left { (self.new.from.front ≡ upto) × (self.new.waiting.items ≡ []) × (self.new.inputs ≡ self.old.inputs) }
     {
-        let before = recording.taken.again();
-        let bytes = recording.take(empty);
-        TakenRecord {
-            bytes,
-            fault,
-            before,
-            inputs: recording.inputs.again(),
-            front,
-        }
+        let to = RecordFront::of(upto);
+        let from = mem::replace(&mut self.from, to.again());
+        let bytes = mem::replace(&mut self.waiting, empty);
+        Chunk::new(from, to, bytes)
     }
+}
+
+/// What a record has of it, for contracts alone: itself, but where it adds nothing to the list.
+pub(crate) fn inputs_by(wanted: &Listable) -> History<Input>
+    ensures { result ≡ inputs_by wanted.now }
+{
+    History::of::<&Listable, Recorded>(&wanted)
 }
 
 // The lines of what was listed.
 fn text_of(alloc: Global, listed: &Listable) -> Result<Vec<u8>, RecordFault>
     ensures text { IfOk result (λ text. text.items ≡ input_text (input_in listed.now)) }
     ensures recordable { OnOk result (CanRecord (input_in listed.now)) }
+    ensures unsayable { IfErr result (λ f. (f ≢ faults.Full) × (f ≡ faults.Unsayable → can_say (documents_in listed.now) ≡ false)) }
 {
     match listed {
         Listable::Request(reading) => {
@@ -134,8 +170,7 @@ fn text_of(alloc: Global, listed: &Listable) -> Result<Vec<u8>, RecordFault>
 struct Recorded;
 
 impl<'a> Lists<&'a Listable, Input> for Recorded {
-    ghost use Rattle.std.specs.Prelude.{[], ◌∷◌};
-    ghost use Rattle.bx_hub.specs.Records.{input_in};
+    ghost use Rattle.bx_hub.specs.Records.{inputs_by};
 
-    ghost listed = { λ listed. input_in listed.now ∷ [] };
+    ghost listed = { λ listed. inputs_by listed.now };
 }

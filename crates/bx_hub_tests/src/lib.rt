@@ -7,6 +7,8 @@ mod moves;
 #[cfg(test)]
 mod pauses;
 #[cfg(test)]
+mod recorded;
+#[cfg(test)]
 mod same;
 #[cfg(test)]
 mod tests;

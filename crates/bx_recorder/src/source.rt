@@ -1,22 +1,34 @@
 //! What is to be written.
 ghost use Rattle.std.specs.Prelude.{◌≡◌, []};
 
+use crate::chunk::{Chunk, Front};
+
 /// What was taken out to be written.
 #[derive(Drop)]
-pub struct Taken<F> {
-    /// The bytes, which come behind all that was taken out before.
-    pub bytes: Vec<u8>,
+pub struct Taken<F: Front, E> {
+    /// The bytes.
+    pub chunk: Chunk<F>,
     /// Why nothing comes behind them, where that is so.
-    pub fault: Option<F>,
+    pub fault: Option<E>,
 }
 
-/// Where bytes wait to be written, while others add to them.
+/// Where the bytes of a text wait to be written, while others add to them, and notes that are none of the text.
 pub trait Source {
+    /// How far the text goes.
+    type Front: Front;
+
     /// Why nothing more comes.
     type Fault: Drop;
 
-    /// Takes out all that waits, and leaves an empty buffer in its place. None where nothing more comes.
-    fn take(&mut self, empty: Vec<u8>) -> Option<Taken<Self::Fault>>
+    /// How many bytes of the text wait.
+    fn waiting(&self) -> usize;
+
+    /// Takes out all that waits of the text, and leaves an empty buffer in its place. None where nothing more comes.
+    fn take(&mut self, empty: Vec<u8>) -> Option<Taken<Self::Front, Self::Fault>>
+        requires empty { empty.items ≡ [] };
+
+    /// Takes out the notes that wait, and leaves an empty buffer in their place. What each is of stands in what was taken out, or is the next to be, as long as the text goes on.
+    fn take_notes(&mut self, empty: Vec<u8>) -> Vec<u8>
         requires empty { empty.items ≡ [] };
 
     /// Nothing more is taken out: what waits is let go of.

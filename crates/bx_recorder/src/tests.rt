@@ -1,33 +1,75 @@
 //! A file that fails at its k-th write.
-use crate::{CountedFile, End, Source, Taken, Written, write_out};
+ghost use Rattle.std.specs.Prelude.{◌≡◌, ◌==◌, [], codes, if◌then◌else◌};
+
+use crate::writer::SOON;
+use crate::{Chunk, CountedFile, End, Front, Out, Source, Taken, Written, write_out};
 use std::io;
 use std::io::Write;
 use std::sync::atomic::{AtomicBool, Ordering};
 use std::test::Fail;
 
-// What waits at each turn, with a fault behind the last.
-const CHUNKS: [&[u8]; 2] = [b"one\ntwo\n", b"three\n"];
+// How much of three lines there is: none, two, or all.
+#[derive(Clone, Copy, Drop)]
+struct Stage {
+    count: u8,
+}
 
+impl Front for Stage {
+    ghost text = { λ it. if it.count == 0 then [] else (if it.count == 1 then codes "one\ntwo\n" else codes "one\ntwo\nthree\n") };
+
+    ghost is_copy = { λ it copy. copy.count ≡ it.count };
+
+    fn again(&self) -> Stage {
+        Stage { count: self.count }
+    }
+
+    fn is_same(&self, other: &Stage) -> bool {
+        self.count == other.count
+    }
+}
+
+// Gives two lines and then one with a fault, and a note at each turn. So many bytes wait as are said.
 #[derive(Drop)]
 struct Lines<'a> {
     turn: usize,
+    waiting: usize,
     stopped: &'a AtomicBool,
 }
 
 impl<'a> Source for Lines<'a> {
+    type Front = Stage;
+
     type Fault = u8;
 
-    fn take(&mut self, empty: Vec<u8>) -> Option<Taken<u8>> {
-        let chunk = CHUNKS.get(self.turn)?;
+    fn waiting(&self) -> usize {
+        self.waiting
+    }
+
+    fn take(&mut self, empty: Vec<u8>) -> Option<Taken<Stage, u8>> {
         self.turn = self.turn.saturating_add(1);
         let mut bytes = empty;
-        bytes.extend_from_slice(chunk).ok()?;
-        let fault = if self.turn < CHUNKS.len() {
-            None
-        } else {
-            Some(7)
-        };
-        Some(Taken { bytes, fault })
+        match self.turn {
+            1 => {
+                bytes.extend_from_slice(b"one\ntwo\n").ok()?;
+                let chunk = Chunk::new(Stage { count: 0 }, Stage { count: 1 }, bytes);
+                Some(Taken { chunk, fault: None })
+            }
+            2 => {
+                bytes.extend_from_slice(b"three\n").ok()?;
+                let chunk = Chunk::new(Stage { count: 1 }, Stage { count: 2 }, bytes);
+                Some(Taken {
+                    chunk,
+                    fault: Some(7),
+                })
+            }
+            _ => None,
+        }
+    }
+
+    fn take_notes(&mut self, empty: Vec<u8>) -> Vec<u8> {
+        let mut notes = empty;
+        let _ = notes.extend_from_slice(if self.turn == 0 { b"n1\n" } else { b"n2\n" });
+        notes
     }
 
     fn stop(&mut self) {
@@ -67,6 +109,7 @@ enum Ending {
     Fault(u8),
     Gone,
     Full,
+    Behind,
     Other,
 }
 
@@ -76,55 +119,75 @@ fn ending_of(written: &Written<u8>) -> Ending {
         End::Ended(fault) => Ending::Fault(*fault),
         End::Gone => Ending::Gone,
         End::Refused(error) if error.kind() == io::ErrorKind::StorageFull => Ending::Full,
+        End::Refused(error) if error.kind() == io::ErrorKind::InvalidInput => Ending::Behind,
         End::Refused(_) => Ending::Other,
     }
 }
 
 #[test]
 fn ends_at_each_write(rt: HostRuntime) -> Result<(), Fail> {
-    let text = b"one\ntwo\nthree\n";
-    for left in 0..16usize {
+    let text = b"one\ntwo\nn1\nthree\n";
+    for left in 0..19usize {
         let (stopped, over) = (AtomicBool::new(false), AtomicBool::new(false));
         let lines = Lines {
             turn: 0,
+            waiting: SOON,
             stopped: &stopped,
         };
         let mut file = Failing {
             left,
             got: Vec::new(rt.alloc()),
         };
-        let counted = CountedFile::new(&mut file);
-        let written = write_out(&rt, rt.alloc(), lines, counted, &over);
+        let out = Out::new(CountedFile::new(&mut file), Stage { count: 0 });
+        let written = write_out(&rt, rt.alloc(), lines, out, &over);
         let (count, ending) = (written.count, ending_of(&written));
-        assert_eq!(rt; file.got.as_slice(), &text[..left.min(14)]);
-        assert_eq!(rt; count, left.min(14) as u64);
-        let wanted = if left < 14 {
+        assert_eq!(rt; file.got.as_slice(), &text[..left.min(17)]);
+        assert_eq!(rt; count, left.min(17) as u64);
+        let wanted = if left < 17 {
             Ending::Full
         } else {
             Ending::Fault(7)
         };
         assert_eq!(rt; ending, wanted);
-        assert_eq!(rt; stopped.load(Ordering::SeqCst), left < 14);
+        assert!(rt; stopped.load(Ordering::SeqCst));
     }
     Ok(())
 }
 
 #[test]
 fn ends_as_it_is_told(rt: HostRuntime) -> Result<(), Fail> {
-    let (stopped, over) = (AtomicBool::new(false), AtomicBool::new(true));
-    for (from, count, ending) in [
-        (0usize, 8, Ending::Told),
-        (1, 6, Ending::Fault(7)),
+    for (turn, count, wanted) in [
+        (0usize, 11, Ending::Told),
+        (1, 0, Ending::Behind),
         (2, 0, Ending::Gone),
     ] {
+        let (stopped, over) = (AtomicBool::new(false), AtomicBool::new(true));
         let lines = Lines {
-            turn: from,
+            turn,
+            waiting: 0,
             stopped: &stopped,
         };
-        let file = CountedFile::new(Vec::new(rt.alloc()));
-        let written = write_out(&rt, rt.alloc(), lines, file, &over);
-        assert_eq!(rt; (written.count, ending_of(&written)), (count, ending));
+        let out = Out::new(CountedFile::new(Vec::new(rt.alloc())), Stage { count: 0 });
+        let written = write_out(&rt, rt.alloc(), lines, out, &over);
+        assert_eq!(rt; (written.count, ending_of(&written)), (count, wanted));
+        assert_eq!(rt; stopped.load(Ordering::SeqCst), wanted != Ending::Told);
     }
-    assert!(rt; !stopped.load(Ordering::SeqCst));
+    Ok(())
+}
+
+// However few bytes wait, all is written at the end of a turn.
+#[test]
+fn few_bytes_are_written_too(rt: HostRuntime) -> Result<(), Fail> {
+    let (stopped, over) = (AtomicBool::new(false), AtomicBool::new(false));
+    let lines = Lines {
+        turn: 0,
+        waiting: 0,
+        stopped: &stopped,
+    };
+    let mut got = Vec::new(rt.alloc());
+    let out = Out::new(CountedFile::new(&mut got), Stage { count: 0 });
+    let written = write_out(&rt, rt.alloc(), lines, out, &over);
+    assert_eq!(rt; ending_of(&written), Ending::Fault(7));
+    assert!(rt; got.as_slice() == b"one\ntwo\nn1\nthree\n".as_slice());
     Ok(())
 }

@@ -10,7 +10,7 @@ use crate::requests::{add_line, config};
 use crate::unlike::Unlike;
 use bx_advice::Config;
 use bx_entry::ByRemainder;
-use bx_hub::{Hub, OpenGate};
+use bx_hub::{Hub, OpenGate, RecordFault};
 use bx_window::{Naming, Opened};
 use said::Said;
 use std::alloc::{AllocGlobal, Global};
@@ -23,7 +23,8 @@ pub type Served<J, R> = Hub<J, ByRemainder, OpenGate, R>;
 
 /// Two sessions, of which one subscribes and connects and the other publishes, with a pass each, and then a tick: over two shards,
 /// where the one learns what the other has seen, and over one, where a task waits for the answer. Says where each request and the
-/// tick stand, how each message is answered, and how the connect is.
+/// tick stand, how each message is answered, and how the connect is. All of it is recorded; memory that is refused to the record
+/// ends that and nothing else.
 pub fn run<R>(rt: &R, alloc: Global) -> Result<String, Unlike>
 where
     R: Wait + RandomSource + AllocGlobal,
@@ -60,8 +61,28 @@ where
     let hub = Served::<J, &R>::new(alloc, rt, opened, config, placing, OpenGate)?;
     let hub = Arc::new(alloc, hub)?;
     let mut said = Said::new(alloc);
+    if hub.start_record(rt, alloc).is_none() {
+        return Err(Unlike::Wrong("no record"));
+    }
     exchange(rt, alloc, &hub, shards, &mut said)?;
+    check_record(rt, alloc, &*hub)?;
     Ok(said.into_text())
+}
+
+// The record goes on, or memory was refused to it.
+fn check_record<'a, J, R>(rt: &'a R, alloc: Global, hub: &Served<J, &'a R>) -> Result<(), Unlike>
+where
+    J: Naming,
+    R: Wait,
+{
+    let Some(taken) = hub.take_record(rt, Vec::new(alloc)) else {
+        return Err(Unlike::Wrong("the record is gone"));
+    };
+    match taken.fault {
+        None if taken.chunk.bytes().ends_with(b"0 T\n") => Ok(()),
+        Some(RecordFault::Memory) => Ok(()),
+        _ => Err(Unlike::Wrong("another record")),
+    }
 }
 
 fn exchange<'a, J, R>(

@@ -72,10 +72,15 @@ module _ (setup : Setup) where
 abbrev pub request_of : ℕ → ℕ → List (List ℕ) → ReadInput
 request_of moment nonce documents = read_by moment nonce (request_messages documents)
 
+-- the place of the first message of a request with these slots, whose messages stand from this place on; one without messages has none
+abbrev pub place_of : ℕ → List Slot → Option ℕ
+place_of first [] = None
+place_of first (slot ∷ slots) = Some first
+
 module _ (tells draws : ℕ → Type 0) where
-  -- At a moment that the clock tells and with a nonce that is drawn, the request stands at some place of what was then seen of the list, and the slots are
-  -- what one thread gives for it there.
-  pub record AreSlotsFor (setup : Setup) (documents : List (List ℕ)) (seen : List LogStep) (slots : List Slot) : Type 0 where
+  -- At a moment that the clock tells and with a nonce that is drawn, the request stands at some place of what was then seen of the list, that of its first
+  -- message, and the slots are what one thread gives for it there.
+  pub record AreSlotsFor (setup : Setup) (documents : List (List ℕ)) (seen : List LogStep) (place : Option ℕ) (slots : List Slot) : Type 0 where
     pub moment : ℕ
     pub nonce : ℕ
     pub first : ℕ
@@ -83,6 +88,7 @@ module _ (tells draws : ℕ → Type 0) where
     pub drawn : draws nonce
     pub admitted : IsAdmittedAt (request_of moment nonce documents) first [] seen
     pub slots_at : AreSlotsAt setup (request_of moment nonce documents) first seen slots
+    pub placed : place ≡ place_of first slots
 
   -- At such a moment and with such a nonce, the hub refuses the request for a reason of this status.
   pub record IsRefusedWith (documents : List (List ℕ)) (fault : PostFault) (status : Status) : Type 0 where

@@ -1,5 +1,5 @@
 //! What a service stands on.
-ghost use Rattle.std.specs.Prelude.{⊤, ◌≡◌, ◌⊎◌, ℕ, [], None, Result, IfOk, IfErr};
+ghost use Rattle.std.specs.Prelude.{⊤, ◌≡◌, ◌⊎◌, ℕ, [], None, Option, Result, IfOk, IfErr};
 ghost use Rattle.std.specs.Vec.Iter.{into_iter_items};
 ghost use Rattle.bx_entry.specs.Placings.{placed_by};
 ghost use Rattle.bx_cut.specs.Bodies.{texts_of};
@@ -39,6 +39,16 @@ pub trait Nonces {
     /// 128 bits.
     fn next(&self) -> u128
         ensures { draws self.now result };
+}
+
+/// Items that may answer messages of the list.
+pub trait Placed {
+    // Holds of items and of the place that they may tell.
+    ghost stands: { Self → Option ℕ → Type 0 } = { λ _ _. ⊤ };
+
+    /// The place of the first message that they answer; none where they answer none.
+    fn place(&self) -> Option<u64>
+        ensures { stands self.now result };
 }
 
 /// The response has no items: an answer cannot be told, or there is no memory.
@@ -124,11 +134,11 @@ where
 {
     type Items = Gathering<J, P, G, R>;
 
-    // Nothing of the response is there yet, and its slots are what one thread gives for the request with these documents; or
+    // Nothing of the response is there yet, and its slots, and the place that it tells, are what one thread gives for the request with these documents; or
     // the request is refused and its documents come back. Without memory for one more handle of the hub it is unavailable.
     ghost admits = { λ backend bodies outcome.
         IfOk outcome (λ g. (g.items.items ≡ []) × (g.held ≡ None)
-        × AreSlotsFor (C.tells backend.clock) (N.draws backend.nonces) (placed_by J.config J.config.shards J.placing) (texts_of bodies) g.pass (into_iter_items g.slots))
+        × AreSlotsFor (C.tells backend.clock) (N.draws backend.nonces) (placed_by J.config J.config.shards J.placing) (texts_of bodies) g.pass g.first (into_iter_items g.slots))
         × IfErr outcome (λ d. (d.bodies ≡ bodies)
         × (((d.status ≡ Unavailable) × (d.fault ≡ faults.Memory)) ⊎ IsRefusedWith (C.tells backend.clock) (N.draws backend.nonces) (texts_of bodies) d.fault d.status)) };
 
@@ -148,7 +158,14 @@ where
         };
         let mut pass = self.hub.pass();
         match self.hub.post(&self.rt, self.alloc, &mut pass, arrival) {
-            Ok(posted) => Ok(Gathering::new(self.rt, self.alloc, hub, pass, posted.slots)),
+            Ok(posted) => Ok(Gathering::new(
+                self.rt,
+                self.alloc,
+                hub,
+                pass,
+                posted.first,
+                posted.slots,
+            )),
             Err(refused) => Err(Declined {
                 status: post_status(refused.fault()),
                 fault: refused.fault(),

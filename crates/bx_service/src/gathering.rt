@@ -9,10 +9,10 @@ ghost use Rattle.bx_held.specs.declared.fault.HeldFault.{HeldFault};
 ghost use Rattle.bx_message.specs.declared.reply.Answer.{Answer};
 ghost use Rattle.bx_message.specs.declared.reply.Item.{Item};
 ghost use Rattle.bx_message.specs.declared.reply.Item.TheVariants.{ReplyItem};
-ghost use Rattle.bx_service.specs.Gatherings.{AreAll, AreBelow, IsBelow, are_below-prop, awaited_as, items_of};
+ghost use Rattle.bx_service.specs.Gatherings.{AreAll, AreBelow, IsBelow, are_below-prop, awaited_as, items_of, place_of};
 ghost use Rattle.bx_window.specs.Steps.{list_of};
 
-use crate::backend::Unanswered;
+use crate::backend::{Placed, Unanswered};
 use bx_entry::{Placing, Slot, Ticket};
 use bx_held::{HeldFault, PendingAnswer};
 use bx_hub::{Gate, Hub, Pass};
@@ -35,22 +35,27 @@ pub struct Gathering<J: Naming, P: Placing, G: Gate + Drop, R: Wait + Drop> {
     items: Vec<Item>,
     held: Option<PendingAnswer<J>>,
     slots: IntoIter<Slot>,
+    // The place of the first message.
+    first: Option<u64>,
     ghost within: { AreBelow (length (list_of pass)) (into_iter_items slots) } by { are_below-prop (length (list_of pass)) (into_iter_items slots) },
 }
 
 impl<J: Naming, P: Placing + Drop, G: Gate + Drop, R: Wait + Copy + Drop> Gathering<J, P, G, R> {
-    /// The items of these slots, which the hub gave to a post with this pass.
+    /// The items of these slots, which the hub gave to a post with this pass, whose first message has this place.
     pub(crate) fn new(
         rt: R,
         alloc: Global,
         hub: Arc<Hub<J, P, G, R>, Global>,
         pass: Pass<J>,
+        first: u64,
         slots: Sequence<Slot>,
     ) -> Gathering<J, P, G, R>
         requires { AreBelow (length (list_of pass)) slots }
         ensures begins { (result.items.items ≡ []) × (result.held ≡ None) }
         ensures slots { (result.pass ≡ pass) × (into_iter_items result.slots ≡ slots) }
+        ensures place { result.first ≡ place_of first slots }
     {
+        let first = place_of(first, slots.as_slice());
         Gathering {
             rt,
             alloc,
@@ -59,6 +64,7 @@ impl<J: Naming, P: Placing + Drop, G: Gate + Drop, R: Wait + Copy + Drop> Gather
             items: Vec::new(alloc),
             held: None,
             slots: slots.into_vec().into_iter(),
+            first,
         }
     }
 
@@ -156,6 +162,24 @@ impl<J: Naming, P: Placing + Drop, G: Gate + Drop, R: Wait + Copy + Drop> Future
             }
             Err(fault) => Poll::Ready(Err(fault)),
         }
+    }
+}
+
+impl<J: Naming, P: Placing, G: Gate + Drop, R: Wait + Drop> Placed for Gathering<J, P, G, R> {
+    ghost stands = { λ g place. place ≡ g.first };
+
+    fn place(&self) -> Option<u64> {
+        self.first
+    }
+}
+
+// The place of the first message of a request with these slots, whose messages stand from this place on.
+fn place_of(first: u64, slots: &[Slot]) -> Option<u64>
+    ensures { result ≡ place_of first slots.now }
+{
+    match slots {
+        [] => None,
+        _ => Some(first),
     }
 }
 

@@ -11,7 +11,7 @@ mod route;
 mod service;
 mod status;
 
-pub use backend::{Backend, Clock, Declined, HubBackend, Nonces, Unanswered};
+pub use backend::{Backend, Clock, Declined, HubBackend, Nonces, Placed, Unanswered};
 pub use collect::{Collect, CollectError};
 pub use exchange::Exchange;
 pub use gathering::Gathering;

@@ -61,6 +61,7 @@ pub fn read_flags<'a>(
         connections,
         figures: matches.get_str("figures"),
         record_file: matches.get_str("record"),
+        record_answers: matches.get_flag("record-answers"),
         until_eof: matches.get_flag("until-eof"),
     })
 }
@@ -271,6 +272,12 @@ fn with_events<'a>(alloc: Global, command: Command<'a>) -> Result<Command<'a>, A
 
 // With those of whoever runs it.
 fn with_running<'a>(alloc: Global, command: Command<'a>) -> Result<Command<'a>, AllocError> {
+    let answers = switch(
+        alloc,
+        "record-answers",
+        "Write the SHA-256 of each answer into the record too",
+    )
+    .requires_arg("record")?;
     command
         .arg(value(
             alloc,
@@ -290,6 +297,7 @@ fn with_running<'a>(alloc: Global, command: Command<'a>) -> Result<Command<'a>, 
             "FILE",
             "The file that it makes, and in which it records what it takes in [default: none]",
         ))?
+        .arg(answers)?
         .arg(switch(alloc, "until-eof", "It ends at the end of standard input"))
 }
 

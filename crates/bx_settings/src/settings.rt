@@ -31,6 +31,8 @@ pub struct Settings<'a> {
     pub figures: Option<&'a str>,
     /// The file that it makes, and in which it records what it takes in; none: it records nothing.
     pub record_file: Option<&'a str>,
+    /// Whether the SHA-256 of each answer stands there too.
+    pub record_answers: bool,
     /// Whether it ends at the end of standard input.
     pub until_eof: bool,
     pub ghost some_body: { 1 ≤ body },

@@ -1,5 +1,8 @@
+use crate::flags::read_flags;
 use crate::seed::read_digits;
 use crate::time::milliseconds;
+use clap::error::ErrorKind;
+use std::alloc::{AllocError, Global};
 use std::test::Fail;
 
 // Times with the milliseconds that they say.
@@ -41,5 +44,38 @@ fn seeds_are_64_digits(rt: HostRuntime) -> Result<(), Fail> {
     assert!(rt;
         read_digits(b"g00102030405060708090a0b0c0d0e0f101112131415161718191a1b1c1d1e1f").is_none()
     );
+    Ok(())
+}
+
+fn owned(alloc: Global, words: &[&str]) -> Result<Vec<String>, AllocError> {
+    let mut owned = Vec::new(alloc);
+    for word in words {
+        owned.push(String::from_str(alloc, *word)?)?;
+    }
+    Ok(owned)
+}
+
+#[test]
+fn answers_are_recorded_where_a_record_is(rt: HostRuntime) -> Result<(), Fail> {
+    let alloc = rt.alloc();
+    for (words, is_said) in [
+        (&["--record", "monday.record", "--record-answers"][..], true),
+        (&["--record-answers", "--record=monday.record"][..], true),
+        (&["--record", "monday.record"][..], false),
+        (&[][..], false),
+    ] {
+        let words = owned(alloc, words)?;
+        let settings = read_flags(alloc, words.as_slice(), 1).map_err(|_| "no settings")?;
+        assert_eq!(rt; settings.record_answers, is_said);
+        assert_eq!(rt; settings.record_file.is_some(), !words.is_empty());
+    }
+    let words = owned(alloc, &["--record-answers"])?;
+    match read_flags(alloc, words.as_slice(), 1) {
+        Ok(_) => return Err("answers without a record".into()),
+        Err(error) => {
+            assert_eq!(rt; error.kind(), ErrorKind::MissingRequiredArgument);
+            assert_eq!(rt; error.exit_code(), 2);
+        }
+    }
     Ok(())
 }

@@ -43,6 +43,7 @@ pub fn read_words(words: &[String]) -> Option<Settings<'_>>
         connections: number_of(connections.as_bytes())?,
         figures: None,
         record_file: None,
+        record_answers: false,
         until_eof: false,
     })
 }

@@ -4,6 +4,7 @@ ghost use Rattle.bx_window.specs.Steps.{list_of};
 ghost use Rattle.bx_ticks.specs.Ticks.{ticks, tick_entries};
 
 use bx_entry::{Batch, Entry, EntryKind, Listing};
+use bx_history::History;
 use bx_message::Sequence;
 use bx_window::{Bundle, Front, LogWriter, Naming, Note, PublishFault};
 use std::alloc::{AllocError, Global};
@@ -138,5 +139,6 @@ fn ticks(alloc: Global, first: u64, count: u64) -> Result<Bundle, AllocError>
     Ok(Bundle {
         batch: Batch { first, entries },
         elements,
+        inputs: History::new(),
     })
 }

@@ -6,7 +6,7 @@ use Rattle.std.proofs.Math.Seq.{take-append_seam}
 use Rattle.circular_buffer.specs.Buffer.{keep_last}
 use Rattle.bx_entry.specs.Listing.{Listed}
 use Rattle.bx_advice.specs.declared.config.Config.{Config}
-use Rattle.bx_entry.specs.declared.entry.Batch.{Batch}
+use Rattle.bx_entry.specs.declared.{entry.Batch.Batch, input.Input.Input}
 use Rattle.bx_window.specs.declared.{batch.Bundle.Bundle, law.LogStep.LogStep}
 use Rattle.bx_window.specs.Places.{IsOf, Spans, Continues}
 use Rattle.bx_window.specs.Steps.{adding, trimming, list_of, firsts_of, begin_of, before, ends_in, ends_of, IsNewest, IsTrimmed}
@@ -19,11 +19,11 @@ before_added log s =
     rw short (take-append_seam log (s ∷ []))
 
 -- a publish of some items to a window that is not full
-pub newest : (log : List LogStep) (xs : List Listed) (first : ℕ) → 0 < length xs → first ≡ length (list_of log) → length (firsts_of log) < 4096 → IsNewest (log ++ adding xs ∷ []) first
-newest log xs first some is room =
-    let all = firsts_of_adding log xs some in
-    let same = before_added log (adding xs) in
-    let old : firsts_of (before (log ++ adding xs ∷ [])) ≡ firsts_of log = ap firsts_of same in
+pub newest : (log : List LogStep) (xs : List Listed) (inputs : List Input) (first : ℕ) → 0 < length xs → first ≡ length (list_of log) → length (firsts_of log) < 4096 → IsNewest (log ++ adding xs inputs ∷ []) first
+newest log xs inputs first some is room =
+    let all = firsts_of_adding log xs inputs some in
+    let same = before_added log (adding xs inputs) in
+    let old : firsts_of (before (log ++ adding xs inputs ∷ [])) ≡ firsts_of log = ap firsts_of same in
     record {
       begins = is ∙ sym (ap (λ l. length (list_of l)) same);
       firsts = all ∙ (ap (λ n. firsts_of log ++ n ∷ []) (sym is) ∙ ap (λ fs. fs ++ first ∷ []) (sym old));
@@ -104,14 +104,14 @@ ends_at (f ∷ fs) zero end d lt = refl
 ends_at (f ∷ fs) (suc i) end d lt = let e : suc i + 1 ≡ suc (i + 1) = omega arith in rw e (ends_at fs i end d (omega arith))
 
 -- a batch that continues the list of a window that is not full
-pub newest_bundle : (config : Config) (log : List LogStep) (b : Bundle) → Continues config (list_of log) b → length (firsts_of log) < 4096 → IsNewest (log ++ adding b.elements ∷ []) b.batch.first
+pub newest_bundle : (config : Config) (log : List LogStep) (b : Bundle) → Continues config (list_of log) b → length (firsts_of log) < 4096 → IsNewest (log ++ adding b.elements b.inputs ∷ []) b.batch.first
 newest_bundle config log b c room =
     let some : 0 < length b.elements = omega (arith, many_elements config (list_of log) b c, c.some) in
-    newest log b.elements b.batch.first some c.first room
+    newest log b.elements b.inputs b.batch.first some c.first room
 
-pub ends_bundle : (config : Config) (log : List LogStep) (b : Bundle) → Continues config (list_of log) b → b.batch.first + length b.batch.entries ≡ length (list_of (log ++ adding b.elements ∷ []))
+pub ends_bundle : (config : Config) (log : List LogStep) (b : Bundle) → Continues config (list_of log) b → b.batch.first + length b.batch.entries ≡ length (list_of (log ++ adding b.elements b.inputs ∷ []))
 ends_bundle config log b c =
-    let all = ap length (list_of-adding log b.elements) in
+    let all = ap length (list_of-adding log b.elements b.inputs) in
     omega (arith, all, length-append (list_of log) b.elements, many_elements config (list_of log) b c, c.first)
 
 -- a place of the window lies between the first batch and the end behind the last one

@@ -2,7 +2,8 @@
 ghost use Rattle.std.specs.Prelude.{◌≡◌, ◌-◌, Some, slice_get};
 ghost use Rattle.bx_window.specs.Places.{IsOf};
 
-use bx_entry::{Batch, Entry, Listing};
+use bx_entry::{Batch, Entry, Input, Listing};
+use bx_history::History;
 
 /// A batch, and the messages and ticks that it comes of.
 #[derive(Drop)]
@@ -11,6 +12,8 @@ pub struct Bundle {
     pub batch: Batch,
     /// The elements of the list that these are the entries of. Contracts alone see them, and they take no bytes.
     pub elements: Listing,
+    /// The requests and ticks that were handed in, of which these elements come. Contracts alone see them, and they take no bytes.
+    pub inputs: History<Input>,
 }
 
 /// The entry of a batch at one of its places.

@@ -7,7 +7,8 @@ ghost use Rattle.bx_window.specs.Steps.{adding, trimming, stepping, list_of, beg
 ghost use Rattle.bx_window.specs.Rules.{head_of};
 
 use crate::law::{Add, Asked, Law, Logged, Naming, NoGain, Open, Spare, Whole};
-use bx_entry::Listing;
+use bx_entry::{Input, Listing};
+use bx_history::History;
 use logbook::{Offer, Pen, Seen, Start, Word};
 use std::marker::{Model, PhantomData};
 
@@ -36,9 +37,10 @@ impl Opened {
     {
         let Opened { head, mut seen } = self;
         let pen = spare(&head, &seen);
-        let elements = Listing::new();
+        let (elements, inputs) = (Listing::new(), History::new());
         let asked = Asked {
             elements: &elements,
+            inputs: &inputs,
             dropped: 0,
             next: &pen,
         };
@@ -135,16 +137,24 @@ impl<J: Naming> Book<J> {
     }
 
     // Adds a step behind all others, after which the list and the window are these.
-    fn step(&mut self, elements: &Listing, dropped: u64, len: u64, begin: u64)
+    fn step(
+        &mut self,
+        elements: &Listing,
+        inputs: &History<Input>,
+        dropped: u64,
+        len: u64,
+        begin: u64,
+    )
         requires room { length self.old < 2 ^ 62 }
-        requires len { len ≡ length (list_of (self.old ++ stepping elements.now dropped ∷ [])) }
-        requires begin { begin ≡ begin_of (self.old ++ stepping elements.now dropped ∷ []) }
+        requires len { len ≡ length (list_of (self.old ++ stepping elements.now inputs.now dropped ∷ [])) }
+        requires begin { begin ≡ begin_of (self.old ++ stepping elements.now inputs.now dropped ∷ []) }
         requires bounded { len ≤ greatest_length }
-        ensures { self.new ≡ self.old ++ stepping elements.now dropped ∷ [] }
+        ensures { self.new ≡ self.old ++ stepping elements.now inputs.now dropped ∷ [] }
     {
         let next = spare(&self.head, &self.seen);
         let asked = Asked {
             elements,
+            inputs,
             dropped,
             next: &next,
         };
@@ -163,15 +173,15 @@ impl<J: Naming> Book<J> {
         self.seen = seen;
     }
 
-    // Adds so many elements.
-    pub(crate) fn add(&mut self, elements: &Listing, count: u64)
+    // Adds so many elements, which come of these inputs.
+    pub(crate) fn add(&mut self, elements: &Listing, inputs: &History<Input>, count: u64)
         requires room { length self.old < 2 ^ 62 }
         requires count { length elements.now ≡ count }
         requires places { length (list_of self.old) + count ≤ greatest_length }
-        ensures { self.new ≡ self.old ++ adding elements.now ∷ [] }
+        ensures { self.new ≡ self.old ++ adding elements.now inputs.now ∷ [] }
     {
         let front = self.front();
-        self.step(elements, 0, front.len() + count, front.begin());
+        self.step(elements, inputs, 0, front.len() + count, front.begin());
     }
 
     // Drops so many batches, after which the window begins at `begin`.
@@ -181,7 +191,7 @@ impl<J: Naming> Book<J> {
         ensures { self.new ≡ self.old ++ trimming count ∷ [] }
     {
         let len = self.front().len();
-        self.step(&Listing::new(), count, len, begin);
+        self.step(&Listing::new(), &History::new(), count, len, begin);
     }
 }
 

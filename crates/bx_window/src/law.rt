@@ -1,5 +1,6 @@
 //! The log of the window's steps, which exists in proofs alone, and its rule.
-use bx_entry::Listing;
+use bx_entry::{Input, Listing};
+use bx_history::History;
 use logbook::{Gain, Pen, Plain, Play, Rule};
 use std::marker::Brand;
 
@@ -8,6 +9,8 @@ use std::marker::Brand;
 pub struct LogStep {
     /// What comes behind the list, in order.
     pub elements: Listing,
+    /// The requests and ticks that they come of, in order.
+    pub inputs: History<Input>,
     /// How many of the window's oldest batches are dropped.
     pub dropped: u64,
 }
@@ -92,6 +95,8 @@ impl Play<Logged, u64> for Whole {
 pub struct Asked<'a> {
     /// What the step adds to the list, in order.
     pub elements: &'a Listing,
+    /// The requests and ticks that they come of, in order.
+    pub inputs: &'a History<Input>,
     /// How many of the window's oldest batches it drops.
     pub dropped: u64,
     /// The pen that the step after it is added by.
@@ -101,7 +106,7 @@ pub struct Asked<'a> {
 impl<'a> Plain<Asked<'a>, Logged, u64> for Add {
     ghost use Rattle.std.specs.Prelude.{None};
 
-    ghost ask = { λ a. record { step = record { elements = a.elements.now; dropped = a.dropped }; next = a.next.now.nib.key } };
+    ghost ask = { λ a. record { step = record { elements = a.elements.now; inputs = a.inputs.now; dropped = a.dropped }; next = a.next.now.nib.key } };
 
     ghost state = { λ a. None };
 }
@@ -110,7 +115,7 @@ impl<'a> Plain<Asked<'a>, Logged, u64> for Add {
 impl Plain<u64, Logged, u64> for Spare {
     ghost use Rattle.std.specs.Prelude.{None, []};
 
-    ghost ask = { λ n. record { step = record { elements = []; dropped = n }; next = 0 } };
+    ghost ask = { λ n. record { step = record { elements = []; inputs = []; dropped = n }; next = 0 } };
 
     ghost state = { λ n. None };
 }

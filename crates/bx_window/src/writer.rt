@@ -6,7 +6,7 @@ ghost use Rattle.std.specs.Arc.{arc_value};
 ghost use Rattle.std.specs.List.{All};
 ghost use Rattle.bx_advice.specs.Limits.{greatest_length};
 ghost use Rattle.bx_window.specs.Places.{Continues};
-ghost use Rattle.bx_window.specs.Steps.{adding, list_of, firsts_of, below};
+ghost use Rattle.bx_window.specs.Steps.{adding, list_of, inputs_of, firsts_of, below};
 ghost use Rattle.bx_window.specs.declared.law.LogStep.{LogStep};
 ghost use Rattle.bx_window.specs.Changes.{after};
 ghost use Rattle.bx_window.specs.Showing.{IsShown};
@@ -19,7 +19,8 @@ use crate::published::{PublishedBatch, RingChange, Trimmed};
 use crate::reader::{LogReader, Memory};
 use crate::ring::{Ring, drop_first};
 use crate::showing::{Late, catch_up, make_room, show};
-use bx_entry::{Batch, Listing};
+use bx_entry::{Batch, Input, Listing};
+use bx_history::History;
 use circular_buffer::HeapCircularBuffer;
 use left_right::{Absorb, WriteHandle};
 use std::alloc::{AllocError, Global};
@@ -147,7 +148,7 @@ impl<J: Naming, R: Wait + Drop> Writer<J, R, Ring<J>, RingChange<J>> {
         requires continues { Continues J.config (list_of self.old) bundle }
         requires places { length (list_of self.old) + length bundle.batch.entries ≤ greatest_length }
         requires steps { length self.old < 2 ^ 62 }
-        ensures ok { OnOk result (self.new ≡ self.old ++ adding bundle.elements ∷ []) }
+        ensures ok { OnOk result (self.new ≡ self.old ++ adding bundle.elements bundle.inputs ∷ []) }
         ensures err { IfErr result (λ e. (e.0 ≡ bundle) × (self.new ≡ self.old) × IsFair self.old e.1) }
     {
         if self.firsts.len() >= MAX_BATCHES {
@@ -156,13 +157,13 @@ impl<J: Naming, R: Wait + Drop> Writer<J, R, Ring<J>, RingChange<J>> {
         if !catch_up(&mut self.handle, &mut self.late) {
             return Err((bundle, PublishFault::Memory));
         }
-        let (batch, elements) = match shared(alloc, bundle) {
+        let (batch, elements, inputs) = match shared(alloc, bundle) {
             Ok(parts) => parts,
             Err(bundle) => return Err((bundle, PublishFault::Memory)),
         };
         let first = batch.first;
         let count = batch.entries.len() as u64;
-        self.book.add(&elements, count);
+        self.book.add(&elements, &inputs, count);
         let published = PublishedBatch::new(batch, self.book.front());
         self.late = show(&mut self.handle, RingChange::Add(published));
         put_last(&mut self.firsts, first);
@@ -172,11 +173,12 @@ impl<J: Naming, R: Wait + Drop> Writer<J, R, Ring<J>, RingChange<J>> {
     /// Drops the batches that lie wholly below the place n, and no other: readers then find `Overrun` at their places. It
     /// waits for the readers that are inside the ring. It takes no memory. `Err` where an earlier change is late and refused
     /// again, and nothing changes then; a trim that drops nothing waits for nobody.
-    #[tactic(auto, using(crate::proofs::Lists::begin_of_trimming, crate::proofs::Lists::list_of_trimming, crate::proofs::Lists::firsts_of_trimming, crate::proofs::Rings::trimmed))]
+    #[tactic(auto, using(crate::proofs::Lists::begin_of_trimming, crate::proofs::Lists::list_of_trimming, crate::proofs::Lists::inputs_of_trimming, crate::proofs::Lists::firsts_of_trimming, crate::proofs::Rings::trimmed))]
     pub fn trim(&mut self, _alloc: Global, n: u64) -> Result<(), Memory>
         requires steps { length self.old < 2 ^ 62 }
         ensures grows { IsPrefix self.old self.new }
         ensures list { list_of self.new ≡ list_of self.old }
+        ensures inputs { inputs_of self.new ≡ inputs_of self.old }
         ensures ok { OnOk result (firsts_of self.new ≡ drop (below n (length (list_of self.old)) (firsts_of self.old)) (firsts_of self.old)) }
         ensures err { OnErr result (self.new ≡ self.old) }
     {
@@ -197,17 +199,25 @@ impl<J: Naming, R: Wait + Drop> Writer<J, R, Ring<J>, RingChange<J>> {
     }
 }
 
-// The batch under a count of owners, with its elements. Where no memory is left, the bundle comes back.
-fn shared(alloc: Global, bundle: Bundle) -> Result<(Arc<Batch, Global>, Listing), Bundle>
-    ensures ok { IfOk result (λ r. (arc_value r.0 ≡ bundle.batch) × (r.1 ≡ bundle.elements)) }
+// The batch under a count of owners, with its elements and inputs. Where no memory is left, the bundle comes back.
+fn shared(
+    alloc: Global,
+    bundle: Bundle,
+) -> Result<(Arc<Batch, Global>, Listing, History<Input>), Bundle>
+    ensures ok { IfOk result (λ r. (arc_value r.0 ≡ bundle.batch) × (r.1 ≡ bundle.elements) × (r.2 ≡ bundle.inputs)) }
     ensures err { IfErr result (λ b. b ≡ bundle) }
 {
-    let Bundle { batch, elements } = bundle;
+    let Bundle {
+        batch,
+        elements,
+        inputs,
+    } = bundle;
     match Arc::new(alloc, batch) {
-        Ok(batch) => Ok((batch, elements)),
+        Ok(batch) => Ok((batch, elements, inputs)),
         Err(failed) => Err(Bundle {
             batch: failed.value,
             elements,
+            inputs,
         }),
     }
 }

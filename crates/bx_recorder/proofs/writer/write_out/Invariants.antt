@@ -1,6 +1,6 @@
 use Rattle.std.proofs.Common.{◌≡◌, []}
 use Rattle.bx_recorder.proofs.writer.write_out.Given as goal
 
--- the buffer that is handed in is empty
+-- the buffers that are handed in are empty
 abbrev pub invariant-loop : goal.invariant-loop
-invariant-loop g l = (goal.iterator-loop g).can_next l.iterator' × (goal.iterator-loop g).is_finite l.iterator' × (l.empty.items ≡ [])
+invariant-loop g l = (goal.iterator-loop g).can_next l.iterator' × (goal.iterator-loop g).is_finite l.iterator' × (l.text.items ≡ []) × (l.notes.items ≡ [])

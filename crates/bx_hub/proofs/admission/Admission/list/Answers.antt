@@ -2,13 +2,16 @@ use Rattle.std.proofs.Common.{◌≡◌, ◌<◌, ◌++◌, [], ◌∙◌, List,
 use Rattle.std.proofs.lemmas.Result.{IfOk-weaker}
 use Rattle.bx_entry.specs.Placings.{Setup, placed_by}
 use Rattle.bx_entry.specs.Words.{ReadInput, added_by, refusal_of, Listed}
-use Rattle.bx_window.specs.Steps.{list_of}
+use Rattle.bx_entry.specs.declared.input.Input.{Input}
+use Rattle.bx_window.specs.Steps.{inputs_of, list_of}
 use Rattle.bx_window.specs.declared.law.LogStep.{LogStep}
 use Rattle.bx_registry.specs.Slots.{admitted_slots}
 use Rattle.bx_hub.specs.Listables.{input_of}
+use Rattle.bx_hub.specs.Records.{inputs_by}
 use Rattle.bx_hub.specs.Posts.{AreSlotsAt, IsAdmittedAt}
 use Rattle.bx_hub.specs.declared.admission.Receipt.{Receipt}
 use Rattle.bx_hub.proofs.Posts.{admitted_by, entries_many, none_added, slots_by, unpublished_result}
+use Rattle.bx_hub.proofs.Records.{list_by_one, none_by}
 use Rattle.bx_hub.proofs.admission.Admission.list.Goals as goal
 
 pub returns-then-count-eq0-clause-admitted : goal.returns-then-count-eq0-clause-admitted
@@ -73,3 +76,12 @@ returns-clause-refused g c =
     (omega (arith, entries_many d.registry p c.in_ok-plan.ensures.continues, c.len-count.ensures, c.if-count-eq0.false)) in
     unpublished_result input (list_of d.writer) d.writer c.publish.new.self.writer pass c.publish.new.pass c.publish.result c.in_ok-plan.ensures.allowed
     (ap list_of (c.plan.ensures.same.0 ∙ sym c.in_ok-tell.ensures.whole.0)) some c.publish.ensures.same c.publish.ensures.refused
+
+pub returns-then-count-eq0-clause-inputs : goal.returns-then-count-eq0-clause-inputs
+returns-then-count-eq0-clause-inputs g c =
+    let d = c.plan.new.self in
+    let p = c.in_ok-plan.plan in
+    let old : List Input = inputs_of c.args.self.now.writer in
+    let none : p.elements ≡ [] = none_added p.elements (omega (arith, entries_many d.registry p c.in_ok-plan.ensures.continues, c.len-count.ensures, c.if-count-eq0.true)) in
+    let nothing : inputs_by c.args.wanted.now ≡ [] = none_by c.args.wanted.now (sym c.in_ok-plan.ensures.elements ∙ none) in
+    ap inputs_of (c.plan.ensures.same.0 ∙ c.tell.ensures.same.1) ∙ sym (append-nil old) ∙ ap (λ (xs : List Input). old ++ xs) (sym nothing)

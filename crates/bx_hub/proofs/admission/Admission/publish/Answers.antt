@@ -1,18 +1,19 @@
-use Rattle.std.proofs.Common.{◌≡◌, ◌++◌, ◌∷◌, [], ◌∙◌, List, sym, ap, subst}
+use Rattle.std.proofs.Common.{◌≡◌, ◌++◌, ◌∷◌, [], ◌∙◌, List, sym, ap, ap₂, subst}
 use Rattle.bx_registry.specs.Standings.{LeadsTo, Standing}
 use Rattle.bx_entry.specs.Listing.{Listed}
-use Rattle.bx_window.specs.Steps.{adding, list_of}
-use Rattle.bx_window.proofs.Lists.{list_of-adding}
+use Rattle.bx_window.specs.Steps.{adding, inputs_of, list_of}
+use Rattle.bx_window.proofs.Lists.{inputs_of_adding, list_of-adding}
 use Rattle.std.specs.Option.{ForSome}
 use Rattle.bx_hub.specs.Records.{list_by}
 use Rattle.bx_hub.specs.declared.recording.Recording.{Recording}
+use Rattle.bx_hub.proofs.Records.{list_by-append}
 use Rattle.bx_hub.proofs.Posts.{continues, places_end}
 use Rattle.bx_hub.proofs.admission.Admission.publish.Goals as goal
 
 pub publish-requires-clause-continues : goal.publish-requires-clause-continues
 publish-requires-clause-continues g c =
     let d = c.args.self.now in
-    continues g.J.Naming.config (list_of d.writer) d.registry c.args.plan d.config d.listed c.requires.continues c.requires.some
+    continues g.J.Naming.config (list_of d.writer) d.registry c.args.plan c.args.inputs d.config d.listed c.requires.continues c.requires.some
 
 pub publish-requires-clause-places : goal.publish-requires-clause-places
 publish-requires-clause-places g c =
@@ -24,10 +25,17 @@ invariant_of-self g c =
     let d = c.args.self.now in
     let p = c.args.plan in
     let made = c.commit.ensures in
-    let grown = ap list_of c.in-Ok.ensures.ok ∙ list_of-adding d.writer p.elements in
+    let grown = ap list_of c.in-Ok.ensures.ok ∙ list_of-adding d.writer p.elements c.args.inputs in
+    let told = ap inputs_of c.in-Ok.ensures.ok ∙ inputs_of_adding d.writer p.elements c.args.inputs in
     record {
       config = ap (λ (l : Standing). l.config) made ∙ d.config;
       counted = ap (λ (l : Standing). l.shards) made ∙ d.counted;
       listed = ap (λ (l : Standing). l.list) made ∙ ap (λ (xs : List Listed). d.registry.list ++ xs) c.again-added.ensures ∙ ap (λ (xs : List Listed). xs ++ p.elements) d.listed ∙ sym grown;
-      recorded = subst (λ o. ForSome o (λ (r : Recording). list_by r.inputs ≡ list_of c.publish.new.self)) (sym c.requires.unrecorded) (λ r is. absurd (cc is));
+      of_inputs = ap list_by told ∙ list_by-append (inputs_of d.writer) c.args.inputs ∙ ap₂ (λ (xs ys : List Listed). xs ++ ys) d.of_inputs c.requires.inputs ∙ sym grown;
+      recorded = subst (λ o. ForSome o (λ (r : Recording g.row.J.Denot g.J.Naming). r.inputs ≡ inputs_of c.publish.new.self)) (sym c.requires.unrecorded) (λ r is. absurd (cc is));
     }
+
+pub returns-in-Ok-clause-inputs : goal.returns-in-Ok-clause-inputs
+returns-in-Ok-clause-inputs g c =
+    let d = c.args.self.now in
+    ap inputs_of c.in-Ok.ensures.ok ∙ inputs_of_adding d.writer c.args.plan.elements c.args.inputs

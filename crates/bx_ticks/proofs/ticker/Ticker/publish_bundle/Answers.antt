@@ -25,5 +25,5 @@ pub invariant_of-self : goal.invariant_of-self
 invariant_of-self g c =
     let w = c.args.self.now in
     let b = c.args.bundle in
-    let grown = ap list_of c.in-Ok.ensures.ok ∙ list_of-adding w.writer b.elements in
+    let grown = ap list_of c.in-Ok.ensures.ok ∙ list_of-adding w.writer b.elements b.inputs in
     record { ticks = grown ∙ (ap (λ (l : List Listed). l ++ b.elements) w.ticks ∙ (ap (λ (l : List Listed). ticks w.end ++ l) c.requires.elements ∙ ticks_add w.end c.args.count)) }

@@ -7,4 +7,4 @@ pub step-requires-clause-len : goal.step-requires-clause-len
 step-requires-clause-len g c =
     let log = c.args.self.now in
     let xs = c.args.elements.now in
-    rw (list_of-adding log xs) (omega (arith, length-append (list_of log) xs, c.len.ensures.end, ap (λ l. length (list_of l)) c.front-front.ensures, c.requires.count))
+    rw (list_of-adding log xs c.args.inputs.now) (omega (arith, length-append (list_of log) xs, c.len.ensures.end, ap (λ l. length (list_of l)) c.front-front.ensures, c.requires.count))

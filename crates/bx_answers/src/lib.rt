@@ -1,0 +1,16 @@
+//! Notes which answers were given: the lines of a record that say their digests, while they wait to be written.
+#![tactic(auto)]
+
+mod answer_log;
+mod backend;
+mod items;
+mod line;
+#[cfg(test)]
+mod tests;
+mod waiting;
+
+pub use answer_log::AnswerLog;
+pub use backend::NotedBackend;
+pub use items::NotedItems;
+pub use line::answer_line;
+pub use waiting::{AnswerFault, TakenAnswers};

@@ -1,0 +1,20 @@
+//! The line of an answer.
+ghost use Rattle.std.specs.Prelude.{◌≡◌, IfOk};
+ghost use Rattle.bx_message.specs.Texts.{body_text};
+ghost use Rattle.bx_record.specs.Answers.{answer_text};
+ghost use Rattle.sha2.specs.Sha256.{sha256};
+
+use bx_message::{Item, body_text};
+use bx_record::answer_text;
+use sha2::{Digest, Sha256};
+use std::alloc::{AllocError, Global};
+
+/// The line that says, by the SHA-256 of their JSON array, which items answered the request whose first message stands at this place. An error means that
+/// memory was refused.
+pub fn answer_line(alloc: Global, place: u64, items: &[Item]) -> Result<Vec<u8>, AllocError>
+    ensures { IfOk result (λ line. line.items ≡ answer_text place (sha256 (body_text items.now))) }
+{
+    let text = body_text(alloc, items)?;
+    let digest = Sha256::digest(text.as_slice());
+    answer_text(alloc, place, &digest)
+}
