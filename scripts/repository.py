@@ -1,10 +1,14 @@
-"""What crates.txt lists, and runs of one command a crate in the order in which crates stand on one another."""
+"""What crates.txt lists, the toolchain, what was made of which text, and runs of one command a crate in the order in which crates stand on one another."""
+import hashlib
 import os
+import shutil
 import subprocess
 import sys
 import time
 
 TOP = os.path.dirname(os.path.dirname(os.path.realpath(__file__)))
+# What `rt version` says of the toolchain that this repository is written for.
+LOGIC = "logic dac8208d650f15bf"
 PROCESSORS = len(os.sched_getaffinity(0))
 # How often a run looks at what is at work, in seconds.
 PAUSE = 0.5
@@ -60,6 +64,61 @@ def files_of(name):
     return found
 
 
+def toolchain():
+    """Returns the folder of the toolchain. Ends where its command rt is not on the path, or is of another version."""
+    found = shutil.which("rt")
+    if not found:
+        sys.exit("gadzilk: the toolchain's command rt is not on the path: README.md says what it is")
+    kit = os.path.dirname(os.path.dirname(os.path.realpath(found)))
+    with open(f"{kit}/KIT-ID", encoding="ascii") as text:
+        said = text.read().strip()
+    if LOGIC not in said:
+        sys.exit(f"gadzilk: rt is of {said}, and this repository is written for {LOGIC}: put the folder of that one first on the path")
+    return kit
+
+
+class Sums:
+    """Sums of all that crates are made from: their text, what they name, the crates below, the toolchain."""
+
+    def __init__(self, kit):
+        self.named, self.found = named(), {}
+        with open(f"{kit}/KIT-ID", "rb") as text:
+            self.kit = text.read()
+
+    def of(self, name):
+        """Returns the sum of a crate."""
+        if name not in self.found:
+            made_of = hashlib.sha256(repr(self.named[name]).encode())
+            for file in sorted(files_of(name)):
+                with open(file, "rb") as text:
+                    made_of.update(repr((file[len(TOP) :], text.read())).encode())
+            for it in self.named[name]:
+                if it in self.named:
+                    made_of.update(self.of(it).encode())
+            made_of.update(self.kit)
+            self.found[name] = made_of.hexdigest()
+        return self.found[name]
+
+
+def digest_of(file):
+    with open(file, "rb") as text:
+        return hashlib.sha256(text.read()).hexdigest()
+
+
+def mark(program, made_of):
+    """Notes beside a program of which sum it was made."""
+    with open(f"{program}.made", "w", encoding="ascii") as text:
+        text.write(f"{made_of} {digest_of(program)}")
+
+
+def is_made(program, made_of):
+    """Returns whether this program stands there, and was made of this sum."""
+    if not os.path.isfile(program) or not os.path.isfile(f"{program}.made"):
+        return False
+    with open(f"{program}.made", encoding="ascii") as text:
+        return text.read() == f"{made_of} {digest_of(program)}"
+
+
 def has_tests(name):
     """Returns whether some file of the crate has a test."""
     for file in files_of(name):
@@ -80,6 +139,11 @@ def lines_of(name):
         with open(file, "rb") as text:
             count += text.read().count(b"\n")
     return count
+
+
+def lines_below(name):
+    """Returns how many lines a crate has with all that it stands on."""
+    return sum(map(lines_of, below([name])))
 
 
 def chains(names):

@@ -12,13 +12,13 @@ mod role;
 mod tally;
 mod worker;
 
-use bx_load::LoadSettings;
+use bx_load::{LoadSettings, SettingsFault};
 use fault::Fault;
 use load::load;
 use report::report;
+use std::env;
 use std::io::IsTerminal;
 use std::process::ExitCode;
-use std::{env, io};
 use tally::Tally;
 
 /// What standard error says of bad arguments.
@@ -26,25 +26,28 @@ const USAGE: &str = "usage: bayeux_load url sessions channels publishers events 
 
 fn main(rt: HostRuntime) -> ExitCode {
     match settings(&rt) {
-        Ok(Some(settings)) => match load(rt, settings, rt.stderr().is_terminal()) {
+        Ok(settings) => match load(rt, settings, rt.stderr().is_terminal()) {
             Ok(tally) => reported(&rt, &tally),
             Err(fault) => failed(&rt, fault),
         },
-        Ok(None) => {
-            let _ = rt.eprintln(USAGE);
+        Err(SettingsFault::Memory) => failed(&rt, Fault::Memory),
+        Err(fault) => {
+            let _ = eprintln!(rt; "{USAGE}\nbayeux_load: {fault}");
             ExitCode::from(2)
         }
-        Err(_) => failed(&rt, Fault::Memory),
     }
 }
 
 // What the arguments of the process say.
-fn settings(rt: &HostRuntime) -> io::Result<Option<LoadSettings>> {
+fn settings(rt: &HostRuntime) -> Result<LoadSettings, SettingsFault> {
     let mut words = Vec::new(rt.alloc());
-    for word in env::args(rt)?.skip(1) {
-        words.push(word)?;
+    for word in env::args(rt)
+        .map_err(|_error| SettingsFault::Memory)?
+        .skip(1)
+    {
+        words.push(word).map_err(|_word| SettingsFault::Memory)?;
     }
-    Ok(LoadSettings::read(rt.alloc(), words.as_slice())?)
+    LoadSettings::read(rt.alloc(), words.as_slice())
 }
 
 // Prints what came of the load.

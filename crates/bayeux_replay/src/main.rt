@@ -2,7 +2,7 @@
 #![tactic(auto)]
 
 use bx_entry::ByRemainder;
-use bx_replay::{Arguments, replay};
+use bx_replay::{Arguments, WrongWord, replay};
 use bx_script::{Lines, Output, ScriptFault};
 use std::io::{BufReader, BufWriter};
 use std::process::ExitCode;
@@ -16,9 +16,9 @@ const USAGE: &str =
 
 fn main(rt: HostRuntime) -> ExitCode {
     let arguments = match arguments(&rt) {
-        Ok(Some(arguments)) => arguments,
-        Ok(None) => {
-            let _ = rt.eprintln(USAGE);
+        Ok(Ok(arguments)) => arguments,
+        Ok(Err(wrong)) => {
+            let _ = eprintln!(rt; "{USAGE}\nbayeux_replay: {wrong}");
             return ExitCode::from(2);
         }
         Err(error) => return failed(&rt, ScriptFault::of_read(&error)),
@@ -29,8 +29,8 @@ fn main(rt: HostRuntime) -> ExitCode {
     }
 }
 
-// The arguments that the process was given; none where they are not what the usage says.
-fn arguments(rt: &HostRuntime) -> io::Result<Option<Arguments>> {
+// The arguments that the process was given, or which of its words is not what the usage says.
+fn arguments(rt: &HostRuntime) -> io::Result<Result<Arguments, WrongWord>> {
     let mut words = Vec::new(rt.alloc());
     for word in env::args(rt)?.skip(1) {
         words.push(word)?;

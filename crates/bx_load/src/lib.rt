@@ -16,5 +16,5 @@ pub use items::{Received, Stamp, client_of, item_of};
 pub use latencies::Latencies;
 pub use requests::{connect, handshake, publish, subscribe, touch};
 pub use response::{Malformed, Response, read_response};
-pub use settings::{LoadSettings, Target};
+pub use settings::{LoadSettings, SettingsFault, Target};
 pub use shares::{due, events_of};

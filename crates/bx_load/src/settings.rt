@@ -2,6 +2,7 @@
 ghost use Rattle.std.specs.Prelude.{◌<◌, IfOk, IfSome};
 
 use std::alloc::{AllocError, Global};
+use std::fmt::{self, Display, Formatter, Write};
 
 /// Where the server is.
 #[derive(Drop)]
@@ -42,51 +43,95 @@ pub struct LoadSettings {
     ghost some_publisher: { 0 < publishers },
 }
 
+/// Why words are no settings: memory was refused, how many there are, or the first that does not say what it has to.
+#[derive(Clone, Copy, Debug, PartialEq, Eq)]
+pub enum SettingsFault {
+    /// Memory was refused.
+    Memory,
+    /// There are fewer than five words, or more than seven.
+    Count,
+    /// Where the server is.
+    Url,
+    /// How many sessions receive.
+    Sessions,
+    /// How many channels there are.
+    Channels,
+    /// How many clients publish.
+    Publishers,
+    /// How many events are published.
+    Events,
+    /// How many of them a second.
+    Rate,
+    /// The last of seven words, which says that sessions acknowledge.
+    Ack,
+}
+
+impl From<AllocError> for SettingsFault {
+    fn from(_error: AllocError) -> SettingsFault {
+        SettingsFault::Memory
+    }
+}
+
+impl Display for SettingsFault {
+    /// Writes what the word is called, and what it has to be.
+    fn fmt<W: Write>(&self, f: &mut Formatter<W>) -> fmt::Result {
+        f.write_str(match self {
+            SettingsFault::Memory => "out of memory",
+            SettingsFault::Count => "there have to be five to seven words",
+            SettingsFault::Url => "url has to be as http://127.0.0.1:8087/cometd",
+            SettingsFault::Sessions => "sessions has to be a number from 0 to 4294967295",
+            SettingsFault::Channels => "channels has to be a number from 1 to 4294967295",
+            SettingsFault::Publishers => "publishers has to be a number from 1 to 4294967295",
+            SettingsFault::Events => "events has to be a number from 1 to 4294967295",
+            SettingsFault::Rate => "rate has to be a number from 1 to 4294967295, or ack",
+            SettingsFault::Ack => "the last of seven words has to be ack",
+        })
+    }
+}
+
 impl LoadSettings {
-    /// What these words say; none where they are not a URL, a number of sessions and three numbers above 0, and then a
-    /// further one, `ack` or both. An error means that memory was refused.
-    pub fn read(alloc: Global, words: &[String]) -> Result<Option<LoadSettings>, AllocError> {
+    /// What these words say: a URL, a number of sessions and three numbers above 0, and then a further one, `ack` or both.
+    /// An error names the first word that is not so.
+    pub fn read(alloc: Global, words: &[String]) -> Result<LoadSettings, SettingsFault> {
         let [url, sessions, channels, publishers, events, options @ ..] = words else {
-            return Ok(None);
+            return Err(SettingsFault::Count);
         };
-        let (Ok(sessions), Some(channels), Some(publishers), Some(events)) = (
-            sessions.as_str().parse(),
-            count_of(channels.as_str()),
-            count_of(publishers.as_str()),
-            count_of(events.as_str()),
-        ) else {
-            return Ok(None);
-        };
-        let (Some((rate, is_acknowledging)), Some((host, path))) = (
-            options_of(options),
-            place_of(url.as_str()),
-        ) else {
-            return Ok(None);
-        };
-        let target = Target::new(alloc, host, path)?;
-        Ok(Some(LoadSettings {
-            target,
+        let (host, path) = place_of(url.as_str()).ok_or(SettingsFault::Url)?;
+        let sessions = sessions
+            .as_str()
+            .parse()
+            .ok()
+            .ok_or(SettingsFault::Sessions)?;
+        let channels = count_of(channels.as_str()).ok_or(SettingsFault::Channels)?;
+        let publishers = count_of(publishers.as_str()).ok_or(SettingsFault::Publishers)?;
+        let events = count_of(events.as_str()).ok_or(SettingsFault::Events)?;
+        let (rate, is_acknowledging) = options_of(options)?;
+        Ok(LoadSettings {
+            target: Target::new(alloc, host, path)?,
             sessions,
             channels,
             publishers,
             events,
             rate,
             is_acknowledging,
-        }))
+        })
     }
 }
 
-// The words that may be left out.
-fn options_of(words: &[String]) -> Option<(u32, bool)> {
-    let (rates, is_acknowledging) = match words.split_last() {
-        Some((last, rates)) if last.as_str() == "ack" => (rates, true),
-        _ => (words, false),
-    };
-    match rates {
-        [] => Some((0, is_acknowledging)),
-        [rate] => Some((count_of(rate.as_str())?, is_acknowledging)),
-        _ => None,
+// The words that may be left out: the rate, which is 0 without one, and whether the sessions acknowledge.
+fn options_of(words: &[String]) -> Result<(u32, bool), SettingsFault> {
+    match words {
+        [] => Ok((0, false)),
+        [word] if word.as_str() == "ack" => Ok((0, true)),
+        [rate] => Ok((rate_of(rate)?, false)),
+        [rate, ack] if ack.as_str() == "ack" => Ok((rate_of(rate)?, true)),
+        [_, _] => Err(SettingsFault::Ack),
+        _ => Err(SettingsFault::Count),
     }
+}
+
+fn rate_of(word: &String) -> Result<u32, SettingsFault> {
+    count_of(word.as_str()).ok_or(SettingsFault::Rate)
 }
 
 // A number above 0.

@@ -1,16 +1,16 @@
-use crate::{LoadSettings, Received, Stamp, item_of, publish, read_response};
+use crate::{LoadSettings, Received, SettingsFault, Stamp, item_of, publish, read_response};
 use serde_json::Value;
 use std::alloc::Global;
 use std::test::Fail;
 
 const RESPONSE: &[u8] = b"HTTP/1.1 200 OK\r\nContent-Length: 2\r\n\r\n[]";
 
-fn settings(alloc: Global, words: &str) -> Result<Option<LoadSettings>, Fail> {
+fn settings(alloc: Global, words: &str) -> Result<Result<LoadSettings, SettingsFault>, Fail> {
     let mut all = Vec::new(alloc);
     for word in words.split_whitespace() {
         all.push(String::from_str(alloc, word)?)?;
     }
-    Ok(LoadSettings::read(alloc, all.as_slice())?)
+    Ok(LoadSettings::read(alloc, all.as_slice()))
 }
 
 #[test]
@@ -18,8 +18,7 @@ fn words_are_settings(rt: HostRuntime) -> Result<(), Fail> {
     let read = settings(
         rt.alloc(),
         "http://127.0.0.1:8087/cometd 100 10 4 5000 250 ack",
-    )?;
-    let read = read.ok_or("no settings")?;
+    )??;
     assert_eq!(rt; read.target.host.as_str(), "127.0.0.1:8087");
     assert_eq!(rt; read.target.path.as_str(), "/cometd");
     assert_eq!(rt;
@@ -34,11 +33,24 @@ fn words_are_settings(rt: HostRuntime) -> Result<(), Fail> {
 }
 
 #[test]
-fn other_words_are_none(rt: HostRuntime) -> Result<(), Fail> {
-    assert!(rt; settings(rt.alloc(), "http://h/x 1 1 1")?.is_none());
-    assert!(rt; settings(rt.alloc(), "http://h/x 1 0 1 1")?.is_none());
-    assert!(rt; settings(rt.alloc(), "https://h/x 1 1 1 1")?.is_none());
-    assert!(rt; settings(rt.alloc(), "http://h/x 1 1 1 1 ack 5")?.is_none());
+fn the_first_wrong_word_is_named(rt: HostRuntime) -> Result<(), Fail> {
+    let named = [
+        ("http://h/x 1 1 1", SettingsFault::Count),
+        ("http://h/x 1 1 1 1 1 ack 1", SettingsFault::Count),
+        ("https://h/x 1 0 1 1", SettingsFault::Url),
+        ("http://h 1 1 1 1", SettingsFault::Url),
+        ("http://h/x -1 0 1 1", SettingsFault::Sessions),
+        ("http://h/x 0 0 0 1", SettingsFault::Channels),
+        ("http://h/x 0 1 4294967296 0", SettingsFault::Publishers),
+        ("http://h/x 0 1 4294967295 0", SettingsFault::Events),
+        ("http://h/x 1 1 1 1 0", SettingsFault::Rate),
+        ("http://h/x 1 1 1 1 acks", SettingsFault::Rate),
+        ("http://h/x 1 1 1 1 5 5", SettingsFault::Ack),
+        ("http://h/x 1 1 1 1 ack 5", SettingsFault::Ack),
+    ];
+    for (words, fault) in named {
+        assert_eq!(rt; settings(rt.alloc(), words)?.err(), Some(fault));
+    }
     Ok(())
 }
 
@@ -56,7 +68,7 @@ fn a_response_is_read_once_it_is_whole(rt: HostRuntime) -> Result<(), Fail> {
 
 #[test]
 fn an_event_says_what_was_published(rt: HostRuntime) -> Result<(), Fail> {
-    let settings = settings(rt.alloc(), "http://h:1/x 1 1 1 1")?.ok_or("no settings")?;
+    let settings = settings(rt.alloc(), "http://h:1/x 1 1 1 1")??;
     let stamp = Stamp {
         publisher: 3,
         number: 7,

@@ -1,8 +1,11 @@
 -- Of the first words fewer than five, and more than seven, say nothing; and the first words and the further ones say what all say.
 use Rattle.std.proofs.Common.{◌≡◌, ℕ, ◌<◌, ◌≤◌, List, [], ◌∷◌, length, map, min, take, drop, refl, sym, ap, ◌∙◌, arith}
-use Rattle.std.specs.Prelude.{Option, None, Some}
+use Rattle.std.specs.Prelude.{Option, None, Some, Result, Ok, Err, IsErr}
 use Rattle.std.specs.List.{take-map}
 use Rattle.std.proofs.lemmas.List.{take_min, drop_min, drop-map}
+use Rattle.bx_replay.specs.Arguments.{said_by}
+use Rattle.bx_replay.specs.declared.wrong_word.WrongWord.{WrongWord}
+use Rattle.bx_replay.specs.declared.arguments.Arguments.{Arguments}
 use Rattle.bx_replay.specs.Settings.{Settings, ◌>>=◌, first_in, further_in, settings_in}
 
 pub few : (words : List (List ℕ)) → length words < 5 → None ≡ first_in words
@@ -38,3 +41,7 @@ pub all_of_both : {A : Type 0} (f : A → List ℕ) (xs front back : List A) (s 
 all_of_both f xs front back s all h k first said =
     said ∙ ap (further_in s) (further_words f xs back k)
     ∙ ap (λ (o : Option Settings). o >>= (λ t. further_in t (drop 7 (map f xs)))) (first ∙ ap first_in (first_words f xs front h))
+
+pub said_none : (result : Result Arguments WrongWord) → IsErr result → said_by result ≡ None
+said_none (Err wrong) h = refl
+said_none (Ok arguments) h = grind arith

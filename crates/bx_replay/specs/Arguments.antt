@@ -1,6 +1,8 @@
 -- What the arguments of the program come to.
+use Rattle.std.specs.Prelude.{Option, Some, None, Result, Ok, Err}
 use Rattle.bx_advice.specs.Limits.{standard_limits, IsStandard}
 use Rattle.bx_replay.specs.Settings.{Settings}
+use Rattle.bx_replay.specs.declared.wrong_word.WrongWord.{WrongWord}
 use Rattle.bx_replay.specs.declared.arguments.Arguments.{Arguments}
 
 -- how the server is run by them
@@ -21,3 +23,8 @@ run_by arguments = record {
 -- but for how many events with how many bytes may wait for a session, and how many sessions may be live, the limits are those of this server
 abbrev pub HasStandardLimits : Arguments → Type 0
 HasStandardLimits arguments = IsStandard (record arguments.config.limits { events = standard_limits.events; bytes = standard_limits.bytes; sessions = standard_limits.sessions })
+
+-- how the server is run by what the words came to, where they are right
+abbrev pub said_by : Result Arguments WrongWord → Option Settings
+said_by (Ok arguments) = Some (run_by arguments)
+said_by (Err wrong) = None

@@ -1,11 +1,12 @@
 //! The arguments of the program.
-ghost use Rattle.std.specs.Prelude.{◌≡◌, ◌<◌, IfSome, Option, option_map, map, string_bytes};
+ghost use Rattle.std.specs.Prelude.{◌≡◌, ◌<◌, IfOk, IfSome, OnErr, Option, None, Some, option_map, map, string_bytes};
 ghost use Rattle.bx_advice.specs.Limits.{IsStandard};
 ghost use Rattle.bx_advice.specs.Options.{options_in};
 ghost use Rattle.bx_message.specs.Fields.{number_of};
 ghost use Rattle.bx_replay.specs.Settings.{count_in, first_in, further_in, settings_in, settings_of, time_in, with_bytes, with_sessions};
 
-use bx_advice::{Config, Options};
+use crate::wrong_word::WrongWord;
+use bx_advice::{Config, MAX_SHARDS, Options};
 use bx_message::number_of;
 use bx_workers::WorkerCount;
 
@@ -22,26 +23,26 @@ pub struct Arguments {
 }
 
 impl Arguments {
-    ghost use Rattle.bx_replay.specs.Arguments.{HasStandardLimits, run_by};
+    ghost use Rattle.bx_replay.specs.Arguments.{HasStandardLimits, run_by, said_by};
 
     /// What these words say. Five of them do it by digits alone: how many shards there are, 1 to 64, how many workers, 1
     /// to 16, and in milliseconds the timeout, the interval and the longest interval, each of 32 bits. A sixth has the
     /// options, as [`Options::read`] reads them, and is `-` where there is none. A seventh says by digits alone how many
     /// events may wait for each session, 1 to 65,536, and 1,024 where there is none. An eighth says how many bytes these
     /// may have, 1 to [`MAX_BYTES`](bx_advice::MAX_BYTES), and `-` that nothing is said of them; a ninth how many sessions
-    /// may be live, 1 to 65,536. None where they are not these.
-    pub fn read(words: &[String]) -> Option<Arguments>
-        ensures said { option_map run_by result ≡ settings_in (map string_bytes words.now) }
-        ensures limits { IfSome result (λ arguments. HasStandardLimits arguments) }
+    /// may be live, 1 to 65,536. An error names the first word that is not so, or says that there are not so many.
+    pub fn read(words: &[String]) -> Result<Arguments, WrongWord>
+        ensures said { said_by result ≡ settings_in (map string_bytes words.now) }
+        ensures limits { IfOk result (λ arguments. HasStandardLimits arguments) }
     {
         let (first, further) = words.split_at(FIRST.min(words.len()));
         Arguments::read_first(first)?.with_further(further)
     }
 
     // What the first words say, with no limit of bytes.
-    fn read_first(words: &[String]) -> Option<Arguments>
-        ensures said { option_map run_by result ≡ first_in (map string_bytes words.now) }
-        ensures limits { IfSome result (λ arguments. HasStandardLimits arguments) }
+    fn read_first(words: &[String]) -> Result<Arguments, WrongWord>
+        ensures said { said_by result ≡ first_in (map string_bytes words.now) }
+        ensures limits { IfOk result (λ arguments. HasStandardLimits arguments) }
     {
         match words {
             [shards, workers, timeout, interval, max_interval] => Arguments::of_words(
@@ -79,23 +80,25 @@ impl Arguments {
                 options.as_bytes(),
                 limit.as_bytes(),
             ),
-            _ => None,
+            _ => Err(WrongWord::Count),
         }
     }
 
     // The same with what the further words say.
-    fn with_further(self, words: &[String]) -> Option<Arguments>
+    fn with_further(self, words: &[String]) -> Result<Arguments, WrongWord>
         requires { HasStandardLimits self }
-        ensures said { option_map run_by result ≡ further_in (run_by self) (map string_bytes words.now) }
-        ensures limits { IfSome result (λ arguments. HasStandardLimits arguments) }
+        ensures said { said_by result ≡ further_in (run_by self) (map string_bytes words.now) }
+        ensures limits { IfOk result (λ arguments. HasStandardLimits arguments) }
     {
         match words {
-            [] => Some(self),
-            [bytes] => self.with_bytes(bytes.as_bytes()),
+            [] => Ok(self),
+            [bytes] => self.with_bytes(bytes.as_bytes()).ok_or(WrongWord::Bytes),
             [bytes, sessions] => self
-                .with_bytes(bytes.as_bytes())?
-                .with_sessions(sessions.as_bytes()),
-            _ => None,
+                .with_bytes(bytes.as_bytes())
+                .ok_or(WrongWord::Bytes)?
+                .with_sessions(sessions.as_bytes())
+                .ok_or(WrongWord::Sessions),
+            _ => Err(WrongWord::Count),
         }
     }
 
@@ -136,29 +139,33 @@ impl Arguments {
         max_interval: &String,
         options: &[u8],
         limit: &[u8],
-    ) -> Option<Arguments>
-        ensures said { option_map run_by result ≡ settings_of (string_bytes shards.now) (string_bytes workers.now)
+    ) -> Result<Arguments, WrongWord>
+        ensures said { said_by result ≡ settings_of (string_bytes shards.now) (string_bytes workers.now)
             (string_bytes timeout.now) (string_bytes interval.now) (string_bytes max_interval.now) options.now limit.now }
-        ensures limits { IfSome result (λ arguments. HasStandardLimits arguments) }
+        ensures limits { IfOk result (λ arguments. HasStandardLimits arguments) }
     {
-        let timeout = time_in(timeout.as_bytes())?;
-        let interval = time_in(interval.as_bytes())?;
-        let max_interval = time_in(max_interval.as_bytes())?;
-        let config = config_of(shards.as_bytes(), timeout, interval, max_interval)?;
-        let config = with_limit(with_options(config, options)?, limit)?;
-        let workers = workers_in(workers.as_bytes())?;
-        Some(Arguments { config, workers })
+        let shards = shards_in(shards.as_bytes()).ok_or(WrongWord::Shards)?;
+        let workers = workers_in(workers.as_bytes()).ok_or(WrongWord::Workers)?;
+        let timeout = time_in(timeout.as_bytes()).ok_or(WrongWord::Timeout)?;
+        let interval = time_in(interval.as_bytes()).ok_or(WrongWord::Interval)?;
+        let max_interval = time_in(max_interval.as_bytes()).ok_or(WrongWord::MaxInterval)?;
+        let config = Config::new(shards, timeout, interval, max_interval).ok_or(WrongWord::Shards)?;
+        let config = with_options(config, options).ok_or(WrongWord::Options)?;
+        let config = with_limit(config, limit).ok_or(WrongWord::Limit)?;
+        Ok(Arguments { config, workers })
     }
 }
 
-// The configuration with so many shards as these digits say.
-fn config_of(shards: &[u8], timeout: u32, interval: u32, max_interval: u32) -> Option<Config>
-    ensures shards { option_map (λ c. c.shards) result ≡ count_in 64 shards.now }
-    ensures times { IfSome result (λ c.
-        (c.timeout ≡ timeout) × (c.interval ≡ interval) × (c.max_interval ≡ max_interval)) }
-    ensures limits { IfSome result (λ c. IsStandard c.limits) }
+// So many shards as these digits say.
+fn shards_in(digits: &[u8]) -> Option<usize>
+    ensures { result ≡ count_in 64 digits.now }
 {
-    Config::new(size_in(shards)?, timeout, interval, max_interval)
+    let shards = size_in(digits)?;
+    if 1 <= shards && shards <= MAX_SHARDS {
+        Some(shards)
+    } else {
+        None
+    }
 }
 
 // The configuration with the options that this word says.

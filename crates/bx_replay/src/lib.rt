@@ -7,7 +7,9 @@ mod kept;
 mod laws;
 mod script;
 mod server;
+mod wrong_word;
 
 pub use arguments::Arguments;
 pub use laws::configs_are_taken;
 pub use script::replay;
+pub use wrong_word::WrongWord;
