@@ -172,17 +172,19 @@ class Line:
     """What a run tells on standard error: to a terminal in one line that is written anew, else a line at a time."""
 
     def __init__(self):
-        self.is_terminal = sys.stderr.isatty()
+        self.is_terminal, self.shown = sys.stderr.isatty(), ""
 
     def clear(self):
+        self.shown = ""
         if self.is_terminal:
             sys.stderr.write("\r\033[K")
             sys.stderr.flush()
 
     def show(self, text):
         """Shows on a terminal what is at work."""
-        if self.is_terminal:
+        if self.is_terminal and text != self.shown:
             self.clear()
+            self.shown = text
             sys.stderr.write(text[: os.get_terminal_size(2).columns - 1])
             sys.stderr.flush()
 
