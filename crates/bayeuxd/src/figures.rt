@@ -11,7 +11,7 @@ use std::thread::Threads;
 use std::time::{Clock, Duration, Instant};
 use std::{io, thread};
 
-// How long a read or a write may bring nothing, in milliseconds. (This server's choice.)
+// How long a client has for the head of its request, and how long a write may bring nothing, in milliseconds. (This server's choice.)
 const PATIENCE: u64 = 2000;
 
 // How long nothing is accepted after a failure, as while the process has no descriptor left, in milliseconds. (This server's choice.)
@@ -48,7 +48,7 @@ where
     Ok(())
 }
 
-// Answers one connection after another, each one request. A client that breaks off, or brings nothing for two seconds, has no answer.
+// Answers one connection after another, each one request. A client that breaks off, or whose head is not there after two seconds, has no answer.
 fn answer_all<R: Clock>(
     rt: &R,
     alloc: Global,
@@ -64,16 +64,20 @@ fn answer_all<R: Clock>(
         if let Ok(passed) = start.elapsed(rt) {
             counts.set(Figure::Uptime, passed.as_secs());
         }
-        let _ = answer(stream, alloc, counts);
+        let _ = answer(rt, stream, alloc, counts);
     }
 }
 
 // Answers one connection.
-fn answer(mut stream: TcpStream, alloc: Global, counts: &Counts) -> io::Result<()> {
-    stream.set_read_timeout(Some(Duration::from_millis(PATIENCE)))?;
+fn answer<R: Clock>(
+    rt: &R,
+    mut stream: TcpStream,
+    alloc: Global,
+    counts: &Counts,
+) -> io::Result<()> {
     stream.set_write_timeout(Some(Duration::from_millis(PATIENCE)))?;
     let mut head = [0; HEAD];
-    let length = read_head(&mut stream, &mut head)?;
+    let length = read_head(rt, &mut stream, &mut head)?;
     let figures = counts.read(alloc)?;
     let text = response_text(
         alloc,
@@ -84,15 +88,19 @@ fn answer(mut stream: TcpStream, alloc: Global, counts: &Counts) -> io::Result<(
     stream.write_all(text.as_slice())
 }
 
-// How many bytes of a head have come: to its empty line, to the end of what comes, or as many as are read.
-fn read_head<S: Read>(stream: &mut S, head: &mut [u8]) -> io::Result<usize>
+// How many bytes of a head have come: to its empty line, to the end of what comes, or as many as are read. `Err` where its time is over.
+fn read_head<R: Clock>(rt: &R, stream: &mut TcpStream, head: &mut [u8]) -> io::Result<usize>
     ensures { IfOk result (λ n. n ≤ length head.new) }
 {
+    let begun = Instant::now(rt)?;
     let mut length = 0;
     for _ in 0..READS {
         let Some(room) = head.get_mut(length..) else {
             break;
         };
+        let left = Duration::from_millis(PATIENCE).saturating_sub(begun.elapsed(rt)?);
+        // (The system refuses a wait of no time.)
+        stream.set_read_timeout(Some(left))?;
         let read = stream.read(room)?;
         length += read;
         if read == 0 || is_whole(&head[..length]) {
