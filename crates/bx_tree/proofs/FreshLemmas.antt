@@ -1,27 +1,13 @@
--- Patterns that come in at once: those that are not held yet.
-use Rattle.std.proofs.Common.{◌≡◌, ℕ, Bool, true, false, not, ◌&&◌, ◌||◌, List, [], ◌∷◌, ◌++◌, take, drop, length, ◌≤◌, arith, sym, ap, ◌∙◌, append_assoc}
+-- Several patterns at once.
+use Rattle.std.proofs.Common.{◌≡◌, ℕ, Bool, true, false, not, ◌&&◌, ◌||◌, List, ◌∷◌, [], take, drop, length, ◌≤◌, arith, sym, ap, ◌∙◌}
 use Rattle.std.proofs.lemmas.{List.take-append-drop, List.Folds.list_any-append}
-use Rattle.bx_names.specs.Words.{Glob, same_glob, same_glob-decides, in_force, with_pattern, without_pattern}
+use Rattle.bx_names.specs.Words.{Glob, same_glob, in_force, without_pattern}
 use Rattle.std.proofs.lemmas.Grind.{common_steps}
 use Rattle.std.proofs.lemmas.{List.Sums.fold_more, List.Folds.list_any_more}
-
--- ---- one more pattern
-
-pub fresh_joins : (held fresh : List Glob) (p : Glob) → in_force held p ≡ false → in_force fresh p ≡ false → with_pattern (held ++ fresh) p ≡ held ++ (fresh ++ p ∷ [])
-fresh_joins held fresh p absent missing = grind (arith, common_steps, list_any-append, append_assoc)
 
 -- no pattern is in both lists
 abbrev pub AreApart : List Glob → List Glob → Type 0
 AreApart fresh held = (p : Glob) → (in_force fresh p && in_force held p) ≡ false
-
-apart_test : (f g h : Bool) → (f && h) ≡ false → (g ≡ true → h ≡ false) → ((f || (g || false)) && h) ≡ false
-apart_test f g h e k = grind arith
-
-pub still_apart : (held fresh : List Glob) (p : Glob) → AreApart fresh held → in_force held p ≡ false → AreApart (fresh ++ p ∷ []) held
-still_apart held fresh p apart absent q =
-    ap (λ b. b && in_force held q) (list_any-append (same_glob q) fresh (p ∷ []))
-    ∙ apart_test (in_force fresh q) (same_glob q p) (in_force held q) (apart q)
-    (λ same. ap (λ r. in_force held r) ((same_glob-decides q p).0 same) ∙ absent)
 
 -- ---- a number that stands for several patterns
 
@@ -45,7 +31,5 @@ without_shorter (q ∷ qs) p = grind (arith, common_steps, without_shorter qs p)
 -- ---- what walks over several patterns are proved by
 
 pub ruleset taken_out = (fold_more, without_shorter, common_steps)
-
-pub ruleset made_fresh = (fold_more, fresh_joins, still_apart, common_steps)
 
 pub ruleset stood = (list_any_more, or_more, early, gone_with_all, common_steps)

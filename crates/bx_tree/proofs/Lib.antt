@@ -1,6 +1,7 @@
 pub mod AmongLemmas
 pub mod FreshLemmas
 pub mod IndexLemmas
+pub mod JoinLemmas
 pub mod KeptLemmas
 pub mod MeetLemmas
 pub mod PathLemmas

@@ -22,6 +22,10 @@ lists_of nodes Many = nodes.many
 abbrev pub stands_for : Nodes → Glob → ℕ → Bool
 stands_for nodes pattern number = stands_at (lists_of nodes pattern.tail) (path_of pattern.segments) number
 
+-- a number stands for exactly these patterns
+abbrev pub IsIndexAt : Nodes → ℕ → List Glob → Type 0
+IsIndexAt nodes number held = (pattern : Glob) → AreWhole pattern.segments → stands_for nodes pattern number ≡ in_force held pattern
+
 -- a number stands for a pattern exactly where the pattern is in force for it
 abbrev pub IsIndexOf : Nodes → List (ℕ × List Glob) → Type 0
 IsIndexOf nodes all = (pattern : Glob) → AreWhole pattern.segments → (number : ℕ) → stands_for nodes pattern number ≡ in_force (patterns_of all number) pattern

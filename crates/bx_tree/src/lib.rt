@@ -1,7 +1,7 @@
 //! Patterns by segment: which sessions have a pattern that matches a name.
 #![tactic(auto)]
 
-mod fresh;
+mod copies;
 mod nodes;
 mod own_path;
 mod sessions;

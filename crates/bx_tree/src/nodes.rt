@@ -1,10 +1,10 @@
-ghost use Rattle.std.specs.Prelude.{◌≡◌, ◌↔◌, ℕ, ◌+◌, ◌==◌, ◌&&◌, ◌||◌, not, false, List, [], Contains, IsTrue, OnOk, OnErr, IfOk, length};
+ghost use Rattle.std.specs.Prelude.{◌≡◌, ◌↔◌, ℕ, ◌+◌, ◌==◌, ◌&&◌, ◌||◌, not, false, ◌++◌, List, [], Contains, IsTrue, OnOk, OnErr, IfOk, fold, length};
 ghost use Rattle.std.specs.List.{list_any};
 ghost use Rattle.std.specs.List.Sorted.{IsStrictlyIncreasing};
 ghost use Rattle.bx_names.specs.Globs.{Glob, any_matches, same_glob};
-ghost use Rattle.bx_names.specs.InForce.{in_force};
+ghost use Rattle.bx_names.specs.InForce.{in_force, with_pattern};
 ghost use Rattle.bx_tree.specs.Whole.{AreWhole};
-ghost use Rattle.bx_tree.specs.Lists.{IsIndexOf, stands_for};
+ghost use Rattle.bx_tree.specs.Lists.{IsIndexAt, IsIndexOf, stands_for};
 ghost use Rattle.bx_tree.specs.Patterns.{patterns_of};
 ghost use Rattle.bx_tree.specs.Walks.{is_among, is_met};
 
@@ -55,6 +55,70 @@ impl Nodes {
             Tail::One => self.one.add(alloc, path, number),
             Tail::Many => self.many.add(alloc, path, number),
         }
+    }
+
+    /// Whether a number stands for a pattern.
+    pub(crate) fn has(&self, pattern: &Pattern, number: u64) -> bool
+        ensures has { result ≡ stands_for self.now pattern.now number }
+        ensures whole { AreWhole pattern.now.segments }
+    {
+        let path = own_path(pattern);
+        match pattern.tail() {
+            Tail::Exact => self.exact.has(path, number),
+            Tail::One => self.one.has(path, number),
+            Tail::Many => self.many.has(path, number),
+        }
+    }
+
+    /// Lets a number stand for those of the patterns that it does not stand for yet, and gives them, in order, each
+    /// once. Where memory is refused all is as before.
+    pub(crate) fn add_fresh(
+        &mut self,
+        alloc: Global,
+        patterns: &[Pattern],
+        number: u64,
+    ) -> Result<Vec<Pattern>, AllocError>
+        ensures all { IfOk result (λ fresh. (held : List Glob) → IsIndexAt self.old number held → held ++ fresh.items ≡ fold with_pattern held patterns.now) }
+        ensures stands { IfOk result (λ fresh. (other : Glob) → AreWhole other.segments → (n : ℕ)
+            → stands_for self.new other n ≡ (stands_for self.old other n || (in_force fresh.items other && (n == number)))) }
+        ensures undone { IfOk result (λ fresh. (other : Glob) → AreWhole other.segments → (n : ℕ)
+            → (stands_for self.new other n && not (in_force fresh.items other && (n == number))) ≡ stands_for self.old other n) }
+        ensures err { OnErr result ((other : Glob) → AreWhole other.segments → (n : ℕ) → stands_for self.new other n ≡ stands_for self.old other n) }
+    {
+        let mut fresh = Vec::new(alloc);
+        match self.put_fresh(alloc, patterns, number, &mut fresh) {
+            Ok(()) => Ok(fresh),
+            Err(error) => {
+                self.remove_each(fresh.as_slice(), number);
+                Err(error)
+            }
+        }
+    }
+
+    /// Lets a number stand for those of the patterns that it does not stand for yet, and puts them into `fresh`. Where
+    /// memory is refused it is enough to take those away that are there.
+    fn put_fresh(
+        &mut self,
+        alloc: Global,
+        patterns: &[Pattern],
+        number: u64,
+        fresh: &mut Vec<Pattern>,
+    ) -> Result<(), AllocError>
+        requires none { fresh.old.items ≡ [] }
+        ensures all { OnOk result ((held : List Glob) → IsIndexAt self.old number held → held ++ fresh.new.items ≡ fold with_pattern held patterns.now) }
+        ensures stands { OnOk result ((other : Glob) → AreWhole other.segments → (n : ℕ)
+            → stands_for self.new other n ≡ (stands_for self.old other n || (in_force fresh.new.items other && (n == number)))) }
+        ensures undone { (other : Glob) → AreWhole other.segments → (n : ℕ)
+            → (stands_for self.new other n && not (in_force fresh.new.items other && (n == number))) ≡ stands_for self.old other n }
+    {
+        for pattern in patterns {
+            if self.has(pattern, number) {
+                continue;
+            }
+            fresh.push(pattern.clone()?)?;
+            self.add(alloc, pattern, number)?;
+        }
+        Ok(())
     }
 
     /// Lets a number stand for each of these patterns, or for none of them where memory is refused.

@@ -3,7 +3,7 @@ ghost use Rattle.bx_names.specs.InForce.{in_force, with_pattern, without_pattern
 ghost use Rattle.bx_tree.specs.Lists.{IsIndexOf};
 ghost use Rattle.bx_tree.specs.Patterns.{patterns_of};
 
-use crate::fresh::{copy_of, fresh_of, is_one_of};
+use crate::copies::copy_of;
 use crate::nodes::Nodes;
 use crate::sessions::SessionPatterns;
 use bx_names::Pattern;
@@ -81,9 +81,8 @@ impl Tree {
         ensures added { IfOk result (λ added. length (patterns_of self.old number) + added ≡ length (fold with_pattern (patterns_of self.old number) patterns.now)) }
         ensures err { OnErr result (self.new ≡ self.old) }
     {
-        let fresh = fresh_of(alloc, self.sessions.patterns(number), patterns)?;
+        let fresh = self.nodes.add_fresh(alloc, patterns, number)?;
         let count = fresh.len();
-        self.nodes.add_each(alloc, fresh.as_slice(), number)?;
         match self.sessions.append(number, fresh) {
             Ok(()) => Ok(count),
             Err(fresh) => {
@@ -117,7 +116,7 @@ impl Tree {
     pub fn has(&self, pattern: &Pattern, number: u64) -> bool
         ensures { result ≡ in_force (patterns_of self.now number) pattern.now }
     {
-        is_one_of(self.sessions.patterns(number), pattern)
+        self.nodes.has(pattern, number)
     }
 
     /// Takes a pattern out of force for a number, and says whether it was in force. A pattern that was not changes

@@ -40,6 +40,16 @@ impl PathLists {
         self.by_path.get(path)
     }
 
+    /// Whether a number stands at a path.
+    pub(super) fn has(&self, path: &str, number: u64) -> bool
+        ensures { result ≡ stands_at self.now path.now number }
+    {
+        match self.by_path.get(path) {
+            Some(numbers) => numbers.contains(&number),
+            None => false,
+        }
+    }
+
     /// Puts a number at a path. Nothing changes where memory is refused.
     pub(super) fn add(&mut self, alloc: Global, path: &str, number: u64) -> Result<(), AllocError>
         ensures ok { OnOk result ((other : List ℕ) → (n : ℕ)
