@@ -3,10 +3,10 @@ ghost use Rattle.std.specs.Prelude.{◌≡◌, ◌<◌, ℕ, nat_eq, not, ◌&&�
 ghost use Rattle.std.specs.List.{All};
 ghost use Rattle.std.specs.Option.{option_or};
 ghost use Rattle.bx_connects.specs.Connects.{filed_as, held_by};
+ghost use Rattle.bx_shard.specs.Sessions.{patterns_in};
 ghost use Rattle.bx_reshard.specs.Heirs.{AreAllClean, IsEmptyOf, SameConnects, SameSessions, connect_of, patterns_at, kept_of};
 
 use bx_advice::Config;
-use bx_names::Pattern;
 use bx_session::{Answered, Session};
 use bx_shard::{Sessions, Wakers};
 use std::alloc::{AllocError, Global};
@@ -31,20 +31,20 @@ impl Heirs {
         Ok(Heirs { shards })
     }
 
-    /// Makes room for a session in the shard of this index.
+    /// Makes room in the shard of this index for a session that stands among others.
     pub(crate) fn lend_session(
         &mut self,
         alloc: Global,
         slot: usize,
         number: u64,
-        patterns: &[Pattern],
+        from: &Sessions,
     ) -> Result<(), AllocError>
         requires within { slot < length self.old.shards.items }
         requires clean { AreAllClean self.old.shards.items }
         ensures sessions { OnOk result ((k n : ℕ) → is_some (kept_of self.new.shards.items k n)
             ≡ ((nat_eq slot k && nat_eq number n) || is_some (kept_of self.old.shards.items k n))) }
         ensures patterns { OnOk result ((k n : ℕ) → patterns_at self.new.shards.items k n
-            ≡ (if (nat_eq slot k && nat_eq number n) && not (is_some (kept_of self.old.shards.items k n)) then patterns.now
+            ≡ (if (nat_eq slot k && nat_eq number n) && not (is_some (kept_of self.old.shards.items k n)) then patterns_in from.now number
             else patterns_at self.old.shards.items k n)) }
         ensures clean { OnOk result (AreAllClean self.new.shards.items) }
         ensures connects { SameConnects self.old.shards.items self.new.shards.items }
@@ -52,7 +52,7 @@ impl Heirs {
         let Some(heir) = self.shards.get_mut(slot) else {
             return Ok(());
         };
-        heir.lend(alloc, number, patterns)
+        heir.lend(alloc, number, from)
     }
 
     /// Makes room for a connect in the shard of this index, as if the session held it until then.

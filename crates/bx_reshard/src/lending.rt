@@ -35,7 +35,7 @@ pub(crate) fn lend_sessions<P: Placing>(
 {
     for number in numbers {
         let slot = placing.place(*number, count.get());
-        heirs.lend_session(alloc, slot, *number, old.patterns(*number))?;
+        heirs.lend_session(alloc, slot, *number, old)?;
     }
     Ok(())
 }

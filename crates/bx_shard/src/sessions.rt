@@ -18,7 +18,6 @@ ghost use Rattle.bx_shard.specs.Effects.{answers_by, connect_filing, filing_each
 use bx_advice::Config;
 use bx_connects::{Connects, Wakers};
 use bx_message::SharedEvent;
-use bx_names::Pattern;
 use bx_session::{Answered, Connection, PendingConnect, Session};
 use bx_tree::Tree;
 use indexmap::IndexMap;
@@ -206,13 +205,6 @@ impl Sessions {
         self.config
     }
 
-    /// The patterns of a session, in the order in which they came; none where it is not here.
-    pub fn patterns(&self, number: u64) -> &[Pattern]
-        ensures { result.now ≡ patterns_in self.now number }
-    {
-        self.tree.patterns(number)
-    }
-
     /// The connects of these sessions.
     pub fn connects(&self) -> &Connects
         ensures { result.now ≡ self.now.connects }
@@ -227,19 +219,14 @@ impl Sessions {
         self.by_number.keys().as_slice()
     }
 
-    /// Makes room for a session and puts its patterns in force, unless one of this number is here. The room is a
-    /// session to which nothing came, until `settle` puts the session itself there. Where memory is refused the room
-    /// may be there, without patterns.
-    pub fn lend(
-        &mut self,
-        alloc: Global,
-        number: u64,
-        patterns: &[Pattern],
-    ) -> Result<(), AllocError>
+    /// Makes room for a session and puts the patterns in force that it has among other sessions, unless one of this
+    /// number is here. The room is a session to which nothing came, until `settle` puts the session itself there.
+    /// Where memory is refused the room may be there, without patterns.
+    pub fn lend(&mut self, alloc: Global, number: u64, from: &Sessions) -> Result<(), AllocError>
         requires clean { AreClean self.old }
         ensures sessions { OnOk result ((n : ℕ) → is_some (kept_in self.new n) ≡ (nat_eq number n || is_some (kept_in self.old n))) }
         ensures patterns { OnOk result ((n : ℕ) → patterns_in self.new n
-            ≡ (if nat_eq number n && not (is_some (kept_in self.old n)) then patterns.now else patterns_in self.old n)) }
+            ≡ (if nat_eq number n && not (is_some (kept_in self.old n)) then patterns_in from.now number else patterns_in self.old n)) }
         ensures clean { OnOk result (AreClean self.new) }
         ensures kept { (n : ℕ) → is_some (kept_in self.old n) ≡ true → kept_in self.new n ≡ kept_in self.old n }
         ensures err { OnErr result ((self.new.tree ≡ self.old.tree) × ((n : ℕ) → nat_eq number n ≡ false → kept_in self.new n ≡ kept_in self.old n)) }
@@ -249,7 +236,7 @@ impl Sessions {
             return Ok(());
         }
         self.open(alloc, number, false)?;
-        self.tree.copy(alloc, patterns, number)
+        self.tree.copy(alloc, &from.tree, number)
     }
 
     /// Makes room for a connect as if this session held it until the deadline, in milliseconds, unless one of this

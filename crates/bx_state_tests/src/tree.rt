@@ -29,7 +29,8 @@ fn texts_of(alloc: Global, patterns: &[Pattern]) -> Result<String, AllocError> {
 
 // Whether the patterns of a number have these texts, each with a blank behind it.
 fn has_texts(alloc: Global, tree: &Tree, number: u64, texts: &str) -> Result<bool, AllocError> {
-    Ok(texts_of(alloc, tree.patterns(number))?.as_str() == texts)
+    let patterns = tree.patterns(alloc, number)?;
+    Ok(texts_of(alloc, &patterns)?.as_str() == texts)
 }
 
 // Puts `/a/*` and `/a/**` in force for 1, and `/a/b` for 2.
@@ -163,8 +164,10 @@ fn assert_several_come(
     same(rt, tree.add_all(alloc, coming, 1)?, 2, "added");
     assert_texts(rt, alloc, tree, 1, "/a/* /a/** /b /c/* ")?;
     same(rt, tree.remove_all(3), 0, "removed");
-    tree.copy(alloc, coming, 3)?;
-    assert_texts(rt, alloc, tree, 3, "/b /a/* /b /c/* ")
+    let mut other = Tree::new(alloc);
+    other.add_all(alloc, coming, 3)?;
+    tree.copy(alloc, &other, 3)?;
+    assert_texts(rt, alloc, tree, 3, "/b /a/* /c/* ")
 }
 
 // They go, and then all of a number.
@@ -176,7 +179,7 @@ fn assert_several_go(
 ) -> Result<(), Fail> {
     same(rt, tree.remove_each(going, 1), 2, "removed");
     assert_texts(rt, alloc, tree, 1, "/a/* /a/** ")?;
-    same(rt, tree.remove_all(3), 4, "all removed");
+    same(rt, tree.remove_all(3), 3, "all removed");
     same(rt, tree.count(3), 0, "left");
     Ok(())
 }

@@ -1,11 +1,10 @@
 pub mod AmongLemmas
-pub mod FreshLemmas
+pub mod ChangeLemmas
 pub mod IndexLemmas
-pub mod JoinLemmas
 pub mod KeptLemmas
 pub mod MeetLemmas
+pub mod OnceLemmas
 pub mod PathLemmas
 pub mod NodeLemmas
-pub mod SessionLemmas
 pub mod StandsLemmas
 pub mod WholeLemmas

@@ -1,6 +1,6 @@
 -- The numbers that stand at a path, and those that stand there for a pattern.
-use Rattle.std.specs.Prelude.{◌≡◌, ℕ, Bool, false, List}
-use Rattle.std.specs.{Option.option_map_or, Ordering.nat_cmp, BTreeSet.contains, BTreeMap.get_by_text}
+use Rattle.std.specs.Prelude.{◌≡◌, ◌≢◌, ℕ, Bool, false, is_some, List}
+use Rattle.std.specs.{Option.option_map_or, Ordering.nat_cmp, BTreeMap.BTreeMap, BTreeMap.get, BTreeMap.get_by_text}
 use Rattle.bx_names.specs.Words.{path_of, Glob, in_force}
 use Rattle.bx_names.specs.declared.tail.Tail.{Tail}
 use Rattle.bx_names.specs.declared.tail.Tail.TheVariants.{Exact, One, Many}
@@ -8,9 +8,13 @@ use Rattle.bx_tree.specs.declared.nodes.{path_lists.PathLists.PathLists, Nodes.N
 use Rattle.bx_tree.specs.Whole.{AreWhole}
 use Rattle.bx_tree.specs.Patterns.{patterns_of}
 
+-- whether the number is there, whatever its stamp
+abbrev pub has_number : BTreeMap ℕ ℕ → ℕ → Bool
+has_number numbers number = is_some (get nat_cmp numbers number)
+
 -- whether the number stands at the path
 abbrev pub stands_at : PathLists → List ℕ → ℕ → Bool
-stands_at lists path number = option_map_or (λ numbers. contains nat_cmp numbers number) (get_by_text lists.by_path path) false
+stands_at lists path number = option_map_or (λ numbers. has_number numbers number) (get_by_text lists.by_path path) false
 
 -- the lists of one kind of patterns
 abbrev pub lists_of : Nodes → Tail → PathLists
@@ -25,6 +29,10 @@ stands_for nodes pattern number = stands_at (lists_of nodes pattern.tail) (path_
 -- a number stands for exactly these patterns
 abbrev pub IsIndexAt : Nodes → ℕ → List Glob → Type 0
 IsIndexAt nodes number held = (pattern : Glob) → AreWhole pattern.segments → stands_for nodes pattern number ≡ in_force held pattern
+
+-- the other numbers stand for what they stood for
+abbrev pub KeepsOthers : ℕ → Nodes → Nodes → Type 0
+KeepsOthers number old new = (pattern : Glob) → AreWhole pattern.segments → (n : ℕ) → n ≢ number → stands_for new pattern n ≡ stands_for old pattern n
 
 -- a number stands for a pattern exactly where the pattern is in force for it
 abbrev pub IsIndexOf : Nodes → List (ℕ × List Glob) → Type 0

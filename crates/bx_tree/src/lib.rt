@@ -1,7 +1,8 @@
 //! Patterns by segment: which sessions have a pattern that matches a name.
 #![tactic(auto)]
 
-mod copies;
+mod arrivals;
+mod changes;
 mod nodes;
 mod own_path;
 mod sessions;

@@ -1,4 +1,4 @@
-ghost use Rattle.std.specs.Prelude.{◌≡◌, ◌↔◌, ℕ, ◌+◌, ◌==◌, ◌&&◌, ◌||◌, not, false, ◌++◌, List, [], Contains, IsTrue, OnOk, OnErr, IfOk, fold, length};
+ghost use Rattle.std.specs.Prelude.{◌≡◌, ◌↔◌, ℕ, ◌+◌, ◌==◌, ◌&&◌, ◌||◌, not, false, ◌++◌, List, [], Contains, IsTrue, OnOk, OnErr, IfOk, fold, is_some, length};
 ghost use Rattle.std.specs.List.{list_any};
 ghost use Rattle.std.specs.List.Sorted.{IsStrictlyIncreasing};
 ghost use Rattle.bx_names.specs.Globs.{Glob, any_matches, same_glob};
@@ -19,6 +19,8 @@ use std::alloc::{AllocError, Global};
 
 /// The three lists at each path: those of the patterns that are the path, those of the path and a `*`, and those of
 /// the path and a `**`. They know the numbers of sessions, and no session's patterns.
+///
+/// Beside each number they keep a stamp for whoever holds the pattern itself to find it by. No clause rests on it.
 #[derive(Drop)]
 pub struct Nodes {
     exact: PathLists,
@@ -44,6 +46,7 @@ impl Nodes {
         alloc: Global,
         pattern: &Pattern,
         number: u64,
+        stamp: u64,
     ) -> Result<(), AllocError>
         ensures ok { OnOk result ((other : Glob) → AreWhole other.segments → (n : ℕ)
             → stands_for self.new other n ≡ (stands_for self.old other n || (same_glob other pattern.now && (n == number)))) }
@@ -51,9 +54,9 @@ impl Nodes {
     {
         let path = own_path(pattern);
         match pattern.tail() {
-            Tail::Exact => self.exact.add(alloc, path, number),
-            Tail::One => self.one.add(alloc, path, number),
-            Tail::Many => self.many.add(alloc, path, number),
+            Tail::Exact => self.exact.add(alloc, path, number, stamp),
+            Tail::One => self.one.add(alloc, path, number, stamp),
+            Tail::Many => self.many.add(alloc, path, number, stamp),
         }
     }
 
@@ -70,100 +73,18 @@ impl Nodes {
         }
     }
 
-    /// Lets a number stand for those of the patterns that it does not stand for yet, and gives them, in order, each
-    /// once. Where memory is refused all is as before.
-    pub(crate) fn add_fresh(
-        &mut self,
-        alloc: Global,
-        patterns: &[Pattern],
-        number: u64,
-    ) -> Result<Vec<Pattern>, AllocError>
-        ensures all { IfOk result (λ fresh. (held : List Glob) → IsIndexAt self.old number held → held ++ fresh.items ≡ fold with_pattern held patterns.now) }
-        ensures stands { IfOk result (λ fresh. (other : Glob) → AreWhole other.segments → (n : ℕ)
-            → stands_for self.new other n ≡ (stands_for self.old other n || (in_force fresh.items other && (n == number)))) }
-        ensures undone { IfOk result (λ fresh. (other : Glob) → AreWhole other.segments → (n : ℕ)
-            → (stands_for self.new other n && not (in_force fresh.items other && (n == number))) ≡ stands_for self.old other n) }
-        ensures err { OnErr result ((other : Glob) → AreWhole other.segments → (n : ℕ) → stands_for self.new other n ≡ stands_for self.old other n) }
-    {
-        let mut fresh = Vec::new(alloc);
-        match self.put_fresh(alloc, patterns, number, &mut fresh) {
-            Ok(()) => Ok(fresh),
-            Err(error) => {
-                self.remove_each(fresh.as_slice(), number);
-                Err(error)
-            }
-        }
-    }
-
-    /// Lets a number stand for those of the patterns that it does not stand for yet, and puts them into `fresh`. Where
-    /// memory is refused it is enough to take those away that are there.
-    fn put_fresh(
-        &mut self,
-        alloc: Global,
-        patterns: &[Pattern],
-        number: u64,
-        fresh: &mut Vec<Pattern>,
-    ) -> Result<(), AllocError>
-        requires none { fresh.old.items ≡ [] }
-        ensures all { OnOk result ((held : List Glob) → IsIndexAt self.old number held → held ++ fresh.new.items ≡ fold with_pattern held patterns.now) }
-        ensures stands { OnOk result ((other : Glob) → AreWhole other.segments → (n : ℕ)
-            → stands_for self.new other n ≡ (stands_for self.old other n || (in_force fresh.new.items other && (n == number)))) }
-        ensures undone { (other : Glob) → AreWhole other.segments → (n : ℕ)
-            → (stands_for self.new other n && not (in_force fresh.new.items other && (n == number))) ≡ stands_for self.old other n }
-    {
-        for pattern in patterns {
-            if self.has(pattern, number) {
-                continue;
-            }
-            fresh.push(pattern.clone()?)?;
-            self.add(alloc, pattern, number)?;
-        }
-        Ok(())
-    }
-
-    /// Lets a number stand for each of these patterns, or for none of them where memory is refused.
-    #[tactic(auto, using(crate::proofs::FreshLemmas::stood))]
-    pub(crate) fn add_each(
-        &mut self,
-        alloc: Global,
-        patterns: &[Pattern],
-        number: u64,
-    ) -> Result<(), AllocError>
-        ensures ok { OnOk result ((other : Glob) → AreWhole other.segments → (n : ℕ)
-            → stands_for self.new other n ≡ (stands_for self.old other n || (in_force patterns.now other && (n == number)))) }
-        ensures err { OnErr result ((other : Glob) → AreWhole other.segments → (n : ℕ)
-            → stands_for self.new other n ≡ (stands_for self.old other n && not (in_force patterns.now other && (n == number)))) }
-    {
-        for pattern in patterns {
-            if let Err(error) = self.add(alloc, pattern, number) {
-                self.remove_each(patterns, number);
-                return Err(error);
-            }
-        }
-        Ok(())
-    }
-
-    /// Lets a number stand for a pattern no longer.
-    pub(crate) fn remove(&mut self, pattern: &Pattern, number: u64)
-        ensures { (other : Glob) → AreWhole other.segments → (n : ℕ)
+    /// Lets a number stand for a pattern no longer, and gives its stamp where it stood for it.
+    pub(crate) fn remove(&mut self, pattern: &Pattern, number: u64) -> Option<u64>
+        ensures gone { (other : Glob) → AreWhole other.segments → (n : ℕ)
             → stands_for self.new other n ≡ (stands_for self.old other n && not (same_glob other pattern.now && (n == number))) }
+        ensures stood { is_some result ≡ stands_for self.old pattern.now number }
+        ensures whole { AreWhole pattern.now.segments }
     {
         let path = own_path(pattern);
         match pattern.tail() {
             Tail::Exact => self.exact.remove(path, number),
             Tail::One => self.one.remove(path, number),
             Tail::Many => self.many.remove(path, number),
-        }
-    }
-
-    /// Lets a number stand for none of these patterns.
-    #[tactic(auto, using(crate::proofs::IndexLemmas::stood_no_more))]
-    pub(crate) fn remove_each(&mut self, patterns: &[Pattern], number: u64)
-        ensures { (other : Glob) → AreWhole other.segments → (n : ℕ)
-            → stands_for self.new other n ≡ (stands_for self.old other n && not (in_force patterns.now other && (n == number))) }
-    {
-        for pattern in patterns {
-            self.remove(pattern, number);
         }
     }
 

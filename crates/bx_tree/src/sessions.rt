@@ -1,7 +1,13 @@
-ghost use Rattle.std.specs.Prelude.{◌≡◌, ◌≢◌, ℕ, [], ◌∷◌, ◌++◌, length, OnOk, OnErr, IfOk, IfErr};
-ghost use Rattle.bx_names.specs.InForce.{in_force, without_pattern};
+ghost use Rattle.std.specs.Prelude.{◌≡◌, ◌≢◌, ℕ, [], fold, length, OnOk, OnErr, IfOk};
+ghost use Rattle.std.specs.Option.{unwrap_or};
+ghost use Rattle.bx_names.specs.InForce.{with_pattern, without_pattern};
+ghost use Rattle.bx_tree.specs.Lists.{IsIndexOf};
+ghost use Rattle.bx_tree.specs.Once.{AreOnce};
 ghost use Rattle.bx_tree.specs.Patterns.{patterns_of};
 
+use crate::arrivals::Arrivals;
+use crate::changes::{add_all, shorten};
+use crate::nodes::Nodes;
 use bx_names::Pattern;
 use indexmap::IndexMap;
 use std::alloc::{AllocError, Global};
@@ -10,16 +16,16 @@ use std::marker::Model;
 /// The patterns of each session, in the order in which they came. No list is empty.
 #[derive(Drop)]
 pub(crate) struct SessionPatterns {
-    by_number: IndexMap<u64, Vec<Pattern>>,
+    by_number: IndexMap<u64, Arrivals>,
 }
 
 impl Model for SessionPatterns {
-    ghost use Rattle.std.specs.Prelude.{ℕ, List, map};
+    ghost use Rattle.std.specs.Prelude.{ℕ, List};
     ghost use Rattle.bx_names.specs.Globs.{Glob};
 
     ghost Value = { List (ℕ × List Glob) };
 
-    ghost view = { λ s. map (λ entry. (entry.0, entry.1.items)) s.by_number.entries };
+    ghost view = { λ s. s.by_number.entries };
 }
 
 impl SessionPatterns {
@@ -32,88 +38,78 @@ impl SessionPatterns {
         }
     }
 
-    /// The patterns of a session.
-    pub(crate) fn patterns(&self, number: u64) -> &[Pattern]
-        ensures { result.now ≡ patterns_of self.now number }
+    /// How many patterns a session has.
+    pub(crate) fn count(&self, number: u64) -> usize
+        ensures { result ≡ length (patterns_of self.now number) }
     {
         match self.by_number.get(&number) {
-            Some(patterns) => patterns.as_slice(),
-            None => &[],
+            Some(arrivals) => arrivals.len(),
+            None => 0,
         }
     }
 
-    /// Adds a pattern behind the others of a session. Nothing changes where memory is refused.
-    pub(crate) fn add(
+    /// A copy of the patterns of a session.
+    pub(crate) fn patterns(&self, alloc: Global, number: u64) -> Result<Vec<Pattern>, AllocError>
+        ensures list { IfOk result (λ list. list.items ≡ patterns_of self.now number) }
+        ensures once { AreOnce (patterns_of self.now number) }
+    {
+        match self.by_number.get(&number) {
+            Some(arrivals) => arrivals.to_vec(alloc),
+            None => Ok(Vec::new(alloc)),
+        }
+    }
+
+    /// Puts these patterns behind the others of a session, in order, without those that are there, and keeps the index.
+    /// Nothing changes where memory is refused.
+    pub(crate) fn add_all(
         &mut self,
         alloc: Global,
+        nodes: &mut Nodes,
+        patterns: &[Pattern],
         number: u64,
-        pattern: Pattern,
     ) -> Result<(), AllocError>
-        ensures own { OnOk result (patterns_of self.new number ≡ patterns_of self.old number ++ pattern ∷ []) }
+        requires { IsIndexOf nodes.old self.old }
+        ensures index { IsIndexOf nodes.new self.new }
+        ensures own { OnOk result (patterns_of self.new number ≡ fold with_pattern (patterns_of self.old number) patterns.now) }
         ensures others { OnOk result ((n : ℕ) → n ≢ number → patterns_of self.new n ≡ patterns_of self.old n) }
         ensures err { OnErr result (self.new ≡ self.old) }
     {
-        if let Some(patterns) = self.by_number.get_mut(&number) {
-            patterns.push(pattern)?;
+        if let Some(arrivals) = self.by_number.get_mut(&number) {
+            return add_all(alloc, nodes, arrivals, patterns, number);
+        }
+        let mut arrivals = Arrivals::new(alloc);
+        add_all(alloc, nodes, &mut arrivals, patterns, number)?;
+        if arrivals.len() == 0 {
             return Ok(());
         }
-        let mut patterns = Vec::new(alloc);
-        patterns.push(pattern)?;
-        self.by_number.insert(number, patterns)?;
+        if let Err(refused) = self.by_number.insert(number, arrivals) {
+            let (_, mut arrivals) = refused.value;
+            shorten(nodes, &mut arrivals, 0, number);
+            return Err(AllocError);
+        }
         Ok(())
     }
 
-    /// Adds patterns behind the others of a session. Where memory is refused nothing changes, and they come back.
-    pub(crate) fn append(&mut self, number: u64, mut more: Vec<Pattern>) -> Result<(), Vec<Pattern>>
-        ensures own { OnOk result (patterns_of self.new number ≡ patterns_of self.old number ++ more.items) }
-        ensures others { OnOk result ((n : ℕ) → n ≢ number → patterns_of self.new n ≡ patterns_of self.old n) }
-        ensures back { IfErr result (λ back. back.items ≡ more.items) }
-        ensures err { OnErr result (self.new ≡ self.old) }
-    {
-        if more.is_empty() {
-            return Ok(());
-        }
-        if let Some(patterns) = self.by_number.get_mut(&number) {
-            if patterns.append(&mut more).is_err() {
-                return Err(more);
-            }
-            return Ok(());
-        }
-        match self.by_number.insert(number, more) {
-            Ok(_) => Ok(()),
-            Err(refused) => {
-                let (_, more) = refused.value;
-                Err(more)
-            }
-        }
-    }
-
-    /// Takes a pattern of a session out.
-    pub(crate) fn remove(&mut self, number: u64, pattern: &Pattern)
+    /// Takes a pattern of a session out, which stands at this stamp.
+    pub(crate) fn remove(&mut self, number: u64, pattern: &Pattern, stamp: u64)
         ensures own { patterns_of self.new number ≡ without_pattern (patterns_of self.old number) pattern.now }
         ensures others { (n : ℕ) → n ≢ number → patterns_of self.new n ≡ patterns_of self.old n }
     {
-        let Some(patterns) = self.by_number.get_mut(&number) else {
+        let Some(arrivals) = self.by_number.get_mut(&number) else {
             return;
         };
-        take_out(patterns, pattern);
-        if patterns.is_empty() {
+        arrivals.remove(pattern, stamp);
+        if arrivals.len() == 0 {
             drop(self.by_number.swap_remove(&number));
         }
     }
 
-    /// Takes all patterns of a session out.
-    pub(crate) fn remove_all(&mut self, number: u64)
+    /// Takes all patterns of a session out, and gives them.
+    pub(crate) fn remove_all(&mut self, number: u64) -> Option<Arrivals>
         ensures own { patterns_of self.new number ≡ [] }
         ensures others { (n : ℕ) → n ≢ number → patterns_of self.new n ≡ patterns_of self.old n }
+        ensures taken { unwrap_or result [] ≡ patterns_of self.old number }
     {
-        drop(self.by_number.swap_remove(&number));
+        self.by_number.swap_remove(&number)
     }
-}
-
-/// Takes a pattern out of a list.
-fn take_out(patterns: &mut Vec<Pattern>, pattern: &Pattern)
-    ensures { patterns.new.items ≡ without_pattern patterns.old.items pattern.now }
-{
-    patterns.retain(|other| pattern != other);
 }

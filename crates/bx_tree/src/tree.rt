@@ -3,12 +3,13 @@ ghost use Rattle.bx_names.specs.InForce.{in_force, with_pattern, without_pattern
 ghost use Rattle.bx_tree.specs.Lists.{IsIndexOf};
 ghost use Rattle.bx_tree.specs.Patterns.{patterns_of};
 
-use crate::copies::copy_of;
+use crate::changes::shorten;
 use crate::nodes::Nodes;
 use crate::sessions::SessionPatterns;
 use bx_names::Pattern;
 use std::alloc::{AllocError, Global};
 use std::marker::Model;
+use std::slice;
 
 /// Which patterns are in force for which session numbers.
 ///
@@ -54,22 +55,13 @@ impl Tree {
         ensures added { IfOk result (λ added. added ≡ not (in_force (patterns_of self.old number) pattern.now)) }
         ensures err { OnErr result (self.new ≡ self.old) }
     {
-        if self.has(pattern, number) {
-            return Ok(false);
-        }
-        let kept = pattern.clone()?;
-        self.nodes.add(alloc, pattern, number)?;
-        match self.sessions.add(alloc, number, kept) {
-            Ok(()) => Ok(true),
-            Err(error) => {
-                self.nodes.remove(pattern, number);
-                Err(error)
-            }
-        }
+        let added = self.add_all(alloc, slice::from_ref(pattern), number)?;
+        Ok(added == 1)
     }
 
     /// Puts all these patterns in force for a number, in order, and says how many of them were not so before. Where
     /// memory is refused all is as before.
+    #[tactic(auto, using(crate::proofs::ChangeLemmas::no_fewer))]
     pub fn add_all(
         &mut self,
         alloc: Global,
@@ -81,35 +73,23 @@ impl Tree {
         ensures added { IfOk result (λ added. length (patterns_of self.old number) + added ≡ length (fold with_pattern (patterns_of self.old number) patterns.now)) }
         ensures err { OnErr result (self.new ≡ self.old) }
     {
-        let fresh = self.nodes.add_fresh(alloc, patterns, number)?;
-        let count = fresh.len();
-        match self.sessions.append(number, fresh) {
-            Ok(()) => Ok(count),
-            Err(fresh) => {
-                self.nodes.remove_each(fresh.as_slice(), number);
-                Err(AllocError)
-            }
-        }
+        let before = self.count(number);
+        self.sessions
+            .add_all(alloc, &mut self.nodes, patterns, number)?;
+        Ok(self.count(number) - before)
     }
 
-    /// Puts these patterns in force for a number that has none, in order and as often as they come. Where memory is
-    /// refused all is as before.
-    #[tactic(auto, using(crate::proofs::IndexLemmas::copied))]
-    pub fn copy(&mut self, alloc: Global, list: &[Pattern], number: u64) -> Result<(), AllocError>
+    /// Puts the patterns that are in force for a number in another tree in force for it here, where it has none, in
+    /// the same order. Where memory is refused all is as before.
+    pub fn copy(&mut self, alloc: Global, from: &Tree, number: u64) -> Result<(), AllocError>
         requires none { patterns_of self.old number ≡ [] }
-        ensures own { OnOk result (patterns_of self.new number ≡ list.now) }
+        ensures own { OnOk result (patterns_of self.new number ≡ patterns_of from.now number) }
         ensures others { OnOk result ((n : ℕ) → n ≢ number → patterns_of self.new n ≡ patterns_of self.old n) }
         ensures err { OnErr result (self.new ≡ self.old) }
     {
-        let copied = copy_of(alloc, list)?;
-        self.nodes.add_each(alloc, list, number)?;
-        match self.sessions.append(number, copied) {
-            Ok(()) => Ok(()),
-            Err(_) => {
-                self.nodes.remove_each(list, number);
-                Err(AllocError)
-            }
-        }
+        let patterns = from.sessions.patterns(alloc, number)?;
+        self.add_all(alloc, patterns.as_slice(), number)?;
+        Ok(())
     }
 
     /// Whether the pattern is in force for the number.
@@ -126,16 +106,15 @@ impl Tree {
         ensures others { (n : ℕ) → n ≢ number → patterns_of self.new n ≡ patterns_of self.old n }
         ensures removed { result ≡ in_force (patterns_of self.old number) pattern.now }
     {
-        let held = self.has(pattern, number);
-        if held {
-            self.nodes.remove(pattern, number);
-            self.sessions.remove(number, pattern);
-        }
-        held
+        let Some(stamp) = self.nodes.remove(pattern, number) else {
+            return false;
+        };
+        self.sessions.remove(number, pattern, stamp);
+        true
     }
 
     /// Takes each of these patterns out of force for a number, and says how many of the number's patterns that were.
-    #[tactic(auto, using(crate::proofs::FreshLemmas::taken_out))]
+    #[tactic(auto, using(crate::proofs::OnceLemmas::taken_out))]
     pub fn remove_each(&mut self, patterns: &[Pattern], number: u64) -> usize
         ensures own { patterns_of self.new number ≡ fold without_pattern (patterns_of self.old number) patterns.now }
         ensures others { (n : ℕ) → n ≢ number → patterns_of self.new n ≡ patterns_of self.old n }
@@ -154,10 +133,11 @@ impl Tree {
         ensures others { (n : ℕ) → n ≢ number → patterns_of self.new n ≡ patterns_of self.old n }
         ensures removed { result ≡ length (patterns_of self.old number) }
     {
-        let patterns = self.sessions.patterns(number);
-        let count = patterns.len();
-        self.nodes.remove_each(patterns, number);
-        self.sessions.remove_all(number);
+        let Some(mut arrivals) = self.sessions.remove_all(number) else {
+            return 0;
+        };
+        let count = arrivals.len();
+        shorten(&mut self.nodes, &mut arrivals, 0, number);
         count
     }
 
@@ -165,14 +145,14 @@ impl Tree {
     pub fn count(&self, number: u64) -> usize
         ensures { result ≡ length (patterns_of self.now number) }
     {
-        self.patterns(number).len()
+        self.sessions.count(number)
     }
 
-    /// The patterns of a number, in the order in which they came.
-    pub fn patterns(&self, number: u64) -> &[Pattern]
-        ensures { result.now ≡ patterns_of self.now number }
+    /// A copy of the patterns of a number, in the order in which they came. An error means that memory was refused.
+    pub fn patterns(&self, alloc: Global, number: u64) -> Result<Vec<Pattern>, AllocError>
+        ensures { IfOk result (λ list. list.items ≡ patterns_of self.now number) }
     {
-        self.sessions.patterns(number)
+        self.sessions.patterns(alloc, number)
     }
 
     /// What a find looks at: the lists at each path, and no session's own patterns.

@@ -24,7 +24,7 @@ impl Found {
         ensures visited { OnOk result (self.new.visited ≡ self.old.visited + 1) }
     {
         if let Some(list) = lists.reach(path, &mut self.visited) {
-            for number in list {
+            for number in list.keys() {
                 self.numbers.push(*number)?;
             }
         }

@@ -1,5 +1,6 @@
 use Rattle.std.proofs.Common.{◌≡◌, ◌&&◌, ◌||◌, not, cond, is_some, None, [], nat_eq, refl, sym, ap, ◌∙◌}
 use Rattle.bx_connects.specs.Connects.{connect_at}
+use Rattle.bx_shard.specs.Sessions.{patterns_in}
 use Rattle.bx_reshard.specs.Heirs.{patterns_there, kept_there}
 use Rattle.bx_reshard.proofs.HeirLemmas.{at_each, on_ok, row_here, same_connects}
 use Rattle.bx_reshard.proofs.heirs.Heirs.lend_session.Goals as goal
@@ -20,7 +21,7 @@ pub returns-clause-patterns : goal.returns-clause-patterns
 returns-clause-patterns c =
     let there = row_here c.args.self.now.shards c.args.slot c.in-Some.heir.now c.requires.within c.in-Some.ensures.value in
     on_ok c.lend.result
-    (λ lent k n. at_each (λ o u b. patterns_there u n ≡ cond ((b && nat_eq c.args.number n) && not (is_some (kept_there o n))) c.args.patterns.now (patterns_there o n)) c.args.self.now.shards.items c.args.slot c.in-Some.heir.now c.lend.new.self c.requires.within there
+    (λ lent k n. at_each (λ o u b. patterns_there u n ≡ cond ((b && nat_eq c.args.number n) && not (is_some (kept_there o n))) (patterns_in c.args.from.now c.args.number) (patterns_there o n)) c.args.self.now.shards.items c.args.slot c.in-Some.heir.now c.lend.new.self c.requires.within there
     (lent n) (λ o. refl) k)
     c.lend.ensures.patterns
 

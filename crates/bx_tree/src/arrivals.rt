@@ -1,0 +1,117 @@
+ghost use Rattle.std.specs.Prelude.{◌≡◌, ◌<◌, ℕ, [], ◌∷◌, ◌++◌, Some, None, true, false, length, OnOk, OnErr, IfOk, IfSome};
+ghost use Rattle.std.specs.Ordering.{nat_cmp};
+ghost use Rattle.std.specs.BTreeMap.{get, keys};
+ghost use Rattle.std.specs.List.{All};
+ghost use Rattle.bx_names.specs.InForce.{in_force, without_pattern};
+ghost use Rattle.bx_tree.specs.Once.{AreOnce};
+
+use bx_names::Pattern;
+use std::alloc::{AllocError, Global};
+use std::collections::BTreeMap;
+use std::marker::Model;
+
+/// The patterns of one session, each once, in the order in which they came.
+///
+/// Each stands at a stamp, and stamps ascend. Whoever takes a pattern out tells its stamp, since nothing here leads from a
+/// pattern to its stamp but a look at each. No clause rests on a stamp.
+#[derive(Drop)]
+pub(crate) struct Arrivals {
+    by_stamp: BTreeMap<u64, Pattern>,
+}
+
+impl Model for Arrivals {
+    ghost use Rattle.std.specs.Prelude.{List};
+    ghost use Rattle.std.specs.Map.{values_of};
+    ghost use Rattle.bx_names.specs.Globs.{Glob};
+    ghost use Rattle.bx_tree.specs.Once.{AreOnce};
+
+    ghost Value = { List Glob };
+
+    ghost view = { λ arrivals. values_of arrivals.by_stamp.entries };
+
+    ghost invariant = { λ arrivals. AreOnce (values_of arrivals.by_stamp.entries) };
+}
+
+impl Arrivals {
+    /// No pattern.
+    pub(crate) fn new(alloc: Global) -> Arrivals
+        ensures { result ≡ [] }
+    {
+        Arrivals {
+            by_stamp: BTreeMap::new(alloc),
+        }
+    }
+
+    /// How many patterns there are.
+    pub(crate) fn len(&self) -> usize
+        ensures { result ≡ length self.now }
+    {
+        self.by_stamp.len()
+    }
+
+    /// A copy of the patterns, in the order in which they came.
+    pub(crate) fn to_vec(&self, alloc: Global) -> Result<Vec<Pattern>, AllocError>
+        ensures list { IfOk result (λ copy. copy.items ≡ self.now) }
+        ensures once { AreOnce self.now }
+    {
+        let mut copy = Vec::with_capacity(alloc, self.by_stamp.len())?;
+        for pattern in self.by_stamp.values() {
+            copy.push(pattern.clone()?)?;
+        }
+        Ok(copy)
+    }
+
+    /// Adds a pattern that is not there behind the others, and gives its stamp. Nothing changes where memory is refused.
+    pub(crate) fn push(&mut self, pattern: Pattern) -> Result<u64, AllocError>
+        requires { in_force self.old pattern ≡ false }
+        ensures ok { OnOk result (self.new ≡ self.old ++ pattern ∷ []) }
+        ensures err { OnErr result (self.new ≡ self.old) }
+    {
+        let stamp = stamp_behind(&self.by_stamp)?;
+        self.by_stamp.insert(stamp, pattern)?;
+        Ok(stamp)
+    }
+
+    /// Takes out the pattern that came last.
+    pub(crate) fn pop(&mut self) -> Option<Pattern>
+        ensures some { IfSome result (λ pattern. self.old ≡ self.new ++ pattern ∷ []) }
+        ensures once { IfSome result (λ pattern. in_force self.new pattern ≡ false) }
+        ensures none { result ≡ None → self.old ≡ [] }
+    {
+        let Some(last) = self.by_stamp.pop_last() else {
+            return None;
+        };
+        Some(last.1)
+    }
+
+    /// Takes a pattern out, at once where it stands at this stamp.
+    pub(crate) fn remove(&mut self, pattern: &Pattern, stamp: u64)
+        ensures { self.new ≡ without_pattern self.old pattern.now }
+    {
+        if stands_at(&self.by_stamp, stamp, pattern) {
+            drop(self.by_stamp.remove(&stamp));
+        } else {
+            self.by_stamp.retain(|_, other| pattern != other);
+        }
+    }
+}
+
+/// Whether a pattern stands at a stamp.
+fn stands_at(by_stamp: &BTreeMap<u64, Pattern>, stamp: u64, pattern: &Pattern) -> bool
+    ensures { result ≡ true → get nat_cmp by_stamp.now stamp ≡ Some pattern.now }
+{
+    match by_stamp.get(&stamp) {
+        Some(there) => there == pattern,
+        None => false,
+    }
+}
+
+/// A stamp behind all others. Where no number is left for it, that is as if memory were refused.
+fn stamp_behind(by_stamp: &BTreeMap<u64, Pattern>) -> Result<u64, AllocError>
+    ensures { IfOk result (λ stamp. All (λ (k : ℕ). k < stamp) (keys by_stamp.now)) }
+{
+    match by_stamp.last_key_value() {
+        Some((last, _)) => last.checked_add(1).ok_or(AllocError),
+        None => Ok(0),
+    }
+}

@@ -1,0 +1,92 @@
+//! Changes of the patterns of one number, in its list and in the index at once.
+ghost use Rattle.std.specs.Prelude.{◌≡◌, ◌≢◌, ℕ, length, take, fold, OnOk, OnErr};
+ghost use Rattle.bx_names.specs.Globs.{Glob};
+ghost use Rattle.bx_names.specs.InForce.{with_pattern};
+ghost use Rattle.bx_tree.specs.Lists.{IsIndexAt, KeepsOthers};
+
+use crate::arrivals::Arrivals;
+use crate::nodes::Nodes;
+use bx_names::Pattern;
+use std::alloc::{AllocError, Global};
+
+/// Puts a pattern in force for a number, if it is not. Nothing changes where memory is refused.
+fn put(
+    alloc: Global,
+    nodes: &mut Nodes,
+    arrivals: &mut Arrivals,
+    pattern: &Pattern,
+    number: u64,
+) -> Result<(), AllocError>
+    requires { IsIndexAt nodes.old number arrivals.old }
+    ensures index { IsIndexAt nodes.new number arrivals.new }
+    ensures others { KeepsOthers number nodes.old nodes.new }
+    ensures ok { OnOk result (arrivals.new ≡ with_pattern arrivals.old pattern.now) }
+    ensures err { OnErr result (arrivals.new ≡ arrivals.old) }
+{
+    if nodes.has(pattern, number) {
+        return Ok(());
+    }
+    let stamp = arrivals.push(pattern.clone()?)?;
+    if let Err(error) = nodes.add(alloc, pattern, number, stamp) {
+        drop(arrivals.pop());
+        return Err(error);
+    }
+    Ok(())
+}
+
+/// Puts these patterns in force for a number, in order. Where memory is refused some of them are.
+fn put_each(
+    alloc: Global,
+    nodes: &mut Nodes,
+    arrivals: &mut Arrivals,
+    patterns: &[Pattern],
+    number: u64,
+) -> Result<(), AllocError>
+    requires { IsIndexAt nodes.old number arrivals.old }
+    ensures index { IsIndexAt nodes.new number arrivals.new }
+    ensures others { KeepsOthers number nodes.old nodes.new }
+    ensures ok { OnOk result (arrivals.new ≡ fold with_pattern arrivals.old patterns.now) }
+    ensures first { take (length arrivals.old) arrivals.new ≡ arrivals.old }
+{
+    for pattern in patterns {
+        put(alloc, nodes, arrivals, pattern, number)?;
+    }
+    Ok(())
+}
+
+/// Takes the patterns behind the first so many out of force for a number.
+pub(crate) fn shorten(nodes: &mut Nodes, arrivals: &mut Arrivals, len: usize, number: u64)
+    requires { IsIndexAt nodes.old number arrivals.old }
+    ensures index { IsIndexAt nodes.new number arrivals.new }
+    ensures others { KeepsOthers number nodes.old nodes.new }
+    ensures first { arrivals.new ≡ take len arrivals.old }
+{
+    while arrivals.len() > len {
+        let Some(pattern) = arrivals.pop() else {
+            return;
+        };
+        nodes.remove(&pattern, number);
+    }
+}
+
+/// Puts these patterns in force for a number, in order, or none of them where memory is refused.
+pub(crate) fn add_all(
+    alloc: Global,
+    nodes: &mut Nodes,
+    arrivals: &mut Arrivals,
+    patterns: &[Pattern],
+    number: u64,
+) -> Result<(), AllocError>
+    requires { IsIndexAt nodes.old number arrivals.old }
+    ensures index { IsIndexAt nodes.new number arrivals.new }
+    ensures others { KeepsOthers number nodes.old nodes.new }
+    ensures ok { OnOk result (arrivals.new ≡ fold with_pattern arrivals.old patterns.now) }
+    ensures err { OnErr result (arrivals.new ≡ arrivals.old) }
+{
+    let before = arrivals.len();
+    if let Err(error) = put_each(alloc, nodes, arrivals, patterns, number) {
+        shorten(nodes, arrivals, before, number);
+        return Err(error);
+    }
+    Ok(())
+}
