@@ -22,4 +22,4 @@ pub use reply::{AckReply, Answer, Item, Reply, share_json};
 pub use sequence::Sequence;
 pub use status::Status;
 pub use text::{RawJson, Text};
-pub use write::{body_text, event_text, reply_text};
+pub use write::{body_text, event_text, item_room, reply_text, write_item};

@@ -62,13 +62,17 @@ pub fn body_text(alloc: Global, items: &[Item]) -> Result<Vec<u8>, AllocError>
 fn body_room(items: &[Item]) -> usize {
     let mut room = 2usize;
     for item in items {
-        let item_room = match item {
-            Item::EventItem(event) => event_room(event.event()),
-            Item::ReplyItem(reply) => reply_room(reply),
-        };
-        room = room.saturating_add(item_room);
+        room = room.saturating_add(item_room(item)).saturating_add(1);
     }
     room
+}
+
+/// Room for the text of an item, in bytes: of an event its very size, of a reply enough unless a text in it wants escapes.
+pub fn item_room(item: &Item) -> usize {
+    match item {
+        Item::EventItem(event) => event.size(),
+        Item::ReplyItem(reply) => reply_room(reply),
+    }
 }
 
 fn event_room(event: &Event) -> usize {
@@ -97,7 +101,8 @@ fn raw_len(json: &Option<RawJson>) -> usize {
     }
 }
 
-fn write_item(out: Vec<u8>, item: &Item) -> Result<Vec<u8>, AllocError>
+/// Adds an item to a text. An error means that memory was refused.
+pub fn write_item(out: Vec<u8>, item: &Item) -> Result<Vec<u8>, AllocError>
     ensures { IfOk result (λ text. text.items ≡ out.items ++ item_text item.now) }
 {
     match item {

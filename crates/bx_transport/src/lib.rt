@@ -11,4 +11,4 @@ mod response;
 pub use error::TransportError;
 pub use laws::scripts_read_the_same;
 pub use request::{read_get, read_post};
-pub use response::callback_of;
+pub use response::{callback_of, push_script_safe};

@@ -27,8 +27,8 @@ pub fn callback_of(alloc: Global, name: &str, items: &[Item]) -> Result<Vec<u8>,
     Ok(out)
 }
 
-// Adds a text as a script may hold it.
-fn push_script_safe(out: &mut Vec<u8>, text: &[u8]) -> Result<(), AllocError>
+/// Adds a text as a script may hold it: U+2028 and U+2029 in it are written as escapes. An error means that memory was refused.
+pub fn push_script_safe(out: &mut Vec<u8>, text: &[u8]) -> Result<(), AllocError>
     ensures { OnOk result (out.new.items ≡ out.old.items ++ script_safe text.now) }
 {
     let mut rest = text;
