@@ -3,9 +3,9 @@ use crate::host::{Host, add_written};
 use crate::wire::Wire;
 use anyhow::Result;
 use bx_advice::BODY_LIMIT;
+use bx_pieces::Pieces;
 use bytes::Bytes;
 use http::{Request, Response};
-use http_body_util::Full;
 use hyper::body::Incoming;
 use hyper::service::Service;
 use std::alloc::{AllocError, Global};
@@ -110,7 +110,7 @@ fn filled(alloc: Global, bytes: &str) -> Result<String, AllocError> {
 
 impl<S, E> Host<'_, S>
 where
-    S: Service<Request<Incoming<Wire>>, Response = Response<Full<Bytes>>, Error = E> + Clone,
+    S: Service<Request<Incoming<Wire>>, Response = Response<Pieces<Bytes>>, Error = E> + Clone,
     E: Into<anyhow::Error> + Drop,
 {
     /// Adds for each what is written to its connection.

@@ -2,9 +2,9 @@
 use crate::host::{Host, add_written, post};
 use crate::wire::Wire;
 use anyhow::Result;
+use bx_pieces::Pieces;
 use bytes::Bytes;
 use http::{Request, Response};
-use http_body_util::Full;
 use hyper::body::Incoming;
 use hyper::service::Service;
 use std::alloc::{AllocError, Global};
@@ -30,7 +30,7 @@ fn both(alloc: Global) -> Result<String, AllocError> {
 
 impl<S, E> Host<'_, S>
 where
-    S: Service<Request<Incoming<Wire>>, Response = Response<Full<Bytes>>, Error = E> + Clone,
+    S: Service<Request<Incoming<Wire>>, Response = Response<Pieces<Bytes>>, Error = E> + Clone,
     E: Into<anyhow::Error> + Drop,
 {
     /// A session opens, subscribes and connects, and right behind the connect asks for nothing; over another connection it publishes

@@ -3,12 +3,12 @@ ghost use Rattle.std.specs.Prelude.{◌≡◌, false};
 
 use crate::wire::Wire;
 use anyhow::{Result, anyhow};
+use bx_pieces::Pieces;
 use bytes::Bytes;
 use futures::Future;
 use futures::task::Poll;
 use futures::test::MockTask;
 use http::{Request, Response};
-use http_body_util::Full;
 use hyper::body::Incoming;
 use hyper::server::conn::http1;
 use hyper::service::Service;
@@ -34,7 +34,7 @@ pub struct Host<'a, S> {
 
 impl<S, E> Host<'_, S>
 where
-    S: Service<Request<Incoming<Wire>>, Response = Response<Full<Bytes>>, Error = E> + Clone,
+    S: Service<Request<Incoming<Wire>>, Response = Response<Pieces<Bytes>>, Error = E> + Clone,
     E: Into<anyhow::Error> + Drop,
 {
     /// Serves a connection until its end, which may be an error, and gives what was written to it.

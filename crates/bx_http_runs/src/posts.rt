@@ -5,10 +5,10 @@ use anyhow::{Result, anyhow};
 use bx_cut::Bodies;
 use bx_entry::{Arrival, ByRemainder};
 use bx_hub::{Hub, OpenGate};
+use bx_pieces::Pieces;
 use bx_window::Naming;
 use bytes::Bytes;
 use http::{Request, Response};
-use http_body_util::Full;
 use hyper::body::Incoming;
 use hyper::service::Service;
 use std::alloc::{AllocError, Global};
@@ -55,7 +55,7 @@ fn body_of(alloc: Global, written: &[u8]) -> Result<String> {
 
 impl<S, E> Host<'_, S>
 where
-    S: Service<Request<Incoming<Wire>>, Response = Response<Full<Bytes>>, Error = E> + Clone,
+    S: Service<Request<Incoming<Wire>>, Response = Response<Pieces<Bytes>>, Error = E> + Clone,
     E: Into<anyhow::Error> + Drop,
 {
     /// A handshake, of which a connection has no byte, one byte, and so on, and at last all. Says behind how many connections that

@@ -9,12 +9,12 @@ use anyhow::{Result, anyhow};
 use bx_advice::Config;
 use bx_entry::ByRemainder;
 use bx_hub::OpenGate;
+use bx_pieces::Pieces;
 use bx_service::{BayeuxService, Clock, HubBackend, Nonces};
 use bx_window::{Naming, Opened};
 use bytes::Bytes;
 use futures::test::MockTask;
 use http::{Request, Response};
-use http_body_util::Full;
 use hyper::body::Incoming;
 use hyper::server::conn::http1;
 use hyper::service::Service;
@@ -100,7 +100,7 @@ fn serve_all<J, S, E, H, R>(
 ) -> Result<String>
 where
     J: Naming,
-    S: Service<Request<Incoming<Wire>>, Response = Response<Full<Bytes>>, Error = E> + Clone,
+    S: Service<Request<Incoming<Wire>>, Response = Response<Pieces<Bytes>>, Error = E> + Clone,
     E: Into<anyhow::Error> + Drop,
     H: Wait + Drop,
     R: Wait + RandomSource + AllocGlobal,
@@ -121,7 +121,7 @@ where
 fn add_all<J, S, E, H, R>(rt: &R, host: &Host<'_, S>, hub: &Served<J, H>) -> Result<String>
 where
     J: Naming,
-    S: Service<Request<Incoming<Wire>>, Response = Response<Full<Bytes>>, Error = E> + Clone,
+    S: Service<Request<Incoming<Wire>>, Response = Response<Pieces<Bytes>>, Error = E> + Clone,
     E: Into<anyhow::Error> + Drop,
     H: Wait + Drop,
     R: Wait,

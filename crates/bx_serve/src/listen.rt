@@ -2,10 +2,10 @@
 use crate::connections::Connections;
 use crate::maker::{Coming, Server};
 use crate::spawn_each::{run_each, run_until};
+use bx_pieces::Pieces;
 use bytes::Bytes;
 use futures::Future;
 use http::{Request, Response};
-use http_body_util::Full;
 use hyper::rt::TokioTimer;
 use hyper::server::conn::http1;
 use hyper::service::Service;
@@ -39,7 +39,7 @@ pub fn serve_connections<R, S, E>(
 ) -> io::Result<()>
 where
     R: Wait + Threads + Clock + RandomSource + AllocGlobal + Sync + Send + Copy + Drop,
-    S: Service<Request<Coming<R>>, Response = Response<Full<Bytes>>, Error = E> + Clone + Send,
+    S: Service<Request<Coming<R>>, Response = Response<Pieces<Bytes>>, Error = E> + Clone + Send,
     S::Future: Send,
     E: Into<anyhow::Error> + Drop + Send,
     requires { (each : S) → S.can_call each }
@@ -60,7 +60,7 @@ pub fn serve_until<R, S, E, A, T>(
 ) -> io::Result<()>
 where
     R: Wait + Threads + Clock + RandomSource + AllocGlobal + Sync + Send + Copy + Drop,
-    S: Service<Request<Coming<R>>, Response = Response<Full<Bytes>>, Error = E> + Clone + Send,
+    S: Service<Request<Coming<R>>, Response = Response<Pieces<Bytes>>, Error = E> + Clone + Send,
     S::Future: Send,
     E: Into<anyhow::Error> + Drop + Send,
     A: Future<Output = T>,
@@ -82,7 +82,7 @@ fn connections_of<R, S, E>(
 ) -> io::Result<Connections<R, Server<R, S>>>
 where
     R: Clock + RandomSource + AllocGlobal + Copy + Drop,
-    S: Service<Request<Coming<R>>, Response = Response<Full<Bytes>>, Error = E> + Clone + Drop,
+    S: Service<Request<Coming<R>>, Response = Response<Pieces<Bytes>>, Error = E> + Clone + Drop,
     E: Into<anyhow::Error> + Drop,
 {
     let timers = runtime.handle().time().clone()?;

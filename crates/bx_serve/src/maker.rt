@@ -4,11 +4,11 @@ ghost use Rattle.std.specs.Prelude.{⊤, IfSome};
 use crate::patience::Patience;
 use crate::patient::{Patient, Patiently};
 use crate::peer::Peer;
+use bx_pieces::Pieces;
 use bytes::Bytes;
 use futures::Future;
 use futures::task::{Context, Poll};
 use http::{Request, Response};
-use http_body_util::Full;
 use hyper::body::Incoming;
 use hyper::rt::TokioTimer;
 use hyper::server::conn::http1;
@@ -74,11 +74,11 @@ pub struct Server<R, S> {
 impl<R, S, E> Maker for Server<R, S>
 where
     R: Clock + Copy + Drop,
-    S: Service<Request<Coming<R>>, Response = Response<Full<Bytes>>, Error = E> + Clone,
+    S: Service<Request<Coming<R>>, Response = Response<Pieces<Bytes>>, Error = E> + Clone,
     E: Into<anyhow::Error> + Drop,
 {
     type Task = Quiet<
-        Connection<Served<R>, Patiently<S, TokioTimer<R>>, Full<Bytes>, TokioTimer<R>>,
+        Connection<Served<R>, Patiently<S, TokioTimer<R>>, Pieces<Bytes>, TokioTimer<R>>,
     >;
 
     ghost can_make = { λ _. (service : S) → S.can_call service };

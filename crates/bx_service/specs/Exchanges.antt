@@ -4,7 +4,7 @@ use Rattle.std.specs.Global.{Global}
 use Rattle.futures.specs.Runs.{Runs}
 use Rattle.http.specs.declared.response.Response.{Response}
 use Rattle.http_body.specs.declared.frame.Frame.{Frame}
-use Rattle.http_body_util.specs.declared.full.Full.{Full}
+use Rattle.bx_pieces.specs.declared.pieces.Pieces.{Pieces}
 use Rattle.bx_service.specs.Bodies.{Gives}
 use Rattle.bx_service.specs.declared.collect.CollectError.{CollectError}
 use Rattle.bx_cut.specs.Bodies.{texts_of}
@@ -21,7 +21,7 @@ use Rattle.bx_service.specs.Statuses.{body_status}
 
 -- a response as it is sent
 abbrev pub Sent : Type 0
-Sent = Response (Full (List ℕ))
+Sent = Response (Pieces (List ℕ))
 
 -- what the future of a response's items gives
 abbrev pub Gathered : Type 0

@@ -21,6 +21,7 @@ use crate::service::ServiceFault;
 use crate::status::body_status;
 use bx_cut::Bodies;
 use bx_message::{Item, Status, number_of};
+use bx_pieces::Pieces;
 use bx_transport::{TransportError, read_get, read_post};
 use bytes::{Buf, Bytes};
 use futures::Future;
@@ -29,7 +30,6 @@ use http::header::{CONTENT_LENGTH, CONTENT_TYPE, HeaderValue};
 use http::request::Parts;
 use http::{Request, Response};
 use http_body::Body;
-use http_body_util::Full;
 use std::alloc::{AllocError, Global};
 use std::sync::Arc;
 
@@ -230,7 +230,7 @@ fn answered(
     alloc: Global,
     callback: Option<&str>,
     gathered: Result<Vec<Item>, Unanswered>,
-) -> Result<Response<Full<Bytes>>, AllocError>
+) -> Result<Response<Pieces<Bytes>>, AllocError>
     ensures { IfOk result (ForItems (option_map (λ name. name.now) callback.entry) gathered) }
 {
     let Ok(items) = gathered else {
@@ -244,8 +244,8 @@ fn answered(
 
 // A response, or that there is no memory for one.
 fn given(
-    response: Result<Response<Full<Bytes>>, AllocError>,
-) -> Result<Response<Full<Bytes>>, ServiceFault>
+    response: Result<Response<Pieces<Bytes>>, AllocError>,
+) -> Result<Response<Pieces<Bytes>>, ServiceFault>
     ensures { IfOk result (λ sent. response ≡ Ok sent) }
 {
     match response {
@@ -293,7 +293,7 @@ where
     fn poll_answered(
         &mut self,
         cx: &mut Context<'_>,
-    ) -> Poll<Result<Response<Full<Bytes>>, ServiceFault>>
+    ) -> Poll<Result<Response<Pieces<Bytes>>, ServiceFault>>
         requires { CanPoll I.can_poll B.can_poll self.old.state }
         ensures value { IfReady result (λ given. IfOk given (λ sent. (backend : S) → MayAnswer I.gives (S.admits backend) D.unread B.yields self.old.state sent)) }
         ensures again { OnPending result (CanPoll I.can_poll B.can_poll self.new.state) }
@@ -325,7 +325,7 @@ where
     B: Body<Data = D>,
     D: Buf + Drop,
 {
-    type Output = Result<Response<Full<Bytes>>, ServiceFault>;
+    type Output = Result<Response<Pieces<Bytes>>, ServiceFault>;
 
     ghost can_poll = { λ e. CanPoll I.can_poll B.can_poll e.state };
 

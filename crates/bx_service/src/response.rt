@@ -4,19 +4,18 @@ ghost use Rattle.std.specs.Prelude.{◌≡◌, IfOk, option_map};
 ghost use Rattle.bx_service.specs.Responses.{IsAnswer, IsRefusal};
 
 use crate::status::code_of;
-use bx_message::{Item, Status, body_text};
-use bx_transport::callback_of;
+use bx_message::{Item, Status};
+use bx_pieces::Pieces;
 use bytes::Bytes;
 use http::Response;
 use http::header::{ALLOW, CONTENT_TYPE, HeaderValue};
-use http_body_util::Full;
 use std::alloc::{AllocError, Global};
 
 /// A response without a body.
-pub(crate) fn refusal(alloc: Global, status: Status) -> Result<Response<Full<Bytes>>, AllocError>
+pub(crate) fn refusal(alloc: Global, status: Status) -> Result<Response<Pieces<Bytes>>, AllocError>
     ensures { IfOk result (IsRefusal status) }
 {
-    let mut response = Response::new(alloc, Full::new(Bytes::from_static(b"")));
+    let mut response = Response::new(alloc, Pieces::none(alloc));
     *response.status_mut() = code_of(status);
     if status == Status::MethodNotAllowed {
         let methods = HeaderValue::from_static("GET, POST");
@@ -32,23 +31,14 @@ pub(crate) fn answer(
     alloc: Global,
     callback: Option<&str>,
     items: &[Item],
-) -> Result<Response<Full<Bytes>>, AllocError>
+) -> Result<Response<Pieces<Bytes>>, AllocError>
     ensures { IfOk result (IsAnswer (option_map (λ name. name.now) callback.entry) items.now) }
 {
-    let (kind, body) = match callback {
-        Some(name) => (
-            HeaderValue::from_static("application/javascript;charset=UTF-8"),
-            callback_of(alloc, name, items)?,
-        ),
-        None => (
-            HeaderValue::from_static("application/json;charset=UTF-8"),
-            body_text(alloc, items)?,
-        ),
-    };
-    let Ok(body) = Bytes::from_vec(body) else {
-        return Err(AllocError);
-    };
-    let mut response = Response::new(alloc, Full::new(body));
+    let kind = HeaderValue::from_static(match callback {
+        Some(_) => "application/javascript;charset=UTF-8",
+        None => "application/json;charset=UTF-8",
+    });
+    let mut response = Response::new(alloc, Pieces::answer(alloc, callback, items)?);
     if response.headers_mut().insert(CONTENT_TYPE, kind).is_err() {
         return Err(AllocError);
     }

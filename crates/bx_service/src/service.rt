@@ -9,11 +9,11 @@ use crate::backend::{Backend, Unanswered};
 use crate::exchange::Exchange;
 use crate::limit::BodyLimit;
 use bx_message::Item;
+use bx_pieces::Pieces;
 use bytes::{Buf, Bytes};
 use futures::Future;
 use http::{Request, Response};
 use http_body::Body;
-use http_body_util::Full;
 use hyper::service::Service;
 use std::alloc::{AllocError, Global};
 use std::error::Error;
@@ -86,7 +86,7 @@ where
     B: Body<Data = D>,
     D: Buf + Drop,
 {
-    type Response = Response<Full<Bytes>>;
+    type Response = Response<Pieces<Bytes>>;
 
     type Error = ServiceFault;
 

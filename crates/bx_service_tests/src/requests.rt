@@ -7,7 +7,6 @@ use futures::task::Poll;
 use futures::test::MockTask;
 use http::header::{ALLOW, CONTENT_LENGTH, CONTENT_TYPE};
 use http::{Request, Response};
-use http_body_util::Full;
 use std::alloc::Global;
 use std::process::Abort;
 use std::test::*;
@@ -19,7 +18,7 @@ pub const SCRIPT: &str = "application/javascript;charset=UTF-8";
 pub const FORM: &str = "application/x-www-form-urlencoded";
 
 /// What an exchange gives.
-pub type Given = Result<Response<Full<Bytes>>, ServiceFault>;
+pub type Given = Result<Response<bx_pieces::Pieces<Bytes>>, ServiceFault>;
 
 /// What a request has behind its fields.
 #[derive(Clone, Copy, Debug)]
@@ -176,7 +175,7 @@ pub fn check_given<F: Future<Output = Given>, R: Abort>(
 }
 
 // It says what its body is, and which methods are allowed, exactly where that is asked.
-fn check_fields<R: Abort>(rt: &R, response: &Response<Full<Bytes>>, want: Want) {
+fn check_fields<R: Abort>(rt: &R, response: &Response<bx_pieces::Pieces<Bytes>>, want: Want) {
     for (name, value) in [(CONTENT_TYPE, want.kind()), (ALLOW, want.allow())] {
         let field = response.headers().get(name);
         let found = field.map(|field| field.as_bytes());

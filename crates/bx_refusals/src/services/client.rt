@@ -7,18 +7,18 @@ use crate::services::asked::{Asked, request};
 use crate::services::list::{Adds, Count, List};
 use crate::unlike::Unlike;
 use bx_message::Item;
+use bx_pieces::Pieces;
 use bx_service::{Backend, BayeuxService, Collect, ServiceFault, Unanswered};
 use bytes::Bytes;
 use futures::Future;
 use futures::task::Poll;
 use futures::test::MockTask;
 use http::Response;
-use http_body_util::Full;
 use hyper::service::Service;
 use std::alloc::Global;
 
 /// What an exchange gives.
-pub type Given = Result<Response<Full<Bytes>>, ServiceFault>;
+pub type Given = Result<Response<Pieces<Bytes>>, ServiceFault>;
 
 /// A service with the list of its hub, and the task that polls its exchanges.
 #[derive(Drop)]

@@ -1,0 +1,19 @@
+-- How a text is given in pieces.
+use Rattle.std.specs.Prelude.{◌≡◌, ◌<◌, ℕ, List, [], ◌∷◌, ◌++◌, length, Some, None, Result, Ok, Err}
+use Rattle.futures.specs.Runs.{Runs}
+use Rattle.http_body.specs.declared.frame.Frame.{Frame}
+use Rattle.http_body.specs.Frame.{data_frame}
+
+-- a frame whose data are made from a piece of a text, and then what the rest says
+abbrev pub Leads : {D : Type 0} → (List ℕ → D → Type 0) → List ℕ → Frame D → (List ℕ → Type 0) → Type 0
+Leads {D} made text frame rest =
+    (piece : List ℕ) × ((left : List ℕ) × ((it : D) × ((frame ≡ data_frame it) × made piece it × (text ≡ piece ++ left) × rest left)))
+
+-- The pieces of this text, as data that are made from them, in their order, and then the end, where nothing of it is left. In place of a piece
+-- there may be a fault, which takes nothing away.
+abbrev pub InPieces : {D E : Type 0} → (List ℕ → D → Type 0) → List ℕ → Runs (Result (Frame D) E)
+InPieces made text [] None = text ≡ []
+InPieces made text [] (Some (Ok frame)) = Leads made text frame (λ left. Unit {0})
+InPieces made text [] (Some (Err fault)) = 0 < length text
+InPieces made text (Ok frame ∷ given) last = Leads made text frame (λ left. InPieces made left given last)
+InPieces made text (Err fault ∷ given) last = InPieces made text given last

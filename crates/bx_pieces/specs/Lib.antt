@@ -1,0 +1,4 @@
+pub mod Elements
+pub mod Givings
+pub mod Laws
+pub mod Tails
