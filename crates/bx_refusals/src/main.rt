@@ -4,6 +4,7 @@
 #![tactic(auto)]
 
 mod hubs;
+mod parts;
 mod plans;
 mod requests;
 mod rounds;
@@ -21,8 +22,8 @@ use std::sync::Wait;
 use std::thread::Threads;
 use unlike::Unlike;
 
-const PARTS: [&str; 7] = [
-    "plans", "shard", "rounds", "world", "hub", "window", "service",
+const PARTS: [&str; 8] = [
+    "plans", "shard", "rounds", "world", "hub", "window", "service", "pieces",
 ];
 
 fn main(rt: HostRuntime) -> Result<()> {
@@ -62,6 +63,7 @@ where
         "hub" => Some(hubs::run(&rt, alloc)),
         "window" => Some(windows::run(&rt, alloc)),
         "service" => Some(services::run(rt)),
+        "pieces" => Some(parts::run(&rt, alloc)),
         _ => None,
     }
 }

@@ -1,0 +1,133 @@
+//! Responses that are given in several pieces.
+use crate::requests::add_line;
+use crate::unlike::Unlike;
+use bx_message::{Event, Item, RawJson, SharedEvent, Text};
+use bx_names::ChannelName;
+use bx_pieces::Pieces;
+use bytes::{Buf, Bytes};
+use futures::task::Poll;
+use futures::test::MockTask;
+use http_body::Body;
+use http_body_util::BodyExt;
+use std::alloc::{AllocGlobal, Global};
+use std::random::RandomSource;
+
+// How many events a response has, and how many signs the data of each: two of them do not fit 64 KiB.
+const EVENTS: usize = 3;
+
+const SIGNS: usize = 40_000;
+
+// How many frames are asked for at most: those of three pieces, and the end.
+const MOST_FRAMES: usize = 4;
+
+/// A response of three pieces is given, as an array and as a script. Says of each frame how many bytes it has and how many are left behind
+/// it, and whether the text is that of the events. A frame to which memory was refused is asked for once more.
+pub fn run<R: RandomSource + AllocGlobal>(rt: &R, alloc: Global) -> Result<String, Unlike> {
+    let task = MockTask::new(rt).map_err(|_| Unlike::Memory)?;
+    let mut text = String::new(alloc);
+    for callback in [None, Some("cb")] {
+        let line = given(alloc, &task, callback)?;
+        add_line(&mut text, line.as_str())?;
+    }
+    Ok(text)
+}
+
+// What is said of a response.
+fn given(alloc: Global, task: &MockTask, callback: Option<&str>) -> Result<String, Unlike> {
+    let wanted = wanted(alloc, callback)?;
+    let mut body = answered(alloc, callback)?;
+    let mut whole = Vec::with_capacity(alloc, wanted.len())?;
+    let mut line = String::new(alloc);
+    for _ in 0..MOST_FRAMES {
+        let Some(data) = next_data(task, &mut body)? else {
+            break;
+        };
+        whole.extend_from_slice(data.chunk())?;
+        let part = said(alloc, data.len(), body.size_hint().exact())?;
+        line.push_str(part.as_str())?;
+    }
+    if whole.as_slice() != wanted.as_bytes() {
+        return Err(Unlike::Wrong("another text"));
+    }
+    line.push_str("the events")?;
+    Ok(line)
+}
+
+// What is said of a frame.
+fn said(alloc: Global, size: usize, left: Option<u64>) -> Result<String, Unlike> {
+    let Some(left) = left else {
+        return Err(Unlike::Wrong("the length is not known"));
+    };
+    Ok(format!(in alloc; "{size} and {left} left, ")?)
+}
+
+// The data of the next frame, which is asked for once more where memory was refused to it; nothing at the end.
+fn next_data(task: &MockTask, body: &mut Pieces<Bytes>) -> Result<Option<Bytes>, Unlike> {
+    match ask_once(task, body) {
+        Err(Unlike::Memory) => ask_once(task, body),
+        other => other,
+    }
+}
+
+fn ask_once(task: &MockTask, body: &mut Pieces<Bytes>) -> Result<Option<Bytes>, Unlike> {
+    match task.poll(&mut body.frame()) {
+        Poll::Pending => Err(Unlike::Wrong("a body waits")),
+        Poll::Ready(None) => Ok(None),
+        Poll::Ready(Some(Err(_))) => Err(Unlike::Memory),
+        Poll::Ready(Some(Ok(frame))) => match frame.into_data() {
+            Ok(data) => Ok(Some(data)),
+            Err(_) => Err(Unlike::Wrong("no data")),
+        },
+    }
+}
+
+// A response with the events, which is asked for once more where memory was refused.
+fn answered(alloc: Global, callback: Option<&str>) -> Result<Pieces<Bytes>, Unlike> {
+    let items = events(alloc)?;
+    match Pieces::answer(alloc, callback, items.as_slice()) {
+        Ok(body) => Ok(body),
+        Err(_) => Ok(Pieces::answer(alloc, callback, items.as_slice())?),
+    }
+}
+
+// The data of each event, as JSON.
+fn data(alloc: Global) -> Result<String, Unlike> {
+    let mut text = String::new(alloc);
+    text.push_str("\"")?;
+    for _ in 0..SIGNS {
+        text.push_str("x")?;
+    }
+    text.push_str("\"")?;
+    Ok(text)
+}
+
+fn events(alloc: Global) -> Result<Vec<Item>, Unlike> {
+    let mut items = Vec::new(alloc);
+    for _ in 0..EVENTS {
+        let event = Event {
+            channel: Text::new(alloc, "/a/b")?,
+            payload: RawJson::new(alloc, data(alloc)?.as_str())?,
+            id: None,
+        };
+        let name = ChannelName::read(alloc, "/a/b").map_err(|_| Unlike::Memory)?;
+        items.push(Item::EventItem(SharedEvent::new(alloc, event, name)?))?;
+    }
+    Ok(items)
+}
+
+// The text of the response with them.
+fn wanted(alloc: Global, callback: Option<&str>) -> Result<String, Unlike> {
+    let mut text = String::new(alloc);
+    if let Some(name) = callback {
+        text.push_str(name)?;
+        text.push_str("(")?;
+    }
+    for place in 0..EVENTS {
+        text.push_str(if place == 0 { "[" } else { "," })?;
+        text.push_str("{\"channel\":\"/a/b\",\"data\":")?;
+        text.push_str(data(alloc)?.as_str())?;
+        text.push_str("}")?;
+    }
+    text.push_str(if callback.is_some() { "])" } else { "]" })?;
+    Ok(text)
+}

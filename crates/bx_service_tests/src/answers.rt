@@ -1,0 +1,122 @@
+//! Responses that are given in several pieces.
+use bx_message::{Event, Item, RawJson, SharedEvent, Text};
+use bx_names::ChannelName;
+use bx_pieces::Pieces;
+use bytes::{Buf, Bytes};
+use futures::task::Poll;
+use futures::test::MockTask;
+use http_body::Body;
+use http_body_util::BodyExt;
+use std::alloc::{AllocError, Global};
+use std::process::Abort;
+use std::test::*;
+
+// How many signs the data of a large event has: two such events do not fit 64 KiB, and one with a small one does.
+const LARGE: usize = 40_000;
+
+// How many frames the response with such events has.
+const FRAMES: usize = 3;
+
+// So many of a sign, as a JSON text.
+fn data(alloc: Global, sign: &str, count: usize) -> Result<String, AllocError> {
+    let mut text = String::new(alloc);
+    text.push_str("\"")?;
+    for _ in 0..count {
+        text.push_str(sign)?;
+    }
+    text.push_str("\"")?;
+    Ok(text)
+}
+
+// An event of such a text.
+fn event(alloc: Global, sign: &str, count: usize) -> Result<Item, Fail> {
+    let name = ChannelName::read(alloc, "/a/b")?;
+    let payload = data(alloc, sign, count)?;
+    let event = Event {
+        channel: Text::new(alloc, "/a/b")?,
+        payload: RawJson::new(alloc, payload.as_str())?,
+        id: None,
+    };
+    Ok(Item::EventItem(SharedEvent::new(alloc, event, name)?))
+}
+
+// Three large events, and a small one before the last of them.
+fn items(alloc: Global) -> Result<Vec<Item>, Fail> {
+    let mut items = Vec::new(alloc);
+    items.push(event(alloc, "x", LARGE)?)?;
+    items.push(event(alloc, "y", LARGE)?)?;
+    items.push(event(alloc, "\u{2028}", 1)?)?;
+    items.push(event(alloc, "z", LARGE)?)?;
+    Ok(items)
+}
+
+// The text of the response with them, where the small event has such a sign.
+fn wanted(alloc: Global, front: &str, sign: &str, back: &str) -> Result<String, Fail> {
+    let mut text = String::new(alloc);
+    text.push_str(front)?;
+    for (sign, count, behind) in [
+        ("x", LARGE, "},"),
+        ("y", LARGE, "},"),
+        (sign, 1, "},"),
+        ("z", LARGE, "}"),
+    ] {
+        text.push_str("{\"channel\":\"/a/b\",\"data\":")?;
+        text.push_str(data(alloc, sign, count)?.as_str())?;
+        text.push_str(behind)?;
+    }
+    text.push_str(back)?;
+    Ok(text)
+}
+
+// The data of the next frame; nothing at the end.
+fn next_data(task: &MockTask, body: &mut Pieces<Bytes>) -> Result<Option<Bytes>, Fail> {
+    match task.poll(&mut body.frame()) {
+        Poll::Pending => Err(Fail::from("it waits")),
+        Poll::Ready(None) => Ok(None),
+        Poll::Ready(Some(Err(_))) => Err(Fail::from("no memory")),
+        Poll::Ready(Some(Ok(frame))) => match frame.into_data() {
+            Ok(data) => Ok(Some(data)),
+            Err(_) => Err(Fail::from("no data")),
+        },
+    }
+}
+
+// A response with them says before each frame how many bytes are left, and its frames, three of at most 64 KiB, are this text.
+fn check_pieces<R: Abort>(
+    rt: &R,
+    alloc: Global,
+    task: &MockTask,
+    callback: Option<&str>,
+    wanted: &str,
+) -> Result<(), Fail> {
+    let items = items(alloc)?;
+    let mut body = Pieces::<Bytes>::answer(alloc, callback, items.as_slice())?;
+    let mut text = Vec::new(alloc);
+    for _ in 0..FRAMES {
+        check_left(rt, &body, wanted.len(), text.len());
+        let data = next_data(task, &mut body)?.ok_or("no frame")?;
+        assert!(rt; data.len() <= 65_536);
+        text.extend_from_slice(data.chunk())?;
+    }
+    check_left(rt, &body, wanted.len(), text.len());
+    assert!(rt; next_data(task, &mut body)?.is_none());
+    assert!(rt; text.as_slice() == wanted.as_bytes());
+    Ok(())
+}
+
+// It says how many bytes are left, and that it is at its end just where none are.
+fn check_left<R: Abort>(rt: &R, body: &Pieces<Bytes>, whole: usize, given: usize) {
+    let left = whole.saturating_sub(given) as u64;
+    assert_eq!(rt; body.size_hint().exact(), Some(left));
+    assert_eq!(rt; body.is_end_stream(), left == 0);
+}
+
+#[test]
+fn responses_of_several_pieces(rt: HostRuntime) -> Result<(), Fail> {
+    let alloc = rt.alloc();
+    let task = MockTask::new(&rt)?;
+    let array = wanted(alloc, "[", "\u{2028}", "]")?;
+    check_pieces(&rt, alloc, &task, None, array.as_str())?;
+    let script = wanted(alloc, "cb.x([", "\\u2028", "])")?;
+    check_pieces(&rt, alloc, &task, Some("cb.x"), script.as_str())
+}
