@@ -225,10 +225,10 @@ fn listen<R: Net + Log, W: Write>(
 ) -> io::Result<TcpListener> {
     let listener = bind(rt, runtime, addresses)?;
     let address = listener.local_addr()?;
+    counts.set_listens(true);
     info!(rt; target: "bayeuxd", "listening {address}");
     writeln!(writer, "listening {address}")?;
     writer.flush()?;
-    counts.set_listens(true);
     Ok(listener)
 }
 
