@@ -70,8 +70,11 @@ def toolchain():
     if not found:
         sys.exit("gadzilk: the toolchain's command rt is not on the path: README.md says what it is")
     kit = os.path.dirname(os.path.dirname(os.path.realpath(found)))
-    with open(f"{kit}/KIT-ID", encoding="ascii") as text:
-        said = text.read().strip()
+    try:
+        with open(f"{kit}/KIT-ID", encoding="ascii") as text:
+            said = text.read().strip()
+    except OSError:
+        said = "no toolchain that this repository knows"
     if LOGIC not in said:
         sys.exit(f"gadzilk: rt is of {said}, and this repository is written for {LOGIC}: put the folder of that one first on the path")
     return kit
