@@ -197,6 +197,21 @@ impl Config {
         Some(config)
     }
 
+    /// The same, with so many patterns that may be in force for each session; none where they are not 1 to
+    /// [`STANDARD_PATTERNS`].
+    pub fn with_patterns(self, patterns: u32) -> Option<Config>
+        ensures valid { IsSome result ↔ ((1 ≤ patterns) × (patterns ≤ STANDARD_PATTERNS)) }
+        ensures limit { IfSome result (λ c. c ≡ record self { limits = record self.limits { patterns = patterns } }) }
+    {
+        let patterns = patterns as usize;
+        if patterns < 1 || patterns > STANDARD_PATTERNS {
+            return None;
+        }
+        let mut config = self;
+        config.limits.patterns = patterns;
+        Some(config)
+    }
+
     /// The same, with so many sessions that may be live; none where they are not 1 to [`STANDARD_SESSIONS`].
     pub fn with_sessions(self, sessions: u32) -> Option<Config>
         ensures valid { IsSome result ↔ ((1 ≤ sessions) × (sessions ≤ STANDARD_SESSIONS)) }
@@ -222,6 +237,28 @@ mod tests {
         for (shards, is_valid) in [(0, false), (1, true), (64, true), (65, false)] {
             let config = Config::new(shards, 30_000, 0, 10_000);
             assert_eq!(rt; config.is_some(), is_valid, "{shards} shards");
+        }
+        Ok(())
+    }
+
+    // What PROTOCOL and OPERATING tell users, digit by digit.
+    #[test]
+    fn limits_are_the_documented_ones(rt: HostRuntime) -> Result<(), Fail> {
+        for (name, limit, documented) in [
+            ("bytes of a body", BODY_LIMIT as u64, 1_048_576),
+            ("shards", MAX_SHARDS as u64, 64),
+            ("moments", MAX_MOMENT, 4_611_686_018_427_387_904),
+            ("places", MAX_LENGTH, 4_611_686_018_427_387_904),
+            ("events that may be configured", MAX_EVENTS as u64, 65_536),
+            ("bytes that may be configured", MAX_BYTES as u64, 4_294_967_295),
+            ("events", STANDARD_EVENTS as u64, 1_024),
+            ("bytes", STANDARD_BYTES as u64, 4_611_686_018_427_387_904),
+            ("patterns", STANDARD_PATTERNS as u64, 1_024),
+            ("events of a batch", STANDARD_BATCH as u64, 256),
+            ("sessions", STANDARD_SESSIONS as u64, 65_536),
+            ("texts of a subscription", STANDARD_TEXTS as u64, 64),
+        ] {
+            assert_eq!(rt; limit, documented, "{name}");
         }
         Ok(())
     }

@@ -18,7 +18,7 @@ use Rattle.bx_message.specs.Texts.{callback_text}
 use Rattle.bx_laws.specs.Samples.{ack_connect, blank, id_of, versioned, handshake, ack_handshake, connect, connect_now, ack_connect_now, in_quotes, subscribe, unsubscribe, disconnect, publish, post, standard, reply, handshaken, ack_handshaken, connected_as, connected, ack_connected, subscribed, unsubscribed, disconnected, published, unknown_client, event, out, subscribe_all, subscribed_all, match_all, two_connects, held_with_ack, small, failed, four_batches, full_batch, texts, refused_messages, mixed, mixed_failed, crowded, anonymous, open_to_all, ridden_publishes, ridden_hold, ridden_behind, waits_behind, riding}
 use Rattle.bx_advice.specs.declared.error.Error.TheVariants.{TooManySessions}
 use Rattle.std.specs.Prelude.{◌++◌, map}
-use Rattle.bx_script.specs.Replay.{lines_of, line_of, Bad, Rejected, Accepted, Resharded, Announced, Noted, inputs_from, printed, with_nonces}
+use Rattle.bx_script.specs.Replay.{lines_of, line_of, Bad, Recorded, Rejected, Accepted, Resharded, Announced, Noted, Script, inputs_from, printed, with_nonces}
 
 -- ---- which texts read as names and patterns, and what patterns match
 
@@ -535,22 +535,22 @@ ScriptLines =
     lines_of (codes "a" ++ 10 ∷ 10 ∷ codes "b") ∷ lines_of (codes "a" ++ 10 ∷ []) ∷ lines_of [] ∷ []
     ≡ (codes "a" ∷ [] ∷ codes "b" ∷ []) ∷ (codes "a" ∷ []) ∷ [] ∷ []
 
--- a tick, and lines of no known form
+-- a tick, and lines of no known form, which those of a record alone are in a script
 abbrev pub LineForms : Type 0
 LineForms =
-    map line_of (codes "007 T" ∷ codes "7 T " ∷ codes "x" ∷ codes "0 P" ∷ codes "18446744073709551616 T" ∷ codes "0 S 64" ∷ codes "0 S 65" ∷ [] ∷ [])
-    ≡ Accepted None (Tick 7) ∷ Bad ∷ Bad ∷ Bad ∷ Bad ∷ Resharded 64 ∷ Bad ∷ Bad ∷ []
+    map (line_of Script) (codes "7 F message=%5B%5D" ∷ codes "7 N 000000000000000000000000000000ff" ∷ codes "A 7 4f53cda18c2baa0c0354bb5f9a3ecbe5ed12ab4d8e11ba873c2f11161202b945" ∷ codes "007 T" ∷ codes "7 T " ∷ codes "x" ∷ codes "0 P" ∷ codes "18446744073709551616 T" ∷ codes "0 S 64" ∷ codes "0 S 65" ∷ [] ∷ [])
+    ≡ Bad ∷ Bad ∷ Bad ∷ Accepted None (Tick 7) ∷ Bad ∷ Bad ∷ Bad ∷ Bad ∷ Resharded 64 ∷ Bad ∷ Bad ∷ []
 
 -- nonces, and lines that are not quite nonces
 abbrev pub NonceForms : Type 0
 NonceForms =
-    map line_of (codes "7 N 000000000000000000000000000000fF" ∷ codes "7 N 00000000000000000000000000000ff" ∷ codes "7 N 0000000000000000000000000000000ff" ∷ codes "7 N +00000000000000000000000000000ff" ∷ codes "7 N 000000000000000000000000000000fg" ∷ codes "7 N" ∷ codes "N 000000000000000000000000000000ff" ∷ [])
+    map (line_of Recorded) (codes "7 N 000000000000000000000000000000fF" ∷ codes "7 N 00000000000000000000000000000ff" ∷ codes "7 N 0000000000000000000000000000000ff" ∷ codes "7 N +00000000000000000000000000000ff" ∷ codes "7 N 000000000000000000000000000000fg" ∷ codes "7 N" ∷ codes "N 000000000000000000000000000000ff" ∷ [])
     ≡ Announced 255 ∷ Bad ∷ Bad ∷ Bad ∷ Bad ∷ Bad ∷ Bad ∷ []
 
 -- notes of answers, and lines that are not quite notes
 abbrev pub NoteForms : Type 0
 NoteForms =
-    map line_of (codes "A 7 4f53cda18c2baa0c0354bb5f9a3ecbe5ed12ab4d8e11ba873c2f11161202b945" ∷ codes "A 18446744073709551615 4F53CDA18C2BAA0C0354BB5F9A3ECBE5ED12AB4D8E11BA873C2F11161202B945" ∷ codes "A 007 4f53cda18c2baa0c0354bb5f9a3ecbe5ed12ab4d8e11ba873c2f11161202b945" ∷ codes "A 18446744073709551616 4f53cda18c2baa0c0354bb5f9a3ecbe5ed12ab4d8e11ba873c2f11161202b945" ∷ codes "A 7 4f53cda18c2baa0c0354bb5f9a3ecbe5ed12ab4d8e11ba873c2f11161202b94" ∷ codes "A 7 4f53cda18c2baa0c0354bb5f9a3ecbe5ed12ab4d8e11ba873c2f11161202b9450" ∷ codes "A 7 4f53cda18c2baa0c0354bb5f9a3ecbe5ed12ab4d8e11ba873c2f11161202b94g" ∷ codes "A 7" ∷ codes "A  4f53cda18c2baa0c0354bb5f9a3ecbe5ed12ab4d8e11ba873c2f11161202b945" ∷ codes "A 4f53cda18c2baa0c0354bb5f9a3ecbe5ed12ab4d8e11ba873c2f11161202b945" ∷ codes "A 7  4f53cda18c2baa0c0354bb5f9a3ecbe5ed12ab4d8e11ba873c2f11161202b945" ∷ codes "A -7 4f53cda18c2baa0c0354bb5f9a3ecbe5ed12ab4d8e11ba873c2f11161202b945" ∷ codes "7 A 7 4f53cda18c2baa0c0354bb5f9a3ecbe5ed12ab4d8e11ba873c2f11161202b945" ∷ codes "a 7 4f53cda18c2baa0c0354bb5f9a3ecbe5ed12ab4d8e11ba873c2f11161202b945" ∷ [])
+    map (line_of Recorded) (codes "A 7 4f53cda18c2baa0c0354bb5f9a3ecbe5ed12ab4d8e11ba873c2f11161202b945" ∷ codes "A 18446744073709551615 4F53CDA18C2BAA0C0354BB5F9A3ECBE5ED12AB4D8E11BA873C2F11161202B945" ∷ codes "A 007 4f53cda18c2baa0c0354bb5f9a3ecbe5ed12ab4d8e11ba873c2f11161202b945" ∷ codes "A 18446744073709551616 4f53cda18c2baa0c0354bb5f9a3ecbe5ed12ab4d8e11ba873c2f11161202b945" ∷ codes "A 7 4f53cda18c2baa0c0354bb5f9a3ecbe5ed12ab4d8e11ba873c2f11161202b94" ∷ codes "A 7 4f53cda18c2baa0c0354bb5f9a3ecbe5ed12ab4d8e11ba873c2f11161202b9450" ∷ codes "A 7 4f53cda18c2baa0c0354bb5f9a3ecbe5ed12ab4d8e11ba873c2f11161202b94g" ∷ codes "A 7" ∷ codes "A  4f53cda18c2baa0c0354bb5f9a3ecbe5ed12ab4d8e11ba873c2f11161202b945" ∷ codes "A 4f53cda18c2baa0c0354bb5f9a3ecbe5ed12ab4d8e11ba873c2f11161202b945" ∷ codes "A 7  4f53cda18c2baa0c0354bb5f9a3ecbe5ed12ab4d8e11ba873c2f11161202b945" ∷ codes "A -7 4f53cda18c2baa0c0354bb5f9a3ecbe5ed12ab4d8e11ba873c2f11161202b945" ∷ codes "7 A 7 4f53cda18c2baa0c0354bb5f9a3ecbe5ed12ab4d8e11ba873c2f11161202b945" ∷ codes "a 7 4f53cda18c2baa0c0354bb5f9a3ecbe5ed12ab4d8e11ba873c2f11161202b945" ∷ [])
     ≡ Noted ∷ Noted ∷ Noted ∷ Bad ∷ Bad ∷ Bad ∷ Bad ∷ Bad ∷ Bad ∷ Bad ∷ Bad ∷ Bad ∷ Bad ∷ Bad ∷ []
 
 -- a nonce waits for the next request, which takes it

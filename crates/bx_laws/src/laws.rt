@@ -3,7 +3,7 @@ ghost use Rattle.bx_theory.specs.Laws.{DoneNeverFalls, CountsAgree, EntriesInOrd
 ghost use Rattle.bx_theory.specs.Readings.{LiveReading, InForceReading, HeldReading, EndingReading, OverflowReading, QueueBounded, DueReading, ClockReading, SameLive, AcceptedWhileLive, PublishesOfNone, ClosedIsOver};
 ghost use Rattle.bx_theory.specs.Riding.{RiderReading, NothingRidesBeside, OthersNeverRide, RiderGiven};
 ghost use Rattle.bx_theory.specs.Events.{EventsWerePublished, PublishesAreEvents, EventsRise, GivenWasPublished};
-ghost use Rattle.bx_theory.specs.Lines.{HeldComeLast, InputsGoOn, LinesGoOn, NoncesGoOn, NoncesStay};
+ghost use Rattle.bx_theory.specs.Lines.{HeldComeLast, InputsGoOn, LinesGoOn, NoncesGoOn, NoncesStay, ScriptsSayNone};
 ghost use Rattle.bx_theory.specs.Outs.{OutsGrow};
 ghost use Rattle.bx_theory.specs.Opens.{OpenIsHeld, OpensGoOn, OutsAdd};
 ghost use Rattle.bx_theory.specs.Sole.{OpenAreSole, OpensAscend};
@@ -246,7 +246,8 @@ pub fn nonces_go_on()
     ensures { NoncesGoOn }
 {}
 
-/// Where no line of a script says a nonce, its lines are as they are read.
+/// Where no line says a nonce, lines are as they are read; and no line of a script says one.
 pub fn nonces_stay()
-    ensures { NoncesStay }
+    ensures lines { NoncesStay }
+    ensures scripts { ScriptsSayNone }
 {}

@@ -1,7 +1,7 @@
 -- The first line of a script, and the others.
 use Rattle.std.proofs.Common.{◌≡◌, ◌≢◌, ℕ, ◌⊎◌, inl, inr, true, false, List, [], ◌∷◌, ◌++◌, refl, sym, ap, ◌∙◌, Option, Some, None, IfSome}
 use Rattle.std.specs.List.{slice_split}
-use Rattle.bx_script.specs.Words.{is_newline, lines_of, without_empty_end, line_of, first_of, rest_of, ReadsLine, IsNext, said_by}
+use Rattle.bx_script.specs.Words.{Dialect, is_newline, lines_of, without_empty_end, line_of, first_of, rest_of, ReadsLine, IsNext, said_by}
 use Rattle.bx_script.specs.declared.line.Line.{Line}
 use Rattle.bx_script.proofs.Cuts.{Lacks, before_all, after_all, split_all, split_behind, before_it, after_it, Parted, parted, split_some}
 use Rattle.bx_script.proofs.Says.{kept_says}
@@ -31,17 +31,17 @@ lines_are (x ∷ xs) some = by_newline (parted 10 (x ∷ xs))
         ap lines_of p.whole ∙ line_and_rest p.front p.back p.lacks ∙ sym (ap (λ l. first_of l ∷ lines_of (rest_of l)) p.whole)
 
 -- what is kept of a line that was read says it
-pub is_next : (line : Line) (old new : Option (List ℕ)) (kept : List ℕ) → ReadsLine true old new kept → said_by line ≡ line_of kept → IfSome old (λ script. IsNext (Some line) script new)
-is_next line None new kept read said = tt
-is_next line (Some script) None kept read said = absurd read
-is_next line (Some script) (Some rest) kept read said = record {
-  said = said ∙ ap line_of read.1 ∙ kept_says (first_of script);
+pub is_next : (d : Dialect) (line : Line) (old new : Option (List ℕ)) (kept : List ℕ) → ReadsLine true old new kept → said_by line ≡ line_of d kept → IfSome old (λ script. IsNext d (Some line) script new)
+is_next d line None new kept read said = tt
+is_next d line (Some script) None kept read said = absurd read
+is_next d line (Some script) (Some rest) kept read said = record {
+  said = said ∙ ap (line_of d) read.1 ∙ kept_says d (first_of script);
   behind = lines_are script read.0;
   left = ap Some read.2;
 }
 
 -- at the end there is none
-pub is_last : (old new : Option (List ℕ)) (kept : List ℕ) → ReadsLine false old new kept → IfSome old (λ script. IsNext None script new)
-is_last None new kept read = tt
-is_last (Some script) None kept read = absurd read
-is_last (Some script) (Some rest) kept read = (read.0, ap Some read.1)
+pub is_last : (d : Dialect) (old new : Option (List ℕ)) (kept : List ℕ) → ReadsLine false old new kept → IfSome old (λ script. IsNext d None script new)
+is_last d None new kept read = tt
+is_last d (Some script) None kept read = absurd read
+is_last d (Some script) (Some rest) kept read = (read.0, ap Some read.1)

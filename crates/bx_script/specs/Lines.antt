@@ -1,13 +1,20 @@
 -- What a line says, and what is left of a script's reading.
 use Rattle.std.specs.Prelude.{ℕ, ◌≡◌, List, [], ◌∷◌, Option, Some, None, string_bytes, option_map}
-use Rattle.bx_script.specs.Replay.{line_of, lines_of}
+use Rattle.bx_script.specs.Replay.{Dialect, line_of, lines_of}
 use Rattle.bx_script.specs.Replay as replay
 use Rattle.bx_entry.specs.Requests.{read_input}
 use Rattle.bx_message.specs.Statuses.{code_of}
 use Rattle.bx_script.specs.Reading.{first_of, rest_of}
 use Rattle.bx_script.specs.Reads.{HasEnded, IsReadFault}
 use Rattle.bx_script.specs.declared.{error.ScriptFault.ScriptFault, line.Line.Line, lines.Lines.Lines}
+use Rattle.bx_script.specs.declared.dialect.Dialect as dialects
 use Rattle.bx_script.specs.declared.line.Line.TheVariants.{Bad, Rejected, Accepted, Resharded, Announced, Noted}
+use Rattle.bx_script.specs.declared.dialect.Dialect.TheVariants.{Script, Recorded}
+
+-- what is read, in the words of the replay
+abbrev pub dialect_of : dialects.Dialect → Dialect
+dialect_of Script = replay.Script
+dialect_of Recorded = replay.Recorded
 
 -- what a line is read as, in the words of the replay
 abbrev pub said_by : Line → replay.Line
@@ -34,13 +41,17 @@ CannotRead lines = HasEnded lines.reads
 abbrev pub IsFault : {R : Type 0} → Lines R → ScriptFault → Type 0
 IsFault lines fault = IsReadFault lines.reads fault
 
+-- as what the script is read
+abbrev pub read_as : {R : Type 0} → Lines R → Dialect
+read_as lines = dialect_of lines.dialect
+
 -- the next line of a script says what the first says, and the others are left
-pub record NextLine (line : Line) (script : List ℕ) (rest : Option (List ℕ)) : Type 0 where
-  pub said : said_by line ≡ line_of (first_of script)
+pub record NextLine (dialect : Dialect) (line : Line) (script : List ℕ) (rest : Option (List ℕ)) : Type 0 where
+  pub said : said_by line ≡ line_of dialect (first_of script)
   pub behind : lines_of script ≡ first_of script ∷ lines_of (rest_of script)
   pub left : rest ≡ Some (rest_of script)
 
 -- what comes next: nothing where the script is at its end, else its first line
-abbrev pub IsNext : Option Line → List ℕ → Option (List ℕ) → Type 0
-IsNext None script rest = (script ≡ []) × (rest ≡ Some [])
-IsNext (Some line) script rest = NextLine line script rest
+abbrev pub IsNext : Dialect → Option Line → List ℕ → Option (List ℕ) → Type 0
+IsNext dialect None script rest = (script ≡ []) × (rest ≡ Some [])
+IsNext dialect (Some line) script rest = NextLine dialect line script rest

@@ -34,6 +34,11 @@ lines_of script = without_empty_end (slice_split is_newline script)
 
 -- ---- what a line says
 
+-- a script, or a record of what a server took in, in which three kinds of lines more are known
+pub data Dialect : Type 0 where
+  Script : Dialect
+  Recorded : Dialect
+
 -- how a transport takes a body or a query: it refuses it with a status, or hands on its documents, and the name of the callback that asks for them
 pub data Taken : Type 0 where
   Refused : (status : ℕ) → Taken
@@ -101,24 +106,30 @@ announces (Some nonce) = Announced nonce
 abbrev pub announced_by : List ℕ → Line
 announced_by digits = announces (nonce_of digits)
 
+-- what follows a moment in a record alone: a form, or a nonce
+abbrev pub recorded_command : Dialect → ℕ → List ℕ → Line
+recorded_command Script moment rest = Bad
+recorded_command Recorded moment rest =
+    if starts_with nat_eq rest (codes "F ") then handed_by moment (form_taken (drop 2 rest))
+    else (if starts_with nat_eq rest (codes "N ") then announced_by (drop 2 rest) else Bad)
+
 -- what follows a line's moment
-abbrev pub command : ℕ → List ℕ → Line
-command moment rest =
+abbrev pub command : Dialect → ℕ → List ℕ → Line
+command dialect moment rest =
     if bytes_eq rest (codes "T") then Accepted None (Tick moment)
     else (if starts_with nat_eq rest (codes "P ") then handed_by moment (body_taken (drop 2 rest))
-    else (if starts_with nat_eq rest (codes "F ") then handed_by moment (form_taken (drop 2 rest))
     else (if starts_with nat_eq rest (codes "G ") then handed_by moment (query_taken (drop 2 rest))
     else (if starts_with nat_eq rest (codes "S ") then resharded_by (drop 2 rest)
-    else (if starts_with nat_eq rest (codes "N ") then announced_by (drop 2 rest) else Bad)))))
+    else recorded_command dialect moment rest)))
 
 -- digits that fit 64 bits come first
-abbrev pub line_by : Option ℕ → List ℕ → Line
-line_by None rest = Bad
-line_by (Some moment) rest = command moment rest
+abbrev pub line_by : Dialect → Option ℕ → List ℕ → Line
+line_by dialect None rest = Bad
+line_by dialect (Some moment) rest = command dialect moment rest
 
 -- a moment, a space and a command
-abbrev pub timed_line : List ℕ → Line
-timed_line text = line_by (number_of (before_first is_space text)) (after_first is_space text)
+abbrev pub timed_line : Dialect → List ℕ → Line
+timed_line dialect text = line_by dialect (number_of (before_first is_space text)) (after_first is_space text)
 
 -- whether these are 64 hexadecimal digits of either case
 abbrev pub is_digest : List ℕ → Bool
@@ -130,9 +141,14 @@ noted_by note =
     if nat_lt BODY_LIMIT (length note) then Bad
     else (if is_some (number_of (before_first is_space note)) && is_digest (after_first is_space note) then Noted else Bad)
 
--- a note of an answer, or a line with a moment
-abbrev pub line_of : List ℕ → Line
-line_of text = if starts_with nat_eq text (codes "A ") then noted_by (drop 2 text) else timed_line text
+-- a line with a moment, or in a record a note of an answer
+abbrev pub line_of : Dialect → List ℕ → Line
+line_of Script text = timed_line Script text
+line_of Recorded text = if starts_with nat_eq text (codes "A ") then noted_by (drop 2 text) else timed_line Recorded text
+
+-- the lines of a text
+abbrev pub lines_in : Dialect → List ℕ → List Line
+lines_in dialect text = map (line_of dialect) (lines_of text)
 
 -- ---- nonces
 
@@ -228,6 +244,6 @@ printed config numbered ls =
     printed_from (wholes config inputs) numbered 1 0 ls ++ flat_map (λ index. held_text (slice_get numbered index)) (held config inputs)
 
 -- what the lines print in order, and then the lines that are held
-abbrev pub replay_text : Config → List ℕ → List ℕ
-replay_text config script =
-    let ls = with_nonces 0 (map line_of (lines_of script)) in printed config (inputs_from 1 ls) ls
+abbrev pub replay_text : Dialect → Config → List ℕ → List ℕ
+replay_text dialect config text =
+    let ls = with_nonces 0 (lines_in dialect text) in printed config (inputs_from 1 ls) ls

@@ -1,6 +1,7 @@
 //! The lines of a script: how they are read, what each says, and what is printed for it.
 #![tactic(auto)]
 
+mod dialect;
 mod digest;
 mod error;
 mod kept;
@@ -11,6 +12,7 @@ mod output;
 mod part;
 mod print;
 
+pub use dialect::Dialect;
 pub use error::ScriptFault;
 pub use line::Line;
 pub use lines::Lines;

@@ -5,9 +5,10 @@ ghost use Rattle.bx_cut.specs.Bodies.{texts_of};
 ghost use Rattle.bx_message.specs.Statuses.{code_of};
 ghost use Rattle.bx_transport.specs.Statuses.{transport_status};
 ghost use Rattle.bx_transport.specs.Transports.{post_taken};
-ghost use Rattle.bx_script.specs.Replay.{Documents, Rejected, announced_by, body_by, command, handed_by, is_space, line_of, noted_by, query_taken, resharded_by, reshards, timed_line};
-ghost use Rattle.bx_script.specs.Lines.{said_by};
+ghost use Rattle.bx_script.specs.Replay.{Documents, Recorded, Rejected, announced_by, body_by, command, handed_by, is_space, line_of, noted_by, query_taken, recorded_command, resharded_by, reshards, timed_line};
+ghost use Rattle.bx_script.specs.Lines.{dialect_of, said_by};
 
+use crate::dialect::Dialect;
 use crate::digest::is_digest;
 use crate::nonce::nonce_of;
 use bx_advice::{BODY_LIMIT, ShardCount};
@@ -20,7 +21,7 @@ use std::alloc::{AllocError, Global};
 // (HTML, the media type of a form.)
 const FORM_TYPE: &[u8] = b"application/x-www-form-urlencoded";
 
-/// What a line of a script says.
+/// What a line says.
 #[derive(Drop)]
 pub enum Line {
     /// It has no known form.
@@ -53,27 +54,27 @@ pub enum Line {
 
 impl Line {
     /// Reads a line: digits, which are a moment in milliseconds, a space, and behind them `T` alone, `P`
-    /// with a space and a body, `F` with a space and a form, `G` with a space and a query, `S` with a space
-    /// and a number of shards, or `N` with a space and 32 hexadecimal digits, which are a nonce. A note of an
-    /// answer has no moment: it is `A`, a space, digits, which are a place, a space, and 64 hexadecimal digits,
-    /// which are a SHA-256. A body is copied once. An error means that memory was refused.
-    pub fn read(alloc: Global, text: &[u8]) -> Result<Line, AllocError>
-        ensures said { IfOk result (λ line. said_by line ≡ line_of text.now) }
+    /// with a space and a body, `G` with a space and a query, or `S` with a space and a number of shards. In a record
+    /// it may also be `F` with a space and a form, or `N` with a space and 32 hexadecimal digits, which are a nonce;
+    /// and a note of an answer has no moment: it is `A`, a space, digits, which are a place, a space, and 64
+    /// hexadecimal digits, which are a SHA-256. A body is copied once. An error means that memory was refused.
+    pub fn read(alloc: Global, dialect: Dialect, text: &[u8]) -> Result<Line, AllocError>
+        ensures said { IfOk result (λ line. said_by line ≡ line_of (dialect_of dialect) text.now) }
     {
-        match text.strip_prefix(b"A ") {
-            Some(note) => Ok(read_note(note)),
-            None => read_timed(alloc, text),
+        match (dialect, text.strip_prefix(b"A ")) {
+            (Dialect::Recorded, Some(note)) => Ok(read_note(note)),
+            _ => read_timed(alloc, dialect, text),
         }
     }
 }
 
 // A line that has a moment.
-fn read_timed(alloc: Global, text: &[u8]) -> Result<Line, AllocError>
-    ensures { IfOk result (λ line. said_by line ≡ timed_line text.now) }
+fn read_timed(alloc: Global, dialect: Dialect, text: &[u8]) -> Result<Line, AllocError>
+    ensures { IfOk result (λ line. said_by line ≡ timed_line (dialect_of dialect) text.now) }
 {
     let (digits, rest) = cut_at_space(text);
     match number_of(digits) {
-        Some(moment) => read_command(alloc, moment, rest),
+        Some(moment) => read_command(alloc, dialect, moment, rest),
         None => Ok(Line::Bad),
     }
 }
@@ -97,8 +98,13 @@ fn space_in(text: &[u8]) -> Option<usize>
 }
 
 // What follows a line's moment.
-fn read_command(alloc: Global, moment: u64, rest: &[u8]) -> Result<Line, AllocError>
-    ensures { IfOk result (λ line. said_by line ≡ command moment rest.now) }
+fn read_command(
+    alloc: Global,
+    dialect: Dialect,
+    moment: u64,
+    rest: &[u8],
+) -> Result<Line, AllocError>
+    ensures { IfOk result (λ line. said_by line ≡ command (dialect_of dialect) moment rest.now) }
 {
     if rest == b"T".as_slice() {
         return Ok(Line::Accepted {
@@ -109,14 +115,24 @@ fn read_command(alloc: Global, moment: u64, rest: &[u8]) -> Result<Line, AllocEr
     if let Some(body) = rest.strip_prefix(b"P ") {
         return read_body(alloc, moment, None, body);
     }
-    if let Some(form) = rest.strip_prefix(b"F ") {
-        return read_body(alloc, moment, Some(FORM_TYPE), form);
-    }
     if let Some(query) = rest.strip_prefix(b"G ") {
         return read_query(alloc, moment, query);
     }
     if let Some(digits) = rest.strip_prefix(b"S ") {
         return Ok(read_shards(digits));
+    }
+    match dialect {
+        Dialect::Script => Ok(Line::Bad),
+        Dialect::Recorded => read_recorded(alloc, moment, rest),
+    }
+}
+
+// What follows a moment in a record alone.
+fn read_recorded(alloc: Global, moment: u64, rest: &[u8]) -> Result<Line, AllocError>
+    ensures { IfOk result (λ line. said_by line ≡ recorded_command Recorded moment rest.now) }
+{
+    if let Some(form) = rest.strip_prefix(b"F ") {
+        return read_body(alloc, moment, Some(FORM_TYPE), form);
     }
     match rest.strip_prefix(b"N ") {
         Some(digits) => Ok(read_nonce(digits)),

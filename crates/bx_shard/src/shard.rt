@@ -87,8 +87,9 @@ impl<P: Placing> Shard<P> {
     }
 
     /// Applies the next entry of the list, which has at most 2^62. Where memory is refused the shard is as before,
-    /// however many sessions the entry reaches. An unsubscription, a disconnect, a refused message and a tick take no
-    /// memory, unless it is a rider.
+    /// however many sessions the entry reaches. An unsubscription, a disconnect, a refused message and a tick are never
+    /// refused for memory, unless it is a rider: all that they may take is room in the list of wakers, which wakes at once
+    /// where it has none.
     ///
     /// The wakers beside connects that are answered are put into the list, each once, and no others: whoever applies entries
     /// drops the list, which wakes them, once it has let go of the lock that lies round the shard. Where memory is refused none is.

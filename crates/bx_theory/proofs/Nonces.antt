@@ -7,8 +7,8 @@ use Rattle.bx_message.specs.Fields.{number_of}
 use Rattle.bx_entry.specs.declared.input.BodyError.{BodyError}
 use Rattle.bx_entry.specs.Inputs.{Request, Unread, Tick}
 use Rattle.bx_entry.specs.Words.{read_by, request_messages}
-use Rattle.bx_script.specs.Replay.{Line, Bad, Rejected, Accepted, Resharded, Announced, Noted, Taken, Refused, Documents, announces, body_taken, command, form_taken, handed_by, is_space, line_by, line_of, line_with, nonce_behind, nonce_of, noted_by, query_taken, resharded_by, reshards, with_nonce, with_nonces}
-use Rattle.bx_theory.specs.Lines.{NoncesGoOn, NoncesStay, says_no_nonce}
+use Rattle.bx_script.specs.Replay.{Dialect, Line, Bad, Recorded, Rejected, Accepted, Resharded, Announced, Noted, Script, Taken, Refused, Documents, announces, body_taken, command, form_taken, handed_by, is_space, line_by, line_of, line_with, nonce_behind, nonce_of, noted_by, query_taken, recorded_command, resharded_by, reshards, timed_line, with_nonce, with_nonces}
+use Rattle.bx_theory.specs.Lines.{NoncesGoOn, NoncesStay, ScriptsSayNone, says_no_nonce}
 
 -- ---- one line, and the lines behind it
 
@@ -59,19 +59,22 @@ none_tick moment = refl
 none_shards : (digits : List ℕ) → HasNone (resharded_by digits)
 none_shards digits = none_by _ Bad (reshards (number_of digits)) none_bad (none_resharded (number_of digits))
 
-none_command : (moment : ℕ) (rest : List ℕ) → HasNone (command moment rest)
-none_command moment rest =
+none_recorded : (d : Dialect) (moment : ℕ) (rest : List ℕ) → HasNone (recorded_command d moment rest)
+none_recorded Script moment rest = none_bad
+none_recorded Recorded moment rest =
+    none_by _ _ _ (none_handed moment (form_taken (drop 2 rest))) (none_by _ _ _ (none_announced (nonce_of (drop 2 rest))) none_bad)
+
+none_command : (d : Dialect) (moment : ℕ) (rest : List ℕ) → HasNone (command d moment rest)
+none_command d moment rest =
     let behind : List ℕ = drop 2 rest in
     none_by _ _ _ (none_tick moment)
     (none_by _ _ _ (none_handed moment (body_taken behind))
-    (none_by _ _ _ (none_handed moment (form_taken behind))
     (none_by _ _ _ (none_handed moment (query_taken behind))
-    (none_by _ _ _ (none_shards behind)
-    (none_by _ _ _ (none_announced (nonce_of behind)) none_bad)))))
+    (none_by _ _ _ (none_shards behind) (none_recorded d moment rest))))
 
-none_timed : (o : Option ℕ) (rest : List ℕ) → HasNone (line_by o rest)
-none_timed None rest = none_bad
-none_timed (Some moment) rest = none_command moment rest
+none_timed : (d : Dialect) (o : Option ℕ) (rest : List ℕ) → HasNone (line_by d o rest)
+none_timed d None rest = none_bad
+none_timed d (Some moment) rest = none_command d moment rest
 
 none_note : HasNone Noted
 unfolding HasNone
@@ -80,8 +83,10 @@ none_note = refl
 none_noted : (note : List ℕ) → HasNone (noted_by note)
 none_noted note = none_by _ Bad _ none_bad (none_by _ Noted Bad none_note none_bad)
 
-none_line : (text : List ℕ) → HasNone (line_of text)
-none_line text = none_by _ _ _ (none_noted (drop 2 text)) (none_timed (number_of (before_first is_space text)) (after_first is_space text))
+none_line : (d : Dialect) (text : List ℕ) → HasNone (line_of d text)
+none_line Script text = none_timed Script (number_of (before_first is_space text)) (after_first is_space text)
+none_line Recorded text =
+    none_by _ _ _ (none_noted (drop 2 text)) (none_timed Recorded (number_of (before_first is_space text)) (after_first is_space text))
 
 stays : (l : Line) → says_no_nonce l ≡ true → nonce_behind 0 l ≡ 0
 stays Bad h = refl
@@ -95,9 +100,57 @@ stays Noted h = refl
 
 pub nonces_stay : NoncesStay
 unfolding HasNone
-nonces_stay [] h = refl
-nonces_stay (text ∷ texts) h =
-    let parts = and_parts (says_no_nonce (line_of text)) (list_all says_no_nonce (map line_of texts)) h in
-    ap (λ (l : Line). l ∷ with_nonces (nonce_behind 0 (line_of text)) (map line_of texts)) (none_line text)
-    ∙ ap (λ (n : ℕ). line_of text ∷ with_nonces n (map line_of texts)) (stays (line_of text) parts.0)
-    ∙ ap (λ (us : List Line). line_of text ∷ us) (nonces_stay texts parts.1)
+nonces_stay d [] h = refl
+nonces_stay d (text ∷ texts) h =
+    let line : Line = line_of d text in
+    let parts = and_parts (says_no_nonce line) (list_all says_no_nonce (map (line_of d) texts)) h in
+    ap (λ (l : Line). l ∷ with_nonces (nonce_behind 0 line) (map (line_of d) texts)) (none_line d text)
+    ∙ ap (λ (n : ℕ). line ∷ with_nonces n (map (line_of d) texts)) (stays line parts.0)
+    ∙ ap (λ (us : List Line). line ∷ us) (nonces_stay d texts parts.1)
+
+-- ---- scripts
+
+-- a line that says no nonce
+SaysNone : Line → Type 0
+SaysNone l = says_no_nonce l ≡ true
+
+says_by : (b : Bool) (l k : Line) → SaysNone l → SaysNone k → SaysNone (cond b l k)
+says_by true l k h i = h
+says_by false l k h i = i
+
+says_bad : SaysNone Bad
+unfolding SaysNone
+says_bad = refl
+
+says_tick : (moment : ℕ) → SaysNone (Accepted None (Tick moment))
+unfolding SaysNone
+says_tick moment = refl
+
+says_handed : (moment : ℕ) (t : Taken) → SaysNone (handed_by moment t)
+unfolding SaysNone
+says_handed moment (Refused status) = refl
+says_handed moment (Documents callback documents) = refl
+
+says_resharded : (o : Option ℕ) → SaysNone (reshards o)
+unfolding SaysNone
+says_resharded None = refl
+says_resharded (Some shards) = says_by _ (Resharded shards) Bad refl refl
+
+says_shards : (digits : List ℕ) → SaysNone (resharded_by digits)
+says_shards digits = says_by _ Bad (reshards (number_of digits)) says_bad (says_resharded (number_of digits))
+
+says_command : (moment : ℕ) (rest : List ℕ) → SaysNone (command Script moment rest)
+says_command moment rest =
+    let behind : List ℕ = drop 2 rest in
+    says_by _ _ _ (says_tick moment)
+    (says_by _ _ _ (says_handed moment (body_taken behind))
+    (says_by _ _ _ (says_handed moment (query_taken behind))
+    (says_by _ _ _ (says_shards behind) says_bad)))
+
+says_timed : (o : Option ℕ) (rest : List ℕ) → SaysNone (line_by Script o rest)
+says_timed None rest = says_bad
+says_timed (Some moment) rest = says_command moment rest
+
+pub scripts_say_none : ScriptsSayNone
+unfolding SaysNone
+scripts_say_none text = says_timed (number_of (before_first is_space text)) (after_first is_space text)

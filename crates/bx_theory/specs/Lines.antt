@@ -3,7 +3,7 @@ use Rattle.std.specs.Prelude.{ℕ, ◌+◌, ◌<◌, ◌≡◌, Bool, true, fals
 use Rattle.std.specs.List.{list_all}
 use Rattle.bx_advice.specs.declared.config.Config.{Config}
 use Rattle.bx_entry.specs.Words.{ReadInput, Out, wholes, outs, held}
-use Rattle.bx_script.specs.Replay.{Line, Bad, Rejected, Accepted, Resharded, Announced, Noted, Numbered, inputs_from, line_of, line_text, line_with, nonce_at, out_by, printed_from, printed, held_text, with_nonces}
+use Rattle.bx_script.specs.Replay.{Dialect, Line, Bad, Rejected, Accepted, Resharded, Announced, Noted, Numbered, Script, inputs_from, line_of, line_text, line_with, nonce_at, out_by, printed_from, printed, held_text, with_nonces}
 
 -- the inputs among a script's first lines
 abbrev pub inputs_in : List Line → List ReadInput
@@ -54,6 +54,11 @@ says_no_nonce _ = true
 abbrev pub NoncesGoOn : Type 0
 NoncesGoOn = (ls : List Line) (l : Line) → with_nonces 0 (ls ++ l ∷ []) ≡ with_nonces 0 ls ++ line_with (nonce_at ls) l ∷ []
 
--- and where no line says a nonce, all lines are as they are read.
+-- where no line says a nonce, all lines are as they are read;
 abbrev pub NoncesStay : Type 0
-NoncesStay = (texts : List (List ℕ)) → list_all says_no_nonce (map line_of texts) ≡ true → with_nonces 0 (map line_of texts) ≡ map line_of texts
+NoncesStay = (dialect : Dialect) (texts : List (List ℕ)) → list_all says_no_nonce (map (line_of dialect) texts) ≡ true →
+    with_nonces 0 (map (line_of dialect) texts) ≡ map (line_of dialect) texts
+
+-- and no line of a script says one.
+abbrev pub ScriptsSayNone : Type 0
+ScriptsSayNone = (text : List ℕ) → says_no_nonce (line_of Script text) ≡ true

@@ -94,7 +94,7 @@ impl<P: Placing> World<P> {
     }
 
     /// Applies the next entry of the list to the shard of this index, counted from 0. An unsubscription, a disconnect, a
-    /// refused message and a tick take no memory.
+    /// refused message and a tick are never refused for memory.
     pub fn apply(&mut self, alloc: Global, shard: usize) -> Applied
         ensures { Steps self.old (Apply shard) (application result) self.new }
     {
