@@ -40,7 +40,8 @@ status_of code =
     else (if nat_eq code 404 then Some statuses.NotFound
     else (if nat_eq code 405 then Some statuses.MethodNotAllowed
     else (if nat_eq code 413 then Some statuses.TooLarge
-    else (if nat_eq code 503 then Some statuses.Unavailable else None)))))
+    else (if nat_eq code 501 then Some statuses.NotImplemented
+    else (if nat_eq code 503 then Some statuses.Unavailable else None))))))
 
 module _ {I : Type 0} (admits : Result I Declined → Type 0) where
   -- what a counted backend answers is what the one within may: the future of its items, or documents that it declined

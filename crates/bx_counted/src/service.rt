@@ -132,6 +132,7 @@ fn status_of(code: u16) -> Option<Status>
         404 => Some(Status::NotFound),
         405 => Some(Status::MethodNotAllowed),
         413 => Some(Status::TooLarge),
+        501 => Some(Status::NotImplemented),
         503 => Some(Status::Unavailable),
         _ => None,
     }

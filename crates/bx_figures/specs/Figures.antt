@@ -122,6 +122,7 @@ is_first (Responses statuses.BadRequest) = false
 is_first (Responses statuses.NotFound) = false
 is_first (Responses statuses.MethodNotAllowed) = false
 is_first (Responses statuses.TooLarge) = false
+is_first (Responses statuses.NotImplemented) = false
 is_first (Responses statuses.Unavailable) = false
 is_first (Refused reasons.Body) = true
 is_first (Refused reasons.BadMoment) = false

@@ -98,7 +98,7 @@ pub enum Figure {
 }
 
 /// All figures, as the page has them: those that differ in a label alone stand side by side.
-pub(crate) const FIGURES: [Figure; 56] = [
+pub(crate) const FIGURES: [Figure; 57] = [
     Figure::Uptime,
     Figure::Connections,
     Figure::Accepted,
@@ -123,6 +123,7 @@ pub(crate) const FIGURES: [Figure; 56] = [
     Figure::Responses(Status::NotFound),
     Figure::Responses(Status::MethodNotAllowed),
     Figure::Responses(Status::TooLarge),
+    Figure::Responses(Status::NotImplemented),
     Figure::Responses(Status::Unavailable),
     Figure::Refused(Reason::Body),
     Figure::Refused(Reason::BadMoment),
@@ -296,7 +297,8 @@ fn response_place(status: Status) -> usize
         Status::NotFound => 21,
         Status::MethodNotAllowed => 22,
         Status::TooLarge => 23,
-        Status::Unavailable => 24,
+        Status::NotImplemented => 24,
+        Status::Unavailable => 25,
     }
 }
 
@@ -305,14 +307,14 @@ fn refused_place(reason: Reason) -> usize
     ensures { slice_get FIGURES result ≡ Some (Refused reason) }
 {
     match reason {
-        Reason::Body => 25,
-        Reason::BadMoment => 26,
-        Reason::Ended => 27,
-        Reason::Closed => 28,
-        Reason::Behind => 29,
-        Reason::Overrun => 30,
-        Reason::Misplaced => 31,
-        Reason::Memory => 32,
+        Reason::Body => 26,
+        Reason::BadMoment => 27,
+        Reason::Ended => 28,
+        Reason::Closed => 29,
+        Reason::Behind => 30,
+        Reason::Overrun => 31,
+        Reason::Misplaced => 32,
+        Reason::Memory => 33,
     }
 }
 
@@ -321,13 +323,13 @@ fn reply_place(kind: MessageKind) -> usize
     ensures { slice_get FIGURES result ≡ Some (Replies kind) }
 {
     match kind {
-        MessageKind::Handshake => 33,
-        MessageKind::Connect => 34,
-        MessageKind::Subscribe => 35,
-        MessageKind::Unsubscribe => 36,
-        MessageKind::Disconnect => 37,
-        MessageKind::Publish => 38,
-        MessageKind::UnknownMeta => 39,
+        MessageKind::Handshake => 34,
+        MessageKind::Connect => 35,
+        MessageKind::Subscribe => 36,
+        MessageKind::Unsubscribe => 37,
+        MessageKind::Disconnect => 38,
+        MessageKind::Publish => 39,
+        MessageKind::UnknownMeta => 40,
     }
 }
 
@@ -336,21 +338,21 @@ fn error_place(error: Error) -> usize
     ensures { slice_get FIGURES result ≡ Some (Errors error) }
 {
     match error {
-        Error::UnknownMetaChannel => 40,
-        Error::SecondHandshake => 41,
-        Error::UnsupportedVersion => 42,
-        Error::NoSupportedConnectionType => 43,
-        Error::TooManySessions => 44,
-        Error::NoClientId => 45,
-        Error::UnknownClient => 46,
-        Error::UnknownConnectionType => 47,
-        Error::InvalidChannel => 48,
-        Error::InvalidPattern => 49,
-        Error::TooManyPatterns => 50,
-        Error::SubscriptionDenied => 51,
-        Error::MissingSubscription => 52,
-        Error::MissingData => 53,
-        Error::SupersededConnect => 54,
-        Error::QueueOverflow => 55,
+        Error::UnknownMetaChannel => 41,
+        Error::SecondHandshake => 42,
+        Error::UnsupportedVersion => 43,
+        Error::NoSupportedConnectionType => 44,
+        Error::TooManySessions => 45,
+        Error::NoClientId => 46,
+        Error::UnknownClient => 47,
+        Error::UnknownConnectionType => 48,
+        Error::InvalidChannel => 49,
+        Error::InvalidPattern => 50,
+        Error::TooManyPatterns => 51,
+        Error::SubscriptionDenied => 52,
+        Error::MissingSubscription => 53,
+        Error::MissingData => 54,
+        Error::SupersededConnect => 55,
+        Error::QueueOverflow => 56,
     }
 }

@@ -16,6 +16,8 @@ pub enum Status {
     MethodNotAllowed,
     /// 413
     TooLarge,
+    /// 501
+    NotImplemented,
     /// 503
     Unavailable,
 }
@@ -31,6 +33,7 @@ impl Status {
             Status::NotFound => 404,
             Status::MethodNotAllowed => 405,
             Status::TooLarge => 413,
+            Status::NotImplemented => 501,
             Status::Unavailable => 503,
         }
     }
