@@ -250,7 +250,11 @@ mod tests {
             ("moments", MAX_MOMENT, 4_611_686_018_427_387_904),
             ("places", MAX_LENGTH, 4_611_686_018_427_387_904),
             ("events that may be configured", MAX_EVENTS as u64, 65_536),
-            ("bytes that may be configured", MAX_BYTES as u64, 4_294_967_295),
+            (
+                "bytes that may be configured",
+                MAX_BYTES as u64,
+                4_294_967_295,
+            ),
             ("events", STANDARD_EVENTS as u64, 1_024),
             ("bytes", STANDARD_BYTES as u64, 4_611_686_018_427_387_904),
             ("patterns", STANDARD_PATTERNS as u64, 1_024),

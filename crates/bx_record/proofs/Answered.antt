@@ -12,14 +12,14 @@ use Rattle.bx_entry.specs.declared.input.Input.TheVariants.{Post}
 use Rattle.bx_entry.specs.declared.input.Input.TheVariants as inputs
 use Rattle.bx_entry.specs.Words.{ReadInput, held, outs, read_input}
 use Rattle.bx_entry.specs.Inputs.{Tick}
-use Rattle.bx_script.specs.Words.{Bad, Line, Noted, is_digest, is_space, line_of, noted_by, with_nonces}
+use Rattle.bx_script.specs.Words.{Bad, Line, Noted, Recorded, is_digest, is_space, line_of, lines_in, noted_by, with_nonces}
 use Rattle.bx_script.proofs.Cuts.{Lacks, after_it, before_it}
 use Rattle.bx_theory.specs.Lines.{inputs_in}
 use Rattle.bx_record.specs.Answers.{Given, IsSha256, Part, Taken, answer_text, part_text, record_with, taken_inputs}
-use Rattle.bx_record.specs.Laws.{AnswersAreSkipped, AnswersChangeNothing, CanStand, is_of_either, script_lines}
+use Rattle.bx_record.specs.Laws.{AnswersAreSkipped, AnswersChangeNothing, CanStand, is_of_either, record_lines}
 use Rattle.bx_record.specs.Record.{asks_for_session, said_of}
 use Rattle.bx_record.proofs.Digits.{lacks-append, moment_lacks, moment_reads}
-use Rattle.bx_record.proofs.ReadBack.{first_line, input_lines, inputs_at, inputs_by, read_lines, said_all, said_by, said_lines}
+use Rattle.bx_record.proofs.ReadBack.{first_line, input_lines, inputs_at, inputs_by, said_all, said_by, said_lines}
 use Rattle.bx_record.proofs.Unused.{said_after, same_held, same_outs}
 
 -- ---- digits
@@ -89,14 +89,14 @@ bare_lacks place digest fits h =
 pub text_is : (place : ℕ) (digest rest : List ℕ) → answer_text place digest ++ rest ≡ bare place digest ++ 10 ∷ rest
 text_is place digest rest = simp append_assoc
 
-bare_says : (place : ℕ) (digest : List ℕ) → place < 2 ^ 64 → IsSha256 digest → line_of (bare place digest) ≡ Noted
+bare_says : (place : ℕ) (digest : List ℕ) → place < 2 ^ 64 → IsSha256 digest → line_of Recorded (bare place digest) ≡ Noted
 bare_says place digest fits h = note_reads place digest fits h
 
 pub skipped : AnswersAreSkipped
 skipped place digest rest fits h =
     let lacks = bare_lacks place digest fits h in
     record {
-      noted = ap (λ t. line_of (before_first (λ byte. eqb byte 10) t)) (text_is place digest rest) ∙ ap line_of (before_it 10 (bare place digest) rest lacks) ∙ bare_says place digest fits h;
+      noted = ap (λ t. line_of Recorded (before_first (λ byte. eqb byte 10) t)) (text_is place digest rest) ∙ ap (line_of Recorded) (before_it 10 (bare place digest) rest lacks) ∙ bare_says place digest fits h;
       left = ap (after_first (λ byte. eqb byte 10)) (text_is place digest rest) ∙ after_it 10 (bare place digest) rest lacks;
     }
 
@@ -107,16 +107,16 @@ abbrev pub said_part : Part → List Line
 said_part (Taken input) = said_lines input
 said_part (Given place digest) = Noted ∷ []
 
-pub part_lines : (part : Part) (rest : List ℕ) → CanStand part → with_nonces 0 (read_lines (part_text part ++ rest)) ≡ said_part part ++ with_nonces 0 (read_lines rest)
+pub part_lines : (part : Part) (rest : List ℕ) → CanStand part → with_nonces 0 (lines_in Recorded (part_text part ++ rest)) ≡ said_part part ++ with_nonces 0 (lines_in Recorded rest)
 part_lines (Taken input) rest can = input_lines input rest can
 part_lines (Given place digest) rest can =
-    ap (λ t. with_nonces 0 (read_lines t)) (text_is place digest rest)
-    ∙ ap (λ ls. with_nonces 0 (map line_of ls)) (first_line (bare place digest) rest (bare_lacks place digest can.0 can.1))
-    ∙ ap (λ l. with_nonces 0 (l ∷ read_lines rest)) (bare_says place digest can.0 can.1)
+    ap (λ t. with_nonces 0 (lines_in Recorded t)) (text_is place digest rest)
+    ∙ ap (λ ls. with_nonces 0 (map (line_of Recorded) ls)) (first_line (bare place digest) rest (bare_lacks place digest can.0 can.1))
+    ∙ ap (λ l. with_nonces 0 (l ∷ lines_in Recorded rest)) (bare_says place digest can.0 can.1)
 
 -- ---- all parts
 
-all_parts : (parts : List Part) → AllByRecursion CanStand parts → script_lines (record_with parts) ≡ flat_map said_part parts
+all_parts : (parts : List Part) → AllByRecursion CanStand parts → record_lines (record_with parts) ≡ flat_map said_part parts
 all_parts [] h = refl
 all_parts (part ∷ parts) h = part_lines part (record_with parts) h.0 ∙ ap (λ ls. said_part part ++ ls) (all_parts parts h.1)
 
@@ -143,9 +143,9 @@ no_others (Taken (Post a) ∷ parts) =
 pub nothing_changes : AnswersChangeNothing
 nothing_changes parts h =
     let same = all_parts parts h in
-    let are : inputs_in (script_lines (record_with parts)) ≡ said_all (taken_inputs parts) = ap inputs_in same ∙ its_inputs 1 parts in
+    let are : inputs_in (record_lines (record_with parts)) ≡ said_all (taken_inputs parts) = ap inputs_in same ∙ its_inputs 1 parts in
     let taken : List ReadInput = map read_input (taken_inputs parts) in
-    let said : inputs_in (script_lines (record_with parts)) ≡ map said_of taken = are ∙ said_after (taken_inputs parts) in
+    let said : inputs_in (record_lines (record_with parts)) ≡ map said_of taken = are ∙ said_after (taken_inputs parts) in
     record {
       inputs_are = are;
       nothing_else = ap (list_all is_of_either) same ∙ no_others parts;

@@ -12,7 +12,7 @@ use Rattle.bx_script.proofs.Cuts.{Lacks}
 use Rattle.bx_theory.specs.Lines.{inputs_in}
 use Rattle.bx_record.specs.Answers.{Given, Part, Taken, part_text, record_with, taken_inputs}
 use Rattle.bx_record.specs.Record.{asks_for_session, command_of, nonce_digits, nonce_text, record_of, said_of}
-use Rattle.bx_record.specs.Laws.{AnswersBreakOff, CanRecord, CanStand, IsRecordable, RecordsBreakOff, ended_by, ended_lines, is_of_either, is_of_record, script_lines}
+use Rattle.bx_record.specs.Laws.{AnswersBreakOff, CanRecord, CanStand, IsRecordable, RecordsBreakOff, ended_by, ended_lines, is_of_either, is_of_record, record_lines}
 use Rattle.bx_record.proofs.Answered.{part_lines, said_part, text_is}
 use Rattle.bx_record.proofs.Answered as answers
 use Rattle.bx_record.proofs.Bytes.{readable_utf8}
@@ -66,16 +66,16 @@ record SaysUpTo (parts : List Part) (lines : List Line) : Type 0 where
   lines_are : lines ≡ flat_map said_part (take count parts) ++ last
   at_most : (last ≡ []) ⊎ ((nonce : ℕ) × (last ≡ Announced nonce ∷ []))
 
-says_nothing : (parts : List Part) (front : List ℕ) → Lacks 10 front → SaysUpTo parts (script_lines (ended_lines front))
-says_nothing parts front lacks = record { count = 0; last = []; lines_are = ap script_lines (none_ends front lacks); at_most = inl refl }
+says_nothing : (parts : List Part) (front : List ℕ) → Lacks 10 front → SaysUpTo parts (record_lines (ended_lines front))
+says_nothing parts front lacks = record { count = 0; last = []; lines_are = ap record_lines (none_ends front lacks); at_most = inl refl }
 
 -- one more part, whose lines the front has
-says_more : (part : Part) (parts : List Part) (front next : List ℕ) → CanStand part → ended_lines front ≡ part_text part ++ ended_lines next → SaysUpTo parts (script_lines (ended_lines next))
-    → SaysUpTo (part ∷ parts) (script_lines (ended_lines front))
+says_more : (part : Part) (parts : List Part) (front next : List ℕ) → CanStand part → ended_lines front ≡ part_text part ++ ended_lines next → SaysUpTo parts (record_lines (ended_lines next))
+    → SaysUpTo (part ∷ parts) (record_lines (ended_lines front))
 says_more part parts front next can ends more = record {
   count = suc more.count;
   last = more.last;
-  lines_are = ap script_lines ends ∙ part_lines part (ended_lines next) can ∙ ap (λ ls. said_part part ++ ls) more.lines_are
+  lines_are = ap record_lines ends ∙ part_lines part (ended_lines next) can ∙ ap (λ ls. said_part part ++ ls) more.lines_are
       ∙ sym (append_assoc (said_part part) (flat_map said_part (take more.count parts)) more.last);
   at_most = more.at_most;
 }
@@ -96,13 +96,13 @@ IsLine part line = (rest : List ℕ) → part_text part ++ rest ≡ line ++ 10 �
 
 -- what a front of one part and of others says, by what a front of the others does
 abbrev GoesOn : List Part → List ℕ → List ℕ → Type 0
-GoesOn parts behind rest = (next : List ℕ) → next ++ behind ≡ rest → SaysUpTo parts (script_lines (ended_lines next))
+GoesOn parts behind rest = (next : List ℕ) → next ++ behind ≡ rest → SaysUpTo parts (record_lines (ended_lines next))
 
 one_more_line : (line : List ℕ) (part : Part) (parts : List Part) (front behind : List ℕ) → Lacks 10 line → CanStand part → IsLine part line
-    → GoesOn parts behind (record_with parts) → front ++ behind ≡ part_text part ++ record_with parts → SaysUpTo (part ∷ parts) (script_lines (ended_lines front))
+    → GoesOn parts behind (record_with parts) → front ++ behind ≡ part_text part ++ record_with parts → SaysUpTo (part ∷ parts) (record_lines (ended_lines front))
 one_more_line line part parts front behind lacks can same more e = by_front (goes_past line front behind (record_with parts) lacks (e ∙ same (record_with parts)))
   where
-    by_front : Lacks 10 front ⊎ GoesPast line front behind (record_with parts) → SaysUpTo (part ∷ parts) (script_lines (ended_lines front))
+    by_front : Lacks 10 front ⊎ GoesPast line front behind (record_with parts) → SaysUpTo (part ∷ parts) (record_lines (ended_lines front))
     by_front (inl none) = says_nothing (part ∷ parts) front none
     by_front (inr past) =
         let ends : ended_lines front ≡ part_text part ++ ended_lines past.next =
@@ -111,7 +111,7 @@ one_more_line line part parts front behind lacks can same more e = by_front (goe
 
 two_lines : (a : Arrival) (parts : List Part) (front behind : List ℕ) → CanRecord (Post a) → (b : Bool) → asks_for_session (read_input (Post a)) ≡ b → Lacks 10 (command_of (texts_of a.bodies))
     → GoesOn parts behind (record_with parts) → front ++ behind ≡ (nonce_text b a.moment a.nonce ++ line_text a.moment (command_of (texts_of a.bodies))) ++ record_with parts
-    → SaysUpTo (Taken (Post a) ∷ parts) (script_lines (ended_lines front))
+    → SaysUpTo (Taken (Post a) ∷ parts) (record_lines (ended_lines front))
 two_lines a parts front behind can false asks lacks more e =
     let documents : List ℕ = command_of (texts_of a.bodies) in
     one_more_line (bare a.moment documents) (Taken (Post a)) parts front behind (bare_lacks a.moment documents can.moment lacks) can
@@ -143,23 +143,23 @@ two_lines a parts front behind can true asks lacks more e =
         ap (λ b. (nonce_text b a.moment a.nonce ++ second) ++ rest) asks ∙ append_assoc (line_text a.moment said) second rest ∙ line_is a.moment said (second ++ rest)
         ∙ ap (λ t. first ++ 10 ∷ t) (line_is a.moment documents rest)
 
-    by_second : (next : List ℕ) → front ≡ first ++ 10 ∷ next → Lacks 10 next ⊎ GoesPast (bare a.moment documents) next behind (record_with parts) → SaysUpTo (Taken (Post a) ∷ parts) (script_lines (ended_lines front))
+    by_second : (next : List ℕ) → front ≡ first ++ 10 ∷ next → Lacks 10 next ⊎ GoesPast (bare a.moment documents) next behind (record_with parts) → SaysUpTo (Taken (Post a) ∷ parts) (record_lines (ended_lines front))
     by_second next is (inl none) =
         let ends : ended_lines front ≡ line_text a.moment said ++ [] =
         ap ended_lines is ∙ line_ends first next first_lacks ∙ ap (λ t. first ++ 10 ∷ t) (none_ends next none) ∙ sym (line_is a.moment said []) in
-        record { count = 0; last = Announced a.nonce ∷ []; lines_are = ap script_lines ends ∙ ap (with_nonces 0) (nonce_line a.moment a.nonce [] can.moment can.nonce); at_most = inr (a.nonce, refl) }
+        record { count = 0; last = Announced a.nonce ∷ []; lines_are = ap record_lines ends ∙ ap (with_nonces 0) (nonce_line a.moment a.nonce [] can.moment can.nonce); at_most = inr (a.nonce, refl) }
     by_second next is (inr past) =
         let ends : ended_lines front ≡ part_text (Taken (Post a)) ++ ended_lines past.next =
         ap ended_lines is ∙ line_ends first next first_lacks ∙ ap (λ t. first ++ 10 ∷ t) (ap ended_lines past.front_is ∙ line_ends (bare a.moment documents) past.next second_lacks) ∙ sym (both (ended_lines past.next)) in
         says_more (Taken (Post a)) parts front past.next can ends (more past.next past.rest_is)
 
-    by_front : Lacks 10 front ⊎ GoesPast first front behind (second ++ record_with parts) → SaysUpTo (Taken (Post a) ∷ parts) (script_lines (ended_lines front))
+    by_front : Lacks 10 front ⊎ GoesPast first front behind (second ++ record_with parts) → SaysUpTo (Taken (Post a) ∷ parts) (record_lines (ended_lines front))
     by_front (inl none) = says_nothing (Taken (Post a) ∷ parts) front none
     by_front (inr past) = by_second past.next past.front_is (goes_past (bare a.moment documents) past.next behind (record_with parts) second_lacks (past.rest_is ∙ line_is a.moment documents (record_with parts)))
 
 -- ---- a record with answers
 
-says_up_to : (parts : List Part) (front behind : List ℕ) → AllByRecursion CanStand parts → front ++ behind ≡ record_with parts → SaysUpTo parts (script_lines (ended_lines front))
+says_up_to : (parts : List Part) (front behind : List ℕ) → AllByRecursion CanStand parts → front ++ behind ≡ record_with parts → SaysUpTo parts (record_lines (ended_lines front))
 says_up_to [] [] behind h e = record { count = 0; last = []; lines_are = refl; at_most = inl refl }
 says_up_to [] (x ∷ front) behind h e = cc
 says_up_to (Given place digest ∷ parts) front behind h e =
@@ -203,7 +203,7 @@ answers_broken_off parts front behind h e =
     record {
       count = says.count;
       inputs_are = ap inputs_in says.lines_are ∙ its_first 1 first says.last says.at_most;
-      nothing_else = none_else is_of_either (script_lines (ended_lines front)) (flat_map said_part first) says.last says.lines_are (answers.no_others first) (λ nonce. refl) says.at_most;
+      nothing_else = none_else is_of_either (record_lines (ended_lines front)) (flat_map said_part first) says.last says.lines_are (answers.no_others first) (λ nonce. refl) says.at_most;
     }
 
 -- ---- a record without
@@ -234,6 +234,6 @@ broken_off inputs front behind h e =
     record {
       count = says.count;
       inputs_are = ap inputs_in says.lines_are ∙ its_first 1 (take says.count parts) says.last says.at_most ∙ ap said_all (same_inputs says.count inputs);
-      nothing_else = none_else is_of_record (script_lines (ended_lines front)) (flat_map said_lines first) says.last (says.lines_are ∙ ap (λ ls. ls ++ says.last) (same_lines says.count inputs))
+      nothing_else = none_else is_of_record (record_lines (ended_lines front)) (flat_map said_lines first) says.last (says.lines_are ∙ ap (λ ls. ls ++ says.last) (same_lines says.count inputs))
           (records.no_others first) (λ nonce. refl) says.at_most;
     }

@@ -1,7 +1,7 @@
 -- The line of a configuration: a word at a time, and that it reads back.
 use Rattle.std.proofs.Common.{◌≡◌, ℕ, ◌^◌, ◌<◌, ◌≤◌, ◌⊎◌, inl, inr, Bool, true, false, eqb, cond, List, [], ◌∷◌, ◌++◌, length, drop, map, codes, decimal, Option, Some, None, refl, sym, ap, ◌∙◌, arith, append_assoc, length-append, lit≤}
-use Rattle.std.specs.List.{join_with_byte, slice_split, AllByRecursion}
-use Rattle.std.proofs.lemmas.Bool.{cond_both}
+use Rattle.std.specs.List.{join_with_byte, list_any, slice_split, AllByRecursion}
+use Rattle.std.proofs.lemmas.Bool.{cond_both, or_parts}
 use Rattle.bx_advice.specs.declared.config.Config.{Config}
 use Rattle.bx_advice.specs.declared.config.TheConstants.{STANDARD_BYTES}
 use Rattle.bx_advice.specs.Options.{options_in}
@@ -47,6 +47,11 @@ options_lack c (inr e) true false = rw e (refl, tt)
 options_lack c (inr e) false true = rw e (refl, tt)
 options_lack c (inr e) true true = rw e (refl, (refl, tt))
 
+-- what is no byte of a text, by looking at each
+all_lack : (c : ℕ) (text : List ℕ) → list_any (λ x. eqb x c) text ≡ false → Lacks c text
+all_lack c [] h = tt
+all_lack c (x ∷ xs) h = let parts = or_parts (eqb x c) (list_any (λ x. eqb x c) xs) h in (parts.0, all_lack c xs parts.1)
+
 dash_lacks : (c : ℕ) → (c ≡ 10) ⊎ (c ≡ 32) → Lacks c (codes "-")
 dash_lacks c (inl e) = rw e (refl, tt)
 dash_lacks c (inr e) = rw e (refl, tt)
@@ -54,6 +59,10 @@ dash_lacks c (inr e) = rw e (refl, tt)
 one_lacks : (c : ℕ) → (c ≡ 10) ⊎ (c ≡ 32) → Lacks c (codes "1")
 one_lacks c (inl e) = rw e (refl, tt)
 one_lacks c (inr e) = rw e (refl, tt)
+
+names_lack : (c : ℕ) → (c ≡ 10) ⊎ (c ≡ 32) → Lacks c (codes "--bytes") × Lacks c (codes "--sessions") × Lacks c (codes "--patterns")
+names_lack c (inl e) = rw e (all_lack 10 (codes "--bytes") refl, all_lack 10 (codes "--sessions") refl, all_lack 10 (codes "--patterns") refl)
+names_lack c (inr e) = rw e (all_lack 32 (codes "--bytes") refl, all_lack 32 (codes "--sessions") refl, all_lack 32 (codes "--patterns") refl)
 
 is_low : (c : ℕ) → (c ≡ 10) ⊎ (c ≡ 32) → c < 48
 is_low c (inl e) = omega arith
@@ -68,17 +77,37 @@ words_lack c config which fits =
     let low = is_low c which in
     let number = λ (n : ℕ) (small : n < 2 ^ 64). moment_lacks c n low small in
     let few : config.shards < 2 ^ 64 = shards_fit config in
-    let bytes : Lacks c (bytes_word config.limits.bytes) = cond_both (eqb config.limits.bytes STANDARD_BYTES) (codes "-") (decimal config.limits.bytes) (Lacks c) (λ _. dash_lacks c which) (λ _. number config.limits.bytes fits.limits.1) in (
-      number config.shards few,
+    let bytes : Lacks c (bytes_word config.limits.bytes) = cond_both (eqb config.limits.bytes STANDARD_BYTES) (codes "-") (decimal config.limits.bytes) (Lacks c) (λ _. dash_lacks c which) (λ _. number config.limits.bytes fits.limits.1) in
+    let options : Lacks c (options_word config.ride config.anonymous) = options_lack c which config.ride config.anonymous in
+    let names = names_lack c which in (
+      names.0,
       (
-        one_lacks c which,
+        bytes,
         (
-          number config.timeout fits.times.0,
+          names.1,
           (
-            number config.interval fits.times.1,
+            number config.limits.sessions fits.limits.2,
             (
-              number config.max_interval fits.times.2,
-              (options_lack c which config.ride config.anonymous, (number config.limits.events fits.limits.0, (bytes, (number config.limits.sessions fits.limits.2, tt)))),
+              names.2,
+              (
+                number config.limits.patterns fits.limits.3,
+                (
+                  number config.shards few,
+                  (
+                    one_lacks c which,
+                    (
+                      number config.timeout fits.times.0,
+                      (
+                        number config.interval fits.times.1,
+                        (
+                          number config.max_interval fits.times.2,
+                          (options, (number config.limits.events fits.limits.0, tt)),
+                        ),
+                      ),
+                    ),
+                  ),
+                ),
+              ),
             ),
           ),
         ),
@@ -108,19 +137,21 @@ bytes_by n false small = moment_reads n small
 
 numbers_read : (config : Config) → FitsWords config → map number_of (config_words config) ≡ config_numbers config
 numbers_read config fits =
-    same_next _ _ _ _ (moment_reads config.shards (shards_fit config)) (same_next _ _ _ _ refl
+    same_next _ _ _ _ refl (same_next _ _ _ _ (bytes_by config.limits.bytes (eqb config.limits.bytes STANDARD_BYTES) fits.limits.1)
+    (same_next _ _ _ _ refl (same_next _ _ _ _ (moment_reads config.limits.sessions fits.limits.2)
+    (same_next _ _ _ _ refl (same_next _ _ _ _ (moment_reads config.limits.patterns fits.limits.3)
+    (same_next _ _ _ _ (moment_reads config.shards (shards_fit config)) (same_next _ _ _ _ refl
     (same_next _ _ _ _ (moment_reads config.timeout fits.times.0) (same_next _ _ _ _ (moment_reads config.interval fits.times.1) (same_next _ _ _ _ (moment_reads config.max_interval fits.times.2)
-    (same_next _ _ _ _ (options_no_number config.ride config.anonymous) (same_next _ _ _ _ (moment_reads config.limits.events fits.limits.0)
-    (same_next _ _ _ _ (bytes_by config.limits.bytes (eqb config.limits.bytes STANDARD_BYTES) fits.limits.1) (same_next _ _ _ _ (moment_reads config.limits.sessions fits.limits.2) refl))))))))
+    (same_next _ _ _ _ (options_no_number config.ride config.anonymous) (same_next _ _ _ _ (moment_reads config.limits.events fits.limits.0) refl))))))))))))
 
 pub configs : ConfigsReadBack
 configs config rest fits =
     let line : List ℕ = join_with_byte 32 (config_words config) in
     let others : List (List ℕ) = drop 1 (config_words config) in
-    let lacks : Lacks 10 line = joined_lacks (decimal config.shards) others (words_lack 10 config (inl refl) fits) in
+    let lacks : Lacks 10 line = joined_lacks (codes "--bytes") others (words_lack 10 config (inl refl) fits) in
     let whole : config_text config ++ rest ≡ line ++ 10 ∷ rest = append_assoc line (10 ∷ []) rest in
     record {
-      words_are = ap (λ text. slice_split is_space (first_of text)) whole ∙ ap (slice_split is_space) (before_it 10 line rest lacks) ∙ split_joined (decimal config.shards) others (words_lack 32 config (inr refl) fits);
+      words_are = ap (λ text. slice_split is_space (first_of text)) whole ∙ ap (slice_split is_space) (before_it 10 line rest lacks) ∙ split_joined (codes "--bytes") others (words_lack 32 config (inr refl) fits);
       numbers_are = numbers_read config fits;
       options_are = options_read config.ride config.anonymous;
       left = ap rest_of whole ∙ after_it 10 line rest lacks;

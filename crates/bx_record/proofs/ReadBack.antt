@@ -16,7 +16,7 @@ use Rattle.bx_entry.specs.Inputs.{Tick}
 use Rattle.bx_transport.specs.declared.error.TransportError.TheVariants.{TooLarge}
 use Rattle.bx_transport.specs.Forms.{values_of}
 use Rattle.bx_transport.specs.Transports.{some_documents}
-use Rattle.bx_script.specs.Words.{Accepted, Announced, Line, Numbered, command, handed_by, inputs_from, is_newline, is_space, line_by, line_of, line_text, lines_of, noted_by, timed_line, with_nonces}
+use Rattle.bx_script.specs.Words.{Accepted, Announced, Line, Numbered, Recorded, command, handed_by, inputs_from, is_newline, is_space, line_by, line_of, line_text, lines_in, lines_of, noted_by, timed_line, with_nonces}
 use Rattle.bx_script.specs.Replay.{Documents, announces, body_by}
 use Rattle.bx_script.proofs.Cuts.{Lacks, after_it, before_it}
 use Rattle.bx_script.proofs.Script.{lines_are}
@@ -39,23 +39,19 @@ no_note : (front rest : List ℕ) → 0 < length front → Lacks 65 front → st
 no_note [] rest some lacks = absurd (omega arith)
 no_note (x ∷ front) rest some lacks = grind (arith, common_steps, lacks.0)
 
-says : (m : ℕ) (text : List ℕ) → m < 2 ^ 64 → line_of (decimal m ++ 32 ∷ text) ≡ command m text
+says : (m : ℕ) (text : List ℕ) → m < 2 ^ 64 → line_of Recorded (decimal m ++ 32 ∷ text) ≡ command Recorded m text
 says m text fits =
     let lacks = moment_lacks 32 m (omega arith) fits in
     let line = decimal m ++ 32 ∷ text in
-    ap (λ b. cond b (noted_by (drop 2 line)) (timed_line line)) (no_note (decimal m) (32 ∷ text) (moment_nonempty m fits) (moment_lacks_letter 65 m (omega arith) fits))
-    ∙ ap (λ l. line_by (number_of l) (after_first is_space (decimal m ++ 32 ∷ text))) (before_it 32 (decimal m) text lacks)
-    ∙ ap (line_by (number_of (decimal m))) (after_it 32 (decimal m) text lacks) ∙ ap (λ o. line_by o text) (moment_reads m fits)
+    ap (λ b. cond b (noted_by (drop 2 line)) (timed_line Recorded line)) (no_note (decimal m) (32 ∷ text) (moment_nonempty m fits) (moment_lacks_letter 65 m (omega arith) fits))
+    ∙ ap (λ l. line_by Recorded (number_of l) (after_first is_space (decimal m ++ 32 ∷ text))) (before_it 32 (decimal m) text lacks)
+    ∙ ap (line_by Recorded (number_of (decimal m))) (after_it 32 (decimal m) text lacks) ∙ ap (λ o. line_by Recorded o text) (moment_reads m fits)
 
--- the lines that a text says
-abbrev pub read_lines : List ℕ → List Line
-read_lines text = map line_of (lines_of text)
-
-one_line : (m : ℕ) (text rest : List ℕ) → m < 2 ^ 64 → Lacks 10 text → read_lines (line_text m text ++ rest) ≡ command m text ∷ read_lines rest
+one_line : (m : ℕ) (text rest : List ℕ) → m < 2 ^ 64 → Lacks 10 text → lines_in Recorded (line_text m text ++ rest) ≡ command Recorded m text ∷ lines_in Recorded rest
 one_line m text rest fits lacks =
     let head : Lacks 10 (decimal m ++ 32 ∷ text) = lacks-append 10 (decimal m) (32 ∷ text) (moment_lacks 10 m (omega arith) fits) (refl, lacks) in
     let whole : line_text m text ++ rest ≡ (decimal m ++ 32 ∷ text) ++ 10 ∷ rest = simp append_assoc in
-    ap read_lines whole ∙ ap (map line_of) (first_line (decimal m ++ 32 ∷ text) rest head) ∙ ap (λ l. l ∷ read_lines rest) (says m text fits)
+    ap (lines_in Recorded) whole ∙ ap (map (line_of Recorded)) (first_line (decimal m ++ 32 ∷ text) rest head) ∙ ap (λ l. l ∷ lines_in Recorded rest) (says m text fits)
 
 -- ---- documents
 
@@ -73,7 +69,7 @@ lacks_end (x ∷ xs) h = lacks_by x xs (eqb x 10) (λ g. lacks_end xs g) refl h
 -- a command says these documents, in one line
 pub record Says (m : ℕ) (text : List ℕ) (ds : List (List ℕ)) : Type 0 where
   pub lacks : Lacks 10 text
-  pub says_them : command m text ≡ handed_by m (Documents None ds)
+  pub says_them : command Recorded m text ≡ handed_by m (Documents None ds)
 
 plain_says : (m : ℕ) (d : List ℕ) → list_any is_newline d ≡ false → nat_le (length d) BODY_LIMIT ≡ true → Says m (codes "P " ++ d) (d ∷ [])
 plain_says m d plain fits = record {
@@ -110,31 +106,31 @@ said_lines (Post a) = said_by (asks_for_session (read_input (Post a))) a.nonce (
 said_lines (inputs.Tick moment) = Accepted None (Tick moment) ∷ []
 
 documents_line : (m : ℕ) (ds : List (List ℕ)) (ms : List Message) (rest : List ℕ) → m < 2 ^ 64 → request_messages ds ≡ Ok ms → Says m (command_of ds) ds
-    → read_lines (line_text m (command_of ds) ++ rest) ≡ Accepted None (Request m 0 ms) ∷ read_lines rest
+    → lines_in Recorded (line_text m (command_of ds) ++ rest) ≡ Accepted None (Request m 0 ms) ∷ lines_in Recorded rest
 documents_line m ds ms rest fits readable s =
-    one_line m (command_of ds) rest fits s.lacks ∙ ap (λ l. l ∷ read_lines rest) (s.says_them ∙ ap (λ r. Accepted None (read_by m 0 r)) readable)
+    one_line m (command_of ds) rest fits s.lacks ∙ ap (λ l. l ∷ lines_in Recorded rest) (s.says_them ∙ ap (λ r. Accepted None (read_by m 0 r)) readable)
 
-pub nonce_line : (m nonce : ℕ) (rest : List ℕ) → m < 2 ^ 64 → nonce < 2 ^ 128 → read_lines (line_text m (codes "N " ++ nonce_digits nonce) ++ rest) ≡ Announced nonce ∷ read_lines rest
+pub nonce_line : (m nonce : ℕ) (rest : List ℕ) → m < 2 ^ 64 → nonce < 2 ^ 128 → lines_in Recorded (line_text m (codes "N " ++ nonce_digits nonce) ++ rest) ≡ Announced nonce ∷ lines_in Recorded rest
 nonce_line m nonce rest fits small =
-    one_line m (codes "N " ++ nonce_digits nonce) rest fits (refl, (refl, nonce_lacks nonce)) ∙ ap (λ o. announces o ∷ read_lines rest) (nonce_reads nonce small)
+    one_line m (codes "N " ++ nonce_digits nonce) rest fits (refl, (refl, nonce_lacks nonce)) ∙ ap (λ o. announces o ∷ lines_in Recorded rest) (nonce_reads nonce small)
 
 request_lines : (m nonce : ℕ) (ds : List (List ℕ)) (ms : List Message) (rest : List ℕ) → m < 2 ^ 64 → nonce < 2 ^ 128 → request_messages ds ≡ Ok ms → Says m (command_of ds) ds → (b : Bool)
-    → with_nonces 0 (read_lines ((nonce_text b m nonce ++ line_text m (command_of ds)) ++ rest)) ≡ said_by b nonce (cond b (Request m nonce ms) (Request m 0 ms)) ++ with_nonces 0 (read_lines rest)
+    → with_nonces 0 (lines_in Recorded ((nonce_text b m nonce ++ line_text m (command_of ds)) ++ rest)) ≡ said_by b nonce (cond b (Request m nonce ms) (Request m 0 ms)) ++ with_nonces 0 (lines_in Recorded rest)
 request_lines m nonce ds ms rest fits small readable s true =
     let behind = line_text m (command_of ds) ++ rest in
-    ap (λ t. with_nonces 0 (read_lines t)) (append_assoc (line_text m (codes "N " ++ nonce_digits nonce)) (line_text m (command_of ds)) rest)
+    ap (λ t. with_nonces 0 (lines_in Recorded t)) (append_assoc (line_text m (codes "N " ++ nonce_digits nonce)) (line_text m (command_of ds)) rest)
     ∙ ap (with_nonces 0) (nonce_line m nonce behind fits small ∙ ap (λ ls. Announced nonce ∷ ls) (documents_line m ds ms rest fits readable s))
 request_lines m nonce ds ms rest fits small readable s false = ap (with_nonces 0) (documents_line m ds ms rest fits readable s)
 
-pub input_lines : (input : Input) (rest : List ℕ) → CanRecord input → with_nonces 0 (read_lines (input_text input ++ rest)) ≡ said_lines input ++ with_nonces 0 (read_lines rest)
+pub input_lines : (input : Input) (rest : List ℕ) → CanRecord input → with_nonces 0 (lines_in Recorded (input_text input ++ rest)) ≡ said_lines input ++ with_nonces 0 (lines_in Recorded rest)
 input_lines (inputs.Tick moment) rest fits = ap (with_nonces 0) (one_line moment (codes "T") rest fits (refl, tt))
 input_lines (Post a) rest can = by_result (request_messages (texts_of a.bodies)) refl can.readable
   where
     SameLines : Result (List Message) BodyError → Type 0
     SameLines r =
         let input : ReadInput = read_by a.moment a.nonce r in
-        with_nonces 0 (read_lines ((nonce_text (asks_for_session input) a.moment a.nonce ++ line_text a.moment (command_of (texts_of a.bodies))) ++ rest))
-        ≡ said_by (asks_for_session input) a.nonce (said_of input) ++ with_nonces 0 (read_lines rest)
+        with_nonces 0 (lines_in Recorded ((nonce_text (asks_for_session input) a.moment a.nonce ++ line_text a.moment (command_of (texts_of a.bodies))) ++ rest))
+        ≡ said_by (asks_for_session input) a.nonce (said_of input) ++ with_nonces 0 (lines_in Recorded rest)
 
     by_result : (r : Result (List Message) BodyError) → request_messages (texts_of a.bodies) ≡ r → is_ok r ≡ true → SameLines (request_messages (texts_of a.bodies))
     by_result (Err fault) e h = cc

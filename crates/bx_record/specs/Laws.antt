@@ -1,4 +1,4 @@
--- What a record reads as: its first line, and the others as a script.
+-- What a record reads as: its first line, and the others.
 use Rattle.std.specs.Prelude.{ℕ, ◌^◌, ◌<◌, ◌==◌, ◌≡◌, Bool, true, false, List, [], ◌∷◌, ◌++◌, map, take, if◌then◌else◌, is_ok, Option, Some, None}
 use Rattle.std.specs.List.{list_all, slice_split, AllByRecursion}
 use Rattle.bx_advice.specs.declared.config.Config.{Config}
@@ -9,7 +9,7 @@ use Rattle.bx_cut.specs.Bodies.{texts_of}
 use Rattle.bx_entry.specs.declared.input.{Arrival.Arrival, Input.Input}
 use Rattle.bx_entry.specs.declared.input.Input.TheVariants.{Post, Tick}
 use Rattle.bx_entry.specs.Words.{held, outs, read_input, request_messages}
-use Rattle.bx_script.specs.Words.{Accepted, Announced, Line, Noted, first_of, is_newline, is_space, line_of, lines_of, rest_of, with_nonces}
+use Rattle.bx_script.specs.Words.{Accepted, Announced, Line, Noted, Recorded, first_of, is_newline, is_space, line_of, lines_in, rest_of, with_nonces}
 use Rattle.bx_theory.specs.Lines.{inputs_in}
 use Rattle.bx_record.specs.Answers.{Given, IsSha256, Part, Taken, answer_text, record_with, taken_inputs}
 use Rattle.bx_record.specs.Record.{can_say, config_text, config_words, options_word, record_of, said_of}
@@ -34,13 +34,13 @@ is_of_record (Accepted None input) = true
 is_of_record (Announced nonce) = true
 is_of_record line = false
 
--- the lines of a script, each request with its nonce
-abbrev pub script_lines : List ℕ → List Line
-script_lines script = with_nonces 0 (map line_of (lines_of script))
+-- the lines of a text that is read as a record, each request with its nonce
+abbrev pub record_lines : List ℕ → List Line
+record_lines text = with_nonces 0 (lines_in Recorded text)
 
 -- those of a record
 abbrev pub recorded_lines : List Input → List Line
-recorded_lines inputs = script_lines (record_of inputs)
+recorded_lines inputs = record_lines (record_of inputs)
 
 -- its lines have just these inputs, in order, and say nothing else but nonces
 pub record ReadsBack (inputs : List Input) : Type 0 where
@@ -65,7 +65,7 @@ RecordsAnswerAlike = (config : Config) (inputs : List Input) → AllByRecursion 
 
 -- the first line notes an answer, and the rest stands behind it
 pub record SaysAnswer (text rest : List ℕ) : Type 0 where
-  pub noted : line_of (first_of text) ≡ Noted
+  pub noted : line_of Recorded (first_of text) ≡ Noted
   pub left : rest_of text ≡ rest
 
 -- so the line of an answer is skipped, whatever stands behind it
@@ -84,10 +84,10 @@ is_of_either line = is_of_record line
 
 -- a record with answers has just the inputs that it has without them, in order, and says nothing else but nonces; so what comes of them is the same
 pub record ReadsWith (parts : List Part) : Type 0 where
-  pub inputs_are : inputs_in (script_lines (record_with parts)) ≡ map (λ input. said_of (read_input input)) (taken_inputs parts)
-  pub nothing_else : list_all is_of_either (script_lines (record_with parts)) ≡ true
-  pub outs_are : (config : Config) → outs config (inputs_in (script_lines (record_with parts))) ≡ outs config (map read_input (taken_inputs parts))
-  pub held_are : (config : Config) → held config (inputs_in (script_lines (record_with parts))) ≡ held config (map read_input (taken_inputs parts))
+  pub inputs_are : inputs_in (record_lines (record_with parts)) ≡ map (λ input. said_of (read_input input)) (taken_inputs parts)
+  pub nothing_else : list_all is_of_either (record_lines (record_with parts)) ≡ true
+  pub outs_are : (config : Config) → outs config (inputs_in (record_lines (record_with parts))) ≡ outs config (map read_input (taken_inputs parts))
+  pub held_are : (config : Config) → held config (inputs_in (record_lines (record_with parts))) ≡ held config (map read_input (taken_inputs parts))
 
 -- so answers change nothing, wherever they stand between whole inputs
 abbrev pub AnswersChangeNothing : Type 0
@@ -108,8 +108,8 @@ ended_lines (x ∷ xs) = ended_by x (ended_lines xs)
 -- these lines of a front of a record have so many of its inputs, the first ones, and say nothing else but nonces
 pub record ReadsUpTo (inputs : List Input) (front : List ℕ) : Type 0 where
   pub count : ℕ
-  pub inputs_are : inputs_in (script_lines (ended_lines front)) ≡ map (λ input. said_of (read_input input)) (take count inputs)
-  pub nothing_else : list_all is_of_record (script_lines (ended_lines front)) ≡ true
+  pub inputs_are : inputs_in (record_lines (ended_lines front)) ≡ map (λ input. said_of (read_input input)) (take count inputs)
+  pub nothing_else : list_all is_of_record (record_lines (ended_lines front)) ≡ true
 
 -- so a record may break off anywhere
 abbrev pub RecordsBreakOff : Type 0
@@ -118,8 +118,8 @@ RecordsBreakOff = (inputs : List Input) (front behind : List ℕ) → AllByRecur
 -- the same of a record with answers: so many of its parts have these inputs
 pub record ReadsWithUpTo (parts : List Part) (front : List ℕ) : Type 0 where
   pub count : ℕ
-  pub inputs_are : inputs_in (script_lines (ended_lines front)) ≡ map (λ input. said_of (read_input input)) (taken_inputs (take count parts))
-  pub nothing_else : list_all is_of_either (script_lines (ended_lines front)) ≡ true
+  pub inputs_are : inputs_in (record_lines (ended_lines front)) ≡ map (λ input. said_of (read_input input)) (taken_inputs (take count parts))
+  pub nothing_else : list_all is_of_either (record_lines (ended_lines front)) ≡ true
 
 -- so it may break off anywhere too
 abbrev pub AnswersBreakOff : Type 0
@@ -130,12 +130,12 @@ AnswersBreakOff = (parts : List Part) (front behind : List ℕ) → AllByRecursi
 -- the numbers of a configuration fit 64 bits
 pub record FitsWords (c : Config) : Type 0 where
   pub times : (c.timeout < 2 ^ 64) × (c.interval < 2 ^ 64) × (c.max_interval < 2 ^ 64)
-  pub limits : (c.limits.events < 2 ^ 64) × (c.limits.bytes < 2 ^ 64) × (c.limits.sessions < 2 ^ 64)
+  pub limits : (c.limits.events < 2 ^ 64) × (c.limits.bytes < 2 ^ 64) × (c.limits.sessions < 2 ^ 64) × (c.limits.patterns < 2 ^ 64)
 
--- the numbers that its words say, where they say one: the options say none, nor does a limit of bytes that is none
+-- the numbers that its words say, where they say one: the names of limits and the options say none, nor does a limit of bytes that is none
 abbrev pub config_numbers : Config → List (Option ℕ)
-config_numbers c = Some c.shards ∷ Some 1 ∷ Some c.timeout ∷ Some c.interval ∷ Some c.max_interval ∷ None
-    ∷ Some c.limits.events ∷ (if c.limits.bytes == STANDARD_BYTES then None else Some c.limits.bytes) ∷ Some c.limits.sessions ∷ []
+config_numbers c = None ∷ (if c.limits.bytes == STANDARD_BYTES then None else Some c.limits.bytes) ∷ None ∷ Some c.limits.sessions ∷ None ∷ Some c.limits.patterns
+    ∷ Some c.shards ∷ Some 1 ∷ Some c.timeout ∷ Some c.interval ∷ Some c.max_interval ∷ None ∷ Some c.limits.events ∷ []
 
 -- the first line of this text has its words, which say its numbers and options, and behind the line stands the rest
 pub record SaysConfig (c : Config) (text rest : List ℕ) : Type 0 where

@@ -1,4 +1,4 @@
--- The text of a record: the lines of a script that say what a server took in.
+-- The text of a record: the lines that say what a server took in.
 use Rattle.std.specs.Prelude.{ℕ, ◌==◌, Bool, true, false, List, [], ◌∷◌, ◌++◌, length, map, flat_map, nat_le, codes, decimal, if◌then◌else◌, Option, Some, None}
 use Rattle.std.specs.List.{list_any, join_with_byte}
 use Rattle.form_urlencoded.specs.Form.{byte_serialize}
@@ -59,10 +59,10 @@ options_word true true = codes "ra"
 abbrev pub bytes_word : ℕ → List ℕ
 bytes_word bytes = if bytes == STANDARD_BYTES then codes "-" else decimal bytes
 
--- how the server is run, as those who read scripts are told, with one worker
+-- how the server is run, as the replay is told, with one worker
 abbrev pub config_words : Config → List (List ℕ)
-config_words c = decimal c.shards ∷ codes "1" ∷ decimal c.timeout ∷ decimal c.interval ∷ decimal c.max_interval ∷ options_word c.ride c.anonymous
-    ∷ decimal c.limits.events ∷ bytes_word c.limits.bytes ∷ decimal c.limits.sessions ∷ []
+config_words c = codes "--bytes" ∷ bytes_word c.limits.bytes ∷ codes "--sessions" ∷ decimal c.limits.sessions ∷ codes "--patterns" ∷ decimal c.limits.patterns
+    ∷ decimal c.shards ∷ codes "1" ∷ decimal c.timeout ∷ decimal c.interval ∷ decimal c.max_interval ∷ options_word c.ride c.anonymous ∷ decimal c.limits.events ∷ []
 
 -- the line that says it
 abbrev pub config_text : Config → List ℕ

@@ -6,23 +6,27 @@ use bx_advice::{Config, STANDARD_BYTES};
 use itoa::Buffer;
 use std::alloc::{AllocError, Global};
 
-/// How a server is run, as a line of the words that the replay takes: how many shards there are, one worker, the times in
-/// milliseconds, the options, and how many events may wait for a session, with how many bytes, and how many sessions may be
-/// live. An error means that memory was refused.
+/// How a server is run, as a line of the words that the replay takes: how many bytes waiting events of a session may have,
+/// how many sessions may be live, and how many patterns of one may be in force, each by its name; how many shards there are,
+/// one worker, the times in milliseconds, the options, and how many events may wait for a session. An error means that
+/// memory was refused.
 pub fn config_text(alloc: Global, config: &Config) -> Result<Vec<u8>, AllocError>
     ensures { IfOk result (λ text. text.items ≡ config_text config.now) }
 {
-    let mut text = Vec::with_capacity(alloc, 96)?;
-    let mut buffer = Buffer::new();
-    text.extend_from_slice(buffer.format(config.shards as u64).as_bytes())?;
+    let mut text = Vec::with_capacity(alloc, 128)?;
+    text.extend_from_slice(b"--bytes")?;
+    push_bytes(&mut text, config.limits.bytes)?;
+    push_word(&mut text, b"--sessions")?;
+    push_number(&mut text, config.limits.sessions as u64)?;
+    push_word(&mut text, b"--patterns")?;
+    push_number(&mut text, config.limits.patterns as u64)?;
+    push_number(&mut text, config.shards as u64)?;
     push_word(&mut text, b"1")?;
     push_time(&mut text, config.timeout)?;
     push_time(&mut text, config.interval)?;
     push_time(&mut text, config.max_interval)?;
     push_word(&mut text, options_word(config.ride, config.anonymous))?;
     push_number(&mut text, config.limits.events as u64)?;
-    push_bytes(&mut text, config.limits.bytes)?;
-    push_number(&mut text, config.limits.sessions as u64)?;
     text.push(b'\n')?;
     Ok(text)
 }

@@ -130,10 +130,11 @@ fn has_line(alloc: Global, config: Option<Config>, line: &str) -> Result<bool, F
 }
 
 #[test]
-fn configurations_have_nine_words(rt: HostRuntime) -> Result<(), Fail> {
+fn configurations_have_thirteen_words(rt: HostRuntime) -> Result<(), Fail> {
     let alloc = rt.alloc();
     let config = Config::new(4, 30_000, 0, 10_000);
-    assert!(rt; has_line(alloc, config, "4 1 30000 0 10000 - 1024 - 65536\n")?);
+    let line = "--bytes - --sessions 65536 --patterns 1024 4 1 30000 0 10000 - 1024\n";
+    assert!(rt; has_line(alloc, config, line)?);
     let options = Options {
         ride: true,
         anonymous: true,
@@ -142,7 +143,9 @@ fn configurations_have_nine_words(rt: HostRuntime) -> Result<(), Fail> {
         .map(|config| config.with(options))
         .and_then(|config| config.with_limit(9))
         .and_then(|config| config.with_bytes(70_000))
-        .and_then(|config| config.with_sessions(3));
-    assert!(rt; has_line(alloc, config, "64 1 4294967295 7 0 ra 9 70000 3\n")?);
+        .and_then(|config| config.with_sessions(3))
+        .and_then(|config| config.with_patterns(2));
+    let line = "--bytes 70000 --sessions 3 --patterns 2 64 1 4294967295 7 0 ra 9\n";
+    assert!(rt; has_line(alloc, config, line)?);
     Ok(())
 }
