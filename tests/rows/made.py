@@ -4,6 +4,9 @@ from texts import spelled
 # The limits: the bytes of a body, the messages of a request, and the patterns of a message.
 BODY, MESSAGES, PATTERNS = 1_048_576, 256, 64
 
+# The arguments of a record.
+RECORD = "--record .."
+
 # What is said of a word that is wrong, by its name.
 SAID = {
     "shards": "a number from 1 to 64",
@@ -15,29 +18,41 @@ SAID = {
     "limit": "a number from 1 to 65536",
     "bytes": "-, or a number from 1 to 4294967295",
     "sessions": "a number from 1 to 65536",
+    "patterns": "a number from 1 to 1024",
 }
 
 # Arguments that are refused, with one space between each two, by the first word that is wrong, or by none where there are too few or too many.
 REFUSED = {
-    "": ["", "2 2 30000 0", "x y z", "2 2 30000 0 10000 - 2 2 2 2"],
+    "": [
+        "",
+        "2 2 30000 0",
+        "x y z",
+        "2 2 30000 0 10000 - 2 2",
+        "--bytes",
+        "--bytes 5",
+        "--sessions 5 2 2 30000 0",
+        "--bytes 5 --sessions 5 --patterns 5 2 2 30000 0 10000 - 2 2",
+    ],
     "shards": [
         " 2 30000 0 10000",
         "+5 2 30000 0 10000",
         "0 2 30000 0 10000",
         "65 2 30000 0 10000",
         "18446744073709551616 2 30000 0 10000",
-        "0 0 -1 -1 -1 x 0 x 0",
+        "--bytes x --sessions 0 --patterns 0 0 0 -1 -1 -1 x 0",
+        "--patterns 5 --bytes 5 2 2 30000 0 10000",
+        "--byte 5 2 2 30000 0 10000",
     ],
     "workers": [
         "2 two 30000 0 10000",
         "2 0 30000 0 10000",
         "2 17 30000 0 10000",
         "2 18446744073709551617 30000 0 10000",
-        "2 0 -1 -1 -1 x 0 x 0",
+        "2 0 -1 -1 -1 x 0",
     ],
-    "timeout": ["2 2 +5 0 10000", "2 2 4294967296 0 10000", "2 2 -1 -1 -1 x 0 x 0"],
-    "interval": ["2 2 30000 4294967296 10000", "2 2 30000 -1 -1 x 0 x 0"],
-    "max_interval": ["2 2 30000 0 ", "2 2 30000 0 10000s", "2 2 30000 0 18446744073709551616", "2 2 30000 0 -1 x 0 x 0"],
+    "timeout": ["2 2 +5 0 10000", "2 2 4294967296 0 10000", "2 2 -1 -1 -1 x 0"],
+    "interval": ["2 2 30000 4294967296 10000", "2 2 30000 -1 -1 x 0"],
+    "max_interval": ["2 2 30000 0 ", "2 2 30000 0 10000s", "2 2 30000 0 18446744073709551616", "2 2 30000 0 -1 x 0"],
     "options": [
         "2 2 30000 0 10000 ",
         "2 2 30000 0 10000 1",
@@ -54,7 +69,7 @@ REFUSED = {
         "2 2 30000 0 10000 r-",
         "2 2 30000 0 10000 2 -",
         "2 2 30000 0 10000 x 2",
-        "2 2 30000 0 10000 x 0 x 0",
+        "2 2 30000 0 10000 x 0",
     ],
     "limit": [
         "2 2 30000 0 10000 r a",
@@ -66,17 +81,28 @@ REFUSED = {
         "2 2 30000 0 10000 - 5s",
         "2 2 30000 0 10000 - 4294967298",
         "2 2 30000 0 10000 - 18446744073709551618",
-        "2 2 30000 0 10000 - - 2",
-        "2 2 30000 0 10000 - 0 x 0",
+        "2 2 30000 0 10000 - -",
+        "--bytes x 2 2 30000 0 10000 - 0",
     ],
     "bytes": [
-        "2 2 30000 0 10000 - 2 0",
-        "2 2 30000 0 10000 - 2 4294967296",
-        "2 2 30000 0 10000 - 2 --",
-        "2 2 30000 0 10000 - 2 ",
-        "2 2 30000 0 10000 - 2 x 0",
+        "--bytes 0 2 2 30000 0 10000",
+        "--bytes 4294967296 2 2 30000 0 10000 - 2",
+        "--bytes -- 2 2 30000 0 10000",
+        "--bytes  2 2 30000 0 10000",
+        "--bytes x --sessions 0 --patterns 0 2 2 30000 0 10000 -",
     ],
-    "sessions": ["2 2 30000 0 10000 - 2 2 0", "2 2 30000 0 10000 - 2 2 65537", "2 2 30000 0 10000 - 2 2 -"],
+    "sessions": [
+        "--sessions 0 2 2 30000 0 10000",
+        "--sessions 65537 2 2 30000 0 10000",
+        "--sessions - 2 2 30000 0 10000",
+        "--bytes - --sessions x --patterns 0 2 2 30000 0 10000",
+    ],
+    "patterns": [
+        "--patterns 0 2 2 30000 0 10000",
+        "--patterns 1025 2 2 30000 0 10000",
+        "--patterns - 2 2 30000 0 10000",
+        "--bytes 5 --sessions 5 --patterns +5 2 2 30000 0 10000",
+    ],
 }
 
 
@@ -93,20 +119,20 @@ def ends():
 
 def long_lines():
     """Yields bodies and forms of as many bytes as may be, and more, and long lines of another form."""
-    for front, count, printed in (
+    for front, count, printed, *arguments in (
         ("0 P []", BODY - 2, "200 []"),
         ("0 P []", BODY - 1, "413"),
         ("0 P ", BODY + 1, "413"),
         ("0 P []", BODY * 3, "413"),
-        ("0 F message=[]", BODY - 10, "200 []"),
-        ("0 F message=[]", BODY - 9, "413"),
+        ("0 F message=[]", BODY - 10, "200 []", RECORD),
+        ("0 F message=[]", BODY - 9, "413", RECORD),
     ):
-        yield f"{front} and {count} spaces", f"{front}{' ' * count}\n0 P []\n", f"1 {printed}\n2 200 []\n"
+        yield f"{front} and {count} spaces", f"{front}{' ' * count}\n0 P []\n", f"1 {printed}\n2 200 []\n", *arguments
     yield "a long line of another form is bad", f"{'0' * (BODY * 3)}\n0 P []\n", "1 bad\n2 200 []\n"
-    yield "a long nonce is bad", f"0 N {'0' * (BODY * 3)}\n0 P []\n", "1 bad\n2 200 []\n"
+    yield "a long nonce is bad", f"0 N {'0' * (BODY * 3)}\n0 P []\n", "1 bad\n2 200 []\n", RECORD
     # A place of zeros, a space, and the digits of a digest.
     for count, printed in ((BODY - 65, ""), (BODY - 64, "1 bad\n"), (BODY * 3, "1 bad\n")):
-        yield f"a note with {count} digits of a place", f"A {'0' * count} {'f' * 64}\n0 P []\n", f"{printed}2 200 []\n"
+        yield f"a note with {count} digits of a place", f"A {'0' * count} {'f' * 64}\n0 P []\n", f"{printed}2 200 []\n", RECORD
 
 
 def thousands_of_lines():

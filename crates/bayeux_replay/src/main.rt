@@ -1,10 +1,11 @@
-//! Reads a script of requests on standard input and writes what the server answers.
+//! Reads a script of requests on standard input, or a record of what a server took in, and writes what is answered.
 #![tactic(auto)]
 
 use bx_entry::ByRemainder;
-use bx_replay::{Arguments, WrongWord, replay};
-use bx_script::{Lines, Output, ScriptFault};
-use std::io::{BufReader, BufWriter};
+use bx_replay::{Arguments, WrongWord, read_settings, replay};
+use bx_script::{Dialect, Lines, Output, ScriptFault};
+use std::fs::File;
+use std::io::{BufRead, BufReader, BufWriter, Read};
 use std::process::ExitCode;
 use std::sync::Arc;
 use std::thread::Threads;
@@ -12,39 +13,95 @@ use std::{env, io};
 
 /// What standard error says of bad arguments.
 const USAGE: &str =
-    "usage: bayeux_replay shards workers timeout interval max_interval [options [limit [bytes [sessions]]]]";
+    "usage: bayeux_replay shards workers timeout interval max_interval [options [limit]]";
 
 fn main(rt: HostRuntime) -> ExitCode {
-    let arguments = match arguments(&rt) {
-        Ok(Ok(arguments)) => arguments,
-        Ok(Err(wrong)) => {
-            let _ = eprintln!(rt; "{USAGE}\nbayeux_replay: {wrong}");
-            return ExitCode::from(2);
+    match run(&rt, &rt) {
+        Ok(code) => code,
+        Err(fault) => {
+            let _ = eprintln!(rt; "bayeux_replay: {fault}");
+            ExitCode::FAILURE
         }
-        Err(error) => return failed(&rt, ScriptFault::of_read(&error)),
-    };
-    match run(&rt, &rt, arguments) {
-        Ok(()) => ExitCode::SUCCESS,
-        Err(fault) => failed(&rt, fault),
     }
 }
 
-// The arguments that the process was given, or which of its words is not what the usage says.
-fn arguments(rt: &HostRuntime) -> io::Result<Result<Arguments, WrongWord>> {
+// Replays what the words of the process name: a record in a file or, where the file is `-`, on standard input, or a script
+// on standard input by the words that say how the server is run.
+fn run<T: Threads + Sync>(rt: &HostRuntime, threads: &T) -> Result<ExitCode, ScriptFault> {
+    let words = words(rt).map_err(|error| ScriptFault::of_read(&error))?;
+    match words.as_slice() {
+        [flag, path] if flag.as_str() == "--record" && path.as_str() == "-" => {
+            replay_record(rt, threads, rt.reader())
+        }
+        [flag, path] if flag.as_str() == "--record" => match File::open(rt, path.as_str()) {
+            Ok(file) => replay_record(rt, threads, file),
+            Err(error) => {
+                let _ = eprintln!(rt; "bayeux_replay: cannot open {path}: {error}");
+                Ok(ExitCode::FAILURE)
+            }
+        },
+        words => replay_script(rt, threads, words),
+    }
+}
+
+// The words that the process was given.
+fn words(rt: &HostRuntime) -> io::Result<Vec<String>> {
     let mut words = Vec::new(rt.alloc());
     for word in env::args(rt)?.skip(1) {
         words.push(word)?;
     }
-    Ok(Arguments::read(&words))
+    Ok(words)
 }
 
-fn run<T: Threads + Sync>(
+fn replay_script<T: Threads + Sync>(
+    rt: &HostRuntime,
+    threads: &T,
+    words: &[String],
+) -> Result<ExitCode, ScriptFault> {
+    let alloc = rt.alloc();
+    let mut bytes = Vec::new(alloc);
+    for word in words {
+        bytes.push(word.as_bytes())?;
+    }
+    match Arguments::read(&bytes) {
+        Ok(arguments) => {
+            let reader = BufReader::new(alloc, rt.reader()).map_err(|error| ScriptFault::of_read(
+                &error,
+            ))?;
+            answer(rt, threads, arguments, Dialect::Script, reader)
+        }
+        Err(wrong) => {
+            let _ = eprintln!(rt; "{USAGE}\nbayeux_replay: {wrong}");
+            Ok(ExitCode::from(2))
+        }
+    }
+}
+
+fn replay_record<T: Threads + Sync, R: Read + Drop>(
+    rt: &HostRuntime,
+    threads: &T,
+    record: R,
+) -> Result<ExitCode, ScriptFault> {
+    let alloc = rt.alloc();
+    let mut reader = BufReader::new(alloc, record).map_err(|error| ScriptFault::of_read(&error))?;
+    match read_settings(alloc, &mut reader)? {
+        Ok(arguments) => answer(rt, threads, arguments, Dialect::Recorded, reader),
+        Err(wrong) => {
+            let _ = eprintln!(rt; "bayeux_replay: the first line of the record: {wrong}");
+            Ok(ExitCode::from(2))
+        }
+    }
+}
+
+// Answers all lines that are left.
+fn answer<T: Threads + Sync, R: BufRead + Drop>(
     rt: &HostRuntime,
     threads: &T,
     arguments: Arguments,
-) -> Result<(), ScriptFault> {
+    dialect: Dialect,
+    reader: R,
+) -> Result<ExitCode, ScriptFault> {
     let alloc = rt.alloc();
-    let reader = BufReader::new(alloc, rt.reader()).map_err(|error| ScriptFault::of_read(&error))?;
     let writer = BufWriter::new(alloc, io::writer(rt)).map_err(|error| ScriptFault::of_write(
         &error,
     ))?;
@@ -56,12 +113,8 @@ fn run<T: Threads + Sync>(
         config,
         placing,
         workers,
-        &mut Lines::new(alloc, reader),
+        &mut Lines::new(alloc, dialect, reader),
         &mut Output::new(writer),
-    )
-}
-
-fn failed(rt: &HostRuntime, fault: ScriptFault) -> ExitCode {
-    let _ = eprintln!(rt; "bayeux_replay: {fault}");
-    ExitCode::FAILURE
+    )?;
+    Ok(ExitCode::SUCCESS)
 }

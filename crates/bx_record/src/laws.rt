@@ -1,7 +1,7 @@
 //! The laws of records.
 ghost use Rattle.bx_record.specs.Laws.{AnswersAreSkipped, AnswersBreakOff, AnswersChangeNothing, ConfigsReadBack, RecordsAnswerAlike, RecordsBreakOff, RecordsReadBack};
 
-/// The text of a record, read as a script, has just the inputs that it was made of, in order, and says nothing else. Of a
+/// The text of a record has just the inputs that it was made of, in order, and says nothing else. Of a
 /// request in which no message asks for a new session the nonce, which is not used then, is read as 0.
 pub fn records_read_back()
     ensures { RecordsReadBack }
@@ -37,7 +37,7 @@ pub fn answers_break_off()
     ensures { AnswersBreakOff }
 {}
 
-/// The line that says how a server is run has nine words between spaces, which say all numbers and options of its
+/// The line that says how a server is run has thirteen words between spaces, which say all numbers and options of its
 /// configuration that can be set, and behind it stands what follows.
 pub fn configs_read_back()
     ensures { ConfigsReadBack }

@@ -1,4 +1,4 @@
-//! The text that records what a server took in, as a script that the replay reads, and the law that it reads back.
+//! The text that records what a server took in, in lines that the replay reads, and the laws that it reads back.
 #![tactic(auto)]
 
 mod answer;

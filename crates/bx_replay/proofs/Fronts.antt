@@ -4,7 +4,7 @@ use Rattle.std.proofs.lemmas.{Grind.flat_map-append, List.map-append}
 use Rattle.std.specs.Prelude.{IfErr, IfSome, IsErr, OnErr, option_map, string_bytes}
 use Rattle.std.proofs.Common.{Global, String}
 use Rattle.std.specs.Io.KnownBytes.{Appends}
-use Rattle.bx_script.specs.Words.{IsWriteFault, Line, Bad, Rejected, Accepted, Resharded, Numbered, inputs_from, held_text, line_of, lines_of, nonce_at, out_by, replay_text, result_text, AppendsFront, Writes, numbered, with_nonces}
+use Rattle.bx_script.specs.Words.{Dialect, IsWriteFault, Line, Bad, Rejected, Accepted, Resharded, Numbered, inputs_from, held_text, lines_in, nonce_at, out_by, replay_text, result_text, AppendsFront, Writes, numbered, with_nonces}
 use Rattle.bx_script.specs.declared.{error.ScriptFault.ScriptFault, lines.Lines.Lines, output.Output.Output}
 use Rattle.bx_script.specs.declared.error.ScriptFault.TheVariants.{Memory, Read, Write}
 use Rattle.bx_replay.specs.Faults.{IsReplayFault}
@@ -132,23 +132,23 @@ goes_on config ls (l ∷ more) room =
           ∙ append_assoc (printed_so_far config ls) one rest.text;
     }
 
-whole_known : (config : Config) (xs ys : List ℕ) (ms : List script.Line) (a c : Option (List ℕ)) → 0 < config.limits.batch → Reads (Some xs) (Some ys) ms → PrintsFront config [] ms a c → AppendsFront a c (replay_text config xs)
-whole_known config xs ys ms a c room r p =
-    let all : List Line = with_nonces 0 (map line_of (lines_of xs)) in
-    let others : List Line = with_nonces (nonce_at (read_lines ms)) (map line_of (lines_of ys)) in
-    let whole : all ≡ seen_lines ms ++ others = ap (with_nonces 0) r ∙ nonces_on 0 (read_lines ms) (map line_of (lines_of ys)) in
+whole_known : (d : Dialect) (config : Config) (xs ys : List ℕ) (ms : List script.Line) (a c : Option (List ℕ)) → 0 < config.limits.batch → Reads d (Some xs) (Some ys) ms → PrintsFront config [] ms a c → AppendsFront a c (replay_text d config xs)
+whole_known d config xs ys ms a c room r p =
+    let all : List Line = with_nonces 0 (lines_in d xs) in
+    let others : List Line = with_nonces (nonce_at (read_lines ms)) (lines_in d ys) in
+    let whole : all ≡ seen_lines ms ++ others = ap (with_nonces 0) r ∙ nonces_on 0 (read_lines ms) (lines_in d ys) in
     let on : GoesOn config (seen_lines ms) others = goes_on config (seen_lines ms) others room in
     let ends : List ℕ = held_texts (inputs_from 1 all) (held config (inputs_in all)) in
-    let parts : replay_text config xs ≡ p.text ++ (on.text ++ ends) =
+    let parts : replay_text d config xs ≡ p.text ++ (on.text ++ ends) =
     ap (λ (t : List ℕ). t ++ ends) (ap (printed_so_far config) whole ∙ on.is ∙ ap (λ (t : List ℕ). t ++ on.text) p.is) ∙ append_assoc p.text on.text ends in
     subst (AppendsFront a c) (sym parts) (front_first a c p.text (on.text ++ ends) p.front)
 
 -- where a script is read on, what its first lines print is a front of the right output
-pub whole_front : (config other : Config) (bytes rest : Option (List ℕ)) (ms : List script.Line) (a c : Option (List ℕ)) → other ≡ config → 0 < other.limits.batch → Reads bytes rest ms → PrintsFront other [] ms a c →
-    IfSome bytes (λ bs. AppendsFront a c (replay_text config bs))
-whole_front config other None rest ms a c e room r p = tt
-whole_front config other (Some xs) None ms a c e room r p = absurd r
-whole_front config other (Some xs) (Some ys) ms a c e room r p = subst (λ (config : Config). AppendsFront a c (replay_text config xs)) e (whole_known other xs ys ms a c room r p)
+pub whole_front : (d : Dialect) (config other : Config) (bytes rest : Option (List ℕ)) (ms : List script.Line) (a c : Option (List ℕ)) → other ≡ config → 0 < other.limits.batch → Reads d bytes rest ms → PrintsFront other [] ms a c →
+    IfSome bytes (λ bs. AppendsFront a c (replay_text d config bs))
+whole_front d config other None rest ms a c e room r p = tt
+whole_front d config other (Some xs) None ms a c e room r p = absurd r
+whole_front d config other (Some xs) (Some ys) ms a c e room r p = subst (λ (config : Config). AppendsFront a c (replay_text d config xs)) e (whole_known d other xs ys ms a c room r p)
 
 -- all of what these lines print
 pub prints_all : (config : Config) (ls : List script.Line) (a b : Option (List ℕ)) → Prints config [] ls a b → PrintsFront config [] ls a b
@@ -164,15 +164,15 @@ prints_some config ls ms a b c p q = record {
 -- ---- results
 
 -- nothing is written before the first line
-pub none_known : {A E : Type 0} (config : Config) (bytes a : Option (List ℕ)) (r : Result A E) → IsErr r → IfSome bytes (λ bs. Writes a a r (replay_text config bs))
-none_known config None a r e = tt
-none_known config (Some bs) a r e = fault_writes a a r (replay_text config bs) (replay_text config bs) refl e (front_none a (replay_text config bs))
+pub none_known : {A E : Type 0} (d : Dialect) (config : Config) (bytes a : Option (List ℕ)) (r : Result A E) → IsErr r → IfSome bytes (λ bs. Writes a a r (replay_text d config bs))
+none_known d config None a r e = tt
+none_known d config (Some bs) a r e = fault_writes a a r (replay_text d config bs) (replay_text d config bs) refl e (front_none a (replay_text d config bs))
 
 -- a fault in the middle of a script
-pub fault_known : {A E : Type 0} (config other : Config) (bytes a b : Option (List ℕ)) (r : Result A E) → other ≡ config → IsErr r → IfSome bytes (λ bs. AppendsFront a b (replay_text other bs)) →
-    IfSome bytes (λ bs. Writes a b r (replay_text config bs))
-fault_known config other None a b r same e f = tt
-fault_known config other (Some bs) a b r same e f = fault_writes a b r (replay_text config bs) (replay_text other bs) (ap (λ (c : Config). replay_text c bs) (sym same)) e f
+pub fault_known : {A E : Type 0} (d : Dialect) (config other : Config) (bytes a b : Option (List ℕ)) (r : Result A E) → other ≡ config → IsErr r → IfSome bytes (λ bs. AppendsFront a b (replay_text d other bs)) →
+    IfSome bytes (λ bs. Writes a b r (replay_text d config bs))
+fault_known d config other None a b r same e f = tt
+fault_known d config other (Some bs) a b r same e f = fault_writes a b r (replay_text d config bs) (replay_text d other bs) (ap (λ (c : Config). replay_text d c bs) (sym same)) e f
 
 -- a write that fails behind the last line is why the replay ends
 pub written_behind : {T R W : Type 0} (lines : Lines R) (output : Output W) (r : Result T ScriptFault) → IfErr r (IsWriteFault output) → IfErr r (IsReplayFault lines output)

@@ -5,3 +5,4 @@ pub mod Ready
 pub mod Fronts
 mod Words
 pub mod Records
+mod FirstLines

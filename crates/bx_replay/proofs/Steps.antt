@@ -10,7 +10,7 @@ use Rattle.bx_replay.specs.declared.kept.PendingLine.{PendingLine}
 use Rattle.bx_replay.proofs.{Keeping.appends_more, Keeping.appends_none, Ready.none_last}
 use Rattle.bx_advice.specs.declared.config.Config.{Config}
 use Rattle.bx_entry.specs.Words.{ReadInput, read_input, Out, held, outs}
-use Rattle.bx_script.specs.Words.{Line, Bad, Rejected, Accepted, Resharded, Announced, Noted, Numbered, inputs_from, line_of, lines_of, printed, replay_text, IsNext, NextLine, said_by, Writes, nonce_at, numbered, rest_of, with_nonce, with_nonces}
+use Rattle.bx_script.specs.Words.{Dialect, Line, Bad, Rejected, Accepted, Resharded, Announced, Noted, Numbered, inputs_from, line_of, lines_in, printed, replay_text, IsNext, NextLine, said_by, Writes, nonce_at, numbered, rest_of, with_nonce, with_nonces}
 use Rattle.bx_entry.specs.declared.{Placing.Ghosts, input.Input.Input}
 use Rattle.bx_fanout.specs.Rounds.{IsRun, added_by, inputs_of, setup_in}
 use Rattle.bx_fanout.specs.Stages.{seen_out}
@@ -204,54 +204,60 @@ prints_more config other ls ms a b c e p q = record {
       ∙ append_assoc (printed_so_far other []) p.text q.text;
 }
 
-pub reads_none : (a : Option (List ℕ)) (ls : List script.Line) → ls ≡ [] → Reads a a ls
-reads_none None ls e = tt
-reads_none (Some xs) ls e = ap (λ (us : List script.Line). read_lines us ++ map line_of (lines_of xs)) (sym e)
+pub reads_none : (d : Dialect) (a : Option (List ℕ)) (ls : List script.Line) → ls ≡ [] → Reads d a a ls
+reads_none d None ls e = tt
+reads_none d (Some xs) ls e = ap (λ (us : List script.Line). read_lines us ++ lines_in d xs) (sym e)
 
-reads_line : (xs ys zs : List ℕ) (ls ms : List script.Line) (line : script.Line) → ms ≡ ls ++ line ∷ [] → map line_of (lines_of xs) ≡ read_lines ls ++ map line_of (lines_of ys) → NextLine line ys (Some zs) →
-    map line_of (lines_of xs) ≡ read_lines ms ++ map line_of (lines_of zs)
-reads_line xs ys zs ls ms line e r n =
+reads_line : (d : Dialect) (xs ys zs : List ℕ) (ls ms : List script.Line) (line : script.Line) → ms ≡ ls ++ line ∷ [] → lines_in d xs ≡ read_lines ls ++ lines_in d ys → NextLine d line ys (Some zs) →
+    lines_in d xs ≡ read_lines ms ++ lines_in d zs
+reads_line d xs ys zs ls ms line e r n =
     let left : zs ≡ rest_of ys = let some : Some zs ≡ Some (rest_of ys) = n.left in cc in
-    let others : List Line = map line_of (lines_of (rest_of ys)) in
+    let others : List Line = lines_in d (rest_of ys) in
     r
-    ∙ ap (λ (us : List (List ℕ)). read_lines ls ++ map line_of us) n.behind
+    ∙ ap (λ (us : List (List ℕ)). read_lines ls ++ map (line_of d) us) n.behind
     ∙ ap (λ (k : Line). read_lines ls ++ k ∷ others) (sym n.said)
     ∙ sym (append_assoc (read_lines ls) (said_by line ∷ []) others)
     ∙ ap (λ (us : List Line). us ++ others) (sym (ap read_lines e ∙ read_more ls line))
-    ∙ ap (λ (bs : List ℕ). read_lines ms ++ map line_of (lines_of bs)) (sym left)
+    ∙ ap (λ (bs : List ℕ). read_lines ms ++ lines_in d bs) (sym left)
 
-reads_by : (xs ys : List ℕ) (c : Option (List ℕ)) (ls ms : List script.Line) (line : script.Line) → ms ≡ ls ++ line ∷ [] → Reads (Some xs) (Some ys) ls → NextLine line ys c → Reads (Some xs) c ms
-reads_by xs ys None ls ms line e r n = let some : None ≡ Some (rest_of ys) = n.left in cc
-reads_by xs ys (Some zs) ls ms line e r n = reads_line xs ys zs ls ms line e r n
+reads_by : (d : Dialect) (xs ys : List ℕ) (c : Option (List ℕ)) (ls ms : List script.Line) (line : script.Line) → ms ≡ ls ++ line ∷ [] → Reads d (Some xs) (Some ys) ls → NextLine d line ys c →
+    Reads d (Some xs) c ms
+reads_by d xs ys None ls ms line e r n = let some : None ≡ Some (rest_of ys) = n.left in cc
+reads_by d xs ys (Some zs) ls ms line e r n = reads_line d xs ys zs ls ms line e r n
 
-pub reads_more : (a b c : Option (List ℕ)) (ls ms : List script.Line) (next : Option script.Line) (line : script.Line) → next ≡ Some line → ms ≡ ls ++ line ∷ [] → Reads a b ls → IfSome b (λ bytes. IsNext next bytes c) → Reads a c ms
-reads_more None b c ls ms next line is e r n = tt
-reads_more (Some xs) None c ls ms next line is e r n = absurd r
-reads_more (Some xs) (Some ys) c ls ms next line is e r n = reads_by xs ys c ls ms line e r (subst (λ (o : Option script.Line). IsNext o ys c) is n)
+-- what was read as `d` before is read on as that
+pub reads_more : (d now : Dialect) (a b c : Option (List ℕ)) (ls ms : List script.Line) (next : Option script.Line) (line : script.Line) → now ≡ d → next ≡ Some line → ms ≡ ls ++ line ∷ [] →
+    Reads d a b ls → IfSome b (λ bytes. IsNext now next bytes c) → Reads d a c ms
+reads_more d now None b c ls ms next line same is e r n = tt
+reads_more d now (Some xs) None c ls ms next line same is e r n = absurd r
+reads_more d now (Some xs) (Some ys) c ls ms next line same is e r n =
+    reads_by d xs ys c ls ms line e r (subst (λ (o : Option script.Line). IsNext d o ys c) is (subst (λ now. IsNext now next ys c) same n))
 
-reads_last : (xs ys : List ℕ) (c : Option (List ℕ)) (ls : List script.Line) → Reads (Some xs) (Some ys) ls → IsNext None ys c → IsAll (Some xs) ls
-reads_last xs ys c ls r n = sym (r ∙ ap (λ (bs : List ℕ). read_lines ls ++ map line_of (lines_of bs)) n.0 ∙ append-nil (read_lines ls))
+reads_last : (d : Dialect) (xs ys : List ℕ) (c : Option (List ℕ)) (ls : List script.Line) → Reads d (Some xs) (Some ys) ls → IsNext d None ys c → IsAll d (Some xs) ls
+reads_last d xs ys c ls r n = sym (r ∙ ap (λ (bs : List ℕ). read_lines ls ++ lines_in d bs) n.0 ∙ append-nil (read_lines ls))
 
-pub reads_end : (a b c : Option (List ℕ)) (ls : List script.Line) (next : Option script.Line) → next ≡ None → Reads a b ls → IfSome b (λ bytes. IsNext next bytes c) → IsAll a ls
-reads_end None b c ls next is r n = tt
-reads_end (Some xs) None c ls next is r n = absurd r
-reads_end (Some xs) (Some ys) c ls next is r n = reads_last xs ys c ls r (subst (λ (o : Option script.Line). IsNext o ys c) is n)
+pub reads_end : (d now : Dialect) (a b c : Option (List ℕ)) (ls : List script.Line) (next : Option script.Line) → now ≡ d → next ≡ None → Reads d a b ls → IfSome b (λ bytes. IsNext now next bytes c) →
+    IsAll d a ls
+reads_end d now None b c ls next same is r n = tt
+reads_end d now (Some xs) None c ls next same is r n = absurd r
+reads_end d now (Some xs) (Some ys) c ls next same is r n =
+    reads_last d xs ys c ls r (subst (λ (o : Option script.Line). IsNext d o ys c) is (subst (λ now. IsNext now next ys c) same n))
 
 pub number_more : (n m : ℕ) (ls ms : List script.Line) (l : script.Line) → ms ≡ ls ++ l ∷ [] → n ≡ length (seen_lines ls) → m ≡ length (seen_lines ms) → m ≡ n + 1
 number_more n m ls ms l e f h = omega (arith, f, h, ap (λ (us : List script.Line). length (seen_lines us)) e, ap length (seen_more ls l), length-append (seen_lines ls) (seen_behind ls l ∷ []))
 
-printed_all : {A E : Type 0} (config : Config) (bytes : List ℕ) (ls : List script.Line) (a b d : Option (List ℕ)) (r : Result A E) → read_lines ls ≡ map line_of (lines_of bytes) → Prints config [] ls a b →
-    Writes b d r (held_lines config ls) → Writes a d r (replay_text config bytes)
-printed_all config bytes ls a b d r e p h =
+printed_all : {A E : Type 0} (d : Dialect) (config : Config) (bytes : List ℕ) (ls : List script.Line) (a b w : Option (List ℕ)) (r : Result A E) → read_lines ls ≡ lines_in d bytes → Prints config [] ls a b →
+    Writes b w r (held_lines config ls) → Writes a w r (replay_text d config bytes)
+printed_all d config bytes ls a b w r e p h =
     let text : p.text ≡ printed_so_far config (seen_lines ls) = sym p.is in
-    subst (Writes a d r)
+    subst (Writes a w r)
     (ap (λ (t : List ℕ). t ++ held_lines config ls) text ∙ ap (λ (us : List Line). printed config (inputs_from 1 (with_nonces 0 us)) (with_nonces 0 us)) e)
-    (writes_second a b d r p.text (held_lines config ls) p.appends h)
+    (writes_second a b w r p.text (held_lines config ls) p.appends h)
 
-pub replayed : {A E : Type 0} (config other : Config) (bytes : Option (List ℕ)) (ls : List script.Line) (a b d : Option (List ℕ)) (r : Result A E) → other ≡ config → IsAll bytes ls → Prints other [] ls a b → Writes b d r (held_lines other ls) →
-    IfSome bytes (λ bs. Writes a d r (replay_text config bs))
-replayed config other None ls a b d r e all p h = tt
-replayed config other (Some bs) ls a b d r e all p h = subst (λ (c : Config). Writes a d r (replay_text c bs)) e (printed_all other bs ls a b d r all p h)
+pub replayed : {A E : Type 0} (d : Dialect) (config other : Config) (bytes : Option (List ℕ)) (ls : List script.Line) (a b w : Option (List ℕ)) (r : Result A E) → other ≡ config → IsAll d bytes ls → Prints other [] ls a b → Writes b w r (held_lines other ls) →
+    IfSome bytes (λ bs. Writes a w r (replay_text d config bs))
+replayed d config other None ls a b w r e all p h = tt
+replayed d config other (Some bs) ls a b w r e all p h = subst (λ (c : Config). Writes a w r (replay_text d c bs)) e (printed_all d other bs ls a b w r all p h)
 
 -- ---- what a server keeps
 

@@ -18,11 +18,14 @@ run_by arguments = record {
   limit = arguments.config.limits.events;
   bytes = arguments.config.limits.bytes;
   sessions = arguments.config.limits.sessions;
+  patterns = arguments.config.limits.patterns;
 }
 
--- but for how many events with how many bytes may wait for a session, and how many sessions may be live, the limits are those of this server
+-- but for how many events with how many bytes may wait for a session, how many sessions may be live, and how many patterns of one may be in force, the limits are
+-- those of this server
 abbrev pub HasStandardLimits : Arguments → Type 0
-HasStandardLimits arguments = IsStandard (record arguments.config.limits { events = standard_limits.events; bytes = standard_limits.bytes; sessions = standard_limits.sessions })
+HasStandardLimits arguments =
+    IsStandard (record arguments.config.limits { events = standard_limits.events; bytes = standard_limits.bytes; sessions = standard_limits.sessions; patterns = standard_limits.patterns })
 
 -- how the server is run by what the words came to, where they are right
 abbrev pub said_by : Result Arguments WrongWord → Option Settings

@@ -1,8 +1,8 @@
 -- What the first line of a record says to the program.
-use Rattle.std.specs.Prelude.{ℕ, ◌^◌, ◌<◌, ◌≤◌, ◌≡◌, ◌⊎◌, ◌++◌, List, Some}
+use Rattle.std.specs.Prelude.{ℕ, ◌^◌, ◌<◌, ◌≤◌, ◌≡◌, ◌⊎◌, ◌++◌, List, Option, Some}
 use Rattle.std.specs.List.{slice_split}
 use Rattle.bx_advice.specs.declared.config.Config.{Config}
-use Rattle.bx_advice.specs.declared.config.TheConstants.{MAX_BYTES, STANDARD_BYTES}
+use Rattle.bx_advice.specs.declared.config.TheConstants.{MAX_BYTES, STANDARD_BYTES, STANDARD_PATTERNS, STANDARD_SESSIONS}
 use Rattle.bx_script.specs.Words.{first_of, is_space}
 use Rattle.bx_record.specs.Record.{config_text}
 use Rattle.bx_replay.specs.Settings.{Settings, settings_in}
@@ -12,7 +12,8 @@ pub record CanSay (c : Config) : Type 0 where
   pub times : (c.timeout < 2 ^ 32) × (c.interval < 2 ^ 32) × (c.max_interval < 2 ^ 32)
   pub events : (1 ≤ c.limits.events) × (c.limits.events ≤ 65536)
   pub bytes : (c.limits.bytes ≡ STANDARD_BYTES) ⊎ ((1 ≤ c.limits.bytes) × (c.limits.bytes ≤ MAX_BYTES))
-  pub sessions : (1 ≤ c.limits.sessions) × (c.limits.sessions ≤ 65536)
+  pub sessions : (1 ≤ c.limits.sessions) × (c.limits.sessions ≤ STANDARD_SESSIONS)
+  pub patterns : (1 ≤ c.limits.patterns) × (c.limits.patterns ≤ STANDARD_PATTERNS)
 
 -- a configuration with one worker
 abbrev pub alone : Config → Settings
@@ -27,8 +28,13 @@ alone c = record {
   limit = c.limits.events;
   bytes = c.limits.bytes;
   sessions = c.limits.sessions;
+  patterns = c.limits.patterns;
 }
 
--- the words of a record's first line say its configuration, whatever stands behind it
+-- what the words of a record's first line say
+abbrev pub recorded_settings : List ℕ → Option Settings
+recorded_settings text = settings_in (slice_split is_space (first_of text))
+
+-- they say its configuration, whatever stands behind it
 abbrev pub ConfigsAreTaken : Type 0
-ConfigsAreTaken = (c : Config) (rest : List ℕ) → CanSay c → settings_in (slice_split is_space (first_of (config_text c ++ rest))) ≡ Some (alone c)
+ConfigsAreTaken = (c : Config) (rest : List ℕ) → CanSay c → recorded_settings (config_text c ++ rest) ≡ Some (alone c)

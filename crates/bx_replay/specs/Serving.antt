@@ -5,7 +5,7 @@ use Rattle.bx_replay.specs.Kept.{AllKept, AreKept, PrintsOuts, held_texts}
 use Rattle.bx_replay.specs.declared.{kept.PendingLine.PendingLine, server.ReplayServer.ReplayServer}
 use Rattle.bx_advice.specs.declared.config.Config.{Config}
 use Rattle.bx_entry.specs.Words.{ReadInput, Out, held, outs}
-use Rattle.bx_script.specs.Words.{Line, Numbered, inputs_from, line_of, line_with, lines_of, nonce_at, said_by, with_nonces, AppendsFront}
+use Rattle.bx_script.specs.Words.{Dialect, Line, Numbered, inputs_from, line_with, lines_in, nonce_at, said_by, with_nonces, AppendsFront}
 use Rattle.bx_entry.specs.declared.Placing.{Ghosts}
 use Rattle.bx_fanout.specs.Rounds.{added_by, inputs_of, setup_in}
 use Rattle.bx_fanout.specs.declared.round.Round.{Round}
@@ -43,15 +43,15 @@ pub record PrintsFront (config : Config) (old new : List script.Line) (before af
   pub is : printed_so_far config (seen_lines new) ≡ printed_so_far config (seen_lines old) ++ text
 
 -- the lines of what was read, where the bytes are known
-abbrev pub Reads : Option (List ℕ) → Option (List ℕ) → List script.Line → Type 0
-Reads None new ls = ⊤
-Reads (Some xs) None ls = ⊥
-Reads (Some xs) (Some ys) ls = map line_of (lines_of xs) ≡ read_lines ls ++ map line_of (lines_of ys)
+abbrev pub Reads : Dialect → Option (List ℕ) → Option (List ℕ) → List script.Line → Type 0
+Reads dialect None new ls = ⊤
+Reads dialect (Some xs) None ls = ⊥
+Reads dialect (Some xs) (Some ys) ls = lines_in dialect xs ≡ read_lines ls ++ lines_in dialect ys
 
 -- these lines are all
-abbrev pub IsAll : Option (List ℕ) → List script.Line → Type 0
-IsAll None ls = ⊤
-IsAll (Some script) ls = read_lines ls ≡ map line_of (lines_of script)
+abbrev pub IsAll : Dialect → Option (List ℕ) → List script.Line → Type 0
+IsAll dialect None ls = ⊤
+IsAll dialect (Some text) ls = read_lines ls ≡ lines_in dialect text
 
 -- what is printed at the end for the lines that are held
 abbrev pub held_lines : Config → List script.Line → List ℕ

@@ -1,12 +1,12 @@
 -- How a server is run, and which words say so.
-use Rattle.std.specs.Prelude.{ℕ, ◌&&◌, ◌^◌, nat_le, nat_lt, if◌then◌else◌, Bool, List, [], ◌∷◌, take, drop, codes, Option, Some, None, option_and_then, option_map}
+use Rattle.std.specs.Prelude.{ℕ, ◌&&◌, ◌^◌, nat_le, nat_lt, if◌then◌else◌, Bool, List, [], ◌∷◌, codes, Option, Some, None, option_and_then, option_map}
 use Rattle.std.specs.Str.{bytes_eq}
 use Rattle.bx_advice.specs.Options.{options_in}
-use Rattle.bx_advice.specs.declared.config.TheConstants.{MAX_BYTES, STANDARD_BYTES, STANDARD_SESSIONS}
+use Rattle.bx_advice.specs.declared.config.TheConstants.{MAX_BYTES, STANDARD_BYTES, STANDARD_PATTERNS, STANDARD_SESSIONS}
 use Rattle.bx_message.specs.Fields.{number_of}
 
 -- times are in milliseconds; `ride`: waiting events ride; `anonymous`: publishes of no session are accepted; `limit`: so many events may wait for each session,
--- with so many `bytes`; so many `sessions` may be live
+-- with so many `bytes`; so many `sessions` may be live, and so many `patterns` of one may be in force
 pub record Settings : Type 0 where
   pub shards : ℕ
   pub workers : ℕ
@@ -18,6 +18,7 @@ pub record Settings : Type 0 where
   pub limit : ℕ
   pub bytes : ℕ
   pub sessions : ℕ
+  pub patterns : ℕ
 
 infixl 10 ◌>>=◌
 abbrev pub ◌>>=◌ : {A B : Type 0} → Option A → (A → Option B) → Option B
@@ -41,30 +42,40 @@ settings_of shards workers timeout interval max_interval options limit = do
   m ← time_in max_interval
   o ← options_in options
   l ← count_in 65536 limit
-  Some (record { shards = s; workers = w; timeout = t; interval = i; max_interval = m; ride = o.ride; anonymous = o.anonymous; limit = l; bytes = STANDARD_BYTES; sessions = STANDARD_SESSIONS })
+  Some (record { shards = s; workers = w; timeout = t; interval = i; max_interval = m; ride = o.ride; anonymous = o.anonymous; limit = l; bytes = STANDARD_BYTES; sessions = STANDARD_SESSIONS; patterns = STANDARD_PATTERNS })
 
--- the first words say it, of which there are five, six or seven
-abbrev pub first_in : List (List ℕ) → Option Settings
-first_in (shards ∷ workers ∷ timeout ∷ interval ∷ max_interval ∷ []) = settings_of shards workers timeout interval max_interval (codes "-") (codes "1024")
-first_in (shards ∷ workers ∷ timeout ∷ interval ∷ max_interval ∷ options ∷ []) = settings_of shards workers timeout interval max_interval options (codes "1024")
-first_in (shards ∷ workers ∷ timeout ∷ interval ∷ max_interval ∷ options ∷ limit ∷ []) = settings_of shards workers timeout interval max_interval options limit
-first_in words = None
+-- five, six or seven words say it
+abbrev pub words_in : List (List ℕ) → Option Settings
+words_in (shards ∷ workers ∷ timeout ∷ interval ∷ max_interval ∷ []) = settings_of shards workers timeout interval max_interval (codes "-") (codes "1024")
+words_in (shards ∷ workers ∷ timeout ∷ interval ∷ max_interval ∷ options ∷ []) = settings_of shards workers timeout interval max_interval options (codes "1024")
+words_in (shards ∷ workers ∷ timeout ∷ interval ∷ max_interval ∷ options ∷ limit ∷ []) = settings_of shards workers timeout interval max_interval options limit
+words_in words = None
+
+-- what stands behind this name in front of other words, where it does, and these words
+abbrev pub named_in : List ℕ → List (List ℕ) → Option (List ℕ) × List (List ℕ)
+named_in name [] = (None, [])
+named_in name (word ∷ []) = (None, word ∷ [])
+named_in name (word ∷ next ∷ words) = if bytes_eq word name then (Some next, words) else (None, word ∷ next ∷ words)
 
 -- the same with so many bytes as this word says, which is `-` where it says nothing
-abbrev pub with_bytes : List ℕ → Settings → Option Settings
-with_bytes word s = if bytes_eq word (codes "-") then Some s else option_map (λ n. record s { bytes = n }) (count_in MAX_BYTES word)
+abbrev pub with_bytes : Option (List ℕ) → Settings → Option Settings
+with_bytes None s = Some s
+with_bytes (Some word) s = if bytes_eq word (codes "-") then Some s else option_map (λ n. record s { bytes = n }) (count_in MAX_BYTES word)
 
 -- the same with so many sessions as this word says
-abbrev pub with_sessions : List ℕ → Settings → Option Settings
-with_sessions word s = option_map (λ n. record s { sessions = n }) (count_in 65536 word)
+abbrev pub with_sessions : Option (List ℕ) → Settings → Option Settings
+with_sessions None s = Some s
+with_sessions (Some word) s = option_map (λ n. record s { sessions = n }) (count_in STANDARD_SESSIONS word)
 
--- two more words may say that
-abbrev pub further_in : Settings → List (List ℕ) → Option Settings
-further_in s [] = Some s
-further_in s (bytes ∷ []) = with_bytes bytes s
-further_in s (bytes ∷ sessions ∷ []) = with_bytes bytes s >>= with_sessions sessions
-further_in s words = None
+-- the same with so many patterns as this word says
+abbrev pub with_patterns : Option (List ℕ) → Settings → Option Settings
+with_patterns None s = Some s
+with_patterns (Some word) s = option_map (λ n. record s { patterns = n }) (count_in STANDARD_PATTERNS word)
 
--- five to nine words say all, and no other number of words
+-- what all words say: limits by their names, each of which may be missing, and behind them five to seven words
 abbrev pub settings_in : List (List ℕ) → Option Settings
-settings_in words = first_in (take 7 words) >>= (λ s. further_in s (drop 7 words))
+settings_in words =
+    let bytes = named_in (codes "--bytes") words in
+    let sessions = named_in (codes "--sessions") bytes.1 in
+    let patterns = named_in (codes "--patterns") sessions.1 in
+    words_in patterns.1 >>= with_bytes bytes.0 >>= with_sessions sessions.0 >>= with_patterns patterns.0

@@ -1,17 +1,14 @@
 //! The arguments of the program.
-ghost use Rattle.std.specs.Prelude.{◌≡◌, ◌<◌, IfOk, IfSome, OnErr, Option, None, Some, option_map, map, string_bytes};
+ghost use Rattle.std.specs.Prelude.{◌≡◌, IfOk, IfSome, option_map, map};
 ghost use Rattle.bx_advice.specs.Limits.{IsStandard};
 ghost use Rattle.bx_advice.specs.Options.{options_in};
 ghost use Rattle.bx_message.specs.Fields.{number_of};
-ghost use Rattle.bx_replay.specs.Settings.{count_in, first_in, further_in, settings_in, settings_of, time_in, with_bytes, with_sessions};
+ghost use Rattle.bx_replay.specs.Settings.{count_in, named_in, settings_in, settings_of, time_in, with_bytes, with_patterns, with_sessions, words_in};
 
 use crate::wrong_word::WrongWord;
 use bx_advice::{Config, MAX_SHARDS, Options};
 use bx_message::number_of;
 use bx_workers::WorkerCount;
-
-// How many words may stand before those that say further limits.
-const FIRST: usize = 7;
 
 /// How the server is run.
 #[derive(Clone, Copy)]
@@ -25,23 +22,33 @@ pub struct Arguments {
 impl Arguments {
     ghost use Rattle.bx_replay.specs.Arguments.{HasStandardLimits, run_by, said_by};
 
-    /// What these words say. Five of them do it by digits alone: how many shards there are, 1 to 64, how many workers, 1
-    /// to 16, and in milliseconds the timeout, the interval and the longest interval, each of 32 bits. A sixth has the
-    /// options, as [`Options::read`] reads them, and is `-` where there is none. A seventh says by digits alone how many
-    /// events may wait for each session, 1 to 65,536, and 1,024 where there is none. An eighth says how many bytes these
-    /// may have, 1 to [`MAX_BYTES`](bx_advice::MAX_BYTES), and `-` that nothing is said of them; a ninth how many sessions
-    /// may be live, 1 to 65,536. An error names the first word that is not so, or says that there are not so many.
-    pub fn read(words: &[String]) -> Result<Arguments, WrongWord>
-        ensures said { said_by result ≡ settings_in (map string_bytes words.now) }
+    /// What these words say. Limits come first, by their names and in this order, and each may be missing: behind
+    /// `--bytes` how many bytes waiting events of a session may have, 1 to [`MAX_BYTES`](bx_advice::MAX_BYTES), or `-`
+    /// where nothing is said of them; behind `--sessions` how many sessions may be live, 1 to 65,536; behind `--patterns`
+    /// how many patterns of a session may be in force, 1 to 1,024. Five words follow that say by digits alone how many
+    /// shards there are, 1 to 64, how many workers, 1 to 16, and in milliseconds the timeout, the interval and the longest
+    /// interval, each of 32 bits. A sixth has the options, as [`Options::read`] reads them, and is `-` where there is
+    /// none. A seventh says by digits alone how many events may wait for each session, 1 to 65,536, and 1,024 where there
+    /// is none. An error names a word that is not so, or says that there are not so many.
+    pub fn read(words: &[&[u8]]) -> Result<Arguments, WrongWord>
+        ensures said { said_by result ≡ settings_in (map (λ word. word.now) words.now) }
         ensures limits { IfOk result (λ arguments. HasStandardLimits arguments) }
     {
-        let (first, further) = words.split_at(FIRST.min(words.len()));
-        Arguments::read_first(first)?.with_further(further)
+        let (bytes, words) = named_in(b"--bytes", words);
+        let (sessions, words) = named_in(b"--sessions", words);
+        let (patterns, words) = named_in(b"--patterns", words);
+        Arguments::read_words(words)?
+            .with_bytes(bytes)
+            .ok_or(WrongWord::Bytes)?
+            .with_sessions(sessions)
+            .ok_or(WrongWord::Sessions)?
+            .with_patterns(patterns)
+            .ok_or(WrongWord::Patterns)
     }
 
-    // What the first words say, with no limit of bytes.
-    fn read_first(words: &[String]) -> Result<Arguments, WrongWord>
-        ensures said { said_by result ≡ first_in (map string_bytes words.now) }
+    // What the words behind the names say, with the standard limits of bytes, sessions and patterns.
+    fn read_words(words: &[&[u8]]) -> Result<Arguments, WrongWord>
+        ensures said { said_by result ≡ words_in (map (λ word. word.now) words.now) }
         ensures limits { IfOk result (λ arguments. HasStandardLimits arguments) }
     {
         match words {
@@ -60,7 +67,7 @@ impl Arguments {
                 timeout,
                 interval,
                 max_interval,
-                options.as_bytes(),
+                options,
                 b"1024",
             ),
             [
@@ -77,37 +84,22 @@ impl Arguments {
                 timeout,
                 interval,
                 max_interval,
-                options.as_bytes(),
-                limit.as_bytes(),
+                options,
+                limit,
             ),
             _ => Err(WrongWord::Count),
         }
     }
 
-    // The same with what the further words say.
-    fn with_further(self, words: &[String]) -> Result<Arguments, WrongWord>
-        requires { HasStandardLimits self }
-        ensures said { said_by result ≡ further_in (run_by self) (map string_bytes words.now) }
-        ensures limits { IfOk result (λ arguments. HasStandardLimits arguments) }
-    {
-        match words {
-            [] => Ok(self),
-            [bytes] => self.with_bytes(bytes.as_bytes()).ok_or(WrongWord::Bytes),
-            [bytes, sessions] => self
-                .with_bytes(bytes.as_bytes())
-                .ok_or(WrongWord::Bytes)?
-                .with_sessions(sessions.as_bytes())
-                .ok_or(WrongWord::Sessions),
-            _ => Err(WrongWord::Count),
-        }
-    }
-
     // The same with so many bytes that waiting events may have as this word says.
-    fn with_bytes(self, word: &[u8]) -> Option<Arguments>
+    fn with_bytes(self, word: Option<&[u8]>) -> Option<Arguments>
         requires { HasStandardLimits self }
-        ensures said { option_map run_by result ≡ with_bytes word.now (run_by self) }
+        ensures said { option_map run_by result ≡ with_bytes (option_map (λ word. word.now) word.entry) (run_by self) }
         ensures limits { IfSome result (λ arguments. HasStandardLimits arguments) }
     {
+        let Some(word) = word else {
+            return Some(self);
+        };
         if word == b"-".as_slice() {
             return Some(self);
         }
@@ -118,13 +110,32 @@ impl Arguments {
         })
     }
 
-    // The same with so many live sessions as these digits say.
-    fn with_sessions(self, digits: &[u8]) -> Option<Arguments>
+    // The same with so many live sessions as this word says.
+    fn with_sessions(self, word: Option<&[u8]>) -> Option<Arguments>
         requires { HasStandardLimits self }
-        ensures said { option_map run_by result ≡ with_sessions digits.now (run_by self) }
+        ensures said { option_map run_by result ≡ with_sessions (option_map (λ word. word.now) word.entry) (run_by self) }
         ensures limits { IfSome result (λ arguments. HasStandardLimits arguments) }
     {
-        let config = self.config.with_sessions(time_in(digits)?)?;
+        let Some(word) = word else {
+            return Some(self);
+        };
+        let config = self.config.with_sessions(time_in(word)?)?;
+        Some(Arguments {
+            config,
+            workers: self.workers,
+        })
+    }
+
+    // The same with so many patterns of a session in force as this word says.
+    fn with_patterns(self, word: Option<&[u8]>) -> Option<Arguments>
+        requires { HasStandardLimits self }
+        ensures said { option_map run_by result ≡ with_patterns (option_map (λ word. word.now) word.entry) (run_by self) }
+        ensures limits { IfSome result (λ arguments. HasStandardLimits arguments) }
+    {
+        let Some(word) = word else {
+            return Some(self);
+        };
+        let config = self.config.with_patterns(time_in(word)?)?;
         Some(Arguments {
             config,
             workers: self.workers,
@@ -132,27 +143,36 @@ impl Arguments {
     }
 
     fn of_words(
-        shards: &String,
-        workers: &String,
-        timeout: &String,
-        interval: &String,
-        max_interval: &String,
+        shards: &[u8],
+        workers: &[u8],
+        timeout: &[u8],
+        interval: &[u8],
+        max_interval: &[u8],
         options: &[u8],
         limit: &[u8],
     ) -> Result<Arguments, WrongWord>
-        ensures said { said_by result ≡ settings_of (string_bytes shards.now) (string_bytes workers.now)
-            (string_bytes timeout.now) (string_bytes interval.now) (string_bytes max_interval.now) options.now limit.now }
+        ensures said { said_by result ≡ settings_of shards.now workers.now timeout.now interval.now max_interval.now options.now limit.now }
         ensures limits { IfOk result (λ arguments. HasStandardLimits arguments) }
     {
-        let shards = shards_in(shards.as_bytes()).ok_or(WrongWord::Shards)?;
-        let workers = workers_in(workers.as_bytes()).ok_or(WrongWord::Workers)?;
-        let timeout = time_in(timeout.as_bytes()).ok_or(WrongWord::Timeout)?;
-        let interval = time_in(interval.as_bytes()).ok_or(WrongWord::Interval)?;
-        let max_interval = time_in(max_interval.as_bytes()).ok_or(WrongWord::MaxInterval)?;
+        let shards = shards_in(shards).ok_or(WrongWord::Shards)?;
+        let workers = workers_in(workers).ok_or(WrongWord::Workers)?;
+        let timeout = time_in(timeout).ok_or(WrongWord::Timeout)?;
+        let interval = time_in(interval).ok_or(WrongWord::Interval)?;
+        let max_interval = time_in(max_interval).ok_or(WrongWord::MaxInterval)?;
         let config = Config::new(shards, timeout, interval, max_interval).ok_or(WrongWord::Shards)?;
         let config = with_options(config, options).ok_or(WrongWord::Options)?;
         let config = with_limit(config, limit).ok_or(WrongWord::Limit)?;
         Ok(Arguments { config, workers })
+    }
+}
+
+// What stands behind this name in front of other words, where it does, and these words.
+fn named_in<'a, 'b>(name: &[u8], words: &'a [&'b [u8]]) -> (Option<&'b [u8]>, &'a [&'b [u8]])
+    ensures { (option_map (λ word. word.now) result.0, map (λ word. word.now) result.1.now) ≡ named_in name.now (map (λ word. word.now) words.now) }
+{
+    match words {
+        [word, next, words @ ..] if *word == name => (Some(*next), words),
+        _ => (None, words),
     }
 }
 

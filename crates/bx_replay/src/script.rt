@@ -1,10 +1,10 @@
-//! A run of the server over a script.
+//! A run of the server over a script, or over a record.
 ghost use Rattle.std.specs.Prelude.{◌≡◌, [], IfErr, IfOk, IfSome, OnErr};
 ghost use Rattle.bx_replay.specs.Serving.{IsAll, Prints, Serves, held_lines};
 ghost use Rattle.bx_script.specs.Replay.{replay_text};
 ghost use Rattle.bx_fanout.specs.Rounds.{setup_in};
 ghost use Rattle.bx_replay.specs.Faults.{IsReplayFault};
-ghost use Rattle.bx_script.specs.Lines.{unread};
+ghost use Rattle.bx_script.specs.Lines.{read_as, unread};
 ghost use Rattle.bx_script.specs.Output.{IsWriteFault, written};
 ghost use Rattle.bx_script.specs.Printing.{AppendsFront, Writes};
 
@@ -34,7 +34,7 @@ pub fn replay<T: Threads + Sync, P: Placing + Drop + Send + Sync, R: BufRead, W:
     writer: &mut Output<W>,
 ) -> Result<(), ScriptFault>
     ensures text { IfSome (unread R.remaining lines.old)
-        (λ script. Writes (written W.contents writer.old) (written W.contents writer.new) result (replay_text config script)) }
+        (λ script. Writes (written W.contents writer.old) (written W.contents writer.new) result (replay_text (read_as lines.old) config script)) }
     ensures reason { IfErr result (IsReplayFault lines.new writer.new) }
 {
     let own = placing.clone()?;
@@ -56,10 +56,10 @@ fn answer_all<T: Threads + Sync, P: Placing + Drop + Send + Sync, R: BufRead, W:
     requires none { server.lines ≡ [] }
     ensures serves { IfOk result (λ s. Serves s) }
     ensures config { IfOk result (λ s. (setup_in s.round).config ≡ (setup_in server.round).config) }
-    ensures all { IfOk result (λ s. IsAll (unread R.remaining lines.old) s.lines) }
+    ensures all { IfOk result (λ s. IsAll (read_as lines.old) (unread R.remaining lines.old) s.lines) }
     ensures prints { IfOk result (λ s. Prints (setup_in s.round).config [] s.lines (written W.contents writer.old) (written W.contents writer.new)) }
     ensures fault { OnErr result (IfSome (unread R.remaining lines.old) (λ script.
-        AppendsFront (written W.contents writer.old) (written W.contents writer.new) (replay_text (setup_in server.round).config script))) }
+        AppendsFront (written W.contents writer.old) (written W.contents writer.new) (replay_text (read_as lines.old) (setup_in server.round).config script))) }
     ensures reason { IfErr result (IsReplayFault lines.new writer.new) }
 {
     loop {

@@ -1,11 +1,11 @@
 //! What is wrong with the words that the program is called with.
 use std::fmt::{self, Display, Formatter, Write};
 
-/// What is wrong with the words that the program is called with: how many there are, or the first that does not say its
+/// What is wrong with the words that say how the program runs: how many there are, or one that does not say its
 /// argument.
 #[derive(Clone, Copy, Debug, PartialEq, Eq)]
 pub enum WrongWord {
-    /// There are fewer than five words, or more than nine.
+    /// There are fewer than five words, or more than seven, but for limits by their names.
     Count,
     /// How many shards there are.
     Shards,
@@ -25,13 +25,16 @@ pub enum WrongWord {
     Bytes,
     /// How many sessions may be live.
     Sessions,
+    /// How many patterns of a session may be in force.
+    Patterns,
 }
 
 impl Display for WrongWord {
     /// Writes what the word is called, and what it has to be.
     fn fmt<W: Write>(&self, f: &mut Formatter<W>) -> fmt::Result {
         f.write_str(match self {
-            WrongWord::Count => "there have to be five to nine words",
+            WrongWord::Count =>
+                "there have to be five to seven words, with --bytes, --sessions and --patterns before them if at all",
             WrongWord::Shards => "shards has to be a number from 1 to 64",
             WrongWord::Workers => "workers has to be a number from 1 to 16",
             WrongWord::Timeout => "timeout has to be a number from 0 to 4294967295",
@@ -41,6 +44,7 @@ impl Display for WrongWord {
             WrongWord::Limit => "limit has to be a number from 1 to 65536",
             WrongWord::Bytes => "bytes has to be -, or a number from 1 to 4294967295",
             WrongWord::Sessions => "sessions has to be a number from 1 to 65536",
+            WrongWord::Patterns => "patterns has to be a number from 1 to 1024",
         })
     }
 }

@@ -3,7 +3,7 @@
 use bx_advice::Config;
 use bx_entry::{AllFirst, ByRemainder, ByTable, Placing};
 use bx_replay::replay;
-use bx_script::{Lines, Output, ScriptFault};
+use bx_script::{Dialect, Lines, Output, ScriptFault};
 use bx_workers::WorkerCount;
 use std::alloc::Global;
 use std::io;
@@ -181,7 +181,7 @@ fn check_placed<R: Abort + Threads + Sync, P: Placing + Drop + Send + Sync>(
     (script, expected): (&str, &str),
 ) -> Result<(), Fail> {
     let mut written = Vec::new(alloc);
-    let mut lines = Lines::new(alloc, script.as_bytes());
+    let mut lines = Lines::new(alloc, Dialect::Script, script.as_bytes());
     let ended = replayed(
         rt,
         alloc,
@@ -291,7 +291,11 @@ fn check_read<R: Abort + Threads + Sync>(
     reads: usize,
 ) -> Result<bool, Fail> {
     let bytes = script.as_bytes();
-    let mut lines = Lines::new(alloc, BufReader::new(alloc, Reader { bytes, reads })?);
+    let mut lines = Lines::new(
+        alloc,
+        Dialect::Script,
+        BufReader::new(alloc, Reader { bytes, reads })?,
+    );
     let mut written = Vec::new(alloc);
     let ended = replayed(
         rt,
@@ -332,7 +336,7 @@ fn check_writer<R: Abort + Threads + Sync>(
     (script, right): (&str, &str),
     writer: &mut Writer,
 ) -> Result<bool, Fail> {
-    let mut lines = Lines::new(alloc, script.as_bytes());
+    let mut lines = Lines::new(alloc, Dialect::Script, script.as_bytes());
     let mut output = Output::new(&mut *writer);
     let ended = replayed(rt, alloc, ByRemainder, &mut lines, &mut output)?;
     Ok(is_whole(

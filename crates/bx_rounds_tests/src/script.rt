@@ -4,7 +4,7 @@ use bx_advice::BODY_LIMIT;
 use bx_entry::{Input, Refusal};
 use bx_message::{Sequence, Status, number_of};
 use bx_script::{
-    Line, Lines, Output, ScriptFault, write_bad, write_held, write_result, write_status,
+    Dialect, Line, Lines, Output, ScriptFault, write_bad, write_held, write_result, write_status,
 };
 use std::alloc::{AllocError, Global};
 use std::io;
@@ -52,8 +52,12 @@ fn told_input(alloc: Global, name: &str, input: &Input) -> Result<String, AllocE
 }
 
 // What the lines of a script say, each before a semicolon.
-fn all_told<R: BufRead>(alloc: Global, reader: &mut R) -> Result<String, ScriptFault> {
-    let mut lines = Lines::new(alloc, reader);
+fn all_told<R: BufRead>(
+    alloc: Global,
+    dialect: Dialect,
+    reader: &mut R,
+) -> Result<String, ScriptFault> {
+    let mut lines = Lines::new(alloc, dialect, reader);
     let mut text = String::new(alloc);
     for _ in 0..100 {
         match lines.next_line(alloc)? {
@@ -67,11 +71,16 @@ fn all_told<R: BufRead>(alloc: Global, reader: &mut R) -> Result<String, ScriptF
     Err(ScriptFault::Read)
 }
 
+// Lines of all kinds.
 const SCRIPT: &[u8] =
     b"0 P []\r\n0 T\r\n\0\n0 P \0\n\n000000000000000000000000000007 T\n100000000000000000000000000007 T\n T\n00 T\n1 G jsonp=cb&message=%5B%5D\n0 G \n0 S 0\n0 S 64\n0 S 65\n0 S 00000000000000000000000000001\n0 T\n2 F message=%5B%5D&jsonp=cb&message=+\n0 F \n0 F jsonp=cb\n0 F\n3 N 000000000000000000000000000000fF\n0 N 00000000000000000000000000000ff\n0 N 0000000000000000000000000000000ff\n0 N +00000000000000000000000000000ff\n0 N 000000000000000000000000000000fg\n0 N ffffffffffffffffffffffffffffffff\nA 7 4f53cda18c2baa0c0354bb5f9a3ecbe5ed12ab4d8e11ba873c2f11161202b945\nA 18446744073709551615 4F53CDA18C2BAA0C0354BB5F9A3ECBE5ED12AB4D8E11BA873C2F11161202B945\nA 007 4f53cda18c2baa0c0354bb5f9a3ecbe5ed12ab4d8e11ba873c2f11161202b945\nA 18446744073709551616 4f53cda18c2baa0c0354bb5f9a3ecbe5ed12ab4d8e11ba873c2f11161202b945\nA 7 4f53cda18c2baa0c0354bb5f9a3ecbe5ed12ab4d8e11ba873c2f11161202b94\nA 7 4f53cda18c2baa0c0354bb5f9a3ecbe5ed12ab4d8e11ba873c2f11161202b9450\nA 7 4f53cda18c2baa0c0354bb5f9a3ecbe5ed12ab4d8e11ba873c2f11161202b94g\nA 7\nA\nA  4f53cda18c2baa0c0354bb5f9a3ecbe5ed12ab4d8e11ba873c2f11161202b945\nA 4f53cda18c2baa0c0354bb5f9a3ecbe5ed12ab4d8e11ba873c2f11161202b945\nA 7  4f53cda18c2baa0c0354bb5f9a3ecbe5ed12ab4d8e11ba873c2f11161202b945\nA -7 4f53cda18c2baa0c0354bb5f9a3ecbe5ed12ab4d8e11ba873c2f11161202b945\n5 A 7 4f53cda18c2baa0c0354bb5f9a3ecbe5ed12ab4d8e11ba873c2f11161202b945\n0A 7 4f53cda18c2baa0c0354bb5f9a3ecbe5ed12ab4d8e11ba873c2f11161202b945";
 
 const TOLD: &str =
     "post 0 - |[]\r|;bad;bad;post 0 - |\0|;bad;tick 7;bad;bad;tick 0;post 1 cb |[]|;turned 400;bad;shards 64;bad;shards 1;tick 0;post 2 - |[]| | |;turned 400;turned 400;bad;nonce 255;bad;bad;bad;bad;nonce 340282366920938463463374607431768211455;note;note;note;bad;bad;bad;bad;bad;bad;bad;bad;bad;bad;bad;bad;";
+
+// The same where it is read as a script: what a record alone has is bad there.
+const TOLD_AS_SCRIPT: &str =
+    "post 0 - |[]\r|;bad;bad;post 0 - |\0|;bad;tick 7;bad;bad;tick 0;post 1 cb |[]|;turned 400;bad;shards 64;bad;shards 1;tick 0;bad;bad;bad;bad;bad;bad;bad;bad;bad;bad;bad;bad;bad;bad;bad;bad;bad;bad;bad;bad;bad;bad;bad;bad;bad;";
 
 // Gives one byte a read, and a fault in place of the read of a number.
 #[derive(Drop)]
@@ -98,14 +107,14 @@ impl Read for Slow {
     }
 }
 
-// The script says this, or is not read, where this reader reads it.
+// The record says this, or is not read, where this reader reads it.
 fn check_told<R: BufRead>(
     rt: &impl Abort,
     alloc: Global,
     reader: &mut R,
     wanted: Result<&str, ScriptFault>,
 ) {
-    match &all_told(alloc, reader) {
+    match &all_told(alloc, Dialect::Recorded, reader) {
         Ok(text) => same(rt, Ok(text.as_str()), wanted, "a script"),
         Err(fault) => same(rt, Err(*fault), wanted, "a script"),
     }
@@ -128,6 +137,9 @@ fn lines_say_what_they_say(rt: HostRuntime) -> Result<(), Fail> {
     let alloc = rt.alloc();
     let mut all = SCRIPT;
     check_told(&rt, alloc, &mut all, Ok(TOLD));
+    let mut script = SCRIPT;
+    let told = all_told(alloc, Dialect::Script, &mut script)?;
+    same(&rt, told.as_str(), TOLD_AS_SCRIPT, "a script");
     let mut none: &[u8] = b"";
     check_told(&rt, alloc, &mut none, Ok(""));
     check_slowly(&rt, alloc, None, Ok(TOLD))?;
@@ -142,7 +154,7 @@ fn lines_say_what_they_say(rt: HostRuntime) -> Result<(), Fail> {
 
 // How many lines a script has, where each is handed on.
 fn handed(alloc: Global, script: &str) -> Result<Option<u32>, ScriptFault> {
-    let mut lines = Lines::new(alloc, script.as_bytes());
+    let mut lines = Lines::new(alloc, Dialect::Script, script.as_bytes());
     for count in 0..5_001 {
         match lines.next_line(alloc)? {
             Some(Line::Accepted { .. }) => {}

@@ -4,7 +4,7 @@ use Rattle.bx_fanout.specs.Rounds.{setup_in}
 use Rattle.bx_script.specs.declared.line.Line.{Line}
 use Rattle.bx_replay.proofs.Steps.{number_more, prints_more, prints_none, reads_end, reads_more, reads_none}
 use Rattle.bx_replay.proofs.Fronts.{prints_all, prints_some, whole_front}
-use Rattle.bx_script.specs.Words.{written, unread}
+use Rattle.bx_script.specs.Words.{read_as, written, unread}
 use Rattle.bx_replay.proofs.script.answer_all.Goals as goal
 use Rattle.bx_fanout.proofs.TakingIn.{on-err}
 
@@ -14,8 +14,9 @@ loop-server-init g c =
     record {
       serves = c.requires.serves;
       config = refl;
+      dialect = refl;
       number = omega (arith, c.requires.serves.served.number_is ∙ ap (λ (ls : List Line). length (seen_lines ls)) c.requires.none, c.args.lines.now.reads.few);
-      reads = reads_none (unread g.R.Read.remaining c.args.lines.now) s.lines c.requires.none;
+      reads = reads_none (read_as c.args.lines.now) (unread g.R.Read.remaining c.args.lines.now) s.lines c.requires.none;
       prints = prints_none (setup_in s.round).config s.lines (written g.W.Write.contents c.args.writer.now) c.requires.none;
     }
 
@@ -27,7 +28,7 @@ returns-in_default-clause-config g c = c.loop-server.invariant.config
 
 pub returns-in_default-clause-all : goal.returns-in_default-clause-all
 returns-in_default-clause-all g c =
-    reads_end (unread g.R.Read.remaining c.args.lines.now) (unread g.R.Read.remaining c.loop-server.lines) (unread g.R.Read.remaining c.next_line.new.self) c.loop-server.server.lines c.in_ok-line.field-0 c.in_default.is c.loop-server.invariant.reads c.in_ok-line.ensures.next
+    reads_end (read_as c.args.lines.now) (read_as c.loop-server.lines) (unread g.R.Read.remaining c.args.lines.now) (unread g.R.Read.remaining c.loop-server.lines) (unread g.R.Read.remaining c.next_line.new.self) c.loop-server.server.lines c.in_ok-line.field-0 c.loop-server.invariant.dialect c.in_default.is c.loop-server.invariant.reads c.in_ok-line.ensures.next
 
 pub returns-in_default-clause-prints : goal.returns-in_default-clause-prints
 returns-in_default-clause-prints g c = c.loop-server.invariant.prints
@@ -47,8 +48,9 @@ loop-server-preserved g c =
     record {
       serves = e.serves;
       config = e.config ∙ i.config;
+      dialect = c.in_ok-line.ensures.dialect ∙ i.dialect;
       number = omega (arith, i.number, number_more old.number new.number old.lines new.lines c.in-Some.line e.lines i.serves.served.number_is e.serves.served.number_is, c.in_ok-line.ensures.reads);
-      reads = reads_more (unread g.R.Read.remaining c.args.lines.now) (unread g.R.Read.remaining c.loop-server.lines) (unread g.R.Read.remaining c.next_line.new.self) old.lines new.lines c.in_ok-line.field-0 c.in-Some.line c.in-Some.is e.lines i.reads c.in_ok-line.ensures.next;
+      reads = reads_more (read_as c.args.lines.now) (read_as c.loop-server.lines) (unread g.R.Read.remaining c.args.lines.now) (unread g.R.Read.remaining c.loop-server.lines) (unread g.R.Read.remaining c.next_line.new.self) old.lines new.lines c.in_ok-line.field-0 c.in-Some.line i.dialect c.in-Some.is e.lines i.reads c.in_ok-line.ensures.next;
       prints = prints_more (setup_in old.round).config (setup_in new.round).config old.lines new.lines (written g.W.Write.contents c.args.writer.now) (written g.W.Write.contents c.loop-server.writer) (written g.W.Write.contents c.answer.new.writer) e.config i.prints e.prints;
     }
 
@@ -60,7 +62,7 @@ returns-in_err-line-clause-fault g c =
     let first = written g.W.Write.contents c.args.writer.now in
     let before = written g.W.Write.contents c.loop-server.writer in
     on-err c.from_residual.result
-    (whole_front (setup_in c.args.server.round).config config (unread g.R.Read.remaining c.args.lines.now) (unread g.R.Read.remaining c.loop-server.lines) s.lines first before i.config config.limits.some_batch i.reads
+    (whole_front (read_as c.args.lines.now) (setup_in c.args.server.round).config config (unread g.R.Read.remaining c.args.lines.now) (unread g.R.Read.remaining c.loop-server.lines) s.lines first before i.config config.limits.some_batch i.reads
     (prints_all config s.lines first before i.prints))
 
 pub returns-in_err-server-clause-fault : goal.returns-in_err-server-clause-fault
@@ -73,6 +75,6 @@ returns-in_err-server-clause-fault g c =
     let before = written g.W.Write.contents c.loop-server.writer in
     let after = written g.W.Write.contents c.answer.new.writer in
     on-err c.from_residual-in_err-server.result
-    (whole_front (setup_in c.args.server.round).config config (unread g.R.Read.remaining c.args.lines.now) (unread g.R.Read.remaining c.next_line.new.self) (s.lines ++ line ∷ []) first after i.config config.limits.some_batch
-    (reads_more (unread g.R.Read.remaining c.args.lines.now) (unread g.R.Read.remaining c.loop-server.lines) (unread g.R.Read.remaining c.next_line.new.self) s.lines (s.lines ++ line ∷ []) c.in_ok-line.field-0 line c.in-Some.is refl i.reads c.in_ok-line.ensures.next)
+    (whole_front (read_as c.args.lines.now) (setup_in c.args.server.round).config config (unread g.R.Read.remaining c.args.lines.now) (unread g.R.Read.remaining c.next_line.new.self) (s.lines ++ line ∷ []) first after i.config config.limits.some_batch
+    (reads_more (read_as c.args.lines.now) (read_as c.loop-server.lines) (unread g.R.Read.remaining c.args.lines.now) (unread g.R.Read.remaining c.loop-server.lines) (unread g.R.Read.remaining c.next_line.new.self) s.lines (s.lines ++ line ∷ []) c.in_ok-line.field-0 line i.dialect c.in-Some.is refl i.reads c.in_ok-line.ensures.next)
     (prints_some config s.lines (s.lines ++ line ∷ []) first before after i.prints c.in_err-server.ensures.fault))

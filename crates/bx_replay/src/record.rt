@@ -1,0 +1,63 @@
+//! The first line of a record.
+ghost use Rattle.std.specs.List.{slice_split};
+ghost use Rattle.std.specs.Prelude.{◌≡◌, IfOk, IfSome, OnOk, Some, map, position};
+ghost use Rattle.bx_replay.specs.Arguments.{said_by};
+ghost use Rattle.bx_replay.specs.Records.{recorded_settings};
+ghost use Rattle.bx_script.specs.Words.{first_of, is_newline, is_space, rest_of};
+
+use crate::arguments::Arguments;
+use crate::wrong_word::WrongWord;
+use bx_script::ScriptFault;
+use std::alloc::{AllocError, Global};
+use std::io::BufRead;
+
+/// Reads the first line of a record, and says what its words, which have a space between them, come to. The reader stands
+/// behind the line then: what is left are the lines of what the server took in. A fault is `Memory`, or `Read` where a read
+/// failed.
+pub fn read_settings<R: BufRead>(
+    alloc: Global,
+    reader: &mut R,
+) -> Result<Result<Arguments, WrongWord>, ScriptFault>
+    ensures said { IfOk result (λ read. IfSome (R.remaining reader.old) (λ text. said_by read ≡ recorded_settings text)) }
+    ensures left { OnOk result (IfSome (R.remaining reader.old) (λ text. R.remaining reader.new ≡ Some (rest_of text))) }
+{
+    let line = read_line(alloc, reader)?;
+    let words = words_of(alloc, first_line(line.as_slice()))?;
+    Ok(Arguments::read(&words))
+}
+
+// The first line with its end, if it has one.
+fn read_line<R: BufRead>(alloc: Global, reader: &mut R) -> Result<Vec<u8>, ScriptFault>
+    ensures line { IfOk result (λ line. IfSome (R.remaining reader.old) (λ text. first_of line.items ≡ first_of text)) }
+    ensures left { OnOk result (IfSome (R.remaining reader.old) (λ text. R.remaining reader.new ≡ Some (rest_of text))) }
+{
+    let mut line = Vec::new(alloc);
+    match reader.read_until(b'\n', &mut line) {
+        Ok(_) => Ok(line),
+        Err(error) => Err(ScriptFault::of_read(&error)),
+    }
+}
+
+// What stands before the first line end, or all where there is none.
+fn first_line(text: &[u8]) -> &[u8]
+    ensures { result.now ≡ first_of text.now }
+{
+    match end_in(text) {
+        Some(end) => &text[..end],
+        None => text,
+    }
+}
+
+// The index of the first line end.
+fn end_in(text: &[u8]) -> Option<usize>
+    ensures { result ≡ position is_newline text.now }
+{
+    text.iter().position(|byte| *byte == b'\n')
+}
+
+// The words of a line, which have a space between them.
+fn words_of(alloc: Global, line: &[u8]) -> Result<Vec<&[u8]>, AllocError>
+    ensures { IfOk result (λ words. map (λ word. word.now) words.items ≡ slice_split is_space line.now) }
+{
+    line.split(|byte| *byte == b' ').collect(alloc)
+}
