@@ -2,6 +2,7 @@
 import os
 import pathlib
 import shutil
+import signal
 import subprocess
 import sys
 import tempfile
@@ -93,7 +94,7 @@ class Room:
 
     def __init__(self, root):
         self.root = pathlib.Path(root)
-        self.processes = []
+        self.processes, self.service = [], None
         subprocess.run(["ip", "link", "set", "lo", "up"], check=True)
         subprocess.run(["mount", "-t", "proc", "proc", self.root / "proc"], check=True)
 
@@ -111,9 +112,15 @@ class Room:
 
     def start(self, script, user=None):
         """Starts a script that goes on."""
-        process = subprocess.Popen(self.words(script, user), cwd="/", stdin=subprocess.DEVNULL, stdout=subprocess.PIPE, text=True)
+        how = {"cwd": "/", "stdin": subprocess.DEVNULL, "stdout": subprocess.PIPE, "text": True, "start_new_session": True}
+        process = subprocess.Popen(self.words(script, user), **how)
         self.processes.append(process)
         return process
+
+    def stop(self, process):
+        """Ends what was started as systemd stops a unit, by a signal to all its processes, and returns the status of the first."""
+        os.killpg(process.pid, signal.SIGTERM)
+        return process.wait(PATIENCE)
 
     def serve(self):
         """Starts bayeuxd as the service's unit says, as a user without rights, and waits until it listens. No systemd runs here."""
@@ -124,6 +131,7 @@ class Room:
         line = process.stdout.readline()
         if not line.startswith("listening "):
             raise Wrong(f"the service does not listen: {line!r}")
+        self.service = process
         return process
 
     def write(self, path, text):
