@@ -25,6 +25,15 @@ class Ended(Wrong):
     """The connection ended before the answer did."""
 
 
+def is_there():
+    """Returns whether this machine has a loopback."""
+    try:
+        with socket.create_server(("127.0.0.1", 0)) as listener, socket.create_connection(listener.getsockname()):
+            return True
+    except OSError:
+        return False
+
+
 class Daemon:
     """A running daemon, with the times in milliseconds and the further words that it was started with."""
 
