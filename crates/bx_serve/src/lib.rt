@@ -8,6 +8,8 @@ mod patience;
 mod patient;
 mod peer;
 mod spawn_each;
+#[cfg(test)]
+mod tests;
 
 pub use connections::Connections;
 pub use listen::{serve_connections, serve_until};

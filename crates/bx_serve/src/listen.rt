@@ -26,10 +26,14 @@ const PAUSE: u64 = 20;
 // choice.)
 const PATIENCE: u64 = 30_000;
 
+// How long a body may take to be whole, from the first wait for more of it on, in milliseconds. (This server's choice.)
+const WHOLE: u64 = 300_000;
+
 /// Serves so many connections of the listener over HTTP, each as a task of the runtime, and ends once they have come and
-/// have ended. 0 is any number. A head has 30 seconds to come; a body fails where nothing comes of it for 30 seconds, and a
-/// connection whose peer takes nothing of what is written for as long. A connection for which there is no memory is dropped, and
-/// the next one is served. `Err` where there is no memory to begin with, or the system refuses the runtime a call.
+/// have ended. 0 is any number. A head has 30 seconds to come; a body fails where nothing comes of it for 30 seconds, or where it is not
+/// whole within five minutes, and a connection whose peer takes nothing of what is written for 30 seconds. A connection for which there
+/// is no memory is dropped, and the next one is served. `Err` where there is no memory to begin with, or the system refuses the runtime
+/// a call.
 pub fn serve_connections<R, S, E>(
     rt: R,
     runtime: &mut Runtime,
@@ -95,6 +99,7 @@ where
         service,
         timer,
         limit: Duration::from_millis(PATIENCE),
+        whole: Duration::from_millis(WHOLE),
     };
     Ok(Connections::new(*rt, listener.incoming(), maker, count, pause))
 }

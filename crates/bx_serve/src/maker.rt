@@ -58,7 +58,7 @@ pub type Served<R> = Peer<TcpStream, TokioTimer<R>>;
 pub type Coming<R> = Patient<Incoming<Served<R>>, Option<TokioTimer<R>>>;
 
 /// Serves each connection over HTTP, by a service of its own. It waits no longer than `limit` at a time for more of a body, or for
-/// the peer to take more of what is written.
+/// the peer to take more of what is written, and no longer than `whole` until a body is whole.
 #[derive(Drop)]
 pub struct Server<R, S> {
     /// Serves one connection, with a timer for its heads.
@@ -69,6 +69,8 @@ pub struct Server<R, S> {
     pub timer: TokioTimer<R>,
     /// How long a wait for more of a body, or for the peer, may last.
     pub limit: Duration,
+    /// How long a body may take to be whole, from the first wait for more of it on.
+    pub whole: Duration,
 }
 
 impl<R, S, E> Maker for Server<R, S>
@@ -89,8 +91,9 @@ where
             service: self.service.clone().ok()?,
             timer: self.timer.clone().ok()?,
             limit: self.limit,
+            whole: self.whole,
         };
-        let patience = Patience::new(self.timer.clone().ok()?, self.limit);
+        let patience = Patience::new(self.timer.clone().ok()?, self.limit, None);
         let peer = Peer::new(socket, patience);
         Some(Quiet {
             inner: self.http.serve_connection(peer, service),

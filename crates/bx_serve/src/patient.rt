@@ -19,12 +19,12 @@ use std::time::Duration;
 pub enum PatientFault<E> {
     /// The body failed by itself.
     Body(E),
-    /// Nothing came of it for as long as it is waited for.
+    /// Nothing came of it for as long as it is waited for, or it was not whole in time.
     Late,
 }
 
-/// A body that fails where nothing comes of it for as long as it is waited for, counted anew from each frame. Where the clock
-/// cannot be read, or there is no memory for a timer, it fails as soon as it would wait.
+/// A body that fails where nothing comes of it for as long as it is waited for, counted anew from each frame, or where it is not
+/// whole in time. Where the clock cannot be read, or there is no memory for a timer, it fails as soon as it would wait.
 #[derive(Drop)]
 pub struct Patient<B, T> {
     body: B,
@@ -83,6 +83,8 @@ pub struct Patiently<S, T> {
     pub timer: T,
     /// How long it may bring nothing.
     pub limit: Duration,
+    /// How long it may take to be whole, from the first wait for more of it on.
+    pub whole: Duration,
 }
 
 impl<S, T, B> Service<Request<B>> for Patiently<S, T>
@@ -104,7 +106,7 @@ where
 
     fn call(&self, request: Request<B>) -> S::Future {
         let (parts, body) = request.into_parts();
-        let patience = Patience::new(self.timer.clone().ok(), self.limit);
+        let patience = Patience::new(self.timer.clone().ok(), self.limit, Some(self.whole));
         self.service
             .call(Request::from_parts(parts, Patient::new(body, patience)))
     }
