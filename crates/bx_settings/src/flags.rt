@@ -23,6 +23,8 @@ const LIMIT: &str = "a number from 1 to 65536";
 
 const BYTES: &str = "a number from 1 to 4294967295";
 
+const PATTERNS: &str = "a number from 1 to 1024";
+
 const BODY: &str = "a number from 1 to 1048576";
 
 const CONNECTIONS: &str = "a number";
@@ -89,6 +91,9 @@ fn read_config(
     };
     let Some(config) = with_number(config, matches, "bytes", |it, n| it.with_bytes(n)) else {
         return Err(wrong(alloc, command, matches, "bytes", "N", BYTES)?);
+    };
+    let Some(config) = with_number(config, matches, "patterns", |it, n| it.with_patterns(n)) else {
+        return Err(wrong(alloc, command, matches, "patterns", "N", PATTERNS)?);
     };
     match with_number(config, matches, "sessions", |it, n| it.with_sessions(n)) {
         Some(config) => Ok(config),
@@ -182,7 +187,7 @@ fn command<'a>(alloc: Global) -> Result<Command<'a>, AllocError> {
         .version(VERSION)
         .no_binary_name(true);
     let command = with_times(alloc, with_server(alloc, command)?)?;
-    with_running(alloc, with_events(alloc, command)?)
+    with_running(alloc, with_options(alloc, with_limits(alloc, command)?)?)
 }
 
 // With the flags of the server as a whole.
@@ -231,8 +236,8 @@ fn with_times<'a>(alloc: Global, command: Command<'a>) -> Result<Command<'a>, Al
         ))
 }
 
-// With those of events.
-fn with_events<'a>(alloc: Global, command: Command<'a>) -> Result<Command<'a>, AllocError> {
+// With those of the limits.
+fn with_limits<'a>(alloc: Global, command: Command<'a>) -> Result<Command<'a>, AllocError> {
     command
         .arg(value(
             alloc,
@@ -248,6 +253,12 @@ fn with_events<'a>(alloc: Global, command: Command<'a>) -> Result<Command<'a>, A
         ))?
         .arg(value(
             alloc,
+            "patterns",
+            "N",
+            "How many patterns may be in force for a session, 1 to 1024 [default: 1024]",
+        ))?
+        .arg(value(
+            alloc,
             "sessions",
             "N",
             "How many sessions may be live, 1 to 65536 [default: 65536]",
@@ -257,7 +268,12 @@ fn with_events<'a>(alloc: Global, command: Command<'a>) -> Result<Command<'a>, A
             "body",
             "N",
             "How many bytes the body or the query of a request may have, 1 to 1048576 [default: 1048576]",
-        ))?
+        ))
+}
+
+// With those of the options.
+fn with_options<'a>(alloc: Global, command: Command<'a>) -> Result<Command<'a>, AllocError> {
+    command
         .arg(switch(
             alloc,
             "ride",

@@ -1,6 +1,7 @@
 use crate::flags::read_flags;
 use crate::seed::read_digits;
 use crate::time::milliseconds;
+use clap::Error;
 use clap::error::ErrorKind;
 use std::alloc::{AllocError, Global};
 use std::test::Fail;
@@ -53,6 +54,42 @@ fn owned(alloc: Global, words: &[&str]) -> Result<Vec<String>, AllocError> {
         owned.push(String::from_str(alloc, *word)?)?;
     }
     Ok(owned)
+}
+
+// The text of an error.
+fn text_of(alloc: Global, error: &Error) -> Result<String, AllocError> {
+    format!(in alloc; "{error}")
+}
+
+#[test]
+fn patterns_are_1_to_1024(rt: HostRuntime) -> Result<(), Fail> {
+    let alloc = rt.alloc();
+    for (words, patterns) in [
+        (&[][..], 1_024),
+        (&["--patterns", "1"][..], 1),
+        (&["--patterns=2"][..], 2),
+        (&["--patterns", "1024"][..], 1_024),
+    ] {
+        let words = owned(alloc, words)?;
+        let settings = read_flags(alloc, words.as_slice(), 1).map_err(|_| "no settings")?;
+        assert_eq!(rt; settings.config.limits.patterns, patterns);
+    }
+    for value in ["0", "1025", "4294967297", "two", "-1", ""] {
+        let word = format!(in alloc; "--patterns={value}")?;
+        let words = owned(alloc, &[word.as_str()])?;
+        match read_flags(alloc, words.as_slice(), 1) {
+            Ok(_) => return Err("patterns out of their range".into()),
+            Err(error) => {
+                let text = text_of(alloc, &error)?;
+                let said = format!(in alloc;
+                    "'{value}' for '--patterns <N>': a number from 1 to 1024"
+                )?;
+                assert!(rt; text.contains(said.as_str()), "{text}");
+                assert_eq!(rt; error.exit_code(), 2);
+            }
+        }
+    }
+    Ok(())
 }
 
 #[test]
