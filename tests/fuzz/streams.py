@@ -8,7 +8,7 @@ from daemon import Connection, Ended, Wrong, post
 from documents import LIMIT, check_post, check_status, document, messages_of
 
 # What may be answered to bytes of any kind.
-STATUSES = {200, 400, 404, 405, 413, 414, 431}
+STATUSES = {200, 400, 404, 405, 413, 414, 431, 501}
 HEADS = [
     *(b"GET", b"GET /", b"GET / HTTP/1.1", b"GET / HTTP/1.1\r\n", b"GET / HTTP/1.1\r\nhost: h\r\n", b"POST /cometd HTTP/9.9\r\n\r\n"),
     *(b"POST /cometd HTTP/1.1\r\n\r\n", b"GET /\x00 HTTP/1.1\r\nhost: h\r\n\r\n", b" GET / HTTP/1.1\r\nhost: h\r\n\r\n", b"\r\n\r\n\r\n"),

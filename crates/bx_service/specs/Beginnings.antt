@@ -61,6 +61,6 @@ module _ {I B : Type 0} where
   BeginsAs routes.Get limit head body state = IsAsking limit (unwrap_or (uri_query head.uri) []) state
   BeginsAs (routes.Refused status) limit head body state = state ≡ Refused status
 
-  -- the state of a request that has just come to a service with this limit, by its method and its path
+  -- the state of a request that has just come to a service with this limit, by its method, its path and its fields
   abbrev pub Begins : ℕ → Parts → B → State I B → Type 0
-  Begins limit head body state = BeginsAs (route_of head.method (uri_path head.uri)) limit head body state
+  Begins limit head body state = BeginsAs (route_of head.method (uri_path head.uri) head.headers) limit head body state

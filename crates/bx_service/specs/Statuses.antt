@@ -1,6 +1,8 @@
 -- The statuses of requests.
-use Rattle.std.specs.Prelude.{ℕ, List, Bool, ◌||◌, nat_eq, codes, if◌then◌else◌}
-use Rattle.std.specs.{List.starts_with, Str.bytes_eq}
+use Rattle.std.specs.Prelude.{ℕ, List, [], ◌∷◌, Bool, true, false, ◌||◌, nat_eq, codes, if◌then◌else◌}
+use Rattle.std.specs.{List.starts_with, Str.bytes_eq, Str.str_eq_ignore_ascii_case}
+use Rattle.http_header.specs.FieldValue.{FieldValue}
+use Rattle.http_header.specs.HeaderMap.{Entries, get_all}
 use Rattle.bx_service.specs.declared.collect.CollectError.{CollectError}
 use Rattle.bx_service.specs.declared.collect.CollectError.TheVariants as bodies
 use Rattle.bx_entry.specs.Statuses.{refusal_status}
@@ -8,7 +10,7 @@ use Rattle.bx_entry.specs.declared.input.Refusal.TheVariants as refusals
 use Rattle.bx_hub.specs.declared.fault.PostFault.{PostFault}
 use Rattle.bx_hub.specs.declared.fault.PostFault.TheVariants as posts
 use Rattle.bx_message.specs.declared.status.Status.{Status}
-use Rattle.bx_message.specs.declared.status.Status.TheVariants.{BadRequest, NotFound, MethodNotAllowed, Unavailable}
+use Rattle.bx_message.specs.declared.status.Status.TheVariants.{BadRequest, NotFound, MethodNotAllowed, NotImplemented, Unavailable}
 use Rattle.bx_transport.specs.Statuses.{transport_status}
 use Rattle.bx_transport.specs.declared.error.TransportError.TheVariants as transports
 use Rattle.bx_service.specs.declared.route.Route.{Route}
@@ -18,10 +20,21 @@ use Rattle.bx_service.specs.declared.route.Route.TheVariants as routes
 abbrev pub is_served : List ℕ → Bool
 is_served path = bytes_eq path (codes "/cometd") || starts_with nat_eq path (codes "/cometd/")
 
--- how a request of this method for this path is served
-abbrev pub route_of : List ℕ → List ℕ → Route
-route_of method path =
-    if is_served path then (if bytes_eq method (codes "POST") then routes.Post else (if bytes_eq method (codes "GET") then routes.Get else routes.Refused MethodNotAllowed))
+-- whether these values name no transfer coding but `chunked`, and that but once, whatever the case of its letters
+abbrev pub are_plain : List FieldValue → Bool
+are_plain [] = true
+are_plain (value ∷ []) = str_eq_ignore_ascii_case value.bytes (codes "chunked")
+are_plain (value ∷ other ∷ values) = false
+
+-- a route, but where the fields name a transfer coding besides that one
+abbrev pub unless_coded : Entries FieldValue → Route → Route
+unless_coded fields route = if are_plain (get_all fields (codes "transfer-encoding")) then route else routes.Refused NotImplemented
+
+-- how a request of this method for this path, with these fields, is served
+abbrev pub route_of : List ℕ → List ℕ → Entries FieldValue → Route
+route_of method path fields =
+    if is_served path then (if bytes_eq method (codes "POST") then unless_coded fields routes.Post
+    else (if bytes_eq method (codes "GET") then unless_coded fields routes.Get else routes.Refused MethodNotAllowed))
     else routes.Refused NotFound
 
 -- of a POST whose body is not collected: where it is too large, and for want of memory, as its transport has it

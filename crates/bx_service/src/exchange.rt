@@ -89,7 +89,7 @@ impl<I: Future, B: Body> State<I, B> {
         ensures again { CanPoll I.can_poll B.can_poll result }
         ensures begins { Begins limit parts body result }
     {
-        match Route::of(&parts.method, parts.uri.path()) {
+        match Route::of(&parts.method, parts.uri.path(), &parts.headers) {
             Route::Refused(status) => State::Refused(status),
             Route::Get => State::asking(alloc, limit, parts.uri.query()),
             Route::Post if says_more(limit, parts.headers.get(CONTENT_LENGTH)) => {

@@ -87,6 +87,13 @@ fn asked(step: &Step) -> Option<(Ask, Want)> {
             },
             *want,
         )),
+        Step::Coded(codings, want) => Some((
+            Ask {
+                codings: *codings,
+                ..Ask::post(Content::Whole("[]"))
+            },
+            *want,
+        )),
         Step::Target(method, target, want) => Some((
             Ask {
                 method: *method,

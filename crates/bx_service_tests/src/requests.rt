@@ -5,7 +5,7 @@ use bytes::Bytes;
 use futures::Future;
 use futures::task::Poll;
 use futures::test::MockTask;
-use http::header::{ALLOW, CONTENT_LENGTH, CONTENT_TYPE};
+use http::header::{ALLOW, CONTENT_LENGTH, CONTENT_TYPE, TRANSFER_ENCODING};
 use http::{Request, Response};
 use std::alloc::Global;
 use std::process::Abort;
@@ -41,6 +41,8 @@ pub struct Ask {
     pub kind: &'static str,
     /// How many bytes its fields say that the body has.
     pub said: Option<u64>,
+    /// The lines of its transfer codings.
+    pub codings: &'static [&'static str],
     pub content: Content,
 }
 
@@ -50,6 +52,7 @@ pub const POST: Ask = Ask {
     target: "/cometd",
     kind: JSON,
     said: None,
+    codings: &[],
     content: Content::Whole(""),
 };
 
@@ -84,6 +87,9 @@ impl Ask {
             .header(CONTENT_TYPE, self.kind);
         if let Some(said) = self.said {
             builder = builder.header(CONTENT_LENGTH, said);
+        }
+        for coding in self.codings {
+            builder = builder.header(TRANSFER_ENCODING, *coding);
         }
         Ok(builder.body(body).map_err(|_| "no request")?)
     }

@@ -12,6 +12,8 @@ pub enum Step {
     Body(&'static str, &'static str, Want),
     /// A request of this method and target, without a body, is given this.
     Target(&'static str, &'static str, Want),
+    /// A POST of `[]` with these lines of its transfer codings is given this.
+    Coded(&'static [&'static str], Want),
     /// A request is given this.
     Ask(Ask, Want),
     /// A request to a service that takes [`SMALL`] bytes is given this.
@@ -72,6 +74,8 @@ const PUBLISH: Step = Step::Post(texts::PUBLISH, texts::PUBLISHED);
 const BAD: Want = Want::Status(400);
 
 const TOO_LARGE: Want = Want::Status(413);
+
+const CODED: Want = Want::Status(501);
 
 /// How many bytes a body or a query may have where the limit is small.
 pub const SMALL: usize = 16;
@@ -185,7 +189,7 @@ const ANSWERED: Run = Run {
     ride: false,
 };
 
-// Paths and methods that are not served, bodies and queries without messages, a body at its limit and beyond it, one that is
+// Paths, methods and transfer codings that are not served, bodies and queries without messages, a body at its limit and beyond it, one that is
 // said to be beyond it before any of it came, and a moment that is too great: what is refused opens no session.
 const REFUSED: Run = Run {
     first: &[
@@ -195,6 +199,50 @@ const REFUSED: Run = Run {
         Step::Target("PUT", "/cometdx", Want::Status(404)),
         Step::Target("PUT", "/cometd", Want::Status(405)),
         Step::Target("DELETE", "/cometd/connect", Want::Status(405)),
+        Step::Coded(&["chunked"], Want::Json("[]")),
+        Step::Coded(&["CHUNKed"], Want::Json("[]")),
+        Step::Coded(&["gzip, chunked"], CODED),
+        Step::Coded(&["gzip"], CODED),
+        Step::Coded(&["identity"], CODED),
+        Step::Coded(&["chunke"], CODED),
+        Step::Coded(&[""], CODED),
+        Step::Coded(&["gzip", "chunked"], CODED),
+        Step::Coded(&["chunked", "gzip"], CODED),
+        Step::Coded(&["chunked", "chunked"], CODED),
+        Step::Coded(&["gzip", "br", "chunked"], CODED),
+        Step::Ask(
+            Ask {
+                method: "GET",
+                target: "/cometd?message=[]",
+                codings: &["gzip, chunked"],
+                ..POST
+            },
+            CODED,
+        ),
+        Step::Ask(
+            Ask {
+                target: "/cometdx",
+                codings: &["gzip, chunked"],
+                ..POST
+            },
+            Want::Status(404),
+        ),
+        Step::Ask(
+            Ask {
+                method: "PUT",
+                codings: &["gzip, chunked"],
+                ..POST
+            },
+            Want::Status(405),
+        ),
+        Step::Ask(
+            Ask {
+                said: Some(BODY_LIMIT as u64 + 1),
+                codings: &["gzip, chunked"],
+                ..POST
+            },
+            CODED,
+        ),
         Step::Target("GET", "/cometd", BAD),
         Step::Target("GET", "/cometd?jsonp=cb", BAD),
         Step::Target("GET", "/cometd?message=[]&jsonp=a(b", BAD),
