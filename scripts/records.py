@@ -1,7 +1,7 @@
 """The lines of a record, and the program that answers them again.
 
-A record is bytes, of which a newline alone ends a line. Its first line has the words that the program is run with, and each other one
-is of its script.
+A record is bytes, of which a newline alone ends a line. Its first line says how the server was run, and each other one what it took in
+or answered.
 """
 import contextlib
 import json
@@ -15,7 +15,7 @@ from collections import namedtuple
 
 TOP = os.path.dirname(os.path.dirname(os.path.realpath(__file__)))
 REPLAY = os.environ.get("REPLAY", f"{TOP}/crates/bayeux_replay/out/bayeux_replay")
-FIRST = re.compile(rb"[0-9]+(?: [0-9]+){4}(?: (?:-|r|a|ra)(?: [0-9]+(?: (?:-|[0-9]+)(?: [0-9]+)?)?)?)?")
+FIRST = re.compile(rb"(?:--bytes (?:-|[0-9]+) )?(?:--sessions [0-9]+ )?(?:--patterns [0-9]+ )?[0-9]+(?: [0-9]+){4}(?: (?:-|r|a|ra)(?: [0-9]+)?)?")
 # A tick, a request, a number of shards, a nonce; and the answer that a server gave.
 LINE = re.compile(rb"([0-9]+) (?:(T)|([PFGSN]) (.*))", re.DOTALL)
 ANSWER = re.compile(rb"A ([0-9]{1,20}) ([0-9A-Fa-f]{64})")
@@ -158,8 +158,8 @@ class Source:
         # How many bytes the lines have that were read so far.
         self.read = 0
 
-    def words(self):
-        """Returns the words of the first line."""
+    def begin(self):
+        """Returns the first line."""
         first = b""
         while b"\n" not in first and len(first) < 200:
             data = self.block(200 - len(first))
@@ -170,7 +170,7 @@ class Source:
         if not end or not FIRST.fullmatch(line):
             raise Refused(f"{self.path} has no first line that says how a server is run")
         self.read = len(line) + 1
-        return line.decode("ascii").split(" ")
+        return line
 
     def size(self):
         """Returns how long the file is."""
@@ -253,17 +253,18 @@ class Printed:
 
 
 class Replay:
-    """The running program."""
+    """The running program, which was given the first line of a record."""
 
-    def __init__(self, words, output=subprocess.PIPE):
+    def __init__(self, first, output=subprocess.PIPE):
         try:
             # (A signal to stop is for who reads what it prints.)
-            self.process = subprocess.Popen([REPLAY, *words], stdin=subprocess.PIPE, stdout=output, start_new_session=output is subprocess.PIPE)
+            self.process = subprocess.Popen([REPLAY, "--record", "-"], stdin=subprocess.PIPE, stdout=output, start_new_session=output is subprocess.PIPE)
         except OSError as error:
             raise Refused(f"{REPLAY} does not start: {error.strerror}") from error
         self.printed, self.feeder = Printed(), None
         # Why it was not given all; whether it was ended before it was done.
         self.failed, self.is_killed = None, False
+        self.write(first + b"\n")
 
     def write(self, data):
         """Gives it data; false where it takes none any more."""
