@@ -16,7 +16,7 @@ use end::tell_at_end;
 use figures::show_figures;
 use futures::channel::oneshot;
 use futures::channel::oneshot::{Receiver, Sender};
-use log::info;
+use log::{error, info};
 use recorder::{RecordFile, make_record};
 use serve::{ServeEnd, Serving, serve};
 use std::alloc::{AllocError, Global};
@@ -28,10 +28,13 @@ use std::sync::Arc;
 use std::{env, io, thread};
 
 /// What standard error says where the words are no arguments.
-const USAGE: &str = "usage: bayeuxd [--listen ADDRESS] [FLAG ..], of which bayeuxd --help tells all
-       bayeuxd address shards timeout interval max_interval seed connections [options [limit]]";
+const USAGE: &str =
+    "usage: bayeuxd address shards timeout interval max_interval seed connections [options [limit]]";
 
-/// What it says where there is nothing to listen on, before it names the address.
+/// What it says below that where there is no word.
+const FLAGS: &str = "or bayeuxd [--listen ADDRESS] [FLAG ..], of which bayeuxd --help tells all";
+
+/// What it says where there is nothing to listen on, below the line of the log that has the address and the reason.
 const CANNOT_LISTEN: &str = "bayeuxd: cannot listen";
 
 /// What it says where there is nothing to listen on for those who ask for figures, before it names the address.
@@ -115,7 +118,7 @@ fn parts_of(rt: &HostRuntime, settings: &Settings<'_>) -> Result<Parts, ExitCode
     };
     let addresses = match addresses_of(rt, settings.listen) {
         Ok(addresses) => addresses,
-        Err(error) => return Err(refused_at(rt, CANNOT_LISTEN, settings.listen, &error)),
+        Err(error) => return Err(cannot_listen(rt, settings.listen, &error)),
     };
     let (Ok(counts), Ok((told, end))) = (
         counts_of(rt, settings.config.shards),
@@ -167,7 +170,7 @@ fn status_of(rt: &HostRuntime, listen: &str, ended: ServeEnd) -> ExitCode {
             info!(rt; target: "bayeuxd", "ended");
             ExitCode::SUCCESS
         }
-        ServeEnd::CannotListen(error) => refused_at(rt, CANNOT_LISTEN, listen, &error),
+        ServeEnd::CannotListen(error) => cannot_listen(rt, listen, &error),
         ServeEnd::Memory => failed(rt, OUT_OF_MEMORY),
     }
 }
@@ -196,8 +199,12 @@ fn settings_text(alloc: Global, settings: &Settings<'_>) -> Result<String, Alloc
     )?;
     write!(
         text,
-        " limit={} bytes={} sessions={} body={}",
-        config.limits.events, config.limits.bytes, config.limits.sessions, settings.body
+        " limit={} bytes={} patterns={} sessions={} body={}",
+        config.limits.events,
+        config.limits.bytes,
+        config.limits.patterns,
+        config.limits.sessions,
+        settings.body
     )?;
     write!(text, " ride={} anonymous={}", config.ride, config.anonymous)?;
     write!(
@@ -230,6 +237,9 @@ fn settings_of<'a>(
     if !are_flags(words) {
         let Some(settings) = read_words(words) else {
             let _ = rt.eprintln(USAGE);
+            if words.is_empty() {
+                let _ = rt.eprintln(FLAGS);
+            }
             return Err(ExitCode::from(2));
         };
         return Ok(settings);
@@ -270,6 +280,12 @@ fn addresses_of(rt: &HostRuntime, listen: &str) -> io::Result<Vec<SocketAddr>> {
         addresses.push(address)?;
     }
     Ok(addresses)
+}
+
+// The status where there is nothing to listen on at an address, once the log said where and why.
+fn cannot_listen(rt: &HostRuntime, listen: &str, error: &io::Error) -> ExitCode {
+    error!(rt; target: "bayeuxd", "cannot listen at {listen}: {error}");
+    failed(rt, CANNOT_LISTEN)
 }
 
 // The status where the system refused something at an address, or a file, once it was said what, where and why.
