@@ -7,14 +7,13 @@ use crate::end::Closing;
 use crate::recorder::{RecordFile, Recorder};
 use crate::ticker::tick;
 use bx_advice::Config;
-use bx_answers::NotedBackend;
-use bx_counted::{CountedBackend, CountedService};
+use bx_answers::NotedAnswers;
 use bx_entry::ByRemainder;
 use bx_figures::Counts;
 use bx_hub::{Hub, OpenGate};
 use bx_message::Item;
 use bx_serve::serve_until;
-use bx_service::{Backend, BayeuxService, BodyLimit, HubBackend, Unanswered};
+use bx_service::{Backend, BayeuxService, BodyLimit, HubBackend, Observer, Unanswered};
 use bx_window::{Naming, Opened};
 use futures::Future;
 use futures::channel::oneshot::Receiver;
@@ -201,12 +200,13 @@ where
     // Before anything is listed, as by the first tick.
     let recorder = Recorder::start(rt, &hub, record_file)?;
     let backend = backend_of(rt, alloc, Arc::try_clone(&hub)?, clock, arguments.seed);
-    let backend = NotedBackend::new(rt, alloc, backend, recorder.answers()?);
+    let answers = NotedAnswers::new(rt, alloc, recorder.answers()?);
+    let observer = (Arc::try_clone(counts)?, answers);
     let ticker = thread::spawn(
         &rt,
         move || tick(&rt, alloc, &*ticked, &clock, &*counted, crowd, &*over),
     )?;
-    let served = serve_backend(rt, &mut runtime, listener, backend, counts, arguments, end);
+    let served = serve_backend(rt, &mut runtime, listener, backend, observer, arguments, end);
     counts.set_listens(false);
     is_over.store(true, Ordering::SeqCst);
     ticker.join(&rt);
@@ -263,27 +263,25 @@ where
     HubBackend::new(rt, alloc, hub, clock, nonces)
 }
 
-// Serves the connections of the listener over a backend. What that is made of is not named where the tasks of connections are, which the
+// Serves the connections of the listener over a backend, while this one looks on. What these are made of is not named where the tasks of connections are, which the
 // prover could not compare in reasonable time.
-fn serve_backend<S, I, R, A>(
+fn serve_backend<S, I, O, R, A>(
     rt: R,
     runtime: &mut Runtime,
     listener: TcpListener,
     backend: S,
-    counts: &Arc<Counts, Global>,
+    observer: O,
     arguments: Serving,
     end: A,
 ) -> io::Result<()>
 where
     S: Backend<Items = I> + Send + Sync + Drop,
     I: Future<Output = Result<Vec<Item>, Unanswered>> + Send + Drop,
+    O: Observer + Send + Sync,
     R: Wait + Threads + Clock + RandomSource + AllocGlobal + Sync + Send + Copy + Drop,
     A: Future<Output = ()>,
     requires { A.can_poll end }
 {
-    let counted = CountedBackend::new(backend, Arc::try_clone(counts)?);
-    let service = BayeuxService::new(rt.alloc(), counted)?.with_limit(arguments.body);
-    let service = CountedService::new(service, Arc::try_clone(counts)?);
-    let count = arguments.connections;
-    serve_until(rt, runtime, listener, service, count, end)
+    let service = BayeuxService::observed(rt.alloc(), backend, observer)?.with_limit(arguments.body);
+    serve_until(rt, runtime, listener, service, arguments.connections, end)
 }

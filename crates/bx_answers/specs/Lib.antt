@@ -1,2 +1,1 @@
-pub mod Admissions
 pub mod Notings

@@ -2,15 +2,13 @@
 #![tactic(auto)]
 
 mod answer_log;
-mod backend;
-mod items;
 mod line;
+mod observer;
 #[cfg(test)]
 mod tests;
 mod waiting;
 
 pub use answer_log::AnswerLog;
-pub use backend::NotedBackend;
-pub use items::NotedItems;
 pub use line::answer_line;
+pub use observer::NotedAnswers;
 pub use waiting::{AnswerFault, TakenAnswers};

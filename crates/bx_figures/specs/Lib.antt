@@ -1,3 +1,4 @@
 pub mod Figures
+pub mod Outcomes
 pub mod Pages
 pub mod Responses

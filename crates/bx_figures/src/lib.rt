@@ -4,9 +4,9 @@
 mod counts;
 mod figure;
 mod label;
+mod observer;
 mod page;
 mod response;
-mod standing;
 #[cfg(test)]
 mod tests;
 
@@ -14,4 +14,3 @@ pub use counts::{Counts, Figures};
 pub use figure::{Figure, Reason};
 pub use page::page_text;
 pub use response::{Asked, response_text};
-pub use standing::Standing;

@@ -1,7 +1,7 @@
-use crate::{Counts, Figure, Figures, Reason, Standing, page_text};
+use crate::{Counts, Figure, Figures, Reason, page_text};
 use bx_advice::Error;
 use bx_message::{MessageKind, Status};
-use std::sync::Arc;
+use bx_service::{Event, Observer};
 use std::test::Fail;
 
 // Rows of the page of these values, as the format has them.
@@ -35,7 +35,7 @@ fn pages_have_the_rows(rt: HostRuntime) -> Result<(), Fail> {
 #[test]
 fn counts_are_of_their_figure(rt: HostRuntime) -> Result<(), Fail> {
     let alloc = rt.alloc();
-    let counts = Arc::new(alloc, Counts::new(alloc, 3)?)?;
+    let counts = Counts::new(alloc, 3)?;
     counts.add(Figure::Events, 3);
     counts.add(Figure::Events, 2);
     counts.add(Figure::Responses(Status::Unavailable), 1);
@@ -47,13 +47,13 @@ fn counts_are_of_their_figure(rt: HostRuntime) -> Result<(), Fail> {
     counts.set_lag(2, 8);
     counts.set_lag(3, 10);
     assert_eq!(rt; counts.get(Figure::Events), 5);
-    assert_eq!(rt; counts.get(Figure::Admitted), 0);
-    {
-        let _one = Standing::new(&counts, Figure::Held);
-        let _two = Standing::new(&counts, Figure::Held);
-        assert_eq!(rt; counts.get(Figure::Held), 2);
-    }
+    counts.see(Event::Asked);
+    counts.see(Event::Admitted(None));
+    assert_eq!(rt; counts.get(Figure::Held), 1);
+    counts.see(Event::Left { was_admitted: true });
     assert_eq!(rt; counts.get(Figure::Held), 0);
+    assert_eq!(rt; counts.get(Figure::Requests), 0);
+    assert_eq!(rt; counts.get(Figure::Admitted), 1);
     let page = page_text(alloc, &counts.read(alloc)?)?;
     let text = str::from_utf8(page.as_slice())?;
     assert!(rt; text.contains("\nbayeux_events_total 5\n"));

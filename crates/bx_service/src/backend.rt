@@ -41,16 +41,6 @@ pub trait Nonces {
         ensures { draws self.now result };
 }
 
-/// Items that may answer messages of the list.
-pub trait Placed {
-    // Holds of items and of the place that they may tell.
-    ghost stands: { Self → Option ℕ → Type 0 } = { λ _ _. ⊤ };
-
-    /// The place of the first message that they answer; none where they answer none.
-    fn place(&self) -> Option<u64>
-        ensures { stands self.now result };
-}
-
 /// The response has no items: an answer cannot be told, or there is no memory.
 #[derive(Clone, Copy, Debug, PartialEq, Eq)]
 pub struct Unanswered;
@@ -87,11 +77,18 @@ pub trait Backend: Drop {
     // Holds of the documents of a request and of what may be said of them.
     ghost admits: { Self → Bodies → Result Self.Items Declined → Type 0 } = { λ _ _ _. ⊤ };
 
+    // Holds of items and of the place that may be told of them.
+    ghost stands: { Self.Items → Option ℕ → Type 0 } = { λ _ _. ⊤ };
+
     /// Takes the documents of a request, or gives them back with the status by which it is refused.
     fn admit(&self, bodies: Bodies) -> Result<Self::Items, Declined>
         ensures can_poll { IfOk result Self.Items.can_poll }
         ensures back { IfErr result (λ d. d.bodies ≡ bodies) }
         ensures admitted { admits self.now bodies result };
+
+    /// The place of the first message that such items answer; none where they answer none.
+    fn place(&self, items: &Self::Items) -> Option<u64>
+        ensures { stands items.now result };
 }
 
 /// A hub with the clock and the nonces of its requests.
@@ -142,6 +139,8 @@ where
         × IfErr outcome (λ d. (d.bodies ≡ bodies)
         × (((d.status ≡ Unavailable) × (d.fault ≡ faults.Memory)) ⊎ IsRefusedWith (C.tells backend.clock) (N.draws backend.nonces) (texts_of bodies) d.fault d.status)) };
 
+    ghost stands = { λ items place. place ≡ items.first };
+
     // What may fail for other reasons than the hub's comes before the post, so what is refused is not listed.
     fn admit(&self, bodies: Bodies) -> Result<Gathering<J, P, G, R>, Declined> {
         let Ok(hub) = Arc::try_clone(&self.hub) else {
@@ -172,5 +171,9 @@ where
                 bodies: refused.into_arrival().bodies,
             }),
         }
+    }
+
+    fn place(&self, items: &Gathering<J, P, G, R>) -> Option<u64> {
+        items.place()
     }
 }

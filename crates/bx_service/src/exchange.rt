@@ -3,6 +3,7 @@ ghost use Rattle.std.specs.Prelude.{◌≡◌, [], IfOk, IfSome, Ok, MatchOption
 ghost use Rattle.std.specs.Arc.{arc_value};
 ghost use Rattle.futures.specs.Poll.{IfReady, OnPending};
 ghost use Rattle.futures.specs.Task.{IsArmed, Keeps};
+ghost use Rattle.bx_service.specs.Places.{IsPlaced};
 ghost use Rattle.bx_service.specs.Polling.{CanPoll};
 ghost use Rattle.http.specs.Request.{head_of, body_of};
 ghost use Rattle.bx_cut.specs.Bodies.{texts_of};
@@ -15,10 +16,12 @@ ghost use Rattle.bx_service.specs.Exchanges.{ForAsked, ForCollected, ForDocument
 use crate::backend::{Backend, Unanswered};
 use crate::collect::{Collect, CollectError};
 use crate::limit::BodyLimit;
+use crate::observer::Observer;
 use crate::response::{answer, refusal};
 use crate::route::Route;
 use crate::service::ServiceFault;
 use crate::status::body_status;
+use crate::watch::{Outlook, Watch};
 use bx_cut::Bodies;
 use bx_message::{Item, Status, number_of};
 use bx_pieces::Pieces;
@@ -35,11 +38,12 @@ use std::sync::Arc;
 
 /// The future of a response.
 #[derive(Drop)]
-pub struct Exchange<S, I, B> {
+pub struct Exchange<S, I, B, O: Observer> {
     alloc: Global,
-    // None where there was no memory for one more handle.
+    // None where there was no memory for one more handle on it and on the observer.
     backend: Option<Arc<S, Global>>,
     state: State<I, B>,
+    watch: Watch<O>,
 }
 
 /// How far a request is.
@@ -61,23 +65,31 @@ pub(crate) enum State<I, B> {
     Refused(Status),
 }
 
-impl<S, I: Future, B: Body> Exchange<S, I, B> {
+impl<S, I: Future, B: Body, O: Observer> Exchange<S, I, B, O> {
     pub(crate) fn new(
         alloc: Global,
         backend: &Arc<S, Global>,
         limit: BodyLimit,
         request: Request<B>,
-    ) -> Exchange<S, I, B>
+        outlook: &Outlook<O>,
+    ) -> Exchange<S, I, B, O>
         requires { (body : B) → B.can_poll body }
         ensures again { CanPoll I.can_poll B.can_poll result.state }
         ensures begins { Begins limit (head_of request) (body_of request) result.state }
         ensures backend { IfSome result.backend (λ handle. arc_value handle ≡ arc_value backend.now) }
     {
         let (parts, body) = request.into_parts();
+        let watch = outlook.ask();
+        let backend = if watch.is_told() {
+            Arc::try_clone(backend).ok()
+        } else {
+            None
+        };
         Exchange {
             alloc,
-            backend: Arc::try_clone(backend).ok(),
+            backend,
             state: State::new(alloc, limit, parts, body),
+            watch,
         }
     }
 }
@@ -166,26 +178,40 @@ fn says_more(limit: BodyLimit, length: Option<&HeaderValue>) -> bool
 }
 
 // The state of a request with these documents.
-fn admitted<S, I, B, D>(backend: &S, callback: Option<String>, bodies: Bodies) -> State<I, B>
+fn admitted<S, I, B, D, O>(
+    backend: &S,
+    watch: &mut Watch<O>,
+    callback: Option<String>,
+    bodies: Bodies,
+) -> State<I, B>
 where
     S: Backend<Items = I>,
     I: Future<Output = Result<Vec<Item>, Unanswered>>,
     B: Body<Data = D>,
     D: Buf + Drop,
+    O: Observer,
     ensures again { CanPoll I.can_poll B.can_poll result }
+    ensures place { IsPlaced S.stands watch.new.place result }
     ensures value { (sent : Sent) → MayAnswer I.gives (S.admits backend.now) D.unread B.yields result sent
         → ForDocuments I.gives (S.admits backend.now) (option_map string_bytes callback) (texts_of bodies) sent }
 {
     match backend.admit(bodies) {
-        Ok(items) => State::Held { callback, items },
-        Err(declined) => State::Refused(declined.status),
+        Ok(items) => {
+            watch.admit(backend.place(&items));
+            State::Held { callback, items }
+        }
+        Err(declined) => {
+            watch.refuse(declined.fault);
+            State::Refused(declined.status)
+        }
     }
 }
 
 // The state of a POST whose body was collected, or was not.
-fn posted<S, I, B, D>(
+fn posted<S, I, B, D, O>(
     alloc: Global,
     backend: &S,
+    watch: &mut Watch<O>,
     content_type: Option<&[u8]>,
     collected: Result<Vec<u8>, CollectError>,
 ) -> State<I, B>
@@ -194,6 +220,7 @@ where
     I: Future<Output = Result<Vec<Item>, Unanswered>>,
     B: Body<Data = D>,
     D: Buf + Drop,
+    O: Observer,
     ensures again { CanPoll I.can_poll B.can_poll result }
     ensures value { (sent : Sent) → MayAnswer I.gives (S.admits backend.now) D.unread B.yields result sent
         → ForCollected I.gives (S.admits backend.now) (option_map (λ t. t.now) content_type.entry) collected sent }
@@ -203,24 +230,30 @@ where
         Err(fault) => return State::Refused(body_status(fault)),
     };
     match read_post(alloc, content_type, body) {
-        Ok(bodies) => admitted(backend, None, bodies),
+        Ok(bodies) => admitted(backend, watch, None, bodies),
         Err(error) => State::Refused(error.status()),
     }
 }
 
 // The state of a GET with this query.
-fn asked<S, I, B, D>(alloc: Global, backend: &S, query: &[u8]) -> State<I, B>
+fn asked<S, I, B, D, O>(
+    alloc: Global,
+    backend: &S,
+    watch: &mut Watch<O>,
+    query: &[u8],
+) -> State<I, B>
 where
     S: Backend<Items = I>,
     I: Future<Output = Result<Vec<Item>, Unanswered>>,
     B: Body<Data = D>,
     D: Buf + Drop,
+    O: Observer,
     ensures again { CanPoll I.can_poll B.can_poll result }
     ensures value { (sent : Sent) → MayAnswer I.gives (S.admits backend.now) D.unread B.yields result sent
         → ForAsked I.gives (S.admits backend.now) query.now sent }
 {
     match read_get(alloc, query) {
-        Ok((name, bodies)) => admitted(backend, Some(name), bodies),
+        Ok((name, bodies)) => admitted(backend, watch, Some(name), bodies),
         Err(error) => State::Refused(error.status()),
     }
 }
@@ -242,24 +275,13 @@ fn answered(
     }
 }
 
-// A response, or that there is no memory for one.
-fn given(
-    response: Result<Response<Pieces<Bytes>>, AllocError>,
-) -> Result<Response<Pieces<Bytes>>, ServiceFault>
-    ensures { IfOk result (λ sent. response ≡ Ok sent) }
-{
-    match response {
-        Ok(response) => Ok(response),
-        Err(_) => Err(ServiceFault::Memory),
-    }
-}
-
-impl<S, I, B, D> Exchange<S, I, B>
+impl<S, I, B, D, O> Exchange<S, I, B, O>
 where
     S: Backend<Items = I>,
     I: Future<Output = Result<Vec<Item>, Unanswered>> + Drop,
     B: Body<Data = D>,
     D: Buf + Drop,
+    O: Observer,
 {
     // Goes on until the request is admitted or refused.
     fn poll_admitted(&mut self, backend: &S, cx: &mut Context<'_>) -> Poll<()>
@@ -278,11 +300,11 @@ where
                     Poll::Ready(collected) => collected,
                 };
                 let content_type = content_type.as_ref().map(|it| it.as_slice());
-                self.state = posted(alloc, backend, content_type, collected);
+                self.state = posted(alloc, backend, &mut self.watch, content_type, collected);
                 Poll::Ready(())
             }
             State::Asked(query) => {
-                self.state = asked(alloc, backend, query.as_slice());
+                self.state = asked(alloc, backend, &mut self.watch, query.as_slice());
                 Poll::Ready(())
             }
             _ => Poll::Ready(()),
@@ -308,22 +330,24 @@ where
             State::Held { callback, items } => match items.poll(cx) {
                 Poll::Pending => Poll::Pending,
                 Poll::Ready(gathered) => {
+                    self.watch.answer(&gathered);
                     let callback = callback.as_ref().map(|it| it.as_str());
-                    Poll::Ready(given(answered(alloc, callback, gathered)))
+                    Poll::Ready(self.watch.respond(answered(alloc, callback, gathered)))
                 }
             },
-            State::Refused(status) => Poll::Ready(given(refusal(alloc, *status))),
-            _ => Poll::Ready(Err(ServiceFault::Memory)),
+            State::Refused(status) => Poll::Ready(self.watch.respond(refusal(alloc, *status))),
+            _ => Poll::Ready(self.watch.respond(Err(AllocError))),
         }
     }
 }
 
-impl<S, I, B, D> Future for Exchange<S, I, B>
+impl<S, I, B, D, O> Future for Exchange<S, I, B, O>
 where
     S: Backend<Items = I> + Drop,
     I: Future<Output = Result<Vec<Item>, Unanswered>> + Drop,
     B: Body<Data = D>,
     D: Buf + Drop,
+    O: Observer,
 {
     type Output = Result<Response<Pieces<Bytes>>, ServiceFault>;
 
@@ -335,7 +359,7 @@ where
 
     fn poll(&mut self, cx: &mut Context<'_>) -> Poll<Self::Output> {
         let Some(backend) = self.backend.take() else {
-            return Poll::Ready(Err(ServiceFault::Memory));
+            return Poll::Ready(self.watch.respond(Err(AllocError)));
         };
         let admitted = self.poll_admitted(&*backend, cx);
         self.backend = Some(backend);

@@ -12,7 +12,7 @@ ghost use Rattle.bx_message.specs.declared.reply.Item.TheVariants.{ReplyItem};
 ghost use Rattle.bx_service.specs.Gatherings.{AreAll, AreBelow, IsBelow, are_below-prop, awaited_as, items_of, place_of};
 ghost use Rattle.bx_window.specs.Steps.{list_of};
 
-use crate::backend::{Placed, Unanswered};
+use crate::backend::Unanswered;
 use bx_entry::{Placing, Slot, Ticket};
 use bx_held::{HeldFault, PendingAnswer};
 use bx_hub::{Gate, Hub, Pass};
@@ -66,6 +66,13 @@ impl<J: Naming, P: Placing + Drop, G: Gate + Drop, R: Wait + Copy + Drop> Gather
             slots: slots.into_vec().into_iter(),
             first,
         }
+    }
+
+    /// The place of the first message.
+    pub(crate) fn place(&self) -> Option<u64>
+        ensures { result ≡ self.now.first }
+    {
+        self.first
     }
 
     // From here on the answer under this ticket is waited for.
@@ -162,14 +169,6 @@ impl<J: Naming, P: Placing + Drop, G: Gate + Drop, R: Wait + Copy + Drop> Future
             }
             Err(fault) => Poll::Ready(Err(fault)),
         }
-    }
-}
-
-impl<J: Naming, P: Placing, G: Gate + Drop, R: Wait + Drop> Placed for Gathering<J, P, G, R> {
-    ghost stands = { λ g place. place ≡ g.first };
-
-    fn place(&self) -> Option<u64> {
-        self.first
     }
 }
 

@@ -6,14 +6,17 @@ mod collect;
 mod exchange;
 mod gathering;
 mod limit;
+mod observer;
 mod response;
 mod route;
 mod service;
 mod status;
+mod watch;
 
-pub use backend::{Backend, Clock, Declined, HubBackend, Nonces, Placed, Unanswered};
+pub use backend::{Backend, Clock, Declined, HubBackend, Nonces, Unanswered};
 pub use collect::{Collect, CollectError};
 pub use exchange::Exchange;
 pub use gathering::Gathering;
 pub use limit::BodyLimit;
+pub use observer::{Event, Observer};
 pub use service::{BayeuxService, ServiceFault};

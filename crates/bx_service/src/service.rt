@@ -8,6 +8,8 @@ ghost use Rattle.std.specs.Arc.{arc_value};
 use crate::backend::{Backend, Unanswered};
 use crate::exchange::Exchange;
 use crate::limit::BodyLimit;
+use crate::observer::Observer;
+use crate::watch::Outlook;
 use bx_message::Item;
 use bx_pieces::Pieces;
 use bytes::{Buf, Bytes};
@@ -37,16 +39,31 @@ impl Error for ServiceFault {}
 
 /// Serves Bayeux over HTTP: each call takes a request to the backend, and gives the future of its response.
 #[derive(Drop)]
-pub struct BayeuxService<S> {
+pub struct BayeuxService<S, O: Observer = ()> {
     alloc: Global,
     backend: Arc<S, Global>,
     limit: BodyLimit,
+    outlook: Outlook<O>,
 }
 
-impl<S: Drop> BayeuxService<S> {
+impl<S: Drop> BayeuxService<S, ()> {
     /// A service over the backend, which takes bodies and queries of up to [`bx_advice::BODY_LIMIT`] bytes. An error means that memory
     /// was refused.
     pub fn new(alloc: Global, backend: S) -> Result<BayeuxService<S>, AllocError>
+        ensures backend { IfOk result (λ service. arc_value service.backend ≡ backend) }
+        ensures limit { IfOk result (λ service. service.limit ≡ BODY_LIMIT) }
+    {
+        BayeuxService::observed(alloc, backend, ())
+    }
+}
+
+impl<S: Drop, O: Observer> BayeuxService<S, O> {
+    /// The same, at which this one looks on. Each copy of it but the first one is of a connection, which is open until the copy is dropped.
+    pub fn observed(
+        alloc: Global,
+        backend: S,
+        observer: O,
+    ) -> Result<BayeuxService<S, O>, AllocError>
         ensures backend { IfOk result (λ service. arc_value service.backend ≡ backend) }
         ensures limit { IfOk result (λ service. service.limit ≡ BODY_LIMIT) }
     {
@@ -54,11 +71,12 @@ impl<S: Drop> BayeuxService<S> {
             alloc,
             backend: Arc::new(alloc, backend)?,
             limit: BodyLimit::greatest(),
+            outlook: Outlook::new(alloc, observer)?,
         })
     }
 
     /// The same, with this limit of bodies and queries.
-    pub fn with_limit(self, limit: BodyLimit) -> BayeuxService<S>
+    pub fn with_limit(self, limit: BodyLimit) -> BayeuxService<S, O>
         ensures { result ≡ record self { limit = limit } }
     {
         let mut service = self;
@@ -67,30 +85,32 @@ impl<S: Drop> BayeuxService<S> {
     }
 }
 
-impl<S: Drop> Clone for BayeuxService<S> {
+impl<S: Drop, O: Observer> Clone for BayeuxService<S, O> {
     ghost is_clone = { λ service copy. (arc_value copy.backend ≡ arc_value service.backend) × (copy.limit ≡ service.limit) };
 
-    fn clone(&self) -> Result<BayeuxService<S>, AllocError> {
+    fn clone(&self) -> Result<BayeuxService<S, O>, AllocError> {
         Ok(BayeuxService {
             alloc: self.alloc,
             backend: Arc::try_clone(&self.backend)?,
             limit: self.limit,
+            outlook: self.outlook.open()?,
         })
     }
 }
 
-impl<S, I, B, D> Service<Request<B>> for BayeuxService<S>
+impl<S, I, B, D, O> Service<Request<B>> for BayeuxService<S, O>
 where
     S: Backend<Items = I> + Drop,
     I: Future<Output = Result<Vec<Item>, Unanswered>> + Drop,
     B: Body<Data = D>,
     D: Buf + Drop,
+    O: Observer,
 {
     type Response = Response<Pieces<Bytes>>;
 
     type Error = ServiceFault;
 
-    type Future = Exchange<S, I, B>;
+    type Future = Exchange<S, I, B, O>;
 
     // Bodies of this type may be polled as they come.
     ghost can_call = { λ _. (body : B) → B.can_poll body };
@@ -100,6 +120,12 @@ where
         × IfSome exchange.backend (λ handle. arc_value handle ≡ arc_value service.backend) };
 
     fn call(&self, request: Request<B>) -> Self::Future {
-        Exchange::new(self.alloc, &self.backend, self.limit, request)
+        Exchange::new(
+            self.alloc,
+            &self.backend,
+            self.limit,
+            request,
+            &self.outlook,
+        )
     }
 }

@@ -11,6 +11,8 @@ mod connects;
 #[cfg(test)]
 mod exchanges;
 #[cfg(test)]
+mod observers;
+#[cfg(test)]
 mod pieces;
 #[cfg(test)]
 mod requests;

@@ -1,8 +1,7 @@
--- What is counted of a request, and what a counted backend answers.
-use Rattle.std.specs.Prelude.{ℕ, List, Result, Ok, Err, Option, Some, None, nat_eq, if◌then◌else◌}
+-- What is counted of a request.
+use Rattle.std.specs.Prelude.{ℕ, Option, Some, None, nat_eq, if◌then◌else◌}
 use Rattle.bx_advice.specs.declared.advice.Outcome.{Outcome}
 use Rattle.bx_advice.specs.declared.advice.Outcome.TheVariants as outcomes
-use Rattle.bx_counted.specs.declared.items.CountedItems.{CountedItems}
 use Rattle.bx_figures.specs.declared.figure.{Figure.Figure, Reason.Reason}
 use Rattle.bx_figures.specs.declared.figure.Figure.TheVariants.{Errors, Replies}
 use Rattle.bx_figures.specs.declared.figure.Reason.TheVariants as reasons
@@ -10,7 +9,6 @@ use Rattle.bx_hub.specs.declared.fault.PostFault.{PostFault}
 use Rattle.bx_hub.specs.declared.fault.PostFault.TheVariants as faults
 use Rattle.bx_message.specs.declared.{message_kind.MessageKind.MessageKind, reply.Reply.Reply, status.Status.Status}
 use Rattle.bx_message.specs.declared.status.Status.TheVariants as statuses
-use Rattle.bx_service.specs.declared.backend.Declined.{Declined}
 
 -- the reason of a fault
 abbrev pub reason_of : PostFault → Reason
@@ -42,9 +40,3 @@ status_of code =
     else (if nat_eq code 413 then Some statuses.TooLarge
     else (if nat_eq code 501 then Some statuses.NotImplemented
     else (if nat_eq code 503 then Some statuses.Unavailable else None))))))
-
-module _ {I : Type 0} (admits : Result I Declined → Type 0) where
-  -- what a counted backend answers is what the one within may: the future of its items, or documents that it declined
-  abbrev pub AdmitsWithin : Result (CountedItems I) Declined → Type 0
-  AdmitsWithin (Ok counted) = admits (Ok counted.items)
-  AdmitsWithin (Err declined) = admits (Err declined)

@@ -1,0 +1,106 @@
+//! What is counted of connections and requests.
+ghost use Rattle.std.specs.Prelude.{◌≡◌};
+ghost use Rattle.bx_figures.specs.Outcomes.{figure_of, reason_of, status_of};
+
+use crate::counts::Counts;
+use crate::figure::{Figure, Reason};
+use bx_advice::Outcome;
+use bx_hub::PostFault;
+use bx_message::{Item, Reply, Status};
+use bx_service::{Event, Observer};
+
+impl Observer for Counts {
+    fn see(&self, event: Event<'_>) {
+        match event {
+            Event::Opened => {
+                self.add(Figure::Accepted, 1);
+                self.add(Figure::Connections, 1);
+            }
+            Event::Closed => self.remove_one(Figure::Connections),
+            Event::Asked => self.add(Figure::Requests, 1),
+            Event::Admitted(_) => {
+                self.add(Figure::Admitted, 1);
+                self.add(Figure::Held, 1);
+            }
+            Event::Refused(fault) => self.add(Figure::Refused(reason_of(fault)), 1),
+            Event::Answered { place: _, items } => count_all(self, items),
+            Event::Responded(code) => count(self, code),
+            Event::Left { was_admitted } => {
+                self.remove_one(Figure::Requests);
+                if was_admitted {
+                    self.remove_one(Figure::Held);
+                }
+            }
+        }
+    }
+}
+
+// Counts what came of a request: its events and replies, or that there are none.
+fn count_all(counts: &Counts, items: Option<&[Item]>) {
+    let Some(items) = items else {
+        counts.add(Figure::Unanswered, 1);
+        return;
+    };
+    let mut events: u64 = 0;
+    for item in items {
+        match item {
+            Item::EventItem(_) => events = events.saturating_add(1),
+            Item::ReplyItem(reply) => counts.add(figure_of(reply), 1),
+        }
+    }
+    if events > 0 {
+        counts.add(Figure::Events, events);
+    }
+}
+
+// Counts a response by its status, or that there is none.
+fn count(counts: &Counts, code: Option<u16>) {
+    let Some(code) = code else {
+        counts.add(Figure::Missing, 1);
+        return;
+    };
+    if let Some(status) = status_of(code) {
+        counts.add(Figure::Responses(status), 1);
+    }
+}
+
+// The reason of a fault.
+fn reason_of(fault: PostFault) -> Reason
+    ensures { result ≡ reason_of fault }
+{
+    match fault {
+        PostFault::Body(_) => Reason::Body,
+        PostFault::Closed => Reason::Closed,
+        PostFault::BadMoment => Reason::BadMoment,
+        PostFault::Ended => Reason::Ended,
+        PostFault::Behind { .. } => Reason::Behind,
+        PostFault::Overrun { .. } => Reason::Overrun,
+        PostFault::Misplaced { .. } => Reason::Misplaced,
+        PostFault::Memory => Reason::Memory,
+    }
+}
+
+// What a reply counts as: by its kind where it says a success, and else by its error.
+fn figure_of(reply: &Reply) -> Figure
+    ensures { result ≡ figure_of reply.now }
+{
+    match reply.outcome {
+        Outcome::Failed(error) => Figure::Errors(error),
+        _ => Figure::Replies(reply.message_kind),
+    }
+}
+
+// The status of this number, where the server answers with it.
+fn status_of(code: u16) -> Option<Status>
+    ensures { result ≡ status_of code }
+{
+    match code {
+        200 => Some(Status::Ok),
+        400 => Some(Status::BadRequest),
+        404 => Some(Status::NotFound),
+        405 => Some(Status::MethodNotAllowed),
+        413 => Some(Status::TooLarge),
+        503 => Some(Status::Unavailable),
+        _ => None,
+    }
+}

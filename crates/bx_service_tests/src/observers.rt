@@ -1,0 +1,142 @@
+//! What an observer is told of connections and requests, over a backend that says what it is told to.
+use crate::requests::{Ask, Content, POST};
+use bx_cut::Bodies;
+use bx_hub::PostFault;
+use bx_message::{Item, Status};
+use bx_service::{Backend, BayeuxService, Declined, Event, Observer, Unanswered};
+use futures::Future;
+use futures::task::{Context, Poll};
+use futures::test::MockTask;
+use hyper::service::Service;
+use std::alloc::Global;
+use std::sync::Arc;
+use std::sync::atomic::{AtomicU64, Ordering};
+use std::test::*;
+
+// What came about, a digit each: the first event is the leftmost.
+#[derive(Drop)]
+struct Digits(AtomicU64);
+
+impl Observer for Digits {
+    fn see(&self, event: Event<'_>) {
+        let digit = match event {
+            Event::Opened => 1,
+            Event::Closed => 2,
+            Event::Asked => 3,
+            Event::Admitted(Some(9)) => 4,
+            Event::Refused(PostFault::BadMoment) => 5,
+            Event::Answered {
+                place: Some(9),
+                items: Some([]),
+            } => 6,
+            Event::Answered {
+                place: Some(9),
+                items: None,
+            } => 7,
+            Event::Responded(Some(200)) => 8,
+            Event::Responded(Some(503)) => 9,
+            Event::Responded(Some(400)) => 10,
+            Event::Responded(Some(405)) => 11,
+            Event::Left { was_admitted: true } => 12,
+            Event::Left { was_admitted: false } => 13,
+            _ => 15,
+        };
+        let seen = self.0.load(Ordering::SeqCst);
+        self.0
+            .store(seen.wrapping_mul(16).wrapping_add(digit), Ordering::SeqCst);
+    }
+}
+
+// What a backend says of each request, but for its items.
+#[derive(Clone, Copy)]
+enum Said {
+    Items,
+    NoItems,
+    Refusal,
+    Nothing,
+}
+
+#[derive(Drop)]
+struct Saying {
+    alloc: Global,
+    said: Said,
+}
+
+impl Backend for Saying {
+    type Items = Given;
+
+    fn admit(&self, bodies: Bodies) -> Result<Given, Declined> {
+        if let Said::Refusal = self.said {
+            return Err(Declined {
+                status: Status::BadRequest,
+                fault: PostFault::BadMoment,
+                bodies,
+            });
+        }
+        Ok(Given {
+            alloc: self.alloc,
+            said: self.said,
+            turns: 0,
+        })
+    }
+
+    fn place(&self, _items: &Given) -> Option<u64> {
+        Some(9)
+    }
+}
+
+// Items that are there at the second poll, or never.
+#[derive(Drop)]
+struct Given {
+    alloc: Global,
+    said: Said,
+    turns: u32,
+}
+
+impl Future for Given {
+    type Output = Result<Vec<Item>, Unanswered>;
+
+    fn poll(&mut self, cx: &mut Context<'_>) -> Poll<Result<Vec<Item>, Unanswered>> {
+        self.turns = self.turns.saturating_add(1);
+        match self.said {
+            Said::Items if self.turns > 1 => Poll::Ready(Ok(Vec::new(self.alloc))),
+            Said::NoItems if self.turns > 1 => Poll::Ready(Err(Unanswered)),
+            _ => cx.yield_now(),
+        }
+    }
+}
+
+#[test]
+fn observers_are_told(rt: HostRuntime) -> Result<(), Fail> {
+    let alloc = rt.alloc();
+    let task = MockTask::new(&rt)?;
+    let post = Ask::post(Content::Whole("[]"));
+    let put = Ask {
+        method: "PUT",
+        ..POST
+    };
+    for (said, ask, digits) in [
+        (Said::Items, post, 0x1_3468_c2),
+        (Said::NoItems, post, 0x1_3479_c2),
+        (Said::Refusal, post, 0x1_35ad_2),
+        (Said::Nothing, post, 0x1_34c2),
+        (Said::Items, put, 0x1_3bd2),
+    ] {
+        let one = Arc::new(alloc, Digits(AtomicU64::new(0)))?;
+        let two = Arc::new(alloc, Digits(AtomicU64::new(0)))?;
+        let pair = (Arc::try_clone(&one)?, Arc::try_clone(&two)?);
+        let service = BayeuxService::observed(alloc, Saying { alloc, said }, pair)?;
+        {
+            let connection = service.clone()?;
+            let mut exchange = connection.call(ask.request(alloc)?);
+            for _ in 0..3 {
+                if task.poll(&mut exchange).is_ready() {
+                    break;
+                }
+            }
+        }
+        assert_eq!(rt; one.0.load(Ordering::SeqCst), digits);
+        assert_eq!(rt; two.0.load(Ordering::SeqCst), digits);
+    }
+    Ok(())
+}
