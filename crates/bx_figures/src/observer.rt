@@ -1,12 +1,12 @@
 //! What is counted of connections and requests.
 ghost use Rattle.std.specs.Prelude.{◌≡◌};
-ghost use Rattle.bx_figures.specs.Outcomes.{figure_of, reason_of, status_of};
+ghost use Rattle.bx_figures.specs.Outcomes.{figure_of, reason_of};
 
 use crate::counts::Counts;
 use crate::figure::{Figure, Reason};
 use bx_advice::Outcome;
 use bx_hub::PostFault;
-use bx_message::{Item, Reply, Status};
+use bx_message::{Item, Reply};
 use bx_service::{Event, Observer};
 
 impl Observer for Counts {
@@ -24,7 +24,8 @@ impl Observer for Counts {
             }
             Event::Refused(fault) => self.add(Figure::Refused(reason_of(fault)), 1),
             Event::Answered { place: _, items } => count_all(self, items),
-            Event::Responded(code) => count(self, code),
+            Event::Responded(Some(status)) => self.add(Figure::Responses(status), 1),
+            Event::Responded(None) => self.add(Figure::Missing, 1),
             Event::Left { was_admitted } => {
                 self.remove_one(Figure::Requests);
                 if was_admitted {
@@ -53,17 +54,6 @@ fn count_all(counts: &Counts, items: Option<&[Item]>) {
     }
 }
 
-// Counts a response by its status, or that there is none.
-fn count(counts: &Counts, code: Option<u16>) {
-    let Some(code) = code else {
-        counts.add(Figure::Missing, 1);
-        return;
-    };
-    if let Some(status) = status_of(code) {
-        counts.add(Figure::Responses(status), 1);
-    }
-}
-
 // The reason of a fault.
 fn reason_of(fault: PostFault) -> Reason
     ensures { result ≡ reason_of fault }
@@ -87,20 +77,5 @@ fn figure_of(reply: &Reply) -> Figure
     match reply.outcome {
         Outcome::Failed(error) => Figure::Errors(error),
         _ => Figure::Replies(reply.message_kind),
-    }
-}
-
-// The status of this number, where the server answers with it.
-fn status_of(code: u16) -> Option<Status>
-    ensures { result ≡ status_of code }
-{
-    match code {
-        200 => Some(Status::Ok),
-        400 => Some(Status::BadRequest),
-        404 => Some(Status::NotFound),
-        405 => Some(Status::MethodNotAllowed),
-        413 => Some(Status::TooLarge),
-        503 => Some(Status::Unavailable),
-        _ => None,
     }
 }

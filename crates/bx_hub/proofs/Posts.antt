@@ -24,7 +24,7 @@ use Rattle.bx_window.specs.Places as places
 use Rattle.bx_window.specs.Steps.{list_of}
 use Rattle.bx_window.specs.declared.law.LogStep.{LogStep}
 use Rattle.bx_hub.specs.Faults.{of_planning}
-use Rattle.bx_hub.specs.Posts.{AreSlotsAt, IsAdmittedAt, IsFullFor, IsOverrun, IsRefused, IsUnpublished, IsWhole, IsWithoutRoom, WasFullFor}
+use Rattle.bx_hub.specs.Posts.{AreSlotsAt, IsAdmittedAt, IsFullFor, IsRefused, IsUnpublished, IsWhole, IsWithoutRoom, WasFullFor}
 use Rattle.bx_hub.specs.declared.fault.PostFault.{PostFault}
 use Rattle.bx_hub.specs.declared.fault.PostFault.TheVariants.{Body, Closed, BadMoment, Ended, Behind, Overrun, Misplaced, Memory}
 use Rattle.bx_window.proofs.Fronts.{prefix_self, prefix_trans}
@@ -150,12 +150,6 @@ without_room input (Misplaced shard found) before front p was o =
     (record { before = was.before; first = was.first; begins = prefix_trans was.before before front was.begins p; full = was.full }, o)
 without_room input Memory before front p was o = tt
 without_room input _ before front p was o = absurd o
-
--- an overrun shard leaves no room
-pub room_overrun : {T : Type 0} (index : ℕ) (front : List LogStep) (r : Result T PostFault) → IfErr r (λ f. IsOverrun f index front) → IfErr r (λ f. IsWithoutRoom f front)
-room_overrun index front (Ok x) o = tt
-room_overrun index front (Err (Overrun shard place)) o = o.1
-room_overrun index front (Err _) o = absurd o
 
 -- what was refused since the window is full
 pub was_full : {T : Type 0} (input : ReadInput) (first : ℕ) (front : List LogStep) (r : Result T PostFault) → r ≡ Err (Behind first) → IfErr r (λ e. IsRefused input e front) → WasFullFor input front

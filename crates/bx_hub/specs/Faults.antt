@@ -41,6 +41,11 @@ IsStopped (stops.Overrun shard place) index front = (shard ≡ index) × (place 
 IsStopped (stops.Misplaced found) index front = found ≢ index
 IsStopped _ index front = Unit {0}
 
+-- an overrun shard stands at the place that is told
+abbrev pub IsAt : HubFault → ℕ → Type 0
+IsAt (stops.Overrun shard place) stood = place ≡ stood
+IsAt _ stood = Unit {0}
+
 -- a closed shard is stopped by that, a paused one by that, and one that is active by neither
 abbrev pub IsStoppedIn : Activity → HubFault → Type 0
 IsStoppedIn Closed f = f ≡ stops.Closed

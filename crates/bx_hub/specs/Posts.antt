@@ -41,11 +41,6 @@ pub record WasFullFor (input : ReadInput) (front : List LogStep) : Type 0 where
   pub begins : IsPrefix before front
   pub full : IsFullFor input first before
 
--- the shard of this index stands at the place that is told, and the window of this front begins past it
-abbrev pub IsOverrun : PostFault → ℕ → List LogStep → Type 0
-IsOverrun (Overrun shard place) index front = (shard ≡ index) × (place < begin_of front)
-IsOverrun _ index front = ⊥
-
 -- some shard stands at the place that is told, and the window of this front begins past it; or another shard was found in the place of one; or memory was
 -- refused
 abbrev pub IsWithoutRoom : PostFault → List LogStep → Type 0
@@ -74,9 +69,10 @@ IsUnpublished (Behind first) front = IsFull first front
 IsUnpublished Memory front = Unit {0}
 IsUnpublished _ front = ⊥
 
--- where the window is full, this front is the whole log, which has room for a step more
+-- where the window is full, this front is the whole log, which has room for a step more; no shard was looked at
 abbrev pub IsWhole : PostFault → List LogStep → List LogStep → Type 0
 IsWhole (Behind first) front log = (front ≡ log) × (length log < 2 ^ 62)
+IsWhole (Overrun shard place) front log = ⊥
 IsWhole _ front log = Unit {0}
 
 -- no batch of the window of this front lies wholly below this place: it is below the second one

@@ -12,7 +12,7 @@ ghost use Rattle.bx_shard.specs.States.{Swept, WasShut, Watched, connect_in};
 ghost use Rattle.bx_window.specs.Places.{IsOf, StandsIn};
 ghost use Rattle.bx_window.specs.Steps.{list_of};
 ghost use Rattle.bx_entry.specs.Placings.{placed_by};
-ghost use Rattle.bx_hub.specs.Faults.{IsStopped, IsStoppedIn, paused, resumed};
+ghost use Rattle.bx_hub.specs.Faults.{IsAt, IsStopped, IsStoppedIn, paused, resumed};
 ghost use Rattle.bx_hub.specs.declared.activity.Activity.TheVariants.{Active, Paused, Closed};
 ghost use Rattle.bx_hub.specs.declared.fault.HubFault.TheVariants as faults;
 
@@ -58,7 +58,8 @@ impl<J: Naming, P: Placing> Desk<J, P> {
     ghost use Rattle.bx_hub.specs.Held.{IsLevelWithout, Stands, answer_over, held_of, taken_by};
     ghost use Rattle.bx_hub.specs.Watches.{IsBack, IsLeftOrBack, told};
     ghost use Rattle.bx_hub.specs.Lying.{IfStored};
-    ghost use Rattle.bx_hub.specs.Posts.{IsOverrun};
+    ghost use Rattle.bx_hub.specs.Lags.{IsLagging};
+    ghost use Rattle.bx_hub.specs.Posts.{IsWithoutRoom};
     ghost use Rattle.bx_hub.specs.Waking.{put_of};
     ghost use Rattle.bx_shard.specs.Refining.{swept_places};
 
@@ -122,6 +123,7 @@ impl<J: Naming, P: Placing> Desk<J, P> {
         ensures one { (self.new.note ≡ self.old.note) ⊎ (self.new.note ≡ note.now) }
         ensures end { OnOk result (self.new.shard.place ≡ length (list_of self.new.note)) }
         ensures stopped { IfErr result (λ f. IsStopped f self.old.shard.index self.new.reader × IsStoppedIn self.old.activity f) }
+        ensures at { IfErr result (λ f. IsAt f self.new.shard.place) }
         ensures active { OnOk result (self.old.activity ≡ Active) }
         ensures still { (self.old.activity ≡ Active → ⊥) → self.new.shard ≡ self.old.shard }
         ensures woken { AreWoken (connect_in (state P.place_of self.old.shard)) (connect_in (state P.place_of self.new.shard)) wakers.old wakers.new }
@@ -169,30 +171,31 @@ impl<J: Naming, P: Placing> Desk<J, P> {
     }
 
     /// Brings the shard up to the longest note, as `bring_to` does, and says where it then stands, and which wakers it put into
-    /// the list. It is refused where the shard is overrun; the pass then has seen all that the shard's reader has.
+    /// the list. It is refused where the shard is overrun, there; the pass then has seen all that the shard's reader has.
     pub(crate) fn stand<G: Gate>(
         &mut self,
         alloc: Global,
         gate: &G,
         pass: &mut Note<J>,
         wakers: &mut Wakers,
-    ) -> (Result<Stood<J>, PostFault>, Woken)
+    ) -> (Result<Stood<J>, (PostFault, Option<Stood<J>>)>, Woken)
         ensures seen { IsPrefix pass.old pass.new }
         ensures stood { IfOk result.0 (λ s. s.index.value ≡ self.old.shard.index) }
         ensures still { OnOk result.0 (pass.new ≡ pass.old) }
-        ensures overrun { IfErr result.0 (λ f. IsOverrun f self.old.shard.index pass.new) }
+        ensures overrun { IfErr result.0 (λ r. IsWithoutRoom r.0 pass.new × IsLagging r.0 r.1 pass.new) }
         ensures woken { AreWoken (connect_in (state P.place_of self.old.shard)) (connect_in (state P.place_of self.new.shard)) wakers.old wakers.new }
         ensures put { wakers.new ≡ wakers.old ++ result.1 }
     {
         let before = listed(wakers);
         let brought = self.bring(alloc, gate, pass, wakers);
         let woken = Woken::since(before, wakers);
+        let stood = Stood::of(self);
         match brought {
             Err(HubFault::Overrun { shard, place }) => {
                 *pass = self.front();
-                (Err(PostFault::Overrun { shard, place }), woken)
+                (Err((PostFault::Overrun { shard, place }, Some(stood))), woken)
             }
-            _ => (Ok(Stood::of(self)), woken),
+            _ => (Ok(stood), woken),
         }
     }
 
@@ -213,6 +216,7 @@ impl<J: Naming, P: Placing> Desk<J, P> {
         ensures woken { AreWoken (connect_in (state P.place_of self.old.shard)) (connect_in (state P.place_of self.new.shard)) wakers.old wakers.new }
         ensures end { OnOk result (self.new.shard.place ≡ length (list_of self.new.note)) }
         ensures stopped { IfErr result (λ f. IsStopped f self.old.shard.index self.new.reader × IsStoppedIn Active f) }
+        ensures at { IfErr result (λ f. IsAt f self.new.shard.place) }
         ensures kept { (self.new.shard.index ≡ self.old.shard.index) × (self.new.taken ≡ self.old.taken) × (self.new.activity ≡ self.old.activity) }
     {
         let end = self.note.len();
@@ -229,6 +233,7 @@ impl<J: Naming, P: Placing> Desk<J, P> {
         ensures same { (self.new.note ≡ self.old.note) × (self.new.shard ≡ self.old.shard) × (self.new.taken ≡ self.old.taken) × (self.new.activity ≡ self.old.activity) }
         ensures batch { IfOk result (λ b. IsOf (arc_value b) self.new.shard.place × StandsIn J.config (list_of self.new.reader) (arc_value b)) }
         ensures stopped { IfErr result (λ f. IsStopped f self.old.shard.index self.new.reader × IsStoppedIn Active f) }
+        ensures at { IfErr result (λ f. IsAt f self.new.shard.place) }
     {
         let place = self.shard.place();
         match self.reader.next(place) {

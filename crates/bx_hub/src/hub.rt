@@ -204,7 +204,7 @@ impl<J: Naming, P: Placing, G: Gate + Drop, R: Wait + Drop> Hub<J, P, G, R> {
         };
         let lowest = match self.make_room(rt, alloc, &mut admission, pass) {
             Ok(lowest) => lowest,
-            Err(fault) => return Err((wanted, Unlisted::of(&*admission, fault, None))),
+            Err((fault, lag)) => return Err((wanted, Unlisted::of(&*admission, fault, lag))),
         };
         match admission.admit(alloc, &*self.placing, pass, wanted) {
             Ok(listed) => Ok(listed),
@@ -219,14 +219,17 @@ impl<J: Naming, P: Placing, G: Gate + Drop, R: Wait + Drop> Hub<J, P, G, R> {
         alloc: Global,
         admission: &mut Admission<J, R>,
         pass: &mut Note<J>,
-    ) -> Result<Stood<J>, PostFault>
+    ) -> Result<Stood<J>, (PostFault, Option<Stood<J>>)>
         ensures seen { IsPrefix pass.old pass.new }
-        ensures refused { IfErr result (λ f. IsWithoutRoom f pass.new) }
+        ensures refused { IfErr result (λ r. IsWithoutRoom r.0 pass.new × IsLagging r.0 r.1 pass.new) }
         ensures room { IfOk result (λ s. IsTrimmedTo s.place admission.new.writer) }
         ensures kept { admission.new.closed ≡ admission.old.closed }
     {
         let least = self.bring_least(rt, alloc, pass)?;
-        Ok(admission.trim(alloc, least)?)
+        match admission.trim(alloc, least) {
+            Ok(lowest) => Ok(lowest),
+            Err(_) => Err((PostFault::Memory, None)),
+        }
     }
 
     // Lets the window go of what all shards have passed. Where there is no memory for that, the next tick does it.
@@ -250,9 +253,9 @@ impl<J: Naming, P: Placing, G: Gate + Drop, R: Wait + Drop> Hub<J, P, G, R> {
         rt: &W,
         alloc: Global,
         pass: &mut Note<J>,
-    ) -> Result<Least<J>, PostFault>
+    ) -> Result<Least<J>, (PostFault, Option<Stood<J>>)>
         ensures seen { IsPrefix pass.old pass.new }
-        ensures refused { IfErr result (λ f. IsWithoutRoom f pass.new) }
+        ensures refused { IfErr result (λ r. IsWithoutRoom r.0 pass.new × IsLagging r.0 r.1 pass.new) }
         ensures all { IfOk result (λ l. length l.stood ≡ J.config.shards) }
     {
         let mut least = Least::new();
@@ -266,7 +269,6 @@ impl<J: Naming, P: Placing, G: Gate + Drop, R: Wait + Drop> Hub<J, P, G, R> {
 
     // Brings a shard up to the end of what was seen, and tells where it stands. The wakers of those who waited for what it answers
     // are put into the list, which whoever made it drops once the shard's lock is let go.
-    #[tactic(auto, using(crate::proofs::Posts::room_overrun))]
     fn stand_one<W: Wait>(
         &self,
         rt: &W,
@@ -274,12 +276,12 @@ impl<J: Naming, P: Placing, G: Gate + Drop, R: Wait + Drop> Hub<J, P, G, R> {
         index: usize,
         pass: &mut Note<J>,
         wakers: &mut Wakers,
-    ) -> (Result<Stood<J>, PostFault>, Option<Woken>)
+    ) -> (Result<Stood<J>, (PostFault, Option<Stood<J>>)>, Option<Woken>)
         requires { index < length self.now.desks.items }
         ensures seen { IsPrefix pass.old pass.new }
         ensures stood { IfOk result.0 (λ s. s.index.value ≡ index) }
         ensures still { OnOk result.0 (pass.new ≡ pass.old) }
-        ensures refused { IfErr result.0 (λ f. IsWithoutRoom f pass.new) }
+        ensures refused { IfErr result.0 (λ r. IsWithoutRoom r.0 pass.new × IsLagging r.0 r.1 pass.new) }
         ensures put { wakers.new ≡ wakers.old ++ put_of result.1 }
         ensures asked { IfNone result.1 (IsErr result.0) }
     {
@@ -290,13 +292,8 @@ impl<J: Naming, P: Placing, G: Gate + Drop, R: Wait + Drop> Hub<J, P, G, R> {
             }
             Err(other) => {
                 let found = other.index();
-                (
-                    Err(PostFault::Misplaced {
-                        shard: index,
-                        found,
-                    }),
-                    None,
-                )
+                let shard = index;
+                (Err((PostFault::Misplaced { shard, found }, None)), None)
             }
         }
     }

@@ -1,8 +1,7 @@
--- What is said of a response holds of what is given for it.
-use Rattle.std.proofs.Common.{◌≡◌, IfOk, Result, Ok, Err, subst}
+-- What is said of a response that was made holds of one that follows from it.
+use Rattle.std.proofs.Common.{IfOk, Result, Ok, Err}
 
--- a response that was made so, by what follows from that
-pub given_so : {A E F : Type 0} (P Q : A → Type 0) (made : Result A E) (given : Result A F) → IfOk given (λ x. made ≡ Ok x) → IfOk made P
-    → ((x : A) → P x → Q x) → IfOk given Q
-given_so P Q made (Ok x) same holds follows = follows x (subst (λ m. IfOk m P) same holds)
-given_so P Q made (Err fault) same holds follows = tt
+-- what holds of a response, where there is one, gives what follows from that
+pub given_so : {A F : Type 0} (P Q : A → Type 0) (given : Result A F) → IfOk given P → ((x : A) → P x → Q x) → IfOk given Q
+given_so P Q (Ok x) holds follows = follows x holds
+given_so P Q (Err fault) holds follows = tt

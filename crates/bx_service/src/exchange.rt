@@ -1,7 +1,8 @@
 //! One request and its response.
-ghost use Rattle.std.specs.Prelude.{◌≡◌, [], IfOk, IfSome, Ok, MatchOption, option_copied, option_map, string_bytes, unwrap_or};
+ghost use Rattle.std.specs.Prelude.{◌≡◌, [], Err, IfOk, IfSome, None, MatchOption, option_copied, option_map, string_bytes, unwrap_or};
 ghost use Rattle.std.specs.Arc.{arc_value};
 ghost use Rattle.futures.specs.Poll.{IfReady, OnPending};
+ghost use Rattle.futures.specs.declared.task.Poll.TheVariants.{Ready};
 ghost use Rattle.futures.specs.Task.{IsArmed, Keeps};
 ghost use Rattle.bx_service.specs.Places.{IsPlaced};
 ghost use Rattle.bx_service.specs.Polling.{CanPoll};
@@ -11,6 +12,8 @@ ghost use Rattle.bx_service.specs.Beginnings.{Begins, IsAsking, IsCollecting, sa
 ghost use Rattle.bx_service.specs.declared.exchange.State.TheVariants.{Refused};
 ghost use Rattle.bx_transport.specs.Statuses.{transport_status};
 ghost use Rattle.bx_transport.specs.declared.error.TransportError.TheVariants.{TooLarge};
+ghost use Rattle.bx_service.specs.Responses.{IsRefusal};
+ghost use Rattle.bx_service.specs.declared.service.ServiceFault.TheVariants.{Memory};
 ghost use Rattle.bx_service.specs.Exchanges.{ForAsked, ForCollected, ForDocuments, ForItems, MayAnswer, Sent};
 
 use crate::backend::{Backend, Unanswered};
@@ -33,14 +36,14 @@ use http::header::{CONTENT_LENGTH, CONTENT_TYPE, HeaderValue};
 use http::request::Parts;
 use http::{Request, Response};
 use http_body::Body;
-use std::alloc::{AllocError, Global};
+use std::alloc::Global;
 use std::sync::Arc;
 
 /// The future of a response.
 #[derive(Drop)]
 pub struct Exchange<S, I, B, O: Observer> {
     alloc: Global,
-    // None where there was no memory for one more handle on it and on the observer.
+    // None where there was no memory for one more handle on it and on the observer, and after the output.
     backend: Option<Arc<S, Global>>,
     state: State<I, B>,
     watch: Watch<O>,
@@ -258,20 +261,42 @@ where
     }
 }
 
-// The response of a request whose answers came.
-fn answered(
+// The response of a request that is refused.
+fn refused<O: Observer>(
     alloc: Global,
+    watch: &Watch<O>,
+    status: Status,
+) -> Result<Response<Pieces<Bytes>>, ServiceFault>
+    ensures { IfOk result (IsRefusal status) }
+{
+    match refusal(alloc, status) {
+        Ok(response) => {
+            watch.respond(status);
+            Ok(response)
+        }
+        Err(_) => Err(watch.give_up()),
+    }
+}
+
+// The response of a request whose answers came.
+fn answered<O: Observer>(
+    alloc: Global,
+    watch: &Watch<O>,
     callback: Option<&str>,
     gathered: Result<Vec<Item>, Unanswered>,
-) -> Result<Response<Pieces<Bytes>>, AllocError>
+) -> Result<Response<Pieces<Bytes>>, ServiceFault>
     ensures { IfOk result (ForItems (option_map (λ name. name.now) callback.entry) gathered) }
 {
+    watch.answer(&gathered);
     let Ok(items) = gathered else {
-        return refusal(alloc, Status::Unavailable);
+        return refused(alloc, watch, Status::Unavailable);
     };
     match answer(alloc, callback, items.as_slice()) {
-        Ok(response) => Ok(response),
-        Err(_) => refusal(alloc, Status::Unavailable),
+        Ok(response) => {
+            watch.respond(Status::Ok);
+            Ok(response)
+        }
+        Err(_) => refused(alloc, watch, Status::Unavailable),
     }
 }
 
@@ -330,13 +355,12 @@ where
             State::Held { callback, items } => match items.poll(cx) {
                 Poll::Pending => Poll::Pending,
                 Poll::Ready(gathered) => {
-                    self.watch.answer(&gathered);
                     let callback = callback.as_ref().map(|it| it.as_str());
-                    Poll::Ready(self.watch.respond(answered(alloc, callback, gathered)))
+                    Poll::Ready(answered(alloc, &self.watch, callback, gathered))
                 }
             },
-            State::Refused(status) => Poll::Ready(self.watch.respond(refusal(alloc, *status))),
-            _ => Poll::Ready(self.watch.respond(Err(AllocError))),
+            State::Refused(status) => Poll::Ready(refused(alloc, &self.watch, *status)),
+            _ => Poll::Ready(Err(self.watch.give_up())),
         }
     }
 }
@@ -357,15 +381,21 @@ where
     ghost gives = { λ e given. IfOk given (λ sent. MatchOption e.backend ⊥
         (λ backend. MayAnswer I.gives (S.admits (arc_value backend)) D.unread B.yields e.state sent)) };
 
-    fn poll(&mut self, cx: &mut Context<'_>) -> Poll<Self::Output> {
+    // With its output it lets go of the backend: a further poll gives want of memory, posts nothing and takes nothing.
+    fn poll(&mut self, cx: &mut Context<'_>) -> Poll<Self::Output>
+        ensures over { IfReady result (λ _. self.new.backend ≡ None) }
+        ensures after { self.old.backend ≡ None → (result ≡ Ready (Err Memory)) × (self.new ≡ self.old) }
+    {
         let Some(backend) = self.backend.take() else {
-            return Poll::Ready(self.watch.respond(Err(AllocError)));
+            return Poll::Ready(Err(self.watch.give_up()));
         };
-        let admitted = self.poll_admitted(&*backend, cx);
-        self.backend = Some(backend);
-        if admitted.is_pending() {
-            return Poll::Pending;
+        let polled = match self.poll_admitted(&*backend, cx) {
+            Poll::Pending => Poll::Pending,
+            Poll::Ready(()) => self.poll_answered(cx),
+        };
+        if polled.is_pending() {
+            self.backend = Some(backend);
         }
-        self.poll_answered(cx)
+        polled
     }
 }

@@ -1,6 +1,6 @@
 //! Who looks on at connections and requests.
 use bx_hub::PostFault;
-use bx_message::Item;
+use bx_message::{Item, Status};
 use std::alloc::Global;
 use std::sync::Arc;
 
@@ -22,8 +22,8 @@ pub enum Event<'a> {
         place: Option<u64>,
         items: Option<&'a [Item]>,
     },
-    /// Its response has this code; none where there was no memory for one.
-    Responded(Option<u16>),
+    /// Its response has this status; none where there was no memory for one.
+    Responded(Option<Status>),
     /// The future of its response is gone.
     Left {
         was_admitted: bool,

@@ -1,12 +1,12 @@
 //! What an observer is told when something ends.
-ghost use Rattle.std.specs.Prelude.{◌≡◌, IfOk, Ok};
+ghost use Rattle.std.specs.Prelude.{◌≡◌};
+ghost use Rattle.bx_service.specs.declared.service.ServiceFault.TheVariants.{Memory};
 
 use crate::backend::Unanswered;
 use crate::observer::{Event, Observer};
 use crate::service::ServiceFault;
 use bx_hub::PostFault;
-use bx_message::Item;
-use http::Response;
+use bx_message::{Item, Status};
 use std::alloc::{AllocError, Global};
 use std::sync::Arc;
 
@@ -105,23 +105,17 @@ impl<O: Observer> Watch<O> {
         self.tell(Event::Answered { place, items });
     }
 
-    /// Its response, or that there is no memory for one.
-    pub(crate) fn respond<T>(
-        &self,
-        response: Result<Response<T>, AllocError>,
-    ) -> Result<Response<T>, ServiceFault>
-        ensures { IfOk result (λ sent. response ≡ Ok sent) }
+    /// Its response has this status.
+    pub(crate) fn respond(&self, status: Status) {
+        self.tell(Event::Responded(Some(status)));
+    }
+
+    /// There was no memory for its response.
+    pub(crate) fn give_up(&self) -> ServiceFault
+        ensures { result ≡ Memory }
     {
-        match response {
-            Ok(response) => {
-                self.tell(Event::Responded(Some(response.status().as_u16())));
-                Ok(response)
-            }
-            Err(_) => {
-                self.tell(Event::Responded(None));
-                Err(ServiceFault::Memory)
-            }
-        }
+        self.tell(Event::Responded(None));
+        ServiceFault::Memory
     }
 }
 

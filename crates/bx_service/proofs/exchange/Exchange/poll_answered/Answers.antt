@@ -10,5 +10,5 @@ pub returns-in-Ready-clause-value : goal.returns-in-Ready-clause-value
 returns-in-Ready-clause-value g c =
     let told : IfOk c.answered.result (ForItems (option_map string_bytes c.in-Held.callback) c.in-Ready.gathered) = search rules in
     rw c.in-Held.is (given_so (ForItems (option_map string_bytes c.in-Held.callback) c.in-Ready.gathered) (λ sent. (backend : g.row.S.Denot)
-    → ForFuture g.I.Future.gives (option_map string_bytes c.in-Held.callback) c.in-Held.items sent) c.answered.result c.respond.result c.respond.ensures told
+    → ForFuture g.I.Future.gives (option_map string_bytes c.in-Held.callback) c.in-Held.items sent) c.answered.result told
     (λ sent told backend. (c.in-Ready.gathered, (c.in-Ready.ensures.value, told))))
