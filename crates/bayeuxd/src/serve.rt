@@ -206,7 +206,15 @@ where
         &rt,
         move || tick(&rt, alloc, &*ticked, &clock, &*counted, crowd, &*over),
     )?;
-    let served = serve_backend(rt, &mut runtime, listener, backend, observer, arguments, end);
+    let served = serve_backend(
+        rt,
+        &mut runtime,
+        listener,
+        backend,
+        observer,
+        arguments,
+        end,
+    );
     counts.set_listens(false);
     is_over.store(true, Ordering::SeqCst);
     ticker.join(&rt);
@@ -282,6 +290,8 @@ where
     A: Future<Output = ()>,
     requires { A.can_poll end }
 {
-    let service = BayeuxService::observed(rt.alloc(), backend, observer)?.with_limit(arguments.body);
+    let service = BayeuxService::observed(rt.alloc(), backend, observer)?.with_limit(
+        arguments.body,
+    );
     serve_until(rt, runtime, listener, service, arguments.connections, end)
 }

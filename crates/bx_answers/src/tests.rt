@@ -2,7 +2,7 @@
 use crate::{AnswerFault, AnswerLog, NotedAnswers, TakenAnswers, answer_line};
 use bx_advice::{Config, Outcome};
 use bx_hub::PostFault;
-use bx_message::{AckReply, Item, RawJson, Reply, Text};
+use bx_message::{AckReply, Item, RawJson, Reply, Status, Text};
 use bx_service::{Event, Observer};
 use std::alloc::{AllocError, Global};
 use std::process::Abort;
@@ -133,7 +133,7 @@ fn what_is_answered_is_noted(rt: HostRuntime) -> Result<(), Fail> {
             Event::Asked,
             Event::Admitted(place),
             Event::Refused(PostFault::BadMoment),
-            Event::Responded(Some(200)),
+            Event::Responded(Some(Status::Ok)),
             Event::Left { was_admitted: true },
         ] {
             noted.see(event);

@@ -193,7 +193,10 @@ impl<J: Naming, P: Placing> Desk<J, P> {
         match brought {
             Err(HubFault::Overrun { shard, place }) => {
                 *pass = self.front();
-                (Err((PostFault::Overrun { shard, place }, Some(stood))), woken)
+                (
+                    Err((PostFault::Overrun { shard, place }, Some(stood))),
+                    woken,
+                )
             }
             _ => (Ok(stood), woken),
         }

@@ -276,7 +276,10 @@ impl<J: Naming, P: Placing, G: Gate + Drop, R: Wait + Drop> Hub<J, P, G, R> {
         index: usize,
         pass: &mut Note<J>,
         wakers: &mut Wakers,
-    ) -> (Result<Stood<J>, (PostFault, Option<Stood<J>>)>, Option<Woken>)
+    ) -> (
+        Result<Stood<J>, (PostFault, Option<Stood<J>>)>,
+        Option<Woken>,
+    )
         requires { index < length self.now.desks.items }
         ensures seen { IsPrefix pass.old pass.new }
         ensures stood { IfOk result.0 (λ s. s.index.value ≡ index) }

@@ -33,17 +33,18 @@ impl Observer for Digits {
                 place: Some(9),
                 items: None,
             } => 7,
-            Event::Responded(Some(200)) => 8,
-            Event::Responded(Some(503)) => 9,
-            Event::Responded(Some(400)) => 10,
-            Event::Responded(Some(405)) => 11,
+            Event::Responded(Some(Status::Ok)) => 8,
+            Event::Responded(Some(Status::Unavailable)) => 9,
+            Event::Responded(Some(Status::BadRequest)) => 10,
+            Event::Responded(Some(Status::MethodNotAllowed)) => 11,
             Event::Left { was_admitted: true } => 12,
-            Event::Left { was_admitted: false } => 13,
+            Event::Left {
+                was_admitted: false,
+            } => 13,
             _ => 15,
         };
         let seen = self.0.load(Ordering::SeqCst);
-        self.0
-            .store(seen.wrapping_mul(16).wrapping_add(digit), Ordering::SeqCst);
+        self.0.store(seen.wrapping_mul(16).wrapping_add(digit), Ordering::SeqCst);
     }
 }
 
