@@ -1,10 +1,11 @@
 //! The record of what the hub lists: its file, and the thread that writes it.
 use bx_advice::Config;
-use bx_answers::{AnswerFault, AnswerLog, TakenAnswers};
+use bx_answers::{AnswerLog, TakenAnswers};
 use bx_entry::ByRemainder;
-use bx_hub::{Hub, OpenGate, RecordFault, RecordFront};
-use bx_record::config_text;
-use bx_recorder::{CountedFile, End, Out, Source, Taken, Written, write_out};
+use bx_hub::{Hub, OpenGate, RecordFront};
+use bx_record::{
+    CountedFile, End, Out, RecordFault, Source, Taken, Written, config_text, write_out,
+};
 use bx_window::Naming;
 use log::{Log, info, warn};
 use std::alloc::{AllocError, AllocGlobal, Global};
@@ -159,7 +160,7 @@ impl<J: Naming, R: Wait + Log + Drop> Source for HubRecord<J, R> {
     fn take_notes(&mut self, empty: Vec<u8>) -> Vec<u8> {
         let TakenAnswers { bytes, fault, .. } = self.log.take(&self.rt, empty);
         if let Some(fault) = fault {
-            let why = lack_of(fault);
+            let why = why_of(fault);
             warn!(&self.rt; target: "bayeuxd", "answers are recorded no further: {why}");
         }
         bytes
@@ -186,14 +187,6 @@ fn tell<R: Log>(rt: &R, written: &Written<Ended>) {
         End::Refused(error) => {
             warn!(rt; target: "bayeuxd", "record ended after {count} bytes: {error}");
         }
-    }
-}
-
-// What a line says of it.
-fn lack_of(fault: AnswerFault) -> &'static str {
-    match fault {
-        AnswerFault::Full => "more than 64 MiB would wait to be written",
-        AnswerFault::Memory => "out of memory",
     }
 }
 

@@ -2,50 +2,51 @@
 ghost use Rattle.std.specs.Prelude.{◌≡◌, []};
 
 use crate::line::answer_line;
-use crate::waiting::{AnswerFault, TakenAnswers, Waiting};
+use crate::lines::{Lines, TakenAnswers};
 use bx_message::Item;
+use bx_record::RecordFault;
 use std::alloc::Global;
 use std::sync::{Mutex, Wait};
 
 /// The lines of answers that wait to be written: threads add to them, and one takes them out. At most 64 MiB wait.
 #[derive(Drop)]
 pub struct AnswerLog {
-    waiting: Mutex<Waiting>,
+    lines: Mutex<Lines>,
 }
 
 impl AnswerLog {
     /// Answers are noted from now on.
     pub fn new(alloc: Global) -> AnswerLog {
         AnswerLog {
-            waiting: Mutex::new(Waiting::new(alloc)),
+            lines: Mutex::new(Lines::new(alloc)),
         }
     }
 
     /// Notes that these items answered the request whose first message stands at this place, unless no more are noted.
     pub fn note<R: Wait>(&self, rt: &R, alloc: Global, place: u64, items: &[Item]) {
-        if !self.waiting.lock(rt).is_open() {
+        if !self.lines.lock(rt).is_open() {
             return;
         }
         match answer_line(alloc, place, items) {
             Ok(line) => self.add(rt, line.as_slice()),
-            Err(_) => self.end(rt, AnswerFault::Memory),
+            Err(_) => self.end(rt, RecordFault::Memory),
         }
     }
 
     /// Puts a line behind the others, unless no more are noted. Where more than 64 MiB would wait or memory is refused, it is left out, and none is noted
     /// from now on.
     pub(crate) fn add<R: Wait>(&self, rt: &R, line: &[u8]) {
-        self.waiting.lock(rt).add(line);
+        self.lines.lock(rt).add(line);
     }
 
     /// No more answers are noted, for this reason, unless one was found before.
-    pub(crate) fn end<R: Wait>(&self, rt: &R, fault: AnswerFault) {
-        self.waiting.lock(rt).end(fault);
+    pub(crate) fn end<R: Wait>(&self, rt: &R, fault: RecordFault) {
+        self.lines.lock(rt).end(fault);
     }
 
     /// No more answers are noted, with nothing to tell, and what waits is let go of.
     pub fn stop<R: Wait>(&self, rt: &R, alloc: Global) {
-        self.waiting.lock(rt).stop(alloc);
+        self.lines.lock(rt).stop(alloc);
     }
 
     /// Takes out all that waits, and leaves an empty buffer in its place. Each line is of a request that was listed before it was added: what is
@@ -53,6 +54,6 @@ impl AnswerLog {
     pub fn take<R: Wait>(&self, rt: &R, empty: Vec<u8>) -> TakenAnswers
         requires { empty.items ≡ [] }
     {
-        self.waiting.lock(rt).take(empty)
+        self.lines.lock(rt).take(empty)
     }
 }

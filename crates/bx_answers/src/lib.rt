@@ -3,12 +3,12 @@
 
 mod answer_log;
 mod line;
+mod lines;
 mod observer;
 #[cfg(test)]
 mod tests;
-mod waiting;
 
 pub use answer_log::AnswerLog;
 pub use line::answer_line;
+pub use lines::TakenAnswers;
 pub use observer::NotedAnswers;
-pub use waiting::{AnswerFault, TakenAnswers};

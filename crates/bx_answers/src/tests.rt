@@ -1,8 +1,9 @@
 //! Answers whose digests `sha256sum` told.
-use crate::{AnswerFault, AnswerLog, NotedAnswers, TakenAnswers, answer_line};
+use crate::{AnswerLog, NotedAnswers, TakenAnswers, answer_line};
 use bx_advice::{Config, Outcome};
 use bx_hub::PostFault;
 use bx_message::{AckReply, Item, RawJson, Reply, Status, Text};
+use bx_record::RecordFault;
 use bx_service::{Event, Observer};
 use std::alloc::{AllocError, Global};
 use std::process::Abort;
@@ -34,7 +35,7 @@ fn check_taken<R: Wait + Abort>(
     alloc: Global,
     log: &AnswerLog,
     wanted: &str,
-    wanted_fault: Option<AnswerFault>,
+    wanted_fault: Option<RecordFault>,
 ) {
     let TakenAnswers { bytes, fault, .. } = log.take(rt, Vec::new(alloc));
     assert_eq!(rt; bytes.as_slice(), wanted.as_bytes());
@@ -76,17 +77,17 @@ fn nothing_is_added_behind_an_end(rt: HostRuntime) -> Result<(), Fail> {
     let alloc = rt.alloc();
     let log = AnswerLog::new(alloc);
     log.add(&rt, b"one\n");
-    log.end(&rt, AnswerFault::Memory);
-    log.end(&rt, AnswerFault::Full);
+    log.end(&rt, RecordFault::Memory);
+    log.end(&rt, RecordFault::Full);
     log.add(&rt, b"two\n");
-    check_taken(&rt, alloc, &log, "one\n", Some(AnswerFault::Memory));
-    log.end(&rt, AnswerFault::Full);
+    check_taken(&rt, alloc, &log, "one\n", Some(RecordFault::Memory));
+    log.end(&rt, RecordFault::Full);
     log.add(&rt, b"three\n");
     check_taken(&rt, alloc, &log, "", None);
     let log = AnswerLog::new(alloc);
     log.add(&rt, b"one\n");
     log.stop(&rt, alloc);
-    log.end(&rt, AnswerFault::Full);
+    log.end(&rt, RecordFault::Full);
     log.add(&rt, b"two\n");
     check_taken(&rt, alloc, &log, "", None);
     Ok(())
@@ -105,7 +106,7 @@ fn a_full_log_ends(rt: HostRuntime) -> Result<(), Fail> {
     log.add(&rt, b"");
     let TakenAnswers { bytes, fault, .. } = log.take(&rt, Vec::new(alloc));
     assert_eq!(rt; bytes.len(), 64 << 20);
-    assert_eq!(rt; fault, Some(AnswerFault::Full));
+    assert_eq!(rt; fault, Some(RecordFault::Full));
     log.add(&rt, b"z");
     check_taken(&rt, alloc, &log, "", None);
     Ok(())

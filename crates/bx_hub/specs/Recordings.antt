@@ -8,10 +8,10 @@ module _ {J : Type 0} {g : Naming.Ghosts J} where
   -- the record goes on with this text
   pub record GoesOn (old : Recording J g) (text : List ℕ) (new : Recording J g) : Type 0 where
     pub from : new.from ≡ old.from
-    pub waiting : new.waiting.items ≡ old.waiting.items ++ text
+    pub waiting : new.waiting ≡ old.waiting ++ text
 
   -- what is left of a record that ends: all that waited, up to this front
   pub record EndsBefore (old : Recording J g) (front : List LogStep) (end : RecordEnd J g) : Type 0 where
     pub from : end.recording.from ≡ old.from
-    pub waiting : end.recording.waiting.items ≡ old.waiting.items
+    pub waiting : end.recording.waiting ≡ old.waiting
     pub upto : end.front ≡ front

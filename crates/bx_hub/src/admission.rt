@@ -16,7 +16,7 @@ ghost use Rattle.bx_record.specs.Record.{record_of};
 ghost use Rattle.bx_hub.specs.Surveys.{survey_of};
 ghost use Rattle.bx_hub.specs.Posts.{AreSlotsAt, IsAdmittedAt, IsRefused, IsTrimmedTo, IsUnpublished, IsWhole};
 
-use crate::fault::{PostFault, RecordFault};
+use crate::fault::PostFault;
 use crate::least::{Least, Stood};
 use crate::listable::{Listable, Spent};
 use crate::recording::{RecordFront, Recording, inputs_by};
@@ -25,7 +25,7 @@ use bx_advice::Config;
 use bx_entry::{Input, Placing, Slot};
 use bx_history::History;
 use bx_message::Sequence;
-use bx_recorder::Taken;
+use bx_record::{RecordFault, Taken};
 use bx_registry::{AdmitFault, Plan, Registry};
 use bx_window::{Bundle, LogWriter, Naming, Note, PublishFault};
 use std::alloc::{AllocError, Global};
@@ -162,7 +162,7 @@ impl<J: Naming, R: Wait + Drop> Admission<J, R> {
     /// Begins to record what is listed from now on. False where the log has steps: nothing is changed then.
     pub(crate) fn start_record(&mut self, alloc: Global) -> bool
         ensures same { (self.new.registry ≡ self.old.registry) × (self.new.writer ≡ self.old.writer) × (self.new.closed ≡ self.old.closed) }
-        ensures started { result ≡ true → IfSome self.new.recording (λ r. (r.from.front ≡ []) × (r.waiting.items ≡ [])) × (is_some self.new.recording ≡ true) }
+        ensures started { result ≡ true → IfSome self.new.recording (λ r. (r.from.front ≡ []) × (r.waiting ≡ [])) × (is_some self.new.recording ≡ true) }
         ensures empty { result ≡ true → self.old.writer ≡ [] }
         ensures refused { result ≡ false → (0 < length self.old.writer) × (self.new.recording ≡ self.old.recording) × (self.new.record_end ≡ self.old.record_end) }
     {
@@ -185,7 +185,7 @@ impl<J: Naming, R: Wait + Drop> Admission<J, R> {
 
     /// How many bytes of the record wait.
     pub(crate) fn record_waiting(&self) -> usize
-        ensures { MatchOption self.now.recording (result ≡ 0) (λ r. result ≡ length r.waiting.items) }
+        ensures { MatchOption self.now.recording (result ≡ 0) (λ r. result ≡ length r.waiting) }
     {
         match &self.recording {
             Some(recording) => recording.waiting(),
@@ -201,9 +201,9 @@ impl<J: Naming, R: Wait + Drop> Admission<J, R> {
     ) -> Option<Taken<RecordFront<J>, RecordFault>>
         requires { empty.items ≡ [] }
         ensures same { (self.new.registry ≡ self.old.registry) × (self.new.writer ≡ self.old.writer) × (self.new.closed ≡ self.old.closed) }
-        ensures taken { IfSome self.old.recording (λ r. MatchOption result ⊥ (λ t. (t.chunk.from ≡ r.from) × (t.chunk.to.front ≡ self.old.writer) × (t.chunk.bytes ≡ r.waiting) × (t.fault ≡ None))) }
-        ensures left { IfSome self.old.recording (λ _. MatchOption self.new.recording ⊥ (λ r. (r.from.front ≡ self.old.writer) × (r.waiting.items ≡ []))) }
-        ensures end { IfNone self.old.recording (IfSome self.old.record_end (λ e. MatchOption result ⊥ (λ t. (t.chunk.from ≡ e.recording.from) × (t.chunk.to.front ≡ e.front) × (t.chunk.bytes ≡ e.recording.waiting) × (t.fault ≡ Some e.fault)))) }
+        ensures taken { IfSome self.old.recording (λ r. MatchOption result ⊥ (λ t. (t.chunk.from ≡ r.from) × (t.chunk.to.front ≡ self.old.writer) × (t.chunk.bytes.items ≡ r.waiting) × (t.fault ≡ None))) }
+        ensures left { IfSome self.old.recording (λ _. MatchOption self.new.recording ⊥ (λ r. (r.from.front ≡ self.old.writer) × (r.waiting ≡ []))) }
+        ensures end { IfNone self.old.recording (IfSome self.old.record_end (λ e. MatchOption result ⊥ (λ t. (t.chunk.from ≡ e.recording.from) × (t.chunk.to.front ≡ e.front) × (t.chunk.bytes.items ≡ e.recording.waiting) × (t.fault ≡ Some e.fault)))) }
         ensures none { IfNone self.old.recording (IfNone self.old.record_end (result ≡ None)) }
         ensures gone { IfNone self.old.recording ((self.new.recording ≡ None) × (self.new.record_end ≡ None)) }
     {

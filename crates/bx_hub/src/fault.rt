@@ -1,7 +1,6 @@
 //! What posts and ticks are answered, and why the hub refuses.
 ghost use Rattle.std.specs.Prelude.{◌≡◌, ◌+◌, ◌<◌, ◌^◌};
 ghost use Rattle.bx_hub.specs.declared.fault.PostFault.TheVariants as faults;
-ghost use Rattle.bx_hub.specs.declared.fault.RecordFault.TheVariants as ends;
 ghost use Rattle.bx_hub.specs.Faults.{count_of, of_planning, of_reading, one_more};
 
 use crate::brought::AllBrought;
@@ -126,25 +125,6 @@ pub enum HubFault {
     /// Under the lock of the shard that was asked for stood this other one. The hub puts each under the lock of its own index, which
     /// no clause can say across a lock.
     Misplaced { found: usize },
-}
-
-/// Why a record goes no further.
-#[derive(Clone, Copy, Debug, PartialEq, Eq)]
-pub enum RecordFault {
-    /// More bytes would wait to be written than may.
-    Full,
-    /// No line can say a request that was listed: the form that would carry its documents is longer than a body may be.
-    Unsayable,
-    /// Memory was refused.
-    Memory,
-}
-
-impl From<AllocError> for RecordFault {
-    ghost from_gives = { λ _ fault. fault ≡ ends.Memory };
-
-    fn from(_error: AllocError) -> RecordFault {
-        RecordFault::Memory
-    }
 }
 
 impl From<AllocError> for PostFault {

@@ -19,7 +19,7 @@ mod survey;
 pub use brought::AllBrought;
 pub use bx_workers::{Gate, OpenGate};
 pub use desk::{Left, Watch};
-pub use fault::{HubFault, Lagging, PostFault, PostReceipt, RecordFault, TickReceipt};
+pub use fault::{HubFault, Lagging, PostFault, PostReceipt, TickReceipt};
 pub use hub::Hub;
 pub use pass::Pass;
 pub use reading::{Refused, Unlisted};

@@ -2,24 +2,19 @@
 ghost use Rattle.std.specs.Prelude.{◌≡◌, ◌≢◌, ◌+◌, ◌<◌, ◌++◌, ◌∷◌, [], false, length, OnErr, OnOk, IfErr, IfOk};
 ghost use Rattle.std.specs.List.{AllByRecursion};
 ghost use Rattle.bx_hub.specs.Records.{documents_in, input_in, inputs_by, list_by, record_props};
-ghost use Rattle.bx_hub.specs.declared.fault.RecordFault.TheVariants as faults;
-ghost use Rattle.bx_hub.specs.declared.recording.TheConstants.{MOST_WAITING};
+ghost use Rattle.bx_record.specs.declared.waiting.RecordFault.TheVariants as faults;
+ghost use Rattle.bx_record.specs.declared.waiting.TheConstants.{MOST_WAITING};
 ghost use Rattle.bx_record.specs.Laws.{CanRecord};
 ghost use Rattle.bx_record.specs.Record.{can_say, input_text, record_of};
 ghost use Rattle.bx_window.specs.Steps.{inputs_of, list_of};
 
-use crate::fault::RecordFault;
 use crate::listable::Listable;
 use bx_entry::Input;
 use bx_history::{History, Lists};
-use bx_record::{request_text, tick_text};
-use bx_recorder::{Chunk, Front};
+use bx_record::{Chunk, Front, RecordFault, Waiting, request_text, tick_text};
 use bx_window::{Naming, Note};
 use std::alloc::Global;
 use std::mem;
-
-/// How many bytes of a record may wait.
-const MOST_WAITING: usize = 64 << 20;
 
 /// How far a record goes: a front of the hub's log, whose requests and ticks make just its list, and each of which a line says.
 #[derive(Drop)]
@@ -81,8 +76,8 @@ impl<J: Naming> Front for RecordFront<J> {
 pub(crate) struct Recording<J: Naming> {
     from: RecordFront<J>,
     inputs: History<Input>,
-    waiting: Vec<u8>,
-    ghost whole: { record_of (inputs_of from.front) ++ waiting.items ≡ record_of inputs },
+    waiting: Waiting,
+    ghost whole: { record_of (inputs_of from.front) ++ waiting ≡ record_of inputs },
     ghost recordable: { AllByRecursion CanRecord inputs } by { Prim.hlevel record_props },
 }
 
@@ -90,18 +85,18 @@ impl<J: Naming> Recording<J> {
     /// Nothing was listed.
     pub(crate) fn new(alloc: Global, from: RecordFront<J>) -> Recording<J>
         requires { from.front ≡ [] }
-        ensures { (result.from ≡ from) × (result.inputs ≡ []) × (result.waiting.items ≡ []) }
+        ensures { (result.from ≡ from) × (result.inputs ≡ []) × (result.waiting ≡ []) }
     {
         Recording {
             from,
             inputs: History::new(),
-            waiting: Vec::new(alloc),
+            waiting: Waiting::new(alloc),
         }
     }
 
     /// How many bytes wait.
     pub(crate) fn waiting(&self) -> usize
-        ensures { result ≡ length self.now.waiting.items }
+        ensures { result ≡ length self.now.waiting }
     {
         self.waiting.len()
     }
@@ -110,17 +105,13 @@ impl<J: Naming> Recording<J> {
     #[tactic(auto, using(crate::proofs::Records::all_recordable))]
     pub(crate) fn add(&mut self, alloc: Global, listed: &Listable) -> Result<(), RecordFault>
         requires { inputs_by listed.now ≡ input_in listed.now ∷ [] }
-        ensures added { OnOk result ((self.new.inputs ≡ self.old.inputs ++ input_in listed.now ∷ []) × (self.new.waiting.items ≡ self.old.waiting.items ++ input_text (input_in listed.now))) }
-        ensures same { OnErr result ((self.new.inputs ≡ self.old.inputs) × (self.new.waiting.items ≡ self.old.waiting.items)) }
+        ensures added { OnOk result ((self.new.inputs ≡ self.old.inputs ++ input_in listed.now ∷ []) × (self.new.waiting ≡ self.old.waiting ++ input_text (input_in listed.now))) }
+        ensures same { OnErr result ((self.new.inputs ≡ self.old.inputs) × (self.new.waiting ≡ self.old.waiting)) }
         ensures from { self.new.from ≡ self.old.from }
-        ensures full { IfErr result (λ f. f ≡ faults.Full → MOST_WAITING < length self.old.waiting.items + length (input_text (input_in listed.now))) }
+        ensures full { IfErr result (λ f. f ≡ faults.Full → MOST_WAITING < length self.old.waiting + length (input_text (input_in listed.now))) }
         ensures unsayable { IfErr result (λ f. f ≡ faults.Unsayable → can_say (documents_in listed.now) ≡ false) }
     {
-        let lines = text_of(alloc, listed)?;
-        if lines.len() > MOST_WAITING.saturating_sub(self.waiting.len()) {
-            return Err(RecordFault::Full);
-        }
-        self.waiting.extend_from_slice(lines.as_slice())?;
+        self.waiting.push(text_of(alloc, listed)?.as_slice())?;
         self.inputs.join(&inputs_by(listed));
         Ok(())
     }
@@ -131,13 +122,12 @@ impl<J: Naming> Recording<J> {
         requires listed { list_by self.old.inputs ≡ list_of upto }
         requires empty { empty.items ≡ [] }
         ensures fronts { (result.from ≡ self.old.from) × (result.to.front ≡ upto) }
-        ensures bytes { result.bytes ≡ self.old.waiting }
-        ensures left { (self.new.from.front ≡ upto) × (self.new.waiting.items ≡ []) × (self.new.inputs ≡ self.old.inputs) }
+        ensures bytes { result.bytes.items ≡ self.old.waiting }
+        ensures left { (self.new.from.front ≡ upto) × (self.new.waiting ≡ []) × (self.new.inputs ≡ self.old.inputs) }
     {
         let to = RecordFront::of(upto);
         let from = mem::replace(&mut self.from, to.again());
-        let bytes = mem::replace(&mut self.waiting, empty);
-        Chunk::new(from, to, bytes)
+        Chunk::new(from, to, self.waiting.take(empty))
     }
 }
 

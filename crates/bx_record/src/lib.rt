@@ -1,19 +1,31 @@
-//! The text that records what a server took in, in lines that the replay reads, and the laws that it reads back.
+//! The text that records what a server took in, in lines that the replay reads, the laws that it reads back, and how it is written out.
 #![tactic(auto)]
 
 mod answer;
+mod chunk;
 mod config;
+mod counted;
 mod form;
 mod laws;
 mod nonce;
+mod out;
+mod source;
 #[cfg(test)]
 mod tests;
 mod text;
+mod waiting;
+mod writer;
 
 pub use answer::answer_text;
+pub use chunk::{Chunk, Front};
 pub use config::config_text;
+pub use counted::CountedFile;
 pub use laws::{
     answers_are_skipped, answers_break_off, answers_change_nothing, configs_read_back,
     records_answer_alike, records_break_off, records_read_back,
 };
+pub use out::{Out, Torn};
+pub use source::{Source, Taken};
 pub use text::{request_text, tick_text};
+pub use waiting::{MOST_WAITING, RecordFault, Waiting};
+pub use writer::{End, Written, write_out};

@@ -1,32 +1,11 @@
 //! The lines that wait to be written.
-ghost use Rattle.std.specs.Prelude.{◌≡◌, ◌++◌, ◌+◌, ◌<◌, ◌≤◌, [], length, ◌↔◌, IsTrue, IfErr, OnErr, OnOk};
+ghost use Rattle.std.specs.Prelude.{◌≡◌, ◌≤◌, [], length, ◌↔◌, IsTrue};
 ghost use Rattle.bx_answers.specs.Notings.{IsAdded, ended_by, fault_in, told_of};
-ghost use Rattle.bx_answers.specs.declared.waiting.AnswerFault.TheVariants.{Full, Memory};
-ghost use Rattle.bx_answers.specs.declared.waiting.Noting.TheVariants.{Open, Over};
-ghost use Rattle.bx_answers.specs.declared.waiting.TheConstants.{MOST_WAITING};
+ghost use Rattle.bx_answers.specs.declared.lines.Noting.TheVariants.{Open, Over};
+ghost use Rattle.bx_record.specs.declared.waiting.TheConstants.{MOST_WAITING};
 
-use std::alloc::{AllocError, Global};
-use std::mem;
-
-/// How many bytes may wait. (This server's choice.)
-pub const MOST_WAITING: usize = 64 << 20;
-
-/// Why no more answers are noted.
-#[derive(Clone, Copy, Debug, PartialEq, Eq)]
-pub enum AnswerFault {
-    /// More than 64 MiB would wait to be written.
-    Full,
-    /// Memory was refused.
-    Memory,
-}
-
-impl From<AllocError> for AnswerFault {
-    ghost from_gives = { λ _ fault. fault ≡ Memory };
-
-    fn from(_error: AllocError) -> AnswerFault {
-        AnswerFault::Memory
-    }
-}
+use bx_record::{RecordFault, Waiting};
+use std::alloc::Global;
 
 /// Whether answers are noted.
 #[derive(Clone, Copy, Debug, PartialEq, Eq)]
@@ -34,7 +13,7 @@ pub(crate) enum Noting {
     /// They are.
     Open,
     /// They are not, for this reason, which was not told yet.
-    Ended(AnswerFault),
+    Ended(RecordFault),
     /// They are not, and there is nothing to tell.
     Over,
 }
@@ -45,26 +24,25 @@ pub struct TakenAnswers {
     /// The lines, which come behind all that were taken out before.
     pub bytes: Vec<u8>,
     /// Why none come behind them, where that is so and was not told before.
-    pub fault: Option<AnswerFault>,
+    pub fault: Option<RecordFault>,
     pub ghost bounded: { length bytes.items ≤ MOST_WAITING },
 }
 
 /// The lines that wait, and whether more may come.
 #[derive(Drop)]
-pub(crate) struct Waiting {
-    lines: Vec<u8>,
+pub(crate) struct Lines {
+    waiting: Waiting,
     noting: Noting,
-    ghost bounded: { length lines.items ≤ MOST_WAITING },
 }
 
-impl Waiting {
+impl Lines {
     /// Nothing waits yet.
-    pub(crate) fn new(alloc: Global) -> Waiting
-        ensures lines { result.lines.items ≡ [] }
+    pub(crate) fn new(alloc: Global) -> Lines
+        ensures lines { result.waiting ≡ [] }
         ensures noting { result.noting ≡ Open }
     {
-        Waiting {
-            lines: Vec::new(alloc),
+        Lines {
+            waiting: Waiting::new(alloc),
             noting: Noting::Open,
         }
     }
@@ -78,33 +56,19 @@ impl Waiting {
 
     /// Puts a line behind the others, unless no more are noted. Where it finds no room, it is left out, and none is noted from now on.
     pub(crate) fn add(&mut self, line: &[u8])
-        ensures { IsAdded self.old.noting self.new.noting line.now self.old.lines.items self.new.lines.items }
+        ensures { IsAdded self.old.noting self.new.noting line.now self.old.waiting self.new.waiting }
     {
         if self.noting != Noting::Open {
             return;
         }
-        if let Err(fault) = self.push(line) {
+        if let Err(fault) = self.waiting.push(line) {
             self.noting = Noting::Ended(fault);
         }
     }
 
-    // Puts a line behind the others, or says why there is no room for it.
-    fn push(&mut self, line: &[u8]) -> Result<(), AnswerFault>
-        ensures added { OnOk result (self.new.lines.items ≡ self.old.lines.items ++ line.now) }
-        ensures same { OnErr result (self.new.lines.items ≡ self.old.lines.items) }
-        ensures full { IfErr result (λ fault. fault ≡ Full → MOST_WAITING < length self.old.lines.items + length line.now) }
-        ensures noting { self.new.noting ≡ self.old.noting }
-    {
-        if line.len() > MOST_WAITING - self.lines.len() {
-            return Err(AnswerFault::Full);
-        }
-        self.lines.extend_from_slice(line)?;
-        Ok(())
-    }
-
     /// No more answers are noted, for this reason, unless one was found before.
-    pub(crate) fn end(&mut self, fault: AnswerFault)
-        ensures lines { self.new.lines ≡ self.old.lines }
+    pub(crate) fn end(&mut self, fault: RecordFault)
+        ensures lines { self.new.waiting ≡ self.old.waiting }
         ensures noting { self.new.noting ≡ ended_by fault self.old.noting }
     {
         if let Noting::Open = self.noting {
@@ -114,19 +78,19 @@ impl Waiting {
 
     /// No more answers are noted, with nothing to tell, and what waits is let go of.
     pub(crate) fn stop(&mut self, alloc: Global)
-        ensures lines { self.new.lines.items ≡ [] }
+        ensures lines { self.new.waiting ≡ [] }
         ensures noting { self.new.noting ≡ Over }
     {
-        self.lines = Vec::new(alloc);
+        self.waiting = Waiting::new(alloc);
         self.noting = Noting::Over;
     }
 
     /// Takes out all that waits, and leaves an empty buffer in its place. It takes no memory, and copies nothing.
     pub(crate) fn take(&mut self, empty: Vec<u8>) -> TakenAnswers
         requires { empty.items ≡ [] }
-        ensures bytes { result.bytes.items ≡ self.old.lines.items }
+        ensures bytes { result.bytes.items ≡ self.old.waiting }
         ensures fault { result.fault ≡ fault_in self.old.noting }
-        ensures emptied { self.new.lines.items ≡ [] }
+        ensures emptied { self.new.waiting ≡ [] }
         ensures noting { self.new.noting ≡ told_of self.old.noting }
     {
         let fault = match self.noting {
@@ -136,7 +100,7 @@ impl Waiting {
             }
             _ => None,
         };
-        let bytes = mem::replace(&mut self.lines, empty);
+        let bytes = self.waiting.take(empty);
         TakenAnswers { bytes, fault }
     }
 }

@@ -1,5 +1,5 @@
 use Rattle.std.proofs.Common.{◌≡◌, []}
-use Rattle.bx_recorder.proofs.writer.write_out.Given as goal
+use Rattle.bx_record.proofs.writer.write_out.Given as goal
 
 -- the buffers that are handed in are empty
 abbrev pub invariant-loop : goal.invariant-loop

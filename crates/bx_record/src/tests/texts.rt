@@ -1,0 +1,151 @@
+use crate::{answer_text, config_text, request_text, tick_text};
+use bx_advice::{BODY_LIMIT, Config, Options};
+use bx_cut::Bodies;
+use bx_entry::read_messages;
+use std::alloc::Global;
+use std::test::Fail;
+
+// The lines of a request with this body, in the moment 5 and with the nonce 2748.
+fn text_of(alloc: Global, bodies: Bodies) -> Result<Option<Vec<u8>>, Fail> {
+    let messages = read_messages(alloc, &bodies)?;
+    Ok(request_text(alloc, 5, 2748, &bodies, messages.as_slice())?)
+}
+
+fn whole(alloc: Global, body: &str) -> Result<Bodies, Fail> {
+    Ok(Bodies::Whole(Vec::from_slice(alloc, body.as_bytes())?))
+}
+
+// Whether a request with this body has just these lines.
+fn has_lines(alloc: Global, body: &str, lines: &str) -> Result<bool, Fail> {
+    match text_of(alloc, whole(alloc, body)?)? {
+        Some(text) => Ok(text.as_slice() == lines.as_bytes()),
+        None => Ok(false),
+    }
+}
+
+#[test]
+fn plain_documents_stand_as_they_are(rt: HostRuntime) -> Result<(), Fail> {
+    let alloc = rt.alloc();
+    assert!(rt; has_lines(alloc, "[]", "5 P []\n")?);
+    assert!(rt;
+        has_lines(
+            alloc,
+            "{\"channel\":\"/a\",\"data\":\"50% + \u{2028}\"}\r",
+            "5 P {\"channel\":\"/a\",\"data\":\"50% + \u{2028}\"}\r\n"
+        )?
+    );
+    Ok(())
+}
+
+#[test]
+fn handshakes_have_their_nonce(rt: HostRuntime) -> Result<(), Fail> {
+    let alloc = rt.alloc();
+    let body = "[{\"channel\":\"/a\",\"data\":1},{\"channel\":\"/meta/handshake\"}]";
+    let lines =
+        "5 N 00000000000000000000000000000abc\n5 P [{\"channel\":\"/a\",\"data\":1},{\"channel\":\"/meta/handshake\"}]\n";
+    assert!(rt; has_lines(alloc, body, lines)?);
+    Ok(())
+}
+
+#[test]
+fn line_ends_go_by_a_form(rt: HostRuntime) -> Result<(), Fail> {
+    let alloc = rt.alloc();
+    let body = "{\"channel\":\"/a\",\n\"data\":\"50% + \u{2028}~*\"}";
+    let lines =
+        "5 F message=%7B%22channel%22%3A%22%2Fa%22%2C%0A%22data%22%3A%2250%25+%2B+%E2%80%A8%7E*%22%7D\n";
+    assert!(rt; has_lines(alloc, body, lines)?);
+    Ok(())
+}
+
+#[test]
+fn several_documents_go_by_a_form(rt: HostRuntime) -> Result<(), Fail> {
+    let alloc = rt.alloc();
+    let mut documents = Vec::new(alloc);
+    documents.push(String::from_str(alloc, "[]")?)?;
+    documents.push(String::from_str(alloc, "{\"channel\":\"/b\"}")?)?;
+    match text_of(alloc, Bodies::Decoded(documents))? {
+        Some(text) => {
+            let lines = "5 F message=%5B%5D&message=%7B%22channel%22%3A%22%2Fb%22%7D\n";
+            assert!(rt; text.as_slice() == lines.as_bytes());
+        }
+        None => assert!(rt; false),
+    }
+    Ok(())
+}
+
+#[test]
+fn what_no_line_says_has_no_text(rt: HostRuntime) -> Result<(), Fail> {
+    let alloc = rt.alloc();
+    assert!(rt; text_of(alloc, Bodies::Decoded(Vec::new(alloc)))?.is_none());
+    let mut body = vec![in alloc; b' '; BODY_LIMIT - 2]?;
+    body.extend_from_slice(b"[]")?;
+    match text_of(alloc, Bodies::Whole(body.clone()?))? {
+        Some(text) => assert_eq!(rt; text.len(), BODY_LIMIT + 5),
+        None => assert!(rt; false),
+    }
+    body.push(b' ')?;
+    assert!(rt; text_of(alloc, Bodies::Whole(body))?.is_none());
+    let mut encoded = vec![in alloc; b' '; BODY_LIMIT - 17]?;
+    encoded.extend_from_slice(b"\n[]")?;
+    match text_of(alloc, Bodies::Whole(encoded.clone()?))? {
+        Some(text) => assert_eq!(rt; text.len(), BODY_LIMIT + 5),
+        None => assert!(rt; false),
+    }
+    encoded.push(b' ')?;
+    assert!(rt; text_of(alloc, Bodies::Whole(encoded))?.is_none());
+    Ok(())
+}
+
+#[test]
+fn ticks_have_their_moment(rt: HostRuntime) -> Result<(), Fail> {
+    let alloc = rt.alloc();
+    assert!(rt; tick_text(alloc, 0)?.as_slice() == b"0 T\n".as_slice());
+    assert!(rt;
+        tick_text(alloc, 9_223_372_036_854_775_808)?.as_slice()
+            == b"9223372036854775808 T\n".as_slice()
+    );
+    Ok(())
+}
+
+#[test]
+fn answers_have_their_place_and_digest(rt: HostRuntime) -> Result<(), Fail> {
+    let alloc = rt.alloc();
+    let mut digest = [0u8; 32];
+    digest[0] = 0xa9;
+    digest[1] = 0x0f;
+    digest[31] = 0xff;
+    let line =
+        b"A 18446744073709551615 a90f0000000000000000000000000000000000000000000000000000000000ff\n";
+    let text = answer_text(alloc, 18_446_744_073_709_551_615, &digest)?;
+    assert!(rt; text.as_slice() == line.as_slice());
+    Ok(())
+}
+
+// Whether this configuration has this line.
+fn has_line(alloc: Global, config: Option<Config>, line: &str) -> Result<bool, Fail> {
+    match config {
+        Some(config) => Ok(config_text(alloc, &config)?.as_slice() == line.as_bytes()),
+        None => Ok(false),
+    }
+}
+
+#[test]
+fn configurations_have_thirteen_words(rt: HostRuntime) -> Result<(), Fail> {
+    let alloc = rt.alloc();
+    let config = Config::new(4, 30_000, 0, 10_000);
+    let line = "--bytes - --sessions 65536 --patterns 1024 4 1 30000 0 10000 - 1024\n";
+    assert!(rt; has_line(alloc, config, line)?);
+    let options = Options {
+        ride: true,
+        anonymous: true,
+    };
+    let config = Config::new(64, 4_294_967_295, 7, 0)
+        .map(|config| config.with(options))
+        .and_then(|config| config.with_limit(9))
+        .and_then(|config| config.with_bytes(70_000))
+        .and_then(|config| config.with_sessions(3))
+        .and_then(|config| config.with_patterns(2));
+    let line = "--bytes 70000 --sessions 3 --patterns 2 64 1 4294967295 7 0 ra 9\n";
+    assert!(rt; has_line(alloc, config, line)?);
+    Ok(())
+}
