@@ -1,5 +1,7 @@
-//! What tests ask of a hub.
+//! What tests ask of a hub, and a writer of a window whose list is ticks alone.
 #![tactic(auto)]
+
+mod ticker;
 
 use bx_cut::Bodies;
 use bx_entry::{Arrival, ByTable, Placing, Slot, Ticket};
@@ -8,6 +10,7 @@ use bx_message::{Answer, Item, body_text};
 use bx_window::Naming;
 use std::alloc::{AllocError, Global};
 use std::sync::Wait;
+pub use ticker::{Taken, Ticker};
 
 /// A handshake.
 pub const HANDSHAKE: &str =

@@ -2,7 +2,7 @@
 ghost use Rattle.std.specs.Prelude.{◌≡◌, [], IfOk};
 
 use crate::same::same;
-use bx_ticks::{Taken, Ticker};
+use bx_calls::{Taken, Ticker};
 use bx_window::{
     LogReader, MAX_BATCHES, Naming, Next, Note, Opened, PublishFault, entry_of, log_pair,
 };

@@ -5,7 +5,7 @@ mod shows;
 
 use crate::requests::add_line;
 use crate::unlike::Unlike;
-use bx_ticks::Ticker;
+use bx_calls::Ticker;
 use bx_window::{LogReader, Naming, Opened, PublishFault, log_pair};
 use shows::shown;
 use std::alloc::Global;

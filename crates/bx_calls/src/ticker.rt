@@ -1,7 +1,7 @@
 //! A writer whose list is ticks alone.
 ghost use Rattle.std.specs.Prelude.{◌≡◌, ◌+◌, ◌<◌, ◌≤◌, ◌^◌, [], IfOk, IfErr, OnErr};
 ghost use Rattle.bx_window.specs.Steps.{list_of};
-ghost use Rattle.bx_ticks.specs.Ticks.{ticks, tick_entries};
+ghost use Rattle.bx_calls.specs.Ticks.{ticks, tick_entries};
 
 use bx_entry::{Batch, Entry, EntryKind, Listing};
 use bx_history::History;

@@ -1,5 +1,5 @@
-use Rattle.bx_ticks.proofs.Ticks.{ticks_more, entries_more}
-use Rattle.bx_ticks.proofs.ticker.ticks.Goals as goal
+use Rattle.bx_calls.proofs.Ticks.{ticks_more, entries_more}
+use Rattle.bx_calls.proofs.ticker.ticks.Goals as goal
 
 pub loop-step-preserved : goal.loop-step-preserved
 loop-step-preserved c = (

@@ -9,7 +9,7 @@ use Rattle.bx_entry.specs.declared.entry.Entry.{Entry}
 use Rattle.bx_entry.specs.declared.senders.Senders.TheVariants.{NoneYet}
 use Rattle.bx_window.specs.declared.batch.Bundle.{Bundle}
 use Rattle.bx_window.specs.Places.{Continues}
-use Rattle.bx_ticks.specs.Ticks.{ticks, tick_at, tick_entries}
+use Rattle.bx_calls.specs.Ticks.{ticks, tick_at, tick_entries}
 
 pub ticks_add : (m n : ℕ) → ticks m ++ ticks n ≡ ticks (m + n)
 ticks_add zero n = let e : 0 + n ≡ n = omega arith in rw e refl

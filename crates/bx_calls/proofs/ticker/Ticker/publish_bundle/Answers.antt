@@ -3,9 +3,9 @@ use Rattle.bx_entry.specs.Listing.{Listed}
 use Rattle.bx_window.specs.Places.{Continues}
 use Rattle.bx_window.specs.Steps.{list_of}
 use Rattle.bx_window.proofs.Lists.{list_of-adding}
-use Rattle.bx_ticks.specs.Ticks.{ticks}
-use Rattle.bx_ticks.proofs.Ticks.{ticks_add, ticks_length, entries_count, ticks_continue}
-use Rattle.bx_ticks.proofs.ticker.Ticker.publish_bundle.Goals as goal
+use Rattle.bx_calls.specs.Ticks.{ticks}
+use Rattle.bx_calls.proofs.Ticks.{ticks_add, ticks_length, entries_count, ticks_continue}
+use Rattle.bx_calls.proofs.ticker.Ticker.publish_bundle.Goals as goal
 
 pub publish-requires-clause-continues : goal.publish-requires-clause-continues
 publish-requires-clause-continues g c =
