@@ -1,4 +1,2 @@
-pub mod Figures
 pub mod Outcomes
-pub mod Pages
 pub mod Responses

@@ -3,7 +3,6 @@ use Rattle.std.specs.Prelude.{ℕ, List, [], ◌++◌, Bool, true, false, codes,
 use Rattle.std.specs.{List.starts_with}
 use Rattle.bx_figures.specs.declared.response.Asked.{Asked}
 use Rattle.bx_figures.specs.declared.response.Asked.TheVariants.{Metrics, Health, Other, NoGet}
-use Rattle.bx_figures.specs.Pages.{page_text}
 
 -- what a request with this head asks for, by how it begins
 abbrev pub asked_of : List ℕ → Asked
@@ -24,10 +23,10 @@ fields_text size = with_number (codes "\r\ncontent-length: ") size (codes "\r\nc
 abbrev pub message_text : List ℕ → List ℕ → List ℕ
 message_text status body = codes "HTTP/1.1 " ++ status ++ fields_text (length body) ++ body
 
--- the response to what is asked, where the server listens or does not, and with these values and how far each shard is behind
-abbrev pub response_text : Asked → Bool → List ℕ → List ℕ → List ℕ
-response_text Metrics listens values lags = message_text (codes "200 OK\r\ncontent-type: text/plain; version=0.0.4; charset=utf-8") (page_text values lags)
-response_text Health true values lags = message_text (codes "200 OK") (codes "listening\n")
-response_text Health false values lags = message_text (codes "503 Service Unavailable") (codes "not listening\n")
-response_text Other listens values lags = message_text (codes "404 Not Found") []
-response_text NoGet listens values lags = message_text (codes "405 Method Not Allowed\r\nallow: GET") []
+-- the response to what is asked, where the server listens or does not, and this is the page of its figures
+abbrev pub response_text : Asked → Bool → List ℕ → List ℕ
+response_text Metrics listens page = message_text (codes "200 OK\r\ncontent-type: text/plain; version=0.0.4; charset=utf-8") page
+response_text Health true page = message_text (codes "200 OK") (codes "listening\n")
+response_text Health false page = message_text (codes "503 Service Unavailable") (codes "not listening\n")
+response_text Other listens page = message_text (codes "404 Not Found") []
+response_text NoGet listens page = message_text (codes "405 Method Not Allowed\r\nallow: GET") []

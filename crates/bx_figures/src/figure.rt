@@ -1,6 +1,5 @@
 //! What is counted, and at which place.
 ghost use Rattle.std.specs.Prelude.{◌≡◌, Some, slice_get};
-ghost use Rattle.bx_figures.specs.Figures.{help_of, is_first, name_of, reason_name, type_of};
 ghost use Rattle.bx_figures.specs.declared.figure.Figure.TheVariants.{Errors, Refused, Replies, Responses};
 ghost use Rattle.bx_figures.specs.declared.figure.TheConstants.{FIGURES};
 
@@ -30,9 +29,7 @@ pub enum Reason {
 
 impl Reason {
     /// Its name, as a label has it.
-    pub fn name(self) -> &'static str
-        ensures { result.now ≡ reason_name self }
-    {
+    pub fn name(self) -> &'static str {
         match self {
             Reason::Body => "body",
             Reason::BadMoment => "bad_moment",
@@ -191,9 +188,7 @@ impl Figure {
     }
 
     /// Its name. Figures that differ in a label alone have one name.
-    pub(crate) fn name(self) -> &'static str
-        ensures { result.now ≡ name_of self }
-    {
+    pub(crate) fn name(self) -> &'static str {
         match self {
             Figure::Uptime => "bayeux_uptime_seconds",
             Figure::Connections => "bayeux_connections",
@@ -222,9 +217,7 @@ impl Figure {
     }
 
     /// What the page says of its name.
-    pub(crate) fn help(self) -> &'static str
-        ensures { result.now ≡ help_of self }
-    {
+    pub(crate) fn help(self) -> &'static str {
         match self {
             Figure::Uptime => "Seconds since the program began.",
             Figure::Connections => "Connections that are open.",
@@ -253,9 +246,7 @@ impl Figure {
     }
 
     /// Its type, as the page's format has it: whether it grows alone, or falls too.
-    pub(crate) fn type_name(self) -> &'static str
-        ensures { result.now ≡ type_of self }
-    {
+    pub(crate) fn type_name(self) -> &'static str {
         match self {
             Figure::Uptime
             | Figure::Connections
@@ -272,9 +263,7 @@ impl Figure {
     }
 
     /// Whether it is the first one of its name.
-    pub(crate) fn is_first(self) -> bool
-        ensures { result ≡ is_first self }
-    {
+    pub(crate) fn is_first(self) -> bool {
         match self {
             Figure::Responses(Status::Ok)
             | Figure::Refused(Reason::Body)

@@ -3,7 +3,6 @@
 
 mod counts;
 mod figure;
-mod label;
 mod observer;
 mod page;
 mod response;

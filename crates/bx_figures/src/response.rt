@@ -44,18 +44,24 @@ pub fn response_text(
     asked: Asked,
     listens: bool,
     figures: &Figures,
-) -> Result<Vec<u8>, AllocError>
-    ensures { IfOk result (λ text. text.items ≡ response_text asked listens figures.now.values.items figures.now.lags.items) }
+) -> Result<Vec<u8>, AllocError> {
+    let page = match asked {
+        Asked::Metrics => page_text(alloc, figures)?,
+        _ => String::new(alloc),
+    };
+    respond(alloc, asked, listens, page.as_str())
+}
+
+// The response to what is asked, where the server listens or does not, and this is the page of its figures.
+fn respond(alloc: Global, asked: Asked, listens: bool, page: &str) -> Result<Vec<u8>, AllocError>
+    ensures { IfOk result (λ text. text.items ≡ response_text asked listens page.now) }
 {
     match asked {
-        Asked::Metrics => {
-            let page = page_text(alloc, figures)?;
-            message(
-                alloc,
-                "200 OK\r\ncontent-type: text/plain; version=0.0.4; charset=utf-8",
-                page.as_slice(),
-            )
-        }
+        Asked::Metrics => message(
+            alloc,
+            "200 OK\r\ncontent-type: text/plain; version=0.0.4; charset=utf-8",
+            page.as_bytes(),
+        ),
         Asked::Health if listens => message(alloc, "200 OK", b"listening\n"),
         Asked::Health => message(alloc, "503 Service Unavailable", b"not listening\n"),
         Asked::Other => message(alloc, "404 Not Found", b""),
