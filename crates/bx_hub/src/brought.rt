@@ -1,7 +1,7 @@
 //! What came of bringing the shards up to a note.
 ghost use Rattle.std.specs.Prelude.{◌≡◌, ◌≢◌, ◌≤◌, ◌<◌, ◌++◌, ◌∷◌, [], length, Option, Some, None, IfSome, IfNone};
 ghost use mathlib.Core.List.{IsPrefix};
-ghost use Rattle.bx_hub.specs.Faults.{IsStopped, IsStoppedIn};
+ghost use Rattle.bx_hub.specs.Faults.{IsAt, IsStopped, IsStoppedIn};
 ghost use Rattle.bx_hub.specs.Walks.{walked_at};
 ghost use Rattle.bx_hub.specs.Lagging.{lagging_of};
 ghost use Rattle.bx_hub.specs.declared.fault.HubFault.TheVariants as faults;
@@ -38,6 +38,7 @@ impl<J: Naming> Brought<J> {
         requires level { IfNone stays (length (list_of note.now) ≤ desk.now.shard.place) }
         requires below { IfSome stays (λ f. desk.now.shard.place < length (list_of note.now)) }
         requires stopped { IfSome stays (λ f. IsStopped f desk.now.shard.index desk.now.reader × IsStoppedIn desk.now.activity f) }
+        requires at { IfSome stays (λ f. IsAt f desk.now.shard.place) }
         ensures index { result.index.value ≡ desk.now.shard.index }
         ensures note { result.note.value ≡ note.now }
         ensures stays { result.stays ≡ stays }

@@ -6,16 +6,15 @@ ghost use Rattle.std.proofs.Props.{props};
 use crate::desk::Desk;
 use bx_entry::Placing;
 use bx_history::History;
-use bx_window::Naming;
-use std::marker::PhantomData;
+use bx_window::{Naming, Note};
 use std::snapshot::Snapshot;
 
-/// Where a shard stands. None is made but by a look at the shard, which from then on stands there or further.
+/// Where a shard stands, and for contracts alone what its reader has seen. None is made but by a look at the shard, which from then on stands there or further.
 #[derive(Drop)]
 pub(crate) struct Stood<J: Naming> {
     index: Snapshot<usize>,
     place: u64,
-    of: PhantomData<J>,
+    front: Snapshot<Note<J>>,
 }
 
 impl<J: Naming> Stood<J> {
@@ -23,11 +22,12 @@ impl<J: Naming> Stood<J> {
     pub(crate) fn of<P: Placing>(desk: &Desk<J, P>) -> Stood<J>
         ensures index { result.index.value ≡ desk.now.shard.index }
         ensures place { result.place ≡ desk.now.shard.place }
+        ensures front { result.front.value ≡ desk.now.reader }
     {
         Stood {
             index: Snapshot::of(&desk.index()),
             place: desk.place(),
-            of: PhantomData,
+            front: Snapshot::of(&desk.front()),
         }
     }
 

@@ -1,6 +1,6 @@
 //! Why a question for an answer is refused.
 ghost use Rattle.std.specs.Prelude.{◌≡◌, ◌≢◌};
-ghost use Rattle.bx_hub.specs.Faults.{IsStopped, IsStoppedIn};
+ghost use Rattle.bx_hub.specs.Faults.{IsAt, IsStopped, IsStoppedIn};
 ghost use Rattle.bx_hub.specs.declared.fault.HubFault.TheVariants as faults;
 
 use crate::desk::Desk;
@@ -24,6 +24,7 @@ impl<J: Naming> Stopped<J> {
     pub(crate) fn of<P: Placing>(desk: &Desk<J, P>, fault: HubFault) -> Stopped<J>
         requires stopped { IsStopped fault desk.now.shard.index desk.now.reader }
         requires activity { IsStoppedIn desk.now.activity fault }
+        requires at { IsAt fault desk.now.shard.place }
         ensures { (result.fault ≡ fault) × (result.shard.value ≡ desk.now.shard.index) }
     {
         Stopped {

@@ -383,6 +383,7 @@ where
 
     // With its output it lets go of the backend: a further poll gives want of memory, posts nothing and takes nothing.
     fn poll(&mut self, cx: &mut Context<'_>) -> Poll<Self::Output>
+        ensures waits { OnPending result (self.new.backend ≡ self.old.backend) }
         ensures over { IfReady result (λ _. self.new.backend ≡ None) }
         ensures after { self.old.backend ≡ None → (result ≡ Ready (Err Memory)) × (self.new ≡ self.old) }
     {
