@@ -4,13 +4,12 @@ use Rattle.bx_hub.specs.Posts.{IsUntrimmable}
 use Rattle.bx_hub.specs.declared.{fault.PostFault.PostFault, least.Stood.Stood}
 use Rattle.bx_hub.specs.declared.fault.PostFault.TheVariants.{Behind, Overrun}
 use Rattle.bx_window.specs.Steps.{begin_of}
-use Rattle.bx_window.specs.declared.law.Naming as Naming
 use Rattle.bx_window.specs.declared.law.LogStep.{LogStep}
 
-module _ {J : Type 0} {g : Naming.Ghosts J} where
+module _ {J : Type 0} where
   -- where the window of this front is full, this shard stood below its second batch; one that is overrun stood at the place that is told, and the
   -- window that its reader saw then began past it
-  abbrev pub IsLagging : PostFault → Option (Stood J g) → List LogStep → Type 0
+  abbrev pub IsLagging : PostFault → Option (Stood J) → List LogStep → Type 0
   IsLagging (Behind first) lag front = IsSomeAnd lag (λ s. IsUntrimmable s.place front)
   IsLagging (Overrun shard place) lag front = IsSomeAnd lag (λ s. (s.index.value ≡ shard) × ((s.place ≡ place) × (s.place < begin_of s.front.value)))
   IsLagging _ lag front = Unit {0}
