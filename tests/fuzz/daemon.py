@@ -1,6 +1,7 @@
 """A daemon of one's own on loopback, one connection to it, and a line of progress on a terminal."""
 import json
 import os
+import re
 import signal
 import socket
 import subprocess
@@ -14,6 +15,7 @@ PROGRAM = f"{TOP}/crates/bayeuxd/out/bayeuxd"
 PATIENCE = 20.0
 # No byte of it stands twice, so that one which is read elsewhere shows.
 SEED = bytes(range(1, 33)).hex()
+CONNECT = b'[{"channel":"/meta/connect","connectionType":"long-polling","clientId":"%s"}]'
 HANDSHAKE = {"channel": "/meta/handshake", "version": "1.0", "supportedConnectionTypes": ["long-polling"]}
 
 
@@ -57,6 +59,13 @@ class Daemon:
             raise Wrong(f"it does not listen: {line!r} {self.told()!r}")
         host, _, port = line.split()[1].rpartition(":")
         self.address = (host.strip("[]"), int(port))
+
+    def told_address(self, before):
+        """Returns the address that stands behind this text in what it said."""
+        found = re.search(f"{before}(\\S+):([0-9]+)$", self.told().decode(), re.MULTILINE)
+        if not found:
+            raise Wrong(f"no line with {before!r}: {self.told()!r}")
+        return (found.group(1).strip("[]"), int(found.group(2)))
 
     def told(self):
         """Returns what it wrote to standard error."""
@@ -184,6 +193,11 @@ class Connection:
 def post(body, kind=b"application/json", path=b"/cometd"):
     """Returns a POST of this body."""
     return b"POST %s HTTP/1.1\r\nhost: h\r\ncontent-type: %s\r\ncontent-length: %d\r\n\r\n" % (path, kind, len(body)) + body
+
+
+def get(query, path=b"/cometd"):
+    """Returns a GET of this path and what stands behind it."""
+    return b"GET %s%s HTTP/1.1\r\nhost: h\r\n\r\n" % (path, query)
 
 
 def succeed(items, count):

@@ -1,0 +1,60 @@
+"""The page of figures of a daemon."""
+import re
+import time
+
+from daemon import PATIENCE, Connection, Wrong, get
+
+# The lines of the page.
+COMMENT = re.compile(r"# (HELP|TYPE) ([a-z_]+) (?:counter|gauge|[A-Z][^\\]*\.)")
+SAMPLE = re.compile(r'([a-z_]+)(|\{[a-z]+="[^"\\]+"\}) ([0-9]+)')
+
+
+def ask_for(address, request):
+    """Returns the response of the listener of figures, which then ends the connection."""
+    with Connection(address) as connection:
+        connection.send(request)
+        responses = connection.rest()
+    if len(responses) != 1:
+        raise Wrong(f"not one response for {request!r}: {len(responses)}")
+    return responses[0]
+
+
+def read_page(text):
+    """Returns the values of a page of figures by their names and labels, and raises where it is not in Prometheus' text format 0.0.4."""
+    values, family, told = {}, None, set()
+    if not text.endswith("\n"):
+        raise Wrong(f"no end of a line at the end of the page: {text[-80:]!r}")
+    for line in text[:-1].split("\n"):
+        comment, sample = COMMENT.fullmatch(line), SAMPLE.fullmatch(line)
+        if comment:
+            word, name = comment.group(1, 2)
+            if (word, name) in told or (word == "TYPE") != (name == family):
+                raise Wrong(f"a comment at the wrong place: {line!r}")
+            told.add((word, name))
+            family = name
+        elif not sample or sample.group(1) != family or sample.group(1, 2) in values or ("TYPE", family) not in told:
+            raise Wrong(f"a line of no known form, or at the wrong place: {line!r}")
+        else:
+            values[sample.group(1, 2)] = int(sample.group(3))
+    return values
+
+
+def scrape(address):
+    """Returns the values of the page of figures."""
+    response = ask_for(address, get(b"", b"/metrics"))
+    if (response.status, response.fields[b"content-type"]) != (200, b"text/plain; version=0.0.4; charset=utf-8"):
+        raise Wrong(f"no page of figures: {response.status} {response.fields}")
+    return read_page(response.body.decode())
+
+
+def expect_values(address, expected):
+    """Raises where the figures do not come to these."""
+    end = time.monotonic() + PATIENCE
+    while True:
+        values = scrape(address)
+        found = {name: values[name] for name in expected}
+        if found == expected:
+            return values
+        if time.monotonic() > end:
+            raise Wrong(f"not {expected}: {found}")
+        time.sleep(0.05)
