@@ -3,23 +3,35 @@
 
 const CHANNEL = '/chat/hall';
 
-let ownName = '';
+// What this window sends carries a mark, since two people may have one name.
+const OWN_MARK = Math.random().toString(36).slice(2);
+// How far from its end the list still counts as read to the end, in points.
+const NEAR = 40;
 
-const client = newClient();
+let ownName = '';
+let isSending = false;
+
+const client = newClient(() => (ownName ? [{ channel: CHANNEL, data: { name: ownName, left: true } }] : []));
+const showState = client.onstate;
+client.onstate = (state, why) => {
+  showState(state, why);
+  if (state === 'connected') showProblem('');
+};
 
 // What others publish may be anything, so its form is looked at. It is shown as text and never as HTML.
 function showEvent(data) {
   if (typeof data?.name !== 'string') return;
   if (data.joined === true) showNotice(`${data.name} joined`);
-  else if (typeof data.text === 'string') showMessage(data.name, data.text);
+  else if (data.left === true) showNotice(`${data.name} left`);
+  else if (typeof data.text === 'string') showMessage(data.name, data.text, data.mark === OWN_MARK);
 }
 
-function showMessage(name, text) {
+function showMessage(name, text, isOwn) {
   const item = document.createElement('li');
   const author = document.createElement('b');
   const words = document.createElement('p');
   const time = document.createElement('time');
-  item.className = name === ownName ? 'own' : 'other';
+  item.className = isOwn ? 'own' : 'other';
   item.style.setProperty('--hue', hueOf(name));
   author.textContent = name;
   words.textContent = text;
@@ -35,9 +47,12 @@ function showNotice(text) {
   show(item);
 }
 
+// Who reads further up stays there.
 function show(item) {
-  element('messages').append(item);
-  element('messages').scrollTop = element('messages').scrollHeight;
+  const list = element('messages');
+  const isAtEnd = list.scrollHeight - list.scrollTop - list.clientHeight < NEAR;
+  list.append(item);
+  if (isAtEnd || item.className === 'own') list.scrollTop = list.scrollHeight;
 }
 
 // The same colour for the same name in each window.
@@ -47,23 +62,36 @@ function hueOf(name) {
   return hue;
 }
 
-// What was not sent stays in the field, so that it can be sent again.
+function showProblem(text) {
+  element('problem').textContent = text;
+  element('problem').hidden = text === '';
+}
+
+// One message at a time. What was not sent comes back into the field, in front of what was typed meanwhile.
 async function send() {
-  const text = element('text').value;
-  element('problem').hidden = true;
+  const field = element('text');
+  const text = field.value;
+  if (isSending || text.trim() === '') return;
+  isSending = true;
+  field.value = '';
+  showProblem('');
   try {
-    await client.publish(CHANNEL, { name: ownName, text });
-    element('text').value = '';
+    await client.publish(CHANNEL, { name: ownName, text, mark: OWN_MARK });
   } catch (failure) {
-    element('problem').textContent = `Not sent: ${failure.message}`;
-    element('problem').hidden = false;
+    field.value = field.value === '' ? text : `${text} ${field.value}`;
+    showProblem(failure.mayHaveArrived ? 'No answer: it may have been sent.' : `Not sent: ${failure.message}`);
   }
+  isSending = false;
 }
 
 element('join').addEventListener('submit', (event) => {
   event.preventDefault();
   ownName = element('name').value.trim();
-  if (ownName === '') return;
+  if (ownName === '') {
+    element('name').value = '';
+    element('name').reportValidity();
+    return;
+  }
   element('join').hidden = true;
   element('messages').hidden = false;
   element('write').hidden = false;

@@ -4,20 +4,23 @@
 const PATTERN = '/dashboard/*';
 // The chart shows n seconds (`?seconds=NUMBER`), in this box of a picture as wide as the card; its margin stands right of it.
 const SECONDS = Number(WORDS.get('seconds')) || 60;
-const BOX = { left: 44, margin: 8, top: 10, bottom: 144, height: 166 };
+const BOX = { left: 50, margin: 8, top: 10, bottom: 144, height: 166 };
 const LEAST_WIDTH = 200;
+// A number is old, and the line has a gap, after three times the usual time between two numbers, and three seconds at the least.
+const USUAL_TIMES = 3;
+const LEAST_PATIENCE = 3000;
 const LINES = 4;
 
 const cards = new Map();
+let gaps = 0; // how often events may have been missed
 
 /** One channel's newest numbers, and their chart. */
 class Card {
   constructor(channel) {
     this.points = [];
     this.root = element('card').content.firstElementChild.cloneNode(true);
-    const name = channel.split('/').pop().replaceAll('-', ' ');
-    this.part('h2').textContent = name;
-    this.part('svg').setAttribute('aria-label', `${name} over the last ${SECONDS} seconds`);
+    this.name = channel.split('/').pop().replaceAll('-', ' ');
+    this.part('h2').textContent = this.name;
     this.part('.start').textContent = `${SECONDS} s ago`;
   }
 
@@ -26,9 +29,37 @@ class Card {
   }
 
   add(value) {
-    this.points.push({ time: Date.now(), value });
+    this.points.push({ time: Date.now(), value, gaps });
     this.part('.value').textContent = inWords(value);
     this.draw();
+  }
+
+  // After how long without a number something is amiss.
+  patience() {
+    const times = this.points.slice(1).map((point, index) => point.time - this.points[index].time).sort((a, b) => a - b);
+    return Math.max(LEAST_PATIENCE, USUAL_TIMES * (times[Math.floor(times.length / 2)] || 0));
+  }
+
+  // The points in runs, between which numbers are missing.
+  runs() {
+    const runs = [];
+    const patience = this.patience();
+    this.points.forEach((point, index) => {
+      const before = this.points[index - 1];
+      if (!before || point.gaps > before.gaps || point.time - before.time > patience) runs.push([]);
+      runs[runs.length - 1].push(point);
+    });
+    return runs;
+  }
+
+  // Says how old the newest number is, where it is old.
+  showAge(newest) {
+    const age = Date.now() - newest.time;
+    const isOld = age > this.patience();
+    const words = isOld ? agoInWords(age) : '';
+    this.root.classList.toggle('old', isOld);
+    this.part('.age').textContent = words;
+    this.part('svg').setAttribute('aria-label', `${this.name}: ${inWords(newest.value)} ${words || 'now'}, and the last ${SECONDS} seconds`);
   }
 
   // Draws the curve anew. One point before its beginning is kept, so that it starts at the left edge.
@@ -40,15 +71,18 @@ class Card {
     const right = this.fit();
     const across = (time) => BOX.left + (right - BOX.left) * Math.max(0, (time - start) / (1000 * SECONDS));
     const up = (value) => BOX.bottom - (BOX.bottom - BOX.top) * ((value - scale.low) / (scale.high - scale.low));
-    const spots = this.points.map(({ time, value }) => `${across(time).toFixed(1)},${up(value).toFixed(1)}`);
+    const spot = ({ time, value }) => `${across(time).toFixed(1)},${up(value).toFixed(1)}`;
+    const foot = ({ time }) => `${across(time).toFixed(1)},${BOX.bottom}`;
     const newest = this.points[this.points.length - 1];
+    const runs = this.runs().filter((run) => run[run.length - 1].time > start);
 
-    this.part('.curve').setAttribute('d', `M${spots.join('L')}`);
-    this.part('.area').setAttribute('d',
-      `M${across(this.points[0].time)},${BOX.bottom}L${spots.join('L')}L${across(newest.time)},${BOX.bottom}Z`);
+    // (A run of one point is a dot, by a line that does not move.)
+    this.part('.curve').setAttribute('d', runs.map((run) => `M${run.map(spot).join('L')}${run[1] ? '' : 'h0'}`).join(''));
+    this.part('.area').setAttribute('d', runs.map((run) => `M${[foot(run[0]), ...run.map(spot), foot(run[run.length - 1])].join('L')}Z`).join(''));
     this.part('.newest').setAttribute('cx', across(newest.time));
     this.part('.newest').setAttribute('cy', up(newest.value));
-    this.part('.newest').setAttribute('visibility', 'visible');
+    this.part('.newest').setAttribute('visibility', newest.time > start ? 'visible' : 'hidden');
+    this.showAge(newest);
     this.drawGrid(scale, up, right);
     this.part('.least').textContent = inWords(Math.min(...values));
     this.part('.greatest').textContent = inWords(Math.max(...values));
@@ -93,10 +127,6 @@ function scaleOf(values) {
   return { low, high: low + step * LINES < greatest ? low + 2 * step * LINES : low + step * LINES };
 }
 
-function inWords(value) {
-  return value.toLocaleString('en', { maximumFractionDigits: Math.abs(value) < 10 ? 2 : 1 });
-}
-
 // As on the axis, where there is little room: 12.5K.
 function inBrief(value) {
   return value.toLocaleString('en', { notation: 'compact', maximumSignificantDigits: 3 });
@@ -104,6 +134,7 @@ function inBrief(value) {
 
 const client = newClient();
 
+client.ongap = () => gaps++;
 client.subscribe(PATTERN, (data, channel) => {
   if (typeof data !== 'number') return;
   element('empty').hidden = true;

@@ -1,41 +1,71 @@
 'use strict';
-// A table of the server's own figures, which examples/dashboard/feed --figures publishes as an object of numbers by names.
+// The server's own figures in cards. The feed publishes them as { figures: {NAME: NUMBER}, help: {NAME: WORDS} }, where a
+// NAME of figures may have labels, as bayeux_replies_total{kind="publish"}.
 
 const CHANNEL = '/figures/all';
+// How old the figures may be, in milliseconds.
+const PATIENCE = 5000;
+
 let before = null;
 
-function cell(text) {
-  const made = document.createElement('td');
+/** The figures of one name: its card says what they mean, and has a line for each label. */
+function card(name, lines, help, time) {
+  const root = element('card').content.firstElementChild.cloneNode(true);
+  root.querySelector('h2').textContent = name.replace('bayeux_', '').replace(/_total$/, ' in all').replaceAll('_', ' ');
+  root.querySelector('code').textContent = name;
+  root.querySelector('.meaning').textContent = help[name] || '';
+  // Of several lines those of nought are left out.
+  const shown = lines.length > 1 ? lines.filter(({ value }) => value !== 0) : lines;
+  if (shown.length === 0) shown.push({ label: 'each', value: 0 });
+  root.querySelector('dl').append(...shown.flatMap((line) => [
+    part('dt', line.label), part('dd', inWords(line.value)), part('dd', changeOf(line, time), 'change'),
+  ]));
+  return root;
+}
+
+function part(kind, text, name = '') {
+  const made = document.createElement(kind);
+  made.className = name;
   made.textContent = text;
   return made;
 }
 
-function inWords(value) {
-  return value.toLocaleString('en', { maximumFractionDigits: 1 });
+// How much this figure changed in each second since the figures before; empty where it did not.
+function changeOf({ key, value }, time) {
+  if (!before || !(key in before.figures) || time <= before.time) return '';
+  const change = (1000 * (value - before.figures[key])) / (time - before.time);
+  return change === 0 ? '' : `${change > 0 ? '+' : '−'}${inWords(Math.abs(change))} a second`;
 }
 
-// How much the value of this name has changed in each second since the figures before; empty where it has not.
-function changeOf(name, value, time) {
-  if (!before || !(name in before.data) || time <= before.time) return '';
-  const change = (1000 * (value - before.data[name])) / (time - before.time);
-  return change === 0 ? '' : inWords(change);
-}
-
-function show(data) {
+function show({ figures, help }) {
   const time = Date.now();
-  const rows = Object.entries(data).filter(([, value]) => typeof value === 'number').map(([name, value]) => {
-    const row = document.createElement('tr');
-    row.append(cell(name), cell(inWords(value)), cell(changeOf(name, value, time)));
-    return row;
-  });
+  const families = new Map();
+  for (const [key, value] of Object.entries(figures)) {
+    if (typeof value !== 'number') continue;
+    const [, name, label] = key.match(/^([^{]*)(.*)$/);
+    // {kind="publish"} is shown as publish.
+    const words = label.replace(/^{|}$/g, '').replace(/\w+="([^"]*)"/g, '$1');
+    families.set(name, [...(families.get(name) || []), { key, label: words, value }]);
+  }
   element('empty').hidden = true;
-  element('figures').hidden = false;
-  element('rows').replaceChildren(...rows);
-  before = { data, time };
+  element('figures').replaceChildren(...[...families].map(([name, lines]) => card(name, lines, help, time)));
+  before = { figures, time };
+  showAge();
 }
+
+// Says how old the figures are, where they are old.
+function showAge() {
+  const age = before ? Date.now() - before.time : 0;
+  element('figures').classList.toggle('old', age > PATIENCE);
+  element('age').hidden = age <= PATIENCE;
+  element('age').textContent = `These figures came ${agoInWords(age)}.`;
+}
+
+const isObject = (it) => typeof it === 'object' && it !== null;
 
 const client = newClient();
 client.subscribe(CHANNEL, (data) => {
-  if (typeof data === 'object' && data !== null) show(data);
+  if (isObject(data) && isObject(data.figures)) show({ figures: data.figures, help: isObject(data.help) ? data.help : {} });
 });
+setInterval(showAge, 1000);
 client.start();
