@@ -227,9 +227,9 @@ pub fn fault_of<J: Naming, P: Placing, G: Gate + Drop, H: Wait + Drop, R: Wait>(
     }
 }
 
-/// How many shards a hub has in which the first session stands in this one: two, or as many as there may be for one past the second.
+/// How many shards a hub has in which the first session stands in this one: two, or five for one past the second.
 pub fn shards_for(home: usize) -> usize {
-    if home < 2 { 2 } else { 64 }
+    if home < 2 { 2 } else { 5 }
 }
 
 /// Sessions in turn among two shards, the first session in this one; or all in this one, past the second.
@@ -237,7 +237,7 @@ pub fn in_turn(alloc: Global, home: usize) -> Result<ByTable, AllocError> {
     match home {
         0 => ByTable::new(alloc, &[1, 0]),
         1 => ByTable::new(alloc, &[0, 1]),
-        _ => ByTable::new(alloc, &[63]),
+        _ => ByTable::new(alloc, &[4]),
     }
 }
 

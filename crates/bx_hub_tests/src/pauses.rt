@@ -323,13 +323,13 @@ fn a_shard_stands_still(rt: HostRuntime) -> Result<(), Fail> {
         Case::GoesOn,
         Case::Waits(0),
         Case::Waits(1),
-        Case::Waits(63),
+        Case::Waits(4),
         Case::Gives(0),
         Case::Gives(1),
-        Case::Gives(63),
+        Case::Gives(4),
         Case::Rides(0),
         Case::Rides(1),
-        Case::Sweeps(63),
+        Case::Sweeps(4),
     ] {
         let config = config_for(case).ok_or("no configuration")?;
         let placing = Arc::new(alloc, in_turn(alloc, home_of(case))?)?;

@@ -433,8 +433,8 @@ fn check_end<R: Wait + Abort + AllocGlobal + RandomSource>(
 
 #[test]
 fn a_task_is_woken(rt: HostRuntime) -> Result<(), Fail> {
-    check_end(&rt, 63, End::Publish)?;
-    check_end(&rt, 63, End::Close)?;
+    check_end(&rt, 4, End::Publish)?;
+    check_end(&rt, 4, End::Close)?;
     for home in [0, 1] {
         for end in [
             End::Publish,
