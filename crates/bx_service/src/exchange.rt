@@ -1,5 +1,5 @@
 //! One request and its response.
-ghost use Rattle.std.specs.Prelude.{◌≡◌, [], Err, IfOk, IfSome, None, MatchOption, option_copied, option_map, string_bytes, unwrap_or};
+ghost use Rattle.std.specs.Prelude.{◌≡◌, [], Err, IfOk, IfSome, None, MatchOption, option_copied, option_map, string_bytes, unwrap_or, Result};
 ghost use Rattle.std.specs.Arc.{arc_value};
 ghost use Rattle.futures.specs.Poll.{IfReady, OnPending};
 ghost use Rattle.futures.specs.declared.task.Poll.TheVariants.{Ready};
@@ -13,6 +13,7 @@ ghost use Rattle.bx_service.specs.declared.exchange.State.TheVariants.{Refused};
 ghost use Rattle.bx_transport.specs.Statuses.{transport_status};
 ghost use Rattle.bx_transport.specs.declared.error.TransportError.TheVariants.{TooLarge};
 ghost use Rattle.bx_service.specs.Responses.{IsRefusal};
+ghost use Rattle.bx_service.specs.declared.service.ServiceFault.{ServiceFault};
 ghost use Rattle.bx_service.specs.declared.service.ServiceFault.TheVariants.{Memory};
 ghost use Rattle.bx_service.specs.Exchanges.{ForAsked, ForCollected, ForDocuments, ForItems, MayAnswer, Sent};
 
@@ -316,6 +317,7 @@ where
             → MayAnswer I.gives (S.admits backend.now) D.unread B.yields self.old.state sent }
         ensures registered { OnPending result (IsArmed cx.new) }
         ensures kept { Keeps cx.old cx.new }
+        ensures backend { self.new.backend ≡ self.old.backend }
     {
         let alloc = self.alloc;
         match &mut self.state {
@@ -383,6 +385,15 @@ where
 
     // With its output it lets go of the backend: a further poll gives want of memory, posts nothing and takes nothing.
     fn poll(&mut self, cx: &mut Context<'_>) -> Poll<Self::Output>
+        requires { CanPoll I.can_poll B.can_poll self.old.state }
+        ensures value { IfReady result (λ given. IfOk given (λ sent. MatchOption self.old.backend ⊥
+            (λ backend. MayAnswer I.gives (S.admits (arc_value backend)) D.unread B.yields self.old.state sent))) }
+        ensures again { OnPending result (CanPoll I.can_poll B.can_poll self.new.state) }
+        ensures same { OnPending result ((given : Result Sent ServiceFault)
+            → IfOk given (λ sent. MatchOption self.new.backend ⊥ (λ backend. MayAnswer I.gives (S.admits (arc_value backend)) D.unread B.yields self.new.state sent))
+            → IfOk given (λ sent. MatchOption self.old.backend ⊥ (λ backend. MayAnswer I.gives (S.admits (arc_value backend)) D.unread B.yields self.old.state sent))) }
+        ensures registered { OnPending result (IsArmed cx.new) }
+        ensures kept { Keeps cx.old cx.new }
         ensures waits { OnPending result (self.new.backend ≡ self.old.backend) }
         ensures over { IfReady result (λ _. self.new.backend ≡ None) }
         ensures after { self.old.backend ≡ None → (result ≡ Ready (Err Memory)) × (self.new ≡ self.old) }
