@@ -14,7 +14,9 @@ import urllib.parse
 from collections import namedtuple
 
 TOP = os.path.dirname(os.path.dirname(os.path.realpath(__file__)))
-REPLAY = os.environ.get("REPLAY", f"{TOP}/crates/bayeux_replay/out/bayeux_replay")
+# The program that replays: that of the repository, or where this is installed that of the path.
+BUILT = f"{TOP}/crates/bayeux_replay/out/bayeux_replay"
+REPLAY = os.environ.get("REPLAY", BUILT if os.path.isdir(f"{TOP}/crates") else "bayeux_replay")
 FIRST = re.compile(rb"(?:--bytes (?:-|[0-9]+) )?(?:--sessions [0-9]+ )?(?:--patterns [0-9]+ )?[0-9]+(?: [0-9]+){4}(?: (?:-|r|a|ra)(?: [0-9]+)?)?")
 # A tick, a request, a number of shards, a nonce; and the answer that a server gave.
 LINE = re.compile(rb"([0-9]+) (?:(T)|([PFGSN]) (.*))", re.DOTALL)
