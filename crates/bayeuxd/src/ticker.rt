@@ -74,7 +74,7 @@ where
             KEPT
         };
         if let Some(before) = last_before(&mut places, kept) {
-            let swept = hub.sweep(rt, before);
+            let swept = hub.sweep(rt, before).dropped();
             counts.add(Figure::Swept, swept as u64);
         }
     }

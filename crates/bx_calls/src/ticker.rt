@@ -109,11 +109,11 @@ impl<J: Naming, R: Wait + Drop> Ticker<J, R> {
     }
 
     /// Drops the batches that lie wholly below a place.
-    pub fn trim(&mut self, alloc: Global, place: u64) -> bool {
+    pub fn trim(&mut self, place: u64) -> bool {
         if self.writer.tell().steps() >= MOST {
             return false;
         }
-        self.writer.trim(alloc, place).is_ok()
+        self.writer.trim(place).is_ok()
     }
 }
 

@@ -1,4 +1,6 @@
 //! The counts, and what is read of them.
+ghost use Rattle.std.specs.Prelude.{◌≡◌, slice_get, unwrap_or};
+
 use crate::figure::{FIGURES, Figure};
 use std::alloc::{AllocError, Global};
 use std::sync::atomic::{AtomicBool, AtomicU64, Ordering};
@@ -108,17 +110,23 @@ pub struct Figures {
 
 impl Figures {
     /// These values, in the order of the page's rows, of which those that lack are 0; and those of the shards.
-    pub fn of(values: Vec<u64>, lags: Vec<u64>) -> Figures {
+    pub fn of(values: Vec<u64>, lags: Vec<u64>) -> Figures
+        ensures { (result.values ≡ values) × (result.lags ≡ lags) }
+    {
         Figures { values, lags }
     }
 
     /// How far each shard is behind, in their order.
-    pub(crate) fn lags(&self) -> &[u64] {
+    pub(crate) fn lags(&self) -> &[u64]
+        ensures { result.now ≡ self.now.lags.items }
+    {
         self.lags.as_slice()
     }
 
     /// The value at this place; 0 where there is none.
-    pub(crate) fn value(&self, place: usize) -> u64 {
+    pub(crate) fn value(&self, place: usize) -> u64
+        ensures { result ≡ unwrap_or (slice_get self.now.values.items place) 0 }
+    {
         self.values.get(place).copied().unwrap_or(0)
     }
 }

@@ -1,5 +1,5 @@
 //! What the listener of figures answers.
-ghost use Rattle.std.specs.Prelude.{◌≡◌, ◌++◌, IfOk, OnOk};
+ghost use Rattle.std.specs.Prelude.{◌≡◌, ◌++◌, List, ℕ, IfOk, OnOk};
 ghost use Rattle.bx_figures.specs.Responses.{asked_of, fields_text, message_text, response_text, with_number};
 
 use crate::counts::Figures;
@@ -44,7 +44,9 @@ pub fn response_text(
     asked: Asked,
     listens: bool,
     figures: &Figures,
-) -> Result<Vec<u8>, AllocError> {
+) -> Result<Vec<u8>, AllocError>
+    ensures { IfOk result (λ text. (page : List ℕ) × (text.items ≡ response_text asked listens page)) }
+{
     let page = match asked {
         Asked::Metrics => page_text(alloc, figures)?,
         _ => String::new(alloc),

@@ -1,9 +1,11 @@
 -- A waker of the task that was left is one that is waited by.
-use Rattle.std.proofs.Common.{◌≡◌, ◌⊎◌, inl, inr, true, Option, Some, subst}
+use Rattle.std.proofs.Common.{ℕ, ◌≡◌, ◌⊎◌, inl, inr, Bool, true, false, Option, Some, None, ap, subst, true≢false}
 use Rattle.std.specs.Prelude.{IsSomeAnd}
 use Rattle.bx_entry.specs.declared.entry.Ticket.{Ticket}
-use Rattle.bx_hub.specs.Watches.{IsLeft}
-use Rattle.bx_hub.specs.declared.desk.watch.Left.{Left}
+use Rattle.bx_connects.specs.declared.watch.Watch.{Watch}
+use Rattle.bx_connects.specs.declared.watch.Watch.TheVariants.{Stored, Ready, Unknown, Shut}
+use Rattle.bx_hub.specs.Watches.{IsToldOf}
+use Rattle.bx_hub.specs.declared.desk.evidence.Watching.{Watching}
 use Rattle.futures.specs.Poll.{OnPending}
 use Rattle.futures.specs.Task.{Wakes}
 use Rattle.futures.specs.declared.task.Poll.{Poll}
@@ -16,9 +18,24 @@ pub on_pending : {A P : Type 0} (polled : Poll A) → P → OnPending polled P
 on_pending (Ready x) p = tt
 on_pending Pending p = p
 
-pub waited_for : {J : Type 0} (slot : Option Waker) (waker : Waker) (older : Option Waker) (ticket : Ticket) (left : Left J) (old new : Context)
-    → slot ≡ Some waker → (new.lacks_waker ≡ true) ⊎ IsSomeAnd slot (λ w. Wakes w old) → IsLeft ticket waker older left
-    → IsWaitedFor ticket (Some left) old new
-waited_for slot waker older ticket left old new is (inl lacks) lies = inl (inr lacks)
-waited_for slot waker older ticket left old new is (inr wakes) lies =
-    inr (record { waker = waker; wakes = subst (λ (o : Option Waker). IsSomeAnd o (λ w. Wakes w old)) is wakes; older = older; lies = lies })
+abbrev is_stored : Watch → Bool
+is_stored (Stored older) = true
+is_stored (Ready given) = false
+is_stored (Unknown given) = false
+is_stored (Shut given) = false
+
+pub waited_for : {J : Type 0} (shards : ℕ) (slot : Option Waker) (waker : Waker) (older : Option Waker)
+    (ticket : Ticket) (watching : Option (Watching J)) (old new : Context)
+    → slot ≡ Some waker → (new.lacks_waker ≡ true) ⊎ IsSomeAnd slot (λ w. Wakes w old)
+    → IsToldOf shards ticket waker (Stored older) watching
+    → IsWaitedFor ticket watching old new
+waited_for shards slot waker older ticket watching old new is (inl lacks) told = inl (inr lacks)
+waited_for shards slot waker older ticket (Some watching) old new is (inr wakes) told =
+    inr (record {
+      waker = waker;
+      wakes = subst (λ (o : Option Waker). IsSomeAnd o (λ w. Wakes w old)) is wakes;
+      older
+          = older;
+      lies = told;
+    })
+waited_for shards slot waker older ticket None old new is (inr wakes) told = absurd (true≢false (ap is_stored told.1))

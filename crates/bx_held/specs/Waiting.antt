@@ -1,8 +1,9 @@
 -- Who waits for a connect.
 use Rattle.std.specs.Prelude.{◌≡◌, ◌⊎◌, true, Option, IsSomeAnd}
+use Rattle.bx_connects.specs.declared.watch.Watch.TheVariants.{Stored}
 use Rattle.bx_entry.specs.declared.entry.Ticket.{Ticket}
-use Rattle.bx_hub.specs.Watches.{IsLeft}
-use Rattle.bx_hub.specs.declared.desk.watch.Left.{Left}
+use Rattle.bx_hub.specs.Watches.{IsSaid}
+use Rattle.bx_hub.specs.declared.desk.evidence.Watching.{Watching}
 use Rattle.futures.specs.Task.{Wakes}
 use Rattle.futures.specs.declared.task.context.Context.{Context}
 use Rattle.futures.specs.declared.task.waker.Waker.{Waker}
@@ -13,12 +14,12 @@ IsPolledAgain cx = (cx.is_woken ≡ true) ⊎ (cx.lacks_waker ≡ true)
 
 module _ {J : Type 0} where
   -- a waker of the context's task was left under the ticket
-  pub record IsLeftBy (cx : Context) (ticket : Ticket) (left : Left J) : Type 0 where
+  pub record IsLeftBy (cx : Context) (ticket : Ticket) (watching : Watching J) : Type 0 where
     pub waker : Waker
     pub wakes : Wakes waker cx
     pub older : Option Waker
-    pub lies : IsLeft ticket waker older left
+    pub lies : IsSaid ticket waker (Stored older) watching
 
   -- a waker of the task that polls was left under the ticket, or the task is polled again in any case
-  abbrev pub IsWaitedFor : Ticket → Option (Left J) → Context → Context → Type 0
-  IsWaitedFor ticket left old new = IsPolledAgain new ⊎ IsSomeAnd left (IsLeftBy old ticket)
+  abbrev pub IsWaitedFor : Ticket → Option (Watching J) → Context → Context → Type 0
+  IsWaitedFor ticket watching old new = IsPolledAgain new ⊎ IsSomeAnd watching (IsLeftBy old ticket)

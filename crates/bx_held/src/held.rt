@@ -1,20 +1,17 @@
 //! What waits for an answer: each poll asks the hub, and leaves a waker beside the connect while the answer is not filed.
-ghost use Rattle.std.specs.Prelude.{◌≡◌, ◌<◌, true, false, length, Result, Err, IfSome, IfNone};
+ghost use Rattle.std.specs.Prelude.{◌≡◌, ◌<◌, true, false, length, Option, None, Result, Ok, IfSome, IfNone};
 ghost use mathlib.Core.List.{IsPrefix};
 ghost use Rattle.futures.specs.Poll.{IfReady, OnPending};
 ghost use Rattle.futures.specs.Task.{Covers, Keeps};
 ghost use Rattle.futures.specs.declared.task.Poll.TheVariants as polls;
-ghost use Rattle.bx_entry.specs.Placings.{placed_by};
-ghost use Rattle.bx_window.specs.Steps.{list_of};
+ghost use Rattle.bx_window.specs.Steps.{list_of, setup_of};
 ghost use Rattle.bx_held.specs.Outputs.{HasNone, IsGiven, MayGive};
 ghost use Rattle.bx_held.specs.Waiting.{IsWaitedFor};
 ghost use Rattle.bx_message.specs.declared.reply.Answer.{Answer};
-ghost use Rattle.bx_held.specs.declared.fault.HeldFault.{HeldFault};
-ghost use Rattle.bx_held.specs.declared.fault.HeldFault.TheVariants as faults;
+ghost use Rattle.bx_hub.specs.declared.fault.HubFault.{HubFault};
 
-use crate::fault::HeldFault;
 use bx_entry::{Placing, Ticket};
-use bx_hub::{Gate, Hub, Left, Pass, Watch};
+use bx_hub::{Gate, Hub, HubFault, Pass, Watch, Watching};
 use bx_message::Answer;
 use bx_window::Naming;
 use futures::task::{Context, Poll, Source, Waker};
@@ -59,52 +56,55 @@ impl<J: Naming> PendingAnswer<J> {
         rt: &R,
         alloc: Global,
         hub: &Hub<J, P, G, H>,
-    ) -> Option<Result<Answer, HeldFault>>
+    ) -> Option<Result<Option<Answer>, HubFault>>
         ensures seen { IsPrefix self.old.pass self.new.pass }
         ensures same { (self.new.ticket ≡ self.old.ticket) × (self.new.source ≡ self.old.source) }
-        ensures given { IfSome result (IsGiven (placed_by J.config J.config.shards J.placing) self.new.ticket self.new.pass) }
+        ensures given { IfSome result (IsGiven (setup_of J.config J.placing) self.new.ticket self.new.pass) }
         ensures done { IfSome result (λ _. self.new.is_done ≡ true) }
-        ensures none { IfNone result (HasNone (placed_by J.config J.config.shards J.placing) self.new.ticket self.new.pass) }
+        ensures none { IfNone result (HasNone (setup_of J.config J.placing) self.new.ticket self.new.pass) }
         ensures pending { IfNone result (self.new.is_done ≡ self.old.is_done) }
     {
         match hub.poll_answer(rt, alloc, &mut self.pass, self.ticket) {
             Ok(None) => None,
             Ok(Some(answer)) => {
                 self.is_done = true;
-                Some(Ok(answer))
+                Some(Ok(Some(answer)))
             }
             Err(stopped) => {
                 self.is_done = true;
-                Some(Err(stopped.fault().into()))
+                Some(Err(stopped.fault()))
             }
         }
     }
 
-    /// The output, once the hub has it: the answer; or `Unknown` where no connect is held under the ticket and no answer is filed, as behind its
-    /// output; or why the ticket's shard was not brought up. While there is none, a waker of the task that polls was left beside the connect, which
-    /// the token says that comes with it, or that task is polled again in any case.
+    /// The output, once the hub has it: the answer; or none where no connect is held under the ticket and no answer is
+    /// filed, as after its output; or why the ticket's shard was not brought up. While there is none, a waker of the
+    /// task that polls was left beside the connect, which the token says that comes with it, or that task is polled
+    /// again in any case.
     pub fn poll<P: Placing + Drop, G: Gate + Drop, H: Wait + Drop, R: Wait>(
         &mut self,
         rt: &R,
         alloc: Global,
         hub: &Hub<J, P, G, H>,
         cx: &mut Context<'_>,
-    ) -> (Poll<Result<Answer, HeldFault>>, Option<Left<J>>)
-        ensures value { IfReady result.0 (MayGive (placed_by J.config J.config.shards J.placing) self.old.ticket self.old.pass self.old.is_done) }
-        ensures same { OnPending result.0 ((output : Result Answer HeldFault)
-            → MayGive (placed_by J.config J.config.shards J.placing) self.new.ticket self.new.pass self.new.is_done output
-            → MayGive (placed_by J.config J.config.shards J.placing) self.old.ticket self.old.pass self.old.is_done output) }
+    ) -> (Poll<Result<Option<Answer>, HubFault>>, Option<Watching<J>>)
+        ensures value { IfReady result.0 (MayGive (setup_of J.config J.placing) self.old.ticket self.old.pass
+            self.old.is_done) }
+        ensures same { OnPending result.0 ((output : Result (Option Answer) HubFault)
+            → MayGive (setup_of J.config J.placing) self.new.ticket self.new.pass self.new.is_done output
+            → MayGive (setup_of J.config J.placing) self.old.ticket self.old.pass self.old.is_done output) }
         ensures registered { OnPending result.0 (Covers cx.new (λ s. s ≡ self.new.source.id)) }
         ensures left { OnPending result.0 (IsWaitedFor self.new.ticket result.1 cx.old cx.new) }
         ensures kept { Keeps cx.old cx.new }
         ensures seen { IsPrefix self.old.pass self.new.pass }
-        ensures given { self.old.is_done ≡ false → IfReady result.0 (IsGiven (placed_by J.config J.config.shards J.placing) self.new.ticket self.new.pass) }
+        ensures given { self.old.is_done ≡ false → IfReady result.0
+            (IsGiven (setup_of J.config J.placing) self.new.ticket self.new.pass) }
         ensures done { IfReady result.0 (λ _. self.new.is_done ≡ true) }
         ensures pending { OnPending result.0 (self.new.is_done ≡ false) }
-        ensures after { self.old.is_done ≡ true → result.0 ≡ polls.Ready (Err faults.Unknown) }
+        ensures after { self.old.is_done ≡ true → result.0 ≡ polls.Ready (Ok None) }
     {
         if self.is_done {
-            return (Poll::Ready(Err(HeldFault::Unknown)), None);
+            return (Poll::Ready(Ok(None)), None);
         }
         if let Some(output) = self.ask(rt, alloc, hub) {
             return (Poll::Ready(output), None);
@@ -113,19 +113,20 @@ impl<J: Naming> PendingAnswer<J> {
         let Some(waker) = self.own.take() else {
             return (pending, None);
         };
-        match hub.watch(rt, self.ticket, waker) {
-            Watch::Stored(older, left) => {
+        let (said, watching) = hub.watch(rt, self.ticket, waker);
+        match said {
+            Watch::Stored(older) => {
                 self.own = older;
-                return (pending, Some(left));
+                return (pending, watching);
             }
             Watch::Ready(_) => {}
             Watch::Unknown(_) => {
                 self.is_done = true;
-                return (Poll::Ready(Err(HeldFault::Unknown)), None);
+                return (Poll::Ready(Ok(None)), None);
             }
             Watch::Shut(_) => {
                 self.is_done = true;
-                return (Poll::Ready(Err(HeldFault::Closed)), None);
+                return (Poll::Ready(Err(HubFault::Closed)), None);
             }
         }
         // It was answered meanwhile.

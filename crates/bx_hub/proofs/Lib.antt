@@ -1,9 +1,10 @@
+pub mod Changes
 pub mod Counts
 pub mod Held
 pub mod Lists
-pub mod Lying
 pub mod Places
 pub mod Posts
 pub mod Records
 pub mod Waking
 pub mod Walks
+pub mod Watches

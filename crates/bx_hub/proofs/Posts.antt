@@ -21,7 +21,7 @@ use Rattle.bx_registry.specs.declared.plan.AdmitFault.{AdmitFault}
 use Rattle.bx_registry.specs.declared.plan.AdmitFault.TheVariants as faults
 use Rattle.bx_entry.specs.Placings.{Setup}
 use Rattle.bx_window.specs.Places as places
-use Rattle.bx_window.specs.Steps.{list_of}
+use Rattle.bx_window.specs.Steps.{list_of, setup_of}
 use Rattle.bx_window.specs.declared.law.LogStep.{LogStep}
 use Rattle.bx_hub.specs.Faults.{of_planning}
 use Rattle.bx_hub.specs.Posts.{AreSlotsAt, IsAdmittedAt, IsFullFor, IsRefused, IsUnpublished, IsWhole, IsWithoutRoom, WasFullFor}
@@ -88,11 +88,13 @@ admitted_before input first old mid new p a = record { allowed = a.allowed; fres
 -- ---- what it comes to
 
 pub slots_planned : (config : Config) (placing place_of : ℕ → ℕ → ℕ) (s : Standing) (list : List Listed) (r : Result Plan AdmitFault) → s.config ≡ config → s.shards ≡ config.shards → place_of ≡ placing → s.list ≡ list →
-    IfOk r (λ p. p.slots ≡ admitted_slots (placed_by s.config s.shards place_of) s.list p.elements) → IfOk r (λ p. p.slots ≡ admitted_slots (placed_by config config.shards placing) list p.elements)
+    IfOk r (λ p. p.slots ≡ admitted_slots (placed_by s.config s.shards place_of) s.list p.elements)
+    → IfOk r (λ p. p.slots ≡ admitted_slots (setup_of config placing) list p.elements)
 slots_planned config placing place_of s list (Err f) same many is at slots = tt
 slots_planned config placing place_of s list (Ok p) same many is at slots =
-    let one : placed_by s.config s.shards place_of ≡ placed_by config config.shards placing = cc (same, many, is) in
-    slots ∙ ap (λ (x : Setup). admitted_slots x s.list p.elements) one ∙ ap (λ (xs : List Listed). admitted_slots (placed_by config config.shards placing) xs p.elements) at
+    let one : placed_by s.config s.shards place_of ≡ setup_of config placing = cc (same, many, is) in
+    slots ∙ ap (λ (x : Setup). admitted_slots x s.list p.elements) one
+    ∙ ap (λ (xs : List Listed). admitted_slots (setup_of config placing) xs p.elements) at
 
 -- a tick is not answered
 pub tick_planned : (setup : Setup) (list : List Listed) (moment : ℕ) (r : Result Plan AdmitFault) → IfOk r (λ p. p.elements ≡ messages.Tick moment ∷ []) → IfOk r (λ p. p.slots ≡ []) →

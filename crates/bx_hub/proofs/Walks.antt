@@ -2,7 +2,7 @@
 use Rattle.std.proofs.Common.{ℕ, ◌≡◌, ◌≤◌, ◌<◌, ◌+◌, ◌-◌, nat_lt, Bool, true, false, cond, length, refl, sym, subst, arith}
 use Rattle.bx_hub.specs.Bringing.{IsWalked}
 use Rattle.bx_hub.specs.Walks.{walked_at}
-use Rattle.bx_hub.specs.declared.brought.AllBrought.{AllBrought}
+use Rattle.bx_hub.specs.declared.walk.AllBrought.{AllBrought}
 use Rattle.bx_window.specs.declared.law.Naming as Naming
 
 -- the step at which a shard comes

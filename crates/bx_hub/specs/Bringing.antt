@@ -1,7 +1,7 @@
 -- That every shard was brought up to a note.
 use Rattle.std.specs.Prelude.{ℕ, ◌≡◌, ◌<◌, List, length}
 use Rattle.bx_hub.specs.Walks.{walked_at}
-use Rattle.bx_hub.specs.declared.brought.AllBrought.{AllBrought}
+use Rattle.bx_hub.specs.declared.walk.AllBrought.{AllBrought}
 use Rattle.bx_window.specs.declared.law.Naming as Naming
 use Rattle.bx_window.specs.declared.law.LogStep.{LogStep}
 

@@ -1,36 +1,29 @@
--- Which waker a call hands back, and what it says of one that it leaves.
-use Rattle.std.specs.Prelude.{◌≡◌, Option}
-use Rattle.bx_connects.specs.declared.watch.Watch.{Watch}
+-- What a shard says of a waker, and which waker a call hands back.
+use Rattle.std.specs.Prelude.{ℕ, ◌≡◌, ◌≤◌, Bool, true, Option, Some, None, is_some}
+use Rattle.bx_connects.specs.Connects.{filed_answer}
+use Rattle.bx_connects.specs.Waking.{waker_of}
+use Rattle.bx_connects.specs.declared.{connects.ConnectState.ConnectState, watch.Watch.Watch}
 use Rattle.bx_connects.specs.declared.watch.Watch.TheVariants.{Stored, Ready, Unknown, Shut}
 use Rattle.bx_entry.specs.declared.entry.Ticket.{Ticket}
-use Rattle.bx_hub.specs.declared.desk.watch.{Left.Left, Watch.Watch as HubWatch}
-use Rattle.bx_hub.specs.declared.desk.watch.Watch.TheVariants as hub
+use Rattle.bx_hub.specs.declared.desk.evidence.Watching.{Watching}
 use Rattle.futures.specs.declared.task.waker.Waker.{Waker}
 
--- a waker that is not stored comes back itself
-abbrev pub IsBack : Waker → Watch → Type 0
-IsBack waker (Stored older) = Unit {0}
-IsBack waker (Ready given) = given ≡ waker
-IsBack waker (Unknown given) = given ≡ waker
-IsBack waker (Shut given) = given ≡ waker
+-- What is said of a waker that was brought for a connect, by whether the shard was shut and what then became of the
+-- connect: it lies there; or it comes back, since an answer is filed, or no connect is known, or the shard was shut.
+abbrev pub HoldsOf : Bool → Waker → Option ConnectState → Watch → Type 0
+HoldsOf shut waker connect (Stored older) = waker_of connect ≡ Some waker
+HoldsOf shut waker connect (Ready given) = (is_some (filed_answer connect) ≡ true) × (given ≡ waker)
+HoldsOf shut waker connect (Unknown given) = (connect ≡ None) × (given ≡ waker)
+HoldsOf shut waker connect (Shut given) = (shut ≡ true) × (given ≡ waker)
 
 module _ {J : Type 0} where
-  -- it is this waker that was left, under this ticket, and this older one that came back
-  pub record IsLeft (ticket : Ticket) (waker : Waker) (older : Option Waker) (left : Left J) : Type 0 where
-    pub ticket_is : left.ticket.value ≡ ticket
-    pub waker_is : left.waker.value ≡ waker
-    pub older_is : left.older.value ≡ older
+  -- it is this that was said of this waker, under this ticket
+  pub record IsSaid (ticket : Ticket) (waker : Waker) (said : Watch) (watching : Watching J) : Type 0 where
+    pub ticket_is : watching.ticket.value ≡ ticket
+    pub waker_is : watching.waker.value ≡ waker
+    pub said_is : watching.said.value ≡ said
 
-  -- a waker is left under its ticket, or comes back itself
-  abbrev pub IsLeftOrBack : Ticket → Waker → HubWatch J → Type 0
-  IsLeftOrBack ticket waker (hub.Stored older left) = IsLeft ticket waker older left
-  IsLeftOrBack ticket waker (hub.Ready given) = given ≡ waker
-  IsLeftOrBack ticket waker (hub.Unknown given) = given ≡ waker
-  IsLeftOrBack ticket waker (hub.Shut given) = given ≡ waker
-
-  -- as the shard tells it
-  abbrev pub told : HubWatch J → Watch
-  told (hub.Stored older left) = Stored older
-  told (hub.Ready given) = Ready given
-  told (hub.Unknown given) = Unknown given
-  told (hub.Shut given) = Shut given
+  -- what is said of a waker among so many shards: by one of them, or a ticket that names none is unknown
+  abbrev pub IsToldOf : ℕ → Ticket → Waker → Watch → Option (Watching J) → Type 0
+  IsToldOf shards ticket waker said (Some watching) = IsSaid ticket waker said watching
+  IsToldOf shards ticket waker said None = (shards ≤ ticket.shard) × (said ≡ Unknown waker)

@@ -7,8 +7,8 @@ ghost use Rattle.bx_registry.specs.Plans.{IsFault};
 ghost use Rattle.bx_registry.specs.Slots.{admitted_slots};
 ghost use Rattle.bx_registry.specs.Standings.{Continues};
 ghost use Rattle.bx_entry.specs.Inputs.{added_by, refusal_of};
-ghost use Rattle.bx_window.specs.Steps.{below, firsts_of, inputs_of, list_of};
-ghost use Rattle.bx_entry.specs.Placings.{placed_by};
+ghost use Rattle.bx_window.specs.Steps.{below, firsts_of, inputs_of, list_of, setup_of};
+ghost use Rattle.bx_hub.specs.declared.desk.evidence.Change.TheVariants as changes;
 ghost use Rattle.bx_hub.specs.declared.fault.PostFault.TheVariants as faults;
 ghost use Rattle.bx_hub.specs.Listables.{input_of};
 ghost use Rattle.bx_hub.specs.Records.{inputs_by, list_by};
@@ -16,11 +16,12 @@ ghost use Rattle.bx_record.specs.Record.{record_of};
 ghost use Rattle.bx_hub.specs.Surveys.{survey_of};
 ghost use Rattle.bx_hub.specs.Posts.{AreSlotsAt, IsAdmittedAt, IsRefused, IsTrimmedTo, IsUnpublished, IsWhole};
 
+use crate::desk::Stood;
 use crate::fault::PostFault;
-use crate::least::{Least, Stood};
 use crate::listable::{Listable, Spent};
 use crate::recording::{RecordFront, Recording, inputs_by};
 use crate::survey::Survey;
+use crate::walk::{AllChanged, Least};
 use bx_advice::Config;
 use bx_entry::{Input, Placing, Slot};
 use bx_history::History;
@@ -101,7 +102,8 @@ impl<J: Naming, R: Wait + Drop> Admission<J, R> {
         requires placing { P.place_of placing.now ≡ J.placing }
         ensures seen { IsPrefix pass.old pass.new }
         ensures admitted { IfOk result (λ a. IsAdmittedAt (input_of wanted) a.0.first pass.old pass.new) }
-        ensures slots { IfOk result (λ a. AreSlotsAt (placed_by J.config J.config.shards J.placing) (input_of wanted) a.0.first pass.new a.0.slots) }
+        ensures slots { IfOk result (λ a. AreSlotsAt (setup_of J.config J.placing) (input_of wanted) a.0.first
+            pass.new a.0.slots) }
         ensures back { IfErr result (λ r. r.0 ≡ wanted) }
         ensures refused { IfErr result (λ r. IsRefused (input_of wanted) r.1 pass.new) }
         ensures grown { IfOk result (λ a. (a.0.first ≡ length (list_of self.old.writer)) × (list_of self.new.writer ≡ list_of self.old.writer ++ added_by (input_of wanted)) × (pass.new ≡ self.new.writer)) }
@@ -236,7 +238,8 @@ impl<J: Naming, R: Wait + Drop> Admission<J, R> {
         requires unrecorded { self.old.recording ≡ None }
         ensures seen { IsPrefix pass.old pass.new }
         ensures admitted { IfOk result (λ a. IsAdmittedAt (input_of wanted.now) a.first pass.old pass.new) }
-        ensures slots { IfOk result (λ a. AreSlotsAt (placed_by J.config J.config.shards J.placing) (input_of wanted.now) a.first pass.new a.slots) }
+        ensures slots { IfOk result (λ a. AreSlotsAt (setup_of J.config J.placing) (input_of wanted.now) a.first
+            pass.new a.slots) }
         ensures refused { IfErr result (λ f. IsRefused (input_of wanted.now) f pass.new) }
         ensures grown { IfOk result (λ a. (a.first ≡ length (list_of self.old.writer)) × (list_of self.new.writer ≡ list_of self.old.writer ++ added_by (input_of wanted.now)) × (pass.new ≡ self.new.writer)) }
         ensures same { OnErr result (self.new.writer ≡ self.old.writer) }
@@ -246,7 +249,10 @@ impl<J: Naming, R: Wait + Drop> Admission<J, R> {
         ensures inputs { OnOk result (inputs_of self.new.writer ≡ inputs_of self.old.writer ++ inputs_by wanted.now) }
         ensures kept { (self.new.closed ≡ self.old.closed) × (self.new.recording ≡ None) × (self.new.record_end ≡ self.old.record_end) }
     {
-        self.tell(pass)?;
+        if self.closed {
+            return Err(PostFault::Closed);
+        }
+        *pass = self.writer.tell_beyond(pass);
         let plan = self.plan(alloc, placing, wanted)?;
         let count = plan.batch.entries.len();
         if count == 0 {
@@ -270,7 +276,8 @@ impl<J: Naming, R: Wait + Drop> Admission<J, R> {
         ensures same { (self.new.writer ≡ self.old.writer) × (self.new.closed ≡ self.old.closed) × (self.new.recording ≡ self.old.recording) × (self.new.record_end ≡ self.old.record_end) }
         ensures continues { IfOk result (λ p. Continues self.new.registry p) }
         ensures elements { IfOk result (λ p. p.elements ≡ added_by (input_of wanted.now)) }
-        ensures slots { IfOk result (λ p. p.slots ≡ admitted_slots (placed_by J.config J.config.shards J.placing) (list_of self.new.writer) p.elements) }
+        ensures slots { IfOk result (λ p. p.slots ≡ admitted_slots (setup_of J.config J.placing)
+            (list_of self.new.writer) p.elements) }
         ensures allowed { OnOk result (refusal_of (length (list_of self.new.writer)) (input_of wanted.now) ≡ None) }
         ensures fault { IfErr result (λ f. IsFault (refusal_of (length (list_of self.new.writer)) (input_of wanted.now)) f) }
     {
@@ -284,20 +291,6 @@ impl<J: Naming, R: Wait + Drop> Admission<J, R> {
             ),
             Listable::Tick(moment) => self.registry.plan_tick(alloc, *moment),
         }
-    }
-
-    // The pass has then seen the whole list, where the hub is open.
-    fn tell(&mut self, pass: &mut Note<J>) -> Result<(), PostFault>
-        ensures same { (self.new.registry ≡ self.old.registry) × (self.new.writer ≡ self.old.writer) × (self.new.closed ≡ self.old.closed) × (self.new.recording ≡ self.old.recording) × (self.new.record_end ≡ self.old.record_end) }
-        ensures seen { IsPrefix pass.old pass.new }
-        ensures whole { OnOk result ((pass.new ≡ self.new.writer) × (self.old.closed ≡ false)) }
-        ensures refused { IfErr result (λ f. (f ≡ faults.Closed) × (self.old.closed ≡ true)) }
-    {
-        if self.closed {
-            return Err(PostFault::Closed);
-        }
-        *pass = self.writer.tell_beyond(pass);
-        Ok(())
     }
 
     // Shows readers what was planned at this very admission.
@@ -355,7 +348,7 @@ impl<J: Naming, R: Wait + Drop> Admission<J, R> {
     /// Drops the batches that lie wholly below the least place where the shards stand, and tells a shard that stands there. Nothing is
     /// dropped where the log has no room for a step more.
     #[tactic(auto, using(crate::proofs::Places::untrimmable))]
-    pub(crate) fn trim(&mut self, alloc: Global, least: Least<J>) -> Result<Stood<J>, AllocError>
+    pub(crate) fn trim(&mut self, least: Least<J>) -> Result<Stood<J>, AllocError>
         requires all { length least.stood ≡ J.config.shards }
         ensures lowest { IfOk result (λ s. All (λ p. s.place ≤ p) least.stood) }
         ensures trimmed { IfOk result (λ s. (firsts_of self.new.writer ≡ firsts_of self.old.writer)
@@ -371,7 +364,7 @@ impl<J: Naming, R: Wait + Drop> Admission<J, R> {
         if self.writer.tell().steps() >= MOST_STEPS {
             return Ok(lowest);
         }
-        match self.writer.trim(alloc, lowest.place()) {
+        match self.writer.trim(lowest.place()) {
             Ok(()) => Ok(lowest),
             Err(_) => Err(AllocError),
         }
@@ -400,11 +393,13 @@ impl<J: Naming, R: Wait + Drop> Admission<J, R> {
         self.closed
     }
 
-    /// No more entries.
-    pub(crate) fn close(&mut self)
+    /// No more entries. No shard was shut with that yet.
+    pub(crate) fn close(&mut self) -> AllChanged<J>
         ensures closed { self.new.closed ≡ true }
+        ensures none { (result.change.value ≡ changes.Shut) × (result.done ≡ []) }
         ensures same { (self.new.writer ≡ self.old.writer) × (self.new.recording ≡ self.old.recording) × (self.new.record_end ≡ self.old.record_end) }
     {
         self.closed = true;
+        AllChanged::shutting(self)
     }
 }

@@ -10,35 +10,31 @@ ghost use Rattle.bx_shard.specs.Props.{holds_props};
 ghost use Rattle.bx_shard.specs.Seen.{state};
 ghost use Rattle.bx_shard.specs.States.{Swept, WasShut, Watched, connect_in};
 ghost use Rattle.bx_window.specs.Places.{IsOf, StandsIn};
-ghost use Rattle.bx_window.specs.Steps.{list_of};
-ghost use Rattle.bx_entry.specs.Placings.{placed_by};
+ghost use Rattle.bx_window.specs.Steps.{list_of, setup_of};
 ghost use Rattle.bx_hub.specs.Faults.{IsAt, IsStopped, IsStoppedIn, paused, resumed};
 ghost use Rattle.bx_hub.specs.declared.activity.Activity.TheVariants.{Active, Paused, Closed};
 ghost use Rattle.bx_hub.specs.declared.fault.HubFault.TheVariants as faults;
 
-mod watch;
-mod woken;
+mod evidence;
 
 use crate::activity::Activity;
-use crate::brought::Brought;
 use crate::fault::{HubFault, PostFault};
-use crate::least::Stood;
-use crate::stopped::Stopped;
 use crate::survey::ShardSurvey;
 use bx_advice::Config;
+use bx_connects::Watch;
 use bx_entry::{Batch, Placing, Ticket};
 use bx_history::{History, Lists};
 use bx_message::Answer;
 use bx_shard::{Shard, Wakers};
 use bx_window::{LogReader, Naming, Next, Note, entry_of};
 use bx_workers::Gate;
+use evidence::listed;
+pub(crate) use evidence::{Brought, Stood, Woken};
+pub use evidence::{Change, Changed, Stopped, Watching};
 use futures::task::Waker;
 use std::alloc::Global;
 use std::snapshot::Snapshot;
 use std::sync::Arc;
-pub use watch::{Left, Watch};
-pub(crate) use woken::Woken;
-use woken::listed;
 
 /// A shard, with its reader of the window and the longest note that was brought to it. It holds what the definition's
 /// shard of its index holds after so many entries of the list that the reader has seen.
@@ -51,14 +47,15 @@ pub(crate) struct Desk<J: Naming, P: Placing> {
     activity: Activity,
     ghost learnt: { take (length note) reader ≡ note },
     ghost within: { shard.place ≤ length (list_of note) },
-    ghost holds: { Refines (placed_by J.config J.config.shards J.placing) (list_of reader) taken shard.index shard.place (state P.place_of shard) } by { Prim.hlevel holds_props },
+    ghost holds: { Refines (setup_of J.config J.placing) (list_of reader) taken shard.index shard.place
+        (state P.place_of shard) } by { Prim.hlevel holds_props },
 }
 
 impl<J: Naming, P: Placing> Desk<J, P> {
     ghost use Rattle.bx_hub.specs.Held.{IsLevelWithout, Stands, answer_over, held_of, taken_by};
-    ghost use Rattle.bx_hub.specs.Watches.{IsBack, IsLeftOrBack, told};
-    ghost use Rattle.bx_hub.specs.Lying.{IfStored};
-    ghost use Rattle.bx_hub.specs.Lags.{IsLagging};
+    ghost use Rattle.bx_hub.specs.Changes.{MakesOf, activity_after};
+    ghost use Rattle.bx_hub.specs.Watches.{HoldsOf, IsSaid};
+    ghost use Rattle.bx_hub.specs.Lags.{IsLagging, IsOverrunIn};
     ghost use Rattle.bx_hub.specs.Posts.{IsWithoutRoom};
     ghost use Rattle.bx_hub.specs.Waking.{put_of};
     ghost use Rattle.bx_shard.specs.Refining.{swept_places};
@@ -89,7 +86,7 @@ impl<J: Naming, P: Placing> Desk<J, P> {
     /// How many entries were applied.
     pub(crate) fn place(&self) -> u64
         ensures place { result ≡ self.now.shard.place }
-        ensures stands { Stands (placed_by J.config J.config.shards J.placing) (held_of self.now) }
+        ensures stands { Stands (setup_of J.config J.placing) (held_of self.now) }
     {
         self.shard.place()
     }
@@ -167,7 +164,7 @@ impl<J: Naming, P: Placing> Desk<J, P> {
             _ => None,
         };
         let woken = Woken::since(before, wakers);
-        Brought::of(self, &self.index(), note, stays, woken)
+        Brought::of(self, note, stays, woken)
     }
 
     /// Brings the shard up to the longest note, as `bring_to` does, and says where it then stands, and which wakers it put into
@@ -182,7 +179,8 @@ impl<J: Naming, P: Placing> Desk<J, P> {
         ensures seen { IsPrefix pass.old pass.new }
         ensures stood { IfOk result.0 (λ s. s.index.value ≡ self.old.shard.index) }
         ensures still { OnOk result.0 (pass.new ≡ pass.old) }
-        ensures overrun { IfErr result.0 (λ r. IsWithoutRoom r.0 pass.new × IsLagging r.0 r.1 pass.new) }
+        ensures overrun { IfErr result.0 (λ r. IsOverrunIn self.old.shard.index r.0 × IsWithoutRoom r.0 pass.new
+            × IsLagging r.0 r.1 pass.new) }
         ensures woken { AreWoken (connect_in (state P.place_of self.old.shard)) (connect_in (state P.place_of self.new.shard)) wakers.old wakers.new }
         ensures put { wakers.new ≡ wakers.old ++ result.1 }
     {
@@ -337,7 +335,7 @@ impl<J: Naming, P: Placing> Desk<J, P> {
         requires { ticket.shard ≡ self.old.shard.index }
         ensures seen { IsPrefix pass.old pass.new }
         ensures answer { IfOk result.0 (λ o. IfSome o (λ a. answer_over J.config pass.new ticket.place ≡ Some a)) }
-        ensures none { IfOk result.0 (λ o. IfNone o (IsLevelWithout (placed_by J.config J.config.shards J.placing) ticket pass.new)) }
+        ensures none { IfOk result.0 (λ o. IfNone o (IsLevelWithout (setup_of J.config J.placing) ticket pass.new)) }
         ensures filed { IfSome (filed_answer (connect_in (state P.place_of self.old.shard) ticket.place)) (λ a. result.0 ≡ Ok (Some a)) }
         ensures taken { self.new.taken ≡ taken_by result.0 ticket.place self.old.taken }
         ensures stopped { IfErr result.0 (λ s. (s.shard.value ≡ ticket.shard) × IsStopped s.fault ticket.shard pass.new × IsStoppedIn self.old.activity s.fault) }
@@ -363,7 +361,7 @@ impl<J: Naming, P: Placing> Desk<J, P> {
         requires { ticket.shard ≡ self.old.shard.index }
         ensures seen { IsPrefix pass.old pass.new }
         ensures answer { IfOk result (λ o. IfSome o (λ a. answer_over J.config pass.new ticket.place ≡ Some a)) }
-        ensures none { IfOk result (λ o. IfNone o (IsLevelWithout (placed_by J.config J.config.shards J.placing) ticket pass.new)) }
+        ensures none { IfOk result (λ o. IfNone o (IsLevelWithout (setup_of J.config J.placing) ticket pass.new)) }
         ensures filed { IfSome (filed_answer (connect_in (state P.place_of self.old.shard) ticket.place)) (λ a. result ≡ Ok (Some a)) }
         ensures taken { self.new.taken ≡ taken_by result ticket.place self.old.taken }
         ensures stopped { IfErr result (λ s. (s.shard.value ≡ ticket.shard) × IsStopped s.fault ticket.shard pass.new × IsStoppedIn self.old.activity s.fault) }
@@ -386,43 +384,64 @@ impl<J: Naming, P: Placing> Desk<J, P> {
         }
     }
 
-    /// Leaves a waker beside a held connect, as the shard does, and says so.
-    pub(crate) fn watch(&mut self, ticket: Ticket, waker: Waker) -> Watch<J>
-        ensures watch { nat_eq ticket.shard self.old.shard.index ≡ true
-            → told result ≡ watched self.old.shard.is_shut waker (connect_in (state P.place_of self.old.shard) ticket.place) }
-        ensures own { nat_eq ticket.shard self.old.shard.index ≡ true
-            → Watched ticket.place waker (state P.place_of self.old.shard) (state P.place_of self.new.shard) }
-        ensures left { IsLeftOrBack ticket waker result }
+    /// Leaves a waker beside a held connect of its own, as the shard does, and says what the shard said.
+    #[tactic(auto, using(crate::proofs::Watches::holds_after))]
+    pub(crate) fn watch(&mut self, ticket: Ticket, waker: Waker) -> (Watch, Watching<J>)
+        requires own { ticket.shard ≡ self.old.shard.index }
+        ensures watch { result.0 ≡ watched self.old.shard.is_shut waker
+            (connect_in (state P.place_of self.old.shard) ticket.place) }
+        ensures watched { Watched ticket.place waker (state P.place_of self.old.shard)
+            (state P.place_of self.new.shard) }
+        ensures said { IsSaid ticket waker result.0 result.1 }
         ensures same { (self.new.note ≡ self.old.note) × (self.new.reader ≡ self.old.reader) × (self.new.taken ≡ self.old.taken) × (self.new.activity ≡ self.old.activity) }
     {
         let seen = Snapshot::of(&waker);
-        match self.leave(ticket, waker) {
-            bx_connects::Watch::Stored(older) => {
-                let left = Left::of(self, &ticket, seen, &older);
-                Watch::Stored(older, left)
-            }
-            bx_connects::Watch::Ready(waker) => Watch::Ready(waker),
-            bx_connects::Watch::Unknown(waker) => Watch::Unknown(waker),
-            bx_connects::Watch::Shut(waker) => Watch::Shut(waker),
-        }
+        let said = self.leave(ticket, waker);
+        let watching = Watching::of(self, &ticket, seen, &said);
+        (said, watching)
     }
 
-    // Leaves a waker beside a held connect, as the shard does.
-    fn leave(&mut self, ticket: Ticket, waker: Waker) -> bx_connects::Watch
-        ensures lies { IfStored result ((ticket.shard ≡ self.new.shard.index)
-            × (waker_of (connect_in (state P.place_of self.new.shard) ticket.place) ≡ Some waker)) }
-        ensures watch { nat_eq ticket.shard self.old.shard.index ≡ true
-            → result ≡ watched self.old.shard.is_shut waker (connect_in (state P.place_of self.old.shard) ticket.place) }
-        ensures own { nat_eq ticket.shard self.old.shard.index ≡ true
-            → Watched ticket.place waker (state P.place_of self.old.shard) (state P.place_of self.new.shard) }
-        ensures back { IsBack waker result }
+    // Leaves a waker beside a held connect of its own, as the shard does.
+    fn leave(&mut self, ticket: Ticket, waker: Waker) -> Watch
+        requires own { ticket.shard ≡ self.old.shard.index }
+        ensures watch { result ≡ watched self.old.shard.is_shut waker
+            (connect_in (state P.place_of self.old.shard) ticket.place) }
+        ensures watched { Watched ticket.place waker (state P.place_of self.old.shard)
+            (state P.place_of self.new.shard) }
         ensures same { (self.new.note ≡ self.old.note) × (self.new.reader ≡ self.old.reader) × (self.new.taken ≡ self.old.taken) × (self.new.activity ≡ self.old.activity) }
     {
         self.shard.watch(ticket, waker)
     }
 
-    /// Drops the answers that were filed by entries below this place and that nobody took, and says how many they were.
-    pub(crate) fn sweep(&mut self, before: u64) -> usize
+    /// Does this to the shard, and says so.
+    #[tactic(auto, using(crate::proofs::Changes::unswept_twice, crate::proofs::Changes::paused_stands, crate::proofs::Changes::resumed_goes))]
+    pub(crate) fn change(&mut self, change: Change) -> Changed<J>
+        ensures shard { result.shard.value ≡ self.old.shard.index }
+        ensures change { result.change.value ≡ change }
+        ensures activity { self.new.activity ≡ activity_after change self.old.activity }
+        ensures makes { MakesOf change (state P.place_of self.old.shard) (state P.place_of self.new.shard) }
+        ensures same { (self.new.note ≡ self.old.note) × (self.new.reader ≡ self.old.reader) }
+    {
+        let dropped = match change {
+            Change::Pause => {
+                self.pause();
+                0
+            }
+            Change::Resume => {
+                self.resume();
+                0
+            }
+            Change::Shut => {
+                self.close();
+                0
+            }
+            Change::Sweep { before } => self.sweep(before),
+        };
+        Changed::of(self, change, dropped)
+    }
+
+    // Drops the answers that were filed by entries below this place and that nobody took, and says how many they were.
+    fn sweep(&mut self, before: u64) -> usize
         ensures swept { Swept before (state P.place_of self.old.shard) (state P.place_of self.new.shard) }
         ensures count { result ≡ count_filed_below before self.old.shard.sessions.connects }
         ensures taken { self.new.taken ≡ self.old.taken ++ swept_places before (state P.place_of self.old.shard) }
@@ -447,8 +466,8 @@ impl<J: Naming, P: Placing> Desk<J, P> {
         }
     }
 
-    /// The shard goes no further until it is resumed.
-    pub(crate) fn pause(&mut self)
+    // The shard goes no further until it is resumed.
+    fn pause(&mut self)
         ensures same { (self.new.shard ≡ self.old.shard) × (self.new.note ≡ self.old.note) × (self.new.reader ≡ self.old.reader) × (self.new.taken ≡ self.old.taken) }
         ensures paused { self.new.activity ≡ paused self.old.activity }
     {
@@ -457,8 +476,8 @@ impl<J: Naming, P: Placing> Desk<J, P> {
         }
     }
 
-    /// The shard may be brought up again, which the next call does that asks for it; a closed one stays closed.
-    pub(crate) fn resume(&mut self)
+    // The shard may be brought up again, which the next call does that asks for it; a closed one stays closed.
+    fn resume(&mut self)
         ensures same { (self.new.shard ≡ self.old.shard) × (self.new.note ≡ self.old.note) × (self.new.reader ≡ self.old.reader) × (self.new.taken ≡ self.old.taken) }
         ensures resumed { self.new.activity ≡ resumed self.old.activity }
     {
@@ -467,8 +486,8 @@ impl<J: Naming, P: Placing> Desk<J, P> {
         }
     }
 
-    /// The shard goes no further and stores no waker from here on. What is filed can still be taken.
-    pub(crate) fn close(&mut self)
+    // The shard goes no further and stores no waker from here on. What is filed can still be taken.
+    fn close(&mut self)
         ensures shut { WasShut (state P.place_of self.old.shard) (state P.place_of self.new.shard) }
         ensures closed { self.new.activity ≡ Closed }
         ensures same { (self.new.note ≡ self.old.note) × (self.new.reader ≡ self.old.reader) × (self.new.taken ≡ self.old.taken) }

@@ -3,7 +3,7 @@ ghost use Rattle.std.specs.Prelude.{◌≡◌, ◌+◌, ◌<◌, ◌^◌};
 ghost use Rattle.bx_hub.specs.declared.fault.PostFault.TheVariants as faults;
 ghost use Rattle.bx_hub.specs.Faults.{count_of, of_planning, of_reading, one_more};
 
-use crate::brought::AllBrought;
+use crate::walk::AllBrought;
 use bx_entry::{BodyError, ReadError, Slot};
 use bx_message::Sequence;
 use bx_registry::AdmitFault;

@@ -2,24 +2,21 @@
 ghost use Rattle.std.specs.Prelude.{◌≡◌, ◌≢◌, ◌⊎◌, ◌≤◌, ◌<◌, ◌++◌, [], length, Ok, None, Some, IsErr, OnOk, IfOk, IfErr, IfSome, IfNone, is_some, nat_lt};
 ghost use Rattle.std.specs.Arc.{arc_value};
 ghost use mathlib.Core.List.{IsPrefix};
-ghost use Rattle.bx_entry.specs.Placings.{placed_by};
 ghost use Rattle.bx_entry.specs.Requests.{read_input};
 ghost use Rattle.bx_entry.specs.declared.input.Input.TheVariants as inputs;
-ghost use Rattle.bx_window.specs.Steps.{inputs_of, list_of};
+ghost use Rattle.bx_window.specs.Steps.{inputs_of, list_of, setup_of};
 ghost use Rattle.bx_hub.specs.Faults.{IsStopped};
 
 use crate::admission::{Admission, Receipt};
-use crate::brought::{AllBrought, Brought};
-use crate::desk::{Desk, Watch, Woken};
-use crate::fault::{HubFault, PostFault, PostReceipt, TickReceipt};
-use crate::least::{Least, Stood};
+use crate::desk::{Brought, Change, Changed, Desk, Stood, Stopped, Watching, Woken};
+use crate::fault::{PostFault, PostReceipt, TickReceipt};
 use crate::listable::{Listable, Spent};
-use crate::pass::Pass;
 use crate::reading::{Reading, Refused, Unlisted};
 use crate::recording::RecordFront;
-use crate::stopped::Stopped;
 use crate::survey::{ShardSurvey, Survey};
+use crate::walk::{AllBrought, AllChanged, Least};
 use bx_advice::Config;
+use bx_connects::Watch;
 use bx_entry::{Arrival, Placing, Ticket};
 use bx_message::Answer;
 use bx_record::{RecordFault, Taken};
@@ -28,7 +25,11 @@ use bx_window::{Naming, Note, Opened, log_pair};
 use bx_workers::Gate;
 use futures::task::Waker;
 use std::alloc::{AllocError, Global};
+use std::snapshot::Snapshot;
 use std::sync::{Arc, Mutex, MutexGuard, Wait};
+
+/// What a caller has seen of the list of a hub: it grows with the caller's calls, and by what others tell.
+pub type Pass<J> = Note<J>;
 
 /// The server for any number of threads. Requests and ticks go into one list under one lock; each shard applies the list
 /// under a lock of its own, at its own pace.
@@ -56,8 +57,9 @@ impl<J: Naming, P: Placing, G: Gate + Drop, R: Wait + Drop> Hub<J, P, G, R> {
     ghost use Rattle.bx_hub.specs.Posts.{AreSlotsAt, IsAdmittedAt, IsRefused, IsTrimmedTo, IsWithoutRoom};
     ghost use Rattle.bx_hub.specs.Surveys.{survey_of};
     ghost use Rattle.bx_hub.specs.Waking.{put_of};
-    ghost use Rattle.bx_hub.specs.Watches.{IsLeftOrBack};
-    ghost use Rattle.bx_hub.specs.declared.desk.watch.Watch.TheVariants as watches;
+    ghost use Rattle.bx_hub.specs.Changes.{AreAllChanged, IsChanged};
+    ghost use Rattle.bx_hub.specs.Watches.{IsToldOf};
+    ghost use Rattle.bx_hub.specs.declared.desk.evidence.Change.TheVariants as changes;
 
     /// A hub over an empty list, for the configuration's number of shards. An error means that memory was refused.
     pub fn new(
@@ -101,7 +103,7 @@ impl<J: Naming, P: Placing, G: Gate + Drop, R: Wait + Drop> Hub<J, P, G, R> {
     pub fn pass(&self) -> Pass<J>
         ensures { result ≡ [] }
     {
-        Pass::of(self.start.again())
+        self.start.again()
     }
 
     /// Takes the messages of a request into the list, and brings each shard up. It is refused, in this order, where its
@@ -118,7 +120,8 @@ impl<J: Naming, P: Placing, G: Gate + Drop, R: Wait + Drop> Hub<J, P, G, R> {
     ) -> Result<PostReceipt<J>, Refused<J>>
         ensures seen { IsPrefix pass.old pass.new }
         ensures admitted { IfOk result (λ p. IsAdmittedAt (read_input (inputs.Post arrival)) p.first pass.old pass.new) }
-        ensures slots { IfOk result (λ p. AreSlotsAt (placed_by J.config J.config.shards J.placing) (read_input (inputs.Post arrival)) p.first pass.new p.slots) }
+        ensures slots { IfOk result (λ p. AreSlotsAt (setup_of J.config J.placing) (read_input (inputs.Post arrival))
+            p.first pass.new p.slots) }
         ensures back { IfErr result (λ r. r.arrival ≡ arrival) }
         ensures refused { IfErr result (λ r. IsRefused (read_input (inputs.Post arrival)) r.why.fault pass.new) }
         ensures lags { IfErr result (λ r. IsLagging r.why.fault r.why.lag pass.new) }
@@ -127,12 +130,7 @@ impl<J: Naming, P: Placing, G: Gate + Drop, R: Wait + Drop> Hub<J, P, G, R> {
     {
         let reading = Reading::of(alloc, arrival)?;
         let wanted = Listable::Request(reading);
-        let (Receipt { first, slots }, spent) = match self.admit(
-            rt,
-            alloc,
-            &mut pass.front,
-            wanted,
-        ) {
+        let (Receipt { first, slots }, spent) = match self.admit(rt, alloc, pass, wanted) {
             Ok(listed) => listed,
             Err((wanted, why)) => {
                 let Some(arrival) = wanted.into_arrival() else {
@@ -141,7 +139,7 @@ impl<J: Naming, P: Placing, G: Gate + Drop, R: Wait + Drop> Hub<J, P, G, R> {
                 return Err(Refused::of(why, arrival));
             }
         };
-        let brought = self.bring_all(rt, alloc, &pass.front);
+        let brought = self.bring_all(rt, alloc, &*pass);
         drop(spent);
         Ok(PostReceipt {
             first,
@@ -167,12 +165,12 @@ impl<J: Naming, P: Placing, G: Gate + Drop, R: Wait + Drop> Hub<J, P, G, R> {
         ensures inputs { OnOk result (EndsIn (inputs_of pass.new) (inputs_from (inputs.Tick moment))) }
     {
         let wanted = Listable::Tick(moment);
-        let (Receipt { first, .. }, _) = match self.admit(rt, alloc, &mut pass.front, wanted) {
+        let (Receipt { first, .. }, _) = match self.admit(rt, alloc, pass, wanted) {
             Ok(listed) => listed,
             Err((_, why)) => return Err(why),
         };
-        let brought = self.bring_all(rt, alloc, &pass.front);
-        self.let_go(rt, alloc);
+        let brought = self.bring_all(rt, alloc, &*pass);
+        self.let_go(rt);
         Ok(TickReceipt {
             place: first,
             brought,
@@ -190,7 +188,8 @@ impl<J: Naming, P: Placing, G: Gate + Drop, R: Wait + Drop> Hub<J, P, G, R> {
     ) -> Result<(Receipt, Spent), (Listable, Unlisted<J>)>
         ensures seen { IsPrefix pass.old pass.new }
         ensures admitted { IfOk result (λ a. IsAdmittedAt (input_of wanted) a.0.first pass.old pass.new) }
-        ensures slots { IfOk result (λ a. AreSlotsAt (placed_by J.config J.config.shards J.placing) (input_of wanted) a.0.first pass.new a.0.slots) }
+        ensures slots { IfOk result (λ a. AreSlotsAt (setup_of J.config J.placing) (input_of wanted) a.0.first
+            pass.new a.0.slots) }
         ensures back { IfErr result (λ r. r.0 ≡ wanted) }
         ensures refused { IfErr result (λ r. IsRefused (input_of wanted) r.1.fault pass.new) }
         ensures lags { IfErr result (λ r. IsLagging r.1.fault r.1.lag pass.new) }
@@ -226,14 +225,14 @@ impl<J: Naming, P: Placing, G: Gate + Drop, R: Wait + Drop> Hub<J, P, G, R> {
         ensures kept { admission.new.closed ≡ admission.old.closed }
     {
         let least = self.bring_least(rt, alloc, pass)?;
-        match admission.trim(alloc, least) {
+        match admission.trim(least) {
             Ok(lowest) => Ok(lowest),
             Err(_) => Err((PostFault::Memory, None)),
         }
     }
 
     // Lets the window go of what all shards have passed. Where there is no memory for that, the next tick does it.
-    fn let_go<W: Wait>(&self, rt: &W, alloc: Global) {
+    fn let_go<W: Wait>(&self, rt: &W) {
         let mut least = Least::new();
         for index in 0..self.desks.len() {
             let Ok(desk) = self.desk(rt, index) else {
@@ -243,7 +242,7 @@ impl<J: Naming, P: Placing, G: Gate + Drop, R: Wait + Drop> Hub<J, P, G, R> {
             drop(desk);
             least.add(stood);
         }
-        let _ = self.admission.lock(rt).trim(alloc, least);
+        let _ = self.admission.lock(rt).trim(least);
     }
 
     // Brings each shard up to the end of what was seen, and tells the least place where one stands. Who waited for what a shard answers is
@@ -367,14 +366,14 @@ impl<J: Naming, P: Placing, G: Gate + Drop, R: Wait + Drop> Hub<J, P, G, R> {
         ensures seen { IsPrefix pass.old pass.new }
         ensures answer { IfOk result (λ o. IfSome o (λ a. answer_over J.config pass.new ticket.place ≡ Some a)) }
         ensures none { IfOk result (λ o. IfNone o ((J.config.shards ≤ ticket.shard)
-            ⊎ IsLevelWithout (placed_by J.config J.config.shards J.placing) ticket pass.new)) }
+            ⊎ IsLevelWithout (setup_of J.config J.placing) ticket pass.new)) }
         ensures stopped { IfErr result (λ s. (s.shard.value ≡ ticket.shard) × IsStopped s.fault ticket.shard pass.new) }
     {
         if ticket.shard >= self.desks.len() {
             return Ok(None);
         }
         let mut wakers = Wakers::new(alloc);
-        let (answer, _woken) = self.poll_one(rt, alloc, &mut pass.front, ticket, &mut wakers);
+        let (answer, _woken) = self.poll_one(rt, alloc, pass, ticket, &mut wakers);
         answer
     }
 
@@ -391,7 +390,7 @@ impl<J: Naming, P: Placing, G: Gate + Drop, R: Wait + Drop> Hub<J, P, G, R> {
         requires { ticket.shard < length self.now.desks.items }
         ensures seen { IsPrefix pass.old pass.new }
         ensures answer { IfOk result.0 (λ o. IfSome o (λ a. answer_over J.config pass.new ticket.place ≡ Some a)) }
-        ensures none { IfOk result.0 (λ o. IfNone o (IsLevelWithout (placed_by J.config J.config.shards J.placing) ticket pass.new)) }
+        ensures none { IfOk result.0 (λ o. IfNone o (IsLevelWithout (setup_of J.config J.placing) ticket pass.new)) }
         ensures stopped { IfErr result.0 (λ s. (s.shard.value ≡ ticket.shard) × IsStopped s.fault ticket.shard pass.new) }
         ensures put { wakers.new ≡ wakers.old ++ put_of result.1 }
         ensures asked { IfNone result.1 (IsErr result.0) }
@@ -405,16 +404,32 @@ impl<J: Naming, P: Placing, G: Gate + Drop, R: Wait + Drop> Hub<J, P, G, R> {
         }
     }
 
-    /// Leaves a waker beside a held connect, and gives the older one there back. Once the connect is answered, the waker is
-    /// woken by the call that brought the shard up, after that has let go of the shard's lock. The waker comes back where an
-    /// answer is filed, where the hub was closed, and where the ticket is of no held connect of its shard, or names no shard.
-    pub fn watch<W: Wait>(&self, rt: &W, ticket: Ticket, waker: Waker) -> Watch<J>
-        ensures left { IsLeftOrBack ticket waker result }
-        ensures unknown { J.config.shards ≤ ticket.shard → result ≡ watches.Unknown waker }
+    /// Leaves a waker beside a held connect, and gives the older one there back. Once the connect is answered, the
+    /// waker is woken by the call that brought the shard up, after that has let go of the shard's lock. The waker comes
+    /// back where an answer is filed, where the hub was closed, and where the ticket is of no held connect of its
+    /// shard. A ticket that names no shard is unknown, and no shard says so.
+    pub fn watch<W: Wait>(
+        &self,
+        rt: &W,
+        ticket: Ticket,
+        waker: Waker,
+    ) -> (Watch, Option<Watching<J>>)
+        ensures { IsToldOf J.config.shards ticket waker result.0 result.1 }
     {
-        match self.desks.get(ticket.shard) {
-            Some(desk) => desk.lock(rt).watch(ticket, waker),
-            None => Watch::Unknown(waker),
+        if ticket.shard >= self.desks.len() {
+            return (Watch::Unknown(waker), None);
+        }
+        match self.desk(rt, ticket.shard) {
+            Ok(mut desk) => {
+                let (said, watching) = desk.watch(ticket, waker);
+                (said, Some(watching))
+            }
+            Err(other) => {
+                let seen = Snapshot::of(&waker);
+                let said = Watch::Unknown(waker);
+                let watching = Watching::misplaced(&*other, &ticket, seen, &said);
+                (said, Some(watching))
+            }
         }
     }
 
@@ -423,7 +438,7 @@ impl<J: Naming, P: Placing, G: Gate + Drop, R: Wait + Drop> Hub<J, P, G, R> {
         ensures seen { IsPrefix pass.old pass.new }
         ensures counted { result ≡ survey_of J.config pass.new }
     {
-        self.admission.lock(rt).survey(&mut pass.front)
+        self.admission.lock(rt).survey(pass)
     }
 
     /// How a shard stands; none where no shard has this index.
@@ -467,48 +482,67 @@ impl<J: Naming, P: Placing, G: Gate + Drop, R: Wait + Drop> Hub<J, P, G, R> {
         self.admission.lock(rt).stop_record();
     }
 
-    /// Drops the answers that were filed by entries below this place and that nobody took, and says how many they were.
-    pub fn sweep<W: Wait>(&self, rt: &W, before: u64) -> usize {
-        let mut count: usize = 0;
-        for desk in &self.desks {
-            count = count.saturating_add(desk.lock(rt).sweep(before));
-        }
-        count
+    /// Drops the answers that were filed by entries below this place and that nobody took, in every shard.
+    pub fn sweep<W: Wait>(&self, rt: &W, before: u64) -> AllChanged<J>
+        ensures { AreAllChanged J.config.shards (changes.Sweep before) result }
+    {
+        let mut all = AllChanged::sweeping(before);
+        self.change_all(rt, Change::Sweep { before }, &mut all);
+        all
     }
 
-    /// Lets a shard stand still: it applies nothing more until it is resumed, and its place keeps the batches behind it in the
-    /// window. False where no shard has this index, and then nothing changes.
-    pub fn pause<W: Wait>(&self, rt: &W, shard: usize) -> bool
-        ensures { result ≡ nat_lt shard J.config.shards }
+    /// Lets a shard stand still: it applies nothing more until it is resumed, and its place keeps the batches from
+    /// there on in the window. None where no shard has this index, and then nothing changes.
+    pub fn pause<W: Wait>(&self, rt: &W, shard: usize) -> Option<Changed<J>>
+        ensures some { is_some result ≡ nat_lt shard J.config.shards }
+        ensures changed { IfSome result (IsChanged shard changes.Pause) }
     {
-        match self.desks.get(shard) {
-            Some(desk) => {
-                desk.lock(rt).pause();
-                true
-            }
-            None => false,
+        if shard >= self.desks.len() {
+            return None;
         }
+        Some(self.change(rt, shard, Change::Pause))
     }
 
-    /// Lets a shard go on, which it does with the next post, tick or question for an answer. False where no shard has this
-    /// index, and then nothing changes.
-    pub fn resume<W: Wait>(&self, rt: &W, shard: usize) -> bool
-        ensures { result ≡ nat_lt shard J.config.shards }
+    /// Lets a shard go on, which it does with the next post, tick or question for an answer. None where no shard has
+    /// this index, and then nothing changes.
+    pub fn resume<W: Wait>(&self, rt: &W, shard: usize) -> Option<Changed<J>>
+        ensures some { is_some result ≡ nat_lt shard J.config.shards }
+        ensures changed { IfSome result (IsChanged shard changes.Resume) }
     {
-        match self.desks.get(shard) {
-            Some(desk) => {
-                desk.lock(rt).resume();
-                true
-            }
-            None => false,
+        if shard >= self.desks.len() {
+            return None;
         }
+        Some(self.change(rt, shard, Change::Resume))
     }
 
     /// No more entries, and no shard goes further; held connects are woken. What is filed can still be taken.
-    pub fn close<W: Wait>(&self, rt: &W) {
-        self.admission.lock(rt).close();
-        for desk in &self.desks {
-            desk.lock(rt).close();
+    pub fn close<W: Wait>(&self, rt: &W) -> AllChanged<J>
+        ensures { AreAllChanged J.config.shards changes.Shut result }
+    {
+        let mut all = self.admission.lock(rt).close();
+        self.change_all(rt, Change::Shut, &mut all);
+        all
+    }
+
+    // Does this to each shard, one after another.
+    fn change_all<W: Wait>(&self, rt: &W, change: Change, all: &mut AllChanged<J>)
+        requires none { all.old.done ≡ [] }
+        requires change { all.old.change.value ≡ change }
+        ensures { AreAllChanged J.config.shards change all.new }
+    {
+        for index in 0..self.desks.len() {
+            all.add(self.change(rt, index, change));
+        }
+    }
+
+    // Does this to the shard of this index.
+    fn change<W: Wait>(&self, rt: &W, index: usize, change: Change) -> Changed<J>
+        requires { index < length self.now.desks.items }
+        ensures { IsChanged index change result }
+    {
+        match self.desk(rt, index) {
+            Ok(mut desk) => desk.change(change),
+            Err(other) => Changed::misplaced(&*other, &index, change),
         }
     }
 }

@@ -4,25 +4,21 @@
 
 mod activity;
 mod admission;
-mod brought;
 mod desk;
 mod fault;
 mod hub;
-mod least;
 mod listable;
-mod pass;
 mod reading;
 mod recording;
-mod stopped;
 mod survey;
+mod walk;
 
-pub use brought::AllBrought;
+pub use bx_connects::Watch;
 pub use bx_workers::{Gate, OpenGate};
-pub use desk::{Left, Watch};
+pub use desk::{Change, Changed, Stopped, Watching};
 pub use fault::{HubFault, Lagging, PostFault, PostReceipt, TickReceipt};
-pub use hub::Hub;
-pub use pass::Pass;
+pub use hub::{Hub, Pass};
 pub use reading::{Refused, Unlisted};
 pub use recording::RecordFront;
-pub use stopped::Stopped;
 pub use survey::{ShardSurvey, Survey};
+pub use walk::{AllBrought, AllChanged};

@@ -82,9 +82,9 @@ fn fills<J: Naming, P: Placing, G: Gate + Drop, H: Wait + Drop, R: Wait + Abort>
     pass: &mut Pass<J>,
     home: usize,
 ) -> Result<(), Fail> {
-    same(rt, hub.pause(rt, 2), false, "pause 2");
+    same(rt, hub.pause(rt, 2).is_some(), false, "pause 2");
     same(rt, hub.survey_shard(rt, 2), None, "shard 2");
-    same(rt, hub.pause(rt, home), true, "pause");
+    same(rt, hub.pause(rt, home).is_some(), true, "pause");
     same(
         rt,
         empty(rt, alloc, hub, pass),
@@ -107,8 +107,8 @@ fn fills<J: Naming, P: Placing, G: Gate + Drop, H: Wait + Drop, R: Wait + Abort>
     let (fault, pinging) = refuse(rt, alloc, hub, pass, pinging)?;
     same(rt, fault, full, "the same ping");
     same(rt, is_of(&pinging, PING), true, "the ping that comes back");
-    same(rt, hub.resume(rt, 2), false, "resume 2");
-    same(rt, hub.resume(rt, home), true, "resume");
+    same(rt, hub.resume(rt, 2).is_some(), false, "resume 2");
+    same(rt, hub.resume(rt, home).is_some(), true, "resume");
     same(
         rt,
         taken(rt, alloc, hub, pass, pinging),
@@ -125,8 +125,8 @@ fn goes_on<J: Naming, P: Placing, G: Gate + Drop, H: Wait + Drop, R: Wait + Abor
     hub: &Hub<J, P, G, H>,
     pass: &mut Pass<J>,
 ) -> Result<(), Fail> {
-    same(rt, hub.pause(rt, 0), true, "pause 0");
-    same(rt, hub.pause(rt, 1), true, "pause 1");
+    same(rt, hub.pause(rt, 0).is_some(), true, "pause 0");
+    same(rt, hub.pause(rt, 1).is_some(), true, "pause 1");
     for (place, resumed, paused) in [(0, 0, 2), (1, 1, 1), (2, 0, 0)] {
         let behind = Lagging {
             paused,
@@ -134,7 +134,7 @@ fn goes_on<J: Naming, P: Placing, G: Gate + Drop, H: Wait + Drop, R: Wait + Abor
         };
         let pinged = ping(rt, alloc, hub, pass);
         same(rt, pinged, Some((place, behind)), "a ping");
-        same(rt, hub.resume(rt, resumed), true, "resume");
+        same(rt, hub.resume(rt, resumed).is_some(), true, "resume");
     }
     Ok(())
 }
@@ -148,7 +148,7 @@ fn publish_apart<J: Naming, P: Placing, G: Gate + Drop, H: Wait + Drop, R: Wait>
 ) -> Result<(), Refused> {
     let mut other = hub.pass();
     publish(rt, alloc, hub, &mut other)?;
-    pass.learn(&other.note());
+    *pass = pass.longer(&other);
     Ok(())
 }
 
@@ -162,7 +162,7 @@ fn waits<J: Naming, P: Placing, G: Gate + Drop, H: Wait + Drop, R: Wait + Abort>
     home: usize,
 ) -> Result<(), Fail> {
     let ticket = hold(rt, alloc, hub, pass)?;
-    same(rt, hub.pause(rt, home), true, "pause");
+    same(rt, hub.pause(rt, home).is_some(), true, "pause");
     publish_apart(rt, alloc, hub, pass)?;
     let fault = fault_of(rt, alloc, hub, pass, ticket);
     same(rt, fault, Some(HubFault::Paused), "paused");
@@ -174,8 +174,8 @@ fn waits<J: Naming, P: Placing, G: Gate + Drop, H: Wait + Drop, R: Wait + Abort>
     };
     same(rt, hub.survey(rt, pass), list, "the list");
     same(rt, hub.survey_shard(rt, home), stood(3, 1, 0), "it waits");
-    same(rt, hub.resume(rt, home), true, "resume");
-    same(rt, hub.sweep(rt, 5), 0, "sweep 5");
+    same(rt, hub.resume(rt, home).is_some(), true, "resume");
+    same(rt, hub.sweep(rt, 5).dropped(), 0, "sweep 5");
     let found = find(rt, alloc, hub, pass, ticket, ANSWER)?;
     same(rt, found, Found::Wanted, "found");
     Ok(())
@@ -191,7 +191,7 @@ fn gives<J: Naming, P: Placing, G: Gate + Drop, H: Wait + Drop, R: Wait + Abort>
 ) -> Result<(), Fail> {
     let ticket = hold(rt, alloc, hub, pass)?;
     publish(rt, alloc, hub, pass)?;
-    same(rt, hub.pause(rt, home), true, "pause");
+    same(rt, hub.pause(rt, home).is_some(), true, "pause");
     same(rt, hub.survey_shard(rt, home), stood(5, 0, 1), "filed");
     let found = find(rt, alloc, hub, pass, ticket, ANSWER)?;
     same(rt, found, Found::Wanted, "found");
@@ -215,14 +215,14 @@ fn rides<J: Naming, P: Placing, G: Gate + Drop, H: Wait + Drop, R: Wait + Abort>
 ) -> Result<(), Fail> {
     post(rt, alloc, hub, pass, HANDSHAKE)?;
     post(rt, alloc, hub, pass, SUBSCRIBE)?;
-    same(rt, hub.pause(rt, home), true, "pause");
+    same(rt, hub.pause(rt, home).is_some(), true, "pause");
     publish_apart(rt, alloc, hub, pass)?;
     let (place, ticket) = post(rt, alloc, hub, pass, PUBLISH_OWN)?;
     same(rt, place, 4, "the place of the rider");
     let ticket = ticket.ok_or("no rider")?;
     let fault = fault_of(rt, alloc, hub, pass, ticket);
     same(rt, fault, Some(HubFault::Paused), "paused");
-    same(rt, hub.resume(rt, home), true, "resume");
+    same(rt, hub.resume(rt, home).is_some(), true, "resume");
     let found = find(rt, alloc, hub, pass, ticket, RIDDEN)?;
     same(rt, found, Found::Wanted, "found");
     let again = find(rt, alloc, hub, pass, ticket, RIDDEN)?;
@@ -240,9 +240,9 @@ fn sweeps<J: Naming, P: Placing, G: Gate + Drop, H: Wait + Drop, R: Wait + Abort
 ) -> Result<(), Fail> {
     let ticket = hold(rt, alloc, hub, pass)?;
     publish(rt, alloc, hub, pass)?;
-    same(rt, hub.pause(rt, home), true, "pause");
-    same(rt, hub.sweep(rt, 4), 0, "sweep 4");
-    same(rt, hub.sweep(rt, 5), 1, "sweep 5");
+    same(rt, hub.pause(rt, home).is_some(), true, "pause");
+    same(rt, hub.sweep(rt, 4).dropped(), 0, "sweep 4");
+    same(rt, hub.sweep(rt, 5).dropped(), 1, "sweep 5");
     let fault = fault_of(rt, alloc, hub, pass, ticket);
     same(rt, fault, Some(HubFault::Paused), "paused");
     Ok(())

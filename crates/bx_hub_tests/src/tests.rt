@@ -29,7 +29,7 @@ fn requests<J: Naming, P: Placing, G: Gate + Drop, H: Wait + Drop, R: Wait + Abo
         Some(PostFault::Body(BodyError::NotJson)),
         "a body that is cut off",
     );
-    same(rt, pass.seen(), 0, "seen at first");
+    same(rt, pass.len(), 0, "seen at first");
     same(rt, post(rt, alloc, hub, pass, "[]")?.0, 0, "an empty post");
     same(
         rt,
@@ -43,7 +43,7 @@ fn requests<J: Naming, P: Placing, G: Gate + Drop, H: Wait + Drop, R: Wait + Abo
         1,
         "an empty post behind it",
     );
-    same(rt, pass.seen(), 1, "seen behind it");
+    same(rt, pass.len(), 1, "seen behind it");
     let late = (1 << 62) + 1;
     same(
         rt,
@@ -105,7 +105,7 @@ fn answers<J: Naming, P: Placing, G: Gate + Drop, H: Wait + Drop, R: Wait + Abor
         Found::Nothing,
         "the third poll",
     )?;
-    same(rt, hub.sweep(rt, 5), 0, "sweep 5");
+    same(rt, hub.sweep(rt, 5).dropped(), 0, "sweep 5");
     let nowhere = Ticket { shard: 2, ..ticket };
     assert_found(
         rt,
@@ -128,9 +128,9 @@ fn sweeps<J: Naming, P: Placing, G: Gate + Drop, H: Wait + Drop, R: Wait + Abort
 ) -> Result<(), Fail> {
     let ticket = hold(rt, alloc, hub, pass)?;
     publish(rt, alloc, hub, pass)?;
-    same(rt, hub.sweep(rt, 4), 0, "sweep 4");
-    same(rt, hub.sweep(rt, 5), 1, "sweep 5");
-    same(rt, hub.sweep(rt, 5), 0, "sweep 5 again");
+    same(rt, hub.sweep(rt, 4).dropped(), 0, "sweep 4");
+    same(rt, hub.sweep(rt, 5).dropped(), 1, "sweep 5");
+    same(rt, hub.sweep(rt, 5).dropped(), 0, "sweep 5 again");
     assert_found(
         rt,
         alloc,
@@ -155,9 +155,9 @@ fn sweeps_all<J: Naming, P: Placing, G: Gate + Drop, H: Wait + Drop, R: Wait + A
     post(rt, alloc, hub, pass, CONNECT_OTHER)?;
     let ticked = hub.tick(rt, alloc, pass, 30_000)?;
     same(rt, ticked.place, 5, "the place of the tick");
-    same(rt, hub.sweep(rt, 5), 0, "sweep 5");
-    same(rt, hub.sweep(rt, 6), 2, "sweep 6");
-    same(rt, hub.sweep(rt, 6), 0, "sweep 6 again");
+    same(rt, hub.sweep(rt, 5).dropped(), 0, "sweep 5");
+    same(rt, hub.sweep(rt, 6).dropped(), 2, "sweep 6");
+    same(rt, hub.sweep(rt, 6).dropped(), 0, "sweep 6 again");
     Ok(())
 }
 
@@ -169,7 +169,7 @@ fn began<J: Naming, P: Placing, G: Gate + Drop, H: Wait + Drop, R: Wait>(
     pass: &mut Pass<J>,
 ) -> Result<u64, Fail> {
     hub.tick(rt, alloc, pass, 0)?;
-    Ok(pass.note().begin())
+    Ok(pass.begin())
 }
 
 // The window keeps until a tick what all shards have passed, and longer what a paused shard lacks.
@@ -184,7 +184,7 @@ fn lets_go<J: Naming, P: Placing, G: Gate + Drop, H: Wait + Drop, R: Wait + Abor
     }
     same(rt, began(rt, alloc, hub, pass)?, 0, "the first tick");
     same(rt, began(rt, alloc, hub, pass)?, 4, "the second tick");
-    same(rt, hub.pause(rt, 0), true, "pause 0");
+    same(rt, hub.pause(rt, 0).is_some(), true, "pause 0");
     same(rt, began(rt, alloc, hub, pass)?, 5, "the first tick paused");
     same(
         rt,
@@ -192,7 +192,7 @@ fn lets_go<J: Naming, P: Placing, G: Gate + Drop, H: Wait + Drop, R: Wait + Abor
         5,
         "the second tick paused",
     );
-    same(rt, hub.resume(rt, 0), true, "resume 0");
+    same(rt, hub.resume(rt, 0).is_some(), true, "resume 0");
     same(
         rt,
         began(rt, alloc, hub, pass)?,
@@ -289,7 +289,7 @@ fn check<J: Naming, P: Placing, G: Gate + Drop, H: Wait + Drop, R: Wait + Abort>
     pass: &mut Pass<J>,
     case: Case,
 ) -> Result<(), Fail> {
-    same(rt, pass.seen(), 0, "seen at first");
+    same(rt, pass.len(), 0, "seen at first");
     match case {
         Case::Requests => requests(rt, alloc, hub, pass),
         Case::Answers => answers(rt, alloc, hub, pass),

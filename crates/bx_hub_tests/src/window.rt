@@ -78,13 +78,8 @@ fn check_found<J: Naming, R: Abort>(rt: &R, reader: &mut LogReader<J>, place: u6
     same(rt, find(reader, place), wanted, place);
 }
 
-fn trim<J: Naming, H: Wait + Drop, R: Abort>(
-    rt: &R,
-    alloc: Global,
-    writer: &mut Ticker<J, H>,
-    place: u64,
-) {
-    same(rt, writer.trim(alloc, place), true, place);
+fn trim<J: Naming, H: Wait + Drop, R: Abort>(rt: &R, writer: &mut Ticker<J, H>, place: u64) {
+    same(rt, writer.trim(place), true, place);
 }
 
 // A batch of three ticks stands at its three places, and at no other.
@@ -121,10 +116,10 @@ fn trimmed<J: Naming, H: Wait + Drop, R: Abort>(
     reader: &mut LogReader<J>,
 ) -> Result<(), AllocError> {
     publish_two(rt, alloc, writer)?;
-    trim(rt, alloc, writer, 2);
+    trim(rt, writer, 2);
     check_found(rt, reader, 0, batch(0, 3, 0));
     same(rt, reader.note().begin(), 0, "the first trim");
-    trim(rt, alloc, writer, 3);
+    trim(rt, writer, 3);
     check_found(rt, reader, 0, Found::Overrun);
     check_found(rt, reader, 2, Found::Overrun);
     check_found(rt, reader, 3, batch(3, 2, 3));
@@ -140,7 +135,7 @@ fn emptied<J: Naming, H: Wait + Drop, R: Abort>(
     reader: &mut LogReader<J>,
 ) -> Result<(), AllocError> {
     publish_two(rt, alloc, writer)?;
-    trim(rt, alloc, writer, 100);
+    trim(rt, writer, 100);
     same(rt, writer.tell().begin(), 5, "the end");
     check_found(rt, reader, 4, Found::Overrun);
     check_found(rt, reader, 5, Found::Level);
@@ -178,7 +173,7 @@ fn filled<J: Naming, H: Wait + Drop, R: Abort>(
     let taken = writer.publish(alloc, 2)?;
     same(rt, taken, refused, "one too many");
     check_found(rt, reader, 4_096, Found::Level);
-    trim(rt, alloc, writer, 1);
+    trim(rt, writer, 1);
     publish(rt, alloc, writer, 2)?;
     check_ends(rt, reader);
     Ok(())

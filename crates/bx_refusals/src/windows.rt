@@ -112,11 +112,11 @@ fn trim<J: Naming, R: Wait + Drop>(
     place: u64,
     before: &str,
 ) -> Result<(), Unlike> {
-    if writer.trim(alloc, place) {
+    if writer.trim(place) {
         return Ok(());
     }
     check_same(alloc, writer, reader, before)?;
-    if writer.trim(alloc, place) {
+    if writer.trim(place) {
         return Ok(());
     }
     Err(Unlike::Wrong("not trimmed"))

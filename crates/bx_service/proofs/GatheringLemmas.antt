@@ -1,10 +1,13 @@
 -- What is still to come goes on being what was to come.
 use Rattle.std.proofs.Common.{◌≡◌, List, [], ◌∷◌, ◌++◌, Bool, false, Option, Some, None, Result, Ok, Err, OnOk, refl, subst, ◌∙◌}
 use Rattle.std.proofs.lemmas.List.{append_assoc}
+use Rattle.futures.specs.Poll.{OnPending}
+use Rattle.futures.specs.declared.task.Poll.{Poll}
+use Rattle.futures.specs.declared.task.Poll.TheVariants.{Pending}
 use Rattle.bx_entry.specs.declared.entry.{Slot.Slot, Ticket.Ticket}
 use Rattle.bx_entry.specs.declared.entry.Slot.TheVariants.{Ready, Waiting}
 use Rattle.bx_held.specs.Outputs.{MayGive}
-use Rattle.bx_held.specs.declared.fault.HeldFault.{HeldFault}
+use Rattle.bx_hub.specs.declared.fault.HubFault.{HubFault}
 use Rattle.bx_message.specs.declared.reply.{Answer.Answer, Item.Item, Reply.Reply}
 use Rattle.bx_message.specs.declared.reply.Item.TheVariants.{ReplyItem}
 use Rattle.bx_entry.specs.Placings.{Setup}
@@ -14,6 +17,10 @@ use Rattle.bx_service.specs.Gatherings.{AreAll, Awaited, awaited_as, items_of}
 pub on_ok : {A E P Q : Type 0} (r : Result A E) → (P → Q) → OnOk r P → OnOk r Q
 on_ok (Ok x) follows holds = follows holds
 on_ok (Err fault) follows holds = tt
+
+-- what holds of a pending poll
+pub while_pending : {A P : Type 0} (polled : Poll A) → polled ≡ Pending → OnPending polled P → P
+while_pending {A} {P} polled is holds = subst (λ (p : Poll A). OnPending p P) is holds
 
 -- where nothing is changed but the names
 pub all_same : (setup : Setup) (seen was_seen : List LogStep) (there was_there : List Item) (awaited was_awaited : Option Awaited) (slots were_slots : List Slot) (all : List Item) →
@@ -26,18 +33,20 @@ all_same setup seen was_seen there was_there awaited was_awaited slots were_slot
 
 module _ (setup : Setup) (seen : List LogStep) (there : List Item) (slots : List Slot) (all : List Item) where
   -- an answer that came is put behind what is there
-  pub all_given : (ticket : Ticket) (from : List LogStep) (is_done : Bool) (a : Answer) → MayGive setup ticket from is_done (Ok a) →
+  pub all_given : (ticket : Ticket) (from : List LogStep) (is_done : Bool) (a : Answer)
+      → MayGive setup ticket from is_done (Ok (Some a)) →
       AreAll setup seen (there ++ items_of a) None slots all → AreAll setup seen there (Some (awaited_as ticket from is_done)) slots all
   all_given ticket from is_done a may given =
       (items_of a ++ given.0, ((items_of a, ((a, (may, refl)), (given.0, (given.1.0, refl)))), given.1.1 ∙ append_assoc there (items_of a) given.0))
 
   -- what is waited for may be asked for once more
-  pub all_awaited : (t u : Ticket) (old new : List LogStep) (was is : Bool) → ((output : Result Answer HeldFault) → MayGive setup u new is output → MayGive setup t old was output) →
+  pub all_awaited : (t u : Ticket) (old new : List LogStep) (was is : Bool)
+      → ((output : Result (Option Answer) HubFault) → MayGive setup u new is output → MayGive setup t old was output) →
       AreAll setup seen there (Some (awaited_as u new is)) slots all → AreAll setup seen there (Some (awaited_as t old was)) slots all
   all_awaited t u old new was is same given =
       let left = given.1.0 in
       let since = left.1.0 in
-      (given.0, ((left.0, ((since.0, (same (Ok since.0) since.1.0, since.1.1)), left.1.1)), given.1.1))
+      (given.0, ((left.0, ((since.0, (same (Ok (Some since.0)) since.1.0, since.1.1)), left.1.1)), given.1.1))
 
   -- a reply is put behind what is there
   pub all_replied : (reply : Reply) → AreAll setup seen (there ++ ReplyItem reply ∷ []) None slots all → AreAll setup seen there None (Ready reply ∷ slots) all

@@ -17,7 +17,7 @@ use Rattle.bx_service.specs.declared.exchange.State.TheVariants.{Collecting, Ask
 use Rattle.bx_message.specs.declared.status.Status.TheVariants.{Unavailable}
 use Rattle.bx_service.specs.Responses.{IsAnswer, IsRefusal}
 use Rattle.bx_transport.specs.Statuses.{transport_status}
-use Rattle.bx_service.specs.Statuses.{body_status}
+use Rattle.bx_service.specs.Statuses.{body_status, post_status}
 
 -- a response as it is sent
 abbrev pub Sent : Type 0
@@ -37,10 +37,11 @@ module _ {I : Type 0} (gives : I → Gathered → Type 0) where
   abbrev pub ForFuture : Option (List ℕ) → I → Sent → Type 0
   ForFuture callback items sent = (gathered : Gathered) × (gives items gathered × ForItems callback gathered sent)
 
-  -- the response for what was said of the documents: that for the future of their items, or the status by which they are refused
+  -- the response for what was said of the documents: that for the future of their items, or the status of why they are
+  -- refused
   abbrev pub ForOutcome : Option (List ℕ) → Result I Declined → Sent → Type 0
   ForOutcome callback (Ok items) sent = ForFuture callback items sent
-  ForOutcome callback (Err declined) sent = IsRefusal declined.status sent
+  ForOutcome callback (Err declined) sent = IsRefusal (post_status declined.fault) sent
 
   module _ (admits : Bodies → Result I Declined → Type 0) where
     -- the response for these documents: that for something that the backend may say of them

@@ -1,18 +1,19 @@
 -- What the slots of a request come to, and why a request has none.
-use Rattle.std.specs.Prelude.{ℕ, ◌≡◌, ◌<◌, List, [], ◌∷◌, ◌++◌, map, Option, Some, None, false, Bool, Ok}
+use Rattle.std.specs.Prelude.{ℕ, ◌≡◌, ◌<◌, List, [], ◌∷◌, ◌++◌, map, Option, option_map, Some, None, false, Bool, Ok}
 use Rattle.std.specs.{List.AllByRecursion, List.AllByRecursion-prop, Coded.Unit-prop}
 use Rattle.std.proofs.Props.{props}
 use Rattle.bx_entry.specs.Words.{ReadInput, read_by, request_messages}
 use Rattle.bx_entry.specs.declared.entry.{Slot.Slot, Ticket.Ticket}
 use Rattle.bx_entry.specs.declared.entry.Slot.TheVariants.{Ready, Waiting}
 use Rattle.bx_held.specs.Outputs.{MayGive}
+use Rattle.bx_held.specs.declared.held.PendingAnswer.{PendingAnswer}
 use Rattle.bx_hub.specs.Posts.{AreSlotsAt, IsAdmittedAt, IsRefused}
 use Rattle.bx_hub.specs.declared.fault.PostFault.{PostFault}
-use Rattle.bx_message.specs.declared.{reply.Answer.Answer, reply.Item.Item, status.Status.Status}
+use Rattle.bx_message.specs.declared.{reply.Answer.Answer, reply.Item.Item}
 use Rattle.bx_message.specs.declared.reply.Item.TheVariants.{EventItem, ReplyItem}
 use Rattle.bx_entry.specs.Placings.{Setup}
 use Rattle.bx_window.specs.declared.law.LogStep.{LogStep}
-use Rattle.bx_service.specs.Statuses.{post_status}
+use Rattle.bx_window.specs.declared.law.Naming as Naming
 
 -- a connect or a rider that waits stands below this place
 abbrev pub IsBelow : ℕ → Slot → Type 0
@@ -43,10 +44,15 @@ pub record Awaited : Type 0 where
 abbrev pub awaited_as : Ticket → List LogStep → Bool → Awaited
 awaited_as ticket seen is_done = record { ticket = ticket; seen = seen; is_done = is_done }
 
+-- the one that is waited for, if one is
+abbrev pub awaited : {J : Type 0} {g : Naming.Ghosts J} → Option (PendingAnswer J g) → Option Awaited
+awaited held = option_map (λ h. awaited_as h.ticket h.pass h.is_done) held
+
 module _ (setup : Setup) where
   -- the items of a connect or a rider that waits: of an answer that it may be given since this was seen
   abbrev pub AreItemsSince : Ticket → List LogStep → Bool → List Item → Type 0
-  AreItemsSince ticket seen is_done items = (a : Answer) × (MayGive setup ticket seen is_done (Ok a) × (items ≡ items_of a))
+  AreItemsSince ticket seen is_done items = (a : Answer)
+      × (MayGive setup ticket seen is_done (Ok (Some a)) × (items ≡ items_of a))
 
   module _ (seen : List LogStep) where
     -- the items of a slot: its reply, or those of its connect or rider, by some front that begins with what was seen
@@ -90,12 +96,11 @@ module _ (tells draws : ℕ → Type 0) where
     pub slots_at : AreSlotsAt setup (request_of moment nonce documents) first seen slots
     pub placed : place ≡ place_of first slots
 
-  -- At such a moment and with such a nonce, the hub refuses the request for a reason of this status.
-  pub record IsRefusedWith (documents : List (List ℕ)) (fault : PostFault) (status : Status) : Type 0 where
+  -- At such a moment and with such a nonce, the hub refuses the request for this reason.
+  pub record IsRefusedWith (documents : List (List ℕ)) (fault : PostFault) : Type 0 where
     pub moment : ℕ
     pub nonce : ℕ
     pub front : List LogStep
     pub told : tells moment
     pub drawn : draws nonce
     pub refused : IsRefused (request_of moment nonce documents) fault front
-    pub answered : status ≡ post_status fault

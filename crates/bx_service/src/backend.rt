@@ -1,21 +1,18 @@
 //! What a service stands on.
 ghost use Rattle.std.specs.Prelude.{⊤, ◌≡◌, ◌⊎◌, ℕ, [], None, Option, Result, IfOk, IfErr};
 ghost use Rattle.std.specs.Vec.Iter.{into_iter_items};
-ghost use Rattle.bx_entry.specs.Placings.{placed_by};
+ghost use Rattle.bx_window.specs.Steps.{setup_of};
 ghost use Rattle.bx_cut.specs.Bodies.{texts_of};
 ghost use Rattle.bx_service.specs.Gatherings.{AreSlotsFor, IsRefusedWith};
-ghost use Rattle.bx_message.specs.declared.status.Status.TheVariants.{Unavailable};
 ghost use Rattle.bx_cut.specs.declared.bodies.Bodies.{Bodies};
 ghost use Rattle.bx_hub.specs.declared.fault.PostFault.TheVariants as faults;
 ghost use Rattle.bx_service.specs.declared.backend.Declined.{Declined};
 
 use crate::gathering::Gathering;
-use crate::status::post_status;
 use bx_cut::Bodies;
 use bx_entry::{Arrival, Placing};
-use bx_held::HeldFault;
-use bx_hub::{Gate, Hub, PostFault};
-use bx_message::{Item, Status};
+use bx_hub::{Gate, Hub, HubFault, PostFault};
+use bx_message::Item;
 use bx_window::Naming;
 use futures::Future;
 use std::alloc::{AllocError, Global};
@@ -51,17 +48,15 @@ impl From<AllocError> for Unanswered {
     }
 }
 
-impl From<HeldFault> for Unanswered {
-    fn from(_fault: HeldFault) -> Unanswered {
+impl From<HubFault> for Unanswered {
+    fn from(_fault: HubFault) -> Unanswered {
         Unanswered
     }
 }
 
-/// Documents that were not taken, and the status by which their request is refused.
+/// Documents that were not taken.
 #[derive(Drop)]
 pub struct Declined {
-    /// The status.
-    pub status: Status,
     /// Why: for what the hub refuses their request, or the want of memory.
     pub fault: PostFault,
     /// The documents, as they were handed in.
@@ -80,7 +75,7 @@ pub trait Backend: Drop {
     // Holds of items and of the place that may be told of them.
     ghost stands: { Self.Items → Option ℕ → Type 0 } = { λ _ _. ⊤ };
 
-    /// Takes the documents of a request, or gives them back with the status by which it is refused.
+    /// Takes the documents of a request, or gives them back with the reason for which it is refused.
     fn admit(&self, bodies: Bodies) -> Result<Self::Items, Declined>
         ensures can_poll { IfOk result Self.Items.can_poll }
         ensures back { IfErr result (λ d. d.bodies ≡ bodies) }
@@ -132,12 +127,14 @@ where
     type Items = Gathering<J, P, G, R>;
 
     // Nothing of the response is there yet, and its slots, and the place that it tells, are what one thread gives for the request with these documents; or
-    // the request is refused and its documents come back. Without memory for one more handle of the hub it is unavailable.
+    // the request is refused and its documents come back, also without memory for one more handle of the hub.
     ghost admits = { λ backend bodies outcome.
         IfOk outcome (λ g. (g.items.items ≡ []) × (g.held ≡ None)
-        × AreSlotsFor (C.tells backend.clock) (N.draws backend.nonces) (placed_by J.config J.config.shards J.placing) (texts_of bodies) g.pass g.first (into_iter_items g.slots))
+        × AreSlotsFor (C.tells backend.clock) (N.draws backend.nonces) (setup_of J.config J.placing) (texts_of bodies)
+        g.pass g.first (into_iter_items g.slots))
         × IfErr outcome (λ d. (d.bodies ≡ bodies)
-        × (((d.status ≡ Unavailable) × (d.fault ≡ faults.Memory)) ⊎ IsRefusedWith (C.tells backend.clock) (N.draws backend.nonces) (texts_of bodies) d.fault d.status)) };
+        × ((d.fault ≡ faults.Memory) ⊎ IsRefusedWith (C.tells backend.clock) (N.draws backend.nonces)
+        (texts_of bodies) d.fault)) };
 
     ghost stands = { λ items place. place ≡ items.first };
 
@@ -145,7 +142,6 @@ where
     fn admit(&self, bodies: Bodies) -> Result<Gathering<J, P, G, R>, Declined> {
         let Ok(hub) = Arc::try_clone(&self.hub) else {
             return Err(Declined {
-                status: Status::Unavailable,
                 fault: PostFault::Memory,
                 bodies,
             });
@@ -166,7 +162,6 @@ where
                 posted.slots,
             )),
             Err(refused) => Err(Declined {
-                status: post_status(refused.fault()),
                 fault: refused.fault(),
                 bodies: refused.into_arrival().bodies,
             }),

@@ -24,7 +24,7 @@ use crate::observer::Observer;
 use crate::response::{answer, refusal};
 use crate::route::Route;
 use crate::service::ServiceFault;
-use crate::status::body_status;
+use crate::status::{body_status, post_status};
 use crate::watch::{Outlook, Watch};
 use bx_cut::Bodies;
 use bx_message::{Item, Status, number_of};
@@ -206,7 +206,7 @@ where
         }
         Err(declined) => {
             watch.refuse(declined.fault);
-            State::Refused(declined.status)
+            State::Refused(post_status(declined.fault))
         }
     }
 }

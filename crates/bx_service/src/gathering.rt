@@ -1,20 +1,16 @@
 //! The items of a response, as the answers come.
-ghost use Rattle.std.specs.Prelude.{◌≡◌, ◌++◌, ◌∷◌, ◌<◌, List, Result, [], None, Some, false, IfOk, OnOk, MatchOption, option_map, length};
+ghost use Rattle.std.specs.Prelude.{◌≡◌, ◌++◌, ◌∷◌, ◌<◌, List, Result, [], None, Some, false, IfOk, OnOk, MatchOption, length};
 ghost use Rattle.std.specs.Vec.Iter.{into_iter_items};
 ghost use Rattle.futures.specs.Poll.{IfReady, OnPending};
 ghost use Rattle.futures.specs.Task.{Covers, Keeps};
-ghost use Rattle.bx_entry.specs.Placings.{placed_by};
-ghost use Rattle.bx_held.specs.Outputs.{MayGive};
-ghost use Rattle.bx_held.specs.declared.fault.HeldFault.{HeldFault};
-ghost use Rattle.bx_message.specs.declared.reply.Answer.{Answer};
 ghost use Rattle.bx_message.specs.declared.reply.Item.{Item};
 ghost use Rattle.bx_message.specs.declared.reply.Item.TheVariants.{ReplyItem};
-ghost use Rattle.bx_service.specs.Gatherings.{AreAll, AreBelow, IsBelow, are_below-prop, awaited_as, items_of, place_of};
-ghost use Rattle.bx_window.specs.Steps.{list_of};
+ghost use Rattle.bx_service.specs.Gatherings.{AreAll, AreBelow, IsBelow, are_below-prop, awaited, awaited_as, items_of, place_of};
+ghost use Rattle.bx_window.specs.Steps.{list_of, setup_of};
 
 use crate::backend::Unanswered;
 use bx_entry::{Placing, Slot, Ticket};
-use bx_held::{HeldFault, PendingAnswer};
+use bx_held::PendingAnswer;
 use bx_hub::{Gate, Hub, Pass};
 use bx_message::{Answer, Item, Reply, Sequence};
 use bx_window::Naming;
@@ -78,18 +74,19 @@ impl<J: Naming, P: Placing + Drop, G: Gate + Drop, R: Wait + Copy + Drop> Gather
     // From here on the answer under this ticket is waited for.
     fn wait_for(&mut self, ticket: Ticket)
         requires { ticket.place < length (list_of self.old.pass) }
-        ensures waits { option_map (λ h. awaited_as h.ticket h.pass h.is_done) self.new.held ≡ Some (awaited_as ticket self.old.pass false) }
+        ensures waits { awaited self.new.held ≡ Some (awaited_as ticket self.old.pass false) }
         ensures same { (self.new.items ≡ self.old.items) × (self.new.pass ≡ self.old.pass) × (self.new.slots ≡ self.old.slots) }
     {
-        let pass = Pass::of(self.pass.note());
-        self.held = Some(PendingAnswer::new(pass, ticket));
+        self.held = Some(PendingAnswer::new(self.pass.again(), ticket));
     }
 
     // Puts the items of the message that is waited for behind the others, once they are there.
     fn poll_held(&mut self, cx: &mut Context<'_>) -> Result<Poll<()>, Unanswered>
         ensures same { OnOk result ((all : List Item)
-            → AreAll (placed_by J.config J.config.shards J.placing) self.new.pass self.new.items.items (option_map (λ h. awaited_as h.ticket h.pass h.is_done) self.new.held) (into_iter_items self.new.slots) all
-            → AreAll (placed_by J.config J.config.shards J.placing) self.old.pass self.old.items.items (option_map (λ h. awaited_as h.ticket h.pass h.is_done) self.old.held) (into_iter_items self.old.slots) all) }
+            → AreAll (setup_of J.config J.placing) self.new.pass self.new.items.items (awaited self.new.held)
+            (into_iter_items self.new.slots) all
+            → AreAll (setup_of J.config J.placing) self.old.pass self.old.items.items (awaited self.old.held)
+            (into_iter_items self.old.slots) all) }
         ensures done { IfOk result (λ polled. IfReady polled (λ _. self.new.held ≡ None)) }
         ensures slots { (self.new.pass ≡ self.old.pass) × (self.new.slots ≡ self.old.slots) }
         ensures registered { IfOk result (λ polled. OnPending polled (Covers cx.new (λ s. MatchOption self.new.held ⊥ (λ h. s ≡ h.source.id)))) }
@@ -98,11 +95,15 @@ impl<J: Naming, P: Placing + Drop, G: Gate + Drop, R: Wait + Copy + Drop> Gather
         let Some(held) = &mut self.held else {
             return Ok(Poll::Ready(()));
         };
-        let Poll::Ready(given) = poll_once(held, &self.rt, self.alloc, &*self.hub, cx) else {
+        let (polled, _watching) = held.poll(&self.rt, self.alloc, &*self.hub, cx);
+        let Poll::Ready(given) = polled else {
             return Ok(Poll::Pending);
         };
         self.held = None;
-        add_answer(&mut self.items, given?)?;
+        let Some(answer) = given? else {
+            return Err(Unanswered);
+        };
+        add_answer(&mut self.items, answer)?;
         Ok(Poll::Ready(()))
     }
 
@@ -111,8 +112,10 @@ impl<J: Naming, P: Placing + Drop, G: Gate + Drop, R: Wait + Copy + Drop> Gather
         requires below { IsBelow (length (list_of self.old.pass)) slot }
         requires free { self.old.held ≡ None }
         ensures same { OnOk result ((all : List Item)
-            → AreAll (placed_by J.config J.config.shards J.placing) self.new.pass self.new.items.items (option_map (λ h. awaited_as h.ticket h.pass h.is_done) self.new.held) (into_iter_items self.new.slots) all
-            → AreAll (placed_by J.config J.config.shards J.placing) self.old.pass self.old.items.items None (slot ∷ into_iter_items self.old.slots) all) }
+            → AreAll (setup_of J.config J.placing) self.new.pass self.new.items.items (awaited self.new.held)
+            (into_iter_items self.new.slots) all
+            → AreAll (setup_of J.config J.placing) self.old.pass self.old.items.items None
+            (slot ∷ into_iter_items self.old.slots) all) }
         ensures done { IfOk result (λ polled. IfReady polled (λ _. self.new.held ≡ None)) }
         ensures slots { (self.new.pass ≡ self.old.pass) × (self.new.slots ≡ self.old.slots) }
         ensures registered { IfOk result (λ polled. OnPending polled (Covers cx.new (λ s. MatchOption self.new.held ⊥ (λ h. s ≡ h.source.id)))) }
@@ -133,8 +136,10 @@ impl<J: Naming, P: Placing + Drop, G: Gate + Drop, R: Wait + Copy + Drop> Gather
     // Goes on until all items are there, or a connect or a rider is waited for.
     fn gather(&mut self, cx: &mut Context<'_>) -> Result<Poll<()>, Unanswered>
         ensures same { OnOk result ((all : List Item)
-            → AreAll (placed_by J.config J.config.shards J.placing) self.new.pass self.new.items.items (option_map (λ h. awaited_as h.ticket h.pass h.is_done) self.new.held) (into_iter_items self.new.slots) all
-            → AreAll (placed_by J.config J.config.shards J.placing) self.old.pass self.old.items.items (option_map (λ h. awaited_as h.ticket h.pass h.is_done) self.old.held) (into_iter_items self.old.slots) all) }
+            → AreAll (setup_of J.config J.placing) self.new.pass self.new.items.items (awaited self.new.held)
+            (into_iter_items self.new.slots) all
+            → AreAll (setup_of J.config J.placing) self.old.pass self.old.items.items (awaited self.old.held)
+            (into_iter_items self.old.slots) all) }
         ensures done { IfOk result (λ polled. IfReady polled (λ _. (self.new.held ≡ None) × (into_iter_items self.new.slots ≡ []))) }
         ensures registered { IfOk result (λ polled. OnPending polled (Covers cx.new (λ s. MatchOption self.new.held ⊥ (λ h. s ≡ h.source.id)))) }
         ensures kept { Keeps cx.old cx.new }
@@ -158,7 +163,8 @@ impl<J: Naming, P: Placing + Drop, G: Gate + Drop, R: Wait + Copy + Drop> Future
     // That the message which is waited for is answered.
     ghost needs = { λ g s. MatchOption g.held ⊥ (λ h. s ≡ h.source.id) };
 
-    ghost gives = { λ g gathered. IfOk gathered (λ items. AreAll (placed_by J.config J.config.shards J.placing) g.pass g.items.items (option_map (λ h. awaited_as h.ticket h.pass h.is_done) g.held) (into_iter_items g.slots) items.items) };
+    ghost gives = { λ g gathered. IfOk gathered (λ items. AreAll (setup_of J.config J.placing) g.pass g.items.items
+        (awaited g.held) (into_iter_items g.slots) items.items) };
 
     fn poll(&mut self, cx: &mut Context<'_>) -> Poll<Result<Vec<Item>, Unanswered>> {
         match self.gather(cx) {
@@ -180,25 +186,6 @@ fn place_of(first: u64, slots: &[Slot]) -> Option<u64>
         [] => None,
         _ => Some(first),
     }
-}
-
-// What a poll gives, without the value that says which waker was left.
-fn poll_once<J: Naming, P: Placing + Drop, G: Gate + Drop, R: Wait + Drop>(
-    held: &mut PendingAnswer<J>,
-    rt: &R,
-    alloc: Global,
-    hub: &Hub<J, P, G, R>,
-    cx: &mut Context<'_>,
-) -> Poll<Result<Answer, HeldFault>>
-    ensures value { IfReady result (MayGive (placed_by J.config J.config.shards J.placing) held.old.ticket held.old.pass held.old.is_done) }
-    ensures same { OnPending result ((output : Result Answer HeldFault)
-        → MayGive (placed_by J.config J.config.shards J.placing) held.new.ticket held.new.pass held.new.is_done output
-        → MayGive (placed_by J.config J.config.shards J.placing) held.old.ticket held.old.pass held.old.is_done output) }
-    ensures registered { OnPending result (Covers cx.new (λ s. s ≡ held.new.source.id)) }
-    ensures kept { Keeps cx.old cx.new }
-{
-    let (polled, _left) = held.poll(rt, alloc, hub, cx);
-    polled
 }
 
 // Puts the items of an answer behind the others: its events, then its reply.

@@ -8,8 +8,8 @@ use crate::texts;
 use bench::{Bench, TICKET, Task, Want, check_poll};
 use bx_advice::Config;
 use bx_entry::{ByRemainder, Ticket};
-use bx_held::{HeldFault, PendingAnswer};
-use bx_hub::{Hub, OpenGate};
+use bx_held::PendingAnswer;
+use bx_hub::{Hub, HubFault, OpenGate};
 use bx_window::{Naming, Opened};
 use futures::test::MockTask;
 use std::alloc::Global;
@@ -49,11 +49,9 @@ const PUBLISH: Step = Step::Post(texts::PUBLISH);
 
 const EVENT: Want = Want::Answer(texts::CONNECTED_WITH_EVENT);
 
-const UNKNOWN: Want = Want::Fault(HeldFault::Unknown);
-
 const GIVES_EVENT: Step = Step::Gives(Task::First, EVENT);
 
-const GIVES_NOTHING: Step = Step::Gives(Task::First, UNKNOWN);
+const GIVES_NOTHING: Step = Step::Gives(Task::First, Want::None);
 
 // A publish answers the connect, by its event. The answer is filed when the task is polled.
 const PUBLISHED: [Step; 5] = [WAITS, HANDSHAKE, PUBLISH, IS_WOKEN, GIVES_EVENT];
@@ -84,7 +82,7 @@ const CLOSED: [Step; 4] = [
     WAITS,
     Step::Close,
     IS_WOKEN,
-    Step::Gives(Task::First, Want::Fault(HeldFault::Closed)),
+    Step::Gives(Task::First, Want::Fault(HubFault::Closed)),
 ];
 
 // An answer that was filed before the hub was closed is given.
@@ -96,8 +94,8 @@ const TAKEN: [Step; 6] = [
     PUBLISH,
     Step::Other(TICKET, EVENT),
     GIVES_NOTHING,
-    Step::Other(Ticket { place: 1, shard: 1 }, UNKNOWN),
-    Step::Other(Ticket { place: 2, shard: 2 }, UNKNOWN),
+    Step::Other(Ticket { place: 1, shard: 1 }, Want::None),
+    Step::Other(Ticket { place: 2, shard: 2 }, Want::None),
 ];
 
 const SWEPT: [Step; 4] = [WAITS, Step::Tick(30_000), Step::Sweep, GIVES_NOTHING];
@@ -144,7 +142,7 @@ const PAUSED: [Step; 6] = [
     HANDSHAKE,
     PUBLISH,
     Step::Woken(Task::First, false),
-    Step::Gives(Task::First, Want::Fault(HeldFault::Paused)),
+    Step::Gives(Task::First, Want::Fault(HubFault::Paused)),
 ];
 
 // Each is a run over a hub of its own, in which the first session's connect is held.
@@ -184,7 +182,7 @@ fn gives<J: Naming, H: Wait + Drop, Q: Wait + Copy + Drop, R: Abort>(
 ) -> Result<(), Fail> {
     check_poll(rt, bench.alloc, &bench.poll(task, held), want)?;
     for _ in 0..2 {
-        check_poll(rt, bench.alloc, &bench.poll(task, held), UNKNOWN)?;
+        check_poll(rt, bench.alloc, &bench.poll(task, held), Want::None)?;
     }
     Ok(())
 }
@@ -205,9 +203,11 @@ fn take<J: Naming, H: Wait + Drop, Q: Wait + Copy + Drop, R: Abort>(
         Step::Woken(task, want) => assert_eq!(rt; bench.task(task).is_woken(), want, "{step:?}"),
         Step::Post(body) => bench.post(body)?,
         Step::Tick(moment) => bench.tick(moment)?,
-        Step::Close => bench.hub.close(&bench.rt),
-        Step::Pause => assert!(rt; bench.hub.pause(&bench.rt, TICKET.shard)),
-        Step::Sweep => assert_eq!(rt; bench.hub.sweep(&bench.rt, 1_000), 1),
+        Step::Close => {
+            bench.hub.close(&bench.rt);
+        }
+        Step::Pause => assert!(rt; bench.hub.pause(&bench.rt, TICKET.shard).is_some()),
+        Step::Sweep => assert_eq!(rt; bench.hub.sweep(&bench.rt, 1_000).dropped(), 1),
     }
     Ok(())
 }

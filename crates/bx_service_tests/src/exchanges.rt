@@ -128,9 +128,11 @@ where
         Step::Wait(text) => waits(rt, alloc, service, task, *text)?,
         Step::Break(text) => breaks(rt, alloc, service, task, *text)?,
         Step::Tick(moment) => bench.tick(rt, *moment)?,
-        Step::Close => bench.hub.close(rt),
-        Step::Pause => assert!(rt; bench.hub.pause(rt, 1)),
-        Step::Sweep(count) => assert_eq!(rt; bench.hub.sweep(rt, 5), *count),
+        Step::Close => {
+            bench.hub.close(rt);
+        }
+        Step::Pause => assert!(rt; bench.hub.pause(rt, 1).is_some()),
+        Step::Sweep(count) => assert_eq!(rt; bench.hub.sweep(rt, 5).dropped(), *count),
         _ => (),
     }
     Ok(())

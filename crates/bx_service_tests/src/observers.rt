@@ -69,7 +69,6 @@ impl Backend for Saying {
     fn admit(&self, bodies: Bodies) -> Result<Given, Declined> {
         if let Said::Refusal = self.said {
             return Err(Declined {
-                status: Status::BadRequest,
                 fault: PostFault::BadMoment,
                 bodies,
             });

@@ -222,7 +222,8 @@ fn rings<
     counter: &Counter,
 ) -> Result<(), Fail> {
     let waker = waker_of(task).ok_or("no waker")?;
-    let is_left = matches!(hub.watch(rt, ticket, waker), Watch::Stored(None, _));
+    let (said, _watching) = hub.watch(rt, ticket, waker);
+    let is_left = matches!(said, Watch::Stored(None));
     same(rt, is_left, true, "the waker");
     same(rt, counter.fill(), true, "a full counter");
     match task.sleep() {
@@ -263,9 +264,9 @@ fn held<
     let ticket = hold(rt, alloc, hub, &mut pass)?;
     post(rt, alloc, hub, &mut pass, HANDSHAKE)?;
     if waking == Waking::Question {
-        same(rt, hub.pause(rt, 1), true, "pause 1");
+        same(rt, hub.pause(rt, 1).is_some(), true, "pause 1");
         post(rt, alloc, hub, &mut pass, PUBLISH)?;
-        same(rt, hub.resume(rt, 1), true, "resume 1");
+        same(rt, hub.resume(rt, 1).is_some(), true, "resume 1");
     }
     rings(rt, alloc, hub, ticket, waking, task, flags, counter)
 }

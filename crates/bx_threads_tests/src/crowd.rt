@@ -103,7 +103,7 @@ fn sweeps<J: Naming, P: Placing, G: Gate + Drop, H: Wait + Drop, R: Wait>(
 ) -> Option<usize> {
     let mut count: usize = 0;
     for _ in 0..TICKS {
-        count = count.checked_add(hub.sweep(rt, 0))?;
+        count = count.checked_add(hub.sweep(rt, 0).dropped())?;
     }
     Some(count)
 }

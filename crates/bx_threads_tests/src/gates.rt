@@ -82,7 +82,7 @@ fn takes<J: Naming, P: Placing, H: Wait + Drop, R: Wait>(
     let late = (1 << 62) + 1;
     let refused = hub.tick(rt, alloc, &mut pass, late).err();
     let is_bad_moment = refused.map(|it| it.fault()) == Some(PostFault::BadMoment);
-    let seen = pass.seen();
+    let seen = pass.len();
     let found = find(rt, alloc, hub, &mut pass, ticket, ANSWER).unwrap_or(Found::Other);
     flags.is_free.store(true, Ordering::SeqCst);
     Told {

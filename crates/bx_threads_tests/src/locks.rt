@@ -166,7 +166,7 @@ fn sweeps<J: Naming, P: Placing, G: Gate + Drop, H: Wait + Drop, C: Clock + Drop
     flags.wait_for(&flags.post_stands);
     let mut swept: usize = 0;
     for _ in 0..SWEEPS {
-        swept = swept.saturating_add(hub.sweep(rt, 0));
+        swept = swept.saturating_add(hub.sweep(rt, 0).dropped());
         thread::sleep(&flags.clock, Duration::from_millis(1));
     }
     flags.is_free.store(true, Ordering::SeqCst);

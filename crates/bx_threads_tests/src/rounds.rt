@@ -139,8 +139,9 @@ fn wait<J: Naming, P: Placing, G: Gate + Drop, H: Wait + Drop, R: Wait>(
     slot: &mut Option<Waker>,
     told: &mut Told,
 ) -> Option<()> {
-    match hub.watch(rt, ticket, slot.take()?) {
-        Watch::Stored(None, _) => {
+    let (said, _watching) = hub.watch(rt, ticket, slot.take()?);
+    match said {
+        Watch::Stored(None) => {
             told.left = told.left.wrapping_add(1);
             if !turns.sleep(rt, slot) {
                 return None;

@@ -59,7 +59,7 @@ fn meet<
     );
     match (a, b) {
         (Some(mut pass), Some(other)) => {
-            pass.learn(&other.note());
+            pass = pass.longer(&other);
             answered(rt, alloc, hub, &mut pass, ticket)
         }
         _ => Err(Fail::from("refused")),

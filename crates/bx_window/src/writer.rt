@@ -174,7 +174,7 @@ impl<J: Naming, R: Wait + Drop> Writer<J, R, Ring<J>, RingChange<J>> {
     /// waits for the readers that are inside the ring. It takes no memory. `Err` where an earlier change is late and refused
     /// again, and nothing changes then; a trim that drops nothing waits for nobody.
     #[tactic(auto, using(crate::proofs::Lists::begin_of_trimming, crate::proofs::Lists::list_of_trimming, crate::proofs::Lists::inputs_of_trimming, crate::proofs::Lists::firsts_of_trimming, crate::proofs::Rings::trimmed))]
-    pub fn trim(&mut self, _alloc: Global, n: u64) -> Result<(), Memory>
+    pub fn trim(&mut self, n: u64) -> Result<(), Memory>
         requires steps { length self.old < 2 ^ 62 }
         ensures grows { IsPrefix self.old self.new }
         ensures list { list_of self.new ≡ list_of self.old }

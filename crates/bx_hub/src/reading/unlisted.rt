@@ -4,8 +4,8 @@ ghost use Rattle.bx_hub.specs.Faults.{of_reading};
 ghost use Rattle.bx_hub.specs.declared.fault.PostFault.TheVariants as faults;
 
 use crate::admission::Admission;
+use crate::desk::Stood;
 use crate::fault::PostFault;
-use crate::least::Stood;
 use bx_entry::ReadError;
 use bx_window::Naming;
 use std::fmt;

@@ -35,7 +35,7 @@ fn answer<J: Naming, H: Wait + Drop, R: Wait>(
     }
     let mut writer = hub.pass();
     publish(rt, alloc, hub, &mut writer, said)?;
-    reader.learn(&writer.note());
+    *reader = reader.longer(&writer);
     poll(rt, alloc, hub, reader, ticket)?.ok_or(Unlike::Wrong("no answer"))
 }
 

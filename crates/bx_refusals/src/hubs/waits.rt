@@ -4,8 +4,8 @@ use crate::hubs::said::{Said, connect, poll, post, tick};
 use crate::requests::{HANDSHAKE, PUBLISH};
 use crate::unlike::Unlike;
 use bx_entry::Ticket;
-use bx_held::{HeldFault, PendingAnswer};
-use bx_hub::{Pass, Watch};
+use bx_held::PendingAnswer;
+use bx_hub::{HubFault, Pass, Watch};
 use bx_message::Answer;
 use bx_window::Naming;
 use futures::task::{Poll, Source, Waker};
@@ -51,8 +51,9 @@ fn is_there<J: Naming, H: Wait + Drop, R: Wait>(
     ticket: Ticket,
     task: &MockTask,
 ) -> Result<bool, Unlike> {
-    match hub.watch(rt, ticket, waker(task)?) {
-        Watch::Stored(_, _) => Ok(true),
+    let (said, _watching) = hub.watch(rt, ticket, waker(task)?);
+    match said {
+        Watch::Stored(_) => Ok(true),
         Watch::Unknown(_) => Ok(false),
         Watch::Ready(_) | Watch::Shut(_) => Err(Unlike::Wrong("no connect is held")),
     }
@@ -60,8 +61,8 @@ fn is_there<J: Naming, H: Wait + Drop, R: Wait>(
 
 // Who waits under the ticket, and has seen what the pass has.
 fn waiting<J: Naming>(pass: &Pass<J>, ticket: Ticket) -> Result<PendingAnswer<J>, Unlike> {
-    let pass = Pass::of(pass.note());
-    if ticket.place >= pass.seen() {
+    let pass = pass.again();
+    if ticket.place >= pass.len() {
         return Err(Unlike::Wrong("a ticket beyond the list"));
     }
     Ok(PendingAnswer::new(pass, ticket))
@@ -74,7 +75,7 @@ fn polled<J: Naming, H: Wait + Drop, R: Wait>(
     hub: &Served<J, H>,
     task: &MockTask,
     held: &mut PendingAnswer<J>,
-) -> Poll<Result<Answer, HeldFault>> {
+) -> Poll<Result<Option<Answer>, HubFault>> {
     let (polled, _left) = task.enter(|cx| held.poll(rt, alloc, hub, cx));
     polled
 }
@@ -96,7 +97,7 @@ fn look<J: Naming, H: Wait + Drop, R: Wait>(
 ) -> First {
     match polled(rt, alloc, hub, task, held) {
         Poll::Pending => First::Pending,
-        Poll::Ready(Err(HeldFault::Memory)) => First::Refused,
+        Poll::Ready(Err(HubFault::Memory)) => First::Refused,
         Poll::Ready(_) => First::Other,
     }
 }
@@ -137,9 +138,9 @@ fn answer<J: Naming, H: Wait + Drop, R: Wait>(
 ) -> Result<(), Unlike> {
     publish(rt, alloc, hub, task, said)?;
     let answer = match polled(rt, alloc, hub, task, held) {
-        Poll::Ready(Ok(answer)) => answer,
-        Poll::Ready(Err(HeldFault::Memory)) => asked(rt, alloc, hub, pass, ticket)?,
-        Poll::Ready(Err(_)) | Poll::Pending => return Err(Unlike::Wrong("no answer")),
+        Poll::Ready(Ok(Some(answer))) => answer,
+        Poll::Ready(Err(HubFault::Memory)) => asked(rt, alloc, hub, pass, ticket)?,
+        Poll::Ready(_) | Poll::Pending => return Err(Unlike::Wrong("no answer")),
     };
     said.add_answer(alloc, answer)
 }

@@ -3,8 +3,8 @@ use crate::bench::TestHub;
 use crate::texts::{CONNECT, HANDSHAKE, SUBSCRIBE};
 use bx_cut::Bodies;
 use bx_entry::{Arrival, Ticket};
-use bx_held::{HeldFault, PendingAnswer};
-use bx_hub::Pass;
+use bx_held::PendingAnswer;
+use bx_hub::{HubFault, Pass};
 use bx_message::{Answer, event_text, reply_text};
 use bx_window::Naming;
 use futures::task::Poll;
@@ -30,7 +30,8 @@ pub enum Want {
     Pending,
     /// An answer of these events and this reply, as an array.
     Answer(&'static str),
-    Fault(HeldFault),
+    None,
+    Fault(HubFault),
 }
 
 // An answer's events and its reply as an array.
@@ -49,12 +50,13 @@ fn array_of(alloc: Global, answer: &Answer) -> Result<Vec<u8>, AllocError> {
 pub fn check_poll<A: Abort>(
     rt: &A,
     alloc: Global,
-    poll: &Poll<Result<Answer, HeldFault>>,
+    poll: &Poll<Result<Option<Answer>, HubFault>>,
     want: Want,
 ) -> Result<(), Fail> {
     match (poll, want) {
         (Poll::Pending, Want::Pending) => Ok(()),
-        (Poll::Ready(Ok(answer)), Want::Answer(text)) => {
+        (Poll::Ready(Ok(None)), Want::None) => Ok(()),
+        (Poll::Ready(Ok(Some(answer))), Want::Answer(text)) => {
             assert!(rt;
                 array_of(alloc, answer)?.as_slice() == text.as_bytes(),
                 "another answer than {text}"
@@ -120,15 +122,19 @@ impl<J: Naming, H: Wait + Drop, R: Wait + Copy + Drop> Bench<J, H, R> {
 
     /// Who waits under a ticket, and has seen what the caller has.
     pub fn wait(&self, ticket: Ticket) -> Result<PendingAnswer<J>, Fail> {
-        let pass = Pass::of(self.pass.note());
-        if ticket.place >= pass.seen() {
+        let pass = self.pass.again();
+        if ticket.place >= pass.len() {
             return Err(Fail::from("the ticket is beyond the list"));
         }
         Ok(PendingAnswer::new(pass, ticket))
     }
 
     /// What a poll by one of the tasks gives.
-    pub fn poll(&self, task: Task, held: &mut PendingAnswer<J>) -> Poll<Result<Answer, HeldFault>> {
+    pub fn poll(
+        &self,
+        task: Task,
+        held: &mut PendingAnswer<J>,
+    ) -> Poll<Result<Option<Answer>, HubFault>> {
         let (polled, _left) = self
             .task(task)
             .enter(|cx| held.poll(&self.rt, self.alloc, &*self.hub, cx));

@@ -1,6 +1,8 @@
 use Rattle.std.proofs.Common.{◌∙◌, subst}
-use Rattle.bx_entry.specs.Placings.{placed_by}
+use Rattle.bx_window.specs.Steps.{setup_of}
+use Rattle.bx_connects.specs.declared.watch.Watch.{Watch}
 use Rattle.bx_entry.specs.declared.entry.Ticket.{Ticket}
+use Rattle.bx_hub.specs.Watches.{IsToldOf}
 use Rattle.bx_window.proofs.Fronts.{prefix_trans}
 use Rattle.bx_held.proofs.Waiting.{on_pending, waited_for}
 use Rattle.bx_held.specs.Outputs.{IsGiven}
@@ -11,10 +13,17 @@ returns-in-Some-ask-clause-value g c done =
     let config = g.J.Naming.config in
     let end = c.ask-2.new.self.pass in
     let before = prefix_trans c.args.self.now.pass c.ask.new.self.pass end c.ask.ensures.seen c.ask-2.ensures.seen in
-    let given = subst (λ (t : Ticket). IsGiven (placed_by config config.shards g.J.Naming.placing) t end c.in-Some-ask.output) (c.ask-2.ensures.same.0 ∙ c.ask.ensures.same.0) c.in-Some-ask.ensures.given in
+    let given = subst (λ (t : Ticket). IsGiven (setup_of config g.J.Naming.placing) t end c.in-Some-ask.output)
+    (c.ask-2.ensures.same.0 ∙ c.ask.ensures.same.0) c.in-Some-ask.ensures.given in
     (end, before, given)
 
 pub returns-in-Stored-clause-left : goal.returns-in-Stored-clause-left
 returns-in-Stored-clause-left g c =
-    on_pending c.register-pending.result (waited_for c.register-pending.new.slot c.in-Some-take.waker c.in-Stored.older c.ask.new.self.ticket c.in-Stored.left c.args.cx.now c.register-pending.new.self
-    (cc (c.in-Some-take.ensures.value)) c.register-pending.ensures.left c.in-Stored.ensures.left)
+    let shards = g.J.Naming.config.shards in
+    let ticket = c.ask.new.self.ticket in
+    let waker = c.in-Some-take.waker in
+    let watching = c.watch-said.result.1 in
+    let told = subst (λ (said : Watch). IsToldOf shards ticket waker said watching) c.in-Stored.is c.watch-said.ensures in
+    on_pending c.register-pending.result (waited_for shards c.register-pending.new.slot waker c.in-Stored.older ticket
+    watching c.args.cx.now c.register-pending.new.self (cc (c.in-Some-take.ensures.value))
+    c.register-pending.ensures.left told)

@@ -1,9 +1,10 @@
 use Rattle.std.proofs.Common.{◌≡◌, ◌<◌, ◌++◌, [], ◌∙◌, List, length, sym, ap, subst, arith, append-nil}
 use Rattle.std.proofs.lemmas.Result.{IfOk-weaker}
-use Rattle.bx_entry.specs.Placings.{Setup, placed_by}
+use mathlib.Core.List.{IsPrefix}
+use Rattle.bx_entry.specs.Placings.{Setup}
 use Rattle.bx_entry.specs.Words.{ReadInput, added_by, refusal_of, Listed}
 use Rattle.bx_entry.specs.declared.input.Input.{Input}
-use Rattle.bx_window.specs.Steps.{inputs_of, list_of}
+use Rattle.bx_window.specs.Steps.{inputs_of, list_of, setup_of}
 use Rattle.bx_window.specs.declared.law.LogStep.{LogStep}
 use Rattle.bx_registry.specs.Slots.{admitted_slots}
 use Rattle.bx_hub.specs.Listables.{input_of}
@@ -16,15 +17,18 @@ use Rattle.bx_hub.proofs.admission.Admission.list.Goals as goal
 
 pub returns-then-count-eq0-clause-admitted : goal.returns-then-count-eq0-clause-admitted
 returns-then-count-eq0-clause-admitted g c =
+    let seen = subst (λ (xs : List LogStep). IsPrefix c.args.pass.now xs) (sym c.tell_beyond.ensures.whole)
+    c.tell_beyond.ensures.begins in
     let d = c.plan.new.self in
     let p = c.in_ok-plan.plan in
-    let pass : List LogStep = c.tell.new.pass in
+    let pass : List LogStep = c.tell_beyond.result in
     let input : ReadInput = input_of c.args.wanted.now in
     let none : p.elements ≡ [] = none_added p.elements (omega (arith, entries_many d.registry p c.in_ok-plan.ensures.continues, c.len-count.ensures, c.if-count-eq0.true)) in
-    let is : d.registry.list ≡ list_of pass = d.listed ∙ ap list_of (c.plan.ensures.same.0 ∙ sym c.in_ok-tell.ensures.whole.0) in
+    let is : d.registry.list ≡ list_of pass = d.listed ∙ ap list_of
+    (c.plan.ensures.same.0 ∙ c.tell_beyond.ensures.same ∙ sym c.tell_beyond.ensures.whole) in
     let same : list_of pass ≡ list_of pass ++ p.elements = sym (append-nil (list_of pass)) ∙ ap (λ (xs : List Listed). list_of pass ++ xs) (sym none) in
     admitted_by input d.registry p c.args.pass.now pass pass is c.in_ok-plan.ensures.continues c.in_ok-plan.ensures.elements
-    (ap (λ (xs : List Listed). refusal_of (length xs) input) d.listed ∙ c.in_ok-plan.ensures.allowed) c.tell.ensures.seen same
+    (ap (λ (xs : List Listed). refusal_of (length xs) input) d.listed ∙ c.in_ok-plan.ensures.allowed) seen same
 
 pub returns-then-count-eq0-clause-grown : goal.returns-then-count-eq0-clause-grown
 returns-then-count-eq0-clause-grown g c =
@@ -33,34 +37,39 @@ returns-then-count-eq0-clause-grown g c =
     let old : List Listed = list_of c.args.self.now.writer in
     let input : ReadInput = input_of c.args.wanted.now in
     let none : p.elements ≡ [] = none_added p.elements (omega (arith, entries_many d.registry p c.in_ok-plan.ensures.continues, c.len-count.ensures, c.if-count-eq0.true)) in
-    let same : d.writer ≡ c.args.self.now.writer = c.plan.ensures.same.0 ∙ c.tell.ensures.same.1 in (
+    let same : d.writer ≡ c.args.self.now.writer = c.plan.ensures.same.0 ∙ c.tell_beyond.ensures.same in (
       c.in_ok-plan.ensures.continues.first ∙ ap (λ (xs : List Listed). length xs) (d.listed ∙ ap list_of same),
       ap list_of same ∙ sym (append-nil old) ∙ ap (λ (xs : List Listed). old ++ xs) (sym none ∙ c.in_ok-plan.ensures.elements),
-      c.in_ok-tell.ensures.whole.0 ∙ sym c.plan.ensures.same.0,
+      c.tell_beyond.ensures.whole ∙ sym c.tell_beyond.ensures.same ∙ sym c.plan.ensures.same.0,
     )
 
 pub returns-clause-admitted : goal.returns-clause-admitted
 returns-clause-admitted g c =
+    let seen = subst (λ (xs : List LogStep). IsPrefix c.args.pass.now xs) (sym c.tell_beyond.ensures.whole)
+    c.tell_beyond.ensures.begins in
     let d = c.plan.new.self in
     let p = c.in_ok-plan.plan in
-    let pass : List LogStep = c.tell.new.pass in
+    let pass : List LogStep = c.tell_beyond.result in
     let new : List LogStep = c.publish.new.pass in
     let input : ReadInput = input_of c.args.wanted.now in
-    let is : d.registry.list ≡ list_of pass = d.listed ∙ ap list_of (c.plan.ensures.same.0 ∙ sym c.in_ok-tell.ensures.whole.0) in
+    let is : d.registry.list ≡ list_of pass = d.listed ∙ ap list_of
+    (c.plan.ensures.same.0 ∙ c.tell_beyond.ensures.same ∙ sym c.tell_beyond.ensures.whole) in
     IfOk-weaker c.publish.result (λ a. (a ≡ record { first = p.batch.first; slots = p.slots }) × (list_of new ≡ list_of pass ++ p.elements)) (λ a. IsAdmittedAt input a.first c.args.pass.now new)
     (λ a t. subst (λ (x : Receipt). IsAdmittedAt input x.first c.args.pass.now new) (sym t.0)
     (admitted_by input d.registry p c.args.pass.now pass new is c.in_ok-plan.ensures.continues c.in_ok-plan.ensures.elements
-    (ap (λ (xs : List Listed). refusal_of (length xs) input) d.listed ∙ c.in_ok-plan.ensures.allowed) c.tell.ensures.seen t.1)) c.publish.ensures.taken
+    (ap (λ (xs : List Listed). refusal_of (length xs) input) d.listed ∙ c.in_ok-plan.ensures.allowed) seen t.1))
+    c.publish.ensures.taken
 
 pub returns-clause-slots : goal.returns-clause-slots
 returns-clause-slots g c =
     let d = c.plan.new.self in
     let p = c.in_ok-plan.plan in
-    let pass : List LogStep = c.tell.new.pass in
+    let pass : List LogStep = c.tell_beyond.result in
     let new : List LogStep = c.publish.new.pass in
-    let setup : Setup = placed_by g.J.Naming.config g.J.Naming.config.shards g.J.Naming.placing in
+    let setup : Setup = setup_of g.J.Naming.config g.J.Naming.placing in
     let input : ReadInput = input_of c.args.wanted.now in
-    let seen : list_of d.writer ≡ list_of pass = ap list_of (c.plan.ensures.same.0 ∙ sym c.in_ok-tell.ensures.whole.0) in
+    let seen : list_of d.writer ≡ list_of pass = ap list_of
+    (c.plan.ensures.same.0 ∙ c.tell_beyond.ensures.same ∙ sym c.tell_beyond.ensures.whole) in
     let first : p.batch.first ≡ length (list_of pass) = c.in_ok-plan.ensures.continues.first ∙ ap (λ (xs : List Listed). length xs) (d.listed ∙ seen) in
     let slots = subst (λ (xs : List Listed). p.slots ≡ admitted_slots setup xs p.elements) seen c.in_ok-plan.ensures.slots in
     IfOk-weaker c.publish.result (λ a. (a ≡ record { first = p.batch.first; slots = p.slots }) × (list_of new ≡ list_of pass ++ p.elements)) (λ a. AreSlotsAt setup input a.first new a.slots)
@@ -70,12 +79,13 @@ pub returns-clause-refused : goal.returns-clause-refused
 returns-clause-refused g c =
     let d = c.plan.new.self in
     let p = c.in_ok-plan.plan in
-    let pass : List LogStep = c.tell.new.pass in
+    let pass : List LogStep = c.tell_beyond.result in
     let input : ReadInput = input_of c.args.wanted.now in
     let some : 0 < length (added_by input) = subst (λ (xs : List Listed). 0 < length xs) c.in_ok-plan.ensures.elements
     (omega (arith, entries_many d.registry p c.in_ok-plan.ensures.continues, c.len-count.ensures, c.if-count-eq0.false)) in
     unpublished_result input (list_of d.writer) d.writer c.publish.new.self.writer pass c.publish.new.pass c.publish.result c.in_ok-plan.ensures.allowed
-    (ap list_of (c.plan.ensures.same.0 ∙ sym c.in_ok-tell.ensures.whole.0)) some c.publish.ensures.same c.publish.ensures.refused
+    (ap list_of (c.plan.ensures.same.0 ∙ c.tell_beyond.ensures.same ∙ sym c.tell_beyond.ensures.whole)) some
+    c.publish.ensures.same c.publish.ensures.refused
 
 pub returns-then-count-eq0-clause-inputs : goal.returns-then-count-eq0-clause-inputs
 returns-then-count-eq0-clause-inputs g c =
@@ -84,4 +94,5 @@ returns-then-count-eq0-clause-inputs g c =
     let old : List Input = inputs_of c.args.self.now.writer in
     let none : p.elements ≡ [] = none_added p.elements (omega (arith, entries_many d.registry p c.in_ok-plan.ensures.continues, c.len-count.ensures, c.if-count-eq0.true)) in
     let nothing : inputs_by c.args.wanted.now ≡ [] = none_by c.args.wanted.now (sym c.in_ok-plan.ensures.elements ∙ none) in
-    ap inputs_of (c.plan.ensures.same.0 ∙ c.tell.ensures.same.1) ∙ sym (append-nil old) ∙ ap (λ (xs : List Input). old ++ xs) (sym nothing)
+    ap inputs_of (c.plan.ensures.same.0 ∙ c.tell_beyond.ensures.same) ∙ sym (append-nil old)
+    ∙ ap (λ (xs : List Input). old ++ xs) (sym nothing)

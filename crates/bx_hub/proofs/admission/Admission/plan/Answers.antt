@@ -1,5 +1,4 @@
-use Rattle.bx_entry.specs.Placings.{placed_by}
-use Rattle.bx_window.specs.Steps.{list_of}
+use Rattle.bx_window.specs.Steps.{list_of, setup_of}
 use Rattle.bx_hub.proofs.Posts.{slots_planned, tick_planned}
 use Rattle.bx_hub.proofs.admission.Admission.plan.Goals as goal
 
@@ -10,4 +9,5 @@ returns-in-Request-clause-slots g c =
 
 pub returns-in-Tick-clause-slots : goal.returns-in-Tick-clause-slots
 returns-in-Tick-clause-slots g c =
-    tick_planned (placed_by g.J.Naming.config g.J.Naming.config.shards g.J.Naming.placing) (list_of c.args.self.now.writer) _ c.plan_tick.result c.plan_tick.ensures.elements c.plan_tick.ensures.slots
+    tick_planned (setup_of g.J.Naming.config g.J.Naming.placing) (list_of c.args.self.now.writer) _ c.plan_tick.result
+    c.plan_tick.ensures.elements c.plan_tick.ensures.slots

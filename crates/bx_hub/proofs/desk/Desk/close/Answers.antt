@@ -1,4 +1,4 @@
-use Rattle.bx_entry.specs.Placings.{placed_by}
+use Rattle.bx_window.specs.Steps.{setup_of}
 use Rattle.bx_shard.specs.Seen.{state}
 use Rattle.bx_hub.proofs.Held.{stands_of, stands_shut, prefix_taken}
 use Rattle.bx_hub.proofs.desk.Desk.close.Goals as goal
@@ -6,7 +6,7 @@ use Rattle.bx_hub.proofs.desk.Desk.close.Goals as goal
 pub invariant_of-self : goal.invariant_of-self
 invariant_of-self g c =
     let d = c.args.self.now in
-    let setup = placed_by g.J.Naming.config g.J.Naming.config.shards g.J.Naming.placing in
+    let setup = setup_of g.J.Naming.config g.J.Naming.placing in
     let st = state g.P.Placing.place_of d.shard in
     let old = stands_of setup d.reader d.note d.taken st d.learnt d.within d.holds in
     let new = state g.P.Placing.place_of c.shut.new.self in

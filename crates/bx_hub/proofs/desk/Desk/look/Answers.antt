@@ -1,5 +1,5 @@
 use Rattle.std.proofs.Common.{◌∙◌, sym}
-use Rattle.bx_entry.specs.Placings.{placed_by}
+use Rattle.bx_window.specs.Steps.{setup_of}
 use Rattle.bx_shard.specs.Seen.{state}
 use Rattle.bx_hub.proofs.Held.{held, stands_of, level_without}
 use Rattle.bx_hub.proofs.desk.Desk.look.Goals as goal
@@ -7,7 +7,7 @@ use Rattle.bx_hub.proofs.desk.Desk.look.Goals as goal
 pub returns-in-Ok-clause-none : goal.returns-in-Ok-clause-none
 returns-in-Ok-clause-none g c =
     let d = c.bring.new.self in
-    let setup = placed_by g.J.Naming.config g.J.Naming.config.shards g.J.Naming.placing in
+    let setup = setup_of g.J.Naming.config g.J.Naming.placing in
     let st = state g.P.Placing.place_of d.shard in
     let s = stands_of setup d.reader d.note d.taken st d.learnt d.within d.holds in
     level_without setup (held d.reader d.note d.taken st) c.args.ticket c.again.result c.take-in-Ok.result c.take-in-Ok.ensures.filed (c.requires ∙ sym (c.bring.ensures.kept.0 ∙ c.take.ensures.stands.0)) s (sym c.again.ensures) c.in-Ok.ensures.end

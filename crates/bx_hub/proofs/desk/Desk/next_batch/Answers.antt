@@ -1,5 +1,5 @@
 use Rattle.std.proofs.Common.{subst, arith}
-use Rattle.bx_entry.specs.Placings.{placed_by}
+use Rattle.bx_window.specs.Steps.{setup_of}
 use Rattle.bx_shard.specs.Seen.{state}
 use Rattle.bx_window.specs.Answers.{IsRight}
 use Rattle.bx_hub.proofs.Held.{not_level, prefix_taken, stands_of, stands_seen}
@@ -8,7 +8,7 @@ use Rattle.bx_hub.proofs.desk.Desk.next_batch.Goals as goal
 pub unreachable-requires : goal.unreachable-requires
 unreachable-requires g c =
     let d = c.args.self.now in
-    let setup = placed_by g.J.Naming.config g.J.Naming.config.shards g.J.Naming.placing in
+    let setup = setup_of g.J.Naming.config g.J.Naming.placing in
     let old = stands_of setup d.reader d.note d.taken (state g.P.Placing.place_of d.shard) d.learnt d.within d.holds in
     let seen = c.next.new.self in
     let right = subst (λ n. IsRight g.J.Naming.config seen c.place-place.result n) c.in-Ok-Level.field-0-is c.in-Ok-Level.ensures.right in
@@ -17,7 +17,7 @@ unreachable-requires g c =
 pub invariant_of-self : goal.invariant_of-self
 invariant_of-self g c =
     let d = c.args.self.now in
-    let setup = placed_by g.J.Naming.config g.J.Naming.config.shards g.J.Naming.placing in
+    let setup = setup_of g.J.Naming.config g.J.Naming.placing in
     let st = state g.P.Placing.place_of d.shard in
     let old = stands_of setup d.reader d.note d.taken st d.learnt d.within d.holds in
     let s = stands_seen setup d.reader d.note c.next.new.self d.taken st old c.next.ensures.grows in

@@ -1,8 +1,7 @@
 use Rattle.std.proofs.Common.{◌≡◌, ◌<◌, ◌+◌, ◌-◌, ◌∙◌, ℕ, length, slice_get, Some, sym, ap, subst, arith}
-use Rattle.bx_entry.specs.Placings.{placed_by}
 use Rattle.bx_shard.specs.Seen.{state}
 use Rattle.bx_window.specs.Places.{IsOf}
-use Rattle.bx_window.specs.Steps.{list_of}
+use Rattle.bx_window.specs.Steps.{list_of, setup_of}
 use Rattle.bx_hub.proofs.Held.{applied_index, entry_here, prefix_taken, stands_applied, stands_of}
 use Rattle.bx_hub.proofs.desk.Desk.step.Goals as goal
 
@@ -21,7 +20,7 @@ pub invariant_of-self : goal.invariant_of-self
 invariant_of-self g c =
     let d = c.args.self.now in
     let config = g.J.Naming.config in
-    let setup = placed_by config config.shards g.J.Naming.placing in
+    let setup = setup_of config g.J.Naming.placing in
     let st = state g.P.Placing.place_of d.shard in
     let new = state g.P.Placing.place_of c.apply.new.self in
     let e = c.entry_of.result.now in

@@ -1,5 +1,5 @@
 use Rattle.std.proofs.Common.{[], ℕ, List, Bool, nat_eq, sym, ap, subst, arith}
-use Rattle.bx_entry.specs.Placings.{placed_by}
+use Rattle.bx_window.specs.Steps.{setup_of}
 use Rattle.bx_shard.specs.Words.{state, connect_in}
 use Rattle.bx_connects.specs.Connects.{filed_answer}
 use Rattle.bx_hub.specs.Held.{Stands}
@@ -9,7 +9,7 @@ use Rattle.bx_hub.proofs.desk.Desk.take.Goals as goal
 pub invariant_of-self : goal.invariant_of-self
 invariant_of-self g c =
     let d = c.args.self.now in
-    let setup = placed_by g.J.Naming.config g.J.Naming.config.shards g.J.Naming.placing in
+    let setup = setup_of g.J.Naming.config g.J.Naming.placing in
     let st = state g.P.Placing.place_of d.shard in
     let old = stands_of setup d.reader d.note d.taken st d.learnt d.within d.holds in
     let own : Bool = nat_eq c.args.ticket.shard d.shard.index in
@@ -22,7 +22,7 @@ invariant_of-self g c =
 pub invariant_of-self-in-None : goal.invariant_of-self-in-None
 invariant_of-self-in-None g c =
     let d = c.args.self.now in
-    let setup = placed_by g.J.Naming.config g.J.Naming.config.shards g.J.Naming.placing in
+    let setup = setup_of g.J.Naming.config g.J.Naming.placing in
     let st = state g.P.Placing.place_of d.shard in
     let old = stands_of setup d.reader d.note d.taken st d.learnt d.within d.holds in
     let own : Bool = nat_eq c.args.ticket.shard d.shard.index in
@@ -33,7 +33,7 @@ invariant_of-self-in-None g c =
 pub returns-in-Some-clause-answer : goal.returns-in-Some-clause-answer
 returns-in-Some-clause-answer g c =
     let d = c.args.self.now in
-    let setup = placed_by g.J.Naming.config g.J.Naming.config.shards g.J.Naming.placing in
+    let setup = setup_of g.J.Naming.config g.J.Naming.placing in
     let st = state g.P.Placing.place_of d.shard in
     let old = stands_of setup d.reader d.note d.taken st d.learnt d.within d.holds in
     let own : Bool = nat_eq c.args.ticket.shard d.shard.index in

@@ -1,4 +1,4 @@
-use Rattle.bx_entry.specs.Placings.{placed_by}
+use Rattle.bx_window.specs.Steps.{setup_of}
 use Rattle.bx_cut.specs.Bodies.{texts_of}
 use Rattle.bx_service.specs.Gatherings.{request_of}
 use Rattle.bx_service.proofs.Tickets.{slots_below}
@@ -7,4 +7,6 @@ use Rattle.bx_service.proofs.backend.HubBackendBackend.admit.Goals as goal
 pub new-requires : goal.new-requires
 new-requires g c =
     let config = g.J.Naming.config in
-    slots_below (placed_by config config.shards g.J.Naming.placing) (request_of c.now.result c.next.result (texts_of c.args.bodies)) c.in-Ok-post.posted.first c.pass-pass.result c.post.new.pass c.in-Ok-post.posted.slots c.in-Ok-post.ensures.admitted c.in-Ok-post.ensures.slots
+    slots_below (setup_of config g.J.Naming.placing) (request_of c.now.result c.next.result (texts_of c.args.bodies))
+    c.in-Ok-post.posted.first c.pass-pass.result c.post.new.pass c.in-Ok-post.posted.slots
+    c.in-Ok-post.ensures.admitted c.in-Ok-post.ensures.slots

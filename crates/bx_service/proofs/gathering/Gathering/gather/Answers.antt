@@ -1,6 +1,6 @@
 use Rattle.std.proofs.Common.{rules, List, None, ◌∷◌, sym, subst}
 use Rattle.std.specs.Vec.Iter.{into_iter_items}
-use Rattle.bx_entry.specs.Placings.{placed_by}
+use Rattle.bx_window.specs.Steps.{setup_of}
 use Rattle.bx_entry.specs.declared.entry.Slot.{Slot}
 use Rattle.bx_service.specs.Gatherings.{AreAll}
 use Rattle.bx_service.proofs.gathering.Gathering.gather.Goals as goal
@@ -8,7 +8,7 @@ use Rattle.bx_service.proofs.gathering.Gathering.gather.Goals as goal
 pub returns-then-is_pending-2-clause-same : goal.returns-then-is_pending-2-clause-same
 returns-then-is_pending-2-clause-same g c =
     let config = g.J.Naming.config in
-    let setup = placed_by config config.shards g.J.Naming.placing in
+    let setup = setup_of config g.J.Naming.placing in
     let at = c.loop-slot.self in
     λ all given. c.in_ok-poll_held.ensures.same all (c.loop-slot.invariant.0 all (rw c.loop-slot.invariant.1
     (subst (λ (slots : List Slot). AreAll setup at.pass at.items.items None slots all) (sym c.in-Some.ensures.items) (c.in_ok-take.ensures.same all given))))
@@ -16,7 +16,7 @@ returns-then-is_pending-2-clause-same g c =
 pub loop-slot-preserved : goal.loop-slot-preserved
 loop-slot-preserved g c =
     let config = g.J.Naming.config in
-    let setup = placed_by config config.shards g.J.Naming.placing in
+    let setup = setup_of config g.J.Naming.placing in
     let at = c.loop-slot.self in (
       λ all given. c.loop-slot.invariant.0 all (rw c.loop-slot.invariant.1
           (subst (λ (slots : List Slot). AreAll setup at.pass at.items.items None slots all) (sym c.in-Some.ensures.items) (c.in_ok-take.ensures.same all given))),

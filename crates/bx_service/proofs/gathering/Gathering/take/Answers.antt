@@ -1,7 +1,7 @@
 use Rattle.std.proofs.Common.{List, None, Some, false, ap, subst}
 use Rattle.std.specs.Prelude.{option_map}
 use Rattle.std.specs.Vec.Iter.{into_iter_items}
-use Rattle.bx_entry.specs.Placings.{placed_by}
+use Rattle.bx_window.specs.Steps.{setup_of}
 use Rattle.bx_message.specs.declared.reply.Item.{Item}
 use Rattle.bx_service.specs.Gatherings.{AreAll, awaited_as}
 use Rattle.bx_service.proofs.GatheringLemmas.{all_replied, all_same, all_waiting, on_ok}
@@ -10,7 +10,7 @@ use Rattle.bx_service.proofs.gathering.Gathering.take.Goals as goal
 pub returns-in_ok-add_reply-in-Ready-clause-same : goal.returns-in_ok-add_reply-in-Ready-clause-same
 returns-in_ok-add_reply-in-Ready-clause-same g c =
     let config = g.J.Naming.config in
-    let setup = placed_by config config.shards g.J.Naming.placing in
+    let setup = setup_of config g.J.Naming.placing in
     let old = c.args.self.now in
     rw c.requires.free (rw c.in-Ready.is (λ all given. all_replied setup old.pass old.items.items (into_iter_items old.slots) all c.in-Ready.reply
     (subst (λ (items : List Item). AreAll setup old.pass items None (into_iter_items old.slots) all) c.in_ok-add_reply-in-Ready.ensures given)))
@@ -18,7 +18,7 @@ returns-in_ok-add_reply-in-Ready-clause-same g c =
 pub returns-in-Waiting-clause-same : goal.returns-in-Waiting-clause-same
 returns-in-Waiting-clause-same g c =
     let config = g.J.Naming.config in
-    let setup = placed_by config config.shards g.J.Naming.placing in
+    let setup = setup_of config g.J.Naming.placing in
     let old = c.args.self.now in
     let mid = c.wait_for.new.self in
     let same = c.wait_for.ensures.same in

@@ -2,7 +2,7 @@ use Rattle.std.proofs.Common.{◌≡◌, ◌≤◌, ◌∷◌, ◌++◌, [], len
 use Rattle.bx_hub.specs.Faults.{count_of, one_more}
 use Rattle.bx_hub.specs.Lagging.{lagging_of}
 use Rattle.bx_hub.proofs.Counts.{few_lag, lagging-last, level-last}
-use Rattle.bx_hub.proofs.brought.AllBrought.add.Goals as goal
+use Rattle.bx_hub.proofs.walk.AllBrought.add.Goals as goal
 
 pub with-self-requires : goal.with-self-requires
 with-self-requires g c =

@@ -1,0 +1,183 @@
+//! What came of a call that goes to all shards, one after another.
+ghost use Rattle.std.specs.Prelude.{◌≡◌, ◌≤◌, ◌<◌, ◌++◌, ◌∷◌, [], length, is_some, true, None, IfSome, option_map, unwrap_or};
+ghost use Rattle.std.specs.List.{All};
+ghost use Rattle.std.proofs.Props.{props};
+ghost use Rattle.bx_hub.specs.Lagging.{lagging_of};
+ghost use Rattle.bx_hub.specs.Walks.{walked_at};
+ghost use Rattle.bx_hub.specs.declared.desk.evidence.Change.TheVariants as changes;
+
+use crate::admission::Admission;
+use crate::desk::{Brought, Change, Changed, Stood};
+use crate::fault::{HubFault, Lagging};
+use bx_history::History;
+use bx_window::{Naming, Note};
+use std::marker::PhantomData;
+use std::snapshot::Snapshot;
+use std::sync::Wait;
+
+/// Of the shards at which it has looked, one that stands at the least place; and where all stood, for contracts alone.
+#[derive(Drop)]
+pub(crate) struct Least<J: Naming> {
+    lowest: Option<Stood<J>>,
+    stood: History<u64>,
+    ghost least: { All (λ p. unwrap_or (option_map (λ s. s.place) lowest) 0 ≤ p) stood } by { Prim.hlevel props },
+    ghost none: { lowest ≡ None → stood ≡ [] },
+}
+
+impl<J: Naming> Least<J> {
+    /// It has looked at no shard.
+    pub(crate) fn new() -> Least<J>
+        ensures { (result.lowest ≡ None) × (result.stood ≡ []) }
+    {
+        Least {
+            lowest: None,
+            stood: History::new(),
+        }
+    }
+
+    /// The next shard stands here.
+    pub(crate) fn add(&mut self, stood: Stood<J>)
+        requires next { stood.index.value ≡ length self.old.stood }
+        ensures added { self.new.stood ≡ self.old.stood ++ stood.place ∷ [] }
+    {
+        self.stood.push(&stood.place());
+        let is_lower = match &self.lowest {
+            Some(lowest) => stood.place() < lowest.place(),
+            None => true,
+        };
+        if is_lower {
+            self.lowest = Some(stood);
+        }
+    }
+
+    /// The shard that stands at the least place; none where it has looked at no shard.
+    pub(crate) fn into_lowest(self) -> Option<Stood<J>>
+        ensures lowest { result ≡ self.lowest }
+        ensures least { IfSome result (λ s. All (λ p. s.place ≤ p) self.stood) }
+        ensures some { 0 < length self.stood → is_some result ≡ true }
+    {
+        self.lowest
+    }
+}
+
+/// What came of bringing the shards up to a note, from one on and in a circle: what stopped each that stays below it,
+/// in the order in which they were brought, for contracts alone, and how many those are.
+#[derive(Drop)]
+pub struct AllBrought<J: Naming> {
+    note: Snapshot<Note<J>>,
+    first: usize,
+    shards: usize,
+    stays: History<Option<HubFault>>,
+    behind: Lagging,
+    ghost within: { first ≤ shards },
+    ghost counted: { behind ≡ lagging_of stays },
+}
+
+impl<J: Naming> AllBrought<J> {
+    /// None of so many shards was brought up to the note. The first that is to be is the one at the length of the list
+    /// modulo their number, so that threads that bring them up at once mostly begin at different ones.
+    pub(crate) fn new(note: &Note<J>, shards: usize) -> AllBrought<J>
+        ensures { (result.note.value ≡ note.now) × (result.shards ≡ shards) × (result.stays ≡ []) }
+    {
+        AllBrought {
+            note: Snapshot::of(note),
+            first: (note.len() as usize).checked_rem(shards).unwrap_or(0),
+            shards,
+            stays: History::new(),
+            behind: Lagging::none(),
+        }
+    }
+
+    /// The index of the shard that comes at this step.
+    pub(crate) fn index_at(&self, step: usize) -> usize
+        requires { step < self.now.shards }
+        ensures { (result ≡ walked_at self.now.first self.now.shards step) × (result < self.now.shards) }
+    {
+        let before_end = self.shards - self.first;
+        if step < before_end {
+            self.first + step
+        } else {
+            step - before_end
+        }
+    }
+
+    /// The next shard was brought up to it.
+    pub(crate) fn add(&mut self, brought: Brought<J>)
+        requires next { brought.index.value ≡ walked_at self.old.first self.old.shards (length self.old.stays) }
+        requires note { brought.note.value ≡ self.old.note.value }
+        requires few { length self.old.stays < 18446744073709551615 }
+        ensures added { self.new.stays ≡ self.old.stays ++ brought.stays ∷ [] }
+        ensures same { (self.new.note ≡ self.old.note) × (self.new.first ≡ self.old.first)
+            × (self.new.shards ≡ self.old.shards) }
+    {
+        let stays = brought.stays();
+        self.stays.push(&stays);
+        match stays {
+            Some(fault) => self.behind = self.behind.with(fault),
+            None => {}
+        }
+    }
+
+    /// How many shards stay behind, by what stopped them.
+    pub fn behind(&self) -> Lagging
+        ensures { result ≡ lagging_of self.now.stays }
+    {
+        self.behind
+    }
+}
+
+/// That this was done to the shards, one after another, and how many answers they dropped with that; for contracts
+/// alone how many each did. None are shut but where admission is closed.
+#[derive(Drop)]
+pub struct AllChanged<J: Naming> {
+    change: Snapshot<Change>,
+    done: History<usize>,
+    dropped: usize,
+    of: PhantomData<J>,
+}
+
+impl<J: Naming> AllChanged<J> {
+    /// No shard was swept up to this place yet.
+    pub(crate) fn sweeping(before: u64) -> AllChanged<J>
+        ensures { (result.change.value ≡ changes.Sweep before) × (result.done ≡ []) × (result.dropped ≡ 0) }
+    {
+        AllChanged {
+            change: Snapshot::of(&Change::Sweep { before }),
+            done: History::new(),
+            dropped: 0,
+            of: PhantomData,
+        }
+    }
+
+    /// This admission is closed, and no shard was shut yet.
+    pub(crate) fn shutting<R: Wait + Drop>(admission: &Admission<J, R>) -> AllChanged<J>
+        requires { admission.now.closed ≡ true }
+        ensures { (result.change.value ≡ changes.Shut) × (result.done ≡ []) × (result.dropped ≡ 0) }
+    {
+        let _ = admission;
+        AllChanged {
+            change: Snapshot::of(&Change::Shut),
+            done: History::new(),
+            dropped: 0,
+            of: PhantomData,
+        }
+    }
+
+    /// It was done to the next shard.
+    pub(crate) fn add(&mut self, changed: Changed<J>)
+        requires next { changed.shard.value ≡ length self.old.done }
+        requires change { changed.change.value ≡ self.old.change.value }
+        ensures added { self.new.done ≡ self.old.done ++ changed.dropped ∷ [] }
+        ensures same { self.new.change ≡ self.old.change }
+    {
+        self.done.push(&changed.dropped());
+        self.dropped = self.dropped.saturating_add(changed.dropped());
+    }
+
+    /// How many answers were dropped with it.
+    pub fn dropped(&self) -> usize
+        ensures { result ≡ self.now.dropped }
+    {
+        self.dropped
+    }
+}
