@@ -5,9 +5,8 @@ import signal
 import subprocess
 import sys
 
-TOP = os.path.dirname(os.path.dirname(os.path.realpath(__file__)))
-sys.path.insert(0, f"{TOP}/tests/fuzz")
-from daemon import SEED, Daemon  # noqa: E402
+from base import TOP, Wrong
+from daemon import SEED, Daemon
 
 
 @contextlib.contextmanager
@@ -61,3 +60,14 @@ def program_of(name, variable):
             sys.exit(f"no program: {path}")
         subprocess.run([f"{TOP}/scripts/build", name], check=True)
     return path
+
+
+def status_of(measure):
+    """Returns the status of what measures: 1 where a server failed, which is told, or an answer was wrong. Says behind it how busy the machine is."""
+    try:
+        return 0 if measure() else 1
+    except (Wrong, subprocess.SubprocessError) as error:
+        print(error)
+        return 1
+    finally:
+        print(f"load of the machine: {' '.join(f'{it:.1f}' for it in os.getloadavg())}")

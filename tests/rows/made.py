@@ -135,9 +135,9 @@ def long_lines():
         yield f"a note with {count} digits of a place", f"A {'0' * count} {'f' * 64}\n0 P []\n", f"{printed}2 200 []\n", RECORD
 
 
-def thousands_of_lines():
-    """Yields a script of 5,000 lines."""
-    yield "thousands of lines", "x\n" * 5_000, "".join(f"{line} bad\n" for line in range(1, 5_001))
+def million_lines():
+    """Yields a script of more than a million lines."""
+    yield "more than a million lines", "x\n" * 1_100_000, "".join(f"{line} bad\n" for line in range(1, 1_100_001))
 
 
 def fronts():
@@ -317,5 +317,5 @@ def long_arrays():
 
 def made():
     """Yields the name of each row, its script and what it must print, in words, and then its arguments where it names some."""
-    for part in (ends, long_lines, thousands_of_lines, fronts, nested, messages, patterns, overflows, limits, riders, crowds, audiences, long_arrays):
+    for part in (ends, long_lines, million_lines, fronts, nested, messages, patterns, overflows, limits, riders, crowds, audiences, long_arrays):
         yield from part()

@@ -3,7 +3,8 @@ import json
 import re
 import urllib.parse
 
-from daemon import Wrong, post
+from base import Wrong
+from daemon import post
 
 DEPTH = 127
 MESSAGES = 256

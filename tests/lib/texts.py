@@ -3,6 +3,8 @@ import os
 import re
 from collections import namedtuple
 
+from base import TOP
+
 # What a run is about, its arguments where it names some, the script that is given, and what must be printed.
 Row = namedtuple("Row", "name arguments script expected")
 
@@ -16,7 +18,7 @@ CHARACTERS = {"space": " ", "return": "\r", "zero": "\0"}
 def read_words():
     """Returns how many arguments each word has, and what stands for it."""
     found = {it: (0, character) for it, character in CHARACTERS.items()}
-    with open(f"{os.path.dirname(os.path.realpath(__file__))}/words.txt", encoding="utf-8") as file:
+    with open(f"{TOP}/tests/rows/words.txt", encoding="utf-8") as file:
         for line in file.read().splitlines():
             if line and not line.startswith("#"):
                 head, _, text = line.partition(" = ")

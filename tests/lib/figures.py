@@ -2,7 +2,8 @@
 import re
 import time
 
-from daemon import PATIENCE, Connection, Wrong, get
+from base import Wrong
+from daemon import PATIENCE, Connection, get
 
 # The lines of the page.
 COMMENT = re.compile(r"# (HELP|TYPE) ([a-z_]+) (?:counter|gauge|[A-Z][^\\]*\.)")

@@ -4,7 +4,8 @@ import socket
 import struct
 import time
 
-from daemon import Connection, Ended, Wrong, post
+from base import Wrong
+from daemon import Connection, Ended, post
 from documents import LIMIT, check_post, check_status, document, messages_of
 
 # What may be answered to bytes of any kind.

@@ -9,8 +9,8 @@ import sys
 import tempfile
 import time
 
-TOP = os.path.dirname(os.path.dirname(os.path.dirname(os.path.realpath(__file__))))
-PROGRAM = f"{TOP}/crates/bayeuxd/out/bayeuxd"
+from base import CLEARED, Wrong, judged
+
 # For how long an answer is waited for before the daemon is said to hang, in seconds.
 PATIENCE = 20.0
 # No byte of it stands twice, so that one which is read elsewhere shows.
@@ -19,21 +19,8 @@ CONNECT = b'[{"channel":"/meta/connect","connectionType":"long-polling","clientI
 HANDSHAKE = {"channel": "/meta/handshake", "version": "1.0", "supportedConnectionTypes": ["long-polling"]}
 
 
-class Wrong(Exception):
-    """The daemon answered what it must not, or not at all."""
-
-
 class Ended(Wrong):
     """The connection ended before the answer did."""
-
-
-def is_there():
-    """Returns whether this machine has a loopback."""
-    try:
-        with socket.create_server(("127.0.0.1", 0)) as listener, socket.create_connection(listener.getsockname()):
-            return True
-    except OSError:
-        return False
 
 
 class Daemon:
@@ -207,11 +194,24 @@ def succeed(items, count):
     return items
 
 
+def opened(connection, **further):
+    """Opens a session by a handshake, to which these members may be added, and returns the member that names it."""
+    return {"clientId": succeed(connection.ask([{**HANDSHAKE, **further}]), 1)[0]["clientId"]}
+
+
+def held(address, channel):
+    """Returns a connection whose session has a connect that is held, and hears this channel."""
+    connection = Connection(address)
+    mine = opened(connection)
+    succeed(connection.ask([{"channel": "/meta/subscribe", "subscription": channel, **mine}]), 1)
+    connection.send(post(json.dumps([{"channel": "/meta/connect", "connectionType": "long-polling", **mine}]).encode()))
+    return connection
+
+
 def serve_right(address, channel):
     """Raises where a client that does all right is not served as ever."""
     with Connection(address) as connection:
-        client = succeed(connection.ask([HANDSHAKE]), 1)[0]["clientId"]
-        mine = {"clientId": client}
+        mine = opened(connection)
         succeed(connection.ask([{"channel": "/meta/subscribe", "subscription": channel, **mine}]), 1)
         succeed(connection.ask([{"channel": channel, "data": {"right": channel}, "id": "p", **mine}]), 1)
         got = connection.ask([{"channel": "/meta/connect", "connectionType": "long-polling", "id": 7, **mine}])
@@ -220,6 +220,14 @@ def serve_right(address, channel):
         if succeed(got[1:], 1)[0]["id"] != 7:
             raise Wrong(f"not the id of the connect: {got}")
         succeed(connection.ask([{"channel": "/meta/disconnect", **mine}]), 1)
+
+
+def looked_at(name, daemon, look):
+    """Has a daemon looked at, ends it, and returns the status; what is wrong is told behind the script's name."""
+    try:
+        return judged(name, lambda: look(daemon))
+    finally:
+        daemon.end()
 
 
 class Progress:
@@ -242,4 +250,4 @@ class Progress:
     def clear(self):
         """Takes the line away."""
         if sys.stderr.isatty():
-            print("\r\x1b[K", end="", file=sys.stderr, flush=True)
+            print(CLEARED, end="", file=sys.stderr, flush=True)

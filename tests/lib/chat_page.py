@@ -1,0 +1,195 @@
+"""What is tried of the chat: two people talk while connections are cut, a line is slow, and by keyboard alone."""
+from base import Wrong, until
+from browser import ENTER, TAB, Window, has_focus, press, press_back
+from sight import check_names, check_sight
+
+# Where the page says what was not sent.
+PROBLEM = "#problem:not([hidden])"
+
+
+class Chat(Window):
+    """A window of the chat whose user has joined."""
+
+    def __init__(self, browser, address, name):
+        super().__init__(browser, address)
+        self.write("#name", "  " + ENTER)
+        if self.run("return document.getElementById('join').hidden || document.getElementById('name').value"):
+            raise Wrong("blanks are taken as a name")
+        self.write("#name", name)
+        self.click("#join button")
+        self.wait_state("connected")
+        until(f"{name} sees that {name} joined", lambda: f"{name} joined" in self.texts(".notice"))
+
+    def send(self, text):
+        self.write("#text", text)
+        self.click("#write button")
+
+    def messages(self):
+        return self.texts("#messages li p")
+
+    def wait_messages(self, expected):
+        """Waits until these messages are shown, in this order, and no other."""
+        try:
+            until("", lambda: self.messages() == expected)
+        except Wrong:
+            raise Wrong(f"the chat shows {self.messages()}, and not {expected}") from None
+
+
+def try_talk(ann, ben):
+    """Both windows show what either sends, as text."""
+    said = ["Hello Ben! Do you read this?", "I do. Two windows, and one server between them.", "Shown as text: <b>1 < 2</b> & \"so on\""]
+    until("Ann sees that Ben joined", lambda: "Ben joined" in ann.texts(".notice"))
+    ann.send(said[0])
+    ben.wait_messages(said[:1])
+    ben.send(said[1])
+    ann.wait_messages(said[:2])
+    ann.send(said[2])
+    ben.wait_messages(said)
+    ann.wait_messages(said)
+    return said
+
+
+def try_writing(ann, ben, said):
+    """Who reads further up stays there; two people may have one name, and one Enter sends once."""
+    if [len(chat.texts("#messages li.own")) for chat in (ann, ben)] != [2, 1]:
+        raise Wrong("a message is not shown as one's own, or another's is")
+    lines = "\n".join(["A message of many lines"] * 40)
+    ann.run("document.getElementById('text').maxLength = 5000")
+    ben.run("client.publish(CHANNEL, { name: 'Ann', text: arguments[0] })", lines)
+    ann.wait_messages([*said, lines])
+    if len(ann.texts("#messages li.own")) != 2:
+        raise Wrong("another's message is shown as one's own, since the names are the same")
+    place = "return document.getElementById('messages').scrollTop"
+    until("the end is shown", lambda: ann.run(place) > 100)
+    ann.run("document.getElementById('messages').scrollTop = 50")
+    ben.send("Below what Ann reads")
+    said = [*said, lines, "Below what Ann reads"]
+    ann.wait_messages(said)
+    if ann.run(place) != 50:
+        raise Wrong(f"the chat scrolled to {ann.run(place)} while somebody read at 50")
+    return said
+
+
+def try_slow_line(stand):
+    """While a message is on its way Enter sends nothing, and what is typed stays; without an answer it comes back."""
+    site = stand.site
+    chat = Chat(stand.browser, f"{site.address}/chat/", "Ann")
+    chat.run("const ask = client.publish; client.publish = (...words) => new Promise((go) => (window.go = go)).then(() => ask.apply(client, words))")
+    chat.write("#text", "Once" + ENTER)
+    chat.write("#text", "Meanwhile" + ENTER + ENTER)
+    chat.run("go()")
+    chat.wait_messages(["Once"])
+    if chat.run("return document.getElementById('text').value") != "Meanwhile":
+        raise Wrong("what was typed meanwhile is gone")
+    until("nothing is on its way", lambda: not chat.run("return isSending"))
+    site.status = 504
+    chat.write("#text", ENTER)
+    chat.write("#text", "more")
+    chat.run("go()")
+    until("the page says so", lambda: chat.texts(PROBLEM) == ["No answer: it may have been sent."])
+    site.status = 413
+    chat.write("#text", ENTER)
+    chat.run("go()")
+    until("the page says so", lambda: chat.texts(PROBLEM) == ["Not sent: HTTP status 413"])
+    if chat.run("return document.getElementById('text').value") != "Meanwhile more":
+        raise Wrong(f"the field has {chat.run('return text.value')!r}, and not what was not sent and what was typed")
+    site.status = 200
+    chat.close()
+
+
+def try_cut(stand, ann, ben, said):
+    """What is published while connections are cut and responses are lost is shown once, in order."""
+    server, relay = stand.server, stand.relay
+    more = [f"Sent while the line was broken: {number}" for number in range(1, 4)]
+    relay.is_down = True
+    relay.cut()
+    for chat in (ann, ben):
+        chat.wait_state("interrupted")
+    server.publish("/chat/hall", *({"name": "Cleo", "text": text} for text in more))
+    relay.is_down = False
+    for chat in (ann, ben):
+        chat.wait_state("connected")
+        chat.wait_messages(said + more)
+    lost = relay.lost
+    relay.loses_responses = True
+    server.publish("/chat/hall", {"name": "Cleo", "text": "In a response that was lost, and came again"})
+    sessions = len({chat.run("return client.clientId") for chat in (ann, ben)})
+    until("each session lost a response", lambda: relay.lost >= lost + sessions)
+    relay.loses_responses = False
+    said = [*said, *more, "In a response that was lost, and came again"]
+    for chat in (ann, ben):
+        chat.wait_messages(said)
+    return said
+
+
+def try_restart(server, ann, ben, said):
+    """After the server is killed and started again the windows find each other, and nothing is sent by itself."""
+    server.kill()
+    for chat in (ann, ben):
+        chat.wait_state("interrupted")
+    ann.send("Once more, after the restart")
+    until("Ann is told that it may not have been sent", lambda: ann.texts(PROBLEM) == ["No answer: it may have been sent."])
+    server.start()
+    for chat in (ann, ben):
+        chat.wait_state("connected")
+    until("the problem is over", lambda: not ann.texts(PROBLEM))
+    ann.wait_messages(said)
+    ann.click("#write button")
+    said = [*said, "Once more, after the restart"]
+    for chat in (ann, ben):
+        chat.wait_messages(said)
+    return said
+
+
+def try_leaving(server, ann, ben):
+    """The others see that somebody left, and the last page that has a session ends it at once."""
+    publishes = [{"channel": "/nobody", "data": 0, "clientId": chat.run("return client.clientId")} for chat in (ann, ben)]
+    is_shared = publishes[0] == publishes[1]
+    for chat, publish, is_last in ((ann, publishes[0], not is_shared), (ben, publishes[1], True)):
+        if not server.ask(publish)[0]["successful"]:
+            raise Wrong("the page has no session")
+        chat.call("POST", "/url", {"url": "about:blank"})
+        if chat is ann:
+            until("Ben sees that Ann left", lambda: "Ann left" in ben.texts(".notice"))
+        if is_last:
+            until("the session is gone", lambda publish=publish: server.ask(publish)[0].get("error") == "402::Unknown client")
+
+
+def try_chat(stand, address, transport, picture=None):
+    """Tries the chat in two windows."""
+    ann, ben = (Chat(stand.browser, address, name) for name in ("Ann", "Ben"))
+    if ann.texts("#state") != [f"connected by {transport}"]:
+        raise Wrong(f"the page says {ann.texts('#state')}, and not that it is connected by {transport}")
+    said = try_talk(ann, ben)
+    if picture:
+        ann.picture(picture)
+    said = try_writing(ann, ben, said)
+    said = try_cut(stand, ann, ben, said)
+    try_restart(stand.server, ann, ben, said)
+    try_leaving(stand.server, ann, ben)
+    for chat in (ann, ben):
+        chat.close()
+
+
+def try_keyboard(stand):
+    """The chat is used by keyboard alone, and shown on a narrow screen."""
+    window = Window(stand.browser, stand.from_disk("chat/index.html"))
+    check_names(window, ["#name", "#join button"])
+    check_sight(window)
+    press(window, *"Ann", ENTER)
+    window.wait_state("connected")
+    has_focus(window, "text")
+    press(window, *"By keys alone", ENTER)
+    until("the message is shown", lambda: window.texts("#messages li p") == ["By keys alone"])
+    text = "A colour for each name, and a word that is long: " + "x" * 60
+    for number in range(12):
+        stand.server.publish("/chat/hall", {"name": f"Name {number * 31}", "text": text})
+    until("all messages are shown", lambda: len(window.texts("#messages li p")) == 13)
+    press(window, TAB)
+    has_focus(window, "Send")
+    press_back(window)
+    press_back(window)
+    has_focus(window, "messages")
+    check_names(window, ["#messages", "#text", "#write button"])
+    check_sight(window)
+    window.close()

@@ -1,0 +1,87 @@
+"""nginx in front of a server, with the configuration of packaging/nginx/nginx.conf, and what it serves and refuses."""
+import contextlib
+import getpass
+import pathlib
+import subprocess
+
+from base import TOP, Wrong, can_connect, end, free_port, until
+
+# By what callback-polling is closed.
+CLOSED = """            limit_except POST {
+                deny all;
+            }
+"""
+
+
+def status_of(address, *words):
+    """Returns the status that curl gets."""
+    ran = subprocess.run(["curl", "-sk", "-o", "/dev/null", "-w", "%{http_code}", *words, address], capture_output=True, text=True, check=True)
+    return int(ran.stdout)
+
+
+def try_refusals(address, of_a_get):
+    """The own page, and programs, are served; others are refused, and a GET has this status."""
+    post = ["-d", "[]", "-H", "Content-Type: application/json"]
+    query = "message=%5B%5D&jsonp=name"
+    foreign = {"https://localhost.example": 403, "null": 403, "https://sub.localhost": 403, address: 200}
+    for origin, status in foreign.items():
+        expect(f"a POST of the origin {origin}", status_of(f"{address}/cometd", *post, "-H", f"Origin: {origin}"), status)
+    for site, status in {"same-origin": 200, "none": 200, "same-site": 403, "cross-site": 403}.items():
+        expect(f"a POST that is {site}", status_of(f"{address}/cometd", *post, "-H", f"Sec-Fetch-Site: {site}"), status)
+    expect("a program's POST", status_of(f"{address}/cometd", *post), 200)
+    expect("a GET", status_of(f"{address}/cometd?{query}"), of_a_get)
+    expect("a foreign page's GET", status_of(f"{address}/cometd?{query}", "-H", "Sec-Fetch-Site: cross-site"), 403)
+    expect("another name", status_of(f"{address}/cometd", *post, "-H", "Host: other.example"), 421)
+    expect("a path below", status_of(f"{address}/cometd/setup.bat", *post), 404)
+
+
+def expect(what, found, wanted):
+    if found != wanted:
+        raise Wrong(f"{what}: status {found}, not {wanted}")
+
+
+def make_certificate(folder):
+    """Makes a certificate of localhost, and its key, in a folder."""
+    certificate = ["openssl", "req", "-x509", "-newkey", "rsa:2048", "-nodes", "-days", "1", "-subj", "/CN=localhost"]
+    certificate += ["-keyout", f"{folder}/key.pem", "-out", f"{folder}/chain.pem"]
+    subprocess.run(certificate, check=True, stderr=subprocess.DEVNULL)
+
+
+def configuration(upper, secure, folder, changes):
+    """Returns the configuration with this folder and these changes, for a server on one port and nginx on another."""
+    text = (TOP / "packaging/nginx/nginx.conf").read_text(encoding="utf-8")
+    for old, new in {
+        "user www-data;": f"user {getpass.getuser()};",
+        "/run/nginx.pid": f"{folder}/nginx.pid",
+        "/var/log/nginx/": f"{folder}/",
+        "/etc/nginx/bayeux/": f"{folder}/",
+        "/var/www/bayeux": f"{TOP}/examples",
+        "127.0.0.1:8087": f"127.0.0.1:{upper}",
+        "listen 80": f"listen 127.0.0.1:{free_port()}",
+        "listen 443": f"listen 127.0.0.1:{secure}",
+        "https://bayeux.example": f"https://localhost:{secure}",
+        "bayeux.example": "localhost",
+        **changes,
+    }.items():
+        if old not in text:
+            raise Wrong(f"packaging/nginx/nginx.conf has no {old!r}")
+        text = text.replace(old, new)
+    paths = "".join(f"    {kind}_temp_path {folder}/{kind};\n" for kind in ("client_body", "proxy", "fastcgi", "uwsgi", "scgi"))
+    return text.replace("http {\n", "http {\n" + paths, 1)
+
+
+@contextlib.contextmanager
+def serving(upper, folder, changes):
+    """Runs nginx with its files in this folder in front of a server on this port, with these changes to its configuration; gives its address."""
+    make_certificate(folder)
+    secure = free_port()
+    pathlib.Path(folder, "nginx.conf").write_text(configuration(upper, secure, folder, changes), encoding="utf-8")
+    words = ["nginx", "-e", f"{folder}/error.log", "-c", f"{folder}/nginx.conf", "-g", "daemon off;"]
+    process = subprocess.Popen(words, stderr=subprocess.DEVNULL)
+    try:
+        until("nginx listens", lambda: can_connect(secure) or process.poll() is not None)
+        if process.poll() is not None:
+            raise Wrong(f"nginx does not start: {pathlib.Path(folder, 'error.log').read_text(encoding='utf-8')}")
+        yield f"https://localhost:{secure}"
+    finally:
+        end(process)

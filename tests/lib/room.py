@@ -1,0 +1,122 @@
+"""An empty Debian with the package's neighbours, in a network, a process space and mounts of its own."""
+import os
+import pathlib
+import shutil
+import signal
+import subprocess
+import sys
+import tempfile
+
+from base import PATIENCE, Wrong
+
+TOOLS = {"mmdebstrap": "mmdebstrap", "unshare": "util-linux", "ip": "iproute2"}
+
+
+class Missing(Exception):
+    """Nothing can be tried here."""
+
+
+def release():
+    """Returns the name of this machine's release of Debian."""
+    with open("/etc/os-release", encoding="utf-8") as file:
+        words = dict(line.strip().replace('"', "").split("=", 1) for line in file if "=" in line)
+    if words.get("ID") != "debian":
+        raise Missing("this machine has no Debian, whose release would be taken")
+    return words["VERSION_CODENAME"]
+
+
+def check_tools():
+    """Raises where no such room can be made."""
+    if os.geteuid() != 0:
+        raise Missing("only root can make an empty Debian and a network of its own")
+    for tool, package in TOOLS.items():
+        if not shutil.which(tool):
+            raise Missing(f"there is no {tool}: install Debian's package {package}")
+
+
+def make(root, packages):
+    """Makes an empty Debian with these packages of Debian, and what they depend on, in a folder."""
+    words = ["mmdebstrap", "--quiet", "--variant=minbase", f"--include={','.join(packages)}", release(), root]
+    ran = subprocess.run(words, stdin=subprocess.DEVNULL, capture_output=True, text=True, check=False)
+    if ran.returncode != 0:
+        raise Missing(f"mmdebstrap ended with status {ran.returncode}: {ran.stderr.strip()[-600:]}")
+
+
+def is_mounted(folder):
+    """Returns whether something is mounted in a folder."""
+    return any(f" {folder}/" in line for line in pathlib.Path("/proc/self/mountinfo").read_text(encoding="utf-8").splitlines())
+
+
+def take_away(folder):
+    """Deletes a folder; where something is mounted in it, it stays, and that is told."""
+    if is_mounted(folder):
+        print(f"something is still mounted in {folder}, which stays", file=sys.stderr)
+    else:
+        shutil.rmtree(folder)
+
+
+def with_room(packages, words):
+    """Runs this script once more with these words and the folder of such a Debian, and returns the status.
+
+    Nothing outside can be reached there. All that it started is ended behind it, and the folder is taken away."""
+    check_tools()
+    folder = os.path.realpath(tempfile.mkdtemp(prefix="gadzilk-debian-"))
+    try:
+        os.chmod(folder, 0o755)
+        root = f"{folder}/root"
+        make(root, packages)
+        apart = ["unshare", "--net", "--mount", "--pid", "--fork", "--kill-child", "--mount-proc"]
+        return subprocess.run([*apart, sys.executable, sys.argv[0], "--inside", root, *words], check=False).returncode
+    finally:
+        take_away(folder)
+
+
+class Room:
+    """The inside of such a Debian."""
+
+    def __init__(self, root):
+        self.root = pathlib.Path(root)
+        self.processes, self.service = [], None
+        subprocess.run(["ip", "link", "set", "lo", "up"], check=True)
+        subprocess.run(["mount", "-t", "proc", "proc", self.root / "proc"], check=True)
+
+    def words(self, script, user=None):
+        apart = ["chroot", *([f"--userspec={user}"] if user else []), str(self.root)]
+        return [*apart, "/usr/bin/env", "-i", "HOME=/root", "LANG=C.UTF-8", "PATH=/usr/sbin:/usr/bin:/sbin:/bin", "bash", "-ec", script]
+
+    def run(self, script):
+        """Runs a script as root, and returns what it prints; raises where it fails."""
+        how = {"cwd": "/", "stdin": subprocess.DEVNULL, "capture_output": True, "text": True, "check": False}
+        ran = subprocess.run(self.words(f"cd\n{script}"), **how, timeout=120)
+        if ran.returncode != 0:
+            raise Wrong(f"status {ran.returncode} of\n{script}\n{ran.stdout}{ran.stderr}")
+        return ran.stdout
+
+    def start(self, script, user=None):
+        """Starts a script that goes on."""
+        how = {"cwd": "/", "stdin": subprocess.DEVNULL, "stdout": subprocess.PIPE, "text": True, "start_new_session": True}
+        process = subprocess.Popen(self.words(script, user), **how)
+        self.processes.append(process)
+        return process
+
+    def stop(self, process):
+        """Ends what was started as systemd stops a unit, by a signal to all its processes, and returns the status of the first."""
+        os.killpg(process.pid, signal.SIGTERM)
+        return process.wait(PATIENCE)
+
+    def serve(self):
+        """Starts bayeuxd as the service's unit says, as a user without rights, and waits until it listens. No systemd runs here."""
+        unit = (self.root / "lib/systemd/system/bayeuxd.service").read_text(encoding="utf-8").splitlines()
+        command = next(it for it in unit if it.startswith("ExecStart=")).partition("=")[2]
+        settings = " ".join(it.partition("=")[2] for it in unit if it.startswith("Environment="))
+        process = self.start(f"{settings}\n. /etc/default/bayeuxd\nexec {command}", "nobody:nogroup")
+        line = process.stdout.readline()
+        if not line.startswith("listening "):
+            raise Wrong(f"the service does not listen: {line!r}")
+        self.service = process
+        return process
+
+    def write(self, path, text):
+        file = self.root / path.lstrip("/")
+        file.parent.mkdir(parents=True, exist_ok=True)
+        file.write_text(text, encoding="utf-8")

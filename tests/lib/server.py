@@ -1,0 +1,174 @@
+"""A bayeuxd that pages ask, and what stands between: a relay that breaks connections and loses responses, and a web server."""
+import contextlib
+import http.server
+import json
+import select
+import socket
+import subprocess
+import threading
+import urllib.request
+
+from base import PATIENCE, TOP, Wrong, free_port, until
+from daemon import HANDSHAKE
+
+
+class Server:
+    """A bayeuxd with these flags, on a port that stays the same when it is started again."""
+
+    def __init__(self, program, *flags):
+        self.port = free_port()
+        self.words = [program, "--listen", f"127.0.0.1:{self.port}", *flags]
+        self.process = None
+
+    def start(self, *further):
+        """Starts it with further flags."""
+
+        def is_listening():
+            self.process = subprocess.Popen([*self.words, *further], stdout=subprocess.PIPE, stderr=subprocess.DEVNULL)
+            return self.process.stdout.readline().startswith(b"listening ")
+
+        until("bayeuxd listens", is_listening)
+
+    def kill(self):
+        self.process.kill()
+        self.process.wait()
+        self.process.stdout.close()
+
+    def stop(self):
+        """Kills it where it runs."""
+        if self.process.poll() is None:
+            self.kill()
+
+    def restart(self, *further):
+        self.kill()
+        self.start(*further)
+
+    def ask(self, *messages):
+        """Posts messages, and returns the items of the response."""
+        head = {"Content-Type": "application/json"}
+        request = urllib.request.Request(f"http://127.0.0.1:{self.port}/cometd", json.dumps(messages).encode(), head)
+        with urllib.request.urlopen(request, timeout=PATIENCE) as response:
+            return json.load(response)
+
+    def publish(self, channel, *values):
+        """Publishes values by a session of its own."""
+        mine = {"clientId": self.ask(HANDSHAKE)[0]["clientId"]}
+        replies = self.ask(*({"channel": channel, "data": value, **mine} for value in values), {"channel": "/meta/disconnect", **mine})
+        if not all(reply["successful"] for reply in replies):
+            raise Wrong(f"not published: {replies}")
+
+
+class Relay:
+    """Stands between the pages and the server, and can break connections and lose responses."""
+
+    def __init__(self, server):
+        self.server = server
+        self.pairs = set()
+        self.is_down = False
+        self.loses_responses = False
+        self.lost = 0
+        self.listener = socket.create_server(("127.0.0.1", 0))
+        self.port = self.listener.getsockname()[1]
+        threading.Thread(target=self.accept, daemon=True).start()
+
+    def accept(self):
+        while True:
+            client, _ = self.listener.accept()
+            threading.Thread(target=self.carry, args=(client,), daemon=True).start()
+
+    def carry(self, client):
+        """Carries bytes both ways until one side ends."""
+        with client, contextlib.suppress(OSError):
+            if self.is_down:
+                return
+            with socket.create_connection(("127.0.0.1", self.server.port), timeout=PATIENCE) as upper:
+                pair = (client, upper)
+                self.pairs.add(pair)
+                try:
+                    while True:
+                        for side in select.select(pair, [], [])[0]:
+                            data = side.recv(1 << 16)
+                            if side is upper and self.loses_responses:
+                                self.lost += 1
+                                return
+                            if not data:
+                                return
+                            (upper if side is client else client).sendall(data)
+                finally:
+                    self.pairs.discard(pair)
+
+    def cut(self):
+        """Ends all connections."""
+        for pair in list(self.pairs):
+            for side in pair:
+                with contextlib.suppress(OSError):
+                    side.shutdown(socket.SHUT_RDWR)
+
+
+# What a page without anything on it has.
+BLANK = """<!DOCTYPE html><html lang="en"><title>Blank</title><link rel="icon" href="data:,"><script src="/client/bayeux.js"></script>
+<script type="module">import Client, { BayeuxClient } from '/client/bayeux-module.js'; window.modules = [Client, BayeuxClient];</script>"""
+KINDS = {".html": "text/html", ".js": "text/javascript", ".css": "text/css"}
+
+
+class Site(http.server.ThreadingHTTPServer):
+    """A web server over plain HTTP/1.1, with the examples, a blank page at /, and the relay's server at /cometd."""
+
+    daemon_threads = True
+
+    def __init__(self, relay):
+        super().__init__(("127.0.0.1", 0), Visit)
+        self.relay = relay
+        self.status = 200
+        # Of each request to /cometd its header fields and its messages.
+        self.asked = []
+        self.address = f"http://127.0.0.1:{self.server_address[1]}"
+        threading.Thread(target=self.serve_forever, daemon=True).start()
+
+    def handle_error(self, *_):
+        """A browser breaks connections off."""
+
+    def messages(self, channel):
+        """Returns the messages to this channel that came."""
+        return [message for _, messages in self.asked for message in messages if message["channel"] == channel]
+
+
+class Visit(http.server.BaseHTTPRequestHandler):
+    """A connection of the site."""
+
+    protocol_version = "HTTP/1.1"
+
+    def do_GET(self):
+        path = self.path.split("?")[0]
+        file = TOP / "examples" / (path.lstrip("/") + ("index.html" if path.endswith("/") else ""))
+        if path == "/":
+            self.give(200, BLANK.encode(), "text/html")
+        elif file.is_file():
+            self.give(200, file.read_bytes(), KINDS[file.suffix])
+        else:
+            self.give(404, b"", "text/plain")
+
+    def do_POST(self):
+        body = self.rfile.read(int(self.headers["Content-Length"]))
+        site, messages = self.server, json.loads(body)
+        site.asked.append((self.headers, messages))
+        status, reply = site.status, b""
+        if status == 200:
+            request = urllib.request.Request(f"http://127.0.0.1:{site.relay.port}/cometd", body, {"Content-Type": "application/json"})
+            try:
+                with urllib.request.urlopen(request, timeout=PATIENCE) as response:
+                    reply = response.read()
+            except OSError:
+                status = 502
+        with contextlib.suppress(OSError):
+            self.give(status, reply, "application/json")
+
+    def give(self, status, content, kind):
+        self.send_response(status)
+        self.send_header("Content-Type", kind)
+        self.send_header("Content-Length", str(len(content)))
+        self.end_headers()
+        self.wfile.write(content)
+
+    def log_message(self, *_):
+        pass

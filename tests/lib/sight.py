@@ -1,0 +1,68 @@
+"""What is seen of a page: on a narrow screen, in light and dark, and read aloud."""
+import time
+
+from base import Wrong
+from browser import emulate
+
+# What a text and its ground must differ by, as WCAG 2 reckons it: the least of small and of large text.
+CONTRAST, LARGE_CONTRAST = 4.5, 3.0
+# A narrow screen in points, and how large what is pressed and the letters must be there.
+NARROW, LEAST_TARGET, LEAST_LETTERS = (320, 640), 24, 11
+# Of each text that is shown: what it says, its contrast, and how large its letters are; of each field the same of its placeholder.
+CONTRASTS = """
+const parts = (text) => { const [r, g, b, a = 1] = text.match(/[\\d.]+/g).map(Number); return [r, g, b, a]; };
+const over = ([r, g, b, a], under) => [r, g, b].map((it, at) => it * a + under[at] * (1 - a));
+const light = (colour) => colour.map((it) => it / 255).map((it) => (it <= 0.04045 ? it / 12.92 : ((it + 0.055) / 1.055) ** 2.4))
+  .reduce((sum, it, at) => sum + it * [0.2126, 0.7152, 0.0722][at], 0);
+const ground = (it) => it === null ? (matchMedia('(prefers-color-scheme: dark)').matches ? [18, 18, 18] : [255, 255, 255])
+  : over(parts(getComputedStyle(it).backgroundColor), ground(it.parentElement));
+const ratio = (colour, under) => {
+  const [high, low] = [light(over(parts(colour), under)), light(under)].sort((a, b) => b - a);
+  return (high + 0.05) / (low + 0.05);
+};
+const found = [];
+for (const it of document.querySelectorAll('body *')) {
+  const style = getComputedStyle(it), picture = it.closest('svg');
+  if (it.closest('template, script') || !it.getClientRects().length) continue;
+  const says = [...it.childNodes].filter((node) => node.nodeType === 3).map((node) => node.textContent).join(' ').trim();
+  const size = parseFloat(style.fontSize), isLarge = size >= 24 || (size >= 18.66 && style.fontWeight >= 700);
+  if (says) found.push([says, ratio(picture ? style.fill : style.color, ground(picture?.parentElement ?? it)), size, isLarge]);
+  if (it.placeholder) found.push([it.placeholder, ratio(getComputedStyle(it, '::placeholder').color, ground(it)), size, isLarge]);
+}
+return found;
+"""
+# What is wider than the screen or its picture, and which fields and buttons are too small to be pressed.
+TOO_WIDE = """
+const shown = (selector) => [...document.querySelectorAll(selector)].filter((it) => it.getClientRects().length);
+const box = (it) => it.getBoundingClientRect();
+const wide = shown('body *').filter((it) => box(it).right > innerWidth + 1);
+const small = shown('input, button').filter((it) => box(it).height < arguments[0]);
+const cut = shown('svg text').filter((it) => box(it).left < box(it.closest('svg')).left - 1);
+const whole = [document.documentElement].filter((it) => it.scrollWidth > innerWidth);
+return [...wide, ...small, ...cut, ...whole].map((it) => it.outerHTML.slice(0, 80));
+"""
+
+
+def check_sight(window):
+    """Raises where a text stands out too little, in light or dark, or the page does not fit on a narrow screen."""
+    for scheme in ("light", "dark"):
+        emulate(window, *NARROW, scheme)
+        time.sleep(1.2)
+        for says, ratio, size, is_large in window.run(CONTRASTS):
+            if ratio < (LARGE_CONTRAST if is_large else CONTRAST):
+                raise Wrong(f"in {scheme} the contrast of {says!r} is {ratio:.2f}")
+            if size < LEAST_LETTERS:
+                raise Wrong(f"the letters of {says!r} are {size} points high")
+        found = window.run(TOO_WIDE, LEAST_TARGET)
+        if found:
+            raise Wrong(f"on a narrow screen these do not fit, or are too small: {found}")
+    emulate(window)
+
+
+def check_names(window, selectors):
+    """Raises where one of these elements has no name that is read aloud."""
+    for selector in selectors:
+        if not window.call("GET", f"/element/{window.element(selector)}/computedlabel"):
+            raise Wrong(f"{selector} has no name")
+    if not (window.run("return document.documentElement.lang") and window.call("GET", "/title")):
+        raise Wrong("the page has no language or no title")
