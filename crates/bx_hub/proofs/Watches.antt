@@ -5,7 +5,7 @@ use Rattle.bx_connects.specs.Words.{watched, with_waker}
 use Rattle.bx_connects.specs.declared.{connects.ConnectState.ConnectState, watch.Watch.Watch}
 use Rattle.bx_connects.specs.declared.connects.ConnectState.TheVariants.{Held, Filed}
 use Rattle.bx_shard.specs.States.{State, Watched, connect_in}
-use Rattle.bx_hub.specs.Watches.{HoldsOf}
+use Rattle.bx_hub.specs.Watches.{HoldsOf, IsBack}
 use Rattle.futures.specs.declared.task.waker.Waker.{Waker}
 
 -- a ticket of its own
@@ -33,3 +33,15 @@ holds_after place waker old new said is w =
     let shut = subst (λ (b : Bool). HoldsOf b waker (connect_in new place)
     (watched old.shut waker (connect_in old place))) (sym w.shut) there in
     subst (λ (v : Watch). HoldsOf new.shut waker (connect_in new place) v) (sym is) shut
+
+back : (shut : Bool) (waker : Waker) (c : Option ConnectState) → IsBack waker (watched shut waker c)
+back true waker None = refl
+back false waker None = refl
+back true waker (Some (Held session deadline older)) = refl
+back false waker (Some (Held session deadline older)) = tt
+back true waker (Some (Filed session place answer)) = refl
+back false waker (Some (Filed session place answer)) = refl
+
+-- what is said of a waker that is not stored has that waker
+pub back_of : (shut : Bool) (waker : Waker) (c : Option ConnectState) (said : Watch) → said ≡ watched shut waker c → IsBack waker said
+back_of shut waker c said is = subst (λ (w : Watch). IsBack waker w) (sym is) (back shut waker c)

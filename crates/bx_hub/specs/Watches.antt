@@ -16,6 +16,13 @@ HoldsOf shut waker connect (Ready given) = (is_some (filed_answer connect) ≡ t
 HoldsOf shut waker connect (Unknown given) = (connect ≡ None) × (given ≡ waker)
 HoldsOf shut waker connect (Shut given) = (shut ≡ true) × (given ≡ waker)
 
+-- a waker that is not stored comes back itself
+abbrev pub IsBack : Waker → Watch → Type 0
+IsBack waker (Stored older) = Unit {0}
+IsBack waker (Ready given) = given ≡ waker
+IsBack waker (Unknown given) = given ≡ waker
+IsBack waker (Shut given) = given ≡ waker
+
 module _ {J : Type 0} where
   -- it is this that was said of this waker, under this ticket
   pub record IsSaid (ticket : Ticket) (waker : Waker) (said : Watch) (watching : Watching J) : Type 0 where

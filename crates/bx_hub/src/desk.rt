@@ -54,7 +54,7 @@ pub(crate) struct Desk<J: Naming, P: Placing> {
 impl<J: Naming, P: Placing> Desk<J, P> {
     ghost use Rattle.bx_hub.specs.Held.{IsLevelWithout, Stands, answer_over, held_of, taken_by};
     ghost use Rattle.bx_hub.specs.Changes.{MakesOf, activity_after};
-    ghost use Rattle.bx_hub.specs.Watches.{HoldsOf, IsSaid};
+    ghost use Rattle.bx_hub.specs.Watches.{IsBack, IsSaid};
     ghost use Rattle.bx_hub.specs.Lags.{IsLagging, IsOverrunIn};
     ghost use Rattle.bx_hub.specs.Posts.{IsWithoutRoom};
     ghost use Rattle.bx_hub.specs.Waking.{put_of};
@@ -385,7 +385,7 @@ impl<J: Naming, P: Placing> Desk<J, P> {
     }
 
     /// Leaves a waker beside a held connect of its own, as the shard does, and says what the shard said.
-    #[tactic(auto, using(crate::proofs::Watches::holds_after))]
+    #[tactic(auto, using(crate::proofs::Watches::holds_after, crate::proofs::Watches::back_of))]
     pub(crate) fn watch(&mut self, ticket: Ticket, waker: Waker) -> (Watch, Watching<J>)
         requires own { ticket.shard ≡ self.old.shard.index }
         ensures watch { result.0 ≡ watched self.old.shard.is_shut waker
@@ -393,6 +393,7 @@ impl<J: Naming, P: Placing> Desk<J, P> {
         ensures watched { Watched ticket.place waker (state P.place_of self.old.shard)
             (state P.place_of self.new.shard) }
         ensures said { IsSaid ticket waker result.0 result.1 }
+        ensures back { IsBack waker result.0 }
         ensures same { (self.new.note ≡ self.old.note) × (self.new.reader ≡ self.old.reader) × (self.new.taken ≡ self.old.taken) × (self.new.activity ≡ self.old.activity) }
     {
         let seen = Snapshot::of(&waker);

@@ -58,7 +58,8 @@ impl<J: Naming, P: Placing, G: Gate + Drop, R: Wait + Drop> Hub<J, P, G, R> {
     ghost use Rattle.bx_hub.specs.Surveys.{survey_of};
     ghost use Rattle.bx_hub.specs.Waking.{put_of};
     ghost use Rattle.bx_hub.specs.Changes.{AreAllChanged, IsChanged};
-    ghost use Rattle.bx_hub.specs.Watches.{IsToldOf};
+    ghost use Rattle.bx_connects.specs.declared.watch.Watch.TheVariants as watches;
+    ghost use Rattle.bx_hub.specs.Watches.{IsBack, IsToldOf};
     ghost use Rattle.bx_hub.specs.declared.desk.evidence.Change.TheVariants as changes;
 
     /// A hub over an empty list, for the configuration's number of shards. An error means that memory was refused.
@@ -414,7 +415,9 @@ impl<J: Naming, P: Placing, G: Gate + Drop, R: Wait + Drop> Hub<J, P, G, R> {
         ticket: Ticket,
         waker: Waker,
     ) -> (Watch, Option<Watching<J>>)
-        ensures { IsToldOf J.config.shards ticket waker result.0 result.1 }
+        ensures told { IsToldOf J.config.shards ticket waker result.0 result.1 }
+        ensures back { IsBack waker result.0 }
+        ensures unknown { J.config.shards ≤ ticket.shard → result.0 ≡ watches.Unknown waker }
     {
         if ticket.shard >= self.desks.len() {
             return (Watch::Unknown(waker), None);

@@ -23,7 +23,7 @@ returns-in-Stored-clause-left g c =
     let ticket = c.ask.new.self.ticket in
     let waker = c.in-Some-take.waker in
     let watching = c.watch-said.result.1 in
-    let told = subst (λ (said : Watch). IsToldOf shards ticket waker said watching) c.in-Stored.is c.watch-said.ensures in
+    let told = subst (λ (said : Watch). IsToldOf shards ticket waker said watching) c.in-Stored.is c.watch-said.ensures.told in
     on_pending c.register-pending.result (waited_for shards c.register-pending.new.slot waker c.in-Stored.older ticket
     watching c.args.cx.now c.register-pending.new.self (cc (c.in-Some-take.ensures.value))
     c.register-pending.ensures.left told)
