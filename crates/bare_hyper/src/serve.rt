@@ -1,9 +1,9 @@
 //! Serves connections, each as a task of a runtime.
 use crate::answer::Bare;
-use bx_serve::{Connections, Maker};
+use bx_serve::{Connections, Maker, most_of};
 use bytes::Bytes;
-use futures::Future;
 use futures::task::{Context, Poll};
+use futures::{Future, StreamExt};
 use http_body_util::Full;
 use hyper::server::conn::http1::{Builder, Connection};
 use std::alloc::AllocGlobal;
@@ -114,6 +114,6 @@ where
         http: Builder::new(rt.alloc(), keys),
         service: Bare(rt.alloc()),
     };
-    let connections = Connections::new(rt, listener.incoming(), server, count, pause);
-    runtime.run_all(&rt, connections)
+    let connections = Connections::new(rt, listener.incoming(), server, pause);
+    runtime.run_all(&rt, connections.take(most_of(count)))
 }

@@ -2,7 +2,8 @@
 use bx_service::{Clock, Nonces};
 use rand_chacha::ChaCha20Rng;
 use rand_core::Rng;
-use std::sync::{Mutex, Wait};
+use std::alloc::Global;
+use std::sync::{Arc, Mutex, Wait};
 use std::time;
 use std::time::Instant;
 
@@ -25,13 +26,13 @@ impl<R: time::Clock> Clock for SinceStart<R> {
     }
 }
 
-/// Two words each of a generator that all connections share, the upper one first.
+/// Two words each of a generator that all connections share, at whichever door, the upper one first.
 #[derive(Drop)]
 pub struct Drawn<R> {
     /// The leave to wait for the lock.
     pub rt: R,
     /// The generator, made of a seed of 32 bytes.
-    pub generator: Mutex<ChaCha20Rng>,
+    pub generator: Arc<Mutex<ChaCha20Rng>, Global>,
 }
 
 impl<R: Wait> Nonces for Drawn<R> {

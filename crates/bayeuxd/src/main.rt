@@ -9,6 +9,7 @@ mod refusals;
 mod serve;
 mod ticker;
 
+use bx_advice::STANDARD_BYTES;
 use bx_figures::Counts;
 use bx_service::BodyLimit;
 use bx_settings::{Seed, Settings, read_flags, read_seed, read_words};
@@ -16,9 +17,9 @@ use end::tell_at_end;
 use figures::show_figures;
 use futures::channel::oneshot;
 use futures::channel::oneshot::{Receiver, Sender};
-use log::{error, info};
+use log::{error, info, warn};
 use recorder::{RecordFile, make_record};
-use serve::{ServeEnd, Serving, serve};
+use serve::{Place, ServeFault, Serving, serve};
 use std::alloc::{AllocError, Global};
 use std::fs::File;
 use std::net::{SocketAddr, ToSocketAddrs};
@@ -46,6 +47,9 @@ const CANNOT_RECORD: &str = "bayeuxd: cannot record";
 /// What it says where the system refuses the thread that waits for the end of standard input.
 const NO_READER: &str = "bayeuxd: cannot read standard input";
 
+// In milliseconds. A shorter time may have been meant in seconds.
+const SECOND: u32 = 1000;
+
 /// What it says of memory that was refused.
 const OUT_OF_MEMORY: &str = "bayeuxd: out of memory";
 
@@ -64,7 +68,8 @@ fn main(rt: HostRuntime) -> ExitCode {
     };
     let Parts {
         arguments,
-        addresses,
+        listen,
+        readers,
         counts,
         told,
         end,
@@ -88,37 +93,40 @@ fn main(rt: HostRuntime) -> ExitCode {
     } else {
         Some(told)
     };
-    let (addresses, mut writer) = (addresses.as_slice(), io::writer(&rt));
+    let mut writer = io::writer(&rt);
     let ended = serve(
         rt,
-        addresses,
+        listen,
+        readers,
         arguments,
         record_file,
         &counts,
         end,
         &mut writer,
     );
-    status_of(&rt, settings.listen, ended)
+    status_of(&rt, ended)
 }
 
 // What the server is made of.
-struct Parts {
+struct Parts<'a> {
     arguments: Serving,
-    addresses: Vec<SocketAddr>,
+    listen: Place<'a>,
+    readers: Option<Place<'a>>,
     counts: Arc<Counts, Global>,
     told: Sender<()>,
     end: Receiver<()>,
 }
 
 // What the server is made of, by its settings; or the status, once it was said what is wrong.
-fn parts_of(rt: &HostRuntime, settings: &Settings<'_>) -> Result<Parts, ExitCode> {
+fn parts_of<'a>(rt: &HostRuntime, settings: &Settings<'a>) -> Result<Parts<'a>, ExitCode> {
     let alloc = rt.alloc();
     let Ok(seed) = seed_of(rt, settings.seed) else {
         return Err(failed(rt, "bayeuxd: cannot read the seed"));
     };
-    let addresses = match addresses_of(rt, settings.listen) {
-        Ok(addresses) => addresses,
-        Err(error) => return Err(cannot_listen(rt, settings.listen, &error)),
+    let listen = place_of(rt, settings.listen)?;
+    let readers = match settings.readers {
+        Some(name) => Some(place_of(rt, name)?),
+        None => None,
     };
     let (Ok(counts), Ok((told, end))) = (
         counts_of(rt, settings.config.shards),
@@ -134,7 +142,8 @@ fn parts_of(rt: &HostRuntime, settings: &Settings<'_>) -> Result<Parts, ExitCode
             connections: settings.connections,
             until_eof: settings.until_eof,
         },
-        addresses,
+        listen,
+        readers,
         counts,
         told,
         end,
@@ -164,14 +173,20 @@ fn body_of(settings: &Settings<'_>) -> BodyLimit {
 }
 
 // The status of a server that ended so.
-fn status_of(rt: &HostRuntime, listen: &str, ended: ServeEnd) -> ExitCode {
+fn status_of(rt: &HostRuntime, ended: Result<(), ServeFault<'_>>) -> ExitCode {
     match ended {
-        ServeEnd::Done => {
+        Ok(()) => {
             info!(rt; target: "bayeuxd", "ended");
             ExitCode::SUCCESS
         }
-        ServeEnd::CannotListen(error) => cannot_listen(rt, listen, &error),
-        ServeEnd::Memory => failed(rt, OUT_OF_MEMORY),
+        Err(ServeFault::CannotListen(name, error)) => cannot_listen(rt, name, &error),
+        Err(ServeFault::CannotServe(error)) if error.kind() == io::ErrorKind::OutOfMemory => {
+            failed(rt, OUT_OF_MEMORY)
+        }
+        Err(ServeFault::CannotServe(error)) => {
+            error!(rt; target: "bayeuxd", "cannot serve: {error}");
+            failed(rt, CANNOT_LISTEN)
+        }
     }
 }
 
@@ -186,25 +201,41 @@ fn tell_settings(rt: &HostRuntime, settings: &Settings<'_>) {
     if let Ok(text) = settings_text(rt.alloc(), settings) {
         info!(rt; target: "bayeuxd", "starting {text}");
     }
+    let times = [
+        ("timeout", settings.config.timeout),
+        ("max_interval", settings.config.max_interval),
+    ];
+    for (name, time) in times {
+        if time > 0 && time < SECOND {
+            warn!(rt; target: "bayeuxd", "{name}={time} is {time} milliseconds: for seconds write {time}s");
+        }
+    }
 }
 
 // All settings but the seed.
 fn settings_text(alloc: Global, settings: &Settings<'_>) -> Result<String, AllocError> {
-    let (config, listen) = (settings.config, settings.listen);
-    let mut text = format!(in alloc; "listen={listen} shards={}", config.shards)?;
+    let config = settings.config;
+    let mut text = format!(in alloc;
+        "listen={} readers={} shards={}",
+        settings.listen,
+        settings.readers.unwrap_or("-"),
+        config.shards
+    )?;
     write!(
         text,
         " timeout={} interval={} max_interval={}",
         config.timeout, config.interval, config.max_interval
     )?;
+    write!(text, " limit={} bytes=", config.limits.events)?;
+    if config.limits.bytes == STANDARD_BYTES {
+        write!(text, "no-limit")?;
+    } else {
+        write!(text, "{}", config.limits.bytes)?;
+    }
     write!(
         text,
-        " limit={} bytes={} patterns={} sessions={} body={}",
-        config.limits.events,
-        config.limits.bytes,
-        config.limits.patterns,
-        config.limits.sessions,
-        settings.body
+        " patterns={} sessions={} body={}",
+        config.limits.patterns, config.limits.sessions, settings.body
     )?;
     write!(text, " ride={} anonymous={}", config.ride, config.anonymous)?;
     write!(
@@ -273,10 +304,18 @@ fn seed_of(rt: &HostRuntime, seed: Seed<'_>) -> io::Result<[u8; 32]> {
     }
 }
 
+// Where the server listens by this name; or the status, once it was said what is wrong.
+fn place_of<'a>(rt: &HostRuntime, name: &'a str) -> Result<Place<'a>, ExitCode> {
+    match addresses_of(rt, name) {
+        Ok(addresses) => Ok(Place { name, addresses }),
+        Err(error) => Err(cannot_listen(rt, name, &error)),
+    }
+}
+
 // The addresses that a name or an address with a port stands for.
-fn addresses_of(rt: &HostRuntime, listen: &str) -> io::Result<Vec<SocketAddr>> {
+fn addresses_of(rt: &HostRuntime, name: &str) -> io::Result<Vec<SocketAddr>> {
     let mut addresses = Vec::new(rt.alloc());
-    for address in listen.to_socket_addrs(rt)? {
+    for address in name.to_socket_addrs(rt)? {
         addresses.push(address)?;
     }
     Ok(addresses)

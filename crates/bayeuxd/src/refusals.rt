@@ -1,9 +1,23 @@
 //! The lines that say why requests are refused.
 use bx_figures::{Counts, Figure, Reason};
+use bx_message::Status;
 use log::{Log, warn};
 
-// Why requests are refused with 503, or have no answer, and what a line says of it.
-const CAUSES: [(Figure, &str); 7] = [
+// Why requests are refused or have no answer, and what a line says of it: how one with 400, 403 or 413 is wrong, and why others
+// get 503 or nothing.
+const CAUSES: [(Figure, &str); 10] = [
+    (
+        Figure::Responses(Status::BadRequest),
+        "400, a body or a query is wrong, or did not come whole",
+    ),
+    (
+        Figure::Responses(Status::Forbidden),
+        "403, a publish came by the readers' door",
+    ),
+    (
+        Figure::Responses(Status::TooLarge),
+        "413, a body or a query is too large",
+    ),
     (
         Figure::Refused(Reason::Behind),
         "a shard lags behind and the window is full",
@@ -25,13 +39,13 @@ const CAUSES: [(Figure, &str); 7] = [
 /// How many of each cause a line has told.
 #[derive(Clone, Copy)]
 pub struct Refusals {
-    told: [u64; 7],
+    told: [u64; 10],
 }
 
 impl Refusals {
     /// None was told.
     pub fn new() -> Refusals {
-        Refusals { told: [0; 7] }
+        Refusals { told: [0; 10] }
     }
 
     /// A line for each cause of which more came since the last call, with how many those are.

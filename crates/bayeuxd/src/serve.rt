@@ -7,12 +7,12 @@ use crate::end::Closing;
 use crate::recorder::{RecordFile, Recorder};
 use crate::ticker::tick;
 use bx_advice::Config;
-use bx_answers::NotedAnswers;
-use bx_entry::ByRemainder;
+use bx_answers::{AnswerLog, NotedAnswers};
+use bx_entry::{ByRemainder, Door};
 use bx_figures::Counts;
 use bx_hub::{Hub, OpenGate};
 use bx_message::Item;
-use bx_serve::serve_until;
+use bx_serve::{Entrance, serve_until};
 use bx_service::{Backend, BayeuxService, BodyLimit, HubBackend, Observer, Unanswered};
 use bx_window::{Naming, Opened};
 use futures::Future;
@@ -51,28 +51,42 @@ pub struct Serving {
 // How long connections are served from the end of standard input on, in milliseconds. (This server's choice.)
 const LEAVE: u64 = 1000;
 
-/// How a server ended.
+/// Why nothing is served, or no longer.
 #[derive(Debug, Drop)]
-pub enum ServeEnd {
-    /// As many connections as were asked for have come and have ended, or standard input has.
-    Done,
-    /// The system refused each address, the runtime, a thread or the print, for this reason.
-    CannotListen(io::Error),
-    /// Memory was refused.
-    Memory,
+pub enum ServeFault<'a> {
+    /// At this place the system refuses each address, for this reason.
+    CannotListen(&'a str, io::Error),
+    /// It refuses the runtime, a thread or the print, for this reason, or memory.
+    CannotServe(io::Error),
 }
 
-/// Serves on the first of the addresses that the system grants, and prints it once it listens. Once the end is told it takes no more
-/// connections, answers held connects, and cuts what is still open where it was to end so. Where there is a file for a record, what is listed is written there.
-pub fn serve<R, F, W>(
+impl From<io::Error> for ServeFault<'_> {
+    fn from(error: io::Error) -> Self {
+        ServeFault::CannotServe(error)
+    }
+}
+
+/// Where the server listens, as it was said, and the addresses that this stands for.
+#[derive(Drop)]
+pub struct Place<'a> {
+    pub name: &'a str,
+    pub addresses: Vec<SocketAddr>,
+}
+
+/// Serves at these places, at the second one for readers, at each on the first of its addresses that the system grants, and prints
+/// these once it listens at all. Once the end is told it takes no more connections, answers held connects, and cuts what is still open
+/// where it was to end so. Where there is a file for a record, what is listed is written there. It ends once as many connections as
+/// were asked for have come and have ended, or standard input has.
+pub fn serve<'a, R, F, W>(
     rt: R,
-    addresses: &[SocketAddr],
+    listen: Place<'a>,
+    readers: Option<Place<'a>>,
     arguments: Serving,
     record_file: Option<RecordFile<F>>,
     counts: &Arc<Counts, Global>,
     told: Receiver<()>,
     writer: &mut W,
-) -> ServeEnd
+) -> Result<(), ServeFault<'a>>
 where
     R: Wait
         + Threads
@@ -89,17 +103,33 @@ where
     F: Write + Send + Drop + 'static,
     W: Write,
 {
-    match begin(rt, addresses, arguments, record_file, counts, told, writer) {
-        Ok(()) => ServeEnd::Done,
-        Err(error) if error.kind() == io::ErrorKind::OutOfMemory => ServeEnd::Memory,
-        Err(error) => ServeEnd::CannotListen(error),
-    }
+    let runtime = Runtime::new(&rt)?;
+    let listener = bind(&rt, &runtime, listen)?;
+    let readers = match readers {
+        Some(place) => Some(bind(&rt, &runtime, place)?),
+        None => None,
+    };
+    begin(
+        rt,
+        runtime,
+        (listener, readers),
+        arguments,
+        record_file,
+        counts,
+        told,
+        writer,
+    )?;
+    Ok(())
 }
+
+// Where the connections of publishers and those of readers come.
+type Listeners = (TcpListener, Option<TcpListener>);
 
 // Serves from now on.
 fn begin<R, F, W>(
     rt: R,
-    addresses: &[SocketAddr],
+    runtime: Runtime,
+    listeners: Listeners,
     arguments: Serving,
     record_file: Option<RecordFile<F>>,
     counts: &Arc<Counts, Global>,
@@ -127,7 +157,8 @@ where
     run::<Brand, R, F, W>(
         rt,
         Opened::new(),
-        addresses,
+        runtime,
+        listeners,
         arguments,
         record_file,
         start,
@@ -142,7 +173,8 @@ where
 fn run<J, R, F, W>(
     rt: R,
     opened: Opened,
-    addresses: &[SocketAddr],
+    runtime: Runtime,
+    listeners: Listeners,
     arguments: Serving,
     record_file: Option<RecordFile<F>>,
     start: Instant,
@@ -182,8 +214,13 @@ where
         OpenGate,
     )?;
     let hub = Arc::new(alloc, hub)?;
-    let mut runtime = Runtime::new(&rt)?;
-    let listener = listen(&rt, &runtime, addresses, counts, writer)?;
+    let mut runtime = runtime;
+    let (listener, readers) = listeners;
+    counts.set_listens(true);
+    tell(&rt, "listening", &listener, writer)?;
+    if let Some(readers) = &readers {
+        tell(&rt, "readers at", readers, writer)?;
+    }
     let is_over = Arc::new(alloc, AtomicBool::new(false))?;
     let (ticked, over) = (Arc::try_clone(&hub)?, Arc::try_clone(&is_over)?);
     let counted = Arc::try_clone(counts)?;
@@ -199,22 +236,24 @@ where
     };
     // Before anything is listed, as by the first tick.
     let recorder = Recorder::start(rt, &hub, record_file)?;
-    let backend = backend_of(rt, alloc, Arc::try_clone(&hub)?, clock, arguments.seed);
-    let answers = NotedAnswers::new(rt, alloc, recorder.answers()?);
-    let observer = (Arc::try_clone(counts)?, answers);
+    let doors = Doors {
+        rt,
+        hub: Arc::try_clone(&hub)?,
+        clock,
+        generator: Arc::new(alloc, Mutex::new(ChaCha20Rng::from_seed(arguments.seed)))?,
+        counts: Arc::try_clone(counts)?,
+        answers: recorder.answers()?,
+    };
+    let first = doors.at(listener, Door::Publishers)?;
+    let other = match readers {
+        Some(listener) => Some(doors.at(listener, Door::Readers)?),
+        None => None,
+    };
     let ticker = thread::spawn(
         &rt,
         move || tick(&rt, alloc, &*ticked, &clock, &*counted, crowd, &*over),
     )?;
-    let served = serve_backend(
-        rt,
-        &mut runtime,
-        listener,
-        backend,
-        observer,
-        arguments,
-        end,
-    );
+    let served = serve_doors(rt, &mut runtime, first, other, arguments, end);
     counts.set_listens(false);
     is_over.store(true, Ordering::SeqCst);
     ticker.join(&rt);
@@ -223,62 +262,94 @@ where
     served
 }
 
-// Listens, and says where.
-fn listen<R: Net + Log, W: Write>(
+// Says where it listens.
+fn tell<R: Log, W: Write>(
     rt: &R,
-    runtime: &Runtime,
-    addresses: &[SocketAddr],
-    counts: &Counts,
+    what: &str,
+    listener: &TcpListener,
     writer: &mut W,
-) -> io::Result<TcpListener> {
-    let listener = bind(rt, runtime, addresses)?;
+) -> io::Result<()> {
     let address = listener.local_addr()?;
-    counts.set_listens(true);
-    info!(rt; target: "bayeuxd", "listening {address}");
-    writeln!(writer, "listening {address}")?;
-    writer.flush()?;
-    Ok(listener)
+    info!(rt; target: "bayeuxd", "{what} {address}");
+    writeln!(writer, "{what} {address}")?;
+    writer.flush()
 }
 
-// Listens on the first of the addresses that the system grants; where it grants none, the error of the last.
-fn bind<R: Net>(rt: &R, runtime: &Runtime, addresses: &[SocketAddr]) -> io::Result<TcpListener> {
+// Listens on the first address of a place that the system grants; where it grants none, the error is that of the last.
+fn bind<'a, R: Net>(
+    rt: &R,
+    runtime: &Runtime,
+    place: Place<'a>,
+) -> Result<TcpListener, ServeFault<'a>> {
     let mut refused = io::ErrorKind::AddrNotAvailable.into();
-    for address in addresses {
-        match TcpListener::bind(rt, *address, runtime.handle().reactor()) {
+    for address in place.addresses {
+        match TcpListener::bind(rt, address, runtime.handle().reactor()) {
             Ok(listener) => return Ok(listener),
             Err(error) => refused = error,
         }
     }
-    Err(refused)
+    Err(ServeFault::CannotListen(place.name, refused))
 }
 
-// A backend over the hub.
-fn backend_of<J, R>(
+// What all doors share: the hub, its clock, the generator of nonces, and what looks on.
+#[derive(Drop)]
+struct Doors<J: Naming, R: Wait + Drop> {
     rt: R,
-    alloc: Global,
     hub: Arc<Hub<J, ByRemainder, OpenGate, R>, Global>,
     clock: SinceStart<R>,
-    seed: [u8; 32],
-) -> HubBackend<J, ByRemainder, OpenGate, R, SinceStart<R>, Drawn<R>>
-where
-    J: Naming,
-    R: Wait + Clock + Copy + Drop,
-{
-    let nonces = Drawn {
-        rt,
-        generator: Mutex::new(ChaCha20Rng::from_seed(seed)),
-    };
-    HubBackend::new(rt, alloc, hub, clock, nonces)
+    generator: Arc<Mutex<ChaCha20Rng>, Global>,
+    counts: Arc<Counts, Global>,
+    answers: Option<Arc<AnswerLog, Global>>,
 }
 
-// Serves the connections of the listener over a backend, while this one looks on. What these are made of is not named where the tasks of connections are, which the
-// prover could not compare in reasonable time.
-fn serve_backend<S, I, O, R, A>(
-    rt: R,
-    runtime: &mut Runtime,
+// A door: where connections come, what answers their requests, and what looks on.
+#[derive(Drop)]
+struct Doorway<S, O> {
     listener: TcpListener,
     backend: S,
     observer: O,
+}
+
+impl<J: Naming, R: Wait + Clock + AllocGlobal + Copy + Drop> Doors<J, R> {
+    // The door of this listener.
+    fn at(
+        &self,
+        listener: TcpListener,
+        door: Door,
+    ) -> io::Result<
+        Doorway<
+            HubBackend<J, ByRemainder, OpenGate, R, SinceStart<R>, Drawn<R>>,
+            (Arc<Counts, Global>, NotedAnswers<R>),
+        >,
+    > {
+        let (rt, alloc) = (self.rt, self.rt.alloc());
+        let nonces = Drawn {
+            rt,
+            generator: Arc::try_clone(&self.generator)?,
+        };
+        let hub = Arc::try_clone(&self.hub)?;
+        let answers = match &self.answers {
+            Some(log) => Some(Arc::try_clone(log)?),
+            None => None,
+        };
+        Ok(Doorway {
+            listener,
+            backend: HubBackend::new(rt, alloc, hub, door, self.clock, nonces),
+            observer: (
+                Arc::try_clone(&self.counts)?,
+                NotedAnswers::new(rt, alloc, answers),
+            ),
+        })
+    }
+}
+
+// Serves the connections that come by these doors. What these are made of is not named where the tasks of connections are, which the
+// prover could not compare in reasonable time.
+fn serve_doors<S, I, O, R, A>(
+    rt: R,
+    runtime: &mut Runtime,
+    first: Doorway<S, O>,
+    other: Option<Doorway<S, O>>,
     arguments: Serving,
     end: A,
 ) -> io::Result<()>
@@ -290,8 +361,21 @@ where
     A: Future<Output = ()>,
     requires { A.can_poll end }
 {
-    let service = BayeuxService::observed(rt.alloc(), backend, observer)?.with_limit(
-        arguments.body,
-    );
-    serve_until(rt, runtime, listener, service, arguments.connections, end)
+    let (alloc, body) = (rt.alloc(), arguments.body);
+    let first = entrance_of(alloc, body, first)?;
+    let other = match other {
+        Some(door) => Some(entrance_of(alloc, body, door)?),
+        None => None,
+    };
+    serve_until(rt, runtime, first, other, arguments.connections, end)
+}
+
+// A door as it is served.
+fn entrance_of<S: Backend, O: Observer>(
+    alloc: Global,
+    body: BodyLimit,
+    door: Doorway<S, O>,
+) -> io::Result<Entrance<BayeuxService<S, O>>> {
+    let service = BayeuxService::observed(alloc, door.backend, door.observer)?;
+    Ok((door.listener, service.with_limit(body)))
 }

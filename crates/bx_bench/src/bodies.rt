@@ -1,7 +1,7 @@
 //! Requests as JSON.
 use anyhow::Result;
 use bx_cut::Bodies;
-use bx_entry::Arrival;
+use bx_entry::{Arrival, Door};
 use std::alloc::Global;
 
 /// A handshake.
@@ -13,6 +13,7 @@ pub fn arrival(body: String) -> Arrival {
     Arrival {
         moment: 0,
         nonce: 0,
+        door: Door::Publishers,
         bodies: Bodies::Whole(body.into_bytes()),
     }
 }

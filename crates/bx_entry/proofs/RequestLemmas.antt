@@ -1,11 +1,14 @@
--- Reading on, a message or a document at a time, and what a request adds to the list.
-use Rattle.std.proofs.Common.{◌≡◌, ℕ, ◌+◌, ◌||◌, Bool, List, [], ◌∷◌, ◌++◌, length, Option, Some, None, option_map, option_and_then, drop, refl, sym, ap, arith, ◌∙◌}
+-- Reading on, a message or a document at a time, what a door lets in, and what a request adds to the list.
+use Rattle.std.proofs.Common.{◌≡◌, ℕ, ◌+◌, ◌||◌, Bool, true, false, cond, Result, Ok, Err, is_ok, List, [], ◌∷◌, ◌++◌, length, Option, Some, None, option_map, option_and_then, drop, refl, sym, ap, arith, ◌∙◌}
 use Rattle.std.proofs.lemmas.List.{append_assoc}
 use Rattle.bx_cut.specs.Pieces.{Object}
 use Rattle.bx_message.specs.declared.message.Message.{Message}
 use Rattle.bx_message.specs.Fields.{message_in}
 use Rattle.bx_message.specs.MessageKinds.{is_handshake}
-use Rattle.bx_entry.specs.Words.{listed_from, Cut, objects_in, objects_of, all_messages}
+use Rattle.bx_entry.specs.Words.{listed_from, Cut, objects_in, objects_of, all_messages, has_broadcast, let_in}
+use Rattle.bx_entry.specs.declared.input.{BodyError.BodyError, Door.Door}
+use Rattle.bx_entry.specs.declared.input.BodyError.TheVariants.{Forbidden}
+use Rattle.bx_entry.specs.declared.input.Door.TheVariants.{Publishers, Readers}
 
 -- these messages, and those that are still to be read
 abbrev pub joined : List Message → Option (List Message) → Option (List Message)
@@ -81,6 +84,23 @@ pub cut_none : (cs : List Cut) (i : ℕ) (x : Cut) (old : List Message) → drop
     → joined old (all_messages (objects_of (drop i cs))) ≡ None
 cut_none cs i x old e none =
     ap (λ (l : List Cut). joined old (all_messages (objects_of l))) e ∙ ap (joined old) (no_document (objects_in x) (objects_of (drop (i + 1) cs)) none)
+
+-- ---- a door
+
+ok_by : (ns ms : List Message) (b : Bool) → cond b (Err Forbidden) (Ok ns) ≡ Ok ms → ns ≡ ms
+ok_by ns ms true e = cc
+ok_by ns ms false e = cc
+
+-- what a door lets in is what was read
+pub let_in-ok : (door : Door) (read : Result (List Message) BodyError) (ms : List Message) → let_in door read ≡ Ok ms → read ≡ Ok ms
+let_in-ok Publishers read ms e = e
+let_in-ok Readers (Ok ns) ms e = ap (λ xs. Ok xs) (ok_by ns ms (has_broadcast ns) e)
+let_in-ok Readers (Err f) ms e = e
+
+pub let_in-is_ok : (door : Door) (read : Result (List Message) BodyError) → is_ok (let_in door read) ≡ true → is_ok read ≡ true
+let_in-is_ok Publishers read e = e
+let_in-is_ok Readers (Ok ns) e = refl
+let_in-is_ok Readers (Err f) e = e
 
 -- ---- what a request adds to the list
 

@@ -1,7 +1,8 @@
 -- The messages of a request's documents, or why they can't be read.
-use Rattle.std.specs.Prelude.{ℕ, ◌||◌, Bool, true, false, List, [], ◌∷◌, length, map, flat_map, nat_lt, Option, Some, None, option_map, option_and_then, Result, Ok, Err}
+use Rattle.std.specs.Prelude.{ℕ, ◌||◌, if◌then◌else◌, Bool, true, false, List, [], ◌∷◌, length, map, flat_map, nat_lt, Option, Some, None, option_map, option_and_then, Result, Ok, Err}
 use Rattle.std.specs.List.{list_any}
 use Rattle.bx_names.specs.Faults.{first_case}
+use Rattle.bx_names.specs.Kinds.{is_broadcast}
 use Rattle.bx_cut.specs.declared.error.CutError.{CutError}
 use Rattle.bx_cut.specs.declared.error.CutError.TheVariants as cuts
 use Rattle.bx_cut.specs.declared.document.TheConstants.{MAX_MESSAGES}
@@ -9,9 +10,10 @@ use Rattle.bx_cut.specs.Words.{fault, Object, pieces, texts_of}
 use Rattle.bx_message.specs.declared.message.Message.{Message}
 use Rattle.bx_message.specs.Fields.{message_in}
 use Rattle.bx_entry.specs.Inputs.{ReadInput, Request, Unread}
-use Rattle.bx_entry.specs.declared.input.{Input.Input, BodyError.BodyError}
+use Rattle.bx_entry.specs.declared.input.{Arrival.Arrival, Door.Door, Input.Input, BodyError.BodyError}
+use Rattle.bx_entry.specs.declared.input.Door.TheVariants.{Publishers, Readers}
 use Rattle.bx_entry.specs.declared.input.Input.TheVariants.{Post}
-use Rattle.bx_entry.specs.declared.input.BodyError.TheVariants.{NotJson, NotObject, TooMany, NoChannel}
+use Rattle.bx_entry.specs.declared.input.BodyError.TheVariants.{NotJson, NotObject, TooMany, NoChannel, Forbidden}
 
 -- ---- documents
 
@@ -91,6 +93,22 @@ messages_of cs = messages_by cs (cut_fault cs)
 abbrev pub request_messages : List (List ℕ) → Result (List Message) BodyError
 request_messages documents = messages_of (map cut_of documents)
 
+-- ---- a door
+
+-- whether some message is to a broadcast channel
+abbrev pub has_broadcast : List Message → Bool
+has_broadcast ms = list_any (λ m. is_broadcast m.channel) ms
+
+-- the messages that came by a door, where it lets them in: that of readers lets in none to a broadcast channel, nor any beside one
+abbrev pub let_in : Door → Result (List Message) BodyError → Result (List Message) BodyError
+let_in Publishers messages = messages
+let_in Readers (Ok ms) = if has_broadcast ms then Err Forbidden else Ok ms
+let_in Readers (Err f) = Err f
+
+-- the messages of a request as it came in, or the first fault
+abbrev pub arrival_messages : Arrival → Result (List Message) BodyError
+arrival_messages a = let_in a.door (request_messages (texts_of a.bodies))
+
 -- ---- an input
 
 -- a request as it is read
@@ -100,5 +118,5 @@ read_by moment nonce (Err f) = Unread f
 
 -- what is handed in, once its documents are read
 abbrev pub read_input : Input → ReadInput
-read_input (Post a) = read_by a.moment a.nonce (request_messages (texts_of a.bodies))
+read_input (Post a) = read_by a.moment a.nonce (arrival_messages a)
 read_input (Input.Tick moment) = ReadInput.Tick moment

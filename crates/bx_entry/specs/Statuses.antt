@@ -1,11 +1,13 @@
 -- The statuses of what is not admitted.
 use Rattle.bx_message.specs.declared.status.Status.{Status}
-use Rattle.bx_message.specs.declared.status.Status.TheVariants.{BadRequest, Unavailable}
+use Rattle.bx_message.specs.declared.status.Status.TheVariants.{BadRequest, Forbidden, Unavailable}
+use Rattle.bx_entry.specs.declared.input.BodyError.TheVariants as bodies
 use Rattle.bx_entry.specs.declared.input.Refusal.{Refusal}
 use Rattle.bx_entry.specs.declared.input.Refusal.TheVariants.{Body, BadMoment, Ended}
 
 -- of a request or a tick
 abbrev pub refusal_status : Refusal → Status
+refusal_status (Body bodies.Forbidden) = Forbidden
 refusal_status (Body fault) = BadRequest
 refusal_status BadMoment = BadRequest
 refusal_status Ended = Unavailable

@@ -4,6 +4,15 @@ ghost use Rattle.bx_entry.specs.Statuses.{refusal_status};
 use bx_cut::Bodies;
 use bx_message::Status;
 
+/// The door by which a request came. (This server's choice.)
+#[derive(Clone, Copy, Debug, PartialEq, Eq)]
+pub enum Door {
+    /// Every request is let in.
+    Publishers,
+    /// A request with a message to a broadcast channel is not let in: who comes by it reads alone.
+    Readers,
+}
+
 /// A request as it came in.
 #[derive(Drop)]
 pub struct Arrival {
@@ -11,6 +20,8 @@ pub struct Arrival {
     pub moment: u64,
     /// 128 bits for the client id of a session that it opens.
     pub nonce: u128,
+    /// By which it came.
+    pub door: Door,
     /// Its documents.
     pub bodies: Bodies,
 }
@@ -23,7 +34,7 @@ pub enum Input {
     Tick(u64),
 }
 
-/// Why the documents of a request are not read as messages. The variants stand in the order in which
+/// Why the documents of a request are not taken as messages. The variants stand in the order in which
 /// they are looked for, each over all documents of the request.
 #[derive(Clone, Copy, Debug, PartialEq, Eq, PartialOrd, Ord)]
 pub enum BodyError {
@@ -36,12 +47,14 @@ pub enum BodyError {
     TooMany,
     /// Some message has no `channel` that is a text.
     NoChannel,
+    /// The door by which the request came does not let in its messages.
+    Forbidden,
 }
 
 /// Why a request or a tick is not admitted. Nothing is changed then.
 #[derive(Clone, Copy, Debug, PartialEq, Eq)]
 pub enum Refusal {
-    /// The request's documents are not read as messages.
+    /// The request's documents are not taken as messages.
     Body(BodyError),
     /// The moment is above the greatest that is taken.
     BadMoment,
@@ -55,6 +68,7 @@ impl Refusal {
         ensures { result ≡ refusal_status self }
     {
         match self {
+            Refusal::Body(BodyError::Forbidden) => Status::Forbidden,
             Refusal::Body(_) | Refusal::BadMoment => Status::BadRequest,
             Refusal::Ended => Status::Unavailable,
         }

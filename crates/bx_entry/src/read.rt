@@ -5,20 +5,48 @@ ghost use Rattle.bx_cut.specs.Bodies.{texts_of};
 ghost use Rattle.bx_cut.specs.declared.document.TheConstants.{MAX_MESSAGES};
 ghost use Rattle.bx_entry.specs.declared.input.BodyError.{BodyError};
 ghost use Rattle.bx_entry.specs.declared.read.ReadError.TheVariants.{Memory};
-ghost use Rattle.bx_entry.specs.Requests.{all_messages, cut_fault, cut_of, is_not_json, is_not_object, is_too_many, messages_of, objects_in, objects_of, request_messages};
+ghost use Rattle.bx_entry.specs.Requests.{all_messages, arrival_messages, cut_fault, cut_of, has_broadcast, is_not_json, is_not_object, is_too_many, messages_of, objects_in, objects_of, request_messages};
 
-use crate::input::BodyError;
+use crate::input::{Arrival, BodyError, Door};
 use bx_cut::{Bodies, CutError, Document, MAX_MESSAGES};
 use bx_message::{Message, MessageError};
+use bx_names::is_broadcast;
 use std::alloc::{AllocError, AllocFailed, Global};
 
-/// Why a request's messages were not read.
+/// Why a request's messages are not given.
 #[derive(Clone, Copy, Debug, PartialEq, Eq)]
 pub enum ReadError {
-    /// They cannot be read.
+    /// They cannot be read, or are not let in.
     Body(BodyError),
     /// Memory was refused.
     Memory,
+}
+
+impl Arrival {
+    /// The messages of all its documents in order, where its door lets them in; or the first of the faults.
+    pub fn read(&self, alloc: Global) -> Result<Vec<Message>, ReadError>
+        ensures messages { IfOk result (λ ms. arrival_messages self.now ≡ Ok ms.items) }
+        ensures fault { (fault : BodyError) → IsErrOf result (ReadError.Body fault)
+            → arrival_messages self.now ≡ Err fault }
+    {
+        let messages = read_messages(alloc, &self.bodies)?;
+        match self.door {
+            Door::Publishers => Ok(messages),
+            Door::Readers if has_broadcast(messages.as_slice()) => {
+                Err(ReadError::Body(BodyError::Forbidden))
+            }
+            Door::Readers => Ok(messages),
+        }
+    }
+}
+
+// Whether some message is to a broadcast channel.
+fn has_broadcast(messages: &[Message]) -> bool
+    ensures { result ≡ has_broadcast messages.now }
+{
+    messages
+        .iter()
+        .any(|message| is_broadcast(message.channel.as_str()))
 }
 
 // A document, or what is wrong with it.

@@ -11,6 +11,8 @@ use bx_message::{MessageKind, Status};
 pub enum Reason {
     /// Its documents cannot be read as messages.
     Body,
+    /// Its door does not let its messages in.
+    Forbidden,
     /// The clock tells no moment that is taken.
     BadMoment,
     /// The list is as long as it may be.
@@ -32,6 +34,7 @@ impl Reason {
     pub fn name(self) -> &'static str {
         match self {
             Reason::Body => "body",
+            Reason::Forbidden => "forbidden",
             Reason::BadMoment => "bad_moment",
             Reason::Ended => "ended",
             Reason::Closed => "closed",
@@ -95,7 +98,7 @@ pub enum Figure {
 }
 
 /// All figures, as the page has them: those that differ in a label alone stand side by side.
-pub(crate) const FIGURES: [Figure; 57] = [
+pub(crate) const FIGURES: [Figure; 59] = [
     Figure::Uptime,
     Figure::Connections,
     Figure::Accepted,
@@ -117,12 +120,14 @@ pub(crate) const FIGURES: [Figure; 57] = [
     Figure::Filed,
     Figure::Responses(Status::Ok),
     Figure::Responses(Status::BadRequest),
+    Figure::Responses(Status::Forbidden),
     Figure::Responses(Status::NotFound),
     Figure::Responses(Status::MethodNotAllowed),
     Figure::Responses(Status::TooLarge),
     Figure::Responses(Status::NotImplemented),
     Figure::Responses(Status::Unavailable),
     Figure::Refused(Reason::Body),
+    Figure::Refused(Reason::Forbidden),
     Figure::Refused(Reason::BadMoment),
     Figure::Refused(Reason::Ended),
     Figure::Refused(Reason::Closed),
@@ -283,11 +288,12 @@ fn response_place(status: Status) -> usize
     match status {
         Status::Ok => 19,
         Status::BadRequest => 20,
-        Status::NotFound => 21,
-        Status::MethodNotAllowed => 22,
-        Status::TooLarge => 23,
-        Status::NotImplemented => 24,
-        Status::Unavailable => 25,
+        Status::Forbidden => 21,
+        Status::NotFound => 22,
+        Status::MethodNotAllowed => 23,
+        Status::TooLarge => 24,
+        Status::NotImplemented => 25,
+        Status::Unavailable => 26,
     }
 }
 
@@ -296,14 +302,15 @@ fn refused_place(reason: Reason) -> usize
     ensures { slice_get FIGURES result ≡ Some (Refused reason) }
 {
     match reason {
-        Reason::Body => 26,
-        Reason::BadMoment => 27,
-        Reason::Ended => 28,
-        Reason::Closed => 29,
-        Reason::Behind => 30,
-        Reason::Overrun => 31,
-        Reason::Misplaced => 32,
-        Reason::Memory => 33,
+        Reason::Body => 27,
+        Reason::Forbidden => 28,
+        Reason::BadMoment => 29,
+        Reason::Ended => 30,
+        Reason::Closed => 31,
+        Reason::Behind => 32,
+        Reason::Overrun => 33,
+        Reason::Misplaced => 34,
+        Reason::Memory => 35,
     }
 }
 
@@ -312,13 +319,13 @@ fn reply_place(kind: MessageKind) -> usize
     ensures { slice_get FIGURES result ≡ Some (Replies kind) }
 {
     match kind {
-        MessageKind::Handshake => 34,
-        MessageKind::Connect => 35,
-        MessageKind::Subscribe => 36,
-        MessageKind::Unsubscribe => 37,
-        MessageKind::Disconnect => 38,
-        MessageKind::Publish => 39,
-        MessageKind::UnknownMeta => 40,
+        MessageKind::Handshake => 36,
+        MessageKind::Connect => 37,
+        MessageKind::Subscribe => 38,
+        MessageKind::Unsubscribe => 39,
+        MessageKind::Disconnect => 40,
+        MessageKind::Publish => 41,
+        MessageKind::UnknownMeta => 42,
     }
 }
 
@@ -327,21 +334,21 @@ fn error_place(error: Error) -> usize
     ensures { slice_get FIGURES result ≡ Some (Errors error) }
 {
     match error {
-        Error::UnknownMetaChannel => 41,
-        Error::SecondHandshake => 42,
-        Error::UnsupportedVersion => 43,
-        Error::NoSupportedConnectionType => 44,
-        Error::TooManySessions => 45,
-        Error::NoClientId => 46,
-        Error::UnknownClient => 47,
-        Error::UnknownConnectionType => 48,
-        Error::InvalidChannel => 49,
-        Error::InvalidPattern => 50,
-        Error::TooManyPatterns => 51,
-        Error::SubscriptionDenied => 52,
-        Error::MissingSubscription => 53,
-        Error::MissingData => 54,
-        Error::SupersededConnect => 55,
-        Error::QueueOverflow => 56,
+        Error::UnknownMetaChannel => 43,
+        Error::SecondHandshake => 44,
+        Error::UnsupportedVersion => 45,
+        Error::NoSupportedConnectionType => 46,
+        Error::TooManySessions => 47,
+        Error::NoClientId => 48,
+        Error::UnknownClient => 49,
+        Error::UnknownConnectionType => 50,
+        Error::InvalidChannel => 51,
+        Error::InvalidPattern => 52,
+        Error::TooManyPatterns => 53,
+        Error::SubscriptionDenied => 54,
+        Error::MissingSubscription => 55,
+        Error::MissingData => 56,
+        Error::SupersededConnect => 57,
+        Error::QueueOverflow => 58,
     }
 }

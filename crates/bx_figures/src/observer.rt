@@ -5,6 +5,7 @@ ghost use Rattle.bx_figures.specs.Outcomes.{figure_of, reason_of};
 use crate::counts::Counts;
 use crate::figure::{Figure, Reason};
 use bx_advice::Outcome;
+use bx_entry::BodyError;
 use bx_hub::PostFault;
 use bx_message::{Item, Reply};
 use bx_service::{Event, Observer};
@@ -59,6 +60,7 @@ fn reason_of(fault: PostFault) -> Reason
     ensures { result ≡ reason_of fault }
 {
     match fault {
+        PostFault::Body(BodyError::Forbidden) => Reason::Forbidden,
         PostFault::Body(_) => Reason::Body,
         PostFault::Closed => Reason::Closed,
         PostFault::BadMoment => Reason::BadMoment,

@@ -4,7 +4,7 @@ use bx_message::{MessageKind, Status};
 use bx_service::{Event, Observer};
 use std::test::Fail;
 
-// The page of figures that are 1, the greatest number, 3 and so on to 55, of two that are not there, and of two shards, as the format has it.
+// The page of figures that are 1, the greatest number, 3 and so on to 57, of two that are not there, and of two shards, as the format has it.
 const PAGE: &str = r#"# HELP bayeux_uptime_seconds Seconds since the program began.
 # TYPE bayeux_uptime_seconds gauge
 bayeux_uptime_seconds 1
@@ -66,46 +66,48 @@ bayeux_answers_filed 19
 # TYPE bayeux_responses_total counter
 bayeux_responses_total{status="200"} 20
 bayeux_responses_total{status="400"} 21
-bayeux_responses_total{status="404"} 22
-bayeux_responses_total{status="405"} 23
-bayeux_responses_total{status="413"} 24
-bayeux_responses_total{status="501"} 25
-bayeux_responses_total{status="503"} 26
+bayeux_responses_total{status="403"} 22
+bayeux_responses_total{status="404"} 23
+bayeux_responses_total{status="405"} 24
+bayeux_responses_total{status="413"} 25
+bayeux_responses_total{status="501"} 26
+bayeux_responses_total{status="503"} 27
 # HELP bayeux_requests_refused_total Requests that were not taken into the list, by reason.
 # TYPE bayeux_requests_refused_total counter
-bayeux_requests_refused_total{reason="body"} 27
-bayeux_requests_refused_total{reason="bad_moment"} 28
-bayeux_requests_refused_total{reason="ended"} 29
-bayeux_requests_refused_total{reason="closed"} 30
-bayeux_requests_refused_total{reason="behind"} 31
-bayeux_requests_refused_total{reason="overrun"} 32
-bayeux_requests_refused_total{reason="misplaced"} 33
-bayeux_requests_refused_total{reason="memory"} 34
+bayeux_requests_refused_total{reason="body"} 28
+bayeux_requests_refused_total{reason="forbidden"} 29
+bayeux_requests_refused_total{reason="bad_moment"} 30
+bayeux_requests_refused_total{reason="ended"} 31
+bayeux_requests_refused_total{reason="closed"} 32
+bayeux_requests_refused_total{reason="behind"} 33
+bayeux_requests_refused_total{reason="overrun"} 34
+bayeux_requests_refused_total{reason="misplaced"} 35
+bayeux_requests_refused_total{reason="memory"} 36
 # HELP bayeux_replies_total Replies of success by kind of message.
 # TYPE bayeux_replies_total counter
-bayeux_replies_total{kind="handshake"} 35
-bayeux_replies_total{kind="connect"} 36
-bayeux_replies_total{kind="subscribe"} 37
-bayeux_replies_total{kind="unsubscribe"} 38
-bayeux_replies_total{kind="disconnect"} 39
-bayeux_replies_total{kind="publish"} 40
-bayeux_replies_total{kind="unknown_meta"} 41
+bayeux_replies_total{kind="handshake"} 37
+bayeux_replies_total{kind="connect"} 38
+bayeux_replies_total{kind="subscribe"} 39
+bayeux_replies_total{kind="unsubscribe"} 40
+bayeux_replies_total{kind="disconnect"} 41
+bayeux_replies_total{kind="publish"} 42
+bayeux_replies_total{kind="unknown_meta"} 43
 # HELP bayeux_errors_total Replies of errors by error.
 # TYPE bayeux_errors_total counter
-bayeux_errors_total{error="404::Unknown meta channel"} 42
-bayeux_errors_total{error="400::Second handshake"} 43
-bayeux_errors_total{error="400::Unsupported version"} 44
-bayeux_errors_total{error="400::No supported connection type"} 45
-bayeux_errors_total{error="503::Too many sessions"} 46
-bayeux_errors_total{error="401::No client id"} 47
-bayeux_errors_total{error="402::Unknown client"} 48
-bayeux_errors_total{error="400::Unknown connection type"} 49
-bayeux_errors_total{error="400::Invalid channel"} 50
-bayeux_errors_total{error="400::Invalid pattern"} 51
-bayeux_errors_total{error="400::Too many patterns"} 52
-bayeux_errors_total{error="403::Subscription denied"} 53
-bayeux_errors_total{error="400::Missing subscription"} 54
-bayeux_errors_total{error="400::Missing data"} 55
+bayeux_errors_total{error="404::Unknown meta channel"} 44
+bayeux_errors_total{error="400::Second handshake"} 45
+bayeux_errors_total{error="400::Unsupported version"} 46
+bayeux_errors_total{error="400::No supported connection type"} 47
+bayeux_errors_total{error="503::Too many sessions"} 48
+bayeux_errors_total{error="401::No client id"} 49
+bayeux_errors_total{error="402::Unknown client"} 50
+bayeux_errors_total{error="400::Unknown connection type"} 51
+bayeux_errors_total{error="400::Invalid channel"} 52
+bayeux_errors_total{error="400::Invalid pattern"} 53
+bayeux_errors_total{error="400::Too many patterns"} 54
+bayeux_errors_total{error="403::Subscription denied"} 55
+bayeux_errors_total{error="400::Missing subscription"} 56
+bayeux_errors_total{error="400::Missing data"} 57
 bayeux_errors_total{error="408::Superseded connect"} 0
 bayeux_errors_total{error="413::Queue overflow"} 0
 # HELP bayeux_shard_lag_entries Entries of the list that a shard has not applied.
@@ -118,7 +120,7 @@ bayeux_shard_lag_entries{shard="1"} 12
 fn pages_have_the_rows(rt: HostRuntime) -> Result<(), Fail> {
     let alloc = rt.alloc();
     let mut values = Vec::new(alloc);
-    for value in 1..56 {
+    for value in 1..58 {
         values.push(if value == 2 { u64::MAX } else { value })?;
     }
     let mut lags = Vec::new(alloc);

@@ -7,7 +7,7 @@ use crate::posts::Served;
 use crate::wire::Wire;
 use anyhow::{Result, anyhow};
 use bx_advice::Config;
-use bx_entry::ByRemainder;
+use bx_entry::{ByRemainder, Door};
 use bx_hub::OpenGate;
 use bx_pieces::Pieces;
 use bx_service::{BayeuxService, Clock, HubBackend, Nonces};
@@ -85,7 +85,14 @@ where
     J: Naming,
     R: Wait + RandomSource + AllocGlobal + Copy + Drop,
 {
-    let backend = HubBackend::new(rt, alloc, Arc::try_clone(hub)?, Still, Zeros);
+    let backend = HubBackend::new(
+        rt,
+        alloc,
+        Arc::try_clone(hub)?,
+        Door::Publishers,
+        Still,
+        Zeros,
+    );
     let service = BayeuxService::new(alloc, backend)?;
     serve_all(&rt, alloc, hub, &service, http)
 }

@@ -22,22 +22,12 @@ pub unswept_twice : (before : ℕ) (old new : State) → Swept before old new �
 unswept_twice before old new s place = ap (λ (c : Option ConnectState). unswept before c) (s.connects place)
     ∙ unswept_again before (connect_in old place) ∙ sym (s.connects place)
 
-abbrev goes_on : Activity → Bool
-goes_on Active = true
-goes_on Paused = false
-goes_on Closed = false
-
 pub paused_stands : (activity : Activity) → paused activity ≢ Active
-paused_stands Active e = true≢false (sym (ap goes_on e))
-paused_stands Paused e = true≢false (sym (ap goes_on e))
-paused_stands Closed e = true≢false (sym (ap goes_on e))
-
-abbrev stands_still : Activity → Bool
-stands_still Active = false
-stands_still Paused = true
-stands_still Closed = false
+paused_stands Active e = cc
+paused_stands Paused e = cc
+paused_stands Closed e = cc
 
 pub resumed_goes : (activity : Activity) → resumed activity ≢ Paused
-resumed_goes Active e = true≢false (sym (ap stands_still e))
-resumed_goes Paused e = true≢false (sym (ap stands_still e))
-resumed_goes Closed e = true≢false (sym (ap stands_still e))
+resumed_goes Active e = cc
+resumed_goes Paused e = cc
+resumed_goes Closed e = cc

@@ -6,7 +6,7 @@ use Rattle.bx_cut.specs.Bodies.{texts_of}
 use Rattle.bx_entry.specs.Inputs.{added_by}
 use Rattle.bx_entry.specs.Listing.{Listed}
 use Rattle.bx_message.specs.declared.message.Message.{Message}
-use Rattle.bx_entry.specs.Requests.{read_input, request_messages}
+use Rattle.bx_entry.specs.Requests.{arrival_messages, read_input}
 use Rattle.bx_entry.specs.declared.input.BodyError.{BodyError}
 use Rattle.bx_entry.specs.declared.input.Input.{Input}
 use Rattle.bx_entry.specs.declared.input.Input.TheVariants.{Post, Tick}
@@ -40,7 +40,7 @@ input_by (Ok ms) input = where_any ms input
 input_by (Err fault) input = []
 
 abbrev pub inputs_from : Input → List Input
-inputs_from (Post a) = input_by (request_messages (texts_of a.bodies)) (Post a)
+inputs_from (Post a) = input_by (arrival_messages a) (Post a)
 inputs_from (Tick moment) = Tick moment ∷ []
 
 -- these inputs are the last ones

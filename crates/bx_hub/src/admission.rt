@@ -285,8 +285,8 @@ impl<J: Naming, R: Wait + Drop> Admission<J, R> {
             Listable::Request(reading) => self.registry.plan(
                 alloc,
                 placing,
-                reading.moment(),
-                reading.nonce(),
+                reading.arrival().moment,
+                reading.arrival().nonce,
                 reading.messages(),
             ),
             Listable::Tick(moment) => self.registry.plan_tick(alloc, *moment),

@@ -93,7 +93,7 @@ impl Lagging {
 /// Why a post or a tick is refused.
 #[derive(Clone, Copy, Debug, PartialEq, Eq)]
 pub enum PostFault {
-    /// Its documents cannot be read as messages.
+    /// Its documents cannot be read as messages, or are not let in.
     Body(BodyError),
     /// The hub was closed.
     Closed,

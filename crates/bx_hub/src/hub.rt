@@ -108,7 +108,7 @@ impl<J: Naming, P: Placing, G: Gate + Drop, R: Wait + Drop> Hub<J, P, G, R> {
     }
 
     /// Takes the messages of a request into the list, and brings each shard up. It is refused, in this order, where its
-    /// documents cannot be read as messages, the hub was closed, its moment is above the greatest that is taken, the list
+    /// documents cannot be read as messages, its door does not let these in, the hub was closed, its moment is above the greatest that is taken, the list
     /// would become too long, or the window is full. A request without messages adds nothing. To list a request uses it up;
     /// one that is refused comes back. Who waits for a connect that it answers is woken under no shard's lock; where the window is
     /// full, under admission's.

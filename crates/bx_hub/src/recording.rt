@@ -146,8 +146,7 @@ fn text_of(alloc: Global, listed: &Listable) -> Result<Vec<u8>, RecordFault>
 {
     match listed {
         Listable::Request(reading) => {
-            let (moment, nonce) = (reading.moment(), reading.nonce());
-            match request_text(alloc, moment, nonce, reading.bodies(), reading.messages())? {
+            match request_text(alloc, reading.arrival(), reading.messages())? {
                 Some(text) => Ok(text),
                 None => Err(RecordFault::Unsayable),
             }

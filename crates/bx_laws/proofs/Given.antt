@@ -1,5 +1,5 @@
 -- What an answer gives is the event of an accepted publish of the list, which the session got.
-use Rattle.std.proofs.Common.{◌≡◌, ℕ, ◌<◌, Option, Some, None, List, [], ◌∷◌, length, drop, find, option_map, slice_get, ◌==◌, refl, sym, ap, ◌∙◌, subst, arith}
+use Rattle.std.proofs.Common.{◌≡◌, ℕ, ◌<◌, Option, Some, None, List, [], ◌∷◌, ◌++◌, length, drop, find, option_map, slice_get, ◌==◌, refl, sym, ap, ◌∙◌, subst, arith}
 use Rattle.bx_advice.specs.declared.config.Config.{Config}
 use Rattle.bx_message.specs.declared.{event.Event.Event, message_kind.MessageKind.MessageKind}
 use Rattle.bx_message.specs.MessageKinds.{message_kind_of}
@@ -15,11 +15,11 @@ use Rattle.bx_theory.proofs.Runs.{Grown, run_grown, all_places}
 
 -- ---- a publish entry stands where the list has a publish
 
-record FromPost (x : Listed) (e : Event) : Type 0 where
-  message : Posted
-  posted : x ≡ Post message
-  message_kind : message_kind_of message.message.channel ≡ MessageKind.Publish
-  event : e ≡ event_of message.message
+pub record FromPost (x : Listed) (e : Event) : Type 0 where
+  pub message : Posted
+  pub posted : x ≡ Post message
+  pub message_kind : message_kind_of message.message.channel ≡ MessageKind.Publish
+  pub event : e ≡ event_of message.message
 
 abbrev OfPost : Listed → EntryKind → Type 0
 OfPost x k = (e : Event) → k ≡ Publish e → FromPost x e
@@ -58,23 +58,42 @@ each_event P Q (p ∷ ps) h d = (h p d.0, each_event P Q ps h d.1)
 
 -- ---- the law
 
+-- where the publish stands of which a publication is
+pub record Source (list : List Listed) (p : Publication) : Type 0 where
+  pub before : List Listed
+  pub element : Listed
+  pub behind : List Listed
+  pub whole : before ++ element ∷ behind ≡ list
+  pub place : length before ≡ p.place
+  pub post : FromPost element p.event
+
+pub source_of : (config : Config) (list : List Listed) (number : ℕ) (p : Publication) → GetsPublish config number (entries_of (registry config list)) p → Source list p
+source_of config list number p g =
+    let here : EntryOf config list (length g.before) g.entry = entry_of_place config list (length g.before) g.entry (ap (λ (es : List Entry). slice_get es (length g.before)) g.split ∙ got_here g.before g.entry g.behind) in
+    let f : FoundOf config list (length g.before) here.judged = here.found in
+    let found : (next_found config (registry config f.before) f.element).entry ≡ g.entry = ap (λ (j : Judged). j.entry) f.found ∙ here.is in
+    record {
+      before = f.before;
+      element = f.element;
+      behind = f.behind;
+      whole = f.whole;
+      place = omega (arith, ap (λ (e : Entry). e.place) found, judged_length config f.before, g.place);
+      post = of_post config (registry config f.before) f.element p.event (ap (λ (e : Entry). e.kind) found ∙ g.kind);
+    }
+
 published_here : (config : Config) (list : List Listed) (place number : ℕ) (p : Publication) →
     option_map (λ (j : Judged). j.slot) (slice_get (registry config list).judged place) ≡ Some (Waiting number) →
     GetsPublish config number (entries_of (registry config list)) p → WasPublished config list place p.event
 published_here config list place number p asked g =
-    let here : EntryOf config list (length g.before) g.entry = entry_of_place config list (length g.before) g.entry (ap (λ (es : List Entry). slice_get es (length g.before)) g.split ∙ got_here g.before g.entry g.behind) in
-    let f : FoundOf config list (length g.before) here.judged = here.found in
-    let found : (next_found config (registry config f.before) f.element).entry ≡ g.entry = ap (λ (j : Judged). j.entry) f.found ∙ here.is in
-    let post : FromPost f.element p.event = of_post config (registry config f.before) f.element p.event (ap (λ (e : Entry). e.kind) found ∙ g.kind) in
-    let source : length f.before ≡ p.place = omega (arith, ap (λ (e : Entry). e.place) found, judged_length config f.before, g.place) in
+    let s : Source list p = source_of config list number p g in
     record {
       number = number;
       asked = asked;
       source = p.place;
-      message = post.message;
-      listed = ap (slice_get list) (sym source) ∙ ap (λ (xs : List Listed). slice_get xs (length f.before)) (sym f.whole) ∙ got_here f.before f.element f.behind ∙ ap Some post.posted;
-      message_kind = post.message_kind;
-      event = post.event;
+      message = s.post.message;
+      listed = ap (slice_get list) (sym s.place) ∙ ap (λ (xs : List Listed). slice_get xs (length s.before)) (sym s.whole) ∙ got_here s.before s.element s.behind ∙ ap Some s.post.posted;
+      message_kind = s.post.message_kind;
+      event = s.post.event;
       gets = g;
     }
 

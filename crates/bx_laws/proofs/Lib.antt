@@ -1,5 +1,6 @@
-pub mod Holds
-pub mod Given
 pub mod Computed
-pub mod Written
+pub mod Given
+pub mod Holds
 pub mod ReadBack
+pub mod Readers
+pub mod Written

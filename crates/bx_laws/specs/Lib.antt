@@ -1,3 +1,4 @@
+pub mod ReadBack
+pub mod Readers
 pub mod Samples
 pub mod Worked
-pub mod ReadBack

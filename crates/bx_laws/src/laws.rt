@@ -8,6 +8,7 @@ ghost use Rattle.bx_theory.specs.Outs.{OutsGrow};
 ghost use Rattle.bx_theory.specs.Opens.{OpenIsHeld, OpensGoOn, OutsAdd};
 ghost use Rattle.bx_theory.specs.Sole.{OpenAreSole, OpensAscend};
 ghost use Rattle.bx_entry.specs.Keeping.{KeptSteps, KeptRuns, KeptInBounds};
+ghost use Rattle.bx_laws.specs.Readers.{ReadersPublishNothing};
 ghost use Rattle.bx_laws.specs.ReadBack.{RepliesReadBack, EventsReadBack, BodiesReadBack};
 
 /// What was given for good stays given for good.
@@ -147,6 +148,11 @@ pub fn events_rise()
 /// Each event in an answer is that of an accepted publish of the list, byte for byte, which the session got at its place.
 pub fn given_was_published()
     ensures { GivenWasPublished }
+{}
+
+/// The list of what came by the readers' door alone has no message to a broadcast channel, so no session has an event.
+pub fn readers_publish_nothing()
+    ensures { ReadersPublishNothing }
 {}
 
 /// What is given after more inputs begins with what was given after fewer.

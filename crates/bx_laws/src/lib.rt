@@ -13,8 +13,8 @@ pub use laws::{
     kept_steps, lines_go_on, live_reading, never_given_again, no_event_twice, no_riders_unasked,
     nonces_go_on, nonces_stay, nothing_rides_beside, open_are_sole, open_is_held, opens_ascend,
     opens_go_on, others_never_ride, outs_add, outs_grow, overflow_reading, publishes_are_events,
-    publishes_of_none, queue_bounded, replies_read_back, rider_given, rider_reading,
-    riders_are_plain, same_live,
+    publishes_of_none, queue_bounded, readers_publish_nothing, replies_read_back, rider_given,
+    rider_reading, riders_are_plain, same_live,
 };
 pub use worked::{
     acknowledgements, channels, deliveries, endings, handshakes, held_connects, overflows,

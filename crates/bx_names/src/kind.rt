@@ -1,5 +1,5 @@
 ghost use Rattle.std.specs.Prelude.{◌≡◌};
-ghost use Rattle.bx_names.specs.Kinds.{is_meta, is_service, kind_of};
+ghost use Rattle.bx_names.specs.Kinds.{is_broadcast, is_meta, is_service, kind_of};
 
 /// What a channel is for, which its name's beginning says (Bayeux 1.0, channel names).
 #[derive(Clone, Copy, Debug, PartialEq, Eq, Hash)]
@@ -37,4 +37,11 @@ pub fn is_service(text: &str) -> bool
     ensures { result ≡ is_service text.now }
 {
     text.starts_with("/service/")
+}
+
+/// Whether a text begins as neither does: what is sent there goes to other clients (Bayeux 1.0, channel names).
+pub fn is_broadcast(text: &str) -> bool
+    ensures { result ≡ is_broadcast text.now }
+{
+    !is_meta(text) && !is_service(text)
 }

@@ -15,7 +15,7 @@ mod tail;
 
 pub use error::NameError;
 pub use fault::{name_fault, pattern_fault};
-pub use kind::{ChannelKind, is_meta, is_service, kind_of};
+pub use kind::{ChannelKind, is_broadcast, is_meta, is_service, kind_of};
 pub use laws::{
     double_star_matches_any_longer_name, exact_pattern_matches_one_name, name_reads_as_pattern,
     name_reads_back, pattern_reads_back, star_matches_one_more_segment, stars_differ_on_depth,

@@ -15,7 +15,7 @@ use Rattle.bx_record.specs.Record.{asks_for_session, command_of, nonce_digits, n
 use Rattle.bx_record.specs.Laws.{AnswersBreakOff, CanRecord, CanStand, IsRecordable, RecordsBreakOff, ended_by, ended_lines, is_of_either, is_of_record, record_lines}
 use Rattle.bx_record.proofs.Answered.{part_lines, said_part, text_is}
 use Rattle.bx_record.proofs.Answered as answers
-use Rattle.bx_record.proofs.Bytes.{readable_utf8}
+use Rattle.bx_record.proofs.Bytes.{arrival_utf8}
 use Rattle.bx_record.proofs.Digits.{lacks-append, moment_lacks, nonce_lacks}
 use Rattle.bx_record.proofs.ReadBack.{Says, documents_say, inputs_at, inputs_by, nonce_line, said_all, said_lines}
 use Rattle.bx_record.proofs.ReadBack as records
@@ -170,7 +170,7 @@ says_up_to (Taken (Tick moment) ∷ parts) front behind h e =
     (λ next same. says_up_to parts next behind h.1 same) e
 says_up_to (Taken (Post a) ∷ parts) front behind h e =
     let can : IsRecordable a = h.0 in
-    let says : Says a.moment (command_of (texts_of a.bodies)) (texts_of a.bodies) = documents_say a.moment (texts_of a.bodies) (readable_utf8 (texts_of a.bodies) can.readable) can.sayable in
+    let says : Says a.moment (command_of (texts_of a.bodies)) (texts_of a.bodies) = documents_say a.moment (texts_of a.bodies) (arrival_utf8 a can.readable) can.sayable in
     two_lines a parts front behind can (asks_for_session (read_input (Post a))) refl says.lacks (λ next same. says_up_to parts next behind h.1 same) e
 
 -- a nonce at most

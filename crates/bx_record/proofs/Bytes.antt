@@ -6,12 +6,13 @@ use Rattle.std.proofs.lemmas.{Bool.cond_both, Bool.ltb-true, Bool.and_parts, Boo
 use Rattle.std.specs.{List.All, List.AllByRecursion, List.list_any, Str.IsUtf8, Str.is_utf8}
 use Rattle.percent_encoding.proofs.PercentLemmas.{IsByte}
 use Rattle.bx_names.specs.Faults.{first_case}
-use Rattle.bx_cut.specs.Words.{fault, pieces}
+use Rattle.bx_cut.specs.Words.{fault, pieces, texts_of}
 use Rattle.bx_cut.specs.declared.error.CutError.{CutError}
 use Rattle.bx_cut.specs.declared.error.CutError.TheVariants.{NotJson}
-use Rattle.bx_entry.specs.declared.input.BodyError.{BodyError}
+use Rattle.bx_entry.proofs.RequestLemmas.{let_in-is_ok}
+use Rattle.bx_entry.specs.declared.input.{Arrival.Arrival, BodyError.BodyError}
 use Rattle.bx_entry.specs.declared.input.BodyError.TheVariants as bodies
-use Rattle.bx_entry.specs.Requests.{Cut, cut_by, cut_of, is_not_json, is_not_object, is_too_many, messages_by, objects_of, request_messages}
+use Rattle.bx_entry.specs.Requests.{Cut, arrival_messages, cut_by, cut_of, is_not_json, is_not_object, is_too_many, messages_by, objects_of, request_messages}
 use Rattle.bx_cut.specs.declared.document.TheConstants.{MAX_MESSAGES}
 
 -- ---- characters
@@ -79,5 +80,8 @@ json_by : (cs : List Cut) (others : Option BodyError) (b : Bool) → is_ok (mess
 json_by cs others true h = cc
 json_by cs others false h = refl
 
-pub readable_utf8 : (ds : List (List ℕ)) → is_ok (request_messages ds) ≡ true → AllByRecursion IsUtf8 ds
+readable_utf8 : (ds : List (List ℕ)) → is_ok (request_messages ds) ≡ true → AllByRecursion IsUtf8 ds
 readable_utf8 ds h = each_utf8 ds (json_by (map cut_of ds) (first_case (tail_cases (map cut_of ds))) (list_any is_not_json (map cut_of ds)) h)
+
+pub arrival_utf8 : (a : Arrival) → is_ok (arrival_messages a) ≡ true → AllByRecursion IsUtf8 (texts_of a.bodies)
+arrival_utf8 a h = readable_utf8 (texts_of a.bodies) (let_in-is_ok a.door (request_messages (texts_of a.bodies)) h)

@@ -11,8 +11,9 @@ use Rattle.bx_message.specs.Fields.{number_of}
 use Rattle.bx_entry.specs.declared.input.{BodyError.BodyError, Input.Input}
 use Rattle.bx_entry.specs.declared.input.Input.TheVariants.{Post}
 use Rattle.bx_entry.specs.declared.input.Input.TheVariants as inputs
-use Rattle.bx_entry.specs.Words.{ReadInput, Request, read_by, read_input, request_messages}
+use Rattle.bx_entry.specs.Words.{ReadInput, Request, arrival_messages, read_by, read_input, request_messages}
 use Rattle.bx_entry.specs.Inputs.{Tick}
+use Rattle.bx_entry.proofs.RequestLemmas.{let_in-ok}
 use Rattle.bx_transport.specs.declared.error.TransportError.TheVariants.{TooLarge}
 use Rattle.bx_transport.specs.Forms.{values_of}
 use Rattle.bx_transport.specs.Transports.{some_documents}
@@ -23,7 +24,7 @@ use Rattle.bx_script.proofs.Script.{lines_are}
 use Rattle.bx_theory.specs.Lines.{inputs_in}
 use Rattle.bx_record.specs.Record.{asks_for_session, can_say, carrier_by, command_by, command_of, form_of, input_text, nonce_digits, nonce_text, record_of, said_of}
 use Rattle.bx_record.specs.Laws.{CanRecord, RecordsReadBack, is_of_record, recorded_lines}
-use Rattle.bx_record.proofs.Bytes.{readable_utf8}
+use Rattle.bx_record.proofs.Bytes.{arrival_utf8}
 use Rattle.bx_record.proofs.Carried.{carried, form_lacks}
 use Rattle.bx_record.proofs.Digits.{lacks-append, moment_lacks, moment_lacks_letter, moment_nonempty, moment_reads, nonce_lacks, nonce_reads}
 
@@ -124,7 +125,7 @@ request_lines m nonce ds ms rest fits small readable s false = ap (with_nonces 0
 
 pub input_lines : (input : Input) (rest : List ℕ) → CanRecord input → with_nonces 0 (lines_in Recorded (input_text input ++ rest)) ≡ said_lines input ++ with_nonces 0 (lines_in Recorded rest)
 input_lines (inputs.Tick moment) rest fits = ap (with_nonces 0) (one_line moment (codes "T") rest fits (refl, tt))
-input_lines (Post a) rest can = by_result (request_messages (texts_of a.bodies)) refl can.readable
+input_lines (Post a) rest can = by_result (arrival_messages a) refl can.readable
   where
     SameLines : Result (List Message) BodyError → Type 0
     SameLines r =
@@ -132,11 +133,12 @@ input_lines (Post a) rest can = by_result (request_messages (texts_of a.bodies))
         with_nonces 0 (lines_in Recorded ((nonce_text (asks_for_session input) a.moment a.nonce ++ line_text a.moment (command_of (texts_of a.bodies))) ++ rest))
         ≡ said_by (asks_for_session input) a.nonce (said_of input) ++ with_nonces 0 (lines_in Recorded rest)
 
-    by_result : (r : Result (List Message) BodyError) → request_messages (texts_of a.bodies) ≡ r → is_ok r ≡ true → SameLines (request_messages (texts_of a.bodies))
+    by_result : (r : Result (List Message) BodyError) → arrival_messages a ≡ r → is_ok r ≡ true → SameLines (arrival_messages a)
     by_result (Err fault) e h = cc
     by_result (Ok ms) e h =
-        let says_all = documents_say a.moment (texts_of a.bodies) (readable_utf8 (texts_of a.bodies) can.readable) can.sayable in
-        subst SameLines (sym e) (request_lines a.moment a.nonce (texts_of a.bodies) ms rest can.moment can.nonce e says_all (list_any is_handshake ms))
+        let read = let_in-ok a.door (request_messages (texts_of a.bodies)) ms e in
+        let says_all = documents_say a.moment (texts_of a.bodies) (arrival_utf8 a can.readable) can.sayable in
+        subst SameLines (sym e) (request_lines a.moment a.nonce (texts_of a.bodies) ms rest can.moment can.nonce read says_all (list_any is_handshake ms))
 
 -- ---- a record
 

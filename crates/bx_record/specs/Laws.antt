@@ -8,7 +8,7 @@ use Rattle.bx_message.specs.Fields.{number_of}
 use Rattle.bx_cut.specs.Bodies.{texts_of}
 use Rattle.bx_entry.specs.declared.input.{Arrival.Arrival, Input.Input}
 use Rattle.bx_entry.specs.declared.input.Input.TheVariants.{Post, Tick}
-use Rattle.bx_entry.specs.Words.{held, outs, read_input, request_messages}
+use Rattle.bx_entry.specs.Words.{arrival_messages, held, outs, read_input}
 use Rattle.bx_script.specs.Words.{Accepted, Announced, Line, Noted, Recorded, first_of, is_newline, is_space, line_of, lines_in, rest_of, with_nonces}
 use Rattle.bx_theory.specs.Lines.{inputs_in}
 use Rattle.bx_record.specs.Answers.{Given, IsSha256, Part, Taken, answer_text, record_with, taken_inputs}
@@ -16,11 +16,11 @@ use Rattle.bx_record.specs.Record.{can_say, config_text, config_words, options_w
 
 -- ---- inputs
 
--- a request whose documents are read and that a line can say, with numbers that fit their types
+-- a request whose messages are read and let in, and that a line can say, with numbers that fit their types
 pub record IsRecordable (a : Arrival) : Type 0 where
   pub moment : a.moment < 2 ^ 64
   pub nonce : a.nonce < 2 ^ 128
-  pub readable : is_ok (request_messages (texts_of a.bodies)) ≡ true
+  pub readable : is_ok (arrival_messages a) ≡ true
   pub sayable : can_say (texts_of a.bodies) ≡ true
 
 -- an input that a record has

@@ -3,7 +3,7 @@ ghost use Rattle.std.specs.Prelude.{◌≡◌, ◌≤◌, ◌<◌, ◌∷◌, �
 ghost use Rattle.std.specs.List.{list_any};
 ghost use Rattle.bx_advice.specs.declared.config.TheConstants.{BODY_LIMIT};
 ghost use Rattle.bx_cut.specs.Bodies.{texts_of};
-ghost use Rattle.bx_entry.specs.Requests.{request_messages};
+ghost use Rattle.bx_entry.specs.Requests.{arrival_messages};
 ghost use Rattle.bx_entry.specs.declared.input.Input.TheVariants as inputs;
 ghost use Rattle.bx_message.specs.MessageKinds.{is_handshake};
 ghost use Rattle.bx_script.specs.Replay.{is_newline, line_text};
@@ -14,6 +14,7 @@ use crate::form::{form_len, push_form};
 use crate::nonce::push_nonce_digits;
 use bx_advice::BODY_LIMIT;
 use bx_cut::Bodies;
+use bx_entry::Arrival;
 use bx_message::Message;
 use itoa::Buffer;
 use memchr::memchr;
@@ -25,29 +26,40 @@ const BESIDE: usize = 2 * (20 + 4) + 32;
 
 /// The lines of a request: where some message of it asks for a new session, one that says its nonce, and then one that
 /// says its documents. None where no line can say these: there are none, or the body that would carry them has more than
-/// [`BODY_LIMIT`] bytes. `messages` are those of its documents. An error means that memory was refused.
+/// [`BODY_LIMIT`] bytes. `messages` are those that were read of it. An error means that memory was refused.
 pub fn request_text(
     alloc: Global,
-    moment: u64,
-    nonce: u128,
-    bodies: &Bodies,
+    arrival: &Arrival,
     messages: &[Message],
 ) -> Result<Option<Vec<u8>>, AllocError>
-    requires { request_messages (texts_of bodies.now) ≡ Ok messages.now }
-    ensures text { IfOk result (λ lines. IfSome lines (λ text. text.items ≡ input_text (inputs.Post (record { moment = moment; nonce = nonce; bodies = bodies.now })))) }
-    ensures sayable { IfOk result (λ lines. is_some lines ≡ can_say (texts_of bodies.now)) }
-    ensures recordable { IfOk result (λ lines. IfSome lines (λ text. CanRecord (inputs.Post (record { moment = moment; nonce = nonce; bodies = bodies.now })))) }
+    requires { arrival_messages arrival.now ≡ Ok messages.now }
+    ensures text { IfOk result (λ lines. IfSome lines (λ text. text.items ≡ input_text (inputs.Post arrival.now))) }
+    ensures sayable { IfOk result (λ lines. is_some lines ≡ can_say (texts_of arrival.now.bodies)) }
+    ensures recordable { IfOk result (λ lines. IfSome lines (λ text. CanRecord (inputs.Post arrival.now))) }
 {
-    let plain = plain_document(bodies);
-    let Some(length) = carrier_len(plain, bodies) else {
+    let (moment, nonce) = (moment_of(arrival), nonce_of(arrival));
+    let plain = plain_document(&arrival.bodies);
+    let Some(length) = carrier_len(plain, &arrival.bodies) else {
         return Ok(None);
     };
     let mut text = Vec::with_capacity(alloc, BESIDE + length)?;
     if asks_for_session(messages) {
         push_nonce(&mut text, moment, nonce)?;
     }
-    push_documents(&mut text, moment, plain, bodies)?;
+    push_documents(&mut text, moment, plain, &arrival.bodies)?;
     Ok(Some(text))
+}
+
+fn moment_of(arrival: &Arrival) -> u64
+    ensures { result ≡ arrival.now.moment }
+{
+    arrival.moment
+}
+
+fn nonce_of(arrival: &Arrival) -> u128
+    ensures { result ≡ arrival.now.nonce }
+{
+    arrival.nonce
 }
 
 /// The line of a tick at this moment. An error means that memory was refused.

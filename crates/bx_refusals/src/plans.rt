@@ -4,7 +4,7 @@ ghost use Rattle.bx_registry.specs.Standings.{LeadsTo};
 
 use crate::requests::{HANDSHAKE, add_line, arrival, config, reply};
 use crate::unlike::Unlike;
-use bx_entry::{AllFirst, Entry, EntryKind, Slot, read_messages};
+use bx_entry::{AllFirst, Entry, EntryKind, Slot};
 use bx_message::Message;
 use bx_registry::{AdmitFault, Plan, Registry};
 use std::alloc::Global;
@@ -75,7 +75,7 @@ fn request(
     body: &str,
 ) -> Result<String, Unlike> {
     let arrival = arrival(alloc, body)?;
-    let messages = read_messages(alloc, &arrival.bodies).map_err(|_| Unlike::Memory)?;
+    let messages = arrival.read(alloc).map_err(|_| Unlike::Memory)?;
     let Plan {
         slots,
         elements,

@@ -11,7 +11,7 @@ use crate::hubs::Served;
 use crate::requests::config;
 use crate::unlike::Unlike;
 use bx_advice::Config;
-use bx_entry::ByRemainder;
+use bx_entry::{ByRemainder, Door};
 use bx_hub::OpenGate;
 use bx_service::{BayeuxService, Clock, HubBackend, Nonces};
 use bx_window::{Naming, Opened};
@@ -73,7 +73,14 @@ where
 {
     let hub = Served::<J, R>::new(alloc, rt, opened, config, placing, OpenGate)?;
     let hub = Arc::new(alloc, hub)?;
-    let backend = HubBackend::new(rt, alloc, Arc::try_clone(&hub)?, Still, Zeros);
+    let backend = HubBackend::new(
+        rt,
+        alloc,
+        Arc::try_clone(&hub)?,
+        Door::Publishers,
+        Still,
+        Zeros,
+    );
     let service = BayeuxService::new(alloc, backend)?;
     let mut client = Client {
         alloc,

@@ -130,14 +130,7 @@ fn take_nonce(nonce: u128, input: Input) -> (Input, u128)
     ensures left { result.1 ≡ nonce_left nonce (read_input input) }
 {
     match input {
-        Input::Post(Arrival { moment, bodies, .. }) => {
-            let arrival = Arrival {
-                moment,
-                nonce,
-                bodies,
-            };
-            (Input::Post(arrival), 0)
-        }
+        Input::Post(arrival) => (Input::Post(Arrival { nonce, ..arrival }), 0),
         Input::Tick(moment) => (Input::Tick(moment), nonce),
     }
 }

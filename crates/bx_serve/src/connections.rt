@@ -1,5 +1,5 @@
 //! The connections that come, each as a task.
-ghost use Rattle.std.specs.Prelude.{◌≡◌, IfSome, false};
+ghost use Rattle.std.specs.Prelude.{◌≡◌, ◌==◌, if◌then◌else◌, IfSome, false};
 ghost use Rattle.futures.specs.Poll.{IfReady, OnPending};
 ghost use Rattle.futures.specs.Task.{Covers, Keeps};
 ghost use Rattle.tokio.specs.Net.{listener_readable};
@@ -13,36 +13,37 @@ use std::time::Clock;
 use tokio::net::Incoming;
 use tokio::time::Interval;
 
-/// The tasks of the connections that come, up to a number of them. Where none can be accepted, as while the process has no
-/// descriptor left, it waits for a while before it asks again.
+/// The tasks of the connections that come. Where none can be accepted, as while the process has no descriptor left, it waits
+/// for a while before it asks again.
 #[derive(Drop)]
 pub struct Connections<R, M> {
     clock: R,
     incoming: Incoming,
     maker: M,
-    // How many connections are still taken; none: any number.
-    left: Option<u64>,
     pause: Interval,
     is_paused: bool,
 }
 
+/// The most connections that are taken, where 0 says any number.
+pub fn most_of(count: u64) -> usize
+    ensures { result ≡ (if count == 0 then 18446744073709551615 else count) }
+{
+    if count == 0 {
+        usize::MAX
+    } else {
+        count as usize
+    }
+}
+
 impl<R, M> Connections<R, M> {
-    /// The connections of `incoming`, at most `count` of them, where 0 is any number. After a failed accept it waits for
-    /// one period of `pause`.
-    pub fn new(
-        clock: R,
-        incoming: Incoming,
-        maker: M,
-        count: u64,
-        pause: Interval,
-    ) -> Connections<R, M>
+    /// The connections of `incoming`. After a failed accept it waits for one period of `pause`.
+    pub fn new(clock: R, incoming: Incoming, maker: M, pause: Interval) -> Connections<R, M>
         ensures { result.maker ≡ maker }
     {
         Connections {
             clock,
             incoming,
             maker,
-            left: if count == 0 { None } else { Some(count) },
             pause,
             is_paused: false,
         }
@@ -76,18 +77,15 @@ impl<R: Clock + Drop, M: Maker> Stream for Connections<R, M> {
     ghost yields = { λ _ _ last. IfSome last M.Task.can_poll };
 
     fn poll_next(&mut self, cx: &mut Context<'_>) -> Poll<Option<M::Task>> {
-        if self.left == Some(0) || !ready!(self.poll_pause(cx)) {
+        if !ready!(self.poll_pause(cx)) {
             return Poll::Ready(None);
         }
         match self.incoming.poll_next(cx) {
             Poll::Pending => Poll::Pending,
-            Poll::Ready(Some(Ok(socket))) => {
-                self.left = self.left.map(|left| left.saturating_sub(1));
-                match self.maker.make(socket) {
-                    Some(task) => Poll::Ready(Some(task)),
-                    None => cx.yield_now(),
-                }
-            }
+            Poll::Ready(Some(Ok(socket))) => match self.maker.make(socket) {
+                Some(task) => Poll::Ready(Some(task)),
+                None => cx.yield_now(),
+            },
             Poll::Ready(Some(Err(_))) => {
                 self.is_paused = true;
                 // Without a clock it waits for the tick that comes next.

@@ -1,7 +1,7 @@
-//! Serves the connections of a listener.
-use crate::connections::Connections;
+//! Serves the connections of one listener or two.
+use crate::connections::{Connections, most_of};
 use crate::maker::{Coming, Server};
-use crate::spawn_each::{run_each, run_until};
+use crate::spawn_each::run_until;
 use bx_pieces::Pieces;
 use bytes::Bytes;
 use futures::Future;
@@ -29,36 +29,19 @@ const PATIENCE: u64 = 30_000;
 // How long a body may take to be whole, from the first wait for more of it on, in milliseconds. (This server's choice.)
 const WHOLE: u64 = 300_000;
 
-/// Serves so many connections of the listener over HTTP, each as a task of the runtime, and ends once they have come and
-/// have ended. 0 is any number. A head has 30 seconds to come; a body fails where nothing comes of it for 30 seconds, or where it is not
-/// whole within five minutes, and a connection whose peer takes nothing of what is written for 30 seconds. A connection for which there
-/// is no memory is dropped, and the next one is served. `Err` where there is no memory to begin with, or the system refuses the runtime
-/// a call.
-pub fn serve_connections<R, S, E>(
-    rt: R,
-    runtime: &mut Runtime,
-    listener: TcpListener,
-    service: S,
-    count: u64,
-) -> io::Result<()>
-where
-    R: Wait + Threads + Clock + RandomSource + AllocGlobal + Sync + Send + Copy + Drop,
-    S: Service<Request<Coming<R>>, Response = Response<Pieces<Bytes>>, Error = E> + Clone + Send,
-    S::Future: Send,
-    E: Into<anyhow::Error> + Drop + Send,
-    requires { (each : S) → S.can_call each }
-{
-    let connections = connections_of(&rt, runtime, listener, service, count)?;
-    run_each(&rt, runtime, connections)
-}
+/// A listener, and what serves its connections.
+pub type Entrance<S> = (TcpListener, S);
 
-/// The same until `end` is ready: from then on no connection is taken, and those that are open are served for as long as the runtime's
-/// shutdown may take.
+/// Serves so many connections of these entrances over HTTP, each as a task of the runtime, until `end` is ready: from then on no
+/// connection is taken, and those that are open are served for as long as the runtime's shutdown may take. 0 is any number. A head has
+/// 30 seconds to come; a body fails where nothing comes of it for 30 seconds, or where it is not whole within five minutes, and a
+/// connection whose peer takes nothing of what is written for 30 seconds. A connection for which there is no memory is dropped, and the
+/// next one is served. `Err` where there is no memory to begin with, or the system refuses the runtime a call.
 pub fn serve_until<R, S, E, A, T>(
     rt: R,
     runtime: &mut Runtime,
-    listener: TcpListener,
-    service: S,
+    first: Entrance<S>,
+    other: Option<Entrance<S>>,
     count: u64,
     end: A,
 ) -> io::Result<()>
@@ -72,17 +55,19 @@ where
     requires service { (each : S) → S.can_call each }
     requires end { A.can_poll end }
 {
-    let connections = connections_of(&rt, runtime, listener, service, count)?;
-    run_until(&rt, runtime, connections, end)
+    let first = connections_of(&rt, runtime, first)?;
+    let other = match other {
+        Some(other) => Some(connections_of(&rt, runtime, other)?),
+        None => None,
+    };
+    run_until(&rt, runtime, first, other, most_of(count), end)
 }
 
-// The connections of the listener, at most so many.
+// The connections of an entrance.
 fn connections_of<R, S, E>(
     rt: &R,
     runtime: &Runtime,
-    listener: TcpListener,
-    service: S,
-    count: u64,
+    (listener, service): Entrance<S>,
 ) -> io::Result<Connections<R, Server<R, S>>>
 where
     R: Clock + RandomSource + AllocGlobal + Copy + Drop,
@@ -101,5 +86,5 @@ where
         limit: Duration::from_millis(PATIENCE),
         whole: Duration::from_millis(WHOLE),
     };
-    Ok(Connections::new(*rt, listener.incoming(), maker, count, pause))
+    Ok(Connections::new(*rt, listener.incoming(), maker, pause))
 }

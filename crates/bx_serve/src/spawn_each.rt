@@ -1,8 +1,9 @@
 //! The futures of a stream, each as a task.
-ghost use Rattle.std.specs.Prelude.{◌≡◌};
+ghost use Rattle.std.specs.Prelude.{◌≡◌, IfSome};
 ghost use Rattle.futures.specs.Runs.{AllItems};
 
 use futures::executor::TaskSet;
+use futures::stream::select;
 use futures::task::{Context, Poll};
 use futures::{Future, Stream, StreamExt, ready};
 use std::alloc::AllocGlobal;
@@ -16,24 +17,37 @@ use tokio::runtime::Runtime;
 // How many futures one poll spawns before it lets tasks run.
 const BUDGET: u32 = 128;
 
-/// Runs each future of a stream as a task of the runtime, until the stream has ended and each task is done. A future for which there
-/// is no memory is dropped, and those behind it are run as ever. `Err` where there is no memory to begin with, or the system refuses
-/// the runtime a call.
-pub fn run_each<R, S, F>(rt: &R, runtime: &mut Runtime, futures: S) -> io::Result<()>
+/// Runs each future of a stream, or of two, as a task of the runtime, until the streams have ended or so many futures have come, and each
+/// task is done; or until `end` is ready: from then on no future is asked for, and each task that was spawned is waited for as long as the
+/// runtime's shutdown may take. A future for which there is no memory is dropped, and those behind it are run as ever. `Err` where there is
+/// no memory to begin with, or the system refuses the runtime a call.
+pub fn run_until<R, S, F, A, T>(
+    rt: &R,
+    runtime: &mut Runtime,
+    first: S,
+    other: Option<S>,
+    count: usize,
+    end: A,
+) -> io::Result<()>
 where
     R: Wait + Threads + Clock + RandomSource + AllocGlobal + Sync,
     S: Stream<Item = F>,
     F: Future<Output = ()> + Send,
-    requires stream { S.can_poll futures }
-    requires items { AllItems (S.yields futures) F.can_poll }
+    A: Future<Output = T>,
+    T: Drop,
+    requires first { S.can_poll first }
+    requires other { IfSome other S.can_poll }
+    requires end { A.can_poll end }
+    requires items { (each : S) → AllItems (S.yields each) F.can_poll }
 {
-    let tasks = runtime.task_set(rt)?;
-    runtime.block_on_with(rt, &tasks, SpawnEach::new(&tasks, futures))
+    match other {
+        None => run(rt, runtime, first.take(count), end),
+        Some(other) => run(rt, runtime, select(first, other).take(count), end),
+    }
 }
 
-/// The same until `end` is ready: from then on no future of the stream is asked for, and each task that was spawned is waited for as
-/// long as the runtime's shutdown may take.
-pub fn run_until<R, S, F, A, T>(rt: &R, runtime: &mut Runtime, futures: S, end: A) -> io::Result<()>
+// The same for one stream to its end.
+fn run<R, S, F, A, T>(rt: &R, runtime: &mut Runtime, futures: S, end: A) -> io::Result<()>
 where
     R: Wait + Threads + Clock + RandomSource + AllocGlobal + Sync,
     S: Stream<Item = F>,
@@ -44,7 +58,8 @@ where
     requires end { A.can_poll end }
     requires items { AllItems (S.yields futures) F.can_poll }
 {
-    run_each(rt, runtime, futures.take_until(end))
+    let tasks = runtime.task_set(rt)?;
+    runtime.block_on_with(rt, &tasks, SpawnEach::new(&tasks, futures.take_until(end)))
 }
 
 /// Spawns each future of a stream, and is ready once the stream has ended, or the set is shut down. A future for which there is no

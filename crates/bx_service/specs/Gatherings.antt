@@ -2,7 +2,8 @@
 use Rattle.std.specs.Prelude.{ℕ, ◌≡◌, ◌<◌, List, [], ◌∷◌, ◌++◌, map, Option, option_map, Some, None, false, Bool, Ok}
 use Rattle.std.specs.{List.AllByRecursion, List.AllByRecursion-prop, Coded.Unit-prop}
 use Rattle.std.proofs.Props.{props}
-use Rattle.bx_entry.specs.Words.{ReadInput, read_by, request_messages}
+use Rattle.bx_entry.specs.Words.{ReadInput, let_in, read_by, request_messages}
+use Rattle.bx_entry.specs.declared.input.Door.{Door}
 use Rattle.bx_entry.specs.declared.entry.{Slot.Slot, Ticket.Ticket}
 use Rattle.bx_entry.specs.declared.entry.Slot.TheVariants.{Ready, Waiting}
 use Rattle.bx_held.specs.Outputs.{MayGive}
@@ -74,16 +75,16 @@ module _ (setup : Setup) where
     abbrev pub AreAll : List Item → Option Awaited → List Slot → List Item → Type 0
     AreAll there awaited slots items = (rest : List Item) × (AreLeft awaited slots rest × (items ≡ there ++ rest))
 
--- a request with these documents, as it is read
-abbrev pub request_of : ℕ → ℕ → List (List ℕ) → ReadInput
-request_of moment nonce documents = read_by moment nonce (request_messages documents)
+-- a request with these documents that came by a door, as it is read
+abbrev pub request_of : Door → ℕ → ℕ → List (List ℕ) → ReadInput
+request_of door moment nonce documents = read_by moment nonce (let_in door (request_messages documents))
 
 -- the place of the first message of a request with these slots, whose messages stand from this place on; one without messages has none
 abbrev pub place_of : ℕ → List Slot → Option ℕ
 place_of first [] = None
 place_of first (slot ∷ slots) = Some first
 
-module _ (tells draws : ℕ → Type 0) where
+module _ (tells draws : ℕ → Type 0) (door : Door) where
   -- At a moment that the clock tells and with a nonce that is drawn, the request stands at some place of what was then seen of the list, that of its first
   -- message, and the slots are what one thread gives for it there.
   pub record AreSlotsFor (setup : Setup) (documents : List (List ℕ)) (seen : List LogStep) (place : Option ℕ) (slots : List Slot) : Type 0 where
@@ -92,8 +93,8 @@ module _ (tells draws : ℕ → Type 0) where
     pub first : ℕ
     pub told : tells moment
     pub drawn : draws nonce
-    pub admitted : IsAdmittedAt (request_of moment nonce documents) first [] seen
-    pub slots_at : AreSlotsAt setup (request_of moment nonce documents) first seen slots
+    pub admitted : IsAdmittedAt (request_of door moment nonce documents) first [] seen
+    pub slots_at : AreSlotsAt setup (request_of door moment nonce documents) first seen slots
     pub placed : place ≡ place_of first slots
 
   -- At such a moment and with such a nonce, the hub refuses the request for this reason.
@@ -103,4 +104,4 @@ module _ (tells draws : ℕ → Type 0) where
     pub front : List LogStep
     pub told : tells moment
     pub drawn : draws nonce
-    pub refused : IsRefused (request_of moment nonce documents) fault front
+    pub refused : IsRefused (request_of door moment nonce documents) fault front

@@ -1,5 +1,6 @@
 //! What a service stands on.
 ghost use Rattle.std.specs.Prelude.{⊤, ◌≡◌, ◌⊎◌, ℕ, [], None, Option, Result, IfOk, IfErr};
+ghost use Rattle.std.specs.Arc.{arc_value};
 ghost use Rattle.std.specs.Vec.Iter.{into_iter_items};
 ghost use Rattle.bx_window.specs.Steps.{setup_of};
 ghost use Rattle.bx_cut.specs.Bodies.{texts_of};
@@ -10,7 +11,7 @@ ghost use Rattle.bx_service.specs.declared.backend.Declined.{Declined};
 
 use crate::gathering::Gathering;
 use bx_cut::Bodies;
-use bx_entry::{Arrival, Placing};
+use bx_entry::{Arrival, Door, Placing};
 use bx_hub::{Gate, Hub, HubFault, PostFault};
 use bx_message::Item;
 use bx_window::Naming;
@@ -86,29 +87,35 @@ pub trait Backend: Drop {
         ensures { stands items.now result };
 }
 
-/// A hub with the clock and the nonces of its requests.
+/// A hub with the door, the clock and the nonces of its requests.
 #[derive(Drop)]
 pub struct HubBackend<J: Naming, P: Placing, G: Gate + Drop, R: Wait + Drop, C, N> {
     rt: R,
     alloc: Global,
     hub: Arc<Hub<J, P, G, R>, Global>,
+    door: Door,
     clock: C,
     nonces: N,
 }
 
 impl<J: Naming, P: Placing, G: Gate + Drop, R: Wait + Drop, C, N> HubBackend<J, P, G, R, C, N> {
-    /// Requests go to this hub, at the clock's moments and with these nonces.
+    /// Requests go to this hub, by this door, at the clock's moments and with these nonces.
     pub fn new(
         rt: R,
         alloc: Global,
         hub: Arc<Hub<J, P, G, R>, Global>,
+        door: Door,
         clock: C,
         nonces: N,
-    ) -> HubBackend<J, P, G, R, C, N> {
+    ) -> HubBackend<J, P, G, R, C, N>
+        ensures hub { arc_value result.hub ≡ arc_value hub }
+        ensures others { (result.door ≡ door) × (result.clock ≡ clock) × (result.nonces ≡ nonces) }
+    {
         HubBackend {
             rt,
             alloc,
             hub,
+            door,
             clock,
             nonces,
         }
@@ -130,10 +137,10 @@ where
     // the request is refused and its documents come back, also without memory for one more handle of the hub.
     ghost admits = { λ backend bodies outcome.
         IfOk outcome (λ g. (g.items.items ≡ []) × (g.held ≡ None)
-        × AreSlotsFor (C.tells backend.clock) (N.draws backend.nonces) (setup_of J.config J.placing) (texts_of bodies)
+        × AreSlotsFor (C.tells backend.clock) (N.draws backend.nonces) backend.door (setup_of J.config J.placing) (texts_of bodies)
         g.pass g.first (into_iter_items g.slots))
         × IfErr outcome (λ d. (d.bodies ≡ bodies)
-        × ((d.fault ≡ faults.Memory) ⊎ IsRefusedWith (C.tells backend.clock) (N.draws backend.nonces)
+        × ((d.fault ≡ faults.Memory) ⊎ IsRefusedWith (C.tells backend.clock) (N.draws backend.nonces) backend.door
         (texts_of bodies) d.fault)) };
 
     ghost stands = { λ items place. place ≡ items.first };
@@ -149,6 +156,7 @@ where
         let arrival = Arrival {
             moment: self.clock.now(),
             nonce: self.nonces.next(),
+            door: self.door,
             bodies,
         };
         let mut pass = self.hub.pass();

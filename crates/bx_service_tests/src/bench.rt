@@ -31,13 +31,15 @@ impl Nonces for Zeros {
     }
 }
 
-/// A service over a hub, the same at a moment that is too great, the same with a small limit of bodies, and two tasks that were not woken.
+/// A service over a hub, the same at the readers' door, at a moment that is too great, and with a small limit of bodies,
+/// and two tasks that were not woken.
 #[derive(Drop)]
 pub struct Bench<J: Naming, S: Drop, H: Wait + Drop> {
     pub alloc: Global,
     pub hub: Arc<TestHub<J, H>, Global>,
     pub pass: Pass<J>,
     pub service: BayeuxService<S>,
+    pub readers: BayeuxService<S>,
     pub too_late: BayeuxService<S>,
     pub small: BayeuxService<S>,
     pub first: MockTask,

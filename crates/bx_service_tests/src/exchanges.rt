@@ -2,11 +2,11 @@
 ghost use Rattle.std.specs.Prelude.{◌≡◌};
 ghost use Rattle.bx_entry.specs.Placings.{by_remainder};
 
-use crate::bench::{Bench, Still, Zeros};
+use crate::bench::{Bench, Still, TestHub, Zeros};
 use crate::requests::{Ask, Content, Given, POST, Want, check_given, check_pending};
 use crate::runs::{Held, RUNS, SMALL, Step};
 use bx_advice::{Config, Options};
-use bx_entry::ByRemainder;
+use bx_entry::{ByRemainder, Door};
 use bx_hub::{Hub, OpenGate};
 use bx_message::Item;
 use bx_service::{Backend, BayeuxService, BodyLimit, HubBackend, Unanswered};
@@ -125,6 +125,7 @@ where
             asks(rt, alloc, &bench.too_late, task, &ask, *want)?;
         }
         Step::Small(ask, want) => asks(rt, alloc, &bench.small, task, ask, *want)?,
+        Step::Read(ask, want) => asks(rt, alloc, &bench.readers, task, ask, *want)?,
         Step::Wait(text) => waits(rt, alloc, service, task, *text)?,
         Step::Break(text) => breaks(rt, alloc, service, task, *text)?,
         Step::Tick(moment) => bench.tick(rt, *moment)?,
@@ -211,6 +212,18 @@ where
     take_all(rt, bench, run.last)
 }
 
+// What requests that come by this door at this moment go to.
+fn backend_of<'a, J: Naming, R: Wait>(
+    rt: &'a R,
+    alloc: Global,
+    hub: &Arc<TestHub<J, &'a R>, Global>,
+    door: Door,
+    moment: u64,
+) -> Result<HubBackend<J, ByRemainder, OpenGate, &'a R, Still, Zeros>, Fail> {
+    let hub = Arc::try_clone(hub)?;
+    Ok(HubBackend::new(rt, alloc, hub, door, Still(moment), Zeros))
+}
+
 fn run_in_hub<J: Naming, R: Wait + Abort>(
     rt: &R,
     alloc: Global,
@@ -229,15 +242,10 @@ fn run_in_hub<J: Naming, R: Wait + Abort>(
     )?;
     let pass = hub.pass();
     let hub = Arc::new(alloc, hub)?;
-    let backend = HubBackend::new(rt, alloc, Arc::try_clone(&hub)?, Still(0), Zeros);
-    let too_late = HubBackend::new(
-        rt,
-        alloc,
-        Arc::try_clone(&hub)?,
-        Still((1 << 62) + 1),
-        Zeros,
-    );
-    let small = HubBackend::new(rt, alloc, Arc::try_clone(&hub)?, Still(0), Zeros);
+    let backend = backend_of(rt, alloc, &hub, Door::Publishers, 0)?;
+    let readers = backend_of(rt, alloc, &hub, Door::Readers, 0)?;
+    let too_late = backend_of(rt, alloc, &hub, Door::Publishers, (1 << 62) + 1)?;
+    let small = backend_of(rt, alloc, &hub, Door::Publishers, 0)?;
     let limit = BodyLimit::new(SMALL).ok_or("no such limit")?;
     let (first, second) = tasks;
     let mut bench = Bench {
@@ -245,6 +253,7 @@ fn run_in_hub<J: Naming, R: Wait + Abort>(
         hub,
         pass,
         service: BayeuxService::new(alloc, backend)?,
+        readers: BayeuxService::new(alloc, readers)?,
         too_late: BayeuxService::new(alloc, too_late)?,
         small: BayeuxService::new(alloc, small)?.with_limit(limit),
         first,

@@ -1,4 +1,6 @@
 //! The runs of exchanges: what is asked in each, and what must be given.
+mod readers;
+
 use crate::requests::{Ask, Content, FORM, JSON, POST, Want};
 use crate::texts;
 use bx_advice::BODY_LIMIT;
@@ -18,6 +20,8 @@ pub enum Step {
     Ask(Ask, Want),
     /// A request to a service that takes [`SMALL`] bytes is given this.
     Small(Ask, Want),
+    /// A request at the readers' door is given this.
+    Read(Ask, Want),
     /// A POST of this JSON at a moment that is too great is given this.
     TooLate(&'static str, Want),
     /// A POST of this JSON waits, and is given up.
@@ -517,7 +521,7 @@ const RIDDEN: Run = Run {
 };
 
 /// All runs.
-pub const RUNS: [Run; 17] = [
+pub const RUNS: [Run; 20] = [
     ANSWERED,
     REFUSED,
     SMALL_LIMIT,
@@ -535,4 +539,7 @@ pub const RUNS: [Run; 17] = [
     GIVEN_UP,
     LOST,
     RIDDEN,
+    readers::PUBLISH_NOTHING,
+    readers::HEAR,
+    readers::RIDE,
 ];

@@ -52,6 +52,26 @@ pub const FORM_OF_TWO: &str =
 pub const QUERY_PUBLISH: &str =
     r#"/cometd?message=[{%22channel%22:%22/a/b%22,%22clientId%22:%22000000000000000000000000000000000000000000000001%22,%22data%22:%22x%E2%80%A8y%22}]&jsonp=cb.x"#;
 
+/// A handshake, and behind it a publish that nobody may send.
+pub const HANDSHAKE_AND_PUBLISH: &str =
+    r#"[{"channel":"/meta/handshake","version":"1.0","supportedConnectionTypes":["long-polling"]},{"channel":"/a/b","data":7}]"#;
+
+/// The same the other way round.
+pub const PUBLISH_AND_HANDSHAKE: &str =
+    r#"[{"channel":"/a/b","data":7},{"channel":"/meta/handshake","version":"1.0","supportedConnectionTypes":["long-polling"]}]"#;
+
+/// The same in two documents of a form.
+pub const FORM_HANDSHAKE_AND_PUBLISH: &str =
+    r#"message=[{"channel":"/meta/handshake","version":"1.0","supportedConnectionTypes":["long-polling"]}]&message={"channel":"/a/b","data":7}"#;
+
+/// The same by a query.
+pub const QUERY_HANDSHAKE_AND_PUBLISH: &str =
+    r#"/cometd?message=[{%22channel%22:%22/meta/handshake%22,%22version%22:%221.0%22,%22supportedConnectionTypes%22:[%22long-polling%22]},{%22channel%22:%22/a/b%22,%22data%22:7}]&jsonp=cb.x"#;
+
+/// The first session publishes to a service channel.
+pub const PUBLISH_SERVICE: &str =
+    r#"[{"channel":"/service/a","clientId":"000000000000000000000000000000000000000000000001","data":7}]"#;
+
 /// The query of a connect of the first session that is answered at once.
 pub const QUERY_CONNECT: &str =
     r#"/cometd?jsonp=cb.x&message=[{%22channel%22:%22/meta/connect%22,%22clientId%22:%22000000000000000000000000000000000000000000000001%22,%22connectionType%22:%22long-polling%22,%22advice%22:{%22timeout%22:0}}]"#;
@@ -102,6 +122,9 @@ pub const DISCONNECTED: &str =
 
 /// The publish is answered.
 pub const PUBLISHED: &str = r#"[{"channel":"/a/b","successful":true}]"#;
+
+/// The publish to a service channel is answered.
+pub const PUBLISHED_SERVICE: &str = r#"[{"channel":"/service/a","successful":true}]"#;
 
 /// The first session's publish is answered behind what the second one published and its own event.
 pub const OWN_RIDDEN: &str =

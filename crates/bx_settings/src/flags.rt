@@ -54,6 +54,7 @@ pub fn read_flags<'a>(
     };
     Ok(Settings {
         listen: value_of(&matches, "listen", "127.0.0.1:8087"),
+        readers: matches.get_str("readers"),
         config,
         body,
         seed: match matches.get_str("seed-file") {
@@ -198,6 +199,12 @@ fn with_server<'a>(alloc: Global, command: Command<'a>) -> Result<Command<'a>, A
             "listen",
             "ADDRESS",
             "Where it listens: a name or an IP address, and a port [default: 127.0.0.1:8087]",
+        ))?
+        .arg(value(
+            alloc,
+            "readers",
+            "ADDRESS",
+            "Where it listens too, for those who may not publish to a broadcast channel [default: nowhere]",
         ))?
         .arg(value(
             alloc,

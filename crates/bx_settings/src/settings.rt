@@ -19,6 +19,8 @@ pub enum Seed<'a> {
 pub struct Settings<'a> {
     /// Where it listens: a host's name or IP address, a colon and a port.
     pub listen: &'a str,
+    /// Where it listens for readers, who publish nothing, as `listen`; none: nowhere.
+    pub readers: Option<&'a str>,
     /// How many shards there are, the times in milliseconds, the limits and the options.
     pub config: Config,
     /// The most bytes that the body of a request, or its query, may have: 1 to [`bx_advice::BODY_LIMIT`].

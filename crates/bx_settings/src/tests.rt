@@ -1,6 +1,7 @@
 use crate::flags::read_flags;
 use crate::seed::read_digits;
 use crate::time::milliseconds;
+use crate::words::read_words;
 use clap::Error;
 use clap::error::ErrorKind;
 use std::alloc::{AllocError, Global};
@@ -114,5 +115,53 @@ fn answers_are_recorded_where_a_record_is(rt: HostRuntime) -> Result<(), Fail> {
             assert_eq!(rt; error.exit_code(), 2);
         }
     }
+    Ok(())
+}
+
+// Whether these flags say that it listens here, and for readers there.
+fn are_places(
+    alloc: Global,
+    words: &[&str],
+    listen: &str,
+    readers: Option<&str>,
+) -> Result<bool, Fail> {
+    let words = owned(alloc, words)?;
+    let settings = read_flags(alloc, words.as_slice(), 1).map_err(|_| "no settings")?;
+    Ok(settings.listen == listen && settings.readers == readers)
+}
+
+// Whether these flags are refused.
+fn are_refused(alloc: Global, words: &[&str]) -> Result<bool, Fail> {
+    let words = owned(alloc, words)?;
+    match read_flags(alloc, words.as_slice(), 1) {
+        Ok(_) => Ok(false),
+        Err(error) => Ok(error.exit_code() == 2),
+    }
+}
+
+#[test]
+fn readers_have_a_place_of_their_own(rt: HostRuntime) -> Result<(), Fail> {
+    let alloc = rt.alloc();
+    let usual = "127.0.0.1:8087";
+    assert!(rt; are_places(alloc, &[], usual, None)?);
+    assert!(rt; are_places(alloc, &["--listen", "a:1"], "a:1", None)?);
+    assert!(rt; are_places(alloc, &["--readers", "b:2"], usual, Some("b:2"))?);
+    assert!(rt; are_places(alloc, &["--readers=[::1]:9"], usual, Some("[::1]:9"))?);
+    let both = ["--readers", "b:2", "--listen", "a:1"];
+    assert!(rt; are_places(alloc, &both, "a:1", Some("b:2"))?);
+    assert!(rt; are_refused(alloc, &["--readers"])?);
+    assert!(rt; are_refused(alloc, &["--reader", "a:1"])?);
+    assert!(rt; are_refused(alloc, &["--readers", "a:1", "--readers", "b:2"])?);
+    Ok(())
+}
+
+#[test]
+fn words_in_their_order_name_no_readers(rt: HostRuntime) -> Result<(), Fail> {
+    let seed = "000102030405060708090a0b0c0d0e0f101112131415161718191a1b1c1d1e1f";
+    let words = ["127.0.0.1:0", "2", "30000", "0", "10000", seed, "1"];
+    let words = owned(rt.alloc(), &words)?;
+    let settings = read_words(words.as_slice()).ok_or("no settings")?;
+    assert_eq!(rt; settings.listen, "127.0.0.1:0");
+    assert_eq!(rt; settings.readers, None);
     Ok(())
 }

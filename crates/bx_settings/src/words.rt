@@ -37,6 +37,7 @@ pub fn read_words(words: &[String]) -> Option<Settings<'_>>
     )?;
     Some(Settings {
         listen: listen.as_str(),
+        readers: None,
         config: with_more(config, more)?,
         body: BODY_LIMIT,
         seed: Seed::Said(read_digits(seed.as_bytes())?),

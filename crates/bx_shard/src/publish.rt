@@ -16,7 +16,7 @@ ghost use Rattle.bx_shard.specs.Sessions.{AreCounted, AreCountable, AreHeld, kep
 use crate::sessions::Sessions;
 use bx_connects::Wakers;
 use bx_message::SharedEvent;
-use bx_names::{ChannelKind, kind_of};
+use bx_names::is_broadcast;
 use std::alloc::{AllocError, Global};
 
 /// An event for one session, with a further handle of it where the session wants two.
@@ -25,13 +25,6 @@ pub(crate) struct Parcel {
     pub(crate) number: u64,
     pub(crate) event: SharedEvent,
     pub(crate) further: Option<SharedEvent>,
-}
-
-// Whether a channel of this name is neither a meta nor a service channel.
-fn is_broadcast(channel: &str) -> bool
-    ensures { result ≡ is_broadcast channel.now }
-{
-    matches!(kind_of(channel), ChannelKind::Broadcast)
 }
 
 impl Sessions {

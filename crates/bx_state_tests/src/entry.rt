@@ -1,7 +1,9 @@
 //! Requests of several documents, and where sessions are placed.
 use crate::same::same;
 use bx_cut::Bodies;
-use bx_entry::{AllFirst, BodyError, ByRemainder, ByTable, Placing, ReadError, read_messages};
+use bx_entry::{
+    AllFirst, Arrival, BodyError, ByRemainder, ByTable, Door, Placing, ReadError, read_messages,
+};
 use bx_message::Message;
 use std::alloc::{AllocError, Global};
 use std::process::Abort;
@@ -34,12 +36,27 @@ enum Found {
     Fault(BodyError),
 }
 
-fn read(alloc: Global, documents: &[&str]) -> Result<Found, Fail> {
-    match &read_messages(alloc, &bodies(alloc, documents)?) {
+fn found_in(messages: &Result<Vec<Message>, ReadError>) -> Result<Found, Fail> {
+    match messages {
         Ok(messages) => Ok(Found::Messages(messages.len())),
         Err(ReadError::Body(fault)) => Ok(Found::Fault(*fault)),
         Err(ReadError::Memory) => Err(Fail::from("out of memory")),
     }
+}
+
+fn read(alloc: Global, documents: &[&str]) -> Result<Found, Fail> {
+    found_in(&read_messages(alloc, &bodies(alloc, documents)?))
+}
+
+// The same where the request came by this door.
+fn read_at(alloc: Global, door: Door, documents: &[&str]) -> Result<Found, Fail> {
+    let arrival = Arrival {
+        moment: 0,
+        nonce: 0,
+        door,
+        bodies: bodies(alloc, documents)?,
+    };
+    found_in(&arrival.read(alloc))
 }
 
 #[test]
@@ -106,6 +123,125 @@ fn messages_are_counted_over_all_documents(rt: HostRuntime) -> Result<(), Fail> 
     for (first, second, wanted) in &COUNTS {
         let found = found_in_two(rt.alloc(), *first, *second)?;
         same(&rt, found, *wanted, *first);
+    }
+    Ok(())
+}
+
+const FORBIDDEN: Found = Found::Fault(BodyError::Forbidden);
+
+// Channels, as JSON has them, and what a request of one message to such a one comes to by the readers' door.
+const CHANNELS: [(&str, Found); 28] = [
+    ("/meta/handshake", Found::Messages(1)),
+    ("/meta/connect", Found::Messages(1)),
+    ("/meta/none", Found::Messages(1)),
+    ("/meta/", Found::Messages(1)),
+    ("/meta/a b", Found::Messages(1)),
+    ("/service/a", Found::Messages(1)),
+    ("/service/a/b", Found::Messages(1)),
+    ("/service/", Found::Messages(1)),
+    ("/service/*", Found::Messages(1)),
+    ("\\u002fmeta\\/connect", Found::Messages(1)),
+    ("/a", FORBIDDEN),
+    ("/a/b", FORBIDDEN),
+    ("\\/a", FORBIDDEN),
+    ("/meta", FORBIDDEN),
+    ("/service", FORBIDDEN),
+    ("/metas/a", FORBIDDEN),
+    ("/services/a", FORBIDDEN),
+    ("/Meta/connect", FORBIDDEN),
+    ("/SERVICE/a", FORBIDDEN),
+    ("meta/connect", FORBIDDEN),
+    (" /meta/connect", FORBIDDEN),
+    ("//meta/connect", FORBIDDEN),
+    ("/a/meta/b", FORBIDDEN),
+    ("/a/service/b", FORBIDDEN),
+    ("/a/*", FORBIDDEN),
+    ("/**", FORBIDDEN),
+    ("/", FORBIDDEN),
+    ("a", FORBIDDEN),
+];
+
+#[test]
+fn readers_are_let_in_by_channels(rt: HostRuntime) -> Result<(), Fail> {
+    let alloc = rt.alloc();
+    for (channel, wanted) in &CHANNELS {
+        let text = format!(in alloc; "[{{\"channel\":\"{channel}\"}}]")?;
+        let found = read_at(alloc, Door::Readers, &[text.as_str()])?;
+        same(&rt, found, *wanted, *channel);
+        let found = read_at(alloc, Door::Publishers, &[text.as_str()])?;
+        same(&rt, found, Found::Messages(1), *channel);
+    }
+    Ok(())
+}
+
+// Two documents, and what their request comes to by the publishers' door and by the readers'. A fault of the documents
+// comes first.
+const REQUESTS: [(&str, &str, Found, Found); 18] = [
+    ("[]", "[]", Found::Messages(0), Found::Messages(0)),
+    (CONNECT, "[]", Found::Messages(1), Found::Messages(1)),
+    (CONNECT, SERVICE, Found::Messages(2), Found::Messages(2)),
+    (PUBLISH, "[]", Found::Messages(1), FORBIDDEN),
+    ("[]", PUBLISH, Found::Messages(1), FORBIDDEN),
+    (PUBLISH, SERVICE, Found::Messages(2), FORBIDDEN),
+    (SERVICE, PUBLISH, Found::Messages(2), FORBIDDEN),
+    (PUBLISH, PUBLISH, Found::Messages(2), FORBIDDEN),
+    (NO_NAME, "[]", Found::Messages(1), FORBIDDEN),
+    (FIRST, CONNECT, Found::Messages(4), FORBIDDEN),
+    (MIDDLE, CONNECT, Found::Messages(4), FORBIDDEN),
+    (LAST, CONNECT, Found::Messages(4), FORBIDDEN),
+    (CONNECT, LAST, Found::Messages(4), FORBIDDEN),
+    (PUBLISH, "[", NOT_JSON, NOT_JSON),
+    ("", PUBLISH, NOT_JSON, NOT_JSON),
+    (PUBLISH, "7", NOT_OBJECT, NOT_OBJECT),
+    (PUBLISH, "[{}]", NO_CHANNEL, NO_CHANNEL),
+    ("{\"channel\":7}", PUBLISH, NO_CHANNEL, NO_CHANNEL),
+];
+
+const NOT_JSON: Found = Found::Fault(BodyError::NotJson);
+
+const NOT_OBJECT: Found = Found::Fault(BodyError::NotObject);
+
+const NO_CHANNEL: Found = Found::Fault(BodyError::NoChannel);
+
+const CONNECT: &str = "{\"channel\":\"/meta/connect\"}";
+
+const SERVICE: &str = "[{\"channel\":\"/service/a\"}]";
+
+const PUBLISH: &str = "{\"channel\":\"/a\"}";
+
+// A message to a channel without a letter.
+const NO_NAME: &str = "[{\"channel\":\"\"}]";
+
+// Three messages, of which the first one is to a broadcast channel, and the same of the others.
+const FIRST: &str =
+    "[{\"channel\":\"/a\"},{\"channel\":\"/meta/connect\"},{\"channel\":\"/service/a\"}]";
+
+const MIDDLE: &str =
+    "[{\"channel\":\"/service/a\"},{\"channel\":\"/a\"},{\"channel\":\"/meta/connect\"}]";
+
+const LAST: &str =
+    "[{\"channel\":\"/meta/connect\"},{\"channel\":\"/service/a\"},{\"channel\":\"/a\"}]";
+
+#[test]
+fn readers_publish_nothing(rt: HostRuntime) -> Result<(), Fail> {
+    for (first, second, at_publishers, at_readers) in &REQUESTS {
+        let found = read_at(rt.alloc(), Door::Publishers, &[*first, *second])?;
+        same(&rt, found, *at_publishers, *first);
+        let found = read_at(rt.alloc(), Door::Readers, &[*first, *second])?;
+        same(&rt, found, *at_readers, *first);
+    }
+    Ok(())
+}
+
+// Publishes, as many as a request may have, and one more.
+const PUBLISHES: [(usize, Found); 2] = [(256, FORBIDDEN), (257, Found::Fault(BodyError::TooMany))];
+
+#[test]
+fn too_many_come_before_the_door(rt: HostRuntime) -> Result<(), Fail> {
+    for (count, wanted) in &PUBLISHES {
+        let text = array_of(rt.alloc(), *count)?;
+        let found = read_at(rt.alloc(), Door::Readers, &[text.as_str()])?;
+        same(&rt, found, *wanted, *count);
     }
     Ok(())
 }

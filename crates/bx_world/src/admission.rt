@@ -14,7 +14,7 @@ ghost use Rattle.bx_world.specs.declared.step.AdmissionFault.TheVariants.{Refuse
 use crate::backlog::Backlog;
 use crate::step::{AdmissionFault, Admitted};
 use bx_advice::{Config, ShardCount};
-use bx_entry::{Arrival, Entry, Placing, read_messages};
+use bx_entry::{Arrival, Entry, Placing};
 use bx_registry::{Plan, Registry};
 use bx_shard::Shard;
 use bx_workers::{Gate, WorkerCount};
@@ -66,7 +66,7 @@ impl Intake {
     ) -> Result<Admitted, AdmissionFault>
         ensures { IsAdmission (P.place_of placing.now) self.old (read_input (Post arrival.now)) result self.new }
     {
-        let messages = read_messages(alloc, &arrival.bodies)?;
+        let messages = arrival.read(alloc)?;
         let plan = self
             .registry
             .plan(alloc, placing, arrival.moment, arrival.nonce, &messages)?;

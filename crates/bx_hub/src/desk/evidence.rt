@@ -175,6 +175,19 @@ impl<J: Naming> Watching<J> {
     ghost use Rattle.bx_shard.specs.Seen.{state};
     ghost use Rattle.bx_shard.specs.States.{connect_in};
 
+    // This was said of this waker.
+    fn new(ticket: &Ticket, waker: Snapshot<Waker>, said: &Watch) -> Watching<J>
+        ensures { (result.ticket.value ≡ ticket.now) × (result.waker.value ≡ waker.value)
+            × (result.said.value ≡ said.now) }
+    {
+        Watching {
+            ticket: Snapshot::of(ticket),
+            waker,
+            said: Snapshot::of(said),
+            of: PhantomData,
+        }
+    }
+
     /// This shard said so of this waker.
     pub(super) fn of<P: Placing>(
         desk: &Desk<J, P>,
@@ -189,12 +202,7 @@ impl<J: Naming> Watching<J> {
             × (result.said.value ≡ said.now) }
     {
         let _ = desk;
-        Watching {
-            ticket: Snapshot::of(ticket),
-            waker,
-            said: Snapshot::of(said),
-            of: PhantomData,
-        }
+        Watching::new(ticket, waker, said)
     }
 
     /// No shard of the ticket's index was found: another one stood under its lock, to which the ticket is unknown.
@@ -210,12 +218,7 @@ impl<J: Naming> Watching<J> {
             × (result.said.value ≡ said.now) }
     {
         let _ = desk;
-        Watching {
-            ticket: Snapshot::of(ticket),
-            waker,
-            said: Snapshot::of(said),
-            of: PhantomData,
-        }
+        Watching::new(ticket, waker, said)
     }
 }
 

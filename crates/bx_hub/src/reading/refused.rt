@@ -1,7 +1,6 @@
 //! What a refused post gives back.
 ghost use Rattle.std.specs.Prelude.{◌≡◌, Err, None, true, false};
-ghost use Rattle.bx_cut.specs.Bodies.{texts_of};
-ghost use Rattle.bx_entry.specs.Requests.{request_messages};
+ghost use Rattle.bx_entry.specs.Requests.{arrival_messages};
 ghost use Rattle.bx_entry.specs.declared.input.BodyError.{BodyError};
 ghost use Rattle.bx_entry.specs.declared.read.ReadError.TheVariants as reads;
 ghost use Rattle.bx_hub.specs.Faults.{of_reading};
@@ -28,7 +27,7 @@ impl<J: Naming> Refused<J> {
 
     /// Its messages were not read.
     pub(super) fn unread(arrival: Arrival, fault: ReadError) -> Refused<J>
-        requires { (body : BodyError) → fault ≡ reads.Body body → request_messages (texts_of arrival.bodies) ≡ Err body }
+        requires { (body : BodyError) → fault ≡ reads.Body body → arrival_messages arrival ≡ Err body }
         ensures { (result.why.fault ≡ of_reading fault) × (result.arrival ≡ arrival) }
     {
         Refused {

@@ -1,14 +1,20 @@
 use crate::{answer_text, config_text, request_text, tick_text};
 use bx_advice::{BODY_LIMIT, Config, Options};
 use bx_cut::Bodies;
-use bx_entry::read_messages;
+use bx_entry::{Arrival, Door};
 use std::alloc::Global;
 use std::test::Fail;
 
 // The lines of a request with this body, in the moment 5 and with the nonce 2748.
 fn text_of(alloc: Global, bodies: Bodies) -> Result<Option<Vec<u8>>, Fail> {
-    let messages = read_messages(alloc, &bodies)?;
-    Ok(request_text(alloc, 5, 2748, &bodies, messages.as_slice())?)
+    let arrival = Arrival {
+        moment: 5,
+        nonce: 2748,
+        door: Door::Publishers,
+        bodies,
+    };
+    let messages = arrival.read(alloc)?;
+    Ok(request_text(alloc, &arrival, messages.as_slice())?)
 }
 
 fn whole(alloc: Global, body: &str) -> Result<Bodies, Fail> {

@@ -1,0 +1,30 @@
+-- What comes by the readers' door.
+use Rattle.std.specs.Prelude.{ℕ, ◌≡◌, false, List, [], map, ⊤}
+use Rattle.std.specs.List.{AllByRecursion}
+use Rattle.bx_names.specs.Words.{is_broadcast}
+use Rattle.bx_advice.specs.declared.config.Config.{Config}
+use Rattle.bx_entry.specs.declared.input.Input.{Input}
+use Rattle.bx_entry.specs.declared.input.Input.TheVariants.{Post, Tick}
+use Rattle.bx_entry.specs.declared.input.Door.TheVariants.{Readers}
+use Rattle.bx_entry.specs.Listing as lists
+use Rattle.bx_entry.specs.Sessions.{session}
+use Rattle.bx_entry.specs.Words.{Listed, entries, read_input, taken_in}
+
+-- a request that came by the readers' door, or a tick
+abbrev pub IsOfReaders : Input → Type 0
+IsOfReaders (Post a) = a.door ≡ Readers
+IsOfReaders (Tick moment) = ⊤
+
+-- an element of the list is no message to a broadcast channel
+abbrev pub IsQuiet : Listed → Type 0
+IsQuiet (lists.Post posted) = is_broadcast posted.message.channel ≡ false
+IsQuiet (lists.Tick moment) = ⊤
+
+-- a list without such messages, of which no session has an event
+pub record IsSilent (config : Config) (list : List Listed) : Type 0 where
+  pub quiet : AllByRecursion IsQuiet list
+  pub eventless : (number : ℕ) → (session config number (entries config list)).events ≡ []
+
+-- so is the list of what came by the readers' door alone
+abbrev pub ReadersPublishNothing : Type 0
+ReadersPublishNothing = (config : Config) (inputs : List Input) → AllByRecursion IsOfReaders inputs → IsSilent config (taken_in (map read_input inputs)).list

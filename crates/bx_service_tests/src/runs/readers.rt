@@ -1,0 +1,299 @@
+//! What is asked at the readers' door.
+use crate::requests::{Ask, Content, FORM, POST, Want};
+use crate::runs::{Held, Run, Step};
+use crate::texts;
+use bx_advice::BODY_LIMIT;
+
+const FORBIDDEN: Want = Want::Status(403);
+
+const BAD: Want = Want::Status(400);
+
+const PUBLISH: Step = Step::Post(texts::PUBLISH, texts::PUBLISHED);
+
+/// What readers may not send is refused as a whole, behind what cannot be read, and nothing of it is admitted: the
+/// session that is opened then is the first one.
+pub const PUBLISH_NOTHING: Run = Run {
+    first: &[
+        Step::Read(
+            Ask {
+                content: Content::Whole(texts::HANDSHAKE_AND_PUBLISH),
+                ..POST
+            },
+            FORBIDDEN,
+        ),
+        Step::Read(
+            Ask {
+                content: Content::Whole(texts::PUBLISH_AND_HANDSHAKE),
+                ..POST
+            },
+            FORBIDDEN,
+        ),
+        Step::Read(
+            Ask {
+                kind: FORM,
+                content: Content::Whole(texts::FORM_HANDSHAKE_AND_PUBLISH),
+                ..POST
+            },
+            FORBIDDEN,
+        ),
+        Step::Read(
+            Ask {
+                method: "GET",
+                target: texts::QUERY_HANDSHAKE_AND_PUBLISH,
+                ..POST
+            },
+            FORBIDDEN,
+        ),
+        Step::Read(
+            Ask {
+                method: "GET",
+                target: "/cometd?message={%22channel%22:%22/a%22}",
+                ..POST
+            },
+            FORBIDDEN,
+        ),
+        Step::Read(
+            Ask {
+                content: Content::Whole(r#"{"channel":"/a/b","data":7}"#),
+                ..POST
+            },
+            FORBIDDEN,
+        ),
+        Step::Read(
+            Ask {
+                content: Content::Whole(r#"[{"channel":"a"}]"#),
+                ..POST
+            },
+            FORBIDDEN,
+        ),
+        Step::Read(
+            Ask {
+                content: Content::Whole(r#"[{"channel":"/meta"}]"#),
+                ..POST
+            },
+            FORBIDDEN,
+        ),
+        Step::Read(
+            Ask {
+                content: Content::Whole(r#"[{"channel":"/a"}"#),
+                ..POST
+            },
+            BAD,
+        ),
+        Step::Read(
+            Ask {
+                content: Content::Whole(r#"[{"channel":"/a"},7]"#),
+                ..POST
+            },
+            BAD,
+        ),
+        Step::Read(
+            Ask {
+                content: Content::Whole(r#"[{"channel":"/a"},{}]"#),
+                ..POST
+            },
+            BAD,
+        ),
+        Step::Read(
+            Ask {
+                kind: FORM,
+                content: Content::Whole(r#"other=[{"channel":"/a"}]"#),
+                ..POST
+            },
+            BAD,
+        ),
+        Step::Read(
+            Ask {
+                method: "GET",
+                target: "/cometd?jsonp=a(&message={%22channel%22:%22/a%22}",
+                ..POST
+            },
+            BAD,
+        ),
+        Step::Read(
+            Ask {
+                target: "/cometdx",
+                content: Content::Whole(texts::PUBLISH),
+                ..POST
+            },
+            Want::Status(404),
+        ),
+        Step::Read(
+            Ask {
+                method: "PUT",
+                content: Content::Whole(texts::PUBLISH),
+                ..POST
+            },
+            Want::Status(405),
+        ),
+        Step::Read(
+            Ask {
+                content: Content::Padded(texts::PUBLISH, BODY_LIMIT + 1),
+                ..POST
+            },
+            Want::Status(413),
+        ),
+        Step::Read(
+            Ask {
+                content: Content::Whole("[]"),
+                ..POST
+            },
+            Want::Json("[]"),
+        ),
+        Step::Read(
+            Ask {
+                content: Content::Whole(texts::HANDSHAKE),
+                ..POST
+            },
+            Want::Json(texts::HANDSHAKEN),
+        ),
+    ],
+    held: None,
+    last: &[],
+    ride: false,
+};
+
+/// Sessions are served at either door, at whichever they were opened, and publish to service channels.
+pub const HEAR: Run = Run {
+    first: &[
+        Step::Post(texts::HANDSHAKE, texts::HANDSHAKEN),
+        Step::Read(
+            Ask {
+                content: Content::Whole(texts::HANDSHAKE),
+                ..POST
+            },
+            Want::Json(texts::SECOND_HANDSHAKEN),
+        ),
+        Step::Read(
+            Ask {
+                kind: FORM,
+                content: Content::Whole(texts::FORM_OF_TWO),
+                ..POST
+            },
+            FORBIDDEN,
+        ),
+        PUBLISH,
+        Step::Read(
+            Ask {
+                content: Content::Whole(texts::CONNECT_AT_ONCE),
+                ..POST
+            },
+            Want::Json(texts::CONNECTED),
+        ),
+        Step::Read(
+            Ask {
+                content: Content::Whole(texts::SUBSCRIBE),
+                ..POST
+            },
+            Want::Json(texts::SUBSCRIBED),
+        ),
+        Step::Read(
+            Ask {
+                content: Content::Whole(texts::PUBLISH),
+                ..POST
+            },
+            FORBIDDEN,
+        ),
+        Step::Read(
+            Ask {
+                method: "GET",
+                target: texts::QUERY_PUBLISH,
+                ..POST
+            },
+            FORBIDDEN,
+        ),
+        Step::Read(
+            Ask {
+                content: Content::Whole(texts::PUBLISH_SERVICE),
+                ..POST
+            },
+            Want::Json(texts::PUBLISHED_SERVICE),
+        ),
+        Step::Read(
+            Ask {
+                content: Content::Whole(texts::CONNECT_AT_ONCE),
+                ..POST
+            },
+            Want::Json(texts::CONNECTED),
+        ),
+        PUBLISH,
+        Step::Read(
+            Ask {
+                content: Content::Whole(texts::CONNECT_AT_ONCE),
+                ..POST
+            },
+            Want::Json(texts::CONNECTED_WITH_EVENT),
+        ),
+        Step::Post(texts::CONNECT_AT_ONCE, texts::CONNECTED),
+    ],
+    held: Some(Held {
+        content: Content::Whole(texts::CONNECT),
+        is_late: false,
+        before: &[Step::Read(
+            Ask {
+                content: Content::Whole(texts::PUBLISH_OWN),
+                ..POST
+            },
+            FORBIDDEN,
+        )],
+        then: &[Step::Read(
+            Ask {
+                content: Content::Whole(texts::DISCONNECT),
+                ..POST
+            },
+            Want::Json(texts::DISCONNECTED),
+        )],
+        gives: Some((true, Want::Json(texts::SESSION_ENDED))),
+    }),
+    last: &[
+        Step::Close,
+        Step::Read(
+            Ask {
+                content: Content::Whole(texts::PUBLISH),
+                ..POST
+            },
+            FORBIDDEN,
+        ),
+        Step::Read(
+            Ask {
+                content: Content::Whole(texts::HANDSHAKE),
+                ..POST
+            },
+            Want::Status(503),
+        ),
+    ],
+    ride: false,
+};
+
+/// What waits for a session rides on no request that is refused.
+pub const RIDE: Run = Run {
+    first: &[
+        Step::Post(texts::HANDSHAKE, texts::HANDSHAKEN),
+        Step::Read(
+            Ask {
+                content: Content::Whole(texts::HANDSHAKE),
+                ..POST
+            },
+            Want::Json(texts::SECOND_HANDSHAKEN),
+        ),
+        Step::Read(
+            Ask {
+                content: Content::Whole(texts::SUBSCRIBE),
+                ..POST
+            },
+            Want::Json(texts::SUBSCRIBED),
+        ),
+        PUBLISH,
+        Step::Read(
+            Ask {
+                content: Content::Whole(texts::PUBLISH_OWN),
+                ..POST
+            },
+            FORBIDDEN,
+        ),
+        Step::Post(texts::PUBLISH_OWN, texts::OWN_RIDDEN),
+    ],
+    held: None,
+    last: &[],
+    ride: true,
+};
