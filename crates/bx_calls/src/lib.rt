@@ -4,8 +4,8 @@
 mod ticker;
 
 use bx_cut::Bodies;
-use bx_entry::{Arrival, ByTable, Placing, Slot, Ticket};
-use bx_hub::{Gate, Hub, HubFault, Pass, PostFault};
+use bx_entry::{Arrival, ByTable, Door, Placing, Slot, Ticket};
+use bx_hub::{Gate, Hub, HubFault, Pass};
 use bx_message::{Answer, Item, body_text};
 use bx_window::Naming;
 use std::alloc::{AllocError, Global};
@@ -72,6 +72,8 @@ pub enum Found {
     Wanted,
     /// Another answer.
     Other,
+    /// None can be given, for this fault.
+    Stopped(HubFault),
 }
 
 /// A call was refused, or was not where it should be.
@@ -84,13 +86,26 @@ impl From<AllocError> for Refused {
     }
 }
 
-/// A request of this body, at moment 0.
-pub fn arrival(alloc: Global, body: &str) -> Result<Arrival, AllocError> {
-    Ok(Arrival {
+// A request of this body, at moment 0.
+fn arrival_of(body: Vec<u8>) -> Arrival {
+    Arrival {
         moment: 0,
         nonce: 0,
-        bodies: Bodies::Whole(body.as_bytes().to_vec(alloc)?),
-    })
+        door: Door::Publishers,
+        bodies: Bodies::Whole(body),
+    }
+}
+
+/// A request of this body, at moment 0.
+pub fn arrival(alloc: Global, body: &str) -> Result<Arrival, AllocError> {
+    Ok(arrival_of(body.as_bytes().to_vec(alloc)?))
+}
+
+/// A ping in a body of so many bytes, at moment 0.
+pub fn long_ping(alloc: Global, length: usize) -> Result<Arrival, AllocError> {
+    let mut body = vec![in alloc; b' '; length.saturating_sub(PING.len())]?;
+    body.extend_from_slice(PING.as_bytes())?;
+    Ok(arrival_of(body))
 }
 
 /// Whether a request is one of this body, at moment 0.
@@ -128,40 +143,6 @@ pub fn post<J: Naming, P: Placing, G: Gate + Drop, H: Wait + Drop, R: Wait>(
     }
 }
 
-/// Posts a request that is refused: why, and the request that comes back.
-pub fn refuse<J: Naming, P: Placing, G: Gate + Drop, H: Wait + Drop, R: Wait>(
-    rt: &R,
-    alloc: Global,
-    hub: &Hub<J, P, G, H>,
-    pass: &mut Pass<J>,
-    arrival: Arrival,
-) -> Result<(PostFault, Arrival), Refused> {
-    match hub.post(rt, alloc, pass, arrival) {
-        Ok(_) => Err(Refused),
-        Err(refused) => Ok((refused.fault(), refused.into_arrival())),
-    }
-}
-
-/// Why a post of this body is refused, if it is. What comes back then is the request that was posted.
-pub fn refusal<J: Naming, P: Placing, G: Gate + Drop, H: Wait + Drop, R: Wait>(
-    rt: &R,
-    alloc: Global,
-    hub: &Hub<J, P, G, H>,
-    pass: &mut Pass<J>,
-    body: &str,
-) -> Result<Option<PostFault>, Refused> {
-    let arrival = arrival(alloc, body)?;
-    let (fault, back) = match hub.post(rt, alloc, pass, arrival) {
-        Ok(_) => return Ok(None),
-        Err(refused) => (refused.fault(), refused.into_arrival()),
-    };
-    if is_of(&back, body) {
-        Ok(Some(fault))
-    } else {
-        Err(Refused)
-    }
-}
-
 // The text of an answer: its events, and then its reply.
 fn text_of(alloc: Global, answer: Answer) -> Result<Vec<u8>, AllocError> {
     let Answer { events, reply } = answer;
@@ -182,7 +163,7 @@ fn found_in(alloc: Global, answer: Answer, wanted: &str) -> Result<Found, AllocE
     }
 }
 
-/// Whether a connect or a rider is answered with this text.
+/// Whether a connect or a rider is answered with this text. `Refused` means that memory was.
 pub fn find<J: Naming, P: Placing, G: Gate + Drop, H: Wait + Drop, R: Wait>(
     rt: &R,
     alloc: Global,
@@ -194,7 +175,7 @@ pub fn find<J: Naming, P: Placing, G: Gate + Drop, H: Wait + Drop, R: Wait>(
     match hub.poll_answer(rt, alloc, pass, ticket) {
         Ok(Some(answer)) => Ok(found_in(alloc, answer, wanted)?),
         Ok(None) => Ok(Found::Nothing),
-        Err(_) => Err(Refused),
+        Err(stopped) => Ok(Found::Stopped(stopped.fault())),
     }
 }
 
@@ -210,20 +191,6 @@ pub fn poll<J: Naming, P: Placing, G: Gate + Drop, H: Wait + Drop, R: Wait>(
         Ok(Some(answer)) => Ok(answer.events.len() + 1),
         Ok(None) => Ok(0),
         Err(_) => Err(Refused),
-    }
-}
-
-/// Why a connect or a rider is given no answer, if there is a fault.
-pub fn fault_of<J: Naming, P: Placing, G: Gate + Drop, H: Wait + Drop, R: Wait>(
-    rt: &R,
-    alloc: Global,
-    hub: &Hub<J, P, G, H>,
-    pass: &mut Pass<J>,
-    ticket: Ticket,
-) -> Option<HubFault> {
-    match hub.poll_answer(rt, alloc, pass, ticket) {
-        Ok(_) => None,
-        Err(stopped) => Some(stopped.fault()),
     }
 }
 

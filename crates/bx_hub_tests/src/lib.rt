@@ -1,7 +1,9 @@
-//! Tests of the crates `bx_window` and `bx_hub`, in a crate of their own: the gate proves a crate once more where it has tests. What
-//! readers of a window find, and calls of one thread.
+//! Tests of the crates `bx_window` and `bx_hub`, in a crate of their own: the gate proves a crate once more where it
+//! has tests. What readers of a window find, and calls of one thread.
 #![tactic(auto)]
 
+#[cfg(test)]
+mod bench;
 #[cfg(test)]
 mod moves;
 #[cfg(test)]
@@ -10,6 +12,8 @@ mod pauses;
 mod recorded;
 #[cfg(test)]
 mod same;
+#[cfg(test)]
+mod steps;
 #[cfg(test)]
 mod tests;
 #[cfg(test)]

@@ -11,9 +11,6 @@ fn all_move<J: Naming + Send + Sync, R: Wait + Drop + Send>() {
     moves::<Front<J>>();
     moves::<LogReader<J>>();
     moves::<LogWriter<J, R>>();
-}
-
-fn parts_move<J: Naming + Send + Sync>() {
     moves::<PublishedBatch<J>>();
     moves::<Ring<J>>();
 }
@@ -30,6 +27,5 @@ fn values_move() {
 fn types_move(rt: HostRuntime) {
     let _ = rt.alloc();
     all_move::<Brand, HostRuntime>();
-    parts_move::<Brand>();
     values_move();
 }

@@ -1,11 +1,9 @@
-//! What readers find of batches of ticks, by the window's table of cases.
+//! What readers find of batches of ticks, by tables of steps.
 ghost use Rattle.std.specs.Prelude.{◌≡◌, [], IfOk};
 
 use crate::same::same;
 use bx_calls::{Taken, Ticker};
-use bx_window::{
-    LogReader, MAX_BATCHES, Naming, Next, Note, Opened, PublishFault, entry_of, log_pair,
-};
+use bx_window::{LogReader, Naming, Next, Note, Opened, PublishFault, entry_of, log_pair};
 use std::alloc::{AllocError, Global};
 use std::marker::Brand;
 use std::process::Abort;
@@ -16,28 +14,108 @@ use std::test::*;
 #[derive(Clone, Copy, Debug, PartialEq, Eq)]
 enum Found {
     /// The first place of the batch, the number of its entries, and the place of the entry that stands there.
-    Batch {
-        first: u64,
-        entries: usize,
-        place: u64,
-    },
+    Batch(u64, usize, u64),
     Level,
     Overrun,
     Memory,
 }
 
-fn find<J: Naming>(reader: &mut LogReader<J>, place: u64) -> Found {
-    match reader.next(place) {
-        Ok(Next::Batch(batch)) => Found::Batch {
-            first: batch.first,
-            entries: batch.entries.len(),
-            place: entry_of(&batch, place).place,
-        },
-        Ok(Next::Level) => Found::Level,
-        Ok(Next::Overrun) => Found::Overrun,
-        Err(_) => Found::Memory,
-    }
+// A step of a run by one writer, and what it must show. The first reader looks, unless the other one is named.
+#[derive(Clone, Copy, Debug)]
+enum Step {
+    // This becomes of a batch of so many ticks.
+    Publish(u64, Taken),
+    // So many batches of one tick are published.
+    Fill(usize),
+    // The batches that lie wholly below this place are dropped.
+    Trim(u64),
+    // This is found at this place.
+    Finds(u64, Found),
+    // At each place from the first on up to the second a batch of its own is found.
+    FindsEach(u64, u64),
+    // The other reader finds this.
+    OtherFinds(u64, Found),
+    // Where the window begins for the reader.
+    Begin(u64),
+    // Where it begins for the writer.
+    WriterBegin(u64),
+    // The other reader has seen nothing, and is told of so many entries, which the first one saw.
+    Told(u64),
+    // The other reader is told by the writer of so many steps.
+    ToldByWriter(u64),
+    // What the writer tells, of so many entries by so many steps, covers what the reader saw, who saw nothing.
+    Covers(u64, u64),
 }
+
+// A batch of two ticks comes back from a full window, as it was.
+const FULL: Taken = Taken::Refused {
+    why: PublishFault::Full,
+    first: 4_096,
+    entries: 2,
+};
+
+// Each over a window of its own.
+const RUNS: [&[Step]; 6] = [
+    // A batch of three ticks stands at its three places, and at no other.
+    &[
+        Step::Finds(0, Found::Level),
+        Step::Publish(3, Taken::Published),
+        Step::Finds(0, Found::Batch(0, 3, 0)),
+        Step::Finds(1, Found::Batch(0, 3, 1)),
+        Step::Finds(2, Found::Batch(0, 3, 2)),
+        Step::Finds(3, Found::Level),
+    ],
+    // A trim drops the batches that lie wholly below its place.
+    &[
+        Step::Publish(3, Taken::Published),
+        Step::Publish(2, Taken::Published),
+        Step::Trim(2),
+        Step::Finds(0, Found::Batch(0, 3, 0)),
+        Step::Begin(0),
+        Step::Trim(3),
+        Step::Finds(0, Found::Overrun),
+        Step::Finds(2, Found::Overrun),
+        Step::Finds(3, Found::Batch(3, 2, 3)),
+        Step::Begin(3),
+    ],
+    // A trim past the end leaves a window without batches, which begins at the end.
+    &[
+        Step::Publish(3, Taken::Published),
+        Step::Publish(2, Taken::Published),
+        Step::Trim(100),
+        Step::WriterBegin(5),
+        Step::Finds(4, Found::Overrun),
+        Step::Finds(5, Found::Level),
+        Step::Publish(1, Taken::Published),
+        Step::Finds(5, Found::Batch(5, 1, 5)),
+    ],
+    // With 4,096 batches the next one comes back, until one is dropped. The window then has places 1 to 4,097.
+    &[
+        Step::Fill(4_096),
+        Step::Publish(2, FULL),
+        Step::Finds(4_096, Found::Level),
+        Step::Trim(1),
+        Step::Publish(2, Taken::Published),
+        Step::Finds(4_097, Found::Batch(4_096, 2, 4_097)),
+        Step::Finds(0, Found::Overrun),
+        Step::FindsEach(1, 4_096),
+        Step::Finds(4_098, Found::Level),
+    ],
+    // A reader that is told has seen as much, without looking; an older note changes nothing.
+    &[
+        Step::Publish(3, Taken::Published),
+        Step::Finds(3, Found::Level),
+        Step::Told(3),
+        Step::ToldByWriter(1),
+        Step::OtherFinds(2, Found::Batch(0, 3, 2)),
+    ],
+    // Of two fronts the longer covers the other.
+    &[
+        Step::Publish(3, Taken::Published),
+        Step::Publish(2, Taken::Published),
+        Step::Covers(5, 2),
+    ],
+];
 
 // A writer of ticks with two readers.
 fn pair<J: Naming, R: Wait + Drop>(
@@ -48,247 +126,111 @@ fn pair<J: Naming, R: Wait + Drop>(
     requires { opened.seen.book ≡ J.book }
 {
     let (writer, mut readers) = log_pair(alloc, rt, opened, 2)?;
-    let second = readers.pop().ok_or(AllocError)?;
-    let first = readers.pop().ok_or(AllocError)?;
-    Ok((Ticker::new(writer), first, second))
+    let other = readers.pop().ok_or(AllocError)?;
+    let reader = readers.pop().ok_or(AllocError)?;
+    Ok((Ticker::new(writer), reader, other))
 }
 
-// What is found of a batch that begins at a place, at its entry so many places on.
-fn batch(first: u64, entries: usize, place: u64) -> Found {
-    Found::Batch {
-        first,
-        entries,
-        place,
-    }
-}
-
-// Publishes a batch of so many ticks.
-fn publish<J: Naming, H: Wait + Drop, R: Abort>(
-    rt: &R,
-    alloc: Global,
-    writer: &mut Ticker<J, H>,
-    ticks: u64,
-) -> Result<(), AllocError> {
-    let taken = writer.publish(alloc, ticks)?;
-    same(rt, taken, Taken::Published, ticks);
-    Ok(())
-}
-
-fn check_found<J: Naming, R: Abort>(rt: &R, reader: &mut LogReader<J>, place: u64, wanted: Found) {
-    same(rt, find(reader, place), wanted, place);
-}
-
-fn trim<J: Naming, H: Wait + Drop, R: Abort>(rt: &R, writer: &mut Ticker<J, H>, place: u64) {
-    same(rt, writer.trim(place), true, place);
-}
-
-// A batch of three ticks stands at its three places, and at no other.
-fn published<J: Naming, H: Wait + Drop, R: Abort>(
-    rt: &R,
-    alloc: Global,
-    writer: &mut Ticker<J, H>,
-    reader: &mut LogReader<J>,
-) -> Result<(), AllocError> {
-    check_found(rt, reader, 0, Found::Level);
-    publish(rt, alloc, writer, 3)?;
-    for place in 0..3 {
-        check_found(rt, reader, place, batch(0, 3, place));
-    }
-    check_found(rt, reader, 3, Found::Level);
-    Ok(())
-}
-
-// Two batches, the second from place 3 on.
-fn publish_two<J: Naming, H: Wait + Drop, R: Abort>(
-    rt: &R,
-    alloc: Global,
-    writer: &mut Ticker<J, H>,
-) -> Result<(), AllocError> {
-    publish(rt, alloc, writer, 3)?;
-    publish(rt, alloc, writer, 2)
-}
-
-// A trim drops the batches that lie wholly below its place.
-fn trimmed<J: Naming, H: Wait + Drop, R: Abort>(
-    rt: &R,
-    alloc: Global,
-    writer: &mut Ticker<J, H>,
-    reader: &mut LogReader<J>,
-) -> Result<(), AllocError> {
-    publish_two(rt, alloc, writer)?;
-    trim(rt, writer, 2);
-    check_found(rt, reader, 0, batch(0, 3, 0));
-    same(rt, reader.note().begin(), 0, "the first trim");
-    trim(rt, writer, 3);
-    check_found(rt, reader, 0, Found::Overrun);
-    check_found(rt, reader, 2, Found::Overrun);
-    check_found(rt, reader, 3, batch(3, 2, 3));
-    same(rt, reader.note().begin(), 3, "the second trim");
-    Ok(())
-}
-
-// A trim past the end leaves a window without batches, which begins at the end.
-fn emptied<J: Naming, H: Wait + Drop, R: Abort>(
-    rt: &R,
-    alloc: Global,
-    writer: &mut Ticker<J, H>,
-    reader: &mut LogReader<J>,
-) -> Result<(), AllocError> {
-    publish_two(rt, alloc, writer)?;
-    trim(rt, writer, 100);
-    same(rt, writer.tell().begin(), 5, "the end");
-    check_found(rt, reader, 4, Found::Overrun);
-    check_found(rt, reader, 5, Found::Level);
-    publish(rt, alloc, writer, 1)?;
-    check_found(rt, reader, 5, batch(5, 1, 5));
-    Ok(())
-}
-
-// Publishes as many batches of one tick as the window takes.
-fn fill<J: Naming, R: Wait + Drop>(
-    alloc: Global,
-    writer: &mut Ticker<J, R>,
-) -> Result<usize, AllocError> {
-    for count in 0..MAX_BATCHES {
-        if writer.publish(alloc, 1)? != Taken::Published {
-            return Ok(count);
+fn find<J: Naming>(reader: &mut LogReader<J>, place: u64) -> Found {
+    match reader.next(place) {
+        Ok(Next::Batch(batch)) => {
+            let entry = entry_of(&batch, place).place;
+            Found::Batch(batch.first, batch.entries.len(), entry)
         }
+        Ok(Next::Level) => Found::Level,
+        Ok(Next::Overrun) => Found::Overrun,
+        Err(_) => Found::Memory,
     }
-    Ok(MAX_BATCHES)
 }
 
-// With 4,096 batches the next one comes back, until one is dropped.
-fn filled<J: Naming, H: Wait + Drop, R: Abort>(
-    rt: &R,
-    alloc: Global,
-    writer: &mut Ticker<J, H>,
-    reader: &mut LogReader<J>,
-) -> Result<(), AllocError> {
-    same(rt, fill(alloc, writer)?, 4_096, "batches");
-    let refused = Taken::Refused {
-        why: PublishFault::Full,
-        first: 4_096,
-        entries: 2,
-    };
-    let taken = writer.publish(alloc, 2)?;
-    same(rt, taken, refused, "one too many");
-    check_found(rt, reader, 4_096, Found::Level);
-    trim(rt, writer, 1);
-    publish(rt, alloc, writer, 2)?;
-    check_ends(rt, reader);
-    Ok(())
-}
-
-// The window has places 1 to 4,097.
-fn check_ends<J: Naming, R: Abort>(rt: &R, reader: &mut LogReader<J>) {
-    check_found(rt, reader, 4_097, batch(4_096, 2, 4_097));
-    check_found(rt, reader, 0, Found::Overrun);
-    for place in 1..4_096 {
-        check_found(rt, reader, place, batch(place, 1, place));
-    }
-    check_found(rt, reader, 4_098, Found::Level);
-}
-
-// A reader that is told has seen as much, without looking; an older note changes nothing.
-fn learnt<J: Naming, H: Wait + Drop, R: Abort>(
-    rt: &R,
-    alloc: Global,
-    writer: &mut Ticker<J, H>,
-    one: &mut LogReader<J>,
-    other: &mut LogReader<J>,
-) -> Result<(), AllocError> {
-    publish(rt, alloc, writer, 3)?;
-    check_found(rt, one, 3, Found::Level);
-    check_told(rt, other, &one.note());
-    other.learn(&writer.tell());
-    same(rt, other.note().steps(), 1, "told by the writer");
-    check_found(rt, other, 2, batch(0, 3, 2));
-    Ok(())
-}
-
-fn check_told<J: Naming, R: Abort>(rt: &R, reader: &mut LogReader<J>, note: &Note<J>) {
+// A reader that has seen nothing is told, and then told what is old.
+fn check_told<J: Naming, R: Abort>(rt: &R, reader: &mut LogReader<J>, note: &Note<J>, length: u64) {
     let old = reader.note();
     same(rt, old.len(), 0, "before");
     reader.learn(note);
-    same(rt, reader.note().len(), 3, "told");
+    same(rt, reader.note().len(), length, "told");
     reader.learn(&old);
-    same(rt, reader.note().len(), 3, "told what is old");
+    same(rt, reader.note().len(), length, "told what is old");
 }
 
-// Of two fronts the longer covers the other.
-fn compared<J: Naming, H: Wait + Drop, R: Abort>(
-    rt: &R,
-    alloc: Global,
-    writer: &mut Ticker<J, H>,
-    reader: &mut LogReader<J>,
-) -> Result<(), AllocError> {
-    publish_two(rt, alloc, writer)?;
-    let short = reader.note();
-    let long = writer.tell_beyond(&short);
-    check_covers(rt, &long, &short);
-    Ok(())
-}
-
+// Of two notes the longer covers the other.
 fn check_covers<J: Naming, R: Abort>(rt: &R, long: &Note<J>, short: &Note<J>) {
     same(rt, long.covers(short), true, "the shorter");
     same(rt, long.covers(&long.again()), true, "itself");
     same(rt, short.covers(long), false, "the longer");
-    same(rt, short.longer(long).len(), 5, "the longer's length");
-    same(rt, long.longer(short).steps(), 2, "the longer's steps");
 }
 
-// What is asked of a window.
-#[derive(Clone, Copy, Debug)]
-enum Case {
-    Published,
-    Trimmed,
-    Emptied,
-    Filled,
-    Learnt,
-    Compared,
-}
-
-fn check<J: Naming, H: Wait + Drop, R: Abort>(
+fn take<J: Naming, H: Wait + Drop, R: Abort>(
     rt: &R,
     alloc: Global,
     writer: &mut Ticker<J, H>,
-    first: &mut LogReader<J>,
-    second: &mut LogReader<J>,
-    case: Case,
+    reader: &mut LogReader<J>,
+    other: &mut LogReader<J>,
+    step: Step,
 ) -> Result<(), AllocError> {
-    match case {
-        Case::Published => published(rt, alloc, writer, first),
-        Case::Trimmed => trimmed(rt, alloc, writer, first),
-        Case::Emptied => emptied(rt, alloc, writer, first),
-        Case::Filled => filled(rt, alloc, writer, first),
-        Case::Learnt => learnt(rt, alloc, writer, first, second),
-        Case::Compared => compared(rt, alloc, writer, first),
+    match step {
+        Step::Publish(ticks, wanted) => same(rt, writer.publish(alloc, ticks)?, wanted, step),
+        Step::Fill(batches) => {
+            for _ in 0..batches {
+                same(rt, writer.publish(alloc, 1)?, Taken::Published, step);
+            }
+        }
+        Step::Trim(place) => same(rt, writer.trim(place), true, step),
+        Step::Finds(place, wanted) => same(rt, find(reader, place), wanted, step),
+        Step::FindsEach(from, end) => {
+            for place in from..end {
+                same(rt, find(reader, place), Found::Batch(place, 1, place), step);
+            }
+        }
+        Step::OtherFinds(place, wanted) => same(rt, find(other, place), wanted, step),
+        Step::Begin(place) => same(rt, reader.note().begin(), place, step),
+        Step::WriterBegin(place) => same(rt, writer.tell().begin(), place, step),
+        Step::Told(length) => check_told(rt, other, &reader.note(), length),
+        Step::ToldByWriter(steps) => {
+            other.learn(&writer.tell());
+            same(rt, other.note().steps(), steps, step);
+        }
+        Step::Covers(length, steps) => {
+            let short = reader.note();
+            let long = writer.tell_beyond(&short);
+            check_covers(rt, &long, &short);
+            let longer = (short.longer(&long).len(), long.longer(&short).steps());
+            same(rt, longer, (length, steps), step);
+        }
     }
+    Ok(())
+}
+
+fn take_all<J: Naming, H: Wait + Drop, R: Abort>(
+    rt: &R,
+    alloc: Global,
+    writer: &mut Ticker<J, H>,
+    reader: &mut LogReader<J>,
+    other: &mut LogReader<J>,
+    steps: &[Step],
+) -> Result<(), AllocError> {
+    for step in steps {
+        take(rt, alloc, writer, reader, other, *step)?;
+    }
+    Ok(())
 }
 
 fn ask<J: Naming, R: Wait + Abort>(
     rt: &R,
     alloc: Global,
     opened: Opened,
-    case: Case,
+    steps: &[Step],
 ) -> Result<(), AllocError>
     requires { opened.seen.book ≡ J.book }
 {
-    let (mut writer, mut first, mut second) = pair::<J, &R>(alloc, rt, opened)?;
-    check(rt, alloc, &mut writer, &mut first, &mut second, case)
+    let (mut writer, mut reader, mut other) = pair::<J, &R>(alloc, rt, opened)?;
+    take_all(rt, alloc, &mut writer, &mut reader, &mut other, steps)
 }
 
 #[test]
 fn one_writer(rt: HostRuntime) -> Result<(), Fail> {
-    for case in [
-        Case::Published,
-        Case::Trimmed,
-        Case::Emptied,
-        Case::Filled,
-        Case::Learnt,
-        Case::Compared,
-    ] {
-        ask::<Brand, _>(&rt, rt.alloc(), Opened::new(), case)?;
+    for steps in RUNS {
+        ask::<Brand, _>(&rt, rt.alloc(), Opened::new(), steps)?;
     }
     Ok(())
 }

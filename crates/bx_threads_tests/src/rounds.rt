@@ -171,7 +171,7 @@ fn answered<J: Naming, P: Placing, G: Gate + Drop, H: Wait + Drop, R: Wait>(
 ) -> Option<()> {
     match find(rt, alloc, hub, pass, ticket, wanted).ok()? {
         Found::Wanted => return Some(()),
-        Found::Other => return None,
+        Found::Other | Found::Stopped(_) => return None,
         Found::Nothing => {}
     }
     wait(rt, hub, ticket, turns, slot, told)?;
