@@ -54,7 +54,7 @@ class Client:
 def try_client(stand):
     """The client as a script and as a module, with headers, listeners that are taken away, and gaps."""
     page = Window(stand.browser, stand.site.address)
-    client = Client(page, "/a", headers={"X-Token": "of my own"})
+    client = Client(page, "/a", headers={"X-Token": "of my own"}, name="Ben")
     until("the module is the same client", lambda: page.run("return window.modules?.every((it) => it === BayeuxClient)"))
     try_listeners(stand.site, client)
     try_gaps(stand, client)
@@ -62,6 +62,8 @@ def try_client(stand):
     until("the session is ended", lambda: stand.site.messages("/meta/disconnect"))
     if any(headers["X-Token"] != "of my own" for headers, _ in stand.site.asked):
         raise Wrong("a request had no header of the page's own")
+    if any(it["ext"] != {"ack": True, "name": "Ben"} for it in stand.site.messages("/meta/handshake")):
+        raise Wrong("a handshake had not the name that the page gave the session")
     page.close()
 
 

@@ -9,7 +9,7 @@ import sys
 import tempfile
 import time
 
-from base import CLEARED, Wrong, judged
+from base import CLEARED, Wrong, judged, until
 
 # For how long an answer is waited for before the daemon is said to hang, in seconds.
 PATIENCE = 20.0
@@ -53,6 +53,11 @@ class Daemon:
         if not found:
             raise Wrong(f"no line with {before!r}: {self.told()!r}")
         return (found.group(1).strip("[]"), int(found.group(2)))
+
+    def readers_address(self):
+        """Returns the address of the readers' door, once it is told."""
+        until("a line that tells where readers come", lambda: re.search(rb"readers at \S+\n", self.told()))
+        return self.told_address("readers at ")
 
     def told(self):
         """Returns what it wrote to standard error."""

@@ -6,6 +6,7 @@ import select
 import socket
 import subprocess
 import threading
+import urllib.error
 import urllib.request
 
 from base import PATIENCE, TOP, Wrong, free_port, until
@@ -13,11 +14,11 @@ from daemon import HANDSHAKE
 
 
 class Server:
-    """A bayeuxd with these flags, on a port that stays the same when it is started again."""
+    """A bayeuxd with these flags, on two ports, one of readers, that stay the same when it is started again."""
 
     def __init__(self, program, *flags):
-        self.port = free_port()
-        self.words = [program, "--listen", f"127.0.0.1:{self.port}", *flags]
+        self.port, self.readers = free_port(), free_port()
+        self.words = [program, "--listen", f"127.0.0.1:{self.port}", "--readers", f"127.0.0.1:{self.readers}", *flags]
         self.process = None
 
     def start(self, *further):
@@ -25,7 +26,8 @@ class Server:
 
         def is_listening():
             self.process = subprocess.Popen([*self.words, *further], stdout=subprocess.PIPE, stderr=subprocess.DEVNULL)
-            return self.process.stdout.readline().startswith(b"listening ")
+            lines = [self.process.stdout.readline() for _ in range(2)]
+            return lines[0].startswith(b"listening ") and lines[1].startswith(b"readers at ")
 
         until("bayeuxd listens", is_listening)
 
@@ -112,7 +114,7 @@ KINDS = {".html": "text/html", ".js": "text/javascript", ".css": "text/css"}
 
 
 class Site(http.server.ThreadingHTTPServer):
-    """A web server over plain HTTP/1.1, with the examples, a blank page at /, and the relay's server at /cometd."""
+    """A web server over plain HTTP/1.1, with the examples, a blank page at /, and the relay's server at /cometd (or one that has its port)."""
 
     daemon_threads = True
 
@@ -158,6 +160,8 @@ class Visit(http.server.BaseHTTPRequestHandler):
             try:
                 with urllib.request.urlopen(request, timeout=PATIENCE) as response:
                     reply = response.read()
+            except urllib.error.HTTPError as refused:
+                status = refused.code
             except OSError:
                 status = 502
         with contextlib.suppress(OSError):
