@@ -79,7 +79,7 @@ async function send() {
     await client.publish(CHANNEL, { name: ownName, text, mark: OWN_MARK });
   } catch (failure) {
     field.value = field.value === '' ? text : `${text} ${field.value}`;
-    showProblem(failure.mayHaveArrived ? 'No answer: it may have been sent.' : `Not sent: ${failure.message}`);
+    showProblem(notPublished(failure));
   }
   isSending = false;
 }
@@ -104,7 +104,9 @@ element('join').addEventListener('submit', (event) => {
 // Tells the others once the client is connected.
 async function announce() {
   while (client.state !== 'connected') await pause(50);
-  client.publish(CHANNEL, { name: ownName, joined: true }).catch(() => {});
+  client.publish(CHANNEL, { name: ownName, joined: true }).catch((failure) => {
+    if (failure.status === 403) showProblem(notPublished(failure));
+  });
 }
 
 element('write').addEventListener('submit', (event) => {

@@ -10,12 +10,16 @@ interface BayeuxOptions {
   headers?: Record<string, string>;
   /** Whether the windows of one origin share a session; by default where there are no headers. */
   share?: boolean;
+  /** What the session gives itself as a name, by which a record of the server is searched. */
+  name?: string;
 }
 
 /** Why a publish or a subscription failed. */
 interface BayeuxFailure extends Error {
   /** Whether what was asked may have been done all the same, since no reply came. */
   mayHaveArrived: boolean;
+  /** The status of HTTP, where it is what failed; of a publish that is not allowed, 403. By long-polling alone. */
+  status?: number;
 }
 
 declare class BayeuxClient {

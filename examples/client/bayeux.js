@@ -26,6 +26,9 @@
 const NETWORK_PATIENCE = 10000;
 const NO_ANSWER = 'no answer in time';
 const SILENCE = { message: NO_ANSWER, mayHaveArrived: true };
+// The status of a publish that is not allowed: the server lets in readers alone where it is asked, or what stands in
+// front of it refuses this page.
+const FORBIDDEN = 403;
 const FIRST_PAUSE = 250;
 const LONGEST_PAUSE = 10000;
 // How many patterns go into one request, so that the address of a callback-polling request stays short.
@@ -46,7 +49,7 @@ async function askByFetch(url, messages, patience, headers) {
       signal: AbortSignal.timeout(patience),
     });
     const { ok, status } = response;
-    if (!ok) throw failureOf(`HTTP status ${status}`, status >= 500 && status !== 501);
+    if (!ok) throw failureOf(`HTTP status ${status}`, status >= 500 && status !== 501, { status });
     return await response.json();
   } catch (failure) {
     throw failure.name === 'TimeoutError' ? new Error(NO_ANSWER) : failure;
@@ -162,8 +165,8 @@ class BayeuxWindows {
 
   // Tells the others the state and the session of this window, and the events that came.
   tell(events = []) {
-    const { state, why, knownId, clientId, advice, hasBatches, lastBatch, subscribed } = this.client;
-    const session = { clientId, advice, hasBatches, lastBatch };
+    const { state, why, knownId, clientId, advice, mayPublish, hasBatches, lastBatch, subscribed } = this.client;
+    const session = { clientId, advice, mayPublish, hasBatches, lastBatch };
     if (this.isLeading) this.say('news', { state, why, knownId, session, subscribed: [...subscribed], events });
   }
 
@@ -265,14 +268,16 @@ class BayeuxWindows {
 class BayeuxClient {
   /**
    * `url` is the server's address, as `/cometd`. Of the options `connectionType` is one of the two keys of TRANSPORTS,
-   * which may also stand in their place; `headers` are sent with each request by long-polling; and `share` says whether
-   * windows share a session, as they do by default where there are no headers.
+   * which may also stand in their place; `headers` are sent with each request by long-polling; `share` says whether
+   * windows share a session, as they do by default where there are no headers; and `name` is what the session gives
+   * itself as a name, by which a record of the server is searched.
    */
   constructor(url, options = {}) {
     const given = typeof options === 'string' ? { connectionType: options } : options;
     this.url = url;
     this.connectionType = given.connectionType ?? transportFor(url);
     this.headers = given.headers ?? {};
+    this.name = given.name;
     this.isShared = (given.share ?? !given.headers) && canShareSession();
     /** Called with 'connecting', 'connected', 'interrupted' or 'stopped', and with why. */
     this.onstate = () => {};
@@ -286,6 +291,7 @@ class BayeuxClient {
     this.knownId = null; // the session that was subscribed last
     this.advice = {};
     this.failures = 0;
+    this.mayPublish = true; // whether no publish was forbidden since one was done
     this.hasBatches = false; // whether the server numbers its batches of events
     this.lastBatch = 0;
     this.listeners = new Map(); // a list of listeners for each pattern
@@ -307,7 +313,9 @@ class BayeuxClient {
    * is sent even while the page goes away, so call it at 'pagehide' too.
    */
   stop(last = []) {
-    const messages = this.windows?.hasOthers() ? last : [...last, { channel: '/meta/disconnect' }];
+    // It goes out as one request, since the page sees no answer. A publish that is forbidden has all of it refused.
+    const publishes = this.mayPublish ? last : [];
+    const messages = this.windows?.hasOthers() ? publishes : [...publishes, { channel: '/meta/disconnect' }];
     if (this.clientId !== null && messages.length > 0) {
       const body = JSON.stringify(messages.map((message) => ({ ...message, clientId: this.clientId })));
       const hasHeaders = this.connectionType === 'long-polling' && Object.keys(this.headers).length > 0;
@@ -342,7 +350,8 @@ class BayeuxClient {
   }
 
   // Fails where the value was refused, or where no reply came. In the latter case it may have been published all the
-  // same (`mayHaveArrived`): a page that publishes it again may publish it twice.
+  // same (`mayHaveArrived`): a page that publishes it again may publish it twice. Where publishing is forbidden here
+  // (`status` 403) it is so the next time too, and the session goes on.
   publish(channel, data) {
     if (this.isLed()) {
       if (this.clientId === null) return Promise.reject(failureOf('not connected', false));
@@ -355,7 +364,15 @@ class BayeuxClient {
     return this.inOrder(async () => {
       if (this.clientId === null || this.isLed()) throw failureOf('not connected', false);
       atSending();
-      await this.ask({ channel, data });
+      try {
+        await this.ask({ channel, data });
+        this.mayPublish = true;
+      } catch (failure) {
+        if (failure.status !== FORBIDDEN) throw failure;
+        this.mayPublish = false;
+        this.windows?.tell();
+        throw failureOf(`publishing is not allowed here: ${failure.message}`, false, { status: FORBIDDEN });
+      }
     });
   }
 
@@ -436,7 +453,8 @@ class BayeuxClient {
 
   async handshake(isOver) {
     const supportedConnectionTypes = [this.connectionType];
-    const message = { channel: '/meta/handshake', version: '1.0', supportedConnectionTypes, ext: { ack: true } };
+    const ext = { ack: true, name: this.name };
+    const message = { channel: '/meta/handshake', version: '1.0', supportedConnectionTypes, ext };
     const reply = await this.ask(message);
     if (isOver()) return;
     this.clientId = reply.clientId;
@@ -500,7 +518,7 @@ class BayeuxClient {
       return await TRANSPORTS[this.connectionType](this.url, messages, hold + NETWORK_PATIENCE, this.headers);
     } catch (failure) {
       if (failure.message === NO_ANSWER && this.state === 'connected') this.setState('interrupted', NO_ANSWER);
-      throw failureOf(failure.message, failure.mayHaveArrived ?? true);
+      throw failureOf(failure.message, failure.mayHaveArrived ?? true, { status: failure.status });
     }
   }
 

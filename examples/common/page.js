@@ -69,6 +69,12 @@ function troubleWith(address, why) {
   return `No Bayeux server answers this page at ${address}. Start bayeuxd there, or name another server by ?server=ADDRESS.`;
 }
 
+/** Why something was not published, where a client's publish failed so. */
+function notPublished({ message, mayHaveArrived, status }) {
+  if (status === 403) return 'Not sent: pages may only read here, or the server refuses this one. To send it again does not help.';
+  return mayHaveArrived ? 'No answer: it may have been sent.' : `Not sent: ${message}`;
+}
+
 function inWords(value) {
   return value.toLocaleString('en', { maximumFractionDigits: Math.abs(value) < 10 ? 2 : 1 });
 }

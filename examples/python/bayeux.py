@@ -3,9 +3,9 @@
 
 usage: bayeux.py listen PATTERN ..  |  bayeux.py publish CHANNEL JSON
 
-BAYEUX_URL is the server, by default http://127.0.0.1:8087/cometd
+BAYEUX_URL is the server, by default http://127.0.0.1:8087/cometd, BAYEUX_NAME a name by which its record is searched
 """
-import http.client, json, os, random, sys, time, urllib.request
+import http.client, json, os, random, sys, time, urllib.error, urllib.request
 
 
 class Refused(Exception):
@@ -13,8 +13,9 @@ class Refused(Exception):
 
 
 class Client:
-    def __init__(self, url=os.environ.get("BAYEUX_URL", "http://127.0.0.1:8087/cometd")):
+    def __init__(self, url=os.environ.get("BAYEUX_URL", "http://127.0.0.1:8087/cometd"), name=os.environ.get("BAYEUX_NAME")):
         self.url, self.id, self.batch, self.advice = url, None, 0, {}
+        self.ext = {"ack": True} | ({"name": name} if name else {})
 
     def ask(self, channel, hold=0, **members):
         """Sends a message in a request of its own, and returns the events that came with the reply, and the reply."""
@@ -30,14 +31,17 @@ class Client:
         return events, reply
 
     def handshake(self):
-        reply = self.ask("/meta/handshake", version="1.0", supportedConnectionTypes=["long-polling"], ext={"ack": True})[1]
+        reply = self.ask("/meta/handshake", version="1.0", supportedConnectionTypes=["long-polling"], ext=self.ext)[1]
         self.id, self.batch = reply["clientId"], 0
 
     def publish(self, channel, data):
-        """Fails where the session is gone; the next publish opens another one."""
+        """Fails where the session is gone; the next publish opens another one. Where publishing is not allowed, it never is."""
         if not self.id:
             self.handshake()
-        self.ask(channel, data=data)
+        try:
+            self.ask(channel, data=data)
+        except urllib.error.HTTPError as failure:
+            raise Refused("publishing is not allowed here: HTTP status 403") if failure.code == 403 else failure
 
     def listen(self, *patterns):
         """Yields the channel and the data of each event. After a failure it waits and goes on."""
