@@ -1,11 +1,14 @@
 //! The clock and the nonces of the program.
+ghost use Rattle.std.specs.Prelude.{◌≡◌, ◌-◌, ◌/◌, ◌^◌, min};
+ghost use Rattle.std.specs.Duration.{as_nanos};
+
 use bx_service::{Clock, Nonces};
 use rand_chacha::ChaCha20Rng;
 use rand_core::Rng;
 use std::alloc::Global;
 use std::sync::{Arc, Mutex, Wait};
 use std::time;
-use std::time::Instant;
+use std::time::{Duration, Instant};
 
 /// Milliseconds since the program began.
 #[derive(Clone, Copy)]
@@ -19,11 +22,18 @@ pub struct SinceStart<R> {
 impl<R: time::Clock> Clock for SinceStart<R> {
     fn now(&self) -> u64 {
         match self.start.elapsed(&self.rt) {
-            Ok(passed) => u64::try_from(passed.as_millis()).unwrap_or(u64::MAX),
+            Ok(passed) => millis_of(passed),
             // A moment that the hub refuses.
             Err(_) => u64::MAX,
         }
     }
+}
+
+// The whole milliseconds of a time; where they are more than a moment can tell, one that the hub refuses.
+fn millis_of(passed: Duration) -> u64
+    ensures { result ≡ min (as_nanos passed / 1_000_000) (2 ^ 64 - 1) }
+{
+    u64::try_from(passed.as_millis()).unwrap_or(u64::MAX)
 }
 
 /// Two words each of a generator that all connections share, at whichever door, the upper one first.

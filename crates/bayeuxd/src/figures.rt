@@ -11,10 +11,12 @@ use std::thread::Threads;
 use std::time::{Clock, Duration, Instant};
 use std::{io, thread};
 
-// How long a client has for the head of its request, and how long a write may bring nothing, in milliseconds. (This server's choice.)
+// How long a client has for the head of its request, and how long a write may bring nothing, in milliseconds. (This
+// server's choice.)
 const PATIENCE: u64 = 2000;
 
-// How long nothing is accepted after a failure, as while the process has no descriptor left, in milliseconds. (This server's choice.)
+// How long nothing is accepted after a failure, as while the process has no descriptor left, in milliseconds. (This
+// server's choice.)
 const PAUSE: u64 = 20;
 
 // How many bytes of a request's head are read, and in how many reads at most. (This server's choice.)
@@ -22,8 +24,8 @@ const HEAD: usize = 4096;
 
 const READS: usize = 16;
 
-/// Answers for figures at this address, by a thread that goes on until the program ends. `Err` where the system refuses the address or the
-/// thread, or there is no memory.
+/// Answers for figures at this address, by a thread that goes on until the program ends. `Err` where the system refuses
+/// the address or the thread, or there is no memory.
 pub fn show_figures<R>(rt: R, address: &str, counts: &Arc<Counts, Global>) -> io::Result<()>
 where
     R: Net<Listener = TcpListener, Stream = TcpStream>
@@ -48,7 +50,8 @@ where
     Ok(())
 }
 
-// Answers one connection after another, each one request. A client that breaks off, or whose head is not there after two seconds, has no answer.
+// Answers one connection after another, each one request. A client that breaks off, or whose head is not there after
+// two seconds, has no answer.
 fn answer_all<R: Clock>(
     rt: &R,
     alloc: Global,
@@ -88,7 +91,8 @@ fn answer<R: Clock>(
     stream.write_all(text.as_slice())
 }
 
-// How many bytes of a head have come: to its empty line, to the end of what comes, or as many as are read. `Err` where its time is over.
+// How many bytes of a head have come: to its empty line, to the end of what comes, or as many as are read. `Err` where
+// its time is over.
 fn read_head<R: Clock>(rt: &R, stream: &mut TcpStream, head: &mut [u8]) -> io::Result<usize>
     ensures { IfOk result (λ n. n ≤ length head.new) }
 {

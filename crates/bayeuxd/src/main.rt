@@ -259,7 +259,8 @@ fn words(rt: &HostRuntime) -> io::Result<Vec<String>> {
     Ok(words)
 }
 
-// What the words say, as flags where the first begins as one, and else in their order; or the status, once it was said what is wrong.
+// What the words say, as flags where the first begins as one, and else in their order; or the status, once it was said
+// what is wrong.
 fn settings_of<'a>(
     rt: &HostRuntime,
     words: &'a [String],

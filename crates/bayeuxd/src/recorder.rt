@@ -29,7 +29,8 @@ pub struct RecordFile<F> {
     has_answers: bool,
 }
 
-/// Makes the file of a record, with the line that says how the server is run. `Err` where there is such a file, or where the system refuses it.
+/// Makes the file of a record, with the line that says how the server is run. `Err` where there is such a file, or
+/// where the system refuses it.
 pub fn make_record(
     rt: &HostRuntime,
     path: &str,
@@ -56,8 +57,8 @@ pub struct Recorder {
 }
 
 impl Recorder {
-    /// Records from now on what this hub lists, in this file, where there is one. A line says so where the record ends before the server does. `Err` where it has listed something, or
-    /// where memory or the thread is refused.
+    /// Records from now on what this hub lists, in this file, where there is one. A line says so where the record ends
+    /// before the server does. `Err` where it has listed something, or where memory or the thread is refused.
     pub fn start<J, R, F>(
         rt: R,
         hub: &Arc<Hub<J, ByRemainder, OpenGate, R>, Global>,
@@ -85,7 +86,7 @@ impl Recorder {
             log: Arc::try_clone(&log)?,
         };
         let over = Arc::try_clone(&is_over)?;
-        let Some(start) = hub.start_record(&rt, alloc) else {
+        let Ok(start) = hub.start_record(&rt, alloc) else {
             return Err(io::ErrorKind::InvalidInput.into());
         };
         let out = Out::new(file, start);
@@ -139,7 +140,7 @@ struct HubRecord<J: Naming, R: Wait + Drop> {
 }
 
 impl<J: Naming, R: Wait + Log + Drop> Source for HubRecord<J, R> {
-    type Front = RecordFront<J>;
+    type Extent = RecordFront<J>;
 
     type Fault = Ended;
 
@@ -148,7 +149,7 @@ impl<J: Naming, R: Wait + Log + Drop> Source for HubRecord<J, R> {
     }
 
     fn take(&mut self, empty: Vec<u8>) -> Option<Taken<RecordFront<J>, Ended>> {
-        let Taken { chunk, fault } = self.hub.take_record(&self.rt, empty)?;
+        let Taken { chunk, fault } = self.hub.take_record(&self.rt, empty).ok()?;
         let place = chunk.upto().place();
         Some(Taken {
             chunk,

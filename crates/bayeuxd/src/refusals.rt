@@ -3,8 +3,8 @@ use bx_figures::{Counts, Figure, Reason};
 use bx_message::Status;
 use log::{Log, warn};
 
-// Why requests are refused or have no answer, and what a line says of it: how one with 400, 403 or 413 is wrong, and why others
-// get 503 or nothing.
+// Why requests are refused or have no answer, and what a line says of it: how one with 400, 403 or 413 is wrong, and
+// why others get 503 or nothing.
 const CAUSES: [(Figure, &str); 10] = [
     (
         Figure::Responses(Status::BadRequest),

@@ -73,10 +73,10 @@ pub struct Place<'a> {
     pub addresses: Vec<SocketAddr>,
 }
 
-/// Serves at these places, at the second one for readers, at each on the first of its addresses that the system grants, and prints
-/// these once it listens at all. Once the end is told it takes no more connections, answers held connects, and cuts what is still open
-/// where it was to end so. Where there is a file for a record, what is listed is written there. It ends once as many connections as
-/// were asked for have come and have ended, or standard input has.
+/// Serves at these places, at the second one for readers, at each on the first of its addresses that the system grants,
+/// and prints these once it listens at all. Once the end is told it takes no more connections, answers held connects,
+/// and cuts what is still open where it was to end so. Where there is a file for a record, what is listed is written
+/// there. It ends once as many connections as were asked for have come and have ended, or standard input has.
 pub fn serve<'a, R, F, W>(
     rt: R,
     listen: Place<'a>,
@@ -343,8 +343,8 @@ impl<J: Naming, R: Wait + Clock + AllocGlobal + Copy + Drop> Doors<J, R> {
     }
 }
 
-// Serves the connections that come by these doors. What these are made of is not named where the tasks of connections are, which the
-// prover could not compare in reasonable time.
+// Serves the connections that come by these doors. What these are made of is not named where the tasks of connections
+// are, which the prover could not compare in reasonable time.
 fn serve_doors<S, I, O, R, A>(
     rt: R,
     runtime: &mut Runtime,

@@ -26,8 +26,9 @@ const KEPT_IN_A_CROWD: usize = 10;
 // After how many ticks it is said again why requests are refused: a second. (This server's choice.)
 const TELLING: u64 = 10;
 
-/// Posts a tick every 100 ms until it is told to stop. It counts what came of each, says once a second why requests are refused, where some
-/// were, and drops filed answers that nobody took for too long: sooner where more than `crowd` are filed.
+/// Posts a tick every 100 ms until it is told to stop. It counts what came of each, says once a second why requests are
+/// refused, where some were, and drops filed answers that nobody took for too long: sooner where more than `crowd` are
+/// filed.
 pub fn tick<J, P, G, H, R, C>(
     rt: &R,
     alloc: Global,
@@ -128,7 +129,7 @@ fn survey<J: Naming, P: Placing, G: Gate + Drop, H: Wait + Drop, R: Wait>(
         let Some(ShardSurvey { place, held, filed }) = hub.survey_shard(rt, shard) else {
             break;
         };
-        counts.set_lag(shard, entries.saturating_sub(place));
+        counts.set_lag(shard, entries, place);
         connects = connects.saturating_add(held as u64);
         answers = answers.saturating_add(filed as u64);
     }

@@ -1,6 +1,7 @@
 //! Answers whose digests `sha256sum` told.
 use crate::{AnswerLog, NotedAnswers, TakenAnswers, answer_line};
 use bx_advice::{Config, Outcome};
+use bx_entry::Refusal;
 use bx_hub::PostFault;
 use bx_message::{AckReply, Item, RawJson, Reply, Status, Text};
 use bx_record::RecordFault;
@@ -133,7 +134,7 @@ fn what_is_answered_is_noted(rt: HostRuntime) -> Result<(), Fail> {
         for event in [
             Event::Asked,
             Event::Admitted(place),
-            Event::Refused(PostFault::BadMoment),
+            Event::Refused(PostFault::Refused(Refusal::BadMoment)),
             Event::Responded(Some(Status::Ok)),
             Event::Left { was_admitted: true },
         ] {

@@ -6,7 +6,7 @@ ghost use Rattle.bx_calls.specs.Ticks.{ticks, tick_entries};
 use bx_entry::{Batch, Entry, EntryKind, Listing};
 use bx_history::History;
 use bx_message::Sequence;
-use bx_window::{Bundle, Front, LogWriter, Naming, Note, PublishFault};
+use bx_window::{Bundle, Front, LogWriter, Naming, PublishFault};
 use std::alloc::{AllocError, Global};
 use std::sync::Wait;
 
@@ -47,12 +47,12 @@ impl<J: Naming, R: Wait + Drop> Ticker<J, R> {
     }
 
     /// What was published.
-    pub fn tell(&self) -> Note<J> {
+    pub fn tell(&self) -> Front<J> {
         self.writer.tell()
     }
 
     /// What was published, of which a front is a beginning.
-    pub fn tell_beyond(&mut self, front: &Front<J>) -> Note<J> {
+    pub fn tell_beyond(&mut self, front: &Front<J>) -> Front<J> {
         self.writer.tell_beyond(front)
     }
 
@@ -82,8 +82,8 @@ impl<J: Naming, R: Wait + Drop> Ticker<J, R> {
         ticks(alloc, self.end, count)
     }
 
-    /// Publishes so many ticks that were made behind this list. Where they are refused they come back, and the list ends where it
-    /// did. Past the numbers that tests have the window counts as full.
+    /// Publishes so many ticks that were made behind this list. Where they are refused they come back, and the list
+    /// ends where it did. Past the numbers that tests have the window counts as full.
     pub fn publish_bundle(
         &mut self,
         alloc: Global,

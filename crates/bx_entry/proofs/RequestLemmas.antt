@@ -5,8 +5,10 @@ use Rattle.bx_cut.specs.Pieces.{Object}
 use Rattle.bx_message.specs.declared.message.Message.{Message}
 use Rattle.bx_message.specs.Fields.{message_in}
 use Rattle.bx_message.specs.MessageKinds.{is_handshake}
-use Rattle.bx_entry.specs.Words.{listed_from, Cut, objects_in, objects_of, all_messages, has_broadcast, let_in}
-use Rattle.bx_entry.specs.declared.input.{BodyError.BodyError, Door.Door}
+use Rattle.bx_entry.specs.Words.{IsUnread, listed_from, Cut, objects_in, objects_of, all_messages, has_broadcast, let_in}
+use Rattle.bx_entry.specs.declared.input.{AdmitFault.AdmitFault, BodyError.BodyError, Door.Door}
+use Rattle.bx_entry.specs.declared.input.AdmitFault.TheVariants.{Refused, Memory}
+use Rattle.bx_entry.specs.declared.input.Refusal.TheVariants.{Body}
 use Rattle.bx_entry.specs.declared.input.BodyError.TheVariants.{Forbidden}
 use Rattle.bx_entry.specs.declared.input.Door.TheVariants.{Publishers, Readers}
 
@@ -101,6 +103,13 @@ pub let_in-is_ok : (door : Door) (read : Result (List Message) BodyError) → is
 let_in-is_ok Publishers read e = e
 let_in-is_ok Readers (Ok ns) e = refl
 let_in-is_ok Readers (Err f) e = e
+
+-- what is not read is not let in
+pub let_in-unread : (door : Door) (read : Result (List Message) BodyError) (fault : AdmitFault) → IsUnread read fault → IsUnread (let_in door read) fault
+let_in-unread door read Memory is = tt
+let_in-unread Publishers read (Refused refusal) is = is
+let_in-unread Readers read (Refused (Body fault)) is = ap (let_in Readers) is
+let_in-unread Readers read (Refused _) is = is
 
 -- ---- what a request adds to the list
 

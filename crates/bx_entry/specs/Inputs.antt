@@ -1,11 +1,12 @@
 -- What is handed in once its documents are read, and why it is not admitted.
-use Rattle.std.specs.Prelude.{ℕ, ◌+◌, List, [], ◌∷◌, length, nat_lt, Option, Some}
+use Rattle.std.specs.Prelude.{ℕ, ◌≡◌, ◌+◌, List, [], ◌∷◌, length, nat_lt, Option, Some, None}
 use Rattle.bx_names.specs.Faults.{first_case}
 use Rattle.bx_advice.specs.Limits.{greatest_moment, greatest_length}
 use Rattle.bx_message.specs.declared.message.Message.{Message}
 use Rattle.bx_entry.specs.Listing.{Listed, request}
 use Rattle.bx_entry.specs.Listing as messages
-use Rattle.bx_entry.specs.declared.input.{BodyError.BodyError, Refusal.Refusal}
+use Rattle.bx_entry.specs.declared.input.{AdmitFault.AdmitFault, BodyError.BodyError, Refusal.Refusal}
+use Rattle.bx_entry.specs.declared.input.AdmitFault.TheVariants.{Refused, Memory}
 use Rattle.bx_entry.specs.declared.input.Refusal.TheVariants.{Body, BadMoment, Ended}
 
 -- a request with its messages, one whose body can't be read, or a tick
@@ -29,3 +30,8 @@ abbrev pub refusal_of : ℕ → ReadInput → Option Refusal
 refusal_of len (Request moment nonce ms) = refused_beyond moment (len + length ms)
 refusal_of len (Unread fault) = Some (Body fault)
 refusal_of len (Tick moment) = refused_beyond moment (len + 1)
+
+-- a program's fault is the refusal by the rules, where there is one, and else want of memory
+abbrev pub IsFault : Option Refusal → AdmitFault → Type 0
+IsFault refusal (Refused r) = refusal ≡ Some r
+IsFault refusal Memory = refusal ≡ None

@@ -1,5 +1,5 @@
 -- The messages of a request's documents, or why they can't be read.
-use Rattle.std.specs.Prelude.{ℕ, ◌||◌, if◌then◌else◌, Bool, true, false, List, [], ◌∷◌, length, map, flat_map, nat_lt, Option, Some, None, option_map, option_and_then, Result, Ok, Err}
+use Rattle.std.specs.Prelude.{ℕ, ⊤, ◌≡◌, ◌||◌, if◌then◌else◌, Bool, true, false, List, [], ◌∷◌, length, map, flat_map, nat_lt, Option, Some, None, option_map, option_and_then, Result, Ok, Err}
 use Rattle.std.specs.List.{list_any}
 use Rattle.bx_names.specs.Faults.{first_case}
 use Rattle.bx_names.specs.Kinds.{is_broadcast}
@@ -10,7 +10,9 @@ use Rattle.bx_cut.specs.Words.{fault, Object, pieces, texts_of}
 use Rattle.bx_message.specs.declared.message.Message.{Message}
 use Rattle.bx_message.specs.Fields.{message_in}
 use Rattle.bx_entry.specs.Inputs.{ReadInput, Request, Unread}
-use Rattle.bx_entry.specs.declared.input.{Arrival.Arrival, Door.Door, Input.Input, BodyError.BodyError}
+use Rattle.bx_entry.specs.declared.input.{AdmitFault.AdmitFault, Arrival.Arrival, Door.Door, Input.Input, BodyError.BodyError}
+use Rattle.bx_entry.specs.declared.input.AdmitFault.TheVariants.{Refused, Memory}
+use Rattle.bx_entry.specs.declared.input.Refusal.TheVariants.{Body, BadMoment, Ended}
 use Rattle.bx_entry.specs.declared.input.Door.TheVariants.{Publishers, Readers}
 use Rattle.bx_entry.specs.declared.input.Input.TheVariants.{Post}
 use Rattle.bx_entry.specs.declared.input.BodyError.TheVariants.{NotJson, NotObject, TooMany, NoChannel, Forbidden}
@@ -108,6 +110,13 @@ let_in Readers (Err f) = Err f
 -- the messages of a request as it came in, or the first fault
 abbrev pub arrival_messages : Arrival → Result (List Message) BodyError
 arrival_messages a = let_in a.door (request_messages (texts_of a.bodies))
+
+-- a program gives no messages for their fault, or for want of memory
+abbrev pub IsUnread : Result (List Message) BodyError → AdmitFault → Type 0
+IsUnread messages (Refused (Body fault)) = messages ≡ Err fault
+IsUnread messages (Refused BadMoment) = ⊥
+IsUnread messages (Refused Ended) = ⊥
+IsUnread messages Memory = ⊤
 
 -- ---- an input
 

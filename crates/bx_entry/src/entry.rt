@@ -100,3 +100,12 @@ pub enum Slot {
     /// A connect or a rider, whose answer is filed under this ticket.
     Waiting(Ticket),
 }
+
+/// Where the messages of an admitted request stand, and how they are answered; or where a tick stands.
+#[derive(Drop)]
+pub struct Admitted {
+    /// The place of the first message; of a request without messages the length of the list.
+    pub first: u64,
+    /// For each message in order how it is answered; none for a tick.
+    pub slots: Sequence<Slot>,
+}

@@ -1,8 +1,11 @@
 ghost use Rattle.std.specs.Prelude.{◌≡◌};
 ghost use Rattle.bx_entry.specs.Statuses.{refusal_status};
+ghost use Rattle.bx_entry.specs.declared.input.AdmitFault.TheVariants.{Memory, Refused};
+ghost use Rattle.bx_entry.specs.declared.input.Refusal.TheVariants.{Body};
 
 use bx_cut::Bodies;
 use bx_message::Status;
+use std::alloc::{AllocError, AllocFailed};
 
 /// The door by which a request came. (This server's choice.)
 #[derive(Clone, Copy, Debug, PartialEq, Eq)]
@@ -60,6 +63,40 @@ pub enum Refusal {
     BadMoment,
     /// The list would pass the greatest length that it may have.
     Ended,
+}
+
+/// Why a program does not admit a request or a tick. Nothing is changed then.
+#[derive(Clone, Copy, Debug, PartialEq, Eq)]
+pub enum AdmitFault {
+    /// It is refused.
+    Refused(Refusal),
+    /// Memory was refused.
+    Memory,
+}
+
+impl AdmitFault {
+    /// The documents of a request are not taken as messages.
+    pub(crate) fn unread(fault: BodyError) -> AdmitFault
+        ensures { result ≡ Refused (Body fault) }
+    {
+        AdmitFault::Refused(Refusal::Body(fault))
+    }
+}
+
+impl From<AllocError> for AdmitFault {
+    ghost from_gives = { λ _ fault. fault ≡ Memory };
+
+    fn from(_error: AllocError) -> AdmitFault {
+        AdmitFault::Memory
+    }
+}
+
+impl<T: Drop> From<AllocFailed<T>> for AdmitFault {
+    ghost from_gives = { λ _ fault. fault ≡ Memory };
+
+    fn from(_error: AllocFailed<T>) -> AdmitFault {
+        AdmitFault::Memory
+    }
 }
 
 impl Refusal {

@@ -8,9 +8,9 @@ mod placing;
 mod read;
 mod senders;
 
-pub use entry::{Batch, Entry, EntryKind, Rider, Slot, Ticket};
-pub use input::{Arrival, BodyError, Door, Input, Refusal};
+pub use entry::{Admitted, Batch, Entry, EntryKind, Rider, Slot, Ticket};
+pub use input::{AdmitFault, Arrival, BodyError, Door, Input, Refusal};
 pub use listing::{Element, Listing};
 pub use placing::{AllFirst, ByRemainder, ByTable, Placing};
-pub use read::{ReadError, read_messages};
+pub use read::read_messages;
 pub use senders::Senders;

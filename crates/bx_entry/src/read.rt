@@ -1,39 +1,28 @@
 //! Reading the messages of a request.
-ghost use Rattle.std.specs.Prelude.{◌≡◌, ◌++◌, ◌<◌, IfOk, IfErr, OnOk, IsErrOf, map, length, nat_lt, Some, None, Ok, Err, option_map};
+ghost use Rattle.std.specs.Prelude.{◌≡◌, ◌++◌, ◌<◌, IfOk, IfErr, OnOk, IsErrOf, map, length, nat_lt, Some, None, Ok, option_map};
 ghost use Rattle.std.specs.List.{list_any};
 ghost use Rattle.bx_cut.specs.Bodies.{texts_of};
 ghost use Rattle.bx_cut.specs.declared.document.TheConstants.{MAX_MESSAGES};
-ghost use Rattle.bx_entry.specs.declared.input.BodyError.{BodyError};
-ghost use Rattle.bx_entry.specs.declared.read.ReadError.TheVariants.{Memory};
-ghost use Rattle.bx_entry.specs.Requests.{all_messages, arrival_messages, cut_fault, cut_of, has_broadcast, is_not_json, is_not_object, is_too_many, messages_of, objects_in, objects_of, request_messages};
+ghost use Rattle.bx_entry.specs.Requests.{IsUnread, all_messages, arrival_messages, has_broadcast, request_messages};
+ghost use Rattle.bx_entry.specs.Requests.{cut_fault, cut_of, is_not_json, is_not_object, is_too_many, objects_in, objects_of};
 
-use crate::input::{Arrival, BodyError, Door};
+use crate::input::{AdmitFault, Arrival, BodyError, Door};
 use bx_cut::{Bodies, CutError, Document, MAX_MESSAGES};
 use bx_message::{Message, MessageError};
 use bx_names::is_broadcast;
-use std::alloc::{AllocError, AllocFailed, Global};
-
-/// Why a request's messages are not given.
-#[derive(Clone, Copy, Debug, PartialEq, Eq)]
-pub enum ReadError {
-    /// They cannot be read, or are not let in.
-    Body(BodyError),
-    /// Memory was refused.
-    Memory,
-}
+use std::alloc::{AllocError, Global};
 
 impl Arrival {
     /// The messages of all its documents in order, where its door lets them in; or the first of the faults.
-    pub fn read(&self, alloc: Global) -> Result<Vec<Message>, ReadError>
+    pub fn read(&self, alloc: Global) -> Result<Vec<Message>, AdmitFault>
         ensures messages { IfOk result (λ ms. arrival_messages self.now ≡ Ok ms.items) }
-        ensures fault { (fault : BodyError) → IsErrOf result (ReadError.Body fault)
-            → arrival_messages self.now ≡ Err fault }
+        ensures fault { IfErr result (IsUnread (arrival_messages self.now)) }
     {
         let messages = read_messages(alloc, &self.bodies)?;
         match self.door {
             Door::Publishers => Ok(messages),
             Door::Readers if has_broadcast(messages.as_slice()) => {
-                Err(ReadError::Body(BodyError::Forbidden))
+                Err(AdmitFault::unread(BodyError::Forbidden))
             }
             Door::Readers => Ok(messages),
         }
@@ -53,13 +42,19 @@ fn has_broadcast(messages: &[Message]) -> bool
 type Cut<'a> = Result<Document<'a>, CutError>;
 
 /// The messages of all documents in order, or the first of the faults that holds for any of them.
-pub fn read_messages(alloc: Global, bodies: &Bodies) -> Result<Vec<Message>, ReadError>
+pub fn read_messages(alloc: Global, bodies: &Bodies) -> Result<Vec<Message>, AdmitFault>
     ensures messages { IfOk result (λ ms. request_messages (texts_of bodies.now) ≡ Ok ms.items) }
-    ensures fault { (fault : BodyError) → IsErrOf result (ReadError.Body fault)
-        → request_messages (texts_of bodies.now) ≡ Err fault }
+    ensures fault { IfErr result (IsUnread (request_messages (texts_of bodies.now))) }
 {
     let cuts = cut_all(alloc, bodies)?;
-    messages_in(alloc, cuts.as_slice())
+    if let Some(fault) = fault_in(cuts.as_slice()) {
+        return Err(AdmitFault::unread(fault));
+    }
+    match read_all(alloc, cuts.as_slice()) {
+        Ok(messages) => Ok(messages),
+        Err(MessageError::NoChannel) => Err(AdmitFault::unread(BodyError::NoChannel)),
+        Err(MessageError::Memory) => Err(AdmitFault::Memory),
+    }
 }
 
 // Every document is cut, since the faults are ordered over all of them.
@@ -74,21 +69,6 @@ fn cut_all(alloc: Global, bodies: &Bodies) -> Result<Vec<Cut<'_>>, AllocError>
         }
     }
     Ok(cuts)
-}
-
-fn messages_in(alloc: Global, cuts: &[Cut<'_>]) -> Result<Vec<Message>, ReadError>
-    ensures messages { IfOk result (λ ms. messages_of cuts.now ≡ Ok ms.items) }
-    ensures fault { (fault : BodyError) → IsErrOf result (ReadError.Body fault)
-        → messages_of cuts.now ≡ Err fault }
-{
-    if let Some(fault) = fault_in(cuts) {
-        return Err(ReadError::Body(fault));
-    }
-    match read_all(alloc, cuts) {
-        Ok(messages) => Ok(messages),
-        Err(MessageError::NoChannel) => Err(ReadError::Body(BodyError::NoChannel)),
-        Err(MessageError::Memory) => Err(ReadError::Memory),
-    }
 }
 
 // What is wrong with the documents, besides messages without a channel.
@@ -163,40 +143,11 @@ fn read_cut(alloc: Global, cut: &Cut<'_>, messages: &mut Vec<Message>) -> Result
     ensures no_channel { IsErrOf result MessageError.NoChannel
         → all_messages (objects_in cut.now) ≡ None }
 {
-    match cut {
-        Ok(document) => read_document(alloc, document, messages),
-        Err(_) => Ok(()),
-    }
-}
-
-// Adds a document's messages.
-fn read_document(
-    alloc: Global,
-    document: &Document<'_>,
-    messages: &mut Vec<Message>,
-) -> Result<(), MessageError>
-    ensures added { OnOk result (option_map (λ ms. messages.old.items ++ ms) (all_messages document.now)
-        ≡ Some messages.new.items) }
-    ensures no_channel { IsErrOf result MessageError.NoChannel → all_messages document.now ≡ None }
-{
+    let Ok(document) = cut else {
+        return Ok(());
+    };
     for piece in document.pieces() {
         messages.push(Message::read(alloc, piece)?)?;
     }
     Ok(())
-}
-
-impl From<AllocError> for ReadError {
-    ghost from_gives = { λ _ fault. fault ≡ Memory };
-
-    fn from(_error: AllocError) -> ReadError {
-        ReadError::Memory
-    }
-}
-
-impl<T: Drop> From<AllocFailed<T>> for ReadError {
-    ghost from_gives = { λ _ fault. fault ≡ Memory };
-
-    fn from(_error: AllocFailed<T>) -> ReadError {
-        ReadError::Memory
-    }
 }

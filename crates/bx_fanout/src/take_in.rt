@@ -10,10 +10,10 @@ ghost use Rattle.bx_world.specs.declared.step.Step.TheVariants.{Admit};
 use crate::current_input::CurrentInput;
 use crate::held_inputs::HeldInputs;
 use crate::out::Out;
-use bx_entry::{Input, Placing, Refusal, Slot};
+use bx_entry::{AdmitFault, Admitted, Input, Placing, Refusal, Slot};
 use bx_history::History;
 use bx_message::Sequence;
-use bx_world::{AdmissionFault, Admitted, World};
+use bx_world::World;
 use std::alloc::{AllocError, Global};
 use std::collections::VecDeque;
 
@@ -39,14 +39,14 @@ pub(crate) fn take_in<P: Placing>(
     let end = world.entries();
     match admit(alloc, world, input) {
         Ok(Admitted { first, slots }) => Ok(current_of(alloc, number, first, None, slots)),
-        Err(AdmissionFault::Refused(refusal)) => Ok(current_of(
+        Err(AdmitFault::Refused(refusal)) => Ok(current_of(
             alloc,
             number,
             end,
             Some(refusal),
             Sequence::new(alloc),
         )),
-        Err(AdmissionFault::Memory) => Err(AllocError),
+        Err(AdmitFault::Memory) => Err(AllocError),
     }
 }
 
@@ -54,7 +54,7 @@ fn admit<P: Placing>(
     alloc: Global,
     world: &mut World<P>,
     input: &Input,
-) -> Result<Admitted, AdmissionFault>
+) -> Result<Admitted, AdmitFault>
     ensures { Steps world.old (Admit input.now) (admission result) world.new }
 {
     match input {

@@ -2,6 +2,7 @@
 use Rattle.bx_advice.specs.declared.advice.Outcome.{Outcome}
 use Rattle.bx_advice.specs.declared.advice.Outcome.TheVariants as outcomes
 use Rattle.bx_entry.specs.declared.input.BodyError.TheVariants as bodies
+use Rattle.bx_entry.specs.declared.input.Refusal.TheVariants as refusals
 use Rattle.bx_figures.specs.declared.figure.{Figure.Figure, Reason.Reason}
 use Rattle.bx_figures.specs.declared.figure.Figure.TheVariants.{Errors, Replies}
 use Rattle.bx_figures.specs.declared.figure.Reason.TheVariants as reasons
@@ -11,11 +12,11 @@ use Rattle.bx_message.specs.declared.{message_kind.MessageKind.MessageKind, repl
 
 -- the reason of a fault
 abbrev pub reason_of : PostFault → Reason
-reason_of (faults.Body bodies.Forbidden) = reasons.Forbidden
-reason_of (faults.Body fault) = reasons.Body
+reason_of (faults.Refused (refusals.Body bodies.Forbidden)) = reasons.Forbidden
+reason_of (faults.Refused (refusals.Body fault)) = reasons.Body
+reason_of (faults.Refused refusals.BadMoment) = reasons.BadMoment
+reason_of (faults.Refused refusals.Ended) = reasons.Ended
 reason_of faults.Closed = reasons.Closed
-reason_of faults.BadMoment = reasons.BadMoment
-reason_of faults.Ended = reasons.Ended
 reason_of (faults.Behind first) = reasons.Behind
 reason_of (faults.Overrun shard place) = reasons.Overrun
 reason_of (faults.Misplaced shard found) = reasons.Misplaced

@@ -5,7 +5,8 @@ use crate::figure::{FIGURES, Figure};
 use std::alloc::{AllocError, Global};
 use std::sync::atomic::{AtomicBool, AtomicU64, Ordering};
 
-/// A count for each figure, to which any thread adds without a lock, how far each shard is behind, and whether the server listens.
+/// A count for each figure, to which any thread adds without a lock, how far each shard is behind, and whether the
+/// server listens.
 #[derive(Drop)]
 pub struct Counts {
     counts: Vec<AtomicU64>,
@@ -49,10 +50,10 @@ impl Counts {
         self.lags.len()
     }
 
-    /// A shard is so many entries of the list behind from here on.
-    pub fn set_lag(&self, shard: usize, entries: u64) {
+    /// A shard has applied the entries below this place from here on, of a list of so many.
+    pub fn set_lag(&self, shard: usize, entries: u64, place: u64) {
         if let Some(lag) = self.lags.get(shard) {
-            lag.store(entries, Ordering::SeqCst);
+            lag.store(entries.saturating_sub(place), Ordering::SeqCst);
         }
     }
 
@@ -74,7 +75,8 @@ impl Counts {
         self.listens.load(Ordering::SeqCst)
     }
 
-    /// The counts as they are read, one after the other; others may add meanwhile. An error means that memory was refused.
+    /// The counts as they are read, one after the other; others may add meanwhile. An error means that memory was
+    /// refused.
     pub fn read(&self, alloc: Global) -> Result<Figures, AllocError> {
         Ok(Figures {
             values: loaded(alloc, &self.counts)?,

@@ -5,7 +5,7 @@ ghost use Rattle.bx_figures.specs.Outcomes.{figure_of, reason_of};
 use crate::counts::Counts;
 use crate::figure::{Figure, Reason};
 use bx_advice::Outcome;
-use bx_entry::BodyError;
+use bx_entry::{BodyError, Refusal};
 use bx_hub::PostFault;
 use bx_message::{Item, Reply};
 use bx_service::{Event, Observer};
@@ -60,11 +60,11 @@ fn reason_of(fault: PostFault) -> Reason
     ensures { result ≡ reason_of fault }
 {
     match fault {
-        PostFault::Body(BodyError::Forbidden) => Reason::Forbidden,
-        PostFault::Body(_) => Reason::Body,
+        PostFault::Refused(Refusal::Body(BodyError::Forbidden)) => Reason::Forbidden,
+        PostFault::Refused(Refusal::Body(_)) => Reason::Body,
+        PostFault::Refused(Refusal::BadMoment) => Reason::BadMoment,
+        PostFault::Refused(Refusal::Ended) => Reason::Ended,
         PostFault::Closed => Reason::Closed,
-        PostFault::BadMoment => Reason::BadMoment,
-        PostFault::Ended => Reason::Ended,
         PostFault::Behind { .. } => Reason::Behind,
         PostFault::Overrun { .. } => Reason::Overrun,
         PostFault::Misplaced { .. } => Reason::Misplaced,

@@ -12,8 +12,8 @@ const LAG: &str = "bayeux_shard_lag_entries";
 
 const LAG_HELP: &str = "Entries of the list that a shard has not applied.";
 
-/// The page of these figures: a row for each, and one for each shard, with two lines before the first one of a name. An error means that
-/// memory was refused. (Prometheus' text format 0.0.4.)
+/// The page of these figures: a row for each, and one for each shard, with two lines before the first one of a name. An
+/// error means that memory was refused. (Prometheus' text format 0.0.4.)
 pub fn page_text(alloc: Global, figures: &Figures) -> Result<String, AllocError> {
     let mut page = String::with_capacity(alloc, ROOM)?;
     for (place, figure) in FIGURES.iter().enumerate() {

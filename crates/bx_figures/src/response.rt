@@ -37,8 +37,9 @@ impl Asked {
     }
 }
 
-/// The response to what is asked, where the server listens or does not, and these are the figures: the page with status 200; 200, or
-/// 503 where the server does not listen; 404; and 405. The connection ends behind it. An error means that memory was refused.
+/// The response to what is asked, where the server listens or does not, and these are the figures: the page with status
+/// 200; 200, or 503 where the server does not listen; 404; and 405. The connection ends behind it. An error means that
+/// memory was refused.
 pub fn response_text(
     alloc: Global,
     asked: Asked,

@@ -4,7 +4,8 @@ use bx_message::{MessageKind, Status};
 use bx_service::{Event, Observer};
 use std::test::Fail;
 
-// The page of figures that are 1, the greatest number, 3 and so on to 57, of two that are not there, and of two shards, as the format has it.
+// The page of figures that are 1, the greatest number, 3 and so on to 57, of two that are not there, and of two shards,
+// as the format has it.
 const PAGE: &str = r#"# HELP bayeux_uptime_seconds Seconds since the program began.
 # TYPE bayeux_uptime_seconds gauge
 bayeux_uptime_seconds 1
@@ -143,8 +144,9 @@ fn counts_are_of_their_figure(rt: HostRuntime) -> Result<(), Fail> {
     counts.add(Figure::Errors(Error::QueueOverflow), 6);
     counts.set(Figure::Entries, 9);
     counts.set(Figure::Filed, 7);
-    counts.set_lag(2, 8);
-    counts.set_lag(3, 10);
+    counts.set_lag(0, 2, 10);
+    counts.set_lag(2, 10, 2);
+    counts.set_lag(3, 10, 0);
     assert_eq!(rt; counts.get(Figure::Events), 5);
     counts.see(Event::Asked);
     counts.see(Event::Admitted(None));

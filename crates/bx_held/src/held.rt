@@ -1,17 +1,18 @@
-//! What waits for an answer: each poll asks the hub, and leaves a waker beside the connect while the answer is not filed.
-ghost use Rattle.std.specs.Prelude.{◌≡◌, ◌<◌, true, false, length, Option, None, Result, Ok, IfSome, IfNone};
+//! What waits for an answer: each poll asks the hub, and leaves a waker beside the connect while the answer is not
+//! filed.
+ghost use Rattle.std.specs.Prelude.{◌≡◌, ◌<◌, true, false, length, Option, None, Result, Ok, IfErr, IfSome, IfNone};
 ghost use mathlib.Core.List.{IsPrefix};
 ghost use Rattle.futures.specs.Poll.{IfReady, OnPending};
 ghost use Rattle.futures.specs.Task.{Covers, Keeps};
 ghost use Rattle.futures.specs.declared.task.Poll.TheVariants as polls;
 ghost use Rattle.bx_window.specs.Steps.{list_of, setup_of};
-ghost use Rattle.bx_held.specs.Outputs.{HasNone, IsGiven, MayGive};
+ghost use Rattle.bx_held.specs.Outputs.{HasNone, IsGiven, MayGive, output_of};
 ghost use Rattle.bx_held.specs.Waiting.{IsWaitedFor};
 ghost use Rattle.bx_message.specs.declared.reply.Answer.{Answer};
 ghost use Rattle.bx_hub.specs.declared.fault.HubFault.{HubFault};
 
 use bx_entry::{Placing, Ticket};
-use bx_hub::{Gate, Hub, HubFault, Pass, Watch, Watching};
+use bx_hub::{Gate, Hub, Pass, Stopped, Watch, Watching};
 use bx_message::Answer;
 use bx_window::Naming;
 use futures::task::{Context, Poll, Source, Waker};
@@ -20,8 +21,9 @@ use std::sync::Wait;
 
 /// What waits for the answer to a connect or a rider, until it is filed.
 ///
-/// Each poll asks the hub for the answer. While there is none, it leaves a waker of the task that polls beside the connect, so
-/// that this task is woken once the connect is answered, also where what waits went from one task to another meanwhile.
+/// Each poll asks the hub for the answer. While there is none, it leaves a waker of the task that polls beside the
+/// connect, so that this task is woken once the connect is answered, also where what waits went from one task to
+/// another meanwhile.
 #[derive(Drop)]
 pub struct PendingAnswer<J: Naming> {
     pass: Pass<J>,
@@ -36,7 +38,8 @@ pub struct PendingAnswer<J: Naming> {
 }
 
 impl<J: Naming> PendingAnswer<J> {
-    /// What waits for the answer under the ticket of a connect, or of a rider, that stands in what the pass has seen of a hub's list.
+    /// What waits for the answer under the ticket of a connect, or of a rider, that stands in what the pass has seen of
+    /// a hub's list.
     pub fn new(pass: Pass<J>, ticket: Ticket) -> PendingAnswer<J>
         requires { ticket.place < length (list_of pass) }
         ensures { (result.pass ≡ pass) × (result.ticket ≡ ticket) × (result.is_done ≡ false) }
@@ -56,10 +59,11 @@ impl<J: Naming> PendingAnswer<J> {
         rt: &R,
         alloc: Global,
         hub: &Hub<J, P, G, H>,
-    ) -> Option<Result<Option<Answer>, HubFault>>
+    ) -> Option<Result<Option<Answer>, Stopped<J>>>
         ensures seen { IsPrefix self.old.pass self.new.pass }
         ensures same { (self.new.ticket ≡ self.old.ticket) × (self.new.source ≡ self.old.source) }
-        ensures given { IfSome result (IsGiven (setup_of J.config J.placing) self.new.ticket self.new.pass) }
+        ensures given { IfSome result (λ o. IsGiven (setup_of J.config J.placing) self.new.ticket self.new.pass (output_of o)) }
+        ensures own { IfSome result (λ o. IfErr o (λ s. s.shard.value ≡ self.new.ticket.shard)) }
         ensures done { IfSome result (λ _. self.new.is_done ≡ true) }
         ensures none { IfNone result (HasNone (setup_of J.config J.placing) self.new.ticket self.new.pass) }
         ensures pending { IfNone result (self.new.is_done ≡ self.old.is_done) }
@@ -72,24 +76,28 @@ impl<J: Naming> PendingAnswer<J> {
             }
             Err(stopped) => {
                 self.is_done = true;
-                Some(Err(stopped.fault()))
+                Some(Err(stopped))
             }
         }
     }
 
     /// The output, once the hub has it: the answer; or none where no connect is held under the ticket and no answer is
-    /// filed, as after its output; or why the ticket's shard was not brought up. While there is none, a waker of the
-    /// task that polls was left beside the connect, which the token says that comes with it, or that task is polled
-    /// again in any case.
+    /// filed, as after its output; or why the ticket's shard was not brought up, as that or its shut lock said. While
+    /// there is none, a waker of the task that polls was left beside the connect, which the token says that comes with
+    /// it, or that task is polled again in any case.
     pub fn poll<P: Placing + Drop, G: Gate + Drop, H: Wait + Drop, R: Wait>(
         &mut self,
         rt: &R,
         alloc: Global,
         hub: &Hub<J, P, G, H>,
         cx: &mut Context<'_>,
-    ) -> (Poll<Result<Option<Answer>, HubFault>>, Option<Watching<J>>)
-        ensures value { IfReady result.0 (MayGive (setup_of J.config J.placing) self.old.ticket self.old.pass
-            self.old.is_done) }
+    ) -> (
+        Poll<Result<Option<Answer>, Stopped<J>>>,
+        Option<Watching<J>>,
+    )
+        ensures value { IfReady result.0 (λ o. MayGive (setup_of J.config J.placing) self.old.ticket self.old.pass
+            self.old.is_done (output_of o)) }
+        ensures own { IfReady result.0 (λ o. IfErr o (λ s. s.shard.value ≡ self.old.ticket.shard)) }
         ensures same { OnPending result.0 ((output : Result (Option Answer) HubFault)
             → MayGive (setup_of J.config J.placing) self.new.ticket self.new.pass self.new.is_done output
             → MayGive (setup_of J.config J.placing) self.old.ticket self.old.pass self.old.is_done output) }
@@ -98,7 +106,7 @@ impl<J: Naming> PendingAnswer<J> {
         ensures kept { Keeps cx.old cx.new }
         ensures seen { IsPrefix self.old.pass self.new.pass }
         ensures given { self.old.is_done ≡ false → IfReady result.0
-            (IsGiven (setup_of J.config J.placing) self.new.ticket self.new.pass) }
+            (λ o. IsGiven (setup_of J.config J.placing) self.new.ticket self.new.pass (output_of o)) }
         ensures done { IfReady result.0 (λ _. self.new.is_done ≡ true) }
         ensures pending { OnPending result.0 (self.new.is_done ≡ false) }
         ensures after { self.old.is_done ≡ true → result.0 ≡ polls.Ready (Ok None) }
@@ -125,8 +133,9 @@ impl<J: Naming> PendingAnswer<J> {
                 return (Poll::Ready(Ok(None)), None);
             }
             Watch::Shut(_) => {
+                let Some(shut) = watching else { unreachable!() };
                 self.is_done = true;
-                return (Poll::Ready(Err(HubFault::Closed)), None);
+                return (Poll::Ready(Err(shut.stopped(&self.ticket))), None);
             }
         }
         // It was answered meanwhile.

@@ -1,32 +1,34 @@
 -- What a request or a tick adds to the front of a pass, and why it is refused.
-use Rattle.std.proofs.Common.{◌≡◌, ℕ, ◌+◌, ◌<◌, ◌≤◌, None, List, [], ◌∷◌, ◌++◌, length, take, drop, refl, sym, ap, ◌∙◌, subst, arith, inl, inr, length-append}
-use Rattle.std.specs.Prelude.{Result, Ok, Err, IfOk, IfErr, IfSome, IsErrAnd, IsOkUnless, OnOk, OnErr}
+use Rattle.std.proofs.Common.{◌≡◌, ℕ, ◌+◌, ◌<◌, ◌≤◌, Bool, true, false, Option, Some, None, List, [], ◌∷◌, ◌++◌, length, take, drop, refl, sym, ap, ◌∙◌, subst, arith, inl, inr, length-append}
+use Rattle.std.specs.Prelude.{Result, Ok, Err, IfOk, IfErr, IfSome, IsErrAnd, IsOkUnless, OnOk, OnErr, nat_lt, if◌then◌else◌}
 use Rattle.std.proofs.lemmas.{Grind.common_steps, List.drop_at}
 use mathlib.Core.List.{IsPrefix}
 use Rattle.bx_registry.specs.Standings.{Continues, Standing}
 use Rattle.bx_entry.specs.Placings.{placed_by}
 use Rattle.bx_registry.specs.Slots.{admitted_slots}
 use Rattle.bx_registry.specs.declared.plan.Plan.{Plan}
-use Rattle.bx_registry.specs.Plans.{IsFault, fault_of}
 use Rattle.bx_registry.proofs.Faults.{fault_told, planned_taken}
 use Rattle.bx_registry.proofs.Slotting.{tick_slots}
 use Rattle.bx_entry.specs.Listing as messages
-use Rattle.bx_advice.specs.Limits.{greatest_length}
+use Rattle.bx_advice.specs.Limits.{greatest_length, greatest_moment}
 use Rattle.bx_advice.specs.declared.config.Config.{Config}
-use Rattle.bx_entry.specs.Words.{ReadInput, added_by, refusal_of, refused_beyond, Listed, entries}
+use Rattle.bx_entry.specs.Inputs.{Request, Tick, Unread}
+use Rattle.bx_entry.specs.Words.{IsFault, IsUnread, ReadInput, added_by, read_by, refusal_of, Listed, entries}
+use Rattle.bx_message.specs.declared.message.Message.{Message}
 use Rattle.bx_entry.specs.declared.input.Input.{Input}
 use Rattle.bx_entry.specs.declared.entry.Entry.{Entry}
 use Rattle.bx_theory.proofs.Lists.{entries_length}
-use Rattle.bx_registry.specs.declared.plan.AdmitFault.{AdmitFault}
-use Rattle.bx_registry.specs.declared.plan.AdmitFault.TheVariants as faults
+use Rattle.bx_entry.specs.declared.input.{AdmitFault.AdmitFault, BodyError.BodyError, Refusal.Refusal}
+use Rattle.bx_entry.specs.declared.input.AdmitFault.TheVariants as admissions
+use Rattle.bx_entry.specs.declared.input.Refusal.TheVariants as refusals
 use Rattle.bx_entry.specs.Placings.{Setup}
 use Rattle.bx_window.specs.Places as places
 use Rattle.bx_window.specs.Steps.{list_of, setup_of}
 use Rattle.bx_window.specs.declared.law.LogStep.{LogStep}
-use Rattle.bx_hub.specs.Faults.{of_planning}
+use Rattle.bx_hub.specs.Faults.{of_admission}
 use Rattle.bx_hub.specs.Posts.{AreSlotsAt, IsAdmittedAt, IsFullFor, IsRefused, IsUnpublished, IsWhole, IsWithoutRoom, WasFullFor}
 use Rattle.bx_hub.specs.declared.fault.PostFault.{PostFault}
-use Rattle.bx_hub.specs.declared.fault.PostFault.TheVariants.{Body, Closed, BadMoment, Ended, Behind, Overrun, Misplaced, Memory}
+use Rattle.bx_hub.specs.declared.fault.PostFault.TheVariants.{Refused, Closed, Behind, Overrun, Misplaced, Memory}
 use Rattle.bx_window.proofs.Fronts.{prefix_self, prefix_trans}
 use Rattle.bx_hub.proofs.Lists.{list_length}
 
@@ -103,32 +105,48 @@ tick_planned setup list moment (Err f) elements slots = tt
 tick_planned setup list moment (Ok p) elements slots = slots ∙ sym (tick_slots setup list moment) ∙ ap (admitted_slots setup list) (sym elements)
 
 -- what is planned is not refused
-pub allowed_planned : (moment end : ℕ) (r : Result Plan AdmitFault) → IfSome (fault_of moment end) (λ f. r ≡ Err f) → OnOk r (refused_beyond moment end ≡ None)
-allowed_planned moment end (Ok p) some = planned_taken moment end (Ok p) p refl some
-allowed_planned moment end (Err f) some = tt
+pub allowed_planned : (refusal : Option Refusal) (r : Result Plan AdmitFault) → IfSome refusal (λ x. r ≡ Err (admissions.Refused x)) → OnOk r (refusal ≡ None)
+allowed_planned refusal (Ok p) some = planned_taken refusal (Ok p) p refl some
+allowed_planned refusal (Err f) some = tt
 
 -- what is not planned is refused so, or memory was
-pub fault_planned : (moment end : ℕ) (r : Result Plan AdmitFault) → IfSome (fault_of moment end) (λ f. r ≡ Err f) → (fault_of moment end ≡ None → IsOkUnless r faults.Memory) →
-    IfErr r (λ f. IsFault (refused_beyond moment end) f)
-fault_planned moment end (Ok p) some memory = tt
-fault_planned moment end (Err f) some memory = fault_told moment end (Err f) f refl some memory
+pub fault_planned : (refusal : Option Refusal) (r : Result Plan AdmitFault) → IfSome refusal (λ x. r ≡ Err (admissions.Refused x)) → (refusal ≡ None → IsOkUnless r admissions.Memory) →
+    IfErr r (λ f. IsFault refusal f)
+fault_planned refusal (Ok p) some memory = tt
+fault_planned refusal (Err f) some memory = fault_told refusal (Err f) f refl some memory
 
 -- ---- why it is refused
 
-pub refused_by : (input : ReadInput) (f : AdmitFault) (front : List LogStep) → IsFault (refusal_of (length (list_of front)) input) f → IsRefused input (of_planning f) front
-refused_by input faults.BadMoment front is = is
-refused_by input faults.Ended front is = inl is
-refused_by input faults.Memory front is = tt
+beyond_body : (b c : Bool) (fault : BodyError) → (if b then Some refusals.BadMoment else (if c then Some refusals.Ended else None)) ≡ Some (refusals.Body fault) → ⊥
+beyond_body true c fault e = cc
+beyond_body false true fault e = cc
+beyond_body false false fault e = cc
+
+unread_refused : (len : ℕ) (input : ReadInput) (fault : BodyError) → refusal_of len input ≡ Some (refusals.Body fault) → input ≡ Unread fault
+unread_refused len (Request moment nonce ms) fault e = absurd (beyond_body (nat_lt greatest_moment moment) (nat_lt greatest_length (len + length ms)) fault e)
+unread_refused len (Unread f) fault e = cc
+unread_refused len (Tick moment) fault e = absurd (beyond_body (nat_lt greatest_moment moment) (nat_lt greatest_length (len + 1)) fault e)
+
+pub refused_by : (input : ReadInput) (f : AdmitFault) (front : List LogStep) → IsFault (refusal_of (length (list_of front)) input) f → IsRefused input (of_admission f) front
+refused_by input (admissions.Refused (refusals.Body fault)) front is = unread_refused (length (list_of front)) input fault is
+refused_by input (admissions.Refused refusals.BadMoment) front is = is
+refused_by input (admissions.Refused refusals.Ended) front is = inl is
+refused_by input admissions.Memory front is = tt
+
+-- a request that is not read is refused so, whatever the pass has seen
+pub unread_by : (moment nonce : ℕ) (messages : Result (List Message) BodyError) (f : AdmitFault) (front : List LogStep) → IsUnread messages f → IsRefused (read_by moment nonce messages) (of_admission f) front
+unread_by moment nonce messages (admissions.Refused (refusals.Body fault)) front is = ap (read_by moment nonce) is
+unread_by moment nonce messages (admissions.Refused _) front is = absurd is
+unread_by moment nonce messages admissions.Memory front is = tt
 
 -- what is not planned is not refused by the window
-pub whole_planned : (f : AdmitFault) (front log : List LogStep) → IsWhole (of_planning f) front log
-whole_planned faults.BadMoment front log = tt
-whole_planned faults.Ended front log = tt
-whole_planned faults.Memory front log = tt
+pub whole_planned : (f : AdmitFault) (front log : List LogStep) → IsWhole (of_admission f) front log
+whole_planned (admissions.Refused refusal) front log = tt
+whole_planned admissions.Memory front log = tt
 
 pub unpublished : (input : ReadInput) (f : PostFault) (front : List LogStep) → refusal_of (length (list_of front)) input ≡ None → 0 < length (added_by input) → IsUnpublished f front → IsRefused input f front
 unpublished input Closed front allowed some u = tt
-unpublished input Ended front allowed some u = inr u
+unpublished input (Refused refusals.Ended) front allowed some u = inr u
 unpublished input (Behind first) front allowed some u = record { allowed = allowed; some = some; full = u }
 unpublished input Memory front allowed some u = tt
 unpublished input _ front allowed some u = absurd u

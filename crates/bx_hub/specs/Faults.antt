@@ -1,26 +1,18 @@
 -- Why a post is refused, and how many shards stay behind.
 use Rattle.std.specs.Prelude.{ℕ, ◌≡◌, ◌≢◌, ◌+◌, ◌<◌, List}
-use Rattle.bx_entry.specs.declared.read.ReadError.{ReadError}
-use Rattle.bx_entry.specs.declared.read.ReadError.TheVariants as reads
-use Rattle.bx_registry.specs.declared.plan.AdmitFault.{AdmitFault}
-use Rattle.bx_registry.specs.declared.plan.AdmitFault.TheVariants as plans
+use Rattle.bx_entry.specs.declared.input.AdmitFault.{AdmitFault}
+use Rattle.bx_entry.specs.declared.input.AdmitFault.TheVariants as admissions
 use Rattle.bx_window.specs.declared.law.LogStep.{LogStep}
 use Rattle.bx_window.specs.Steps.{begin_of}
 use Rattle.bx_hub.specs.declared.{activity.Activity.Activity, fault.HubFault.HubFault, fault.Lagging.Lagging, fault.PostFault.PostFault}
 use Rattle.bx_hub.specs.declared.activity.Activity.TheVariants.{Active, Paused, Closed}
 use Rattle.bx_hub.specs.declared.fault.HubFault.TheVariants as stops
-use Rattle.bx_hub.specs.declared.fault.PostFault.TheVariants.{Body, BadMoment, Ended, Memory}
+use Rattle.bx_hub.specs.declared.fault.PostFault.TheVariants.{Refused, Memory}
 
--- why messages were not read, as why a post is refused
-abbrev pub of_reading : ReadError → PostFault
-of_reading (reads.Body fault) = Body fault
-of_reading reads.Memory = Memory
-
--- why nothing was planned, as why a post is refused
-abbrev pub of_planning : AdmitFault → PostFault
-of_planning plans.BadMoment = BadMoment
-of_planning plans.Ended = Ended
-of_planning plans.Memory = Memory
+-- why nothing is admitted, as why a post is refused
+abbrev pub of_admission : AdmitFault → PostFault
+of_admission (admissions.Refused refusal) = Refused refusal
+of_admission admissions.Memory = Memory
 
 -- how many shards stay behind
 abbrev pub count_of : Lagging → ℕ

@@ -9,7 +9,7 @@ use Rattle.bx_entry.specs.Placings.{Setup}
 use Rattle.bx_window.specs.declared.law.LogStep.{LogStep}
 use Rattle.bx_window.specs.Steps.{list_of, firsts_of, begin_of, below}
 use Rattle.bx_hub.specs.declared.fault.PostFault.{PostFault}
-use Rattle.bx_hub.specs.declared.fault.PostFault.TheVariants.{Body, Closed, BadMoment, Ended, Behind, Overrun, Misplaced, Memory}
+use Rattle.bx_hub.specs.declared.fault.PostFault.TheVariants.{Refused, Closed, Behind, Overrun, Misplaced, Memory}
 use Rattle.bx_window.specs.declared.writer.TheConstants.{MAX_BATCHES}
 
 -- The input is not to be refused at this place, which isn't below what the pass had seen; and from there on the front that the pass has then seen
@@ -53,10 +53,10 @@ IsWithoutRoom _ front = ⊥
 -- the log of its publishes and trims, has an end; the window has 4096 batches, the oldest of which begins at the place that is told; or the window was
 -- full, and now begins past the place that is told, where a shard stands; or it was full, and under the lock of a shard another one was found.
 abbrev pub IsRefused : ReadInput → PostFault → List LogStep → Type 0
-IsRefused input (Body fault) front = input ≡ Unread fault
+IsRefused input (Refused (refusals.Body fault)) front = input ≡ Unread fault
+IsRefused input (Refused refusals.BadMoment) front = refusal_of (length (list_of front)) input ≡ Some refusals.BadMoment
+IsRefused input (Refused refusals.Ended) front = (refusal_of (length (list_of front)) input ≡ Some refusals.Ended) ⊎ (2 ^ 62 ≤ length front)
 IsRefused input Closed front = Unit {0}
-IsRefused input BadMoment front = refusal_of (length (list_of front)) input ≡ Some refusals.BadMoment
-IsRefused input Ended front = (refusal_of (length (list_of front)) input ≡ Some refusals.Ended) ⊎ (2 ^ 62 ≤ length front)
 IsRefused input (Behind first) front = IsFullFor input first front
 IsRefused input (Overrun shard place) front = WasFullFor input front × (place < begin_of front)
 IsRefused input (Misplaced shard found) front = WasFullFor input front × (found ≢ shard)
@@ -64,7 +64,7 @@ IsRefused input Memory front = Unit {0}
 
 -- Why what was planned is not published, by the same front.
 abbrev pub IsUnpublished : PostFault → List LogStep → Type 0
-IsUnpublished Ended front = 2 ^ 62 ≤ length front
+IsUnpublished (Refused refusals.Ended) front = 2 ^ 62 ≤ length front
 IsUnpublished (Behind first) front = IsFull first front
 IsUnpublished Memory front = Unit {0}
 IsUnpublished _ front = ⊥

@@ -23,6 +23,11 @@ IsBack waker (Ready given) = given ≡ waker
 IsBack waker (Unknown given) = given ≡ waker
 IsBack waker (Shut given) = given ≡ waker
 
+-- that the shard was shut
+abbrev pub IsShut : Watch → Type 0
+IsShut (Shut given) = Unit {0}
+IsShut _ = ⊥
+
 module _ {J : Type 0} where
   -- it is this that was said of this waker, under this ticket
   pub record IsSaid (ticket : Ticket) (waker : Waker) (said : Watch) (watching : Watching J) : Type 0 where

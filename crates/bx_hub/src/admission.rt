@@ -3,10 +3,9 @@ ghost use Rattle.std.specs.Prelude.{◌≡◌, ◌<◌, ◌≤◌, ◌++◌, ◌
 ghost use Rattle.std.specs.Option.{ForSome};
 ghost use Rattle.std.specs.List.{All};
 ghost use mathlib.Core.List.{IsPrefix};
-ghost use Rattle.bx_registry.specs.Plans.{IsFault};
 ghost use Rattle.bx_registry.specs.Slots.{admitted_slots};
 ghost use Rattle.bx_registry.specs.Standings.{Continues};
-ghost use Rattle.bx_entry.specs.Inputs.{added_by, refusal_of};
+ghost use Rattle.bx_entry.specs.Inputs.{IsFault, added_by, refusal_of};
 ghost use Rattle.bx_window.specs.Steps.{below, firsts_of, inputs_of, list_of, setup_of};
 ghost use Rattle.bx_hub.specs.declared.desk.evidence.Change.TheVariants as changes;
 ghost use Rattle.bx_hub.specs.declared.fault.PostFault.TheVariants as faults;
@@ -23,31 +22,23 @@ use crate::recording::{RecordFront, Recording, inputs_by};
 use crate::survey::Survey;
 use crate::walk::{AllChanged, Least};
 use bx_advice::Config;
-use bx_entry::{Input, Placing, Slot};
+use bx_entry::{AdmitFault, Admitted, Input, Placing, Refusal};
 use bx_history::History;
-use bx_message::Sequence;
-use bx_record::{RecordFault, Taken};
-use bx_registry::{AdmitFault, Plan, Registry};
-use bx_window::{Bundle, LogWriter, Naming, Note, PublishFault};
+use bx_record::{Extent, RecordFault, Taken};
+use bx_registry::{Plan, Registry};
+use bx_window::{Bundle, Front, LogWriter, Naming, PublishFault};
 use std::alloc::{AllocError, Global};
 use std::sync::Wait;
 
 /// The log of publishes and trims has fewer steps than this.
 const MOST_STEPS: u64 = 1 << 62;
 
-/// Where the messages of a request stand, and how they are answered; or where a tick stands.
-#[derive(Drop)]
-pub(crate) struct Receipt {
-    pub first: u64,
-    pub slots: Sequence<Slot>,
-}
-
 /// What is left of a record that goes no further, and why it does not.
 #[derive(Drop)]
 struct RecordEnd<J: Naming> {
     recording: Recording<J>,
     // Up to which it goes.
-    front: Note<J>,
+    front: Front<J>,
     fault: RecordFault,
     ghost whole: { (recording.inputs ≡ inputs_of front) × (list_by recording.inputs ≡ list_of front) },
 }
@@ -90,15 +81,15 @@ impl<J: Naming, R: Wait + Drop> Admission<J, R> {
         })
     }
 
-    /// Takes the messages of a request, or a tick, into the list, which uses it up: what is left of it is given to be let go of. Where it is
-    /// refused, it comes back. A request without messages adds nothing.
+    /// Takes the messages of a request, or a tick, into the list, which uses it up: what is left of it is given to be
+    /// let go of. Where it is refused, it comes back. A request without messages adds nothing.
     pub(crate) fn admit<P: Placing>(
         &mut self,
         alloc: Global,
         placing: &P,
-        pass: &mut Note<J>,
+        pass: &mut Front<J>,
         wanted: Listable,
-    ) -> Result<(Receipt, Spent), (Listable, PostFault)>
+    ) -> Result<(Admitted, Spent), (Listable, PostFault)>
         requires placing { P.place_of placing.now ≡ J.placing }
         ensures seen { IsPrefix pass.old pass.new }
         ensures admitted { IfOk result (λ a. IsAdmittedAt (input_of wanted) a.0.first pass.old pass.new) }
@@ -135,7 +126,13 @@ impl<J: Naming, R: Wait + Drop> Admission<J, R> {
     }
 
     // What was just listed comes behind what was recorded, or the record goes no further than to the front before it.
-    fn record(&mut self, alloc: Global, recording: Recording<J>, before: Note<J>, listed: &Listable)
+    fn record(
+        &mut self,
+        alloc: Global,
+        recording: Recording<J>,
+        before: Front<J>,
+        listed: &Listable,
+    )
         requires unrecorded { self.old.recording ≡ None }
         requires inputs { recording.inputs ≡ inputs_of before }
         requires listed { list_by (inputs_of before) ≡ list_of before }
@@ -161,19 +158,22 @@ impl<J: Naming, R: Wait + Drop> Admission<J, R> {
         }
     }
 
-    /// Begins to record what is listed from now on. False where the log has steps: nothing is changed then.
-    pub(crate) fn start_record(&mut self, alloc: Global) -> bool
+    /// Begins to record what is listed from now on, and gives the front of what was listed before: nothing. Where
+    /// something was, that comes, and nothing is changed.
+    pub(crate) fn start_record(&mut self, alloc: Global) -> Result<RecordFront<J>, Front<J>>
         ensures same { (self.new.registry ≡ self.old.registry) × (self.new.writer ≡ self.old.writer) × (self.new.closed ≡ self.old.closed) }
-        ensures started { result ≡ true → IfSome self.new.recording (λ r. (r.from.front ≡ []) × (r.waiting ≡ [])) × (is_some self.new.recording ≡ true) }
-        ensures empty { result ≡ true → self.old.writer ≡ [] }
-        ensures refused { result ≡ false → (0 < length self.old.writer) × (self.new.recording ≡ self.old.recording) × (self.new.record_end ≡ self.old.record_end) }
+        ensures started { IfOk result (λ it. (it.front ≡ []) × (self.old.writer ≡ [])
+            × MatchOption self.new.recording ⊥ (λ r. (r.from.front ≡ []) × (r.waiting ≡ []))) }
+        ensures refused { IfErr result (λ front. (front ≡ self.old.writer) × (0 < length front)
+            × (self.new.recording ≡ self.old.recording) × (self.new.record_end ≡ self.old.record_end)) }
     {
         let front = self.writer.tell();
         if front.steps() > 0 {
-            return false;
+            return Err(front);
         }
-        self.recording = Some(Recording::new(alloc, RecordFront::first(front)));
-        true
+        let start = RecordFront::first(front);
+        self.recording = Some(Recording::new(alloc, start.again()));
+        Ok(start)
     }
 
     /// Records nothing any more, and lets go of what waits.
@@ -195,8 +195,8 @@ impl<J: Naming, R: Wait + Drop> Admission<J, R> {
         }
     }
 
-    /// Takes out what waits of the record, and leaves an empty buffer in its place. Where the record goes no further, what is left of it comes once, with the fault.
-    /// None where nothing is recorded.
+    /// Takes out what waits of the record, and leaves an empty buffer in its place. Where the record goes no further,
+    /// what is left of it comes once, with the fault. None where nothing is recorded.
     pub(crate) fn take_record(
         &mut self,
         empty: Vec<u8>,
@@ -208,6 +208,7 @@ impl<J: Naming, R: Wait + Drop> Admission<J, R> {
         ensures end { IfNone self.old.recording (IfSome self.old.record_end (λ e. MatchOption result ⊥ (λ t. (t.chunk.from ≡ e.recording.from) × (t.chunk.to.front ≡ e.front) × (t.chunk.bytes.items ≡ e.recording.waiting) × (t.fault ≡ Some e.fault)))) }
         ensures none { IfNone self.old.recording (IfNone self.old.record_end (result ≡ None)) }
         ensures gone { IfNone self.old.recording ((self.new.recording ≡ None) × (self.new.record_end ≡ None)) }
+        ensures nothing { IfNone result ((self.new.recording ≡ None) × (self.new.record_end ≡ None)) }
     {
         if let Some(mut recording) = self.recording.take() {
             let chunk = recording.take(self.writer.tell(), empty);
@@ -231,9 +232,9 @@ impl<J: Naming, R: Wait + Drop> Admission<J, R> {
         &mut self,
         alloc: Global,
         placing: &P,
-        pass: &mut Note<J>,
+        pass: &mut Front<J>,
         wanted: &Listable,
-    ) -> Result<Receipt, PostFault>
+    ) -> Result<Admitted, PostFault>
         requires placing { P.place_of placing.now ≡ J.placing }
         requires unrecorded { self.old.recording ≡ None }
         ensures seen { IsPrefix pass.old pass.new }
@@ -256,7 +257,7 @@ impl<J: Naming, R: Wait + Drop> Admission<J, R> {
         let plan = self.plan(alloc, placing, wanted)?;
         let count = plan.batch.entries.len();
         if count == 0 {
-            return Ok(Receipt {
+            return Ok(Admitted {
                 first: plan.batch.first,
                 slots: plan.slots,
             });
@@ -297,10 +298,10 @@ impl<J: Naming, R: Wait + Drop> Admission<J, R> {
     fn publish(
         &mut self,
         alloc: Global,
-        pass: &mut Note<J>,
+        pass: &mut Front<J>,
         plan: Plan,
         inputs: History<Input>,
-    ) -> Result<Receipt, PostFault>
+    ) -> Result<Admitted, PostFault>
         requires inputs { list_by inputs ≡ plan.elements }
         requires continues { Continues self.old.registry plan }
         requires some { 0 < length plan.batch.entries }
@@ -317,7 +318,7 @@ impl<J: Naming, R: Wait + Drop> Admission<J, R> {
         ensures kept { (self.new.closed ≡ self.old.closed) × (self.new.recording ≡ None) × (self.new.record_end ≡ self.old.record_end) }
     {
         if pass.steps() >= MOST_STEPS {
-            return Err(PostFault::Ended);
+            return Err(PostFault::Refused(Refusal::Ended));
         }
         let Plan {
             batch,
@@ -336,7 +337,7 @@ impl<J: Naming, R: Wait + Drop> Admission<J, R> {
             Ok(()) => {
                 self.registry.commit(change, &added);
                 *pass = self.writer.tell();
-                Ok(Receipt { first, slots })
+                Ok(Admitted { first, slots })
             }
             Err((_, PublishFault::Full)) => Err(PostFault::Behind {
                 first: pass.begin(),
@@ -345,8 +346,8 @@ impl<J: Naming, R: Wait + Drop> Admission<J, R> {
         }
     }
 
-    /// Drops the batches that lie wholly below the least place where the shards stand, and tells a shard that stands there. Nothing is
-    /// dropped where the log has no room for a step more.
+    /// Drops the batches that lie wholly below the least place where the shards stand, and tells a shard that stands
+    /// there. Nothing is dropped where the log has no room for a step more.
     #[tactic(auto, using(crate::proofs::Places::untrimmable))]
     pub(crate) fn trim(&mut self, least: Least<J>) -> Result<Stood<J>, AllocError>
         requires all { length least.stood ≡ J.config.shards }
@@ -371,7 +372,7 @@ impl<J: Naming, R: Wait + Drop> Admission<J, R> {
     }
 
     /// How the list and the registry stand. The pass has then seen the whole list.
-    pub(crate) fn survey(&mut self, pass: &mut Note<J>) -> Survey
+    pub(crate) fn survey(&mut self, pass: &mut Front<J>) -> Survey
         ensures same { (self.new.registry ≡ self.old.registry) × (self.new.writer ≡ self.old.writer) × (self.new.closed ≡ self.old.closed) × (self.new.recording ≡ self.old.recording) × (self.new.record_end ≡ self.old.record_end) }
         ensures seen { IsPrefix pass.old pass.new }
         ensures whole { pass.new ≡ self.old.writer }

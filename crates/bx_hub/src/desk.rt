@@ -26,7 +26,7 @@ use bx_entry::{Batch, Placing, Ticket};
 use bx_history::{History, Lists};
 use bx_message::Answer;
 use bx_shard::{Shard, Wakers};
-use bx_window::{LogReader, Naming, Next, Note, entry_of};
+use bx_window::{Front, LogReader, Naming, Next, entry_of};
 use bx_workers::Gate;
 use evidence::listed;
 pub(crate) use evidence::{Brought, Stood, Woken};
@@ -42,7 +42,7 @@ use std::sync::Arc;
 pub(crate) struct Desk<J: Naming, P: Placing> {
     shard: Shard<P>,
     reader: LogReader<J>,
-    note: Note<J>,
+    note: Front<J>,
     taken: History<u64>,
     activity: Activity,
     ghost learnt: { take (length note) reader ≡ note },
@@ -92,7 +92,7 @@ impl<J: Naming, P: Placing> Desk<J, P> {
     }
 
     /// All that the reader has seen, which the longest note begins.
-    pub(crate) fn front(&self) -> Note<J>
+    pub(crate) fn front(&self) -> Front<J>
         ensures all { result ≡ self.now.reader }
         ensures longer { IsPrefix self.now.note result }
     {
@@ -106,13 +106,14 @@ impl<J: Naming, P: Placing> Desk<J, P> {
         self.shard.index()
     }
 
-    // Brings the shard up to the longest note, this one included; its gate is passed before and after. A shard that is closed
-    // or paused learns the note alone. The wakers beside connects that are answered are put into the list, and no others.
+    // Brings the shard up to the longest note, this one included; its gate is passed before and after. A shard that is
+    // closed or paused learns the note alone. The wakers beside connects that are answered are put into the list, and
+    // no others.
     fn bring<G: Gate>(
         &mut self,
         alloc: Global,
         gate: &G,
-        note: &Note<J>,
+        note: &Front<J>,
         wakers: &mut Wakers,
     ) -> Result<(), HubFault>
         ensures old { IsPrefix self.old.note self.new.note }
@@ -139,15 +140,15 @@ impl<J: Naming, P: Placing> Desk<J, P> {
         }
     }
 
-    /// Brings the shard up to the longest note, this one included, and says how it then stands to this one, and which wakers it
-    /// put into the list: those beside the connects that are answered. The gate of the shard is passed before and after. A shard
-    /// that is closed or paused learns the note alone.
+    /// Brings the shard up to the longest note, this one included, and says how it then stands to this one, and which
+    /// wakers it put into the list: those beside the connects that are answered. The gate of the shard is passed before
+    /// and after. A shard that is closed or paused learns the note alone.
     #[tactic(auto, using(crate::proofs::Lists::list_length))]
     pub(crate) fn bring_to<G: Gate>(
         &mut self,
         alloc: Global,
         gate: &G,
-        note: &Note<J>,
+        note: &Front<J>,
         wakers: &mut Wakers,
     ) -> Brought<J>
         ensures index { result.index.value ≡ self.old.shard.index }
@@ -167,13 +168,14 @@ impl<J: Naming, P: Placing> Desk<J, P> {
         Brought::of(self, note, stays, woken)
     }
 
-    /// Brings the shard up to the longest note, as `bring_to` does, and says where it then stands, and which wakers it put into
-    /// the list. It is refused where the shard is overrun, there; the pass then has seen all that the shard's reader has.
+    /// Brings the shard up to the longest note, as `bring_to` does, and says where it then stands, and which wakers it
+    /// put into the list. It is refused where the shard is overrun, there; the pass then has seen all that the shard's
+    /// reader has.
     pub(crate) fn stand<G: Gate>(
         &mut self,
         alloc: Global,
         gate: &G,
-        pass: &mut Note<J>,
+        pass: &mut Front<J>,
         wakers: &mut Wakers,
     ) -> (Result<Stood<J>, (PostFault, Option<Stood<J>>)>, Woken)
         ensures seen { IsPrefix pass.old pass.new }
@@ -201,7 +203,7 @@ impl<J: Naming, P: Placing> Desk<J, P> {
     }
 
     // Learns a note.
-    fn learn(&mut self, note: &Note<J>)
+    fn learn(&mut self, note: &Front<J>)
         ensures old { IsPrefix self.old.note self.new.note }
         ensures told { IsPrefix note.now self.new.note }
         ensures one { (self.new.note ≡ self.old.note) ⊎ (self.new.note ≡ note.now) }
@@ -321,14 +323,14 @@ impl<J: Naming, P: Placing> Desk<J, P> {
         }
     }
 
-    /// Gives the answer that is filed under a ticket; else brings the shard up to the longest note, the pass's included, and
-    /// looks again. The pass then has seen no less than that note. Says which wakers it put into the list: those beside the
-    /// connects that are answered.
+    /// Gives the answer that is filed under a ticket; else brings the shard up to the longest note, the pass's
+    /// included, and looks again. The pass then has seen no less than that note. Says which wakers it put into the
+    /// list: those beside the connects that are answered.
     pub(crate) fn poll<G: Gate>(
         &mut self,
         alloc: Global,
         gate: &G,
-        pass: &mut Note<J>,
+        pass: &mut Front<J>,
         ticket: Ticket,
         wakers: &mut Wakers,
     ) -> (Result<Option<Answer>, Stopped<J>>, Woken)
@@ -354,7 +356,7 @@ impl<J: Naming, P: Placing> Desk<J, P> {
         &mut self,
         alloc: Global,
         gate: &G,
-        pass: &mut Note<J>,
+        pass: &mut Front<J>,
         ticket: Ticket,
         wakers: &mut Wakers,
     ) -> Result<Option<Answer>, Stopped<J>>

@@ -1,12 +1,11 @@
 //! What posts and ticks are answered, and why the hub refuses.
 ghost use Rattle.std.specs.Prelude.{◌≡◌, ◌+◌, ◌<◌, ◌^◌};
 ghost use Rattle.bx_hub.specs.declared.fault.PostFault.TheVariants as faults;
-ghost use Rattle.bx_hub.specs.Faults.{count_of, of_planning, of_reading, one_more};
+ghost use Rattle.bx_hub.specs.Faults.{count_of, of_admission, one_more};
 
 use crate::walk::AllBrought;
-use bx_entry::{BodyError, ReadError, Slot};
+use bx_entry::{AdmitFault, Refusal, Slot};
 use bx_message::Sequence;
-use bx_registry::AdmitFault;
 use bx_window::Naming;
 use std::alloc::AllocError;
 
@@ -93,14 +92,10 @@ impl Lagging {
 /// Why a post or a tick is refused.
 #[derive(Clone, Copy, Debug, PartialEq, Eq)]
 pub enum PostFault {
-    /// Its documents cannot be read as messages, or are not let in.
-    Body(BodyError),
+    /// It is refused by the rules; `Ended` also where the log of publishes and trims has no room for one more.
+    Refused(Refusal),
     /// The hub was closed.
     Closed,
-    /// The moment is above the greatest that is taken.
-    BadMoment,
-    /// The list would pass the greatest length that it may have.
-    Ended,
     /// The window is full, since some shard stands below its second batch. Its oldest batch begins at `first`.
     Behind { first: u64 },
     /// The window is full, and begins past the place where this shard stands.
@@ -122,8 +117,8 @@ pub enum HubFault {
     Overrun { shard: usize, place: u64 },
     /// Memory was refused.
     Memory,
-    /// Under the lock of the shard that was asked for stood this other one. The hub puts each under the lock of its own index, which
-    /// no clause can say across a lock.
+    /// Under the lock of the shard that was asked for stood this other one. The hub puts each under the lock of its own
+    /// index, which no clause can say across a lock.
     Misplaced { found: usize },
 }
 
@@ -135,24 +130,12 @@ impl From<AllocError> for PostFault {
     }
 }
 
-impl From<ReadError> for PostFault {
-    ghost from_gives = { λ fault given. given ≡ of_reading fault };
-
-    fn from(fault: ReadError) -> PostFault {
-        match fault {
-            ReadError::Body(fault) => PostFault::Body(fault),
-            ReadError::Memory => PostFault::Memory,
-        }
-    }
-}
-
 impl From<AdmitFault> for PostFault {
-    ghost from_gives = { λ fault given. given ≡ of_planning fault };
+    ghost from_gives = { λ fault given. given ≡ of_admission fault };
 
     fn from(fault: AdmitFault) -> PostFault {
         match fault {
-            AdmitFault::BadMoment => PostFault::BadMoment,
-            AdmitFault::Ended => PostFault::Ended,
+            AdmitFault::Refused(refusal) => PostFault::Refused(refusal),
             AdmitFault::Memory => PostFault::Memory,
         }
     }

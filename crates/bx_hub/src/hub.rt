@@ -7,21 +7,21 @@ ghost use Rattle.bx_entry.specs.declared.input.Input.TheVariants as inputs;
 ghost use Rattle.bx_window.specs.Steps.{inputs_of, list_of, setup_of};
 ghost use Rattle.bx_hub.specs.Faults.{IsStopped};
 
-use crate::admission::{Admission, Receipt};
+use crate::admission::Admission;
 use crate::desk::{Brought, Change, Changed, Desk, Stood, Stopped, Watching, Woken};
 use crate::fault::{PostFault, PostReceipt, TickReceipt};
 use crate::listable::{Listable, Spent};
-use crate::reading::{Reading, Refused, Unlisted};
-use crate::recording::RecordFront;
+use crate::reading::{Reading, Unlisted};
+use crate::recording::{RecordFront, Unrecorded};
 use crate::survey::{ShardSurvey, Survey};
 use crate::walk::{AllBrought, AllChanged, Least};
 use bx_advice::Config;
 use bx_connects::Watch;
-use bx_entry::{Arrival, Placing, Ticket};
+use bx_entry::{Admitted, Arrival, Placing, Ticket};
 use bx_message::Answer;
 use bx_record::{RecordFault, Taken};
 use bx_shard::Wakers;
-use bx_window::{Naming, Note, Opened, log_pair};
+use bx_window::{Front, Naming, Opened, log_pair};
 use bx_workers::Gate;
 use futures::task::Waker;
 use std::alloc::{AllocError, Global};
@@ -29,10 +29,10 @@ use std::snapshot::Snapshot;
 use std::sync::{Arc, Mutex, MutexGuard, Wait};
 
 /// What a caller has seen of the list of a hub: it grows with the caller's calls, and by what others tell.
-pub type Pass<J> = Note<J>;
+pub type Pass<J> = Front<J>;
 
-/// The server for any number of threads. Requests and ticks go into one list under one lock; each shard applies the list
-/// under a lock of its own, at its own pace.
+/// The server for any number of threads. Requests and ticks go into one list under one lock; each shard applies the
+/// list under a lock of its own, at its own pace.
 ///
 /// Contracts follow a caller by its pass: what it has seen of the list only grows, and what it is given is what one
 /// thread gives over that.
@@ -40,7 +40,7 @@ pub type Pass<J> = Note<J>;
 pub struct Hub<J: Naming, P: Placing, G: Gate + Drop, R: Wait + Drop> {
     placing: Arc<P, Global>,
     gate: G,
-    start: Note<J>,
+    start: Front<J>,
     admission: Mutex<Admission<J, R>>,
     desks: Vec<Mutex<Desk<J, P>>>,
     ghost placed: { P.place_of (arc_value placing) ≡ J.placing },
@@ -108,36 +108,36 @@ impl<J: Naming, P: Placing, G: Gate + Drop, R: Wait + Drop> Hub<J, P, G, R> {
     }
 
     /// Takes the messages of a request into the list, and brings each shard up. It is refused, in this order, where its
-    /// documents cannot be read as messages, its door does not let these in, the hub was closed, its moment is above the greatest that is taken, the list
-    /// would become too long, or the window is full. A request without messages adds nothing. To list a request uses it up;
-    /// one that is refused comes back. Who waits for a connect that it answers is woken under no shard's lock; where the window is
-    /// full, under admission's.
+    /// documents cannot be read as messages, its door does not let these in, the hub was closed, its moment is above
+    /// the greatest that is taken, the list would become too long, or the window is full. A request without messages
+    /// adds nothing. To list a request uses it up; one that is refused comes back. Who waits for a connect that it
+    /// answers is woken under no shard's lock; where the window is full, under admission's.
     pub fn post<W: Wait>(
         &self,
         rt: &W,
         alloc: Global,
         pass: &mut Pass<J>,
         arrival: Arrival,
-    ) -> Result<PostReceipt<J>, Refused<J>>
+    ) -> Result<PostReceipt<J>, (Arrival, Unlisted<J>)>
         ensures seen { IsPrefix pass.old pass.new }
         ensures admitted { IfOk result (λ p. IsAdmittedAt (read_input (inputs.Post arrival)) p.first pass.old pass.new) }
         ensures slots { IfOk result (λ p. AreSlotsAt (setup_of J.config J.placing) (read_input (inputs.Post arrival))
             p.first pass.new p.slots) }
-        ensures back { IfErr result (λ r. r.arrival ≡ arrival) }
-        ensures refused { IfErr result (λ r. IsRefused (read_input (inputs.Post arrival)) r.why.fault pass.new) }
-        ensures lags { IfErr result (λ r. IsLagging r.why.fault r.why.lag pass.new) }
+        ensures back { IfErr result (λ r. r.0 ≡ arrival) }
+        ensures refused { IfErr result (λ r. IsRefused (read_input (inputs.Post arrival)) r.1.fault pass.new) }
+        ensures lags { IfErr result (λ r. IsLagging r.1.fault r.1.lag pass.new) }
         ensures behind { IfOk result (λ p. IsOfAll J.config.shards pass.new p.brought) }
         ensures inputs { OnOk result (EndsIn (inputs_of pass.new) (inputs_from (inputs.Post arrival))) }
     {
         let reading = Reading::of(alloc, arrival)?;
         let wanted = Listable::Request(reading);
-        let (Receipt { first, slots }, spent) = match self.admit(rt, alloc, pass, wanted) {
+        let (Admitted { first, slots }, spent) = match self.admit(rt, alloc, pass, wanted) {
             Ok(listed) => listed,
             Err((wanted, why)) => {
                 let Some(arrival) = wanted.into_arrival() else {
                     unreachable!()
                 };
-                return Err(Refused::of(why, arrival));
+                return Err((arrival, why));
             }
         };
         let brought = self.bring_all(rt, alloc, &*pass);
@@ -149,8 +149,8 @@ impl<J: Naming, P: Placing, G: Gate + Drop, R: Wait + Drop> Hub<J, P, G, R> {
         })
     }
 
-    /// Takes a tick of the clock into the list; its moment is in milliseconds. It brings each shard up, and is refused as a
-    /// request with one message is. The window then lets go of what all shards have passed.
+    /// Takes a tick of the clock into the list; its moment is in milliseconds. It brings each shard up, and is refused
+    /// as a request with one message is. The window then lets go of what all shards have passed.
     pub fn tick<W: Wait>(
         &self,
         rt: &W,
@@ -166,7 +166,7 @@ impl<J: Naming, P: Placing, G: Gate + Drop, R: Wait + Drop> Hub<J, P, G, R> {
         ensures inputs { OnOk result (EndsIn (inputs_of pass.new) (inputs_from (inputs.Tick moment))) }
     {
         let wanted = Listable::Tick(moment);
-        let (Receipt { first, .. }, _) = match self.admit(rt, alloc, pass, wanted) {
+        let (Admitted { first, .. }, _) = match self.admit(rt, alloc, pass, wanted) {
             Ok(listed) => listed,
             Err((_, why)) => return Err(why),
         };
@@ -178,15 +178,15 @@ impl<J: Naming, P: Placing, G: Gate + Drop, R: Wait + Drop> Hub<J, P, G, R> {
         })
     }
 
-    // Takes it into the list; where the window is full, once more with the room that the shards leave. Where it is refused, it comes back; else what is left of
-    // it comes, and is let go of once admission is unlocked.
+    // Takes it into the list; where the window is full, once more with the room that the shards leave. Where it is
+    // refused, it comes back; else what is left of it comes, and is let go of once admission is unlocked.
     fn admit<W: Wait>(
         &self,
         rt: &W,
         alloc: Global,
-        pass: &mut Note<J>,
+        pass: &mut Front<J>,
         wanted: Listable,
-    ) -> Result<(Receipt, Spent), (Listable, Unlisted<J>)>
+    ) -> Result<(Admitted, Spent), (Listable, Unlisted<J>)>
         ensures seen { IsPrefix pass.old pass.new }
         ensures admitted { IfOk result (λ a. IsAdmittedAt (input_of wanted) a.0.first pass.old pass.new) }
         ensures slots { IfOk result (λ a. AreSlotsAt (setup_of J.config J.placing) (input_of wanted) a.0.first
@@ -212,13 +212,14 @@ impl<J: Naming, P: Placing, G: Gate + Drop, R: Wait + Drop> Hub<J, P, G, R> {
         }
     }
 
-    // Lets the full window go of what all shards have passed, once they were brought up, and tells one that stands at the least place.
+    // Lets the full window go of what all shards have passed, once they were brought up, and tells one that stands at
+    // the least place.
     fn make_room<W: Wait>(
         &self,
         rt: &W,
         alloc: Global,
         admission: &mut Admission<J, R>,
-        pass: &mut Note<J>,
+        pass: &mut Front<J>,
     ) -> Result<Stood<J>, (PostFault, Option<Stood<J>>)>
         ensures seen { IsPrefix pass.old pass.new }
         ensures refused { IfErr result (λ r. IsWithoutRoom r.0 pass.new × IsLagging r.0 r.1 pass.new) }
@@ -246,13 +247,13 @@ impl<J: Naming, P: Placing, G: Gate + Drop, R: Wait + Drop> Hub<J, P, G, R> {
         let _ = self.admission.lock(rt).trim(least);
     }
 
-    // Brings each shard up to the end of what was seen, and tells the least place where one stands. Who waited for what a shard answers is
-    // woken once its lock is let go.
+    // Brings each shard up to the end of what was seen, and tells the least place where one stands. Who waited for what
+    // a shard answers is woken once its lock is let go.
     fn bring_least<W: Wait>(
         &self,
         rt: &W,
         alloc: Global,
-        pass: &mut Note<J>,
+        pass: &mut Front<J>,
     ) -> Result<Least<J>, (PostFault, Option<Stood<J>>)>
         ensures seen { IsPrefix pass.old pass.new }
         ensures refused { IfErr result (λ r. IsWithoutRoom r.0 pass.new × IsLagging r.0 r.1 pass.new) }
@@ -267,14 +268,14 @@ impl<J: Naming, P: Placing, G: Gate + Drop, R: Wait + Drop> Hub<J, P, G, R> {
         Ok(least)
     }
 
-    // Brings a shard up to the end of what was seen, and tells where it stands. The wakers of those who waited for what it answers
-    // are put into the list, which whoever made it drops once the shard's lock is let go.
+    // Brings a shard up to the end of what was seen, and tells where it stands. The wakers of those who waited for what
+    // it answers are put into the list, which whoever made it drops once the shard's lock is let go.
     fn stand_one<W: Wait>(
         &self,
         rt: &W,
         alloc: Global,
         index: usize,
-        pass: &mut Note<J>,
+        pass: &mut Front<J>,
         wakers: &mut Wakers,
     ) -> (
         Result<Stood<J>, (PostFault, Option<Stood<J>>)>,
@@ -303,7 +304,7 @@ impl<J: Naming, P: Placing, G: Gate + Drop, R: Wait + Drop> Hub<J, P, G, R> {
 
     // Brings each shard up to the note, from one on and in a circle, and says what came of it.
     #[tactic(auto, using(crate::proofs::Walks::all_walked))]
-    fn bring_all<W: Wait>(&self, rt: &W, alloc: Global, note: &Note<J>) -> AllBrought<J>
+    fn bring_all<W: Wait>(&self, rt: &W, alloc: Global, note: &Front<J>) -> AllBrought<J>
         ensures { IsOfAll J.config.shards note.now result }
     {
         let shards = self.desks.len();
@@ -316,14 +317,14 @@ impl<J: Naming, P: Placing, G: Gate + Drop, R: Wait + Drop> Hub<J, P, G, R> {
         round
     }
 
-    // Brings a shard up to the note. The wakers of those who waited for what it answers are put into the list, which whoever made
-    // it drops once the shard's lock is let go.
+    // Brings a shard up to the note. The wakers of those who waited for what it answers are put into the list, which
+    // whoever made it drops once the shard's lock is let go.
     fn bring_one<W: Wait>(
         &self,
         rt: &W,
         alloc: Global,
         index: usize,
-        note: &Note<J>,
+        note: &Front<J>,
         wakers: &mut Wakers,
     ) -> Brought<J>
         requires { index < length self.now.desks.items }
@@ -354,9 +355,10 @@ impl<J: Naming, P: Placing, G: Gate + Drop, R: Wait + Drop> Hub<J, P, G, R> {
         }
     }
 
-    /// The answer to a connect or a rider, where its shard has filed one, or files one while it is brought up to what the pass has
-    /// seen. A ticket that names no shard has none. A filed answer is given even where the hub was closed. Else it is refused where
-    /// the shard is closed, paused or overrun, or memory is refused; and where another shard stands under its lock.
+    /// The answer to a connect or a rider, where its shard has filed one, or files one while it is brought up to what
+    /// the pass has seen. A ticket that names no shard has none. A filed answer is given even where the hub was closed.
+    /// Else it is refused where the shard is closed, paused or overrun, or memory is refused; and where another shard
+    /// stands under its lock.
     pub fn poll_answer<W: Wait>(
         &self,
         rt: &W,
@@ -378,13 +380,13 @@ impl<J: Naming, P: Placing, G: Gate + Drop, R: Wait + Drop> Hub<J, P, G, R> {
         answer
     }
 
-    // The answer, from a shard that is there, as `poll_answer` gives it. The wakers of those who waited for what the shard answers are
-    // put into the list, which whoever made it drops once the shard's lock is let go.
+    // The answer, from a shard that is there, as `poll_answer` gives it. The wakers of those who waited for what the
+    // shard answers are put into the list, which whoever made it drops once the shard's lock is let go.
     fn poll_one<W: Wait>(
         &self,
         rt: &W,
         alloc: Global,
-        pass: &mut Note<J>,
+        pass: &mut Front<J>,
         ticket: Ticket,
         wakers: &mut Wakers,
     ) -> (Result<Option<Answer>, Stopped<J>>, Option<Woken>)
@@ -452,15 +454,13 @@ impl<J: Naming, P: Placing, G: Gate + Drop, R: Wait + Drop> Hub<J, P, G, R> {
         Some(desk.lock(rt).survey())
     }
 
-    /// Begins to record what is listed, and gives the front of what was listed before: nothing. None where something was, and then nothing changes.
-    pub fn start_record<W: Wait>(&self, rt: &W, alloc: Global) -> Option<RecordFront<J>>
-        ensures { IfSome result (λ it. it.front ≡ []) }
+    /// Begins to record what is listed, and gives the front of what was listed before: nothing. Where something was,
+    /// that comes, and then nothing changes.
+    pub fn start_record<W: Wait>(&self, rt: &W, alloc: Global) -> Result<RecordFront<J>, Front<J>>
+        ensures started { IfOk result (λ it. it.front ≡ []) }
+        ensures refused { IfErr result (λ front. 0 < length front) }
     {
-        if self.admission.lock(rt).start_record(alloc) {
-            Some(RecordFront::first(self.start.again()))
-        } else {
-            None
-        }
+        self.admission.lock(rt).start_record(alloc)
     }
 
     /// How many bytes of the record wait.
@@ -468,21 +468,27 @@ impl<J: Naming, P: Placing, G: Gate + Drop, R: Wait + Drop> Hub<J, P, G, R> {
         self.admission.lock(rt).record_waiting()
     }
 
-    /// Takes out what waits of the record, for whoever writes it, and leaves an empty buffer in its place. What is left of a record that goes no further comes
-    /// once, with the fault. None where nothing is recorded.
+    /// Takes out what waits of the record, for whoever writes it, and leaves an empty buffer in its place. What is left
+    /// of a record that goes no further comes once, with the fault. Else nothing is recorded, as admission then says.
     pub fn take_record<W: Wait>(
         &self,
         rt: &W,
         empty: Vec<u8>,
-    ) -> Option<Taken<RecordFront<J>, RecordFault>>
+    ) -> Result<Taken<RecordFront<J>, RecordFault>, Unrecorded<J>>
         requires { empty.items ≡ [] }
     {
-        self.admission.lock(rt).take_record(empty)
+        let mut admission = self.admission.lock(rt);
+        match admission.take_record(empty) {
+            Some(taken) => Ok(taken),
+            None => Err(Unrecorded::of(&*admission)),
+        }
     }
 
-    /// Records nothing any more, and lets go of what waits.
-    pub fn stop_record<W: Wait>(&self, rt: &W) {
-        self.admission.lock(rt).stop_record();
+    /// Records nothing any more, and lets go of what waits. Admission then says so.
+    pub fn stop_record<W: Wait>(&self, rt: &W) -> Unrecorded<J> {
+        let mut admission = self.admission.lock(rt);
+        admission.stop_record();
+        Unrecorded::of(&*admission)
     }
 
     /// Drops the answers that were filed by entries below this place and that nobody took, in every shard.

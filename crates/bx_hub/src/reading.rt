@@ -2,13 +2,11 @@
 ghost use Rattle.std.specs.Prelude.{◌≡◌, List, Ok, IfOk, IfErr};
 ghost use Rattle.bx_entry.specs.Requests.{arrival_messages};
 
-mod refused;
 mod unlisted;
 
 use bx_entry::Arrival;
 use bx_message::Message;
 use bx_window::Naming;
-pub use refused::Refused;
 use std::alloc::Global;
 pub use unlisted::Unlisted;
 
@@ -28,16 +26,19 @@ impl Reading {
     ghost use Rattle.bx_hub.specs.Posts.{IsRefused};
     ghost use Rattle.bx_window.specs.declared.law.LogStep.{LogStep};
 
-    /// Reads the documents of a request. It is refused where they cannot be read as messages, or its door does not let these in,
-    /// and for want of memory.
-    pub(crate) fn of<J: Naming>(alloc: Global, arrival: Arrival) -> Result<Reading, Refused<J>>
+    /// Reads the documents of a request. It is refused where they cannot be read as messages, or its door does not let
+    /// these in, and for want of memory.
+    pub(crate) fn of<J: Naming>(
+        alloc: Global,
+        arrival: Arrival,
+    ) -> Result<Reading, (Arrival, Unlisted<J>)>
         ensures read { IfOk result (λ r. r.arrival ≡ arrival) }
-        ensures back { IfErr result (λ r. (r.arrival ≡ arrival) × ((front : List LogStep) → IsLagging r.why.fault r.why.lag front)) }
-        ensures refused { IfErr result (λ r. (front : List LogStep) → IsRefused (read_input (inputs.Post arrival)) r.why.fault front) }
+        ensures back { IfErr result (λ r. (r.0 ≡ arrival) × ((front : List LogStep) → IsLagging r.1.fault r.1.lag front)) }
+        ensures refused { IfErr result (λ r. (front : List LogStep) → IsRefused (read_input (inputs.Post arrival)) r.1.fault front) }
     {
         match arrival.read(alloc) {
             Ok(messages) => Ok(Reading { arrival, messages }),
-            Err(fault) => Err(Refused::unread(arrival, fault)),
+            Err(fault) => Err((arrival, Unlisted::unread(fault))),
         }
     }
 

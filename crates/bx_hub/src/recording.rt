@@ -1,5 +1,5 @@
 //! The record of what is listed, while it waits to be written.
-ghost use Rattle.std.specs.Prelude.{◌≡◌, ◌≢◌, ◌+◌, ◌<◌, ◌++◌, ◌∷◌, [], false, length, OnErr, OnOk, IfErr, IfOk};
+ghost use Rattle.std.specs.Prelude.{◌≡◌, ◌≢◌, ◌+◌, ◌<◌, ◌++◌, ◌∷◌, [], None, false, length, OnErr, OnOk, IfErr, IfOk};
 ghost use Rattle.std.specs.List.{AllByRecursion};
 ghost use Rattle.bx_hub.specs.Records.{documents_in, input_in, inputs_by, list_by, record_props};
 ghost use Rattle.bx_record.specs.declared.waiting.RecordFault.TheVariants as faults;
@@ -8,25 +8,29 @@ ghost use Rattle.bx_record.specs.Laws.{CanRecord};
 ghost use Rattle.bx_record.specs.Record.{can_say, input_text, record_of};
 ghost use Rattle.bx_window.specs.Steps.{inputs_of, list_of};
 
+use crate::admission::Admission;
 use crate::listable::Listable;
 use bx_entry::Input;
 use bx_history::{History, Lists};
-use bx_record::{Chunk, Front, RecordFault, Waiting, request_text, tick_text};
-use bx_window::{Naming, Note};
+use bx_record::{Chunk, Extent, RecordFault, Waiting, request_text, tick_text};
+use bx_window::{Front, Naming};
 use std::alloc::Global;
+use std::marker::PhantomData;
 use std::mem;
+use std::sync::Wait;
 
-/// How far a record goes: a front of the hub's log, whose requests and ticks make just its list, and each of which a line says.
+/// How far a record goes: a front of the hub's log, whose requests and ticks make just its list, and each of which a
+/// line says.
 #[derive(Drop)]
 pub struct RecordFront<J: Naming> {
-    front: Note<J>,
+    front: Front<J>,
     ghost listed: { list_by (inputs_of front) ≡ list_of front },
     ghost recordable: { AllByRecursion CanRecord (inputs_of front) } by { Prim.hlevel record_props },
 }
 
 impl<J: Naming> RecordFront<J> {
     // Up to this front.
-    fn of(front: Note<J>) -> RecordFront<J>
+    fn of(front: Front<J>) -> RecordFront<J>
         requires listed { list_by (inputs_of front) ≡ list_of front }
         requires recordable { AllByRecursion CanRecord (inputs_of front) }
         ensures { result.front ≡ front }
@@ -42,7 +46,7 @@ impl<J: Naming> RecordFront<J> {
     }
 
     /// Nothing was listed.
-    pub(crate) fn first(front: Note<J>) -> RecordFront<J>
+    pub(crate) fn first(front: Front<J>) -> RecordFront<J>
         requires { front ≡ [] }
         ensures { result.front ≡ front }
     {
@@ -50,7 +54,7 @@ impl<J: Naming> RecordFront<J> {
     }
 }
 
-impl<J: Naming> Front for RecordFront<J> {
+impl<J: Naming> Extent for RecordFront<J> {
     ghost use Rattle.std.specs.Prelude.{◌≡◌};
     ghost use Rattle.bx_record.specs.Record.{record_of};
     ghost use Rattle.bx_window.specs.Steps.{inputs_of};
@@ -70,8 +74,26 @@ impl<J: Naming> Front for RecordFront<J> {
     }
 }
 
-/// What was listed since the record began, for contracts alone, and the lines of the record that wait to be written. Those up to the front where the last ones
-/// were taken out, and they behind them, are the text of all of it.
+/// Nothing is recorded, and nothing of a record is left: none of these is made but by a look at admission under its
+/// lock.
+#[derive(Drop)]
+pub struct Unrecorded<J: Naming> {
+    of: PhantomData<J>,
+}
+
+impl<J: Naming> Unrecorded<J> {
+    /// This admission records nothing.
+    pub(crate) fn of<R: Wait + Drop>(admission: &Admission<J, R>) -> Unrecorded<J>
+        requires recording { admission.now.recording ≡ None }
+        requires end { admission.now.record_end ≡ None }
+    {
+        let _ = admission;
+        Unrecorded { of: PhantomData }
+    }
+}
+
+/// What was listed since the record began, for contracts alone, and the lines of the record that wait to be written.
+/// Those up to the front where the last ones were taken out, and they behind them, are the text of all of it.
 #[derive(Drop)]
 pub(crate) struct Recording<J: Naming> {
     from: RecordFront<J>,
@@ -101,7 +123,8 @@ impl<J: Naming> Recording<J> {
         self.waiting.len()
     }
 
-    /// The lines of what was listed, and added something to the list, come behind the others. An error says why they do not, and then nothing has changed.
+    /// The lines of what was listed, and added something to the list, come behind the others. An error says why they do
+    /// not, and then nothing has changed.
     #[tactic(auto, using(crate::proofs::Records::all_recordable))]
     pub(crate) fn add(&mut self, alloc: Global, listed: &Listable) -> Result<(), RecordFault>
         requires { inputs_by listed.now ≡ input_in listed.now ∷ [] }
@@ -116,8 +139,9 @@ impl<J: Naming> Recording<J> {
         Ok(())
     }
 
-    /// Takes out all that waits, which is the record's text up to this front, and leaves an empty buffer in its place. It takes no memory, and copies nothing.
-    pub(crate) fn take(&mut self, upto: Note<J>, empty: Vec<u8>) -> Chunk<RecordFront<J>>
+    /// Takes out all that waits, which is the record's text up to this front, and leaves an empty buffer in its place.
+    /// It takes no memory, and copies nothing.
+    pub(crate) fn take(&mut self, upto: Front<J>, empty: Vec<u8>) -> Chunk<RecordFront<J>>
         requires inputs { self.old.inputs ≡ inputs_of upto }
         requires listed { list_by self.old.inputs ≡ list_of upto }
         requires empty { empty.items ≡ [] }

@@ -10,7 +10,7 @@ use crate::admission::Admission;
 use crate::desk::{Brought, Change, Changed, Stood};
 use crate::fault::{HubFault, Lagging};
 use bx_history::History;
-use bx_window::{Naming, Note};
+use bx_window::{Front, Naming};
 use std::marker::PhantomData;
 use std::snapshot::Snapshot;
 use std::sync::Wait;
@@ -64,7 +64,7 @@ impl<J: Naming> Least<J> {
 /// in the order in which they were brought, for contracts alone, and how many those are.
 #[derive(Drop)]
 pub struct AllBrought<J: Naming> {
-    note: Snapshot<Note<J>>,
+    note: Snapshot<Front<J>>,
     first: usize,
     shards: usize,
     stays: History<Option<HubFault>>,
@@ -76,7 +76,7 @@ pub struct AllBrought<J: Naming> {
 impl<J: Naming> AllBrought<J> {
     /// None of so many shards was brought up to the note. The first that is to be is the one at the length of the list
     /// modulo their number, so that threads that bring them up at once mostly begin at different ones.
-    pub(crate) fn new(note: &Note<J>, shards: usize) -> AllBrought<J>
+    pub(crate) fn new(note: &Front<J>, shards: usize) -> AllBrought<J>
         ensures { (result.note.value ≡ note.now) × (result.shards ≡ shards) × (result.stays ≡ []) }
     {
         AllBrought {

@@ -166,12 +166,10 @@ impl<J: Naming, H: Wait + Drop> Bench<J, H> {
     ) -> Result<(u64, Lagging), PostFault> {
         match self.hub.post(rt, self.alloc, &mut self.pass, arrival) {
             Ok(posted) => Ok((posted.first, posted.brought.behind())),
-            Err(refused) => {
-                let fault = refused.fault();
-                let back = refused.into_arrival();
+            Err((back, why)) => {
                 same(rt, is_of(&back, body), true, body);
                 self.back = Some(back);
-                Err(fault)
+                Err(why.fault())
             }
         }
     }
@@ -226,12 +224,12 @@ impl<J: Naming, H: Wait + Drop> Bench<J, H> {
         let waiting = if fault.is_none() { length } else { 0 };
         same(rt, self.hub.record_waiting(rt), waiting, "what waits");
         match self.hub.take_record(rt, Vec::new(self.alloc)) {
-            Some(taken) => {
+            Ok(taken) => {
                 same(rt, taken.fault, fault, "the fault");
                 same(rt, taken.chunk.bytes().len(), length, "what is taken out");
                 Ok(taken.chunk)
             }
-            None => Err(Fail::from("nothing is recorded")),
+            Err(_) => Err(Fail::from("nothing is recorded")),
         }
     }
 

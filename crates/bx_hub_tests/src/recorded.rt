@@ -2,6 +2,7 @@
 use crate::steps::{LATE, Step, check_runs};
 use bx_advice::BODY_LIMIT;
 use bx_calls::{HANDSHAKE, PING};
+use bx_entry::Refusal;
 use bx_hub::PostFault;
 use bx_record::RecordFault;
 use std::test::*;
@@ -28,7 +29,7 @@ const RUNS: [&[Step]; 4] = [
         Step::Lines(&[], None),
         Step::Post("[]", 0, 0),
         Step::Post(HANDSHAKE, 0, 0),
-        Step::Tick(LATE, Err(PostFault::BadMoment)),
+        Step::Tick(LATE, Err(PostFault::Refused(Refusal::BadMoment))),
         Step::Post(PING, 1, 0),
         Step::Lines(&[HANDSHAKE_LINES, PING_LINE], None),
         Step::Lines(&[], None),

@@ -182,14 +182,14 @@ fn look<J: Naming, H: Wait + Drop, R: Wait + Abort>(
             let under_lock = waiting.woken_under_lock.load(Ordering::SeqCst);
             same(rt, under_lock, false, step);
         }
-        Step::Starts(wanted) => same(rt, hub.start_record(rt, alloc).is_some(), wanted, step),
-        Step::Stops => hub.stop_record(rt),
+        Step::Starts(wanted) => same(rt, hub.start_record(rt, alloc).is_ok(), wanted, step),
+        Step::Stops => drop(hub.stop_record(rt)),
         Step::Waits(length) => same(rt, hub.record_waiting(rt), length, step),
         Step::Takes(length, fault) => drop(bench.take_record(rt, length, fault)?),
         Step::Lines(lines, fault) => bench.take_lines(rt, lines, fault)?,
         Step::NoRecord => {
             let taken = hub.take_record(rt, Vec::new(alloc));
-            same(rt, taken.is_none(), true, step);
+            same(rt, taken.is_err(), true, step);
         }
         _ => return Err(Fail::from("a step of no kind")),
     }

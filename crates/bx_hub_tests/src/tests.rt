@@ -1,7 +1,7 @@
 //! Calls of one thread.
 use crate::steps::{LATE, Step, check_runs};
 use bx_calls::{ANSWER, CONNECT_OTHER, Found, HANDSHAKE, PUBLISH};
-use bx_entry::BodyError;
+use bx_entry::{BodyError, Refusal};
 use bx_hub::{HubFault, PostFault};
 use std::test::*;
 
@@ -9,13 +9,13 @@ use std::test::*;
 const RUNS: [&[Step]; 6] = [
     // A body that is cut off and a late tick are refused, and one without messages adds nothing.
     &[
-        Step::Refused("[", PostFault::Body(BodyError::NotJson)),
+        Step::Refused("[", PostFault::Refused(Refusal::Body(BodyError::NotJson))),
         Step::Seen(0, 0),
         Step::Post("[]", 0, 0),
         Step::Post(HANDSHAKE, 0, 0),
         Step::Post("[]", 1, 0),
         Step::Seen(0, 1),
-        Step::Tick(LATE, Err(PostFault::BadMoment)),
+        Step::Tick(LATE, Err(PostFault::Refused(Refusal::BadMoment))),
     ],
     // A held connect, its answer, and the answer after it was taken.
     &[
@@ -72,7 +72,7 @@ const RUNS: [&[Step]; 6] = [
         Step::Publish,
         Step::Close,
         Step::Refused(PUBLISH, PostFault::Closed),
-        Step::Refused("[", PostFault::Body(BodyError::NotJson)),
+        Step::Refused("[", PostFault::Refused(Refusal::Body(BodyError::NotJson))),
         Step::Refused("[]", PostFault::Closed),
         Step::Tick(0, Err(PostFault::Closed)),
         Step::Tick(LATE, Err(PostFault::Closed)),

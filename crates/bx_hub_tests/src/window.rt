@@ -3,7 +3,7 @@ ghost use Rattle.std.specs.Prelude.{◌≡◌, [], IfOk};
 
 use crate::same::same;
 use bx_calls::{Taken, Ticker};
-use bx_window::{LogReader, Naming, Next, Note, Opened, PublishFault, entry_of, log_pair};
+use bx_window::{Front, LogReader, Naming, Next, Opened, PublishFault, entry_of, log_pair};
 use std::alloc::{AllocError, Global};
 use std::marker::Brand;
 use std::process::Abort;
@@ -144,7 +144,12 @@ fn find<J: Naming>(reader: &mut LogReader<J>, place: u64) -> Found {
 }
 
 // A reader that has seen nothing is told, and then told what is old.
-fn check_told<J: Naming, R: Abort>(rt: &R, reader: &mut LogReader<J>, note: &Note<J>, length: u64) {
+fn check_told<J: Naming, R: Abort>(
+    rt: &R,
+    reader: &mut LogReader<J>,
+    note: &Front<J>,
+    length: u64,
+) {
     let old = reader.note();
     same(rt, old.len(), 0, "before");
     reader.learn(note);
@@ -154,7 +159,7 @@ fn check_told<J: Naming, R: Abort>(rt: &R, reader: &mut LogReader<J>, note: &Not
 }
 
 // Of two notes the longer covers the other.
-fn check_covers<J: Naming, R: Abort>(rt: &R, long: &Note<J>, short: &Note<J>) {
+fn check_covers<J: Naming, R: Abort>(rt: &R, long: &Front<J>, short: &Front<J>) {
     same(rt, long.covers(short), true, "the shorter");
     same(rt, long.covers(&long.again()), true, "itself");
     same(rt, short.covers(long), false, "the longer");

@@ -2,13 +2,13 @@
 ghost use Rattle.std.specs.Prelude.{◌≡◌, ◌++◌, [], IsTrue};
 
 /// How far a text goes that grows.
-pub trait Front: Drop {
+pub trait Extent: Drop {
     ghost use Rattle.std.specs.Prelude.{ℕ, List};
 
     /// The text up to it.
     ghost text: { Self → List ℕ };
 
-    /// Holds of a front and of the same once more.
+    /// Holds of an extent and of the same once more.
     ghost is_copy: { Self → Self → Type 0 };
 
     /// The same once more.
@@ -22,17 +22,17 @@ pub trait Front: Drop {
         ensures copy { is_copy self.now other.now → IsTrue result };
 }
 
-/// The bytes of a text from one front to a later one.
+/// The bytes of a text from one extent to a later one.
 #[derive(Drop)]
-pub struct Chunk<F: Front> {
+pub struct Chunk<F: Extent> {
     pub(crate) from: F,
     pub(crate) to: F,
     pub(crate) bytes: Vec<u8>,
     ghost lines: { F.text to ≡ F.text from ++ bytes.items },
 }
 
-impl<F: Front> Chunk<F> {
-    /// These bytes, which stand in the text between these fronts.
+impl<F: Extent> Chunk<F> {
+    /// These bytes, which stand in the text between these extents.
     pub fn new(from: F, to: F, bytes: Vec<u8>) -> Chunk<F>
         requires { F.text to ≡ F.text from ++ bytes.items }
         ensures { (result.from ≡ from) × (result.to ≡ to) × (result.bytes ≡ bytes) }
@@ -40,7 +40,7 @@ impl<F: Front> Chunk<F> {
         Chunk { from, to, bytes }
     }
 
-    /// The later front.
+    /// The later extent.
     pub fn upto(&self) -> &F
         ensures { result.now ≡ self.now.to }
     {

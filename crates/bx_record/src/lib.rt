@@ -17,7 +17,7 @@ mod waiting;
 mod writer;
 
 pub use answer::answer_text;
-pub use chunk::{Chunk, Front};
+pub use chunk::{Chunk, Extent};
 pub use config::config_text;
 pub use counted::CountedFile;
 pub use laws::{

@@ -2,7 +2,7 @@
 ghost use Rattle.std.specs.Prelude.{◌≡◌, ◌++◌, [], IfErr, IfOk};
 ghost use Rattle.std.specs.Io.KnownBytes.{Appends};
 
-use crate::chunk::{Chunk, Front};
+use crate::chunk::{Chunk, Extent};
 use crate::counted::CountedFile;
 use bx_history::History;
 use std::io;
@@ -17,9 +17,9 @@ pub struct Torn {
     pub error: io::Error,
 }
 
-/// A file that has a text, up to a front, and notes between its lines. With the first write that fails there is no such file any more.
+/// A file that has a text, up to an extent, and notes between its lines. With the first write that fails there is no such file any more.
 #[derive(Drop)]
-pub struct Out<F: Front, W> {
+pub struct Out<F: Extent, W> {
     file: CountedFile<W>,
     // The bytes of the text that were written, for contracts alone.
     written: History<u8>,
@@ -27,7 +27,7 @@ pub struct Out<F: Front, W> {
     ghost whole: { written ≡ F.text upto },
 }
 
-impl<F: Front, W: Write + Drop> Out<F, W> {
+impl<F: Extent, W: Write + Drop> Out<F, W> {
     /// Nothing of the text is written yet, where nothing is in front of `start`.
     pub fn new(file: CountedFile<W>, start: F) -> Out<F, W>
         requires { F.text start ≡ [] }

@@ -1,11 +1,11 @@
 //! What is to be written.
 ghost use Rattle.std.specs.Prelude.{◌≡◌, []};
 
-use crate::chunk::{Chunk, Front};
+use crate::chunk::{Chunk, Extent};
 
 /// What was taken out to be written.
 #[derive(Drop)]
-pub struct Taken<F: Front, E> {
+pub struct Taken<F: Extent, E> {
     /// The bytes.
     pub chunk: Chunk<F>,
     /// Why nothing comes behind them, where that is so.
@@ -15,7 +15,7 @@ pub struct Taken<F: Front, E> {
 /// Where the bytes of a text wait to be written, while others add to them, and notes that are none of the text.
 pub trait Source {
     /// How far the text goes.
-    type Front: Front;
+    type Extent: Extent;
 
     /// Why nothing more comes.
     type Fault: Drop;
@@ -24,7 +24,7 @@ pub trait Source {
     fn waiting(&self) -> usize;
 
     /// Takes out all that waits of the text, and leaves an empty buffer in its place. None where nothing more comes.
-    fn take(&mut self, empty: Vec<u8>) -> Option<Taken<Self::Front, Self::Fault>>
+    fn take(&mut self, empty: Vec<u8>) -> Option<Taken<Self::Extent, Self::Fault>>
         requires empty { empty.items ≡ [] };
 
     /// Takes out the notes that wait, and leaves an empty buffer in their place. What each is of stands in what was taken out, or is the next to be, as long as the text goes on.

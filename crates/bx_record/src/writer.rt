@@ -46,7 +46,7 @@ pub fn write_out<R, S, W>(
     rt: &R,
     alloc: Global,
     mut source: S,
-    out: Out<S::Front, W>,
+    out: Out<S::Extent, W>,
     is_over: &AtomicBool,
 ) -> Written<S::Fault>
 where
@@ -87,10 +87,10 @@ where
 // comes behind the text, they are left out: they may be of what the text does not have.
 fn write_once<S: Source, W: Write + Drop>(
     source: &mut S,
-    out: Out<S::Front, W>,
+    out: Out<S::Extent, W>,
     text: Vec<u8>,
     notes: Vec<u8>,
-) -> Result<(Out<S::Front, W>, Vec<u8>, Vec<u8>), Written<S::Fault>>
+) -> Result<(Out<S::Extent, W>, Vec<u8>, Vec<u8>), Written<S::Fault>>
     requires { (text.items ≡ []) × (notes.items ≡ []) }
     ensures { IfOk result (λ next. (next.1.items ≡ []) × (next.2.items ≡ [])) }
 {

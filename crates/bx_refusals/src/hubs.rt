@@ -62,7 +62,7 @@ where
     let hub = Served::<J, &R>::new(alloc, rt, opened, config, placing, OpenGate)?;
     let hub = Arc::new(alloc, hub)?;
     let mut said = Said::new(alloc);
-    if hub.start_record(rt, alloc).is_none() {
+    if hub.start_record(rt, alloc).is_err() {
         return Err(Unlike::Wrong("no record"));
     }
     exchange(rt, alloc, &hub, shards, &mut said)?;
@@ -76,7 +76,7 @@ where
     J: Naming,
     R: Wait,
 {
-    let Some(taken) = hub.take_record(rt, Vec::new(alloc)) else {
+    let Ok(taken) = hub.take_record(rt, Vec::new(alloc)) else {
         return Err(Unlike::Wrong("the record is gone"));
     };
     match taken.fault {

@@ -4,9 +4,9 @@ ghost use Rattle.bx_registry.specs.Standings.{LeadsTo};
 
 use crate::requests::{HANDSHAKE, add_line, arrival, config, reply};
 use crate::unlike::Unlike;
-use bx_entry::{AllFirst, Entry, EntryKind, Slot};
+use bx_entry::{AdmitFault, AllFirst, Entry, EntryKind, Slot};
 use bx_message::Message;
-use bx_registry::{AdmitFault, Plan, Registry};
+use bx_registry::{Plan, Registry};
 use std::alloc::Global;
 
 // The second session subscribes.

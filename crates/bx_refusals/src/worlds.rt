@@ -1,10 +1,10 @@
 //! Two shards that one worker brings up.
 use crate::requests::{CONNECT, HANDSHAKE, PUBLISH, SUBSCRIBE, arrival, config, text_of};
 use crate::unlike::Unlike;
-use bx_entry::{ByRemainder, Slot, Ticket};
+use bx_entry::{AdmitFault, Admitted, ByRemainder, Slot, Ticket};
 use bx_message::Answer;
 use bx_workers::{OpenGate, WorkerCount};
-use bx_world::{AdmissionFault, Admitted, Applied, World};
+use bx_world::{Applied, World};
 use std::alloc::Global;
 use std::sync::Arc;
 use std::thread::Threads;
@@ -48,7 +48,7 @@ fn ticket_of(admitted: Admitted) -> Option<Ticket> {
 fn admit(alloc: Global, world: &mut World<ByRemainder>, body: &str) -> Result<Admitted, Unlike> {
     let arrival = arrival(alloc, body)?;
     let admitted = match world.admit(alloc, &arrival) {
-        Err(AdmissionFault::Memory) => world.admit(alloc, &arrival),
+        Err(AdmitFault::Memory) => world.admit(alloc, &arrival),
         admitted => admitted,
     };
     admitted.map_err(|_| Unlike::Wrong("not admitted"))

@@ -9,8 +9,9 @@ use Rattle.bx_message.specs.MessageKinds.{message_kind_of, is_handshake}
 use Rattle.bx_entry.specs.Words.{Posted, Listed, Post, listed_from, request, Registered, State, Verdict, judged_by, named_by, refusal, verdict}
 use Rattle.bx_entry.specs.declared.{entry.Entry.Entry, entry.Slot.Slot, senders.Senders.Senders}
 use Rattle.bx_entry.specs.declared.senders.Senders.TheVariants.{NoneYet}
+use Rattle.bx_entry.specs.Inputs.{refused_beyond}
 use Rattle.bx_roster.specs.Words.{Members, CanEditEach, edited, edited_by}
-use Rattle.bx_registry.specs.Words.{Roll, after, found, next, state_of, step, Drafted, members_of, Amendment, IsPlannedAt, IsWithin, changed, checked, fault_of, entries_in, slots_in, IsFoundAt, IsPlannedBy, roll_between, roll_with}
+use Rattle.bx_registry.specs.Words.{Roll, after, found, next, state_of, step, Drafted, members_of, Amendment, IsPlannedAt, IsWithin, changed, checked, entries_in, slots_in, IsFoundAt, IsPlannedBy, roll_between, roll_with}
 use Rattle.bx_roster.specs.declared.edit.{Edit.Edit, Edits.Edits}
 use Rattle.bx_roster.specs.declared.edit.Edits.TheVariants.{Each}
 use Rattle.bx_registry.proofs.Drafting.{limit-same}
@@ -94,7 +95,7 @@ all_planned {setup} {before} {base} {clock} {first} {list} {d} {senders} {now} {
 
 -- ---- what is planned at a registry
 
-pub admitted : (moment end : ℕ) (x : Unit {0}) → Ok x ≡ checked (fault_of moment end) → (moment ≤ greatest_moment) × (end ≤ greatest_length)
+pub admitted : (moment end : ℕ) (x : Unit {0}) → Ok x ≡ checked (refused_beyond moment end) → (moment ≤ greatest_moment) × (end ≤ greatest_length)
 admitted moment end x e = (grind (arith, common_steps), grind (arith, common_steps))
 
 pub planned_limit : (ms : Members) (edits : Edits) → (edited_by ms edits).limit ≡ ms.limit

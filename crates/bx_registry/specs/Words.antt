@@ -5,7 +5,7 @@ pub use Rattle.bx_registry.specs.Ids.{digit_value, hex_value, number_in, with_di
 pub use Rattle.bx_registry.specs.Judgements.{IsRidden, IsVerdict, edit_for}
 pub use Rattle.bx_registry.specs.Laws.{GoesOn, RunsAgree, StepsAgree}
 pub use Rattle.bx_registry.specs.Planners.{IsFoundAt, IsPlannedBy, roll_between, roll_with}
-pub use Rattle.bx_registry.specs.Plans.{IsFault, checked, entries_in, fault_of, slots_in}
+pub use Rattle.bx_registry.specs.Plans.{checked, entries_in, slots_in}
 pub use Rattle.bx_registry.specs.Postings.{posted_of}
 pub use Rattle.bx_registry.specs.Rolls.{Roll, after, found, next, roll_of, state_of, step}
 pub use Rattle.bx_registry.specs.Setups.{setup_of}

@@ -15,5 +15,5 @@ mod setup;
 
 pub use change::Change;
 pub use laws::{runs_agree, steps_agree};
-pub use plan::{AdmitFault, Plan};
+pub use plan::Plan;
 pub use registry::Registry;

@@ -6,18 +6,19 @@ ghost use Rattle.bx_entry.specs.Listing.{request};
 ghost use Rattle.bx_entry.specs.Listing as elements;
 ghost use Rattle.bx_entry.specs.Placings.{placed_by};
 ghost use Rattle.bx_entry.specs.Registry.{Registered, count_live, registry};
-ghost use Rattle.bx_registry.specs.Plans.{checked, fault_of};
+ghost use Rattle.bx_entry.specs.Inputs.{refused_beyond};
+ghost use Rattle.bx_entry.specs.declared.input.AdmitFault.TheVariants.{Memory, Refused};
+ghost use Rattle.bx_registry.specs.Plans.{checked};
 ghost use Rattle.bx_registry.specs.Slots.{admitted_slots};
 ghost use Rattle.bx_registry.specs.Standings.{Continues, LeadsTo, roll_at};
-ghost use Rattle.bx_registry.specs.declared.plan.AdmitFault.TheVariants.{Memory};
 
 use crate::change::Change;
 use crate::draft::Draft;
-use crate::plan::{AdmitFault, Plan};
+use crate::plan::Plan;
 use crate::planner::{Start, plan_all};
 use crate::setup::Setup;
 use bx_advice::{Config, MAX_LENGTH, MAX_MOMENT, ShardCount};
-use bx_entry::{Batch, Entry, EntryKind, Listing, Placing};
+use bx_entry::{AdmitFault, Batch, Entry, EntryKind, Listing, Placing, Refusal};
 use bx_message::{Message, Sequence};
 use bx_roster::{Edits, Table};
 use std::alloc::{AllocError, Global};
@@ -111,8 +112,9 @@ impl Registry {
         messages: &[Message],
     ) -> Result<Plan, AdmitFault>
         ensures same { self.new ≡ record self.old { ready = self.new.ready } }
-        ensures fault { IfSome (fault_of moment (length self.old.list + length messages.now)) (λ fault. result ≡ Err fault) }
-        ensures memory { fault_of moment (length self.old.list + length messages.now) ≡ None → IsOkUnless result Memory }
+        ensures refused { IfSome (refused_beyond moment (length self.old.list + length messages.now))
+            (λ refusal. result ≡ Err (Refused refusal)) }
+        ensures memory { refused_beyond moment (length self.old.list + length messages.now) ≡ None → IsOkUnless result Memory }
         ensures elements { IfOk result (λ p. p.elements ≡ request moment nonce messages.now) }
         ensures continues { IfOk result (λ p. Continues self.new p) }
         ensures slots { IfOk result (λ p. p.slots
@@ -156,8 +158,8 @@ impl Registry {
     /// live.
     pub fn plan_tick(&mut self, alloc: Global, moment: u64) -> Result<Plan, AdmitFault>
         ensures same { self.new ≡ self.old }
-        ensures fault { IfSome (fault_of moment (length self.old.list + 1)) (λ fault. result ≡ Err fault) }
-        ensures memory { fault_of moment (length self.old.list + 1) ≡ None → IsOkUnless result Memory }
+        ensures refused { IfSome (refused_beyond moment (length self.old.list + 1)) (λ refusal. result ≡ Err (Refused refusal)) }
+        ensures memory { refused_beyond moment (length self.old.list + 1) ≡ None → IsOkUnless result Memory }
         ensures elements { IfOk result (λ p. p.elements ≡ elements.Tick moment ∷ []) }
         ensures continues { IfOk result (λ p. Continues self.old p) }
         ensures slots { IfOk result (λ p. p.slots ≡ []) }
@@ -190,13 +192,13 @@ impl Registry {
 
     // Moments and the list have an end.
     fn check(&self, moment: u64, count: usize) -> Result<(), AdmitFault>
-        ensures { result ≡ checked (fault_of moment (length self.now.list + count)) }
+        ensures { result ≡ checked (refused_beyond moment (length self.now.list + count)) }
     {
         if moment > MAX_MOMENT {
-            return Err(AdmitFault::BadMoment);
+            return Err(AdmitFault::Refused(Refusal::BadMoment));
         }
         if count as u64 > MAX_LENGTH - self.entries {
-            return Err(AdmitFault::Ended);
+            return Err(AdmitFault::Refused(Refusal::Ended));
         }
         Ok(())
     }

@@ -1,9 +1,9 @@
 //! Schedules of a world, and what each of their steps gives.
 use crate::requests::request;
 use bx_advice::Config;
-use bx_entry::{AllFirst, ByRemainder, ByTable, Input, Placing, Refusal, Slot, Ticket};
+use bx_entry::{AdmitFault, AllFirst, ByRemainder, ByTable, Input, Placing, Refusal, Slot, Ticket};
 use bx_message::{Answer, event_text, reply_text};
-use bx_world::{AdmissionFault, Applied, Step, StepOut, World};
+use bx_world::{Applied, Step, StepOut, World};
 use std::alloc::{AllocError, Global};
 use std::process::Abort;
 use std::sync::Arc;
@@ -334,11 +334,7 @@ fn no_order_of_the_shards_matters(rt: HostRuntime) -> Result<(), Fail> {
 }
 
 // Where a tick stands in the list, or why it is refused.
-fn ticked<P: Placing>(
-    alloc: Global,
-    world: &mut World<P>,
-    moment: u64,
-) -> Result<u64, AdmissionFault> {
+fn ticked<P: Placing>(alloc: Global, world: &mut World<P>, moment: u64) -> Result<u64, AdmitFault> {
     match world.admit_tick(alloc, moment) {
         Ok(admitted) => Ok(admitted.first),
         Err(fault) => Err(fault),
@@ -351,7 +347,7 @@ fn check_calls<R: Abort, P: Placing>(
     alloc: Global,
     world: &mut World<P>,
 ) -> Result<(), Fail> {
-    let refused = AdmissionFault::Refused(Refusal::BadMoment);
+    let refused = AdmitFault::Refused(Refusal::BadMoment);
     assert_eq!(rt;
         ticked(alloc, world, 4_611_686_018_427_387_905),
         Err(refused)

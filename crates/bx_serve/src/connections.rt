@@ -13,8 +13,8 @@ use std::time::Clock;
 use tokio::net::Incoming;
 use tokio::time::Interval;
 
-/// The tasks of the connections that come. Where none can be accepted, as while the process has no descriptor left, it waits
-/// for a while before it asks again.
+/// The tasks of the connections that come. Where none can be accepted, as while the process has no descriptor left, it
+/// waits for a while before it asks again.
 #[derive(Drop)]
 pub struct Connections<R, M> {
     clock: R,

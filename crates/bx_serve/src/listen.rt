@@ -32,11 +32,12 @@ const WHOLE: u64 = 300_000;
 /// A listener, and what serves its connections.
 pub type Entrance<S> = (TcpListener, S);
 
-/// Serves so many connections of these entrances over HTTP, each as a task of the runtime, until `end` is ready: from then on no
-/// connection is taken, and those that are open are served for as long as the runtime's shutdown may take. 0 is any number. A head has
-/// 30 seconds to come; a body fails where nothing comes of it for 30 seconds, or where it is not whole within five minutes, and a
-/// connection whose peer takes nothing of what is written for 30 seconds. A connection for which there is no memory is dropped, and the
-/// next one is served. `Err` where there is no memory to begin with, or the system refuses the runtime a call.
+/// Serves so many connections of these entrances over HTTP, each as a task of the runtime, until `end` is ready: from
+/// then on no connection is taken, and those that are open are served for as long as the runtime's shutdown may take. 0
+/// is any number. A head has 30 seconds to come; a body fails where nothing comes of it for 30 seconds, or where it is
+/// not whole within five minutes, and a connection whose peer takes nothing of what is written for 30 seconds. A
+/// connection for which there is no memory is dropped, and the next one is served. `Err` where there is no memory to
+/// begin with, or the system refuses the runtime a call.
 pub fn serve_until<R, S, E, A, T>(
     rt: R,
     runtime: &mut Runtime,

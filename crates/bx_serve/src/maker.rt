@@ -57,8 +57,8 @@ pub type Served<R> = Peer<TcpStream, TokioTimer<R>>;
 /// The body of a request as it comes to a service.
 pub type Coming<R> = Patient<Incoming<Served<R>>, Option<TokioTimer<R>>>;
 
-/// Serves each connection over HTTP, by a service of its own. It waits no longer than `limit` at a time for more of a body, or for
-/// the peer to take more of what is written, and no longer than `whole` until a body is whole.
+/// Serves each connection over HTTP, by a service of its own. It waits no longer than `limit` at a time for more of a
+/// body, or for the peer to take more of what is written, and no longer than `whole` until a body is whole.
 #[derive(Drop)]
 pub struct Server<R, S> {
     /// Serves one connection, with a timer for its heads.

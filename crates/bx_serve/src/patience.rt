@@ -11,8 +11,8 @@ use hyper::rt::Timer;
 use std::time::{Duration, Instant};
 use tokio::time::Sleep;
 
-/// A limit to how long something is waited for, counted anew each time that it came; and perhaps one to how long it may take as a
-/// whole, which nothing counts anew.
+/// A limit to how long something is waited for, counted anew each time that it came; and perhaps one to how long it may
+/// take as a whole, which nothing counts anew.
 #[derive(Drop)]
 pub struct Patience<T> {
     timer: T,
@@ -89,8 +89,8 @@ impl<T: Timer> Patience<T> {
         true
     }
 
-    /// Ready once the wait has lasted for the limit, or all of it for as long as it may take as a whole; and at once where the clock
-    /// cannot be read, or there is no memory for a timer.
+    /// Ready once the wait has lasted for the limit, or all of it for as long as it may take as a whole; and at once
+    /// where the clock cannot be read, or there is no memory for a timer.
     pub fn poll_over(&mut self, cx: &mut Context<'_>) -> Poll<()>
         ensures waits { OnPending result (Covers cx.new (TimerNeeds self.new.sleep)) }
         ensures kept { Keeps cx.old cx.new }

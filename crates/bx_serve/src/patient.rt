@@ -23,8 +23,9 @@ pub enum PatientFault<E> {
     Late,
 }
 
-/// A body that fails where nothing comes of it for as long as it is waited for, counted anew from each frame, or where it is not
-/// whole in time. Where the clock cannot be read, or there is no memory for a timer, it fails as soon as it would wait.
+/// A body that fails where nothing comes of it for as long as it is waited for, counted anew from each frame, or where
+/// it is not whole in time. Where the clock cannot be read, or there is no memory for a timer, it fails as soon as it
+/// would wait.
 #[derive(Drop)]
 pub struct Patient<B, T> {
     body: B,

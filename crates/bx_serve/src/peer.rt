@@ -12,9 +12,9 @@ use std::io;
 use std::io::ErrorKind;
 use tokio::io::{AsyncRead, AsyncWrite};
 
-/// A connection that fails with `TimedOut` where the peer takes nothing of what is written for as long as it is waited for, counted
-/// anew from each write that took something. Where the clock cannot be read, or there is no memory for a timer, it fails as soon as
-/// it would wait.
+/// A connection that fails with `TimedOut` where the peer takes nothing of what is written for as long as it is waited
+/// for, counted anew from each write that took something. Where the clock cannot be read, or there is no memory for a
+/// timer, it fails as soon as it would wait.
 #[derive(Drop)]
 pub struct Peer<I, T> {
     io: I,

@@ -17,10 +17,11 @@ use tokio::runtime::Runtime;
 // How many futures one poll spawns before it lets tasks run.
 const BUDGET: u32 = 128;
 
-/// Runs each future of a stream, or of two, as a task of the runtime, until the streams have ended or so many futures have come, and each
-/// task is done; or until `end` is ready: from then on no future is asked for, and each task that was spawned is waited for as long as the
-/// runtime's shutdown may take. A future for which there is no memory is dropped, and those behind it are run as ever. `Err` where there is
-/// no memory to begin with, or the system refuses the runtime a call.
+/// Runs each future of a stream, or of two, as a task of the runtime, until the streams have ended or so many futures
+/// have come, and each task is done; or until `end` is ready: from then on no future is asked for, and each task that
+/// was spawned is waited for as long as the runtime's shutdown may take. A future for which there is no memory is
+/// dropped, and those behind it are run as ever. `Err` where there is no memory to begin with, or the system refuses
+/// the runtime a call.
 pub fn run_until<R, S, F, A, T>(
     rt: &R,
     runtime: &mut Runtime,
@@ -62,8 +63,8 @@ where
     runtime.block_on_with(rt, &tasks, SpawnEach::new(&tasks, futures.take_until(end)))
 }
 
-/// Spawns each future of a stream, and is ready once the stream has ended, or the set is shut down. A future for which there is no
-/// memory is dropped, and those behind it are spawned as ever.
+/// Spawns each future of a stream, and is ready once the stream has ended, or the set is shut down. A future for which
+/// there is no memory is dropped, and those behind it are spawned as ever.
 #[derive(Drop)]
 pub struct SpawnEach<'a, F: Future, S> {
     tasks: &'a TaskSet<F>,

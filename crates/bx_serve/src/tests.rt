@@ -66,7 +66,8 @@ enum End {
     Open,
 }
 
-// How a body ends that brings a frame each so many seconds, and is waited for 30 seconds at a time and for so many as a whole.
+// How a body ends that brings a frame each so many seconds, and is waited for 30 seconds at a time and for so many as a
+// whole.
 fn end_of<R: RandomSource + AllocGlobal>(
     rt: &R,
     step: u64,

@@ -6,7 +6,6 @@ use Rattle.http_header.specs.HeaderMap.{Entries, get_all}
 use Rattle.bx_service.specs.declared.collect.CollectError.{CollectError}
 use Rattle.bx_service.specs.declared.collect.CollectError.TheVariants as bodies
 use Rattle.bx_entry.specs.Statuses.{refusal_status}
-use Rattle.bx_entry.specs.declared.input.Refusal.TheVariants as refusals
 use Rattle.bx_hub.specs.declared.fault.PostFault.{PostFault}
 use Rattle.bx_hub.specs.declared.fault.PostFault.TheVariants as posts
 use Rattle.bx_message.specs.declared.status.Status.{Status}
@@ -45,7 +44,5 @@ body_status bodies.Memory = transport_status transports.Memory
 
 -- of what the hub refuses; of what is not admitted that of its refusal
 abbrev pub post_status : PostFault → Status
-post_status (posts.Body fault) = refusal_status (refusals.Body fault)
-post_status posts.BadMoment = refusal_status refusals.BadMoment
-post_status posts.Ended = refusal_status refusals.Ended
+post_status (posts.Refused refusal) = refusal_status refusal
 post_status _ = Unavailable

@@ -12,7 +12,7 @@ ghost use Rattle.bx_service.specs.declared.backend.Declined.{Declined};
 use crate::gathering::Gathering;
 use bx_cut::Bodies;
 use bx_entry::{Arrival, Door, Placing};
-use bx_hub::{Gate, Hub, HubFault, PostFault};
+use bx_hub::{Gate, Hub, PostFault, Stopped};
 use bx_message::Item;
 use bx_window::Naming;
 use futures::Future;
@@ -49,8 +49,8 @@ impl From<AllocError> for Unanswered {
     }
 }
 
-impl From<HubFault> for Unanswered {
-    fn from(_fault: HubFault) -> Unanswered {
+impl<J: Naming> From<Stopped<J>> for Unanswered {
+    fn from(_stopped: Stopped<J>) -> Unanswered {
         Unanswered
     }
 }
@@ -64,8 +64,8 @@ pub struct Declined {
     pub bodies: Bodies,
 }
 
-/// Answers requests by their documents. A service asks no more of the server of messages, so that its own types do not name
-/// what that is made of.
+/// Answers requests by their documents. A service asks no more of the server of messages, so that its own types do not
+/// name what that is made of.
 pub trait Backend: Drop {
     /// The future of the items of a response.
     type Items: Future<Output = Result<Vec<Item>, Unanswered>>;
@@ -133,8 +133,9 @@ where
 {
     type Items = Gathering<J, P, G, R>;
 
-    // Nothing of the response is there yet, and its slots, and the place that it tells, are what one thread gives for the request with these documents; or
-    // the request is refused and its documents come back, also without memory for one more handle of the hub.
+    // Nothing of the response is there yet, and its slots, and the place that it tells, are what one thread gives for
+    // the request with these documents; or the request is refused and its documents come back, also without memory for
+    // one more handle of the hub.
     ghost admits = { λ backend bodies outcome.
         IfOk outcome (λ g. (g.items.items ≡ []) × (g.held ≡ None)
         × AreSlotsFor (C.tells backend.clock) (N.draws backend.nonces) backend.door (setup_of J.config J.placing) (texts_of bodies)
@@ -169,9 +170,9 @@ where
                 posted.first,
                 posted.slots,
             )),
-            Err(refused) => Err(Declined {
-                fault: refused.fault(),
-                bodies: refused.into_arrival().bodies,
+            Err((arrival, why)) => Err(Declined {
+                fault: why.fault(),
+                bodies: arrival.bodies,
             }),
         }
     }

@@ -33,8 +33,8 @@ impl From<AllocError> for CollectError {
     }
 }
 
-/// All the data of a body, in one buffer. What comes is copied behind what came before, so that no more than the limit is
-/// kept, in however small pieces it comes. Trailers are dropped.
+/// All the data of a body, in one buffer. What comes is copied behind what came before, so that no more than the limit
+/// is kept, in however small pieces it comes. Trailers are dropped.
 #[derive(Drop)]
 pub struct Collect<B> {
     alloc: Global,

@@ -21,7 +21,8 @@ use std::mem;
 use std::sync::{Arc, Wait};
 use std::vec::IntoIter;
 
-/// A request that was admitted: the items that are there, the connect or the rider that is waited for, and the slots behind it.
+/// A request that was admitted: the items that are there, the connect or the rider that is waited for, and the slots
+/// behind it.
 #[derive(Drop)]
 pub struct Gathering<J: Naming, P: Placing, G: Gate + Drop, R: Wait + Drop> {
     rt: R,

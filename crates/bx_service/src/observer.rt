@@ -30,7 +30,8 @@ pub enum Event<'a> {
     },
 }
 
-/// Looks on at a service. It is told of each connection and each request, and changes neither: what a request may be answered names no observer.
+/// Looks on at a service. It is told of each connection and each request, and changes neither: what a request may be
+/// answered names no observer.
 pub trait Observer: Drop {
     /// Is told that this came about.
     fn see(&self, event: Event<'_>);

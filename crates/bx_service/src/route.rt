@@ -20,8 +20,8 @@ pub(crate) enum Route {
 
 impl Route {
     /// How a request of this method for this path, with these fields, is served. Another path than those served is not
-    /// found, another method than POST and GET is not allowed (this server's choice), and a transfer coding besides `chunked`
-    /// is not implemented (RFC 9112, section 6.1).
+    /// found, another method than POST and GET is not allowed (this server's choice), and a transfer coding besides
+    /// `chunked` is not implemented (RFC 9112, section 6.1).
     pub(crate) fn of(method: &Method, path: &str, fields: &HeaderMap) -> Route
         ensures { result ≡ route_of method.now path.now fields.now }
     {

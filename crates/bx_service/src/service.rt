@@ -47,8 +47,8 @@ pub struct BayeuxService<S, O: Observer = ()> {
 }
 
 impl<S: Drop> BayeuxService<S, ()> {
-    /// A service over the backend, which takes bodies and queries of up to [`bx_advice::BODY_LIMIT`] bytes. An error means that memory
-    /// was refused.
+    /// A service over the backend, which takes bodies and queries of up to [`bx_advice::BODY_LIMIT`] bytes. An error
+    /// means that memory was refused.
     pub fn new(alloc: Global, backend: S) -> Result<BayeuxService<S>, AllocError>
         ensures backend { IfOk result (λ service. arc_value service.backend ≡ backend) }
         ensures limit { IfOk result (λ service. service.limit ≡ BODY_LIMIT) }
@@ -58,7 +58,8 @@ impl<S: Drop> BayeuxService<S, ()> {
 }
 
 impl<S: Drop, O: Observer> BayeuxService<S, O> {
-    /// The same, at which this one looks on. Each copy of it but the first one is of a connection, which is open until the copy is dropped.
+    /// The same, at which this one looks on. Each copy of it but the first one is of a connection, which is open until
+    /// the copy is dropped.
     pub fn observed(
         alloc: Global,
         backend: S,
@@ -115,7 +116,8 @@ where
     // Bodies of this type may be polled as they come.
     ghost can_call = { λ _. (body : B) → B.can_poll body };
 
-    // The exchange begins as its request and the limit say, and its handle, where it has one, is on the service's backend.
+    // The exchange begins as its request and the limit say, and its handle, where it has one, is on the service's
+    // backend.
     ghost calls = { λ service request exchange. Begins service.limit (head_of request) (body_of request) exchange.state
         × IfSome exchange.backend (λ handle. arc_value handle ≡ arc_value service.backend) };
 

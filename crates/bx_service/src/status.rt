@@ -4,7 +4,6 @@ ghost use Rattle.bx_message.specs.Statuses.{code_of};
 ghost use Rattle.bx_service.specs.Statuses.{body_status, post_status};
 
 use crate::collect::CollectError;
-use bx_entry::Refusal;
 use bx_hub::PostFault;
 use bx_message::Status;
 use bx_transport::TransportError;
@@ -20,8 +19,8 @@ pub(crate) fn code_of(status: Status) -> StatusCode
     }
 }
 
-/// The status of a POST whose body was not collected: of one that is too large, and where memory was refused, as the transport has it. (This
-/// server's choice.)
+/// The status of a POST whose body was not collected: of one that is too large, and where memory was refused, as the
+/// transport has it. (This server's choice.)
 pub(crate) fn body_status(fault: CollectError) -> Status
     ensures { result ≡ body_status fault }
 {
@@ -32,14 +31,13 @@ pub(crate) fn body_status(fault: CollectError) -> Status
     }
 }
 
-/// The status of a request that the hub refuses: of one that is not admitted that of its refusal. (This server's choice.)
+/// The status of a request that the hub refuses: of one that is not admitted that of its refusal. (This server's
+/// choice.)
 pub(crate) fn post_status(fault: PostFault) -> Status
     ensures { result ≡ post_status fault }
 {
     match fault {
-        PostFault::Body(fault) => Refusal::Body(fault).status(),
-        PostFault::BadMoment => Refusal::BadMoment.status(),
-        PostFault::Ended => Refusal::Ended.status(),
+        PostFault::Refused(refusal) => refusal.status(),
         PostFault::Closed
         | PostFault::Behind { .. }
         | PostFault::Overrun { .. }

@@ -81,7 +81,8 @@ fn next_data(task: &MockTask, body: &mut Pieces<Bytes>) -> Result<Option<Bytes>,
     }
 }
 
-// A response with them says before each frame how many bytes are left, and its frames, three of at most 64 KiB, are this text.
+// A response with them says before each frame how many bytes are left, and its frames, three of at most 64 KiB, are
+// this text.
 fn check_pieces<R: Abort>(
     rt: &R,
     alloc: Global,

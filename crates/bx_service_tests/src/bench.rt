@@ -31,8 +31,8 @@ impl Nonces for Zeros {
     }
 }
 
-/// A service over a hub, the same at the readers' door, at a moment that is too great, and with a small limit of bodies,
-/// and two tasks that were not woken.
+/// A service over a hub, the same at the readers' door, at a moment that is too great, and with a small limit of
+/// bodies, and two tasks that were not woken.
 #[derive(Drop)]
 pub struct Bench<J: Naming, S: Drop, H: Wait + Drop> {
     pub alloc: Global,

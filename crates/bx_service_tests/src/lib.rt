@@ -1,5 +1,5 @@
-//! Tests of the crates `bx_held` and `bx_service`, in a crate of their own: the gate proves a crate once more where it has tests. Held
-//! connects, and requests whose bodies and responses one thread polls.
+//! Tests of the crates `bx_held` and `bx_service`, in a crate of their own: the gate proves a crate once more where it
+//! has tests. Held connects, and requests whose bodies and responses one thread polls.
 #![tactic(auto)]
 
 #[cfg(test)]

@@ -1,6 +1,7 @@
 //! What an observer is told of connections and requests, over a backend that says what it is told to.
 use crate::requests::{Ask, Content, POST};
 use bx_cut::Bodies;
+use bx_entry::Refusal;
 use bx_hub::PostFault;
 use bx_message::{Item, Status};
 use bx_service::{Backend, BayeuxService, Declined, Event, Observer, Unanswered};
@@ -24,7 +25,7 @@ impl Observer for Digits {
             Event::Closed => 2,
             Event::Asked => 3,
             Event::Admitted(Some(9)) => 4,
-            Event::Refused(PostFault::BadMoment) => 5,
+            Event::Refused(PostFault::Refused(Refusal::BadMoment)) => 5,
             Event::Answered {
                 place: Some(9),
                 items: Some([]),
@@ -69,7 +70,7 @@ impl Backend for Saying {
     fn admit(&self, bodies: Bodies) -> Result<Given, Declined> {
         if let Said::Refusal = self.said {
             return Err(Declined {
-                fault: PostFault::BadMoment,
+                fault: PostFault::Refused(Refusal::BadMoment),
                 bodies,
             });
         }

@@ -84,8 +84,8 @@ const CODED: Want = Want::Status(501);
 /// How many bytes a body or a query may have where the limit is small.
 pub const SMALL: usize = 16;
 
-// Bodies and queries at a small limit and beyond it, with a length that is said and with none. One that is said to be beyond it is refused before
-// any of it came, and one whose said length is within it is waited for.
+// Bodies and queries at a small limit and beyond it, with a length that is said and with none. One that is said to be
+// beyond it is refused before any of it came, and one whose said length is within it is waited for.
 const SMALL_LIMIT: Run = Run {
     first: &[
         Step::Small(
@@ -193,8 +193,9 @@ const ANSWERED: Run = Run {
     ride: false,
 };
 
-// Paths, methods and transfer codings that are not served, bodies and queries without messages, a body at its limit and beyond it, one that is
-// said to be beyond it before any of it came, and a moment that is too great: what is refused opens no session.
+// Paths, methods and transfer codings that are not served, bodies and queries without messages, a body at its limit and
+// beyond it, one that is said to be beyond it before any of it came, and a moment that is too great: what is refused
+// opens no session.
 const REFUSED: Run = Run {
     first: &[
         Step::Target("POST", "/cometdx", Want::Status(404)),
@@ -454,8 +455,8 @@ const BROKEN_OFF: Run = Run {
     ride: false,
 };
 
-// A held exchange is given up: what was published since comes with the next connect, since the session acknowledges. The
-// answer that nobody took is swept.
+// A held exchange is given up: what was published since comes with the next connect, since the session acknowledges.
+// The answer that nobody took is swept.
 const GIVEN_UP: Run = Run {
     first: &OPENED_WITH_ACK,
     held: Some(Held {
@@ -491,8 +492,8 @@ const LOST: Run = Run {
     ride: false,
 };
 
-// What waits for a session rides on its next publish, by a query too. While its connect is held, that is given the first event, and
-// the rider the one behind. A rider whose shard is paused is not answered.
+// What waits for a session rides on its next publish, by a query too. While its connect is held, that is given the
+// first event, and the rider the one behind. A rider whose shard is paused is not answered.
 const RIDDEN: Run = Run {
     first: &[
         Step::Post(texts::HANDSHAKE, texts::HANDSHAKEN),

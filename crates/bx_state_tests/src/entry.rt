@@ -2,7 +2,8 @@
 use crate::same::same;
 use bx_cut::Bodies;
 use bx_entry::{
-    AllFirst, Arrival, BodyError, ByRemainder, ByTable, Door, Placing, ReadError, read_messages,
+    AdmitFault, AllFirst, Arrival, BodyError, ByRemainder, ByTable, Door, Placing, Refusal,
+    read_messages,
 };
 use bx_message::Message;
 use std::alloc::{AllocError, Global};
@@ -36,11 +37,12 @@ enum Found {
     Fault(BodyError),
 }
 
-fn found_in(messages: &Result<Vec<Message>, ReadError>) -> Result<Found, Fail> {
+fn found_in(messages: &Result<Vec<Message>, AdmitFault>) -> Result<Found, Fail> {
     match messages {
         Ok(messages) => Ok(Found::Messages(messages.len())),
-        Err(ReadError::Body(fault)) => Ok(Found::Fault(*fault)),
-        Err(ReadError::Memory) => Err(Fail::from("out of memory")),
+        Err(AdmitFault::Refused(Refusal::Body(fault))) => Ok(Found::Fault(*fault)),
+        Err(AdmitFault::Refused(_)) => Err(Fail::from("no fault of a body")),
+        Err(AdmitFault::Memory) => Err(Fail::from("out of memory")),
     }
 }
 

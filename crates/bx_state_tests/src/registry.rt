@@ -3,9 +3,9 @@ ghost use Rattle.bx_registry.specs.Standings.{LeadsTo};
 
 use crate::same::same;
 use bx_advice::{Config, Error, Limits, Outcome};
-use bx_entry::{ByRemainder, Entry, EntryKind, Slot};
+use bx_entry::{AdmitFault, ByRemainder, Entry, EntryKind, Refusal, Slot};
 use bx_message::{AckMember, Message, Sequence, Text, TextMember, reply_text};
-use bx_registry::{AdmitFault, Plan, Registry};
+use bx_registry::{Plan, Registry};
 use std::alloc::{AllocError, Global};
 use std::process::Abort;
 use std::test::Fail;
@@ -184,10 +184,15 @@ fn place_of_tick(alloc: Global, registry: &mut Registry, moment: u64) -> Result<
 
 fn check_moments(rt: &impl Abort, alloc: Global, registry: &mut Registry) -> Result<(), Fail> {
     let late = 4_611_686_018_427_387_905;
-    let refused = Some(AdmitFault::BadMoment);
+    let refused = Some(AdmitFault::Refused(Refusal::BadMoment));
     same(rt, fault_at(alloc, registry, late), refused, "a request");
     let place = place_of_tick(alloc, registry, late);
-    same(rt, place, Err(AdmitFault::BadMoment), "a tick");
+    same(
+        rt,
+        place,
+        Err(AdmitFault::Refused(Refusal::BadMoment)),
+        "a tick",
+    );
     let place = place_of_tick(alloc, registry, late - 1);
     same(rt, place, Ok(0), "the last tick");
     same(rt, registry.entries(), 0, "entries");

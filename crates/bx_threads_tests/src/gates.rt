@@ -5,7 +5,7 @@ ghost use Rattle.bx_entry.specs.Placings.{by_remainder};
 use crate::same::same;
 use bx_advice::Config;
 use bx_calls::{ANSWER, Found, HANDSHAKE, PUBLISH, Refused, find, hold, post};
-use bx_entry::{ByRemainder, Placing, Ticket};
+use bx_entry::{ByRemainder, Placing, Refusal, Ticket};
 use bx_hub::{Gate, Hub, Pass, PostFault};
 use bx_window::{Naming, Opened};
 use std::alloc::Global;
@@ -81,7 +81,8 @@ fn takes<J: Naming, P: Placing, H: Wait + Drop, R: Wait>(
     }
     let late = (1 << 62) + 1;
     let refused = hub.tick(rt, alloc, &mut pass, late).err();
-    let is_bad_moment = refused.map(|it| it.fault()) == Some(PostFault::BadMoment);
+    let is_bad_moment = refused.map(|it| it.fault())
+        == Some(PostFault::Refused(Refusal::BadMoment));
     let seen = pass.len();
     let found = find(rt, alloc, hub, &mut pass, ticket, ANSWER).unwrap_or(Found::Other);
     flags.is_free.store(true, Ordering::SeqCst);

@@ -220,9 +220,6 @@ impl<J: Naming> Model for Front<J> {
     ghost invariant = { λ f. (f.steps ≡ length (steps_of f.seen.log)) × (f.len ≡ length (list_of (steps_of f.seen.log))) × (f.begin ≡ begin_of (steps_of f.seen.log)) × (f.seen.book ≡ J.book) × (f.len ≤ greatest_length) };
 }
 
-/// What was seen, to tell another. Contracts see it as the steps.
-pub type Note<J> = Front<J>;
-
 impl<J: Naming> Front<J> {
     /// The place where its list ends, which is the number of the list's elements.
     pub fn len(&self) -> u64

@@ -11,9 +11,9 @@ mod showing;
 mod writer;
 
 pub use batch::{Bundle, entry_of};
-pub use front::{Book, Front, Note, Opened};
+pub use front::{Book, Front, Opened};
 pub use law::{Law, LogStep, Logged, Naming};
 pub use published::{PublishedBatch, RingChange, Trimmed};
-pub use reader::{LogReader, Memory, Next};
+pub use reader::{LogReader, Next};
 pub use ring::{Kept, Ring};
 pub use writer::{LogWriter, MAX_BATCHES, PublishFault, Writer, log_pair};

@@ -13,10 +13,10 @@ ghost use Rattle.bx_window.specs.Showing.{IsShown};
 ghost use Rattle.bx_window.specs.Refusals.{IsFair};
 
 use crate::batch::Bundle;
-use crate::front::{Book, Front, Note, Opened};
+use crate::front::{Book, Front, Opened};
 use crate::law::{LogStep, Naming};
 use crate::published::{PublishedBatch, RingChange, Trimmed};
-use crate::reader::{LogReader, Memory};
+use crate::reader::LogReader;
 use crate::ring::{Ring, drop_first};
 use crate::showing::{Late, catch_up, make_room, show};
 use bx_entry::{Batch, Input, Listing};
@@ -117,7 +117,7 @@ fn empty_ring<J: Naming>(alloc: Global, front: &Front<J>) -> Result<Ring<J>, All
 
 impl<J: Naming, R: Wait + Drop> Writer<J, R, Ring<J>, RingChange<J>> {
     /// All that was published, to tell a reader. It takes no memory, so it cannot fail.
-    pub fn tell(&self) -> Note<J>
+    pub fn tell(&self) -> Front<J>
         ensures { result ≡ self.now }
     {
         self.book.front()
@@ -125,7 +125,7 @@ impl<J: Naming, R: Wait + Drop> Writer<J, R, Ring<J>, RingChange<J>> {
 
     /// All that was published, of which any front of this window is a beginning: only the writer adds to the list. It takes no
     /// memory, so it cannot fail.
-    pub fn tell_beyond(&mut self, front: &Front<J>) -> Note<J>
+    pub fn tell_beyond(&mut self, front: &Front<J>) -> Front<J>
         ensures same { self.new ≡ self.old }
         ensures whole { result ≡ self.old }
         ensures begins { IsPrefix front.now self.old }
@@ -174,7 +174,7 @@ impl<J: Naming, R: Wait + Drop> Writer<J, R, Ring<J>, RingChange<J>> {
     /// waits for the readers that are inside the ring. It takes no memory. `Err` where an earlier change is late and refused
     /// again, and nothing changes then; a trim that drops nothing waits for nobody.
     #[tactic(auto, using(crate::proofs::Lists::begin_of_trimming, crate::proofs::Lists::list_of_trimming, crate::proofs::Lists::inputs_of_trimming, crate::proofs::Lists::firsts_of_trimming, crate::proofs::Rings::trimmed))]
-    pub fn trim(&mut self, n: u64) -> Result<(), Memory>
+    pub fn trim(&mut self, n: u64) -> Result<(), AllocError>
         requires steps { length self.old < 2 ^ 62 }
         ensures grows { IsPrefix self.old self.new }
         ensures list { list_of self.new ≡ list_of self.old }
@@ -189,7 +189,7 @@ impl<J: Naming, R: Wait + Drop> Writer<J, R, Ring<J>, RingChange<J>> {
         }
         let begin = first_at(&self.firsts, count, end);
         if !catch_up(&mut self.handle, &mut self.late) {
-            return Err(Memory);
+            return Err(AllocError);
         }
         self.book.trim(count as u64, begin);
         let trimmed = Trimmed::new(count, self.book.front());

@@ -12,8 +12,8 @@ use Rattle.bx_shard.specs.declared.shard.Shard.{Shard}
 use Rattle.bx_shard.proofs.Holding.{refines_longer}
 use Rattle.bx_world.specs.Words.{Admitting, IsAdmission, EachRefines, admission, WorldState, IsOutput, after, output_admit}
 use Rattle.bx_entry.specs.Placings.{placed_by}
-use Rattle.bx_world.specs.declared.step.{Admitted.Admitted, AdmissionFault.AdmissionFault}
-use Rattle.bx_world.specs.declared.step.AdmissionFault.TheVariants.{Refused, Memory}
+use Rattle.bx_entry.specs.declared.{entry.Admitted.Admitted, input.AdmitFault.AdmitFault}
+use Rattle.bx_entry.specs.declared.input.AdmitFault.TheVariants.{Refused, Memory}
 use Rattle.bx_world.specs.declared.step.Step.TheVariants.{Admit}
 use Rattle.bx_world.specs.declared.step.StepOut.TheVariants as outs
 
@@ -30,7 +30,7 @@ room len (Request moment nonce ms) e = subst (λ (n : ℕ). len + n ≤ greatest
 room len (Unread fault) e = absurd (cc)
 room len (Tick moment) e = within_end moment (len + 1) e
 
-pub still_bounded : (placing : ℕ → ℕ → ℕ) (old new : Admitting) (input : ReadInput) (r : Result Admitted AdmissionFault) → IsAdmission placing old input r new → length old.list ≤ greatest_length → length new.list ≤ greatest_length
+pub still_bounded : (placing : ℕ → ℕ → ℕ) (old new : Admitting) (input : ReadInput) (r : Result Admitted AdmitFault) → IsAdmission placing old input r new → length old.list ≤ greatest_length → length new.list ≤ greatest_length
 still_bounded placing old new input (Ok a) is few =
     subst (λ (n : ℕ). n ≤ greatest_length) (sym (ap (λ (b : Admitting). length b.list) is.3 ∙ length-append old.list (added_by input))) (room (length old.list) input is.0)
 still_bounded placing old new input (Err (Refused refusal)) is few = subst (λ (b : Admitting). length b.list ≤ greatest_length) (sym is.1) few
@@ -38,16 +38,16 @@ still_bounded placing old new input (Err Memory) is few = subst (λ (b : Admitti
 
 -- ---- what shards hold
 
-pub same_shards : (placing : ℕ → ℕ → ℕ) (old new : Admitting) (input : ReadInput) (r : Result Admitted AdmissionFault) → IsAdmission placing old input r new → new.shards ≡ old.shards
+pub same_shards : (placing : ℕ → ℕ → ℕ) (old new : Admitting) (input : ReadInput) (r : Result Admitted AdmitFault) → IsAdmission placing old input r new → new.shards ≡ old.shards
 same_shards placing old new input r is = grind arith
 
-pub same_first : (placing : ℕ → ℕ → ℕ) (old new : Admitting) (input : ReadInput) (r : Result Admitted AdmissionFault) → IsAdmission placing old input r new → new.first ≡ old.first
+pub same_first : (placing : ℕ → ℕ → ℕ) (old new : Admitting) (input : ReadInput) (r : Result Admitted AdmitFault) → IsAdmission placing old input r new → new.first ≡ old.first
 same_first placing old new input r is = grind arith
 
 abbrev pub EachOver : {P : Type 0} → (P → ℕ → ℕ → ℕ) → (ℕ → ℕ → ℕ) → List ℕ → List (Shard P) → Admitting → Type 0
 EachOver place_of placing taken xs a = EachRefines place_of (placed_by a.config a.shards placing) a.list taken a.first xs
 
-pub each_longer : {P : Type 0} (place_of : P → ℕ → ℕ → ℕ) (placing : ℕ → ℕ → ℕ) (old new : Admitting) (taken : List ℕ) (xs : List (Shard P)) (input : ReadInput) (r : Result Admitted AdmissionFault) →
+pub each_longer : {P : Type 0} (place_of : P → ℕ → ℕ → ℕ) (placing : ℕ → ℕ → ℕ) (old new : Admitting) (taken : List ℕ) (xs : List (Shard P)) (input : ReadInput) (r : Result Admitted AdmitFault) →
     IsAdmission placing old input r new → EachOver place_of placing taken xs old → EachOver place_of placing taken xs new
 each_longer place_of placing old new taken xs input (Ok a) is each =
     let longer : EachRefines place_of (placed_by old.config old.shards placing) (old.list ++ added_by input) taken old.first xs =
@@ -58,7 +58,7 @@ each_longer place_of placing old new taken xs input (Err Memory) is each = subst
 
 -- ---- what it gives
 
-pub admission_steps : (placing : ℕ → ℕ → ℕ) (old new : Admitting) (applied taken : List ℕ) (input : Input) (r : Result Admitted AdmissionFault) → IsAdmission placing old (read_input input) r new →
+pub admission_steps : (placing : ℕ → ℕ → ℕ) (old new : Admitting) (applied taken : List ℕ) (input : Input) (r : Result Admitted AdmitFault) → IsAdmission placing old (read_input input) r new →
     IsOutput (placed_by old.config old.shards placing) (record { list = old.list; applied = applied; taken = taken }) (Admit input) (admission r)
     × (record { list = new.list; applied = applied; taken = taken } ≡ after (record { list = old.list; applied = applied; taken = taken }) (Admit input) (admission r))
     × (placed_by new.config new.shards placing ≡ placed_by old.config old.shards placing)

@@ -5,8 +5,8 @@ use Rattle.bx_entry.specs.Words.{ReadInput, added_by, refusal_of, Listed, entrie
 use Rattle.bx_entry.specs.declared.entry.Entry.{Entry}
 use Rattle.bx_entry.specs.Placings.{placed_by}
 use Rattle.bx_registry.specs.Slots.{admitted_slots}
-use Rattle.bx_world.specs.declared.step.{Admitted.Admitted, AdmissionFault.AdmissionFault}
-use Rattle.bx_world.specs.declared.step.AdmissionFault.TheVariants.{Refused, Memory}
+use Rattle.bx_entry.specs.declared.{entry.Admitted.Admitted, input.AdmitFault.AdmitFault}
+use Rattle.bx_entry.specs.declared.input.AdmitFault.TheVariants.{Refused, Memory}
 
 -- the configuration, among how many shards sessions are placed, the list, and the place from which on its entries are kept
 pub record Admitting : Type 0 where
@@ -21,7 +21,7 @@ entries_kept a = drop a.first (entries a.config a.list)
 
 -- What became of an input: it stands at the end of the list and its messages have these slots, or it is refused and nothing changed. Want of
 -- memory changes nothing either.
-abbrev pub IsAdmission : (ℕ → ℕ → ℕ) → Admitting → ReadInput → Result Admitted AdmissionFault → Admitting → Type 0
+abbrev pub IsAdmission : (ℕ → ℕ → ℕ) → Admitting → ReadInput → Result Admitted AdmitFault → Admitting → Type 0
 IsAdmission placing old input (Ok a) new =
     (refusal_of (length old.list) input ≡ None)
     × (a.first ≡ length old.list)

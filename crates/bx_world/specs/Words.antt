@@ -2,7 +2,7 @@
 pub use Rattle.bx_world.specs.Admissions.{Admitting, IsAdmission, entries_kept}
 pub use Rattle.bx_world.specs.Backlogs.{kept_in}
 pub use Rattle.bx_world.specs.Headline.{AsksAgain, BatchesRepeat, EachReplied, EachSlot, Gave, GaveIn, GivenAgain, GivenLater, IsAdmitted, IsSlot, IsTicket, NoneGivenAgain, Replied, RepliedBy, RepliesAreAnswers, asked_by, slot_at}
-pub use Rattle.bx_world.specs.Outputs.{admission, application, of_planning}
+pub use Rattle.bx_world.specs.Outputs.{admission, application}
 pub use Rattle.bx_world.specs.Refining.{EachRefines, HasApplied, HasStayed, IsApplication, RefinesFrom, StandFrom, StandWithin, some_stands_at}
 pub use Rattle.bx_world.specs.Schedules.{AnswersAreFiled, AnswersCanBeTaken, EachNew, EachTook, ListIsAdmitted, NoneTakenTwice, SchedulesCompose, TakesAreAnswers, Took, TookBy, added_in, admitted_in, taken_by, taken_places}
 pub use Rattle.bx_world.specs.Seen.{Ran, Steps, setup_of, world_of}

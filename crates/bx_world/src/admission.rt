@@ -1,5 +1,5 @@
 //! The admission side of the world: who is live, and the list.
-ghost use Rattle.std.specs.Prelude.{ℕ, ◌≡◌, ◌≤◌, [], length, slice_get, option_map, max, IfOk, IfSome, OnErr, Err, ◌++◌};
+ghost use Rattle.std.specs.Prelude.{ℕ, ◌≡◌, ◌≤◌, [], length, slice_get, option_map, max, IfErr, IfOk, IfSome, Err, ◌++◌};
 ghost use Rattle.bx_registry.specs.Standings.{LeadsTo};
 ghost use Rattle.bx_advice.specs.Limits.{greatest_length};
 ghost use Rattle.bx_entry.specs.Inputs.{refusal_of};
@@ -9,12 +9,11 @@ ghost use Rattle.bx_entry.specs.declared.input.Input.TheVariants.{Post, Tick};
 ghost use Rattle.bx_workers.specs.Upward.{BroughtUp, count_behind};
 ghost use Rattle.bx_world.specs.Admissions.{IsAdmission, entries_kept};
 ghost use Rattle.bx_world.specs.Refining.{StandFrom, StandWithin};
-ghost use Rattle.bx_world.specs.declared.step.AdmissionFault.TheVariants.{Refused};
+ghost use Rattle.bx_entry.specs.declared.input.AdmitFault.TheVariants.{Memory, Refused};
 
 use crate::backlog::Backlog;
-use crate::step::{AdmissionFault, Admitted};
 use bx_advice::{Config, ShardCount};
-use bx_entry::{Arrival, Entry, Placing};
+use bx_entry::{AdmitFault, Admitted, Arrival, Entry, Placing};
 use bx_registry::{Plan, Registry};
 use bx_shard::Shard;
 use bx_workers::{Gate, WorkerCount};
@@ -63,23 +62,23 @@ impl Intake {
         alloc: Global,
         placing: &P,
         arrival: &Arrival,
-    ) -> Result<Admitted, AdmissionFault>
+    ) -> Result<Admitted, AdmitFault>
         ensures { IsAdmission (P.place_of placing.now) self.old (read_input (Post arrival.now)) result self.new }
     {
         let messages = arrival.read(alloc)?;
         let plan = self
             .registry
             .plan(alloc, placing, arrival.moment, arrival.nonce, &messages)?;
-        Ok(take_in(&mut self.registry, &mut self.backlog, plan)?)
+        take_in(&mut self.registry, &mut self.backlog, plan)
     }
 
     /// Takes a tick into the list.
-    pub(crate) fn tick(&mut self, alloc: Global, moment: u64) -> Result<Admitted, AdmissionFault>
+    pub(crate) fn tick(&mut self, alloc: Global, moment: u64) -> Result<Admitted, AdmitFault>
         ensures admission { (placing : ℕ → ℕ → ℕ) → IsAdmission placing self.old (read_input (Tick moment)) result self.new }
         ensures refused { IfSome (refusal_of (length self.old.list) (read_input (Tick moment))) (λ refusal. result ≡ Err (Refused refusal)) }
     {
         let plan = self.registry.plan_tick(alloc, moment)?;
-        Ok(take_in(&mut self.registry, &mut self.backlog, plan)?)
+        take_in(&mut self.registry, &mut self.backlog, plan)
     }
 
     /// How long the list is.
@@ -152,12 +151,12 @@ fn take_in(
     registry: &mut Registry,
     backlog: &mut Backlog,
     plan: Plan,
-) -> Result<Admitted, AllocError>
+) -> Result<Admitted, AdmitFault>
     requires { LeadsTo registry.old plan.change plan.elements }
     ensures taken { IfOk result (λ a. (a ≡ record { first = plan.batch.first; slots = plan.slots })
         × (registry.new ≡ record registry.old { list = registry.old.list ++ plan.elements; ready = registry.new.ready })
         × (backlog.new.contents ≡ record { all = backlog.old.contents.all ++ plan.batch.entries; first = backlog.old.contents.first })) }
-    ensures refused { OnErr result ((registry.new ≡ registry.old) × (backlog.new.contents ≡ backlog.old.contents)) }
+    ensures refused { IfErr result (λ f. (f ≡ Memory) × (registry.new ≡ registry.old) × (backlog.new.contents ≡ backlog.old.contents)) }
 {
     let Plan {
         batch,

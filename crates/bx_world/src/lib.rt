@@ -12,5 +12,5 @@ pub use laws::{
     none_given_again, none_taken_twice, plain_given_once, replies_are_answers, schedules_compose,
     takes_are_answers,
 };
-pub use step::{AdmissionFault, Admitted, Applied, Step, StepOut};
+pub use step::{Applied, Step, StepOut};
 pub use world::World;

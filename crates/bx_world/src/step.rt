@@ -1,12 +1,9 @@
 //! The steps of the world, and what they give.
 ghost use Rattle.std.specs.Prelude.{◌≡◌};
-ghost use Rattle.bx_world.specs.Outputs.{admission, application, of_planning, of_reading};
-ghost use Rattle.bx_world.specs.declared.step.AdmissionFault.TheVariants.{Memory};
+ghost use Rattle.bx_world.specs.Outputs.{admission, application};
 
-use bx_entry::{Input, ReadError, Refusal, Slot, Ticket};
+use bx_entry::{AdmitFault, Admitted, Input, Refusal, Slot, Ticket};
 use bx_message::{Answer, Sequence};
-use bx_registry::AdmitFault;
-use std::alloc::{AllocError, AllocFailed};
 
 /// A step of the world. Any list of steps is a schedule.
 #[derive(Drop)]
@@ -41,24 +38,6 @@ pub enum StepOut {
     OutOfMemory,
 }
 
-/// What an admitted request or tick is answered with.
-#[derive(Drop)]
-pub struct Admitted {
-    /// The place of its first message.
-    pub first: u64,
-    /// For each message in order how it is answered; none for a tick.
-    pub slots: Sequence<Slot>,
-}
-
-/// Why a request or a tick is not admitted. The world is as before then.
-#[derive(Clone, Copy, Debug, PartialEq, Eq)]
-pub enum AdmissionFault {
-    /// It is refused.
-    Refused(Refusal),
-    /// Memory was refused.
-    Memory,
-}
-
 /// What came of applying a shard's next entry.
 #[derive(Clone, Copy, Debug, PartialEq, Eq)]
 pub enum Applied {
@@ -72,13 +51,13 @@ pub enum Applied {
 
 impl StepOut {
     /// What came of an admission.
-    pub(crate) fn of_admission(admitted: Result<Admitted, AdmissionFault>) -> StepOut
+    pub(crate) fn of_admission(admitted: Result<Admitted, AdmitFault>) -> StepOut
         ensures { result ≡ admission admitted }
     {
         match admitted {
             Ok(Admitted { first, slots }) => StepOut::Admitted { first, slots },
-            Err(AdmissionFault::Refused(refusal)) => StepOut::NotAdmitted(refusal),
-            Err(AdmissionFault::Memory) => StepOut::OutOfMemory,
+            Err(AdmitFault::Refused(refusal)) => StepOut::NotAdmitted(refusal),
+            Err(AdmitFault::Memory) => StepOut::OutOfMemory,
         }
     }
 
@@ -91,44 +70,5 @@ impl StepOut {
             Applied::Level => StepOut::Level,
             Applied::Memory => StepOut::OutOfMemory,
         }
-    }
-}
-
-impl From<ReadError> for AdmissionFault {
-    ghost from_gives = { λ fault it. it ≡ of_reading fault };
-
-    fn from(fault: ReadError) -> AdmissionFault {
-        match fault {
-            ReadError::Body(fault) => AdmissionFault::Refused(Refusal::Body(fault)),
-            ReadError::Memory => AdmissionFault::Memory,
-        }
-    }
-}
-
-impl From<AdmitFault> for AdmissionFault {
-    ghost from_gives = { λ fault it. it ≡ of_planning fault };
-
-    fn from(fault: AdmitFault) -> AdmissionFault {
-        match fault {
-            AdmitFault::BadMoment => AdmissionFault::Refused(Refusal::BadMoment),
-            AdmitFault::Ended => AdmissionFault::Refused(Refusal::Ended),
-            AdmitFault::Memory => AdmissionFault::Memory,
-        }
-    }
-}
-
-impl From<AllocError> for AdmissionFault {
-    ghost from_gives = { λ _ it. it ≡ Memory };
-
-    fn from(_error: AllocError) -> AdmissionFault {
-        AdmissionFault::Memory
-    }
-}
-
-impl<T: Drop> From<AllocFailed<T>> for AdmissionFault {
-    ghost from_gives = { λ _ it. it ≡ Memory };
-
-    fn from(_error: AllocFailed<T>) -> AdmissionFault {
-        AdmissionFault::Memory
     }
 }

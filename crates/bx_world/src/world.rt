@@ -8,9 +8,9 @@ ghost use Rattle.bx_world.specs.Refining.{EachRefines, IsApplication, StandFrom,
 ghost use Rattle.bx_shard.specs.Props.{holds_props};
 
 use crate::admission::Intake;
-use crate::step::{AdmissionFault, Admitted, Applied, Step, StepOut};
+use crate::step::{Applied, Step, StepOut};
 use bx_advice::{Config, ShardCount};
-use bx_entry::{Arrival, Entry, Input, Placing, Ticket};
+use bx_entry::{AdmitFault, Admitted, Arrival, Entry, Input, Placing, Ticket};
 use bx_history::History;
 use bx_message::Answer;
 use bx_reshard::redistribute;
@@ -48,7 +48,7 @@ impl<P: Placing> World<P> {
     ghost use Rattle.bx_entry.specs.declared.entry.Entry.{Entry};
     ghost use Rattle.bx_entry.specs.declared.input.Input.TheVariants.{Post, Tick};
     ghost use Rattle.bx_shard.specs.States.{takes_no_memory};
-    ghost use Rattle.bx_world.specs.declared.step.AdmissionFault.TheVariants.{Refused};
+    ghost use Rattle.bx_entry.specs.declared.input.AdmitFault.TheVariants.{Refused};
     ghost use Rattle.bx_world.specs.declared.step.Step.TheVariants.{Admit, Apply, Take};
     ghost use Rattle.bx_world.specs.declared.step.StepOut.TheVariants.{Taken};
     ghost use Rattle.bx_world.specs.Outputs.{admission, application};
@@ -78,7 +78,7 @@ impl<P: Placing> World<P> {
     /// Takes the messages of a request into the list, in order. It is refused, in this order, where its documents
     /// cannot be read as messages, its moment, in milliseconds, is above the greatest that is taken, or the list would
     /// become too long.
-    pub fn admit(&mut self, alloc: Global, arrival: &Arrival) -> Result<Admitted, AdmissionFault>
+    pub fn admit(&mut self, alloc: Global, arrival: &Arrival) -> Result<Admitted, AdmitFault>
         ensures { Steps self.old (Admit (Post arrival.now)) (admission result) self.new }
     {
         self.admission.post(alloc, &*self.placing, arrival)
@@ -86,7 +86,7 @@ impl<P: Placing> World<P> {
 
     /// Takes a tick of the clock into the list; its moment is in milliseconds. It is refused, in this order, where the
     /// moment is above the greatest that is taken or the list would become too long; it takes no memory then.
-    pub fn admit_tick(&mut self, alloc: Global, moment: u64) -> Result<Admitted, AdmissionFault>
+    pub fn admit_tick(&mut self, alloc: Global, moment: u64) -> Result<Admitted, AdmitFault>
         ensures step { Steps self.old (Admit (Tick moment)) (admission result) self.new }
         ensures refused { IfSome (refusal_of (length (world_of self.old).list) (read_input (Tick moment))) (λ refusal. result ≡ Err (Refused refusal)) }
     {

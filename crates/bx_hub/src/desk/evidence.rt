@@ -12,7 +12,7 @@ use bx_connects::Watch;
 use bx_entry::{Placing, Ticket};
 use bx_history::{History, Lists};
 use bx_shard::Wakers;
-use bx_window::{Naming, Note};
+use bx_window::{Front, Naming};
 use futures::task::Waker;
 use std::marker::{Model, PhantomData};
 use std::snapshot::Snapshot;
@@ -22,7 +22,7 @@ use std::snapshot::Snapshot;
 pub(crate) struct Stood<J: Naming> {
     index: Snapshot<usize>,
     place: u64,
-    front: Snapshot<Note<J>>,
+    front: Snapshot<Front<J>>,
 }
 
 impl<J: Naming> Stood<J> {
@@ -52,7 +52,7 @@ impl<J: Naming> Stood<J> {
 #[derive(Drop)]
 pub(crate) struct Brought<J: Naming> {
     index: Snapshot<usize>,
-    note: Snapshot<Note<J>>,
+    note: Snapshot<Front<J>>,
     stays: Option<HubFault>,
     woken: Option<Woken>,
 }
@@ -61,7 +61,7 @@ impl<J: Naming> Brought<J> {
     /// How this shard stands to the note, and which wakers it put into the caller's list.
     pub(super) fn of<P: Placing>(
         desk: &Desk<J, P>,
-        note: &Note<J>,
+        note: &Front<J>,
         stays: Option<HubFault>,
         woken: Woken,
     ) -> Brought<J>
@@ -88,7 +88,7 @@ impl<J: Naming> Brought<J> {
     pub(crate) fn misplaced<P: Placing>(
         desk: &Desk<J, P>,
         index: &usize,
-        note: &Note<J>,
+        note: &Front<J>,
     ) -> Brought<J>
         requires { desk.now.shard.index ≢ index.now }
         ensures index { result.index.value ≡ index.now }
@@ -170,7 +170,7 @@ pub struct Watching<J: Naming> {
 }
 
 impl<J: Naming> Watching<J> {
-    ghost use Rattle.bx_hub.specs.Watches.{HoldsOf};
+    ghost use Rattle.bx_hub.specs.Watches.{HoldsOf, IsShut};
     ghost use Rattle.bx_connects.specs.declared.watch.Watch.TheVariants as watches;
     ghost use Rattle.bx_shard.specs.Seen.{state};
     ghost use Rattle.bx_shard.specs.States.{connect_in};
@@ -203,6 +203,19 @@ impl<J: Naming> Watching<J> {
     {
         let _ = desk;
         Watching::new(ticket, waker, said)
+    }
+
+    /// It was said that the shard was shut: there is no telling whether an answer is filed.
+    pub fn stopped(&self, ticket: &Ticket) -> Stopped<J>
+        requires ticket { self.now.ticket.value ≡ ticket.now }
+        requires shut { IsShut self.now.said.value }
+        ensures { (result.fault ≡ faults.Closed) × (result.shard.value ≡ ticket.now.shard) }
+    {
+        Stopped {
+            shard: Snapshot::of(&ticket.shard),
+            fault: HubFault::Closed,
+            of: PhantomData,
+        }
     }
 
     /// No shard of the ticket's index was found: another one stood under its lock, to which the ticket is unknown.

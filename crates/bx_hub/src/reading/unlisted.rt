@@ -1,20 +1,20 @@
 //! Why nothing was listed.
 ghost use Rattle.std.specs.Prelude.{◌≡◌, None, true, false};
-ghost use Rattle.bx_hub.specs.Faults.{of_reading};
+ghost use Rattle.bx_hub.specs.Faults.{of_admission};
 ghost use Rattle.bx_hub.specs.declared.fault.PostFault.TheVariants as faults;
 
 use crate::admission::Admission;
 use crate::desk::Stood;
 use crate::fault::PostFault;
-use bx_entry::ReadError;
+use bx_entry::AdmitFault;
 use bx_window::Naming;
 use std::fmt;
 use std::snapshot::Snapshot;
 use std::sync::Wait;
 
-/// Why nothing was listed. None is made but by a look at admission under its lock, or where documents are read, which comes before
-/// that. For contracts alone it tells whether the hub was closed then and, where the window is full, a shard that stood below its
-/// second batch when it was looked at.
+/// Why nothing was listed. None is made but by a look at admission under its lock, or where documents are read, which
+/// comes before that. For contracts alone it tells whether the hub was closed then and, where the window is full, a
+/// shard that stood below its second batch when it was looked at.
 #[derive(Drop)]
 pub struct Unlisted<J: Naming> {
     fault: PostFault,
@@ -27,8 +27,8 @@ pub struct Unlisted<J: Naming> {
 impl<J: Naming> Unlisted<J> {
     ghost use Rattle.bx_hub.specs.Lags.{IsLagging};
 
-    /// This admission refused it. Where that is closed, the fault says so, and else it does not; where its window is full, this shard
-    /// stood below the second batch.
+    /// This admission refused it. Where that is closed, the fault says so, and else it does not; where its window is
+    /// full, this shard stood below the second batch.
     pub(crate) fn of<R: Wait + Drop>(
         admission: &Admission<J, R>,
         fault: PostFault,
@@ -47,8 +47,8 @@ impl<J: Naming> Unlisted<J> {
     }
 
     /// The messages of a request were not read.
-    pub(super) fn unread(fault: ReadError) -> Unlisted<J>
-        ensures { (result.fault ≡ of_reading fault) × (result.lag ≡ None) × (result.closed.value ≡ false) }
+    pub(super) fn unread(fault: AdmitFault) -> Unlisted<J>
+        ensures { (result.fault ≡ of_admission fault) × (result.lag ≡ None) × (result.closed.value ≡ false) }
     {
         Unlisted {
             fault: PostFault::from(fault),

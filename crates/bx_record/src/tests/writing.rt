@@ -2,7 +2,7 @@
 ghost use Rattle.std.specs.Prelude.{◌≡◌, ◌==◌, [], codes, if◌then◌else◌};
 
 use crate::writer::SOON;
-use crate::{Chunk, CountedFile, End, Front, Out, Source, Taken, Written, write_out};
+use crate::{Chunk, CountedFile, End, Extent, Out, Source, Taken, Written, write_out};
 use std::io;
 use std::io::Write;
 use std::sync::atomic::{AtomicBool, Ordering};
@@ -14,7 +14,7 @@ struct Stage {
     count: u8,
 }
 
-impl Front for Stage {
+impl Extent for Stage {
     ghost text = { λ it. if it.count == 0 then [] else (if it.count == 1 then codes "one\ntwo\n" else codes "one\ntwo\nthree\n") };
 
     ghost is_copy = { λ it copy. copy.count ≡ it.count };
@@ -37,7 +37,7 @@ struct Lines<'a> {
 }
 
 impl<'a> Source for Lines<'a> {
-    type Front = Stage;
+    type Extent = Stage;
 
     type Fault = u8;
 

@@ -99,14 +99,14 @@ pub fn post<J: Naming, H: Wait + Drop, R: Wait>(
     place: u64,
     body: &str,
 ) -> Result<PostEnd, Unlike> {
-    let refused = match hub.post(rt, alloc, pass, arrival(alloc, body)?) {
+    let (back, why) = match hub.post(rt, alloc, pass, arrival(alloc, body)?) {
         Ok(posted) => return end_of(alloc, said, place, posted),
         Err(refused) => refused,
     };
-    if refused.fault() != PostFault::Memory {
+    if why.fault() != PostFault::Memory {
         return Err(Unlike::Wrong("not posted"));
     }
-    match hub.post(rt, alloc, pass, refused.into_arrival()) {
+    match hub.post(rt, alloc, pass, back) {
         Ok(posted) => end_of(alloc, said, place, posted),
         Err(_) => Err(Unlike::Wrong("refused once more")),
     }

@@ -77,7 +77,11 @@ fn polled<J: Naming, H: Wait + Drop, R: Wait>(
     held: &mut PendingAnswer<J>,
 ) -> Poll<Result<Option<Answer>, HubFault>> {
     let (polled, _left) = task.enter(|cx| held.poll(rt, alloc, hub, cx));
-    polled
+    match polled {
+        Poll::Ready(Ok(answer)) => Poll::Ready(Ok(answer)),
+        Poll::Ready(Err(stopped)) => Poll::Ready(Err(stopped.fault())),
+        Poll::Pending => Poll::Pending,
+    }
 }
 
 // What a poll gives that is to give nothing.

@@ -139,6 +139,10 @@ impl<J: Naming, H: Wait + Drop, R: Wait + Copy + Drop> Bench<J, H, R> {
         let (polled, _left) = self
             .task(task)
             .enter(|cx| held.poll(&self.rt, self.alloc, &*self.hub, cx));
-        polled
+        match polled {
+            Poll::Ready(Ok(answer)) => Poll::Ready(Ok(answer)),
+            Poll::Ready(Err(stopped)) => Poll::Ready(Err(stopped.fault())),
+            Poll::Pending => Poll::Pending,
+        }
     }
 }

@@ -2,7 +2,7 @@ use Rattle.std.proofs.Common.{◌≡◌, ◌++◌, ◌∷◌, [], ◌∙◌, Err
 use Rattle.std.proofs.lemmas.List.{length-map, map-append}
 use Rattle.bx_entry.specs.Requests.{read_input}
 use Rattle.bx_world.specs.Words.{admission, Steps, setup_of, world_of}
-use Rattle.bx_world.specs.declared.step.{AdmissionFault.AdmissionFault, Admitted.Admitted}
+use Rattle.bx_entry.specs.declared.{entry.Admitted.Admitted, input.AdmitFault.AdmitFault}
 use Rattle.bx_world.specs.declared.step.Step.TheVariants.{Admit}
 use Rattle.bx_fanout.specs.Stages.{seen_out}
 use Rattle.bx_fanout.proofs.Admitted.{intake-admitted, intake-of, intake-refused}
@@ -30,7 +30,7 @@ pub returns-in-Err-Refused-clause-intake : goal.returns-in-Err-Refused-clause-in
 returns-in-Err-Refused-clause-intake g c =
     let w = c.args.world.now in
     let v = c.admit.new.world in
-    let steps = subst (λ (f : AdmissionFault). Steps w (Admit c.args.input.now) (admission (Err f)) v) c.in-Err-Refused.field-0-is c.in-Err-Refused.ensures in
+    let steps = subst (λ (f : AdmitFault). Steps w (Admit c.args.input.now) (admission (Err f)) v) c.in-Err-Refused.field-0-is c.in-Err-Refused.ensures in
     let inputs = map read_input c.args.inputs.now in
     let added = map seen_out c.args.added.now in
     let made = c.current_of-in-Err-Refused.ensures in

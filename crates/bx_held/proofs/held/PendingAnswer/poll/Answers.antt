@@ -5,7 +5,7 @@ use Rattle.bx_entry.specs.declared.entry.Ticket.{Ticket}
 use Rattle.bx_hub.specs.Watches.{IsToldOf}
 use Rattle.bx_window.proofs.Fronts.{prefix_trans}
 use Rattle.bx_held.proofs.Waiting.{on_pending, waited_for}
-use Rattle.bx_held.specs.Outputs.{IsGiven}
+use Rattle.bx_held.specs.Outputs.{IsGiven, output_of}
 use Rattle.bx_held.proofs.held.PendingAnswer.poll.Goals as goal
 
 pub returns-in-Some-ask-clause-value : goal.returns-in-Some-ask-clause-value
@@ -13,7 +13,7 @@ returns-in-Some-ask-clause-value g c done =
     let config = g.J.Naming.config in
     let end = c.ask-2.new.self.pass in
     let before = prefix_trans c.args.self.now.pass c.ask.new.self.pass end c.ask.ensures.seen c.ask-2.ensures.seen in
-    let given = subst (λ (t : Ticket). IsGiven (setup_of config g.J.Naming.placing) t end c.in-Some-ask.output)
+    let given = subst (λ (t : Ticket). IsGiven (setup_of config g.J.Naming.placing) t end (output_of c.in-Some-ask.output))
     (c.ask-2.ensures.same.0 ∙ c.ask.ensures.same.0) c.in-Some-ask.ensures.given in
     (end, before, given)
 

@@ -10,7 +10,7 @@ use Rattle.bx_registry.specs.Slots.{admitted_slots}
 use Rattle.bx_hub.specs.Listables.{input_of}
 use Rattle.bx_hub.specs.Records.{inputs_by}
 use Rattle.bx_hub.specs.Posts.{AreSlotsAt, IsAdmittedAt}
-use Rattle.bx_hub.specs.declared.admission.Receipt.{Receipt}
+use Rattle.bx_entry.specs.declared.entry.Admitted.{Admitted}
 use Rattle.bx_hub.proofs.Posts.{admitted_by, entries_many, none_added, slots_by, unpublished_result}
 use Rattle.bx_hub.proofs.Records.{list_by_one, none_by}
 use Rattle.bx_hub.proofs.admission.Admission.list.Goals as goal
@@ -55,7 +55,7 @@ returns-clause-admitted g c =
     let is : d.registry.list ≡ list_of pass = d.listed ∙ ap list_of
     (c.plan.ensures.same.0 ∙ c.tell_beyond.ensures.same ∙ sym c.tell_beyond.ensures.whole) in
     IfOk-weaker c.publish.result (λ a. (a ≡ record { first = p.batch.first; slots = p.slots }) × (list_of new ≡ list_of pass ++ p.elements)) (λ a. IsAdmittedAt input a.first c.args.pass.now new)
-    (λ a t. subst (λ (x : Receipt). IsAdmittedAt input x.first c.args.pass.now new) (sym t.0)
+    (λ a t. subst (λ (x : Admitted). IsAdmittedAt input x.first c.args.pass.now new) (sym t.0)
     (admitted_by input d.registry p c.args.pass.now pass new is c.in_ok-plan.ensures.continues c.in_ok-plan.ensures.elements
     (ap (λ (xs : List Listed). refusal_of (length xs) input) d.listed ∙ c.in_ok-plan.ensures.allowed) seen t.1))
     c.publish.ensures.taken
@@ -73,7 +73,7 @@ returns-clause-slots g c =
     let first : p.batch.first ≡ length (list_of pass) = c.in_ok-plan.ensures.continues.first ∙ ap (λ (xs : List Listed). length xs) (d.listed ∙ seen) in
     let slots = subst (λ (xs : List Listed). p.slots ≡ admitted_slots setup xs p.elements) seen c.in_ok-plan.ensures.slots in
     IfOk-weaker c.publish.result (λ a. (a ≡ record { first = p.batch.first; slots = p.slots }) × (list_of new ≡ list_of pass ++ p.elements)) (λ a. AreSlotsAt setup input a.first new a.slots)
-    (λ a t. subst (λ (x : Receipt). AreSlotsAt setup input x.first new x.slots) (sym t.0) (slots_by setup input p pass new first slots c.in_ok-plan.ensures.elements t.1)) c.publish.ensures.taken
+    (λ a t. subst (λ (x : Admitted). AreSlotsAt setup input x.first new x.slots) (sym t.0) (slots_by setup input p pass new first slots c.in_ok-plan.ensures.elements t.1)) c.publish.ensures.taken
 
 pub returns-clause-refused : goal.returns-clause-refused
 returns-clause-refused g c =

@@ -3,8 +3,8 @@ use Rattle.std.specs.Vec.Iter.{into_iter_items}
 use Rattle.futures.specs.Poll.{IfReady}
 use Rattle.futures.specs.declared.task.Poll.{Poll}
 use Rattle.bx_window.specs.Steps.{setup_of}
-use Rattle.bx_held.specs.Outputs.{MayGive}
-use Rattle.bx_hub.specs.declared.fault.HubFault.{HubFault}
+use Rattle.bx_held.specs.Outputs.{MayGive, output_of}
+use Rattle.bx_hub.specs.declared.desk.evidence.Stopped.{Stopped}
 use Rattle.bx_message.specs.declared.reply.{Answer.Answer, Item.Item}
 use Rattle.bx_service.specs.Gatherings.{AreAll}
 use Rattle.bx_service.proofs.GatheringLemmas.{all_given, all_awaited, while_pending}
@@ -26,8 +26,8 @@ returns-clause-same g c =
     let old = c.args.self.now in
     let held = c.in-Some.held in
     let answer = c.in-Some-2.answer in
-    let ready = subst (λ (p : Poll (Result (Option Answer) HubFault)). IfReady p (MayGive setup held.ticket held.pass held.is_done)) c.in-Ready.is c.poll-polled.ensures.value in
-    let may = subst (λ (r : Result (Option Answer) HubFault). MayGive setup held.ticket held.pass held.is_done r) c.in_ok-answer.was ready in
+    let ready = subst (λ (p : Poll (Result (Option Answer) (Stopped g.row.J.Denot))). IfReady p (λ o. MayGive setup held.ticket held.pass held.is_done (output_of o))) c.in-Ready.is c.poll-polled.ensures.value in
+    let may = subst (λ (r : Result (Option Answer) (Stopped g.row.J.Denot)). MayGive setup held.ticket held.pass held.is_done (output_of r)) c.in_ok-answer.was ready in
     rw c.in-Some.is (λ all given. all_given setup old.pass old.items.items (into_iter_items old.slots) all held.ticket
     held.pass held.is_done answer
     (subst (λ (o : Option Answer). MayGive setup held.ticket held.pass held.is_done (Ok o)) c.in-Some-2.is may)
