@@ -303,6 +303,15 @@ def audiences():
     yield f"{count} sessions hear a publish", script, expected
 
 
+def holds():
+    """Yields connects that are held at once, more than ten thousand of one shard, each of a session of its own."""
+    count = 10_001
+    script = "0 P [<handshake>]\n" * count + "".join(f"0 P [<connect {number:x}>]\n" for number in range(1, count + 1))
+    expected = "".join(f"{number} 200 [<opened {number:x}>]\n" for number in range(1, count + 1))
+    expected += "".join(f"{count + number} held\n" for number in range(1, count + 1))
+    yield f"{count} held connects", script, expected, "1 1 30000 0 10000"
+
+
 def long_arrays():
     """Yields a publish whose body is as long as may be, for an array of half a million numbers, and one that is a byte longer."""
     front, end = spelled('[{"channel":"/a/b","clientId":"<client 1>","data":['), "]}]"
@@ -317,5 +326,5 @@ def long_arrays():
 
 def made():
     """Yields the name of each row, its script and what it must print, in words, and then its arguments where it names some."""
-    for part in (ends, long_lines, million_lines, fronts, nested, messages, patterns, overflows, limits, riders, crowds, audiences, long_arrays):
+    for part in (ends, long_lines, million_lines, fronts, nested, messages, patterns, overflows, limits, riders, crowds, audiences, holds, long_arrays):
         yield from part()

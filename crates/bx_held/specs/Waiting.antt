@@ -1,8 +1,8 @@
 -- Who waits for a connect.
-use Rattle.std.specs.Prelude.{◌≡◌, ◌⊎◌, true, Option, IsSomeAnd}
-use Rattle.bx_connects.specs.declared.watch.Watch.TheVariants.{Stored}
+use Rattle.std.specs.Prelude.{ℕ, ◌≡◌, ◌⊎◌, true, Option, IsSomeAnd}
+use Rattle.bx_connects.specs.declared.watch.Watch.TheVariants.{Stored, Unknown}
 use Rattle.bx_entry.specs.declared.entry.Ticket.{Ticket}
-use Rattle.bx_hub.specs.Watches.{IsSaid}
+use Rattle.bx_hub.specs.Watches.{IsSaid, IsToldOf}
 use Rattle.bx_hub.specs.declared.desk.evidence.Watching.{Watching}
 use Rattle.futures.specs.Task.{Wakes}
 use Rattle.futures.specs.declared.task.context.Context.{Context}
@@ -23,3 +23,8 @@ module _ {J : Type 0} where
   -- a waker of the task that polls was left under the ticket, or the task is polled again in any case
   abbrev pub IsWaitedFor : Ticket → Option (Watching J) → Context → Context → Type 0
   IsWaitedFor ticket watching old new = IsPolledAgain new ⊎ IsSomeAnd watching (IsLeftBy old ticket)
+
+  -- of a waker that was brought for the ticket it was said that no connect is known, among so many shards
+  pub record IsUnknown (shards : ℕ) (ticket : Ticket) (watching : Option (Watching J)) : Type 0 where
+    pub waker : Waker
+    pub told : IsToldOf shards ticket waker (Unknown waker) watching

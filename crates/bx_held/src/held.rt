@@ -1,13 +1,13 @@
 //! What waits for an answer: each poll asks the hub, and leaves a waker beside the connect while the answer is not
 //! filed.
-ghost use Rattle.std.specs.Prelude.{◌≡◌, ◌<◌, true, false, length, Option, None, Result, Ok, IfErr, IfSome, IfNone};
+ghost use Rattle.std.specs.Prelude.{◌≡◌, ◌≢◌, ◌<◌, true, false, length, Option, None, Result, Ok, IfErr, IfSome, IfNone};
 ghost use mathlib.Core.List.{IsPrefix};
 ghost use Rattle.futures.specs.Poll.{IfReady, OnPending};
 ghost use Rattle.futures.specs.Task.{Covers, Keeps};
 ghost use Rattle.futures.specs.declared.task.Poll.TheVariants as polls;
 ghost use Rattle.bx_window.specs.Steps.{list_of, setup_of};
 ghost use Rattle.bx_held.specs.Outputs.{HasNone, IsGiven, MayGive, output_of};
-ghost use Rattle.bx_held.specs.Waiting.{IsWaitedFor};
+ghost use Rattle.bx_held.specs.Waiting.{IsUnknown, IsWaitedFor};
 ghost use Rattle.bx_message.specs.declared.reply.Answer.{Answer};
 ghost use Rattle.bx_hub.specs.declared.fault.HubFault.{HubFault};
 
@@ -63,8 +63,8 @@ impl<J: Naming> PendingAnswer<J> {
         ensures seen { IsPrefix self.old.pass self.new.pass }
         ensures same { (self.new.ticket ≡ self.old.ticket) × (self.new.source ≡ self.old.source) }
         ensures given { IfSome result (λ o. IsGiven (setup_of J.config J.placing) self.new.ticket self.new.pass (output_of o)) }
-        ensures own { IfSome result (λ o. IfErr o (λ s. s.shard.value ≡ self.new.ticket.shard)) }
-        ensures done { IfSome result (λ _. self.new.is_done ≡ true) }
+        ensures own { IfSome result (λ o. IfErr o (λ s. s.ticket.value ≡ self.new.ticket)) }
+        ensures done { IfSome result (λ o. (self.new.is_done ≡ true) × (o ≢ Ok None)) }
         ensures none { IfNone result (HasNone (setup_of J.config J.placing) self.new.ticket self.new.pass) }
         ensures pending { IfNone result (self.new.is_done ≡ self.old.is_done) }
     {
@@ -81,10 +81,10 @@ impl<J: Naming> PendingAnswer<J> {
         }
     }
 
-    /// The output, once the hub has it: the answer; or none where no connect is held under the ticket and no answer is
-    /// filed, as after its output; or why the ticket's shard was not brought up, as that or its shut lock said. While
-    /// there is none, a waker of the task that polls was left beside the connect, which the token says that comes with
-    /// it, or that task is polled again in any case.
+    /// The output, once the hub has it: the answer; or none where no connect is known under the ticket, which the token
+    /// says that comes with it, and after its output; or why the ticket's shard was not brought up, as that or its shut
+    /// lock said. While there is none, a waker of the task that polls was left beside the connect, which the token says
+    /// too, or that task is polled again in any case.
     pub fn poll<P: Placing + Drop, G: Gate + Drop, H: Wait + Drop, R: Wait>(
         &mut self,
         rt: &R,
@@ -97,7 +97,9 @@ impl<J: Naming> PendingAnswer<J> {
     )
         ensures value { IfReady result.0 (λ o. MayGive (setup_of J.config J.placing) self.old.ticket self.old.pass
             self.old.is_done (output_of o)) }
-        ensures own { IfReady result.0 (λ o. IfErr o (λ s. s.shard.value ≡ self.old.ticket.shard)) }
+        ensures own { IfReady result.0 (λ o. IfErr o (λ s. s.ticket.value ≡ self.old.ticket)) }
+        ensures unknown { self.old.is_done ≡ false → IfReady result.0
+            (λ o. o ≡ Ok None → IsUnknown J.config.shards self.old.ticket result.1) }
         ensures same { OnPending result.0 ((output : Result (Option Answer) HubFault)
             → MayGive (setup_of J.config J.placing) self.new.ticket self.new.pass self.new.is_done output
             → MayGive (setup_of J.config J.placing) self.old.ticket self.old.pass self.old.is_done output) }
@@ -130,7 +132,7 @@ impl<J: Naming> PendingAnswer<J> {
             Watch::Ready(_) => {}
             Watch::Unknown(_) => {
                 self.is_done = true;
-                return (Poll::Ready(Ok(None)), None);
+                return (Poll::Ready(Ok(None)), watching);
             }
             Watch::Shut(_) => {
                 let Some(shut) = watching else { unreachable!() };

@@ -1,5 +1,5 @@
 -- How a shard stands after a change.
-use Rattle.std.proofs.Common.{ℕ, ◌≡◌, ◌≢◌, Bool, true, false, not, cond, Option, Some, None, refl, sym, ◌∙◌, ap, true≢false}
+use Rattle.std.proofs.Common.{ℕ, ◌≡◌, ◌≢◌, Bool, true, false, not, cond, Option, Some, None, refl, sym, ◌∙◌, ap}
 use Rattle.bx_connects.specs.Connects.{is_filed_below, unswept}
 use Rattle.bx_connects.specs.declared.connects.ConnectState.{ConnectState}
 use Rattle.bx_shard.specs.States.{State, Swept, connect_in}

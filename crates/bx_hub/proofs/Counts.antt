@@ -1,5 +1,5 @@
 -- How many shards stay behind, with one shard more.
-use Rattle.std.proofs.Common.{ℕ, ◌≡◌, ◌≤◌, ◌+◌, List, [], ◌∷◌, ◌++◌, length, Option, Some, None, refl, ap, ◌∙◌, arith}
+use Rattle.std.proofs.Common.{◌≡◌, ◌≤◌, ◌+◌, List, [], ◌∷◌, ◌++◌, length, Option, Some, None, refl, ap, ◌∙◌, arith}
 use Rattle.bx_hub.specs.Faults.{count_of, one_more}
 use Rattle.bx_hub.specs.Lagging.{lagging_of}
 use Rattle.bx_hub.specs.declared.fault.{HubFault.HubFault, Lagging.Lagging}

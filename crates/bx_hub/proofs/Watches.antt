@@ -16,7 +16,7 @@ holds : (shut : Bool) (waker : Waker) (c : Option ConnectState)
     → HoldsOf shut waker (with_waker shut waker c) (watched shut waker c)
 holds true waker None = (refl, refl)
 holds false waker None = (refl, refl)
-holds true waker (Some (Held session deadline older)) = (refl, refl)
+holds true waker (Some (Held session deadline older)) = (refl, refl, refl)
 holds false waker (Some (Held session deadline older)) = refl
 holds true waker (Some (Filed session place answer)) = (refl, refl)
 holds false waker (Some (Filed session place answer)) = (refl, refl)

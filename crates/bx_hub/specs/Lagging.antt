@@ -1,5 +1,5 @@
 -- What stopped each shard that stays behind, and how many those are.
-use Rattle.std.specs.Prelude.{ℕ, ◌≡◌, List, [], ◌∷◌, length, Option, Some, None}
+use Rattle.std.specs.Prelude.{List, [], ◌∷◌, Option, Some, None}
 use Rattle.bx_hub.specs.Faults.{one_more}
 use Rattle.bx_hub.specs.declared.fault.{HubFault.HubFault, Lagging.Lagging}
 

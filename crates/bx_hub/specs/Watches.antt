@@ -9,12 +9,13 @@ use Rattle.bx_hub.specs.declared.desk.evidence.Watching.{Watching}
 use Rattle.futures.specs.declared.task.waker.Waker.{Waker}
 
 -- What is said of a waker that was brought for a connect, by whether the shard was shut and what then became of the
--- connect: it lies there; or it comes back, since an answer is filed, or no connect is known, or the shard was shut.
+-- connect: it lies there; or it comes back, since an answer is filed, or no connect is known, or the shard was shut and
+-- no answer is filed.
 abbrev pub HoldsOf : Bool → Waker → Option ConnectState → Watch → Type 0
 HoldsOf shut waker connect (Stored older) = waker_of connect ≡ Some waker
 HoldsOf shut waker connect (Ready given) = (is_some (filed_answer connect) ≡ true) × (given ≡ waker)
 HoldsOf shut waker connect (Unknown given) = (connect ≡ None) × (given ≡ waker)
-HoldsOf shut waker connect (Shut given) = (shut ≡ true) × (given ≡ waker)
+HoldsOf shut waker connect (Shut given) = (shut ≡ true) × (filed_answer connect ≡ None) × (given ≡ waker)
 
 -- a waker that is not stored comes back itself
 abbrev pub IsBack : Waker → Watch → Type 0

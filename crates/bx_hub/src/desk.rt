@@ -311,6 +311,7 @@ impl<J: Naming, P: Placing> Desk<J, P> {
         ensures filed { result ≡ (if nat_eq ticket.shard self.old.shard.index then filed_answer (connect_in (state P.place_of self.old.shard) ticket.place) else None) }
         ensures taken { self.new.taken ≡ (if is_some result then self.old.taken ++ ticket.place ∷ [] else self.old.taken) }
         ensures waiting { (p : ℕ) → waker_of (connect_in (state P.place_of self.new.shard) p) ≡ waker_of (connect_in (state P.place_of self.old.shard) p) }
+        ensures gone { ticket.shard ≡ self.old.shard.index → filed_answer (connect_in (state P.place_of self.new.shard) ticket.place) ≡ None }
         ensures same { (self.new.note ≡ self.old.note) × (self.new.reader ≡ self.old.reader) × (self.new.activity ≡ self.old.activity) }
         ensures stands { (self.new.shard.index ≡ self.old.shard.index) × (self.new.shard.place ≡ self.old.shard.place) }
     {
@@ -326,6 +327,7 @@ impl<J: Naming, P: Placing> Desk<J, P> {
     /// Gives the answer that is filed under a ticket; else brings the shard up to the longest note, the pass's
     /// included, and looks again. The pass then has seen no less than that note. Says which wakers it put into the
     /// list: those beside the connects that are answered.
+    #[tactic(auto, using(crate::proofs::Held::over_longer))]
     pub(crate) fn poll<G: Gate>(
         &mut self,
         alloc: Global,
@@ -340,48 +342,25 @@ impl<J: Naming, P: Placing> Desk<J, P> {
         ensures none { IfOk result.0 (λ o. IfNone o (IsLevelWithout (setup_of J.config J.placing) ticket pass.new)) }
         ensures filed { IfSome (filed_answer (connect_in (state P.place_of self.old.shard) ticket.place)) (λ a. result.0 ≡ Ok (Some a)) }
         ensures taken { self.new.taken ≡ taken_by result.0 ticket.place self.old.taken }
-        ensures stopped { IfErr result.0 (λ s. (s.shard.value ≡ ticket.shard) × IsStopped s.fault ticket.shard pass.new × IsStoppedIn self.old.activity s.fault) }
+        ensures stopped { IfErr result.0 (λ s. (s.ticket.value ≡ ticket) × IsStopped s.fault ticket.shard pass.new × IsStoppedIn self.old.activity s.fault) }
         ensures woken { AreWoken (connect_in (state P.place_of self.old.shard)) (connect_in (state P.place_of self.new.shard)) wakers.old wakers.new }
         ensures put { wakers.new ≡ wakers.old ++ result.1 }
         ensures kept { (self.new.shard.index ≡ self.old.shard.index) × (self.new.activity ≡ self.old.activity) }
     {
         let before = listed(wakers);
-        let answer = self.look(alloc, gate, pass, ticket, wakers);
-        (answer, Woken::since(before, wakers))
-    }
-
-    // Gives the answer, as `poll` does.
-    #[tactic(auto, using(crate::proofs::Held::over_longer))]
-    fn look<G: Gate>(
-        &mut self,
-        alloc: Global,
-        gate: &G,
-        pass: &mut Front<J>,
-        ticket: Ticket,
-        wakers: &mut Wakers,
-    ) -> Result<Option<Answer>, Stopped<J>>
-        requires { ticket.shard ≡ self.old.shard.index }
-        ensures seen { IsPrefix pass.old pass.new }
-        ensures answer { IfOk result (λ o. IfSome o (λ a. answer_over J.config pass.new ticket.place ≡ Some a)) }
-        ensures none { IfOk result (λ o. IfNone o (IsLevelWithout (setup_of J.config J.placing) ticket pass.new)) }
-        ensures filed { IfSome (filed_answer (connect_in (state P.place_of self.old.shard) ticket.place)) (λ a. result ≡ Ok (Some a)) }
-        ensures taken { self.new.taken ≡ taken_by result ticket.place self.old.taken }
-        ensures stopped { IfErr result (λ s. (s.shard.value ≡ ticket.shard) × IsStopped s.fault ticket.shard pass.new × IsStoppedIn self.old.activity s.fault) }
-        ensures woken { AreWoken (connect_in (state P.place_of self.old.shard)) (connect_in (state P.place_of self.new.shard)) wakers.old wakers.new }
-        ensures kept { (self.new.shard.index ≡ self.old.shard.index) × (self.new.activity ≡ self.old.activity) }
-    {
         if let Some(answer) = self.take(ticket) {
             *pass = pass.longer(&self.note);
-            return Ok(Some(answer));
+            return (Ok(Some(answer)), Woken::since(before, wakers));
         }
         match self.bring(alloc, gate, pass, wakers) {
             Ok(()) => {
                 *pass = self.note.again();
-                Ok(self.take(ticket))
+                (Ok(self.take(ticket)), Woken::since(before, wakers))
             }
             Err(fault) => {
                 *pass = self.front();
-                Err(Stopped::of(self, fault))
+                let stopped = Stopped::of(self, &ticket, fault);
+                (Err(stopped), Woken::since(before, wakers))
             }
         }
     }

@@ -28,6 +28,10 @@ use std::alloc::{AllocError, Global};
 use std::snapshot::Snapshot;
 use std::sync::{Arc, Mutex, MutexGuard, Wait};
 
+// A post that reaches another multiple of so many places lets the window go of what all shards have passed, so that its
+// memory is used again while it is in a processor's cache. (This server's choice.)
+const TRIM_EVERY: u64 = 64;
+
 /// What a caller has seen of the list of a hub: it grows with the caller's calls, and by what others tell.
 pub type Pass<J> = Front<J>;
 
@@ -111,7 +115,8 @@ impl<J: Naming, P: Placing, G: Gate + Drop, R: Wait + Drop> Hub<J, P, G, R> {
     /// documents cannot be read as messages, its door does not let these in, the hub was closed, its moment is above
     /// the greatest that is taken, the list would become too long, or the window is full. A request without messages
     /// adds nothing. To list a request uses it up; one that is refused comes back. Who waits for a connect that it
-    /// answers is woken under no shard's lock; where the window is full, under admission's.
+    /// answers is woken under no shard's lock; where the window is full, under admission's. Every so many places the
+    /// window then lets go of what all shards have passed.
     pub fn post<W: Wait>(
         &self,
         rt: &W,
@@ -142,6 +147,9 @@ impl<J: Naming, P: Placing, G: Gate + Drop, R: Wait + Drop> Hub<J, P, G, R> {
         };
         let brought = self.bring_all(rt, alloc, &*pass);
         drop(spent);
+        if first % TRIM_EVERY + slots.len() as u64 >= TRIM_EVERY {
+            self.let_go(rt);
+        }
         Ok(PostReceipt {
             first,
             slots,
@@ -233,7 +241,7 @@ impl<J: Naming, P: Placing, G: Gate + Drop, R: Wait + Drop> Hub<J, P, G, R> {
         }
     }
 
-    // Lets the window go of what all shards have passed. Where there is no memory for that, the next tick does it.
+    // Lets the window go of what all shards have passed. Where there is no memory for that, a later call does it.
     fn let_go<W: Wait>(&self, rt: &W) {
         let mut least = Least::new();
         for index in 0..self.desks.len() {
@@ -370,7 +378,7 @@ impl<J: Naming, P: Placing, G: Gate + Drop, R: Wait + Drop> Hub<J, P, G, R> {
         ensures answer { IfOk result (λ o. IfSome o (λ a. answer_over J.config pass.new ticket.place ≡ Some a)) }
         ensures none { IfOk result (λ o. IfNone o ((J.config.shards ≤ ticket.shard)
             ⊎ IsLevelWithout (setup_of J.config J.placing) ticket pass.new)) }
-        ensures stopped { IfErr result (λ s. (s.shard.value ≡ ticket.shard) × IsStopped s.fault ticket.shard pass.new) }
+        ensures stopped { IfErr result (λ s. (s.ticket.value ≡ ticket) × IsStopped s.fault ticket.shard pass.new) }
     {
         if ticket.shard >= self.desks.len() {
             return Ok(None);
@@ -394,7 +402,7 @@ impl<J: Naming, P: Placing, G: Gate + Drop, R: Wait + Drop> Hub<J, P, G, R> {
         ensures seen { IsPrefix pass.old pass.new }
         ensures answer { IfOk result.0 (λ o. IfSome o (λ a. answer_over J.config pass.new ticket.place ≡ Some a)) }
         ensures none { IfOk result.0 (λ o. IfNone o (IsLevelWithout (setup_of J.config J.placing) ticket pass.new)) }
-        ensures stopped { IfErr result.0 (λ s. (s.shard.value ≡ ticket.shard) × IsStopped s.fault ticket.shard pass.new) }
+        ensures stopped { IfErr result.0 (λ s. (s.ticket.value ≡ ticket) × IsStopped s.fault ticket.shard pass.new) }
         ensures put { wakers.new ≡ wakers.old ++ put_of result.1 }
         ensures asked { IfNone result.1 (IsErr result.0) }
     {
@@ -403,7 +411,7 @@ impl<J: Naming, P: Placing, G: Gate + Drop, R: Wait + Drop> Hub<J, P, G, R> {
                 let (answer, woken) = desk.poll(alloc, &self.gate, pass, ticket, wakers);
                 (answer, Some(woken))
             }
-            Err(other) => (Err(Stopped::misplaced(&*other, &ticket.shard)), None),
+            Err(other) => (Err(Stopped::misplaced(&*other, &ticket)), None),
         }
     }
 

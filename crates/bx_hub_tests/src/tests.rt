@@ -1,12 +1,14 @@
 //! Calls of one thread.
 use crate::steps::{LATE, Step, check_runs};
-use bx_calls::{ANSWER, CONNECT_OTHER, Found, HANDSHAKE, PUBLISH};
+use bx_calls::{ANSWER, CONNECT_OTHER, Found, HANDSHAKE, PING, PUBLISH};
 use bx_entry::{BodyError, Refusal};
 use bx_hub::{HubFault, PostFault};
 use std::test::*;
 
+const TWO_PINGS: &str = r#"[{"channel":"/meta/ping"},{"channel":"/meta/ping"}]"#;
+
 // Each over a hub of its own.
-const RUNS: [&[Step]; 6] = [
+const RUNS: [&[Step]; 8] = [
     // A body that is cut off and a late tick are refused, and one without messages adds nothing.
     &[
         Step::Refused("[", PostFault::Refused(Refusal::Body(BodyError::NotJson))),
@@ -46,7 +48,7 @@ const RUNS: [&[Step]; 6] = [
         Step::Sweep(6, 2),
         Step::Sweep(6, 0),
     ],
-    // The window keeps until a tick what all shards have passed, and longer what a paused shard lacks.
+    // Until a tick the window keeps what all shards have passed, and longer what a paused shard lacks.
     &[
         Step::Post(HANDSHAKE, 0, 0),
         Step::Post(HANDSHAKE, 1, 0),
@@ -65,6 +67,32 @@ const RUNS: [&[Step]; 6] = [
         Step::Seen(5, 8),
         Step::Tick(0, Ok(8)),
         Step::Seen(8, 9),
+    ],
+    // So it does until a post reaches another multiple of 64 places, with whichever of its messages.
+    &[
+        Step::Pings(0, 63, 0, 0),
+        Step::Post("[]", 63, 0),
+        Step::Seen(0, 63),
+        Step::Post(PING, 63, 0),
+        Step::Post("[]", 64, 0),
+        Step::Seen(64, 64),
+        Step::Pings(64, 70, 0, 0),
+        Step::PauseShard(0),
+        Step::Pings(70, 128, 0, 1),
+        Step::Post("[]", 128, 1),
+        Step::Seen(70, 128),
+        Step::ResumeShard(0),
+        Step::Pings(128, 191, 0, 0),
+        Step::Post(TWO_PINGS, 191, 0),
+        Step::Post("[]", 193, 0),
+        Step::Seen(193, 193),
+    ],
+    // An answer that is filed stays there then.
+    &[
+        Step::Hold,
+        Step::Publish,
+        Step::Pings(5, 64, 0, 0),
+        Step::Finds(2, ANSWER, Found::Wanted),
     ],
     // What a closed hub refuses, and what it still gives: the answer that was filed, once.
     &[

@@ -6,7 +6,6 @@ ghost use Rattle.futures.specs.declared.task.Poll.TheVariants.{Ready};
 ghost use Rattle.futures.specs.Task.{IsArmed, Keeps};
 ghost use Rattle.bx_service.specs.Places.{IsPlaced};
 ghost use Rattle.bx_service.specs.Polling.{CanPoll};
-ghost use Rattle.http.specs.Request.{head_of, body_of};
 ghost use Rattle.bx_cut.specs.Bodies.{texts_of};
 ghost use Rattle.bx_service.specs.Beginnings.{Begins, IsAsking, IsCollecting, says_more};
 ghost use Rattle.bx_service.specs.declared.exchange.State.TheVariants.{Refused};
@@ -25,7 +24,7 @@ use crate::response::{answer, refusal};
 use crate::route::Route;
 use crate::service::ServiceFault;
 use crate::status::{body_status, post_status};
-use crate::watch::{Outlook, Watch};
+use crate::watch::Watch;
 use bx_cut::Bodies;
 use bx_message::{Item, Status, number_of};
 use bx_pieces::Pieces;
@@ -33,9 +32,9 @@ use bx_transport::{TransportError, read_get, read_post};
 use bytes::{Buf, Bytes};
 use futures::Future;
 use futures::task::{Context, Poll};
+use http::Response;
 use http::header::{CONTENT_LENGTH, CONTENT_TYPE, HeaderValue};
 use http::request::Parts;
-use http::{Request, Response};
 use http_body::Body;
 use std::alloc::Global;
 use std::sync::Arc;
@@ -43,11 +42,11 @@ use std::sync::Arc;
 /// The future of a response.
 #[derive(Drop)]
 pub struct Exchange<S, I, B, O: Observer> {
-    alloc: Global,
+    pub(crate) alloc: Global,
     // None where there was no memory for one more handle on it and on the observer, and after the output.
-    backend: Option<Arc<S, Global>>,
-    state: State<I, B>,
-    watch: Watch<O>,
+    pub(crate) backend: Option<Arc<S, Global>>,
+    pub(crate) state: State<I, B>,
+    pub(crate) watch: Watch<O>,
 }
 
 /// How far a request is.
@@ -69,38 +68,9 @@ pub(crate) enum State<I, B> {
     Refused(Status),
 }
 
-impl<S, I: Future, B: Body, O: Observer> Exchange<S, I, B, O> {
-    pub(crate) fn new(
-        alloc: Global,
-        backend: &Arc<S, Global>,
-        limit: BodyLimit,
-        request: Request<B>,
-        outlook: &Outlook<O>,
-    ) -> Exchange<S, I, B, O>
-        requires { (body : B) → B.can_poll body }
-        ensures again { CanPoll I.can_poll B.can_poll result.state }
-        ensures begins { Begins limit (head_of request) (body_of request) result.state }
-        ensures backend { IfSome result.backend (λ handle. arc_value handle ≡ arc_value backend.now) }
-    {
-        let (parts, body) = request.into_parts();
-        let watch = outlook.ask();
-        let backend = if watch.is_told() {
-            Arc::try_clone(backend).ok()
-        } else {
-            None
-        };
-        Exchange {
-            alloc,
-            backend,
-            state: State::new(alloc, limit, parts, body),
-            watch,
-        }
-    }
-}
-
 impl<I: Future, B: Body> State<I, B> {
-    // The state of a request that came.
-    fn new(alloc: Global, limit: BodyLimit, parts: Parts, body: B) -> State<I, B>
+    /// The state of a request that came.
+    pub(crate) fn new(alloc: Global, limit: BodyLimit, parts: Parts, body: B) -> State<I, B>
         requires { B.can_poll body }
         ensures again { CanPoll I.can_poll B.can_poll result }
         ensures begins { Begins limit parts body result }

@@ -6,7 +6,7 @@ ghost use Rattle.bx_service.specs.Beginnings.{Begins};
 ghost use Rattle.std.specs.Arc.{arc_value};
 
 use crate::backend::{Backend, Unanswered};
-use crate::exchange::Exchange;
+use crate::exchange::{Exchange, State};
 use crate::limit::BodyLimit;
 use crate::observer::Observer;
 use crate::watch::Outlook;
@@ -122,12 +122,18 @@ where
         × IfSome exchange.backend (λ handle. arc_value handle ≡ arc_value service.backend) };
 
     fn call(&self, request: Request<B>) -> Self::Future {
-        Exchange::new(
-            self.alloc,
-            &self.backend,
-            self.limit,
-            request,
-            &self.outlook,
-        )
+        let (parts, body) = request.into_parts();
+        let watch = self.outlook.ask();
+        let backend = if watch.is_told() {
+            Arc::try_clone(&self.backend).ok()
+        } else {
+            None
+        };
+        Exchange {
+            alloc: self.alloc,
+            backend,
+            state: State::new(self.alloc, self.limit, parts, body),
+            watch,
+        }
     }
 }

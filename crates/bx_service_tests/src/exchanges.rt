@@ -126,6 +126,10 @@ where
         }
         Step::Small(ask, want) => asks(rt, alloc, &bench.small, task, ask, *want)?,
         Step::Read(ask, want) => asks(rt, alloc, &bench.readers, task, ask, *want)?,
+        Step::ReadText(text, want) => {
+            let ask = Ask::post(Content::Whole(*text));
+            asks(rt, alloc, &bench.readers, task, &ask, *want)?;
+        }
         Step::Wait(text) => waits(rt, alloc, service, task, *text)?,
         Step::Break(text) => breaks(rt, alloc, service, task, *text)?,
         Step::Tick(moment) => bench.tick(rt, *moment)?,

@@ -22,6 +22,8 @@ pub enum Step {
     Small(Ask, Want),
     /// A request at the readers' door is given this.
     Read(Ask, Want),
+    /// A POST of this JSON at the readers' door is given this.
+    ReadText(&'static str, Want),
     /// A POST of this JSON at a moment that is too great is given this.
     TooLate(&'static str, Want),
     /// A POST of this JSON waits, and is given up.

@@ -25,6 +25,9 @@ const LOOKS: u32 = 10_000;
 // where it would wait for admission.
 const SWEEPS: u32 = 200;
 
+// So many pings are posted ahead of a post, so that it reaches place 64 and lets the window go of what was passed.
+const AHEAD: u32 = 62;
+
 // The call that is held in shard 1.
 #[derive(Clone, Copy, Debug)]
 enum Call {
@@ -91,8 +94,8 @@ impl<C: Clock + Drop> Holding<C> {
     }
 }
 
-// Holds the call behind the entries of shard 1, until the post has admission's lock. All that a tick does from then on is to look
-// where the shards stand, and to let the window go of what they have passed; another call has nothing left to do.
+// Holds the call behind the entries of shard 1, until the post has admission's lock. All that a tick or a post does from then on is to
+// look where the shards stand, and to let the window go of what they have passed; a question has nothing left to do.
 impl<C: Clock + Drop> Gate for Holding<C> {
     fn before(&self, _shard: usize) {
         let asked = self.flags.asked.load(Ordering::SeqCst);
@@ -133,8 +136,15 @@ fn calls<J: Naming, P: Placing, G: Gate + Drop, H: Wait + Drop, C: Clock + Drop,
     flags: &Flags<C>,
     call: Call,
 ) -> bool {
-    flags.holds_call.store(true, Ordering::SeqCst);
     let mut pass = hub.pass();
+    if let Call::Post = call {
+        for _ in 0..AHEAD {
+            if post(rt, alloc, hub, &mut pass, PING).is_err() {
+                return false;
+            }
+        }
+    }
+    flags.holds_call.store(true, Ordering::SeqCst);
     match call {
         Call::Tick => hub.tick(rt, alloc, &mut pass, 0).is_ok(),
         Call::Post => post(rt, alloc, hub, &mut pass, PING).is_ok(),

@@ -114,36 +114,45 @@ impl<J: Naming> Brought<J> {
     }
 }
 
-/// Why there is no telling whether an answer is filed: the fault holds of the shard of this index.
+/// Why no answer is told of under this ticket: the fault holds of its shard. A closed or paused shard has filed none.
 #[derive(Drop)]
 pub struct Stopped<J: Naming> {
-    shard: Snapshot<usize>,
+    ticket: Snapshot<Ticket>,
     fault: HubFault,
     of: PhantomData<J>,
 }
 
 impl<J: Naming> Stopped<J> {
+    ghost use Rattle.bx_connects.specs.Connects.{filed_answer};
+    ghost use Rattle.bx_hub.specs.declared.activity.Activity.TheVariants.{Active};
+    ghost use Rattle.bx_shard.specs.Seen.{state};
+    ghost use Rattle.bx_shard.specs.States.{connect_in};
+
     /// This shard is stopped by this.
-    pub(super) fn of<P: Placing>(desk: &Desk<J, P>, fault: HubFault) -> Stopped<J>
+    pub(super) fn of<P: Placing>(desk: &Desk<J, P>, ticket: &Ticket, fault: HubFault) -> Stopped<J>
+        requires own { ticket.now.shard ≡ desk.now.shard.index }
         requires stopped { IsStopped fault desk.now.shard.index desk.now.reader }
         requires activity { IsStoppedIn desk.now.activity fault }
         requires at { IsAt fault desk.now.shard.place }
-        ensures { (result.fault ≡ fault) × (result.shard.value ≡ desk.now.shard.index) }
+        requires unfiled { (desk.now.activity ≡ Active → ⊥)
+            → filed_answer (connect_in (state P.place_of desk.now.shard) ticket.now.place) ≡ None }
+        ensures { (result.fault ≡ fault) × (result.ticket.value ≡ ticket.now) }
     {
+        let _ = desk;
         Stopped {
-            shard: Snapshot::of(&desk.index()),
+            ticket: Snapshot::of(ticket),
             fault,
             of: PhantomData,
         }
     }
 
-    /// No shard of this index was found: another one stood under its lock.
-    pub(crate) fn misplaced<P: Placing>(desk: &Desk<J, P>, index: &usize) -> Stopped<J>
-        requires { desk.now.shard.index ≢ index.now }
-        ensures { (result.fault ≡ faults.Misplaced desk.now.shard.index) × (result.shard.value ≡ index.now) }
+    /// No shard of the ticket's index was found: another one stood under its lock.
+    pub(crate) fn misplaced<P: Placing>(desk: &Desk<J, P>, ticket: &Ticket) -> Stopped<J>
+        requires { desk.now.shard.index ≢ ticket.now.shard }
+        ensures { (result.fault ≡ faults.Misplaced desk.now.shard.index) × (result.ticket.value ≡ ticket.now) }
     {
         Stopped {
-            shard: Snapshot::of(index),
+            ticket: Snapshot::of(ticket),
             fault: HubFault::Misplaced {
                 found: desk.index(),
             },
@@ -151,7 +160,7 @@ impl<J: Naming> Stopped<J> {
         }
     }
 
-    /// Why there is no telling.
+    /// Why none is told of.
     pub fn fault(&self) -> HubFault
         ensures { result ≡ self.now.fault }
     {
@@ -205,14 +214,14 @@ impl<J: Naming> Watching<J> {
         Watching::new(ticket, waker, said)
     }
 
-    /// It was said that the shard was shut: there is no telling whether an answer is filed.
+    /// It was said that the shard was shut, where no answer was filed.
     pub fn stopped(&self, ticket: &Ticket) -> Stopped<J>
         requires ticket { self.now.ticket.value ≡ ticket.now }
         requires shut { IsShut self.now.said.value }
-        ensures { (result.fault ≡ faults.Closed) × (result.shard.value ≡ ticket.now.shard) }
+        ensures { (result.fault ≡ faults.Closed) × (result.ticket.value ≡ ticket.now) }
     {
         Stopped {
-            shard: Snapshot::of(&ticket.shard),
+            ticket: Snapshot::of(ticket),
             fault: HubFault::Closed,
             of: PhantomData,
         }

@@ -14,20 +14,8 @@ const PUBLISH: Step = Step::Post(texts::PUBLISH, texts::PUBLISHED);
 /// session that is opened then is the first one.
 pub const PUBLISH_NOTHING: Run = Run {
     first: &[
-        Step::Read(
-            Ask {
-                content: Content::Whole(texts::HANDSHAKE_AND_PUBLISH),
-                ..POST
-            },
-            FORBIDDEN,
-        ),
-        Step::Read(
-            Ask {
-                content: Content::Whole(texts::PUBLISH_AND_HANDSHAKE),
-                ..POST
-            },
-            FORBIDDEN,
-        ),
+        Step::ReadText(texts::HANDSHAKE_AND_PUBLISH, FORBIDDEN),
+        Step::ReadText(texts::PUBLISH_AND_HANDSHAKE, FORBIDDEN),
         Step::Read(
             Ask {
                 kind: FORM,
@@ -52,48 +40,12 @@ pub const PUBLISH_NOTHING: Run = Run {
             },
             FORBIDDEN,
         ),
-        Step::Read(
-            Ask {
-                content: Content::Whole(r#"{"channel":"/a/b","data":7}"#),
-                ..POST
-            },
-            FORBIDDEN,
-        ),
-        Step::Read(
-            Ask {
-                content: Content::Whole(r#"[{"channel":"a"}]"#),
-                ..POST
-            },
-            FORBIDDEN,
-        ),
-        Step::Read(
-            Ask {
-                content: Content::Whole(r#"[{"channel":"/meta"}]"#),
-                ..POST
-            },
-            FORBIDDEN,
-        ),
-        Step::Read(
-            Ask {
-                content: Content::Whole(r#"[{"channel":"/a"}"#),
-                ..POST
-            },
-            BAD,
-        ),
-        Step::Read(
-            Ask {
-                content: Content::Whole(r#"[{"channel":"/a"},7]"#),
-                ..POST
-            },
-            BAD,
-        ),
-        Step::Read(
-            Ask {
-                content: Content::Whole(r#"[{"channel":"/a"},{}]"#),
-                ..POST
-            },
-            BAD,
-        ),
+        Step::ReadText(r#"{"channel":"/a/b","data":7}"#, FORBIDDEN),
+        Step::ReadText(r#"[{"channel":"a"}]"#, FORBIDDEN),
+        Step::ReadText(r#"[{"channel":"/meta"}]"#, FORBIDDEN),
+        Step::ReadText(r#"[{"channel":"/a"}"#, BAD),
+        Step::ReadText(r#"[{"channel":"/a"},7]"#, BAD),
+        Step::ReadText(r#"[{"channel":"/a"},{}]"#, BAD),
         Step::Read(
             Ask {
                 kind: FORM,
@@ -133,20 +85,8 @@ pub const PUBLISH_NOTHING: Run = Run {
             },
             Want::Status(413),
         ),
-        Step::Read(
-            Ask {
-                content: Content::Whole("[]"),
-                ..POST
-            },
-            Want::Json("[]"),
-        ),
-        Step::Read(
-            Ask {
-                content: Content::Whole(texts::HANDSHAKE),
-                ..POST
-            },
-            Want::Json(texts::HANDSHAKEN),
-        ),
+        Step::ReadText("[]", Want::Json("[]")),
+        Step::ReadText(texts::HANDSHAKE, Want::Json(texts::HANDSHAKEN)),
     ],
     held: None,
     last: &[],
@@ -157,13 +97,7 @@ pub const PUBLISH_NOTHING: Run = Run {
 pub const HEAR: Run = Run {
     first: &[
         Step::Post(texts::HANDSHAKE, texts::HANDSHAKEN),
-        Step::Read(
-            Ask {
-                content: Content::Whole(texts::HANDSHAKE),
-                ..POST
-            },
-            Want::Json(texts::SECOND_HANDSHAKEN),
-        ),
+        Step::ReadText(texts::HANDSHAKE, Want::Json(texts::SECOND_HANDSHAKEN)),
         Step::Read(
             Ask {
                 kind: FORM,
@@ -173,27 +107,9 @@ pub const HEAR: Run = Run {
             FORBIDDEN,
         ),
         PUBLISH,
-        Step::Read(
-            Ask {
-                content: Content::Whole(texts::CONNECT_AT_ONCE),
-                ..POST
-            },
-            Want::Json(texts::CONNECTED),
-        ),
-        Step::Read(
-            Ask {
-                content: Content::Whole(texts::SUBSCRIBE),
-                ..POST
-            },
-            Want::Json(texts::SUBSCRIBED),
-        ),
-        Step::Read(
-            Ask {
-                content: Content::Whole(texts::PUBLISH),
-                ..POST
-            },
-            FORBIDDEN,
-        ),
+        Step::ReadText(texts::CONNECT_AT_ONCE, Want::Json(texts::CONNECTED)),
+        Step::ReadText(texts::SUBSCRIBE, Want::Json(texts::SUBSCRIBED)),
+        Step::ReadText(texts::PUBLISH, FORBIDDEN),
         Step::Read(
             Ask {
                 method: "GET",
@@ -202,26 +118,11 @@ pub const HEAR: Run = Run {
             },
             FORBIDDEN,
         ),
-        Step::Read(
-            Ask {
-                content: Content::Whole(texts::PUBLISH_SERVICE),
-                ..POST
-            },
-            Want::Json(texts::PUBLISHED_SERVICE),
-        ),
-        Step::Read(
-            Ask {
-                content: Content::Whole(texts::CONNECT_AT_ONCE),
-                ..POST
-            },
-            Want::Json(texts::CONNECTED),
-        ),
+        Step::ReadText(texts::PUBLISH_SERVICE, Want::Json(texts::PUBLISHED_SERVICE)),
+        Step::ReadText(texts::CONNECT_AT_ONCE, Want::Json(texts::CONNECTED)),
         PUBLISH,
-        Step::Read(
-            Ask {
-                content: Content::Whole(texts::CONNECT_AT_ONCE),
-                ..POST
-            },
+        Step::ReadText(
+            texts::CONNECT_AT_ONCE,
             Want::Json(texts::CONNECTED_WITH_EVENT),
         ),
         Step::Post(texts::CONNECT_AT_ONCE, texts::CONNECTED),
@@ -229,38 +130,14 @@ pub const HEAR: Run = Run {
     held: Some(Held {
         content: Content::Whole(texts::CONNECT),
         is_late: false,
-        before: &[Step::Read(
-            Ask {
-                content: Content::Whole(texts::PUBLISH_OWN),
-                ..POST
-            },
-            FORBIDDEN,
-        )],
-        then: &[Step::Read(
-            Ask {
-                content: Content::Whole(texts::DISCONNECT),
-                ..POST
-            },
-            Want::Json(texts::DISCONNECTED),
-        )],
+        before: &[Step::ReadText(texts::PUBLISH_OWN, FORBIDDEN)],
+        then: &[Step::ReadText(texts::DISCONNECT, Want::Json(texts::DISCONNECTED))],
         gives: Some((true, Want::Json(texts::SESSION_ENDED))),
     }),
     last: &[
         Step::Close,
-        Step::Read(
-            Ask {
-                content: Content::Whole(texts::PUBLISH),
-                ..POST
-            },
-            FORBIDDEN,
-        ),
-        Step::Read(
-            Ask {
-                content: Content::Whole(texts::HANDSHAKE),
-                ..POST
-            },
-            Want::Status(503),
-        ),
+        Step::ReadText(texts::PUBLISH, FORBIDDEN),
+        Step::ReadText(texts::HANDSHAKE, Want::Status(503)),
     ],
     ride: false,
 };
@@ -269,28 +146,10 @@ pub const HEAR: Run = Run {
 pub const RIDE: Run = Run {
     first: &[
         Step::Post(texts::HANDSHAKE, texts::HANDSHAKEN),
-        Step::Read(
-            Ask {
-                content: Content::Whole(texts::HANDSHAKE),
-                ..POST
-            },
-            Want::Json(texts::SECOND_HANDSHAKEN),
-        ),
-        Step::Read(
-            Ask {
-                content: Content::Whole(texts::SUBSCRIBE),
-                ..POST
-            },
-            Want::Json(texts::SUBSCRIBED),
-        ),
+        Step::ReadText(texts::HANDSHAKE, Want::Json(texts::SECOND_HANDSHAKEN)),
+        Step::ReadText(texts::SUBSCRIBE, Want::Json(texts::SUBSCRIBED)),
         PUBLISH,
-        Step::Read(
-            Ask {
-                content: Content::Whole(texts::PUBLISH_OWN),
-                ..POST
-            },
-            FORBIDDEN,
-        ),
+        Step::ReadText(texts::PUBLISH_OWN, FORBIDDEN),
         Step::Post(texts::PUBLISH_OWN, texts::OWN_RIDDEN),
     ],
     held: None,

@@ -1,11 +1,13 @@
-use Rattle.std.proofs.Common.{◌∙◌, subst}
+use Rattle.std.proofs.Common.{◌∙◌, ap, subst}
 use Rattle.bx_window.specs.Steps.{setup_of}
 use Rattle.bx_connects.specs.declared.watch.Watch.{Watch}
+use Rattle.bx_connects.specs.declared.watch.Watch.TheVariants.{Unknown}
 use Rattle.bx_entry.specs.declared.entry.Ticket.{Ticket}
-use Rattle.bx_hub.specs.Watches.{IsToldOf}
+use Rattle.bx_hub.specs.Watches.{IsBack, IsToldOf}
 use Rattle.bx_window.proofs.Fronts.{prefix_trans}
 use Rattle.bx_held.proofs.Waiting.{on_pending, waited_for}
 use Rattle.bx_held.specs.Outputs.{IsGiven, output_of}
+use Rattle.bx_held.specs.Waiting.{IsUnknown}
 use Rattle.bx_held.proofs.held.PendingAnswer.poll.Goals as goal
 
 pub returns-in-Some-ask-clause-value : goal.returns-in-Some-ask-clause-value
@@ -27,3 +29,13 @@ returns-in-Stored-clause-left g c =
     on_pending c.register-pending.result (waited_for shards c.register-pending.new.slot waker c.in-Stored.older ticket
     watching c.args.cx.now c.register-pending.new.self (cc (c.in-Some-take.ensures.value))
     c.register-pending.ensures.left told)
+
+pub returns-in-Unknown-clause-unknown : goal.returns-in-Unknown-clause-unknown
+returns-in-Unknown-clause-unknown g c done none =
+    let shards = g.J.Naming.config.shards in
+    let waker = c.in-Some-take.waker in
+    let watching = c.watch-said.result.1 in
+    let back = subst (λ (said : Watch). IsBack waker said) c.in-Unknown.is c.watch-said.ensures.back in
+    let is = c.in-Unknown.is ∙ ap Unknown back in
+    let told = subst (λ (said : Watch). IsToldOf shards c.ask.new.self.ticket waker said watching) is c.watch-said.ensures.told in
+    subst (λ (t : Ticket). IsUnknown shards t watching) c.ask.ensures.same.0 (record { waker = waker; told = told })

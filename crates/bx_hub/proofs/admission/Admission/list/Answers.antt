@@ -12,7 +12,7 @@ use Rattle.bx_hub.specs.Records.{inputs_by}
 use Rattle.bx_hub.specs.Posts.{AreSlotsAt, IsAdmittedAt}
 use Rattle.bx_entry.specs.declared.entry.Admitted.{Admitted}
 use Rattle.bx_hub.proofs.Posts.{admitted_by, entries_many, none_added, slots_by, unpublished_result}
-use Rattle.bx_hub.proofs.Records.{list_by_one, none_by}
+use Rattle.bx_hub.proofs.Records.{none_by}
 use Rattle.bx_hub.proofs.admission.Admission.list.Goals as goal
 
 pub returns-then-count-eq0-clause-admitted : goal.returns-then-count-eq0-clause-admitted

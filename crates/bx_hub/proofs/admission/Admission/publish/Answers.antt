@@ -1,7 +1,7 @@
-use Rattle.std.proofs.Common.{◌≡◌, ◌++◌, ◌∷◌, [], ◌∙◌, List, sym, ap, ap₂, subst}
-use Rattle.bx_registry.specs.Standings.{LeadsTo, Standing}
+use Rattle.std.proofs.Common.{◌≡◌, ◌++◌, ◌∙◌, List, sym, ap, ap₂, subst}
+use Rattle.bx_registry.specs.Standings.{Standing}
 use Rattle.bx_entry.specs.Listing.{Listed}
-use Rattle.bx_window.specs.Steps.{adding, inputs_of, list_of}
+use Rattle.bx_window.specs.Steps.{inputs_of, list_of}
 use Rattle.bx_window.proofs.Lists.{inputs_of_adding, list_of-adding}
 use Rattle.std.specs.Option.{ForSome}
 use Rattle.bx_hub.specs.Records.{list_by}

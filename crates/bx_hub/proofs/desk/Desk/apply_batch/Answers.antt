@@ -1,4 +1,4 @@
-use Rattle.std.proofs.Common.{rules, ◌≡◌, ◌≤◌, ◌∙◌, sym, arith}
+use Rattle.std.proofs.Common.{rules, ◌∙◌, arith}
 use Rattle.bx_connects.proofs.WakingLemmas.{woken_onwards}
 use Rattle.bx_shard.specs.Words.{state, connect_in}
 use Rattle.bx_hub.proofs.desk.Desk.apply_batch.Goals as goal

@@ -1,4 +1,4 @@
-use Rattle.std.proofs.Common.{◌≡◌, ◌≤◌, ◌∙◌, List, length, ap, arith}
+use Rattle.std.proofs.Common.{◌≡◌, ◌∙◌, List, length, ap, arith}
 use Rattle.bx_shard.specs.Words.{state, connect_in}
 use Rattle.bx_window.specs.Steps.{list_of}
 use Rattle.bx_window.specs.declared.law.LogStep.{LogStep}

@@ -1,7 +1,6 @@
-use Rattle.std.proofs.Common.{◌≡◌, ◌≤◌, ◌-◌, length}
+use Rattle.std.proofs.Common.{◌≡◌, ◌≤◌, ◌-◌}
 use Rattle.bx_connects.specs.Waking.{AreWoken}
 use Rattle.bx_shard.specs.Words.{state, connect_in}
-use Rattle.bx_window.specs.Steps.{list_of}
 use Rattle.bx_hub.proofs.desk.Desk.go_on.Given as goal
 
 abbrev pub invariant-loop-alloc : goal.invariant-loop-alloc

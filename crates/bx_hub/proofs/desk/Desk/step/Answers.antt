@@ -1,8 +1,8 @@
-use Rattle.std.proofs.Common.{◌≡◌, ◌<◌, ◌+◌, ◌-◌, ◌∙◌, ℕ, length, slice_get, Some, sym, ap, subst, arith}
+use Rattle.std.proofs.Common.{◌≡◌, ◌<◌, ◌+◌, ◌-◌, ◌∙◌, ℕ, length, slice_get, Some, ap, subst, arith}
 use Rattle.bx_shard.specs.Seen.{state}
 use Rattle.bx_window.specs.Places.{IsOf}
 use Rattle.bx_window.specs.Steps.{list_of, setup_of}
-use Rattle.bx_hub.proofs.Held.{applied_index, entry_here, prefix_taken, stands_applied, stands_of}
+use Rattle.bx_hub.proofs.Held.{entry_here, stands_applied, stands_of}
 use Rattle.bx_hub.proofs.desk.Desk.step.Goals as goal
 
 pub apply-requires-clause-next : goal.apply-requires-clause-next

@@ -1,4 +1,4 @@
-use Rattle.std.proofs.Common.{[], ℕ, List, Bool, nat_eq, sym, ap, subst, arith}
+use Rattle.std.proofs.Common.{ℕ, List, Bool, nat_eq, sym, ap, subst, arith}
 use Rattle.bx_window.specs.Steps.{setup_of}
 use Rattle.bx_shard.specs.Words.{state, connect_in}
 use Rattle.bx_connects.specs.Connects.{filed_answer}

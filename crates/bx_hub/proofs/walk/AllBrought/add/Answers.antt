@@ -1,4 +1,4 @@
-use Rattle.std.proofs.Common.{◌≡◌, ◌≤◌, ◌∷◌, ◌++◌, [], length, Some, None, ap, arith}
+use Rattle.std.proofs.Common.{◌≡◌, ap, arith}
 use Rattle.bx_hub.specs.Faults.{count_of, one_more}
 use Rattle.bx_hub.specs.Lagging.{lagging_of}
 use Rattle.bx_hub.proofs.Counts.{few_lag, lagging-last, level-last}

@@ -2,7 +2,7 @@ use Rattle.std.proofs.Common.{◌∙◌, sym}
 use Rattle.bx_window.specs.Steps.{setup_of}
 use Rattle.bx_shard.specs.Seen.{state}
 use Rattle.bx_hub.proofs.Held.{held, stands_of, level_without}
-use Rattle.bx_hub.proofs.desk.Desk.look.Goals as goal
+use Rattle.bx_hub.proofs.desk.Desk.poll.Goals as goal
 
 pub returns-in-Ok-clause-none : goal.returns-in-Ok-clause-none
 returns-in-Ok-clause-none g c =
