@@ -94,8 +94,9 @@ impl<C: Clock + Drop> Holding<C> {
     }
 }
 
-// Holds the call behind the entries of shard 1, until the post has admission's lock. All that a tick or a post does from then on is to
-// look where the shards stand, and to let the window go of what they have passed; a question has nothing left to do.
+// Holds the call behind the entries of shard 1, until the post has admission's lock. All that a tick or a post does
+// from then on is to look where the shards stand, and to let the window go of what they have passed; a question has
+// nothing left to do.
 impl<C: Clock + Drop> Gate for Holding<C> {
     fn before(&self, _shard: usize) {
         let asked = self.flags.asked.load(Ordering::SeqCst);

@@ -114,7 +114,8 @@ impl<J: Naming> Brought<J> {
     }
 }
 
-/// Why no answer is told of under this ticket: the fault holds of its shard. A closed or paused shard has filed none.
+/// Why no answer is told of under this ticket: the fault holds of its shard, or another was found in its place. A closed
+/// or paused shard has filed none.
 #[derive(Drop)]
 pub struct Stopped<J: Naming> {
     ticket: Snapshot<Ticket>,
