@@ -359,6 +359,9 @@ impl<J: Naming, P: Placing> Desk<J, P> {
             }
             Err(fault) => {
                 *pass = self.front();
+                if let Some(filed) = self.take(ticket) {
+                    return (Ok(Some(filed)), Woken::since(before, wakers));
+                }
                 let stopped = Stopped::of(self, &ticket, fault);
                 (Err(stopped), Woken::since(before, wakers))
             }

@@ -365,8 +365,8 @@ impl<J: Naming, P: Placing, G: Gate + Drop, R: Wait + Drop> Hub<J, P, G, R> {
 
     /// The answer to a connect or a rider, where its shard has filed one, or files one while it is brought up to what
     /// the pass has seen. A ticket that names no shard has none. A filed answer is given even where the hub was closed.
-    /// Else it is refused where the shard is closed, paused or overrun, or memory is refused, also where it has filed
-    /// the answer on the way; and where another shard stands under its lock.
+    /// Else it is refused where the shard is closed, paused or overrun, or memory is refused; and where another shard
+    /// stands under its lock.
     pub fn poll_answer<W: Wait>(
         &self,
         rt: &W,

@@ -114,8 +114,8 @@ impl<J: Naming> Brought<J> {
     }
 }
 
-/// Why no answer is told of under this ticket: the fault holds of its shard, or another was found in its place. A closed
-/// or paused shard has filed none.
+/// Why no answer is told of under this ticket: its shard has filed none, and the fault holds of it; or another was found
+/// in its place.
 #[derive(Drop)]
 pub struct Stopped<J: Naming> {
     ticket: Snapshot<Ticket>,
@@ -125,7 +125,6 @@ pub struct Stopped<J: Naming> {
 
 impl<J: Naming> Stopped<J> {
     ghost use Rattle.bx_connects.specs.Connects.{filed_answer};
-    ghost use Rattle.bx_hub.specs.declared.activity.Activity.TheVariants.{Active};
     ghost use Rattle.bx_shard.specs.Seen.{state};
     ghost use Rattle.bx_shard.specs.States.{connect_in};
 
@@ -135,8 +134,7 @@ impl<J: Naming> Stopped<J> {
         requires stopped { IsStopped fault desk.now.shard.index desk.now.reader }
         requires activity { IsStoppedIn desk.now.activity fault }
         requires at { IsAt fault desk.now.shard.place }
-        requires unfiled { (desk.now.activity ≡ Active → ⊥)
-            → filed_answer (connect_in (state P.place_of desk.now.shard) ticket.now.place) ≡ None }
+        requires unfiled { filed_answer (connect_in (state P.place_of desk.now.shard) ticket.now.place) ≡ None }
         ensures { (result.fault ≡ fault) × (result.ticket.value ≡ ticket.now) }
     {
         let _ = desk;

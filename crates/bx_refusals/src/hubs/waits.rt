@@ -1,6 +1,6 @@
 //! A task that waits for a connect in the only shard. So it shows whether the shard that a call says is behind is behind.
 use crate::hubs::Served;
-use crate::hubs::said::{Said, connect, poll, post, tick};
+use crate::hubs::said::{Said, connect, post, tick};
 use crate::requests::{HANDSHAKE, PUBLISH};
 use crate::unlike::Unlike;
 use bx_entry::Ticket;
@@ -126,37 +126,23 @@ fn wait<J: Naming, H: Wait + Drop, R: Wait>(
     if first != First::Pending || task.is_woken() {
         return Err(Unlike::Wrong("an answer too soon"));
     }
-    answer(rt, alloc, hub, pass, ticket, task, &mut held, said)
+    answer(rt, alloc, hub, task, &mut held, said)
 }
 
-// The other session publishes, and the connect is answered.
+// The other session publishes, and the connect is answered, which takes no memory.
 fn answer<J: Naming, H: Wait + Drop, R: Wait>(
     rt: &R,
     alloc: Global,
     hub: &Served<J, H>,
-    pass: &mut Pass<J>,
-    ticket: Ticket,
     task: &MockTask,
     held: &mut PendingAnswer<J>,
     said: &mut Said,
 ) -> Result<(), Unlike> {
     publish(rt, alloc, hub, task, said)?;
-    let answer = match polled(rt, alloc, hub, task, held) {
-        Poll::Ready(Ok(Some(answer))) => answer,
-        Poll::Ready(Err(HubFault::Memory)) => asked(rt, alloc, hub, pass, ticket)?,
-        Poll::Ready(_) | Poll::Pending => return Err(Unlike::Wrong("no answer")),
-    };
-    said.add_answer(alloc, answer)
-}
-
-fn asked<J: Naming, H: Wait + Drop, R: Wait>(
-    rt: &R,
-    alloc: Global,
-    hub: &Served<J, H>,
-    pass: &mut Pass<J>,
-    ticket: Ticket,
-) -> Result<Answer, Unlike> {
-    poll(rt, alloc, hub, pass, ticket)?.ok_or(Unlike::Wrong("no answer"))
+    match polled(rt, alloc, hub, task, held) {
+        Poll::Ready(Ok(Some(answer))) => said.add_answer(alloc, answer),
+        Poll::Ready(_) | Poll::Pending => Err(Unlike::Wrong("no answer")),
+    }
 }
 
 // The task is woken by the publish, or by the tick behind it where the shard is behind the publish.
