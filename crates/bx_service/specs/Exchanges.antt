@@ -5,6 +5,8 @@ use Rattle.futures.specs.Runs.{Runs}
 use Rattle.http.specs.declared.response.Response.{Response}
 use Rattle.http_body.specs.declared.frame.Frame.{Frame}
 use Rattle.bx_pieces.specs.declared.pieces.Pieces.{Pieces}
+use Rattle.http_header.specs.FieldValue.{FieldValue}
+use Rattle.bx_service.specs.Beginnings.{query_of}
 use Rattle.bx_service.specs.Bodies.{Gives}
 use Rattle.bx_service.specs.declared.collect.CollectError.{CollectError}
 use Rattle.bx_cut.specs.Bodies.{texts_of}
@@ -73,7 +75,7 @@ module _ {I : Type 0} (gives : I → Gathered → Type 0) where
       abbrev pub MayAnswer : State I B → Sent → Type 0
       MayAnswer (Collecting kind body) sent =
           (collected : Result (Vec ℕ Global) CollectError) × (Gives unread (yields body.body) body.limit body.bytes.items collected
-          × ForCollected (option_map (λ text. text.items) kind) collected sent)
-      MayAnswer (Asked query) sent = ForAsked query.items sent
+          × ForCollected (option_map (λ (value : FieldValue). value.bytes) kind) collected sent)
+      MayAnswer (Asked uri) sent = ForAsked (query_of uri) sent
       MayAnswer (Held callback items) sent = ForFuture (option_map string_bytes callback) items sent
       MayAnswer (Refused status) sent = IsRefusal status sent

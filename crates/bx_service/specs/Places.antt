@@ -6,6 +6,6 @@ use Rattle.bx_service.specs.declared.exchange.State.TheVariants.{Collecting, Ask
 -- where a request was admitted, its items may tell this place
 abbrev pub IsPlaced : {I B : Type 0} → (I → Option ℕ → Type 0) → Option ℕ → State I B → Type 0
 IsPlaced stands place (Collecting content_type body) = ⊤
-IsPlaced stands place (Asked query) = ⊤
+IsPlaced stands place (Asked uri) = ⊤
 IsPlaced stands place (Held callback items) = stands items place
 IsPlaced stands place (Refused status) = ⊤

@@ -6,6 +6,6 @@ use Rattle.bx_service.specs.declared.exchange.State.TheVariants.{Collecting, Ask
 -- a body that is collected may be polled, and so may the items that come
 abbrev pub CanPoll : {I B : Type 0} → (I → Type 0) → (B → Type 0) → State I B → Type 0
 CanPoll items_can body_can (Collecting content_type body) = body_can body.body
-CanPoll items_can body_can (Asked query) = ⊤
+CanPoll items_can body_can (Asked uri) = ⊤
 CanPoll items_can body_can (Held callback items) = items_can items
 CanPoll items_can body_can (Refused status) = ⊤

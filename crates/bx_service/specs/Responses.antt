@@ -7,7 +7,7 @@ use Rattle.http_header.specs.HeaderMap.{Entries, insert}
 use Rattle.bx_pieces.specs.Tails.{answer_text}
 use Rattle.bx_pieces.specs.declared.pieces.Pieces.{Pieces}
 use Rattle.bx_message.specs.declared.{reply.Item.Item, status.Status.Status}
-use Rattle.bx_message.specs.declared.status.Status.TheVariants.{Ok, BadRequest, NotFound, MethodNotAllowed, TooLarge, Unavailable}
+use Rattle.bx_message.specs.declared.status.Status.TheVariants.{MethodNotAllowed}
 use Rattle.bx_message.specs.Statuses.{code_of}
 
 -- the fields of a response without a body: where the method is not allowed, those that are

@@ -1,5 +1,5 @@
 //! One request and its response.
-ghost use Rattle.std.specs.Prelude.{◌≡◌, [], Err, IfOk, IfSome, None, MatchOption, option_copied, option_map, string_bytes, unwrap_or, Result};
+ghost use Rattle.std.specs.Prelude.{◌≡◌, [], Err, IfOk, None, MatchOption, option_copied, option_map, string_bytes, unwrap_or, Result};
 ghost use Rattle.std.specs.Arc.{arc_value};
 ghost use Rattle.futures.specs.Poll.{IfReady, OnPending};
 ghost use Rattle.futures.specs.declared.task.Poll.TheVariants.{Ready};
@@ -7,7 +7,7 @@ ghost use Rattle.futures.specs.Task.{IsArmed, Keeps};
 ghost use Rattle.bx_service.specs.Places.{IsPlaced};
 ghost use Rattle.bx_service.specs.Polling.{CanPoll};
 ghost use Rattle.bx_cut.specs.Bodies.{texts_of};
-ghost use Rattle.bx_service.specs.Beginnings.{Begins, IsAsking, IsCollecting, says_more};
+ghost use Rattle.bx_service.specs.Beginnings.{Begins, query_of, says_more};
 ghost use Rattle.bx_service.specs.declared.exchange.State.TheVariants.{Refused};
 ghost use Rattle.bx_transport.specs.Statuses.{transport_status};
 ghost use Rattle.bx_transport.specs.declared.error.TransportError.TheVariants.{TooLarge};
@@ -32,11 +32,12 @@ use bx_transport::{TransportError, read_get, read_post};
 use bytes::{Buf, Bytes};
 use futures::Future;
 use futures::task::{Context, Poll};
-use http::Response;
 use http::header::{CONTENT_LENGTH, CONTENT_TYPE, HeaderValue};
 use http::request::Parts;
+use http::{Response, Uri};
 use http_body::Body;
 use std::alloc::Global;
+use std::mem;
 use std::sync::Arc;
 
 /// The future of a response.
@@ -54,11 +55,11 @@ pub struct Exchange<S, I, B, O: Observer> {
 pub(crate) enum State<I, B> {
     /// The body of a POST comes.
     Collecting {
-        content_type: Option<Vec<u8>>,
+        content_type: Option<HeaderValue>,
         body: Collect<B>,
     },
-    /// A GET with this query.
-    Asked(Vec<u8>),
+    /// A GET for this target, whose query has its documents.
+    Asked(Uri),
     /// It was admitted, and its items come. With the name of a callback it is answered as a script.
     Held {
         callback: Option<String>,
@@ -75,15 +76,21 @@ impl<I: Future, B: Body> State<I, B> {
         ensures again { CanPoll I.can_poll B.can_poll result }
         ensures begins { Begins limit parts body result }
     {
-        match Route::of(&parts.method, parts.uri.path(), &parts.headers) {
+        let Parts {
+            method,
+            uri,
+            mut headers,
+            ..
+        } = parts;
+        match Route::of(&method, uri.path(), &headers) {
             Route::Refused(status) => State::Refused(status),
-            Route::Get => State::asking(alloc, limit, parts.uri.query()),
-            Route::Post if says_more(limit, parts.headers.get(CONTENT_LENGTH)) => {
-                State::too_large()
-            }
-            Route::Post => {
-                State::collecting(alloc, limit, parts.headers.get(CONTENT_TYPE), body)
-            }
+            Route::Get if limit.is_passed_by(query_of(&uri).len() as u64) => State::too_large(),
+            Route::Get => State::Asked(uri),
+            Route::Post if says_more(limit, headers.get(CONTENT_LENGTH)) => State::too_large(),
+            Route::Post => State::Collecting {
+                content_type: headers.remove(CONTENT_TYPE),
+                body: Collect::new(alloc, body, limit.get()),
+            },
         }
     }
 
@@ -94,48 +101,13 @@ impl<I: Future, B: Body> State<I, B> {
     {
         State::Refused(TransportError::TooLarge.status())
     }
+}
 
-    // The state of a GET; one without a query has an empty one.
-    fn asking(alloc: Global, limit: BodyLimit, query: Option<&str>) -> State<I, B>
-        ensures again { CanPoll I.can_poll B.can_poll result }
-        ensures begins { IsAsking limit (unwrap_or (option_copied query.entry) []) result }
-    {
-        let query = match query {
-            Some(query) => query,
-            None => "",
-        };
-        if limit.is_passed_by(query.len() as u64) {
-            return State::too_large();
-        }
-        match Vec::from_slice(alloc, query.as_bytes()) {
-            Ok(query) => State::Asked(query),
-            Err(_) => State::Refused(Status::Unavailable),
-        }
-    }
-
-    // The state of a POST of this content type, whose body is collected up to the limit.
-    fn collecting(
-        alloc: Global,
-        limit: BodyLimit,
-        content_type: Option<&HeaderValue>,
-        body: B,
-    ) -> State<I, B>
-        requires { B.can_poll body }
-        ensures again { CanPoll I.can_poll B.can_poll result }
-        ensures begins { IsCollecting limit (option_map (λ value. value.bytes) (option_copied content_type.entry)) body result }
-    {
-        let content_type = match content_type {
-            Some(value) => match Vec::from_slice(alloc, value.as_bytes()) {
-                Ok(value) => Some(value),
-                Err(_) => return State::Refused(Status::Unavailable),
-            },
-            None => None,
-        };
-        State::Collecting {
-            content_type,
-            body: Collect::new(alloc, body, limit.get()),
-        }
-    }
+// The query of a target; that of one without a query is empty.
+fn query_of(uri: &Uri) -> &str
+    ensures { result.now ≡ query_of uri.now }
+{
+    uri.query().unwrap_or("")
 }
 
 // Whether the length of a body, as its request says it, is above the limit.
@@ -186,7 +158,7 @@ fn posted<S, I, B, D, O>(
     alloc: Global,
     backend: &S,
     watch: &mut Watch<O>,
-    content_type: Option<&[u8]>,
+    content_type: Option<&HeaderValue>,
     collected: Result<Vec<u8>, CollectError>,
 ) -> State<I, B>
 where
@@ -197,25 +169,21 @@ where
     O: Observer,
     ensures again { CanPoll I.can_poll B.can_poll result }
     ensures value { (sent : Sent) → MayAnswer I.gives (S.admits backend.now) D.unread B.yields result sent
-        → ForCollected I.gives (S.admits backend.now) (option_map (λ t. t.now) content_type.entry) collected sent }
+        → ForCollected I.gives (S.admits backend.now) (option_map (λ value. value.now.bytes) content_type.entry) collected sent }
 {
     let body = match collected {
         Ok(body) => body,
         Err(fault) => return State::Refused(body_status(fault)),
     };
+    let content_type = content_type.map(|value| value.as_bytes());
     match read_post(alloc, content_type, body) {
         Ok(bodies) => admitted(backend, watch, None, bodies),
         Err(error) => State::Refused(error.status()),
     }
 }
 
-// The state of a GET with this query.
-fn asked<S, I, B, D, O>(
-    alloc: Global,
-    backend: &S,
-    watch: &mut Watch<O>,
-    query: &[u8],
-) -> State<I, B>
+// The state of a GET for this target.
+fn asked<S, I, B, D, O>(alloc: Global, backend: &S, watch: &mut Watch<O>, uri: &Uri) -> State<I, B>
 where
     S: Backend<Items = I>,
     I: Future<Output = Result<Vec<Item>, Unanswered>>,
@@ -224,9 +192,9 @@ where
     O: Observer,
     ensures again { CanPoll I.can_poll B.can_poll result }
     ensures value { (sent : Sent) → MayAnswer I.gives (S.admits backend.now) D.unread B.yields result sent
-        → ForAsked I.gives (S.admits backend.now) query.now sent }
+        → ForAsked I.gives (S.admits backend.now) (query_of uri.now) sent }
 {
-    match read_get(alloc, query) {
+    match read_get(alloc, query_of(uri).as_bytes()) {
         Ok((name, bodies)) => admitted(backend, watch, Some(name), bodies),
         Err(error) => State::Refused(error.status()),
     }
@@ -296,12 +264,14 @@ where
                     Poll::Pending => return Poll::Pending,
                     Poll::Ready(collected) => collected,
                 };
-                let content_type = content_type.as_ref().map(|it| it.as_slice());
-                self.state = posted(alloc, backend, &mut self.watch, content_type, collected);
+                let content_type = content_type.as_ref();
+                let state = posted(alloc, backend, &mut self.watch, content_type, collected);
+                drop(mem::replace(&mut self.state, state));
                 Poll::Ready(())
             }
-            State::Asked(query) => {
-                self.state = asked(alloc, backend, &mut self.watch, query.as_slice());
+            State::Asked(uri) => {
+                let state = asked(alloc, backend, &mut self.watch, uri);
+                drop(mem::replace(&mut self.state, state));
                 Poll::Ready(())
             }
             _ => Poll::Ready(()),

@@ -1,5 +1,4 @@
-use Rattle.std.proofs.Common.{rules, List, None, ◌∷◌, sym, subst}
-use Rattle.std.specs.Vec.Iter.{into_iter_items}
+use Rattle.std.proofs.Common.{rules, List, None, sym, subst}
 use Rattle.bx_window.specs.Steps.{setup_of}
 use Rattle.bx_entry.specs.declared.entry.Slot.{Slot}
 use Rattle.bx_service.specs.Gatherings.{AreAll}
